@@ -45,8 +45,8 @@ abbrev pub complete : List Event → List Event
 complete [] = []
 complete (e ∷ later) = if is_pending e later then complete later else e ∷ complete later
 
--- A history is sequential where it begins with an invocation, each invocation except perhaps the last is at once
--- followed by a matching response, and each response is at once behind an invocation that it matches.
+-- A history is sequential where it is empty, or begins with an invocation, each invocation except perhaps the last is
+-- at once followed by a matching response, and each response is at once behind an invocation that it matches.
 abbrev pub IsSequential : List Event → Type 0
 IsSequential [] = ⊤
 IsSequential (e ∷ []) = IsTrue (is_invocation e)
@@ -57,7 +57,8 @@ abbrev pub IsWellFormed : List Event → Type 0
 IsWellFormed h = (p : ℕ) → IsSequential (by_process p h)
 
 -- A completion of H: H goes on with responses into a well-formed history, so that each of them matches a pending
--- invocation of its own; and then the invocations that are still pending are left out.
+-- invocation of its own; and then the invocations that are still pending are left out. A history that is not
+-- well-formed has no completion: Herlihy and Wing speak of well-formed ones only.
 pub record IsCompletion (h c : List Event) : Type 0 where
   pub added : List Event
   pub responses : All (λ e. is_invocation e ≡ false) added
@@ -89,9 +90,9 @@ IsOperation h e = e.turn < length (filter (invokes e.process) h)
 abbrev pub IsTurn : (Event → Bool) → ℕ → List Event → Event → Type 0
 IsTurn test turn before event = IsTrue (test event) × (length (filter test before) ≡ turn)
 
--- One operation precedes another in H where the response of the first stands before the invocation of the second.
--- Herlihy and Wing order operations that have both; here, by this project's choice, the second may also be
--- pending in H.
+-- One operation of a well-formed history precedes another where the response of the first stands before the
+-- invocation of the second. Herlihy and Wing, read literally, order operations that have both events; here, by this
+-- project's choice, the second may also be pending in H.
 pub record Precedes (h : List Event) (e f : Operation) : Type 0 where
   pub before : List Event
   pub response : Event
@@ -99,5 +100,5 @@ pub record Precedes (h : List Event) (e f : Operation) : Type 0 where
   pub invocation : Event
   pub after : List Event
   pub whole : h ≡ before ++ response ∷ between ++ invocation ∷ after
-  pub is_response : IsTurn (responds e.process) e.turn before response
-  pub is_invocation : IsTurn (invokes f.process) f.turn (before ++ response ∷ between) invocation
+  pub is_first_response : IsTurn (responds e.process) e.turn before response
+  pub is_second_invocation : IsTurn (invokes f.process) f.turn (before ++ response ∷ between) invocation

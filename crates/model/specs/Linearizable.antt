@@ -1,22 +1,21 @@
 -- Linearizable histories, after Herlihy and Wing, TOPLAS 1990, section 2.
 use Rattle.std.specs.Prelude.{◌≡◌, ℕ, ⊤, List, [], ◌∷◌, Some}
-use Rattle.model.specs.declared.AnyReply.{AnyReply}
 use Rattle.model.specs.declared.Kind.{Kind}
-use Rattle.model.specs.Objects.{kind_of, Content, empty, next}
+use Rattle.model.specs.Objects.{kind_of, kind_with, Content, empty, next}
 use Rattle.model.specs.Histories.{Event, Inv, Res, by_object, IsSequential, IsCompletion, IsEquivalent, Operation, IsOperation, Precedes}
 
 -- From this content on each operation is possible and is replied to as `next` gives. The last may be pending, and
--- then it need not be possible.
-abbrev pub RepliesFrom : Kind → Content → List Event → Type 0
-RepliesFrom kind c [] = ⊤
-RepliesFrom kind c (Inv p x op ∷ []) = kind_of op ≡ kind
-RepliesFrom kind c (Inv p x op ∷ Res q y r ∷ rest) = (after : Content) × (next c op ≡ Some (after, r)) × RepliesFrom kind after rest
-RepliesFrom kind c others = ⊥
+-- then it need only be of the content's kind.
+abbrev pub RepliesFrom : Content → List Event → Type 0
+RepliesFrom c [] = ⊤
+RepliesFrom c (Inv p x op ∷ []) = kind_of op ≡ kind_with c
+RepliesFrom c (Inv p x op ∷ Res q y r ∷ rest) = (after : Content) × (next c op ≡ Some (after, r)) × RepliesFrom after rest
+RepliesFrom c others = ⊥
 
--- the sequential specification of a kind: the sequential histories of one object that are replied to so from the
--- empty content on
+-- The sequential specification of a kind, said of the events of one object: the sequential histories that are
+-- replied to so from the empty content on.
 abbrev pub InSpecification : Kind → List Event → Type 0
-InSpecification kind s = IsSequential s × RepliesFrom kind (empty kind) s
+InSpecification kind s = IsSequential s × RepliesFrom (empty kind) s
 
 -- A sequential history is legal where each object alone is in the specification of its kind.
 abbrev pub IsLegal : (ℕ → Kind) → List Event → Type 0

@@ -28,8 +28,8 @@ kind_of Acquire = Mutex
 kind_of Release = Mutex
 
 -- What an object contains. A queue: its values, from the first to go out on. A stack: from the top on. A heap:
--- a bag, as the rising list of its values. A register: a value or none. A map: values by key. A mutex: whether
--- it is held.
+-- a bag, as the rising list of its values (from the empty one on only rising lists come about). A register: a value
+-- or none. A map: values by key. A mutex: whether it is held.
 pub data Content : Type 0 where
   queue : List ℤ → Content
   stack : List ℤ → Content

@@ -1,6 +1,6 @@
 -- Numbered histories, and orders of one object's operations by the numbers of their invocations.
--- A valid order is a linearization of the object's own history, as Herlihy and Wing's section 3.1 on locality
--- takes one for each object. That it is one is a theorem of the crate `locality`.
+-- A valid order names a linearization of the object's own history, as Herlihy and Wing's section 3 on locality takes
+-- one for each object. That it does is a theorem of the crate `locality`.
 use Rattle.std.specs.Prelude.{◌≡◌, ◌≢◌, ℕ, ℤ, pos, ◌<◌, ◌==◌, ◌&&◌, ⊤, List, [], ◌∷◌, Option, Some, None, IfSome, IsSome, All, AllPairs, Contains, map, filter, if◌then◌else◌}
 use Rattle.std.specs.Option.{option_or}
 use Rattle.model.specs.declared.Kind.{Kind}
@@ -55,7 +55,7 @@ abbrev pub begins : ℕ → Event → List Numbered → List ProcessCall → Lis
 begins number (Inv p x op) later others = record { process = p; object = x; call = record { number = number; op = op; returned = response_of p x later } } ∷ others
 begins number (Res p x r) later others = others
 
--- the operations of a history, in the order of their invocations
+-- the operations of a well-formed history, in the order of their invocations
 abbrev pub calls_in : List Numbered → List ProcessCall
 calls_in [] = []
 calls_in (m ∷ later) = begins m.number m.event later (calls_in later)
@@ -73,7 +73,7 @@ abbrev pub RepliesAlong : Content → List Call → Type 0
 RepliesAlong c [] = ⊤
 RepliesAlong c (e ∷ es) = (after : Content) × (reply : AnyReply) × (next c e.op ≡ Some (after, reply)) × IfSome e.returned (λ r. r.reply ≡ reply) × RepliesAlong after es
 
--- A valid order of an object's operations: a list of the numbers of their invocations.
+-- A valid order of the operations of an object, of which no two have one number: a list of their numbers.
 pub record IsValidOrder (kind : Kind) (calls : List Call) (order : List ℤ) : Type 0 where
   -- each number is that of an operation of the object
   pub entries : List Call
