@@ -1,0 +1,5 @@
+pub mod Bag
+pub mod Forest
+pub mod Splits
+pub mod Heap
+pub mod Counts

@@ -1,0 +1,5 @@
+pub mod Laying
+pub mod Linking
+pub mod Bags
+pub mod Heaping
+pub mod Counting
