@@ -4,6 +4,7 @@
 /// behind it. Workers and pieces are counted from 0.
 pub trait Gate: Sync {
     fn before(&self, worker: u32, piece: u32);
+
     fn after(&self, worker: u32, piece: u32);
 }
 
@@ -13,5 +14,6 @@ pub struct Open;
 
 impl Gate for Open {
     fn before(&self, _worker: u32, _piece: u32) {}
+
     fn after(&self, _worker: u32, _piece: u32) {}
 }

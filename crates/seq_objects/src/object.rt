@@ -13,11 +13,14 @@ use std::alloc::AllocError;
 /// stand for some of those of all kinds.
 pub trait SeqObject: Drop + Send {
     type Op: Copy + Eq + Drop + Send;
+
     type Reply: Copy + Eq + Drop + Send;
 
     // What the object contains, and which operation and which reply a value stands for.
     ghost content: { Self → Content };
+
     ghost op_in: { Self.Op → AnyOp };
+
     ghost reply_in: { Self.Reply → AnyReply };
 
     fn kind(&self) -> Kind
@@ -57,5 +60,6 @@ pub trait SeqObject: Drop + Send {
 
     // Different operations stand for different ones, and so do replies.
     ghost ops_apart: { (a b : Self.Op) → op_in a ≡ op_in b → a ≡ b };
+
     ghost replies_apart: { (a b : Self.Reply) → reply_in a ≡ reply_in b → a ≡ b };
 }

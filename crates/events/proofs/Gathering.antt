@@ -1,0 +1,91 @@
+-- Operations gathered by object, from the last event back.
+use Rattle.std.proofs.Common.{◌≡◌, ◌≢◌, ℕ, pos, ◌==◌, ◌+◌, ◌-◌, ◌<◌, ◌≤◌, Bool, true, false, cond, List, [], ◌∷◌, ◌++◌, length, drop, reverse, unwrap_or, Option, Some, None, get_or, refl, ap, sym, ◌∙◌, subst, arith}
+use Rattle.std.specs.Ordering.{nat_cmp, is_eq, MatchOrdering}
+use Rattle.std.specs.Cmp.{ranked}
+use Rattle.std.specs.declared.cmp.Ordering.{Ordering}
+use Rattle.std.specs.declared.cmp.Ordering.TheVariants.{Less, Equal, Greater}
+use Rattle.std.specs.BTreeMap.{BTreeMap, get, is_at}
+use Rattle.std.specs.Map.{lookup}
+use Rattle.std.proofs.lemmas.List.{reverse-append, drop_more}
+use Rattle.std.proofs.lemmas.Bool.{eqb-true, eqb-false, eq-eqb, ne_eqb}
+use Rattle.model.specs.declared.AnyOp.{AnyOp}
+use Rattle.model.specs.declared.AnyOp.TheVariants.{Enqueue}
+use Rattle.events.specs.declared.event.Action.{Action}
+use Rattle.events.specs.declared.event.Action.TheVariants.{Invoke, Ok, Fail, Info}
+use Rattle.events.specs.declared.event.Event.{Event}
+use Rattle.events.specs.declared.operations.End.{End}
+use Rattle.events.specs.declared.operations.Invocation.{Invocation}
+use Rattle.events.specs.Events.{next_event}
+use Rattle.events.specs.Operations.{end_at, begun, operations_on, IsGathered}
+
+-- What is known before the event at place k: the next event of each process, and the operations of each object.
+pub record IsAhead (next : ℕ → Option Event) (kept : ℕ → Option (List Invocation)) (later : List Event) : Type 0 where
+  pub ahead : (p : ℕ) → next p ≡ next_event p later
+  pub gathered : (x : ℕ) → IsGathered (kept x) (operations_on x later)
+
+pub nothing_ahead : (next : ℕ → Option Event) (kept : ℕ → Option (List Invocation)) → ((p : ℕ) → next p ≡ None) → ((x : ℕ) → kept x ≡ None) → IsAhead next kept []
+nothing_ahead next kept n k = record { ahead = n; gathered = λ x. subst (λ o. IsGathered o []) (sym (k x)) refl }
+
+next_more : (next next' : ℕ → Option Event) (e : Event) (later : List Event) → ((p : ℕ) → next p ≡ next_event p later) → next' e.process ≡ Some e → ((p : ℕ) → p ≢ e.process → next' p ≡ next p) → (p : ℕ) → next' p ≡ next_event p (e ∷ later)
+next_more next next' e later h own others p = go (e.process == p) refl
+  where
+    go : (b : Bool) → (e.process == p) ≡ b → next' p ≡ cond b (Some e) (next_event p later)
+    go true q = subst (λ n. next' n ≡ Some e) (eqb-true e.process p q) own
+    go false q = others p (λ s. eqb-false e.process p q (sym s)) ∙ h p
+
+-- an event that begins no operation
+pub ahead_other : (next next' : ℕ → Option Event) (kept : ℕ → Option (List Invocation)) (e : Event) (later : List Event) → IsAhead next kept later → ((how : End) → begun e.number e.action how ≡ []) → next' e.process ≡ Some e → ((p : ℕ) → p ≢ e.process → next' p ≡ next p) → IsAhead next' kept (e ∷ later)
+ahead_other next next' kept e later h none own others = record {
+  ahead = next_more next next' e later h.ahead own others;
+  gathered = λ x. subst (λ t. IsGathered (kept x) (t ++ operations_on x later)) (sym (nothing (e.object == x))) (h.gathered x);
+}
+  where
+    nothing : (b : Bool) → cond b (begun e.number e.action (end_at (next_event e.process later))) [] ≡ []
+    nothing true = none (end_at (next_event e.process later))
+    nothing false = refl
+
+-- an event that begins one
+pub ahead_begun : (next next' : ℕ → Option Event) (kept kept' : ℕ → Option (List Invocation)) (e : Event) (op : AnyOp) (o : Invocation) (later : List Event) → IsAhead next kept later → e.action ≡ Invoke op → o ≡ record { number = e.number; op = op; «end» = end_at (next e.process) } → kept' e.object ≡ Some (unwrap_or (kept e.object) [] ++ o ∷ []) → ((x : ℕ) → x ≢ e.object → kept' x ≡ kept x) → next' e.process ≡ Some e → ((p : ℕ) → p ≢ e.process → next' p ≡ next p) → IsAhead next' kept' (e ∷ later)
+ahead_begun next next' kept kept' e op o later h invokes is own_kept others_kept own others = record {
+  ahead = next_more next next' e later h.ahead own others;
+  gathered = λ x. go x (e.object == x) refl;
+}
+  where
+    begins : begun e.number e.action (end_at (next_event e.process later)) ≡ o ∷ []
+    begins = ap (λ a. begun e.number a (end_at (next_event e.process later))) invokes ∙ ap (λ (x : Invocation). x ∷ []) (ap (λ (n : Option Event). record { number = e.number; op = op; «end» = end_at n }) (sym (h.ahead e.process)) ∙ sym is)
+
+    one_more : (k : Option (List Invocation)) (ops : List Invocation) → IsGathered k ops → IsGathered (Some (unwrap_or k [] ++ o ∷ [])) (o ∷ ops)
+    one_more None ops g = (ap (λ xs. reverse (o ∷ xs)) (sym g), λ q. cc q)
+    one_more (Some xs) ops g = (ap (λ ys. ys ++ o ∷ []) g.0 ∙ sym (reverse-append (o ∷ []) ops), λ q. cc q)
+
+    go : (x : ℕ) (b : Bool) → (e.object == x) ≡ b → IsGathered (kept' x) (cond b (begun e.number e.action (end_at (next_event e.process later))) [] ++ operations_on x later)
+    go x true q = subst (λ t. IsGathered (kept' x) (t ++ operations_on x later)) (sym begins) (subst (λ n. IsGathered (kept' n) (o ∷ operations_on n later)) (eqb-true e.object x q) (subst (λ k. IsGathered k (o ∷ operations_on e.object later)) (sym own_kept) (one_more (kept e.object) (operations_on e.object later) (h.gathered e.object))))
+    go x false q = subst (λ k. IsGathered k (operations_on x later)) (sym (others_kept x (λ s. eqb-false e.object x q (sym s)))) (h.gathered x)
+
+-- an event, for a default that nothing reads
+abbrev pub nobody : Event
+nobody = record { number = 0; process = 0; object = 0; action = Invoke (Enqueue (pos 0)) }
+
+-- one place back
+pub drop_back : (es : List Event) (k : ℕ) (d : Event) → 0 < k → k ≤ length es → drop (k - 1) es ≡ get_or es (k - 1) d ∷ drop k es
+drop_back es k d some fits =
+    let l : k - 1 < length es = omega arith in
+    let same : k - 1 + 1 ≡ k = omega arith in
+    drop_more es (k - 1) d l ∙ ap (λ i. get_or es (k - 1) d ∷ drop i es) same
+
+pub apart_keys : (k q : ℕ) → q ≢ k → is_eq (nat_cmp k q) ≡ false
+apart_keys k q ne = go (nat_cmp k q) (ranked k q _ refl)
+  where
+    go : (r : Ordering) → MatchOrdering r (k < q) (k ≡ q) (q < k) → is_eq r ≡ false
+    go Less h = refl
+    go Equal h = absurd (ne (sym h))
+    go Greater h = refl
+
+pub empty_get : {X : Type 0} (m : BTreeMap ℕ X) → m.entries ≡ [] → (q : ℕ) → get nat_cmp m q ≡ None
+empty_get m e q = ap (lookup (is_at (nat_cmp q))) e
+
+pub begins_nothing : (n : ℕ) (a : Action) (how : End) → ((op : AnyOp) → a ≡ Invoke op → ⊥) → begun n a how ≡ []
+begins_nothing n (Invoke op) how h = absurd (h op refl)
+begins_nothing n (Ok r) how h = refl
+begins_nothing n Fail how h = refl
+begins_nothing n Info how h = refl

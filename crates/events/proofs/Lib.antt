@@ -1,0 +1,6 @@
+pub mod Runs
+pub mod WellFormed
+pub mod Calls
+pub mod Parts
+pub mod Gathering
+pub mod Splitting

@@ -1,0 +1,104 @@
+-- Client events, when a list of them is proper, and the history that it denotes.
+use Rattle.std.specs.Prelude.{◌≡◌, ℕ, ◌==◌, ◌<◌, ⊤, Bool, true, false, List, [], ◌∷◌, ◌++◌, Option, Some, None, AllPairs, Contains, find, reverse, if◌then◌else◌}
+use Rattle.std.specs.Option.{option_map_or}
+use Rattle.model.specs.declared.Kind.{Kind}
+use Rattle.model.specs.declared.Kind.TheVariants.{Queue}
+use Rattle.model.specs.declared.AnyOp.{AnyOp}
+use Rattle.model.specs.declared.AnyReply.{AnyReply}
+use Rattle.model.specs.Objects.{kind_of}
+use Rattle.model.specs.Histories.{Inv, Res}
+use Rattle.model.specs.Orders.{Numbered}
+use Rattle.seq_objects.specs.Values.{function_in, reply_with, reply_value}
+use Rattle.events.specs.declared.event.Action.{Action}
+use Rattle.events.specs.declared.event.Action.TheVariants.{Invoke, Ok, Fail, Info}
+use Rattle.events.specs.declared.event.Event.{Event}
+
+-- the first of these events that is of process p
+abbrev pub next_event : ℕ → List Event → Option Event
+next_event p later = find (λ e. e.process == p) later
+
+-- the last of these events that is of process p
+abbrev pub last_event : ℕ → List Event → Option Event
+last_event p earlier = find (λ e. e.process == p) (reverse earlier)
+
+-- ---- which lists of events are proper
+
+-- A process may invoke where its last event, if there is one, completed an operation with Ok or Fail.
+abbrev pub IsIdleAfter : Action → Type 0
+IsIdleAfter (Invoke op) = ⊥
+IsIdleAfter (Ok r) = ⊤
+IsIdleAfter Fail = ⊤
+IsIdleAfter Info = ⊥
+
+abbrev pub IsIdle : Option Event → Type 0
+IsIdle None = ⊤
+IsIdle (Some e) = IsIdleAfter e.action
+
+-- the object is used by operations of one kind
+abbrev pub IsOfKindAt : List Event → ℕ → AnyOp → Type 0
+IsOfKindAt earlier x op = (e : Event) (earlier_op : AnyOp) → Contains earlier e → e.object ≡ x → e.action ≡ Invoke earlier_op → kind_of earlier_op ≡ kind_of op
+
+-- the process has this operation outstanding, on this object
+abbrev pub IsOutstanding : Option Event → ℕ → AnyOp → Type 0
+IsOutstanding last x op = (e : Event) × (last ≡ Some e) × (e.object ≡ x) × (e.action ≡ Invoke op)
+
+-- a reply of the shape that the operation has, as nil or an integer where it answers a value
+abbrev pub HasShape : AnyOp → AnyReply → Type 0
+HasShape op r = reply_with (function_in op) (reply_value r) ≡ Some r
+
+-- An event fits behind earlier ones: an invocation of an idle process, of the kind of the object's earlier ones, or
+-- a completion of the operation that is outstanding, on its object, and with a reply of its shape.
+abbrev pub Follows : List Event → ℕ → ℕ → Action → Type 0
+Follows earlier p x (Invoke op) = IsIdle (last_event p earlier) × IsOfKindAt earlier x op
+Follows earlier p x (Ok r) = (op : AnyOp) × IsOutstanding (last_event p earlier) x op × HasShape op r
+Follows earlier p x Fail = (op : AnyOp) × IsOutstanding (last_event p earlier) x op
+Follows earlier p x Info = (op : AnyOp) × IsOutstanding (last_event p earlier) x op
+
+-- Numbers rise, and each event fits behind those before it.
+pub record IsProper (es : List Event) : Type 0 where
+  pub rising : AllPairs (λ a b. a.number < b.number) es
+  pub each : (earlier later : List Event) (e : Event) → es ≡ earlier ++ e ∷ later → Follows earlier e.process e.object e.action
+
+-- ---- what a list of events denotes
+
+abbrev pub is_fail : Action → Bool
+is_fail Fail = true
+is_fail a = false
+
+-- whether the operation that is outstanding did not happen
+abbrev pub fails : Option Event → Bool
+fails next = option_map_or (λ e. is_fail e.action) next false
+
+-- an invocation stands for itself unless its operation failed, Ok for the response, and nothing else leaves an event
+abbrev pub denoted_by : ℕ → ℕ → ℕ → Action → Bool → List Numbered
+denoted_by number p x (Invoke op) failed = if failed then [] else record { number = number; event = Inv p x op } ∷ []
+denoted_by number p x (Ok r) failed = record { number = number; event = Res p x r } ∷ []
+denoted_by number p x Fail failed = []
+denoted_by number p x Info failed = []
+
+-- The history that events denote: in their order, and with their numbers, the invocations, but for those whose
+-- process next fails, and the responses. Where nothing is known of an operation its invocation stays pending.
+abbrev pub denoted : List Event → List Numbered
+denoted [] = []
+denoted (e ∷ later) = denoted_by e.number e.process e.object e.action (fails (next_event e.process later)) ++ denoted later
+
+-- ---- objects
+
+-- some invocation, be it failed, names the object
+pub record IsNamed (es : List Event) (x : ℕ) : Type 0 where
+  pub event : Event
+  pub op : AnyOp
+  pub stands : Contains es event
+  pub on_object : event.object ≡ x
+  pub invokes : event.action ≡ Invoke op
+
+abbrev pub kind_in : Action → Kind → Kind
+kind_in (Invoke op) other = kind_of op
+kind_in (Ok r) other = other
+kind_in Fail other = other
+kind_in Info other = other
+
+-- the kind of an object: that of the first invocation that names it
+abbrev pub kind_at : List Event → ℕ → Kind
+kind_at [] x = Queue
+kind_at (e ∷ later) x = if e.object == x then kind_in e.action (kind_at later x) else kind_at later x

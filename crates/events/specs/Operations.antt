@@ -1,0 +1,81 @@
+-- The operations of one object, with their ends, and the calls that they are.
+use Rattle.std.specs.Prelude.{◌≡◌, ◌≢◌, ℕ, ◌==◌, ◌<◌, ⊤, reverse, List, [], ◌∷◌, ◌++◌, Option, Some, None, All, AllPairs, if◌then◌else◌}
+use Rattle.std.specs.List.{filter_map}
+use Rattle.model.specs.declared.Kind.{Kind}
+use Rattle.model.specs.declared.AnyOp.{AnyOp}
+use Rattle.model.specs.Objects.{kind_of}
+use Rattle.model.specs.Orders.{Call, Return}
+use Rattle.events.specs.declared.event.Action.{Action}
+use Rattle.events.specs.declared.event.Action.TheVariants.{Invoke, Ok, Fail, Info}
+use Rattle.events.specs.declared.event.Event.{Event}
+use Rattle.events.specs.declared.operations.End.{End}
+use Rattle.events.specs.declared.operations.End.TheVariants.{Returned, Pending, Failed}
+use Rattle.events.specs.declared.operations.Invocation.{Invocation}
+use Rattle.events.specs.Events.{next_event}
+
+-- how an operation ends, by the next event of its process
+abbrev pub end_by : ℕ → Action → End
+end_by number (Invoke op) = Pending
+end_by number (Ok r) = Returned number r
+end_by number Fail = Failed
+end_by number Info = Pending
+
+abbrev pub end_at : Option Event → End
+end_at None = Pending
+end_at (Some e) = end_by e.number e.action
+
+abbrev pub begun : ℕ → Action → End → List Invocation
+begun number (Invoke op) how = record { number = number; op = op; «end» = how } ∷ []
+begun number (Ok r) how = []
+begun number Fail how = []
+begun number Info how = []
+
+-- the operations on one object, in the order of their invocations
+abbrev pub operations_on : ℕ → List Event → List Invocation
+operations_on x [] = []
+operations_on x (e ∷ later) = (if e.object == x then begun e.number e.action (end_at (next_event e.process later)) else []) ++ operations_on x later
+
+-- ---- as calls
+
+-- the response, if there is one
+abbrev pub return_of : End → Option Return
+return_of (Returned at reply) = Some (record { at = at; reply = reply })
+return_of Pending = None
+return_of Failed = None
+
+abbrev pub call_with : ℕ → AnyOp → End → Option Call
+call_with number op (Returned at reply) = Some (record { number = number; op = op; returned = Some (record { at = at; reply = reply }) })
+call_with number op Pending = Some (record { number = number; op = op; returned = None })
+call_with number op Failed = None
+
+-- an operation as a call, if it did not fail
+abbrev pub call_of : Invocation → Option Call
+call_of o = call_with o.number o.op o.«end»
+
+-- the calls of an object: its operations that did not fail
+abbrev pub calls_of : List Invocation → List Call
+calls_of ops = filter_map call_of ops
+
+-- ---- an object's history
+
+abbrev pub EndsAfter : ℕ → List Invocation → End → Type 0
+EndsAfter number ops (Returned at reply) = (number < at) × All (λ o. o.number ≡ at → ⊥) ops
+EndsAfter number ops Pending = ⊤
+EndsAfter number ops Failed = ⊤
+
+-- the operations of one object in a history
+pub record ObjectCalls : Type 0 where
+  pub object : ℕ
+  pub kind : Kind
+  pub ops : List Invocation
+
+-- Numbers rise, the operations are of the kind, and a response stands behind its invocation, and at no invocation.
+pub record IsObjectHistory (h : ObjectCalls) : Type 0 where
+  pub rising : AllPairs (λ a b. a.number < b.number) h.ops
+  pub of_kind : All (λ o. kind_of o.op ≡ h.kind) h.ops
+  pub ends : All (λ o. EndsAfter o.number h.ops o.«end») h.ops
+
+-- what is kept of an object's operations: them in reverse, or nothing where there are none
+abbrev pub IsGathered : Option (List Invocation) → List Invocation → Type 0
+IsGathered None ops = ops ≡ []
+IsGathered (Some kept) ops = (kept ≡ reverse ops) × (ops ≢ [])

@@ -1,0 +1,26 @@
+//! Client events.
+
+use seq_objects::{AnyOp, AnyReply};
+
+/// What a client event says of its process.
+#[derive(Clone, Copy, Debug, PartialEq, Eq)]
+pub enum Action {
+    /// The process invokes this operation.
+    Invoke(AnyOp),
+    /// Its operation returned this reply.
+    Ok(AnyReply),
+    /// Its operation did not happen.
+    Fail,
+    /// Nothing is known of its operation, and the process does nothing more.
+    Info,
+}
+
+/// An event of a client: an invocation, or the completion of the operation that is outstanding.
+#[derive(Clone, Copy, Debug, PartialEq, Eq)]
+pub struct Event {
+    /// The place among all maps of the history's text, from 0.
+    pub number: u32,
+    pub process: u64,
+    pub object: u32,
+    pub action: Action,
+}

@@ -1,0 +1,107 @@
+-- The entries of an ordered map, as a finite map.
+use Rattle.std.proofs.Common.{◌≡◌, ℤ, Bool, true, false, cond, T, List, [], ◌∷◌, ◌&&◌, Option, None, Some, length, refl, ap, sym, subst, ◌∙◌, Less}
+use Rattle.std.specs.Bool.{Decides}
+use Rattle.std.specs.Ordering.{int_cmp, eq_by_cmp, is_lt}
+use Rattle.std.specs.Cmp.{int_cmp_total, eq_by_cmp_equiv}
+use Rattle.std.specs.List.{AllByRecursion}
+use Rattle.std.specs.List.Sorted.{IsStrictlySortedBy}
+use Rattle.std.specs.Map.{keys_of, lookup}
+use Rattle.std.specs.BTreeMap.{is_at}
+use Rattle.std.specs.FinMap.{FinMap, empty, empty_of_len, len-entries, find, is_sorted, from_sorted, get, insert, remove, get-from_sorted, get-insert, get-remove, entries-from_sorted, entries, same_map, int_cmp-IsAntisymmetric}
+use Rattle.std.specs.FinMap.Entries.{below_all}
+use Rattle.model.specs.declared.AnyOp.TheVariants.{Put, Get, Del}
+use Rattle.model.specs.declared.AnyReply.TheVariants.{Value}
+use Rattle.model.specs.Objects.{Content, next, table}
+use Rattle.seq_objects.specs.declared.map_object.MapOp.TheVariants as of_map
+
+abbrev pub Entries : Type 0
+Entries = List (ℤ × ℤ)
+
+abbrev pub Ordered : Entries → Type 0
+Ordered es = IsStrictlySortedBy int_cmp (keys_of es)
+
+abbrev pub at_key : ℤ → Entries → Option ℤ
+at_key q es = lookup (is_at (int_cmp q)) es
+
+-- fs has w at k, and at each other key what es has
+abbrev pub Changes : Entries → Entries → ℤ → Option ℤ → Type 0
+Changes es fs k w = (q : ℤ) → at_key q fs ≡ cond (is_at (int_cmp k) q) w (at_key q es)
+
+both : (a b : Bool) → T a → T b → T (a && b)
+both true b p q = q
+both false b p q = p
+
+below_all-first : (k : ℤ) (es : Entries) → AllByRecursion (λ y. int_cmp k y ≡ Less) (keys_of es) → T (below_all int_cmp k es)
+below_all-first k [] h = tt
+below_all-first k (e ∷ es) h = both _ _ (subst (λ r. T (is_lt r)) (sym h.0) tt) (below_all-first k es h.1)
+
+is_sorted-entries : (es : Entries) → Ordered es → T (is_sorted int_cmp es)
+unfolding IsStrictlySortedBy
+is_sorted-entries [] h = tt
+is_sorted-entries (e ∷ es) h = both _ _ (below_all-first e.0 es h.0) (is_sorted-entries es h.1)
+
+find-at_key : (q : ℤ) (es : Entries) → find int_cmp q es ≡ at_key q es
+find-at_key q [] = refl
+find-at_key q (e ∷ es) = ap (cond (eq_by_cmp int_cmp q e.0) (Some e.1)) (find-at_key q es)
+
+-- what the map has at a key is what a look-up in its entries finds
+get-at_key : (es : Entries) (q : ℤ) → Ordered es → get (from_sorted {R = int_cmp} es) q ≡ at_key q es
+get-at_key es q h = get-from_sorted int_cmp es q (is_sorted-entries es h) ∙ find-at_key q es
+
+-- after a change at k, the map has at q what the map before has, changed at k
+get-changed : (es fs : Entries) (k : ℤ) (w : Option ℤ) → Ordered es → Ordered fs → Changes es fs k w → (q : ℤ)
+    → get (from_sorted {R = int_cmp} fs) q ≡ cond (eq_by_cmp int_cmp q k) w (get (from_sorted {R = int_cmp} es) q)
+get-changed es fs k w he hf changes q =
+    get-at_key fs q hf ∙ changes q ∙ ap (λ b. cond b w (at_key q es)) ((eq_by_cmp_equiv int_cmp_total).symm k q)
+    ∙ ap (cond (eq_by_cmp int_cmp q k) w) (sym (get-at_key es q he))
+
+from_sorted-insert : (es fs : Entries) (k v : ℤ) → Ordered es → Ordered fs → Changes es fs k (Some v) → from_sorted {R = int_cmp} fs ≡ insert (from_sorted {R = int_cmp} es) k v
+from_sorted-insert es fs k v he hf changes =
+    same_map int_cmp_total int_cmp-IsAntisymmetric _ _ (λ q. get-changed es fs k (Some v) he hf changes q ∙ sym (get-insert int_cmp_total _ k v q))
+
+from_sorted-remove : (es fs : Entries) (k : ℤ) → Ordered es → Ordered fs → Changes es fs k None → from_sorted {R = int_cmp} fs ≡ remove (from_sorted {R = int_cmp} es) k
+from_sorted-remove es fs k he hf changes =
+    same_map int_cmp_total int_cmp-IsAntisymmetric _ _ (λ q. get-changed es fs k None he hf changes q ∙ sym (get-remove int_cmp_total _ k q))
+
+-- maps of ordered entries are equal only where the entries are
+from_sorted-injective : (es fs : Entries) → Ordered es → Ordered fs → from_sorted {R = int_cmp} es ≡ from_sorted {R = int_cmp} fs → es ≡ fs
+from_sorted-injective es fs he hf e =
+    sym (entries-from_sorted int_cmp es (is_sorted-entries es he)) ∙ ap entries e ∙ entries-from_sorted int_cmp fs (is_sorted-entries fs hf)
+
+pub from_sorted-empty : (es : Entries) → es ≡ [] → Ordered es → from_sorted {R = int_cmp} es ≡ empty
+from_sorted-empty es e h = empty_of_len _ (len-entries _ ∙ ap length (entries-from_sorted int_cmp es (is_sorted-entries es h) ∙ e))
+
+-- The step of each operation. The table m has the entries es before it, and fs behind it.
+pub next-put : (m : FinMap int_cmp ℤ) (es fs : Entries) (k v : ℤ) (r : Option ℤ) → from_sorted es ≡ m → Ordered es → Ordered fs → Changes es fs k (Some v) → r ≡ at_key k es
+    → next (table m) (Put k v) ≡ Some (table (from_sorted fs), Value r)
+next-put m es fs k v r is he hf changes old =
+    ap (λ n. Some (table n, Value (get m k))) (ap (λ n. insert n k v) (sym is) ∙ sym (from_sorted-insert es fs k v he hf changes))
+    ∙ ap (λ o. Some (table (from_sorted fs), Value o)) (ap (λ n. get n k) (sym is) ∙ get-at_key es k he ∙ sym old)
+
+pub next-get : (m : FinMap int_cmp ℤ) (es : Entries) (k : ℤ) (r : Option ℤ) → from_sorted es ≡ m → Ordered es → r ≡ at_key k es
+    → next (table m) (Get k) ≡ Some (table m, Value r)
+next-get m es k r is he found =
+    ap (λ o. Some (table m, Value o)) (ap (λ n. get n k) (sym is) ∙ get-at_key es k he ∙ sym found)
+
+pub next-del : (m : FinMap int_cmp ℤ) (es fs : Entries) (k : ℤ) (r : Option ℤ) → from_sorted es ≡ m → Ordered es → Ordered fs → Changes es fs k None → r ≡ at_key k es
+    → next (table m) (Del k) ≡ Some (table (from_sorted fs), Value r)
+next-del m es fs k r is he hf changes old =
+    ap (λ n. Some (table n, Value (get m k))) (ap (λ n. remove n k) (sym is) ∙ sym (from_sorted-remove es fs k he hf changes))
+    ∙ ap (λ o. Some (table (from_sorted fs), Value o)) (ap (λ n. get n k) (sym is) ∙ get-at_key es k he ∙ sym old)
+
+in_table : Content → FinMap int_cmp ℤ
+in_table (table m) = m
+in_table other = empty
+
+table-injective : (m n : FinMap int_cmp ℤ) → table m ≡ table n → m ≡ n
+unfolding in_table
+table-injective m n e = ap in_table e
+
+pub same_tables : (m n : FinMap int_cmp ℤ) (es fs : Entries) (r : Bool) → from_sorted es ≡ m → from_sorted fs ≡ n → Ordered es → Ordered fs → Decides r (es ≡ fs) → Decides r (table m ≡ table n)
+same_tables m n es fs r em fn he hf decides = (
+  λ t. ap table (sym em ∙ ap from_sorted (decides.0 t) ∙ fn),
+  λ e. decides.1 (from_sorted-injective es fs he hf (em ∙ table-injective m n e ∙ sym fn)),
+)
+
+pub same_put : (k k' v v' : ℤ) → k ≡ k' → v ≡ v' → of_map.Put k v ≡ of_map.Put k' v'
+same_put k k' v v' e f = λ i. of_map.Put (e i) (f i)

@@ -1,0 +1,12 @@
+-- What an object of any kind contains.
+use Rattle.model.specs.Objects.{Content, queue, stack, heap, register, table, mutex}
+use Rattle.seq_objects.specs.declared.any_object.AnyObject.{AnyObject}
+use Rattle.seq_objects.specs.declared.any_object.AnyObject.TheVariants.{Queue, Stack, Heap, Register, Map, Mutex}
+
+abbrev pub content_of : AnyObject → Content
+content_of (Queue vs) = queue vs
+content_of (Stack vs) = stack vs
+content_of (Heap vs) = heap vs
+content_of (Register v) = register v
+content_of (Map m) = table m
+content_of (Mutex held) = mutex held
