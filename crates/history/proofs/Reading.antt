@@ -1,0 +1,101 @@
+-- The forms read so far.
+use Rattle.std.proofs.Common.{◌≡◌, ◌≢◌, ℕ, ◌+◌, ◌<◌, ◌≤◌, ◌⊎◌, inl, inr, List, [], ◌∷◌, ◌++◌, length, take, drop, get_or, map, Option, Some, None, zero, suc, append_assoc, zero-add, refl, ap, sym, ◌∙◌, subst, arith}
+use Rattle.std.proofs.lemmas.List.{append-nil, take_more, drop_more, take_all}
+use Rattle.edn.specs.Datum.{Datum}
+use Rattle.edn.specs.View.{view, views}
+use Rattle.edn.specs.declared.form.Form.{Form}
+use Rattle.events.specs.declared.event.Event.{Event}
+use Rattle.history.specs.declared.seen.Seen.{Seen}
+use Rattle.history.specs.declared.fault.HistoryFault.{HistoryFault}
+use Rattle.history.specs.declared.fault.HistoryFaultKind.{HistoryFaultKind}
+use Rattle.history.specs.Maps.{client_of}
+use Rattle.history.specs.Faults.{IsFault, IsFaultless, IsFirstFault}
+use Rattle.history.specs.Denotes.{event_of, events_from, Denotes}
+use Rattle.history.specs.Seen.{IsSeen, HasNoFault, HasFirst, IsRead}
+
+pub record IsSoFar (seen : Seen) (ds : List Datum) (es : List Event) : Type 0 where
+  pub kept : IsSeen seen ds
+  pub faultless : IsFaultless ds
+  pub events : es ≡ events_from 0 ds
+
+events_push : (n : ℕ) (ds : List Datum) (d : Datum) → events_from n (ds ++ d ∷ []) ≡ events_from n ds ++ event_of (n + length ds) (client_of d)
+events_push n [] d = append-nil (event_of n (client_of d)) ∙ ap (λ k. event_of k (client_of d)) (let e : n ≡ n + 0 = omega arith in e)
+events_push n (x ∷ ds) d =
+    ap (λ es. event_of n (client_of x) ++ es) (events_push (n + 1) ds d)
+    ∙ (sym (append_assoc (event_of n (client_of x)) (events_from (n + 1) ds) (event_of (n + 1 + length ds) (client_of d)))
+      ∙ ap (λ k. (event_of n (client_of x) ++ events_from (n + 1) ds) ++ event_of k (client_of d)) (let e : n + 1 + length ds ≡ n + length (x ∷ ds) = omega arith in e))
+
+-- a split of a longer list
+split_push : (ds : List Datum) (d : Datum) (earlier later : List Datum) (e : Datum) → ds ++ d ∷ [] ≡ earlier ++ e ∷ later → ((earlier ≡ ds) × (e ≡ d)) ⊎ ((rest : List Datum) × (ds ≡ earlier ++ e ∷ rest))
+split_push [] d [] later e q = inl (refl, let s : d ≡ e = cc in sym s)
+split_push [] d (x ∷ earlier) later e q = absurd (no_tail earlier (let s : [] ≡ earlier ++ e ∷ later = cc in s))
+  where
+    no_tail : (xs : List Datum) → [] ≡ xs ++ e ∷ later → ⊥
+    no_tail [] s = cc s
+    no_tail (y ∷ ys) s = cc s
+split_push (y ∷ ds) d [] later e q = inr (ds, let s : y ≡ e = cc in ap (λ z. z ∷ ds) s)
+split_push (y ∷ ds) d (x ∷ earlier) later e q =
+    let head : y ≡ x = cc in
+    let tail : ds ++ d ∷ [] ≡ earlier ++ e ∷ later = cc in
+    elim (split_push ds d earlier later e tail) [
+      | inl h ↦ inl (ap (λ t. x ∷ t) h.0 ∙ ap (λ z. z ∷ ds) (sym head), h.1)
+      | inr h ↦ inr (h.0, ap (λ z. z ∷ ds) head ∙ ap (λ t. x ∷ t) h.1)
+    ]
+
+faultless_push : (ds : List Datum) (d : Datum) → IsFaultless ds → HasNoFault ds d → IsFaultless (ds ++ d ∷ [])
+faultless_push ds d h none earlier later e k q f = elim (split_push ds d earlier later e q) [
+  | inl s ↦ none k (subst (λ x. IsFault ds x k) s.1 (subst (λ x. IsFault x e k) s.0 f))
+  | inr s ↦ h earlier s.0 e k s.1 f
+]
+
+pub nothing_read : (seen : Seen) → IsSeen seen [] → IsSoFar seen [] []
+nothing_read seen h = record { kept = h; faultless = λ earlier later d k q f. no_split earlier later d q; events = refl }
+  where
+    no_split : (earlier later : List Datum) (d : Datum) → [] ≡ earlier ++ d ∷ later → ⊥
+    no_split [] later d q = cc q
+    no_split (x ∷ xs) later d q = cc q
+
+-- one form more
+pub one_read : (old new : Seen) (fs : List Form) (i : ℕ) (f : Form) (es more : List Event) → i < length fs → f ≡ get_or fs i f → IsSoFar old (views (take i fs)) es → IsRead old new (views (take i fs)) (view f) more → IsSoFar new (views (take (i + 1) fs)) (es ++ more)
+one_read old new fs i f es more l is h r =
+    let ds = views (take i fs) in
+    let whole : views (take (i + 1) fs) ≡ ds ++ view f ∷ [] = ap views (take_more fs i f l) ∙ (map-append view (take i fs) (get_or fs i f ∷ []) ∙ ap (λ x. ds ++ view x ∷ []) (sym is)) in
+    subst (λ xs. IsSoFar new xs (es ++ more)) (sym whole) (record {
+      kept = r.seen;
+      faultless = faultless_push ds (view f) h.faultless r.no_fault;
+      events = ap (λ x. x ++ more) h.events ∙ (ap (λ x. events_from 0 ds ++ x) r.events ∙ sym (events_push 0 ds (view f) ∙ ap (λ k. events_from 0 ds ++ event_of k (client_of (view f))) (zero-add (length ds))));
+    })
+  where
+    map-append : {X Y : Type 0} (g : X → Y) (xs ys : List X) → map g (xs ++ ys) ≡ map g xs ++ map g ys
+    map-append g [] ys = refl
+    map-append g (x ∷ xs) ys = ap (λ zs. g x ∷ zs) (map-append g xs ys)
+
+-- the length of the forms so far is the number of the next
+pub number_is : (fs : List Form) (i : ℕ) → i < length fs → length (views (take i fs)) ≡ i
+number_is [] i l = absurd (omega arith)
+number_is (f ∷ fs) zero l = refl
+number_is (f ∷ fs) (suc i) l = ap suc (number_is fs i (omega arith))
+
+pub first_fault : (seen : Seen) (fs : List Form) (i : ℕ) (f : Form) (es : List Event) (k : HistoryFaultKind) → i < length fs → f ≡ get_or fs i f → IsSoFar seen (views (take i fs)) es → HasFirst (views (take i fs)) (view f) k → IsFirstFault (views fs) (record { kind = k; map = i })
+first_fault seen fs i f es k l is h first = record {
+  earlier = views (take i fs);
+  form = view f;
+  later = views (drop (suc i) fs);
+  split = parts fs i l ∙ ap (λ x. views (take i fs) ++ view x ∷ views (drop (suc i) fs)) (sym is);
+  place = number_is fs i l;
+  stands = first.stands;
+  least = h.faultless;
+  first = first.first;
+}
+  where
+    parts : (gs : List Form) (j : ℕ) → j < length gs → views gs ≡ views (take j gs) ++ view (get_or gs j f) ∷ views (drop (suc j) gs)
+    parts [] j m = absurd (omega arith)
+    parts (g ∷ gs) zero m = refl
+    parts (g ∷ gs) (suc j) m = ap (λ t. view g ∷ t) (parts gs j (omega arith))
+
+-- a fault refutes that the forms denote anything
+pub fault_refutes : (ds : List Datum) (fault : HistoryFault) (es : List Event) → IsFirstFault ds fault → Denotes ds es → ⊥
+fault_refutes ds fault es h d = d.faultless h.earlier h.later h.form fault.kind h.split h.stands
+
+pub all_read : (seen : Seen) (fs : List Form) (i : ℕ) (es : List Event) → length fs ≤ i → IsSoFar seen (views (take i fs)) es → Denotes (views fs) es
+all_read seen fs i es l h = subst (λ x. Denotes (views x) es) (take_all i fs l) (record { faultless = h.faultless; events = h.events })

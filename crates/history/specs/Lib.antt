@@ -1,0 +1,10 @@
+pub mod Names
+pub mod Maps
+pub mod Views
+pub mod Faults
+pub mod Seen
+pub mod Denotes
+pub use Rattle.edn.specs.Datum
+pub use Rattle.edn.specs.View
+pub use Rattle.events.specs.Events
+pub use Rattle.events.specs.Operations

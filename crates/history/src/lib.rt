@@ -1,0 +1,12 @@
+//! Histories read from the forms of a text.
+#![tactic(auto)]
+
+mod client_map;
+mod fault;
+mod judging;
+mod reader;
+mod seen;
+
+pub use events::{Action, End, Event, History, Invocation, ObjectHistory, split};
+pub use fault::{HistoryFault, HistoryFaultKind};
+pub use reader::read_history;

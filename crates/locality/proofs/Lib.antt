@@ -1,0 +1,13 @@
+pub mod Merge
+pub mod Entries
+pub mod ProcessHistories
+pub mod Cuts
+pub mod Moments
+pub mod Linearization
+pub mod CompletedCalls
+pub mod ValidOrders
+pub mod NamedObjects
+pub mod PendingAnswers
+pub mod WrittenOut
+pub mod WorkedOrders
+pub mod RefutedOrders

@@ -1,0 +1,3 @@
+pub mod Locality
+pub mod Completions
+pub mod WorkedHistories

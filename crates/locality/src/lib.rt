@@ -1,0 +1,55 @@
+//! Locality of linearizability, its converse, and what the definitions come to in worked histories: functions that do
+//! nothing, and whose contracts are theorems. Locality is the theorem of Herlihy and Wing, "Linearizability: A
+//! Correctness Condition for Concurrent Objects", TOPLAS 1990, section 3.
+#![tactic(auto)]
+
+mod worked_histories;
+
+ghost use Rattle.std.specs.Prelude.{◌≡◌, ◌↔◌, ◌++◌, ℕ, false, List, All};
+ghost use Rattle.model.specs.declared.Kind.{Kind};
+ghost use Rattle.model.specs.Histories.{Event, is_invocation, IsWellFormed};
+ghost use Rattle.model.specs.Linearizable.{IsLinearizable};
+ghost use Rattle.model.specs.Orders.{Numbered, events, IsHistory, calls_in};
+ghost use Rattle.locality.specs.Completions.{AnswersPending};
+ghost use Rattle.locality.specs.Locality.{HasValidOrder};
+
+pub use worked_histories::{
+    each_object_has_its_order, mutex_is_held_by_one, operations_in_turn_keep_their_order,
+    overlapping_operations_may_change_places, pending_operation_does_not_overtake,
+    pending_operation_may_be_left_out, pending_operation_may_take_effect, process_is_sequential,
+    use_in_turn_is_linearizable,
+};
+
+/// Locality: a history is linearizable where the operations of each object alone have a valid order. The objects may be
+/// of any kinds.
+pub fn locality()
+    ensures { (kinds : ℕ → Kind) (h : List Numbered)
+        → IsHistory h
+        → ((x : ℕ) → HasValidOrder kinds h x)
+        → IsLinearizable kinds (events h) }
+{}
+
+/// Locality, from valid orders of the objects that some operation names: the others need none.
+pub fn named_objects()
+    ensures { (kinds : ℕ → Kind) (h : List Numbered)
+        → IsHistory h
+        → All (λ call. HasValidOrder kinds h call.object) (calls_in h)
+        → IsLinearizable kinds (events h) }
+{}
+
+/// The converse of locality: where a history is linearizable, the operations of each object have a valid order.
+pub fn linearizable_has_orders()
+    ensures { (kinds : ℕ → Kind) (h : List Numbered)
+        → IsHistory h
+        → IsLinearizable kinds (events h)
+        → (x : ℕ) → HasValidOrder kinds h x }
+{}
+
+/// What a completion adds: a well-formed history goes on with responses into a well-formed history exactly where each
+/// of them matches a pending invocation, and no two are of one process.
+pub fn completion_in_words()
+    ensures { (h added : List Event)
+        → IsWellFormed h
+        → All (λ e. is_invocation e ≡ false) added
+        → (IsWellFormed (h ++ added) ↔ AnswersPending h added) }
+{}
