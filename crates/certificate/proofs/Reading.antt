@@ -1,0 +1,194 @@
+-- Forms read one after the other.
+use Rattle.std.proofs.Common.{◌≡◌, ◌≢◌, ℕ, zero, suc, ◌+◌, ◌<◌, ◌==◌, Bool, true, false, cond, List, [], ◌∷◌, ◌++◌, length, take, drop, get_or, map, option_map, Option, Some, None, Contains, refl, ap, sym, ◌∙◌, append_assoc, length-append, arith}
+use Rattle.std.specs.Prelude.{ℤ, ◌||◌, codes, option_and_then}
+use Rattle.std.specs.List.{list_any}
+use Rattle.std.proofs.lemmas.Bool.{both_ways, or_parts, eqb-true, eq-eqb}
+use Rattle.std.proofs.lemmas.List.{drop_more, take_more, take-append-drop, length-take-le, length-map, map-append}
+use Rattle.std.proofs.Math.ListN.{get_or-append}
+use Rattle.std.proofs.Math.Seq.{get_or-append_seam}
+use Rattle.std.proofs.lemmas.List.Quantifiers.{all_pairs_push}
+use Rattle.edn.specs.Datum.{Datum, dictionary, Entries, items_of}
+use Rattle.edn.specs.View.{view, views}
+use Rattle.edn.specs.declared.form.Form.{Form}
+use Rattle.fields.specs.Fields.{value_at, natural_in, object_in}
+use Rattle.certificate.specs.Denotes.{Reading, integer_in, integers_in, order_in, reading_with, certificate_of, reading_of, AreDistinct, Denotes}
+use Rattle.certificate.specs.Faults.{IsFault, IsFaultless, IsFirstFault}
+use Rattle.certificate.specs.Inside.{IsFaultAmong, AreRead}
+use Rattle.certificate.specs.declared.Certificate.{Certificate}
+use Rattle.certificate.specs.declared.fault.CertFault.{CertFault}
+use Rattle.certificate.specs.declared.fault.CertFaultKind.{CertFaultKind}
+use Rattle.certificate.specs.declared.fault.CertFaultKind.TheVariants.{NotACertificate, TwoForOneObject, NoMemory}
+
+-- ---- the elements of an order
+
+-- the integers of a list of forms, behind some that were read
+abbrev pub integers_behind : List ℤ → List Form → Option (List ℤ)
+integers_behind done fs = option_map (λ zs. done ++ zs) (integers_in (items_of (views fs)))
+
+at_place : (fs : List Form) (i : ℕ) (f : Form) → i < length fs → f ≡ get_or fs i f → drop i fs ≡ f ∷ drop (i + 1) fs
+at_place fs i f lt e = drop_more fs i f lt ∙ ap (λ (y : Form). y ∷ drop (i + 1) fs) (sym e)
+
+behind_integer : (done : List ℤ) (z : ℤ) (more : Option (List ℤ)) → option_map (λ zs. done ++ zs) (option_map (λ zs. z ∷ zs) more) ≡ option_map (λ zs. (done ++ z ∷ []) ++ zs) more
+behind_integer done z None = refl
+behind_integer done z (Some zs) = ap Some (sym (append_assoc done (z ∷ []) zs))
+
+pub one_integer : (done : List ℤ) (fs : List Form) (i : ℕ) (f : Form) (z : ℤ) → i < length fs → f ≡ get_or fs i f → Some z ≡ integer_in (view f)
+    → integers_behind done (drop i fs) ≡ integers_behind (done ++ z ∷ []) (drop (i + 1) fs)
+one_integer done fs i f z lt e is =
+    ap (integers_behind done) (at_place fs i f lt e)
+    ∙ ap (λ v. option_map (λ zs. done ++ zs) (option_and_then (λ y. option_map (λ zs. y ∷ zs) (integers_in (items_of (views (drop (i + 1) fs))))) v)) (sym is)
+    ∙ behind_integer done z (integers_in (items_of (views (drop (i + 1) fs))))
+
+pub no_integer : (done : List ℤ) (fs : List Form) (i : ℕ) (f : Form) → i < length fs → f ≡ get_or fs i f → None ≡ integer_in (view f)
+    → integers_behind done (drop i fs) ≡ None
+no_integer done fs i f lt e is =
+    ap (integers_behind done) (at_place fs i f lt e)
+    ∙ ap (λ v. option_map (λ zs. done ++ zs) (option_and_then (λ y. option_map (λ zs. y ∷ zs) (integers_in (items_of (views (drop (i + 1) fs))))) v)) (sym is)
+
+-- ---- one certificate
+
+pub no_object : (es : Entries) (v : Option Datum) (n : Option ℕ) → v ≡ value_at (codes "object") es → n ≡ natural_in v → None ≡ object_in n → None ≡ certificate_of (dictionary es)
+no_object es v n h k e = ap (λ x. reading_with x (order_in (value_at (codes "order") es))) (e ∙ ap object_in k ∙ ap (λ w. object_in (natural_in w)) h)
+
+pub both_keys : (es : Entries) (v w : Option Datum) (n x : Option ℕ) (o : Option (List ℤ)) → v ≡ value_at (codes "object") es → n ≡ natural_in v → x ≡ object_in n → w ≡ value_at (codes "order") es → o ≡ order_in w
+    → reading_with x o ≡ certificate_of (dictionary es)
+both_keys es v w n x o h k e g q =
+    ap (λ y. reading_with y o) (e ∙ ap object_in k ∙ ap (λ u. object_in (natural_in u)) h) ∙ ap (reading_with (object_in (natural_in (value_at (codes "object") es)))) (q ∙ ap order_in g)
+
+-- ---- the forms so far
+
+pub nothing_read : (among : ℕ → Bool) → ((x : ℕ) → among x ≡ false) → AreRead [] [] among
+nothing_read among none = record { denoted = record { each = refl; distinct = λ i j d lt lt2. absurd (omega arith) }; objects = none }
+
+either : (b w t : Bool) → (b || cond w true t) ≡ cond w true (b || t)
+either true true t = refl
+either true false t = refl
+either false true t = refl
+either false false t = refl
+
+or_nothing : (b : Bool) → (b || false) ≡ cond b true false
+or_nothing true = refl
+or_nothing false = refl
+
+list_any-push : (p : Certificate → Bool) (cs : List Certificate) (c : Certificate) → list_any p (cs ++ c ∷ []) ≡ cond (p c) true (list_any p cs)
+list_any-push p [] c = or_nothing (p c)
+list_any-push p (b ∷ cs) c = ap (λ v. p b || v) (list_any-push p cs c) ∙ either (p b) (p c) (list_any p cs)
+
+list_any-none : (p : Certificate → Bool) (cs : List Certificate) (k : ℕ) (d : Certificate) → list_any p cs ≡ false → k < length cs → p (get_or cs k d) ≡ false
+list_any-none p [] k d h lt = absurd (omega arith)
+list_any-none p (c ∷ cs) zero d h lt = (or_parts (p c) (list_any p cs) h).0
+list_any-none p (c ∷ cs) (suc k) d h lt = list_any-none p cs k d (or_parts (p c) (list_any p cs) h).1 (omega arith)
+
+Contains-cons : {X : Type 0} → (x : X) (xs : List X) (y : X) → Contains xs y → Contains (x ∷ xs) y
+Contains-cons x xs y (k, lt, is) = (suc k, omega arith, is)
+
+-- some certificate passes the test
+abbrev pub Passes : (Certificate → Bool) → List Certificate → Type 0
+Passes p cs = (c : Certificate) × Contains cs c × (p c ≡ true)
+
+passes_first : (p : Certificate → Bool) (c : Certificate) (cs : List Certificate) (b : Bool) → p c ≡ b → (b || list_any p cs) ≡ true → (list_any p cs ≡ true → Passes p cs) → Passes p (c ∷ cs)
+passes_first p c cs true e h more = (c, (0, omega arith, refl), e)
+passes_first p c cs false e h more = let m = more h in (m.0, Contains-cons c cs m.0 m.1, m.2)
+
+list_any-some : (p : Certificate → Bool) (cs : List Certificate) → list_any p cs ≡ true → Passes p cs
+list_any-some p [] h = absurd cc
+list_any-some p (c ∷ cs) h = passes_first p c cs (p c) refl h (list_any-some p cs)
+
+pub one_more_read : (ds : List Datum) (cs : List Certificate) (among after : ℕ → Bool) (d : Datum) (c : Certificate) → AreRead ds cs among → certificate_of d ≡ Some (reading_of c) → among c.object ≡ false
+    → ((x : ℕ) → after x ≡ cond (c.object == x) true (among x)) → AreRead (ds ++ d ∷ []) (cs ++ c ∷ []) after
+one_more_read ds cs among after d c h own new more = record {
+  denoted = record {
+    each = map-append certificate_of ds (d ∷ []) ∙ ap (λ xs. xs ++ certificate_of d ∷ []) h.denoted.each ∙ ap (λ v. map (λ b. Some (reading_of b)) cs ++ v ∷ []) own ∙ sym (map-append (λ b. Some (reading_of b)) cs (c ∷ []));
+    distinct = all_pairs_push (λ (a b : Certificate). a.object ≢ b.object) cs c h.denoted.distinct
+        (λ k e lt same. both_ways ((get_or cs k e).object == c.object) (list_any-none (λ b. b.object == c.object) cs k e (sym (h.objects c.object) ∙ new) lt) (eq-eqb (get_or cs k e).object c.object same));
+  };
+  objects = λ x. more x ∙ ap (λ v. cond (c.object == x) true v) (h.objects x) ∙ sym (list_any-push (λ b. b.object == x) cs c);
+}
+
+-- ---- faults
+
+-- what was read at a place
+record IsReadAt (earlier : List Datum) (d : Datum) (cs : List Certificate) : Type 0 where
+  before : List Certificate
+  own : Certificate
+  later : List Certificate
+  split : cs ≡ before ++ own ∷ later
+  each : map certificate_of earlier ≡ map (λ c. Some (reading_of c)) before
+  is_own : certificate_of d ≡ Some (reading_of own)
+
+read_at : (earlier later : List Datum) (d : Datum) (cs : List Certificate) → map certificate_of (earlier ++ d ∷ later) ≡ map (λ c. Some (reading_of c)) cs → IsReadAt earlier d cs
+read_at [] later d [] h = absurd cc
+read_at [] later d (c ∷ cs) h = record { before = []; own = c; later = cs; split = refl; each = refl; is_own = cc }
+read_at (e ∷ es) later d [] h = absurd cc
+read_at (e ∷ es) later d (c ∷ cs) h =
+    let r = read_at es later d cs cc in
+    let first : certificate_of e ≡ Some (reading_of c) = cc in
+    record { before = c ∷ r.before; own = r.own; later = r.later; split = ap (λ xs. c ∷ xs) r.split; each = ap (λ v. v ∷ map certificate_of es) first ∙ ap (λ xs. Some (reading_of c) ∷ xs) r.each; is_own = r.is_own }
+
+-- the certificate of a form that was read
+read_from : (ds : List Datum) (cs : List Certificate) (d : Datum) (k : ℕ) → map certificate_of ds ≡ map (λ c. Some (reading_of c)) cs → k < length ds → get_or ds k d ≡ d → (c : Certificate) × Contains cs c × (certificate_of d ≡ Some (reading_of c))
+read_from [] cs d k h lt is = absurd (omega arith)
+read_from (e ∷ es) [] d k h lt is = absurd cc
+read_from (e ∷ es) (c ∷ cs) d zero h lt is = (c, (0, omega arith, refl), ap certificate_of (sym is) ∙ cc)
+read_from (e ∷ es) (c ∷ cs) d (suc k) h lt is = let r = read_from es cs d k (cc) (omega arith) is in (r.0, Contains-cons c cs r.0 r.1, r.2)
+
+-- the form of a certificate
+form_from : (ds : List Datum) (cs : List Certificate) (c : Certificate) (k : ℕ) → map certificate_of ds ≡ map (λ b. Some (reading_of b)) cs → k < length cs → get_or cs k c ≡ c → (d : Datum) × Contains ds d × (certificate_of d ≡ Some (reading_of c))
+form_from ds [] c k h lt is = absurd (omega arith)
+form_from [] (b ∷ bs) c k h lt is = absurd cc
+form_from (e ∷ es) (b ∷ bs) c zero h lt is = let own : certificate_of e ≡ Some (reading_of b) = cc in (e, (0, omega arith, refl), own ∙ ap (λ (x : Certificate). Some (reading_of x)) is)
+form_from (e ∷ es) (b ∷ bs) c (suc k) h lt is = let r = form_from es bs c k (cc) (omega arith) is in (r.0, Contains-cons e es r.0 r.1, r.2)
+
+apart : (cs before later : List Certificate) (c b : Certificate) → AreDistinct cs → cs ≡ before ++ c ∷ later → Contains before b → b.object ≡ c.object → ⊥
+apart cs before later c b h split (k, lt, is) same =
+    let at_b : get_or cs k b ≡ b = ap (λ (xs : List Certificate). get_or xs k b) split ∙ get_or-append before (c ∷ later) b k lt ∙ is in
+    let at_c : get_or cs (length before) b ≡ c = ap (λ (xs : List Certificate). get_or xs (length before) b) split ∙ get_or-append_seam before c later b in
+    let long : length cs ≡ length before + length (c ∷ later) = ap length split ∙ length-append before (c ∷ later) in
+    h k (length before) b lt (omega (arith, long)) (ap (λ (x : Certificate). x.object) at_b ∙ same ∙ sym (ap (λ (x : Certificate). x.object) at_c))
+
+same_objects : (a b r s : Reading) → Some a ≡ Some r → Some b ≡ Some s → r.object ≡ s.object → a.object ≡ b.object
+same_objects a b r s p q e =
+    let p' : a ≡ r = cc in
+    let q' : b ≡ s = cc in
+    ap (λ (x : Reading). x.object) p' ∙ e ∙ sym (ap (λ (x : Reading). x.object) q')
+
+pub no_fault : (ds : List Datum) (cs : List Certificate) → Denotes ds cs → IsFaultless ds
+no_fault ds cs h earlier later d NotACertificate split fault =
+    let r = read_at earlier later d cs (ap (map certificate_of) (sym split) ∙ h.each) in
+    let own : certificate_of d ≡ Some (reading_of r.own) = r.is_own in
+    absurd cc
+no_fault ds cs h earlier later d TwoForOneObject split fault =
+    let r = read_at earlier later d cs (ap (map certificate_of) (sym split) ∙ h.each) in
+    let f = read_from earlier r.before fault.first fault.stands.0 r.each fault.stands.1 fault.stands.2 in
+    let first : Some (reading_of f.0) ≡ Some fault.first_own = sym f.2 ∙ fault.is_first_own in
+    let own : Some (reading_of r.own) ≡ Some fault.own = sym r.is_own ∙ fault.is_own in
+    let same : f.0.object ≡ r.own.object = same_objects _ _ _ _ first own fault.same_object in
+    apart cs r.before r.later r.own f.0 h.distinct r.split f.1 same
+no_fault ds cs h earlier later d NoMemory split fault = fault
+
+pub fault_here : (ds : List Datum) (cs : List Certificate) (among : ℕ → Bool) (d : Datum) (kind : CertFaultKind) → AreRead ds cs among → IsFaultAmong among d kind → kind ≢ NoMemory → IsFault ds d kind
+fault_here ds cs among d NotACertificate h fault other = fault
+fault_here ds cs among d TwoForOneObject h (r, own, stands) other =
+    let some = list_any-some (λ c. c.object == r.object) cs (sym (h.objects r.object) ∙ stands) in
+    let first = form_from ds cs some.0 some.1.0 h.denoted.each some.1.1 some.1.2 in
+    record { own = r; first = first.0; first_own = reading_of some.0; is_own = own; stands = first.1; is_first_own = first.2; same_object = eqb-true some.0.object r.object some.2 }
+fault_here ds cs among d NoMemory h fault other = absurd (other refl)
+
+pub not_denoted : (ds : List Datum) (e : CertFault) → IsFirstFault ds e → (cs : List Certificate) → Denotes ds cs → ⊥
+not_denoted ds e f cs h = no_fault ds cs h f.earlier f.later f.form e.kind f.split f.stands
+
+-- the first fault, behind forms that were read
+pub first_fault : (fs : List Form) (i : ℕ) (f : Form) (cs : List Certificate) (among : ℕ → Bool) (kind : CertFaultKind) → i < length fs → f ≡ get_or fs i f → AreRead (views (take i fs)) cs among → IsFaultAmong among (view f) kind
+    → kind ≢ NoMemory → IsFirstFault (views fs) (record { kind = kind; form = i })
+first_fault fs i f cs among kind lt is h fault other = record {
+  earlier = views (take i fs);
+  form = view f;
+  later = views (drop (i + 1) fs);
+  split = ap views (sym (take-append-drop i fs) ∙ ap (λ (xs : List Form). take i fs ++ xs) (at_place fs i f lt is)) ∙ map-append view (take i fs) (f ∷ drop (i + 1) fs);
+  place = length-map (take i fs) view ∙ length-take-le i fs (omega arith);
+  stands = fault_here (views (take i fs)) cs among (view f) kind h fault other;
+  least = no_fault (views (take i fs)) cs h.denoted;
+}
+
+pub taken_one_more : (fs : List Form) (i : ℕ) (f : Form) → i < length fs → f ≡ get_or fs i f → views (take (i + 1) fs) ≡ views (take i fs) ++ view f ∷ []
+taken_one_more fs i f lt is = ap views (take_more fs i f lt ∙ ap (λ (x : Form). take i fs ++ x ∷ []) (sym is)) ∙ map-append view (take i fs) (f ∷ [])

@@ -1,0 +1,37 @@
+-- What can be wrong with the forms of a text of certificates, and which fault of it is the first.
+use Rattle.std.specs.Prelude.{◌≡◌, List, ◌∷◌, ◌++◌, length, Some, None, Contains}
+use Rattle.edn.specs.Datum.{Datum}
+use Rattle.certificate.specs.Denotes.{Reading, certificate_of}
+use Rattle.certificate.specs.declared.fault.CertFaultKind.{CertFaultKind}
+use Rattle.certificate.specs.declared.fault.CertFaultKind.TheVariants.{NotACertificate, TwoForOneObject, NoMemory}
+use Rattle.certificate.specs.declared.fault.CertFault.{CertFault}
+
+-- one of the earlier forms is a certificate of the same object
+pub record IsSecond (earlier : List Datum) (d : Datum) : Type 0 where
+  pub own : Reading
+  pub first : Datum
+  pub first_own : Reading
+  pub is_own : certificate_of d ≡ Some own
+  pub stands : Contains earlier first
+  pub is_first_own : certificate_of first ≡ Some first_own
+  pub same_object : first_own.object ≡ own.object
+
+-- what is wrong with a form, judged from it and the forms before it
+abbrev pub IsFault : List Datum → Datum → CertFaultKind → Type 0
+IsFault earlier d NotACertificate = certificate_of d ≡ None
+IsFault earlier d TwoForOneObject = IsSecond earlier d
+IsFault earlier d NoMemory = ⊥
+
+-- no form is faulty
+abbrev pub IsFaultless : List Datum → Type 0
+IsFaultless ds = (earlier later : List Datum) (d : Datum) (kind : CertFaultKind) → ds ≡ earlier ++ d ∷ later → IsFault earlier d kind → ⊥
+
+-- the first fault: that of the least faulty form. A form has one fault at most.
+pub record IsFirstFault (ds : List Datum) (fault : CertFault) : Type 0 where
+  pub earlier : List Datum
+  pub form : Datum
+  pub later : List Datum
+  pub split : ds ≡ earlier ++ form ∷ later
+  pub place : length earlier ≡ fault.form
+  pub stands : IsFault earlier form fault.kind
+  pub least : IsFaultless earlier

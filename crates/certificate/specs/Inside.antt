@@ -1,0 +1,19 @@
+-- How the reader judges a form by the objects of the forms before it. No public clause speaks of it.
+use Rattle.std.specs.Prelude.{◌≡◌, ◌==◌, ℕ, ⊤, Bool, true, Some, None, List}
+use Rattle.std.specs.List.{list_any}
+use Rattle.edn.specs.Datum.{Datum}
+use Rattle.certificate.specs.Denotes.{Reading, certificate_of, Denotes}
+use Rattle.certificate.specs.declared.Certificate.{Certificate}
+use Rattle.certificate.specs.declared.fault.CertFaultKind.{CertFaultKind}
+use Rattle.certificate.specs.declared.fault.CertFaultKind.TheVariants.{NotACertificate, TwoForOneObject, NoMemory}
+
+-- what is wrong with a form, by whether an object is that of an earlier form
+abbrev pub IsFaultAmong : (ℕ → Bool) → Datum → CertFaultKind → Type 0
+IsFaultAmong among d NotACertificate = certificate_of d ≡ None
+IsFaultAmong among d TwoForOneObject = (r : Reading) × (certificate_of d ≡ Some r) × (among r.object ≡ true)
+IsFaultAmong among d NoMemory = ⊤
+
+-- the forms so far, their certificates, and which objects these are of
+pub record AreRead (ds : List Datum) (cs : List Certificate) (among : ℕ → Bool) : Type 0 where
+  pub denoted : Denotes ds cs
+  pub objects : (x : ℕ) → among x ≡ list_any (λ c. c.object == x) cs

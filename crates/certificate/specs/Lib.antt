@@ -1,0 +1,6 @@
+pub mod Denotes
+pub mod Faults
+pub mod Lines
+pub mod Inside
+pub use Rattle.edn.specs.Datum
+pub use Rattle.edn.specs.View

@@ -1,0 +1,32 @@
+-- The text that is written for certificates.
+use Rattle.std.specs.Prelude.{ℕ, ◌≤◌, ℤ, Bool, true, false, List, [], ◌∷◌, ◌++◌, codes, decimal, All}
+use Rattle.std.specs.Fmt.{signed_decimal}
+use Rattle.edn.specs.Datum.{Datum}
+use Rattle.edn.specs.Spells.{Spells}
+use Rattle.edn.specs.Text.{between}
+use Rattle.fields.specs.Fields.{max_object}
+use Rattle.certificate.specs.Denotes.{Denotes}
+use Rattle.certificate.specs.declared.Certificate.{Certificate}
+
+-- the integers with a space between them
+abbrev pub numbers_text : Bool → List ℤ → List ℕ
+numbers_text first [] = []
+numbers_text first (z ∷ zs) = (between first (codes " ") ++ signed_decimal z) ++ numbers_text false zs
+
+-- the line of a certificate, as {:object 0, :order [0 2]}
+abbrev pub line_of : Certificate → List ℕ
+line_of c = codes "{:object " ++ (decimal c.object ++ (codes ", :order [" ++ (numbers_text true c.order.items ++ codes "]}\n")))
+
+abbrev pub lines_of : List Certificate → List ℕ
+lines_of [] = []
+lines_of (c ∷ cs) = line_of c ++ lines_of cs
+
+-- each object has a number that a text can have
+abbrev pub AreInRange : List Certificate → Type 0
+AreInRange cs = All (λ c. c.object ≤ max_object) cs
+
+-- the text is that of some forms, and these denote the certificates
+pub record SpellsCertificates (cs : List Certificate) (bytes : List ℕ) : Type 0 where
+  pub forms : List Datum
+  pub spelled : Spells forms bytes
+  pub denoted : Denotes forms cs

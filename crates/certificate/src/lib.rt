@@ -1,0 +1,20 @@
+//! Certificates: for an object, an order of its operations.
+#![tactic(auto)]
+
+mod fault;
+mod reader;
+mod writer;
+
+pub use fault::{CertFault, CertFaultKind};
+pub use reader::read_certificates;
+pub use writer::write_certificates;
+
+/// An order of an object's operations, by the numbers of their invocations. Nothing is promised of the numbers.
+#[derive(Debug, PartialEq, Eq, Drop)]
+pub struct Certificate {
+    pub object: u32,
+    pub order: Vec<i64>,
+}
+
+#[cfg(test)]
+mod tests;

@@ -1,0 +1,147 @@
+ghost use Rattle.std.specs.Prelude.{All, IsTrue};
+ghost use Rattle.edn.specs.Datum.{Fits, max_open};
+ghost use Rattle.edn.specs.View.{view};
+
+use super::*;
+use edn::{Form, Out, WriteFault, fits, read_forms};
+use std::alloc::Global;
+use std::io;
+use std::test::Fail;
+
+/// Whether each form fits, which is what the reader of certificates asks.
+fn all_fit(forms: &[Form]) -> bool
+    ensures { IsTrue result → All (λ f. Fits max_open (view f)) forms.now }
+{
+    forms.iter().all(|f| fits(f))
+}
+
+/// What the text reads as.
+fn read(alloc: Global, text: &[u8]) -> Result<Result<Vec<Certificate>, CertFault>, Fail> {
+    let Ok(forms) = read_forms(alloc, text) else {
+        return Err(Fail::new("a text of forms is refused"));
+    };
+    if !all_fit(forms.as_slice()) {
+        return Err(Fail::new("a form that was read does not fit"));
+    }
+    Ok(read_certificates(alloc, forms))
+}
+
+#[test]
+fn written_certificates_are_read_back(rt: HostRuntime) -> Result<(), Fail> {
+    let text =
+        b"{:object 0, :order [0 2]}\n{:object 65535, :order []}\n{:object 7, :order [-1 9223372036854775807 -9223372036854775808]}\n";
+    let Ok(certificates) = read(rt.alloc(), text)? else {
+        return Err(Fail::new("certificates are refused"));
+    };
+    assert_eq!(rt; certificates.len(), 3);
+    assert_eq!(rt; certificates[1].object, 65_535);
+    assert_eq!(rt; certificates[0].order.as_slice(), [0, 2].as_slice());
+    let mut sink = Out::new(Vec::new(rt.alloc()));
+    write_certificates(certificates.as_slice(), &mut sink)?;
+    assert_eq!(rt; sink.into_inner().as_slice(), text.as_slice());
+    Ok(())
+}
+
+#[test]
+fn first_faults(rt: HostRuntime) -> Result<(), Fail> {
+    let rows: [(&str, CertFaultKind, usize); 12] = [
+        ("[0 2]", CertFaultKind::NotACertificate, 0),
+        ("nil", CertFaultKind::NotACertificate, 0),
+        ("{:order [0 2]}", CertFaultKind::NotACertificate, 0),
+        ("{:object 0}", CertFaultKind::NotACertificate, 0),
+        (
+            "{:object nil, :order []}",
+            CertFaultKind::NotACertificate,
+            0,
+        ),
+        (
+            "{:object 65536, :order []}",
+            CertFaultKind::NotACertificate,
+            0,
+        ),
+        ("{:object -1, :order []}", CertFaultKind::NotACertificate, 0),
+        ("{:object 0, :order 0}", CertFaultKind::NotACertificate, 0),
+        (
+            "{:object 0, :order [0 [1]]}",
+            CertFaultKind::NotACertificate,
+            0,
+        ),
+        (
+            "{:object 0, :order [0 2]} {:object 0, :order []}",
+            CertFaultKind::TwoForOneObject,
+            1,
+        ),
+        (
+            "{:object 3, :order []} {:object 0, :order []} {:object 3, :order []} 5",
+            CertFaultKind::TwoForOneObject,
+            2,
+        ),
+        (
+            "{:object 3, :order []} 5 {:object 3, :order []}",
+            CertFaultKind::NotACertificate,
+            1,
+        ),
+    ];
+    for (text, kind, form) in rows {
+        let answer = read(rt.alloc(), text.as_bytes())?;
+        assert_eq!(rt; answer, Err(CertFault { kind, form }), "at {text:?}");
+    }
+    Ok(())
+}
+
+#[test]
+fn other_keys_are_ignored(rt: HostRuntime) -> Result<(), Fail> {
+    let Ok(certificates) = read(rt.alloc(), b"{:by \"x\", :order [2], :f 1, :object 4}, ; x")?
+    else {
+        return Err(Fail::new("a certificate is refused"));
+    };
+    assert_eq!(rt; certificates.len(), 1);
+    assert_eq!(rt; certificates[0].object, 4);
+    assert_eq!(rt; certificates[0].order.as_slice(), [2].as_slice());
+    Ok(())
+}
+
+/// Room for so many bytes, of which it takes three at a time.
+#[derive(Drop)]
+struct Room {
+    taken: Vec<u8>,
+    left: usize,
+}
+
+impl io::Write for Room {
+    fn write(&mut self, bytes: &[u8]) -> io::Result<usize> {
+        let n = bytes.len().min(self.left).min(3);
+        if self.taken.extend_from_slice(&bytes[..n]).is_err() {
+            return Ok(0);
+        }
+        self.left -= n;
+        Ok(n)
+    }
+
+    fn flush(&mut self) -> io::Result<()> {
+        Ok(())
+    }
+}
+
+#[test]
+fn failing_sink(rt: HostRuntime) -> Result<(), Fail> {
+    let text = b"{:object 0, :order [0 2 -5]}\n{:object 3, :order []}\n";
+    let Ok(certificates) = read(rt.alloc(), text)? else {
+        return Err(Fail::new("certificates are refused"));
+    };
+    for left in 0..text.len() + 1 {
+        let mut sink = Out::new(Room {
+            taken: Vec::new(rt.alloc()),
+            left,
+        });
+        let wrote = write_certificates(certificates.as_slice(), &mut sink);
+        let want = if left < text.len() {
+            Err(WriteFault::Device)
+        } else {
+            Ok(())
+        };
+        assert_eq!(rt; wrote, want);
+        assert_eq!(rt; sink.into_inner().taken.as_slice(), &text[..left]);
+    }
+    Ok(())
+}

@@ -1,0 +1,337 @@
+-- Checking one object after the other.
+use Rattle.std.proofs.Common.{◌≡◌, ◌≢◌, ℕ, zero, suc, ◌+◌, ◌<◌, ◌≤◌, ◌⊎◌, ◌↔◌, ◌++◌, ◌∷◌, [], List, Option, Some, None, IsSome, All, AllPairs, Contains, map, length, get_or, take, drop, OnOk, IfErr, Result, Ok, Err, inl, inr, refl, ap, sym, ◌∙◌, subst, arith, false}
+use Rattle.std.proofs.lemmas.Option.{same_Some}
+use Rattle.std.specs.BTreeMap.{BTreeMap, get, is_at, btree_map_len}
+use Rattle.std.specs.Map.{lookup}
+use Rattle.std.specs.Ordering.{nat_cmp, is_gt, is_eq, MatchOrdering}
+use Rattle.std.specs.Cmp.{ranked}
+use Rattle.std.specs.declared.cmp.Ordering.{Ordering}
+use Rattle.std.specs.declared.cmp.Ordering.TheVariants.{Less, Equal, Greater}
+use Rattle.std.proofs.lemmas.Bool.{cases_order}
+use Rattle.std.proofs.lemmas.List.{get_or_default, take_more, take_all}
+use Rattle.model.specs.declared.Kind.{Kind}
+use Rattle.model.specs.Orders.{Call, IsValidOrder, calls_on}
+use Rattle.model.proofs.Lists.{In, Pairs, in_append, in_map, in_map_from, in_from_contains, contains_from_in, in_from_get, all_at, all_from_in, pairs_from_all}
+use Rattle.events.specs.declared.event.Event.{Event}
+use Rattle.events.specs.Events.{IsNamed, kind_at, denoted}
+use Rattle.events.specs.Operations.{ObjectCalls, calls_of}
+use Rattle.certificate.specs.declared.Certificate.{Certificate}
+use Rattle.checker.specs.declared.refusal.OrderFault.{OrderFault}
+use Rattle.checker.specs.declared.refusal.Refusal.{Refusal}
+use Rattle.checker.specs.declared.refusal.Refusal.TheVariants.{NoCertificate, StrangeObject, BadOrder, NoMemory}
+use Rattle.checker.specs.Faults.{IsFirstFault}
+use Rattle.checker.specs.Refusals.{RefusesOrder, HasCertificate, AreValid, IsRefusalAt, IsLeastRefusal, IsLeastStrange, IsFirstRefusal}
+use Rattle.checker.specs.Checking.{IsPlace, ArePlaces, IsFine, IsRefusedNext}
+
+pub apart_keys : (k q : ℕ) → q ≢ k → is_eq (nat_cmp k q) ≡ false
+apart_keys k q ne = go (nat_cmp k q) (ranked k q _ refl)
+  where
+    go : (r : Ordering) → MatchOrdering r (k < q) (k ≡ q) (q < k) → is_eq r ≡ false
+    go Less h = refl
+    go Equal h = absurd (ne (sym h))
+    go Greater h = refl
+
+apart_or_same : (x y : ℕ) → (x ≡ y) ⊎ (x ≢ y)
+apart_or_same x y = elim (cases_order x y) [
+  | inl e ↦ inl e
+  | inr r ↦ elim r [
+    | inl l ↦ inr (λ e. let e' : x ≡ y = e in omega arith)
+    | inr l ↦ inr (λ e. let e' : x ≡ y = e in omega arith)
+  ]
+]
+
+-- one more certificate has its place
+pub one_placed : (certificates : List Certificate) (m n : BTreeMap ℕ ℕ) (k : ℕ) (d : Certificate) → k < length certificates → d ≡ get_or certificates k d → ArePlaces m certificates → ((c : Certificate) → In c (take k certificates) → IsSome (get nat_cmp m c.object))
+    → get nat_cmp n d.object ≡ Some k → ((x : ℕ) → x ≢ d.object → get nat_cmp n x ≡ get nat_cmp m x) → ArePlaces n certificates × ((c : Certificate) → In c (take (k + 1) certificates) → IsSome (get nat_cmp n c.object))
+one_placed certificates m n k d l is places some own others = (
+  λ x j q. elim (apart_or_same x d.object) [
+    | inl e ↦ (
+      let same : k ≡ j = same_Some k j (sym own ∙ (ap (get nat_cmp n) (sym e) ∙ q)) in
+      subst (IsPlace certificates x) same (record { inside = l; for_object = λ c. ap (λ (z : Certificate). z.object) (get_or_default certificates k c d l ∙ sym is) ∙ sym e })
+    )
+    | inr ne ↦ places x j (sym (others x ne) ∙ q)
+  ],
+  λ c i. elim (apart_or_same c.object d.object) [
+    | inl e ↦ subst IsSome (sym (ap (get nat_cmp n) e ∙ own)) refl
+    | inr ne ↦ subst IsSome (sym (others c.object ne)) (elim (in_append c (take k certificates) (get_or certificates k d ∷ []) (subst (In c) (take_more certificates k d l) i)) [
+      | inl j ↦ some c j
+      | inr j ↦ elim j [
+        | inl e ↦ absurd (ne (ap (λ (z : Certificate). z.object) (e ∙ sym is)))
+        | inr z ↦ absurd z
+      ]
+    ])
+  ],
+)
+
+pub all_placed : (certificates : List Certificate) (m : BTreeMap ℕ ℕ) (k : ℕ) → length certificates ≤ k → ((c : Certificate) → In c (take k certificates) → IsSome (get nat_cmp m c.object)) → All (λ c. IsSome (get nat_cmp m c.object)) certificates
+all_placed certificates m k l some = all_from_in (λ (c : Certificate). IsSome (get nat_cmp m c.object)) certificates (λ c i. some c (subst (In c) (sym (take_all k certificates l)) i))
+
+-- a history's objects, in rising number, each with its kind and calls
+pub record AreObjects (es : List Event) (os : List ObjectCalls) : Type 0 where
+  pub rising : AllPairs (λ a b. a.object < b.object) os
+  pub named : (x : ℕ) → Contains (map (λ o. o.object) os) x ↔ IsNamed es x
+  pub kinds : All (λ o. o.kind ≡ kind_at es o.object) os
+  pub calls : All (λ o. calls_of o.ops ≡ calls_on o.object (denoted es)) os
+
+abbrev pub IsFineAt : List Event → List Certificate → ℕ → Type 0
+IsFineAt es certificates x = IsFine (kind_at es x) (calls_on x (denoted es)) certificates x
+
+-- these objects are checked, and those are left whose certificates are not used up
+pub record IsChecked (es : List Event) (certificates : List Certificate) (os : List ObjectCalls) (left : BTreeMap ℕ ℕ) : Type 0 where
+  pub fine : (o : ObjectCalls) → In o os → IsFineAt es certificates o.object
+  pub places : ArePlaces left certificates
+  pub apart : (o : ObjectCalls) → In o os → get nat_cmp left o.object ≡ None
+  pub gone : (c : Certificate) → In c certificates → get nat_cmp left c.object ≡ None → (o : ObjectCalls) × In o os × (o.object ≡ c.object)
+
+-- ---- the next object
+
+abbrev pub has_here : (certificates : List Certificate) (x k : ℕ) (d : Certificate) → IsPlace certificates x k → d ≡ get_or certificates k d → HasCertificate certificates x
+has_here certificates x k d p is = record {
+  certificate = d;
+  stands = contains_from_in certificates d (subst (λ z. In z certificates) (sym is) (in_from_get certificates k d p.inside));
+  for_object = ap (λ (c : Certificate). c.object) is ∙ p.for_object d;
+}
+
+pub fine_here : (kind : Kind) (calls : List Call) (certificates : List Certificate) (x k : ℕ) (d : Certificate) (r : Result (Unit {0}) Refusal) → IsPlace certificates x k → d ≡ get_or certificates k d
+    → OnOk r (IsValidOrder kind calls d.order.items) → OnOk r ((f : OrderFault) → IsFirstFault kind calls d.order.items f → ⊥) → OnOk r (IsFine kind calls certificates x)
+fine_here kind calls certificates x k d (Ok u) p is v h = record { certificate = has_here certificates x k d p is; valid = v; faultless = h }
+fine_here kind calls certificates x k d (Err e) p is v h = tt
+
+pub refused_here : (kind : Kind) (calls : List Call) (left : BTreeMap ℕ ℕ) (certificates : List Certificate) (x k : ℕ) (d : Certificate) (r : Result (Unit {0}) Refusal) → IsPlace certificates x k → d ≡ get_or certificates k d
+    → IfErr r (RefusesOrder x kind calls d.order.items) → (IsValidOrder kind calls d.order.items → IfErr r (λ e. e ≡ NoMemory)) → IfErr r (IsRefusedNext kind calls left certificates x)
+refused_here kind calls left certificates x k d (Ok u) p is h exact = tt
+refused_here kind calls left certificates x k d (Err (BadOrder y f)) p is h exact = (h.0, has_here certificates x k d p is, h.1, λ v. let e = exact v in cc e)
+refused_here kind calls left certificates x k d (Err (NoCertificate y)) p is h exact = absurd h
+refused_here kind calls left certificates x k d (Err (StrangeObject y)) p is h exact = absurd h
+refused_here kind calls left certificates x k d (Err NoMemory) p is h exact = tt
+
+-- ---- one after the other
+
+pub none_checked : (es : List Event) (certificates : List Certificate) (left : BTreeMap ℕ ℕ) → ArePlaces left certificates → All (λ c. IsSome (get nat_cmp left c.object)) certificates → IsChecked es certificates [] left
+none_checked es certificates left places all = record {
+  fine = λ o i. absurd i;
+  places = places;
+  apart = λ o i. absurd i;
+  gone = λ c i q. absurd (has_some (get nat_cmp left c.object) q (all_at (λ c. IsSome (get nat_cmp left c.object)) certificates all c i));
+}
+  where
+    has_some : (o : Option ℕ) → o ≡ None → IsSome o → ⊥
+    has_some None q s = cc s
+    has_some (Some k) q s = cc q
+
+pub one_checked : (es : List Event) (certificates : List Certificate) (os : List ObjectCalls) (o : ObjectCalls) (left new : BTreeMap ℕ ℕ) → IsChecked es certificates os left
+    → get nat_cmp new o.object ≡ None → ((x : ℕ) → x ≢ o.object → get nat_cmp new x ≡ get nat_cmp left x) → IsFineAt es certificates o.object → IsChecked es certificates (os ++ o ∷ []) new
+one_checked es certificates os o left new h own others fine = record {
+  fine = λ p i. elim (in_append p os (o ∷ []) i) [
+    | inl j ↦ h.fine p j
+    | inr j ↦ elim j [
+      | inl e ↦ subst (λ (q : ObjectCalls). IsFineAt es certificates q.object) (sym e) fine
+      | inr n ↦ absurd n
+    ]
+  ];
+  places = λ x k q. elim (apart_or_same x o.object) [
+    | inl e ↦ (let n : None ≡ Some k = sym own ∙ (ap (get nat_cmp new) (sym e) ∙ q) in cc n)
+    | inr ne ↦ h.places x k (sym (others x ne) ∙ q)
+  ];
+  apart = λ p i. elim (in_append p os (o ∷ []) i) [
+    | inl j ↦ elim (apart_or_same p.object o.object) [
+      | inl e ↦ ap (get nat_cmp new) e ∙ own
+      | inr ne ↦ others p.object ne ∙ h.apart p j
+    ]
+    | inr j ↦ elim j [
+      | inl e ↦ ap (λ (q : ObjectCalls). get nat_cmp new q.object) e ∙ own
+      | inr n ↦ absurd n
+    ]
+  ];
+  gone = λ c i q. elim (apart_or_same c.object o.object) [
+    | inl e ↦ (o, in_last o os, sym e)
+    | inr ne ↦ let g = h.gone c i (sym (others c.object ne) ∙ q) in (g.0, in_front g.0 os g.1, g.2)
+  ];
+}
+  where
+    in_last : (o : ObjectCalls) (os : List ObjectCalls) → In o (os ++ o ∷ [])
+    in_last o [] = inl refl
+    in_last o (p ∷ os) = inr (in_last o os)
+
+    in_front : (q : ObjectCalls) (os : List ObjectCalls) → In q os → In q (os ++ o ∷ [])
+    in_front q [] i = absurd i
+    in_front q (p ∷ os) i = elim i [
+      | inl e ↦ inl e
+      | inr j ↦ inr (in_front q os j)
+    ]
+
+-- ---- what has been checked
+
+object_named : (es : List Event) (os : List ObjectCalls) → AreObjects es os → (x : ℕ) → IsNamed es x → (o : ObjectCalls) × In o os × (x ≡ o.object)
+object_named es os h x named = in_map (λ (o : ObjectCalls). o.object) x os (in_from_contains (map (λ (o : ObjectCalls). o.object) os) x ((h.named x).1 named))
+
+is_named : (es : List Event) (os : List ObjectCalls) → AreObjects es os → (o : ObjectCalls) → In o os → IsNamed es o.object
+is_named es os h o i = (h.named o.object).0 (contains_from_in (map (λ (o : ObjectCalls). o.object) os) o.object (in_map_from (λ (o : ObjectCalls). o.object) o os i))
+
+fine_at : (es : List Event) (certificates : List Certificate) (os : List ObjectCalls) (left : BTreeMap ℕ ℕ) → AreObjects es os → IsChecked es certificates os left → (x : ℕ) → IsNamed es x → IsFineAt es certificates x
+fine_at es certificates os left objects h x named = let o = object_named es os objects x named in subst (IsFineAt es certificates) (sym o.2) (h.fine o.0 o.1)
+
+same_certificate : (certificates : List Certificate) → Pairs (λ a b. a.object ≢ b.object) certificates → (a b : Certificate) → In a certificates → In b certificates → a.object ≡ b.object → a ≡ b
+same_certificate [] d a b i j q = absurd i
+same_certificate (c ∷ cs) d a b i j q = elim i [
+  | inl e ↦ elim j [
+    | inl f ↦ e ∙ sym f
+    | inr g ↦ absurd (d.0 b g (ap (λ (z : Certificate). z.object) (sym e) ∙ q))
+  ]
+  | inr h ↦ elim j [
+    | inl f ↦ absurd (d.0 a h (ap (λ (z : Certificate). z.object) (sym f) ∙ sym q))
+    | inr g ↦ same_certificate cs d.1 a b h g q
+  ]
+]
+
+same_orders : (certificates : List Certificate) → AllPairs (λ a b. a.object ≢ b.object) certificates → (x : ℕ) (a b : HasCertificate certificates x) → a.certificate ≡ b.certificate
+same_orders certificates d x a b = same_certificate certificates (pairs_from_all (λ a b. a.object ≢ b.object) certificates d) a.certificate b.certificate (in_from_contains certificates a.certificate a.stands) (in_from_contains certificates b.certificate b.stands) (a.for_object ∙ sym b.for_object)
+
+no_refusal : (es : List Event) (certificates : List Certificate) → AllPairs (λ a b. a.object ≢ b.object) certificates → (x : ℕ) → IsFineAt es certificates x → (r : Refusal) → IsRefusalAt es certificates x r → ⊥
+no_refusal es certificates d x h (NoCertificate y) s = s.1 h.certificate
+no_refusal es certificates d x h (StrangeObject y) s = s
+no_refusal es certificates d x h (BadOrder y f) s = h.faultless f (subst (λ (c : Certificate). IsFirstFault (kind_at es x) (calls_on x (denoted es)) c.order.items f) (same_orders certificates d x s.1 h.certificate) s.2)
+no_refusal es certificates d x h NoMemory s = s
+
+pub all_valid : (es : List Event) (certificates : List Certificate) (os : List ObjectCalls) (left : BTreeMap ℕ ℕ) → AreObjects es os → IsChecked es certificates os left → ((x : ℕ) → get nat_cmp left x ≡ None) → AreValid es certificates
+all_valid es certificates os left objects h empty = record {
+  each = λ x named. let f = fine_at es certificates os left objects h x named in (f.certificate, f.valid);
+  none_besides = all_from_in (λ (c : Certificate). IsNamed es c.object) certificates (λ c i. let g = h.gone c i (empty c.object) in subst (IsNamed es) g.2 (is_named es os objects g.0 g.1));
+}
+
+element : (certificates : List Certificate) (k : ℕ) → k < length certificates → (d : Certificate) × (d ≡ get_or certificates k d)
+element [] k l = absurd (omega arith)
+element (c ∷ cs) k l = let d = get_or (c ∷ cs) k c in (d, get_or_default (c ∷ cs) k c d l)
+
+pub least_strange : (es : List Event) (certificates : List Certificate) (os : List ObjectCalls) (left : BTreeMap ℕ ℕ) (x k : ℕ) → AllPairs (λ a b. a.object ≢ b.object) certificates → AreObjects es os → IsChecked es certificates os left
+    → get nat_cmp left x ≡ Some k → ((q : ℕ) → IsSome (get nat_cmp left q) → is_gt (nat_cmp x q) ≡ false) → IsLeastStrange es certificates x
+least_strange es certificates os left x k d objects h there lower = record {
+  certified = let p = h.places x k there in let e = element certificates k p.inside in has_here certificates x k e.0 p e.1;
+  not_named = λ named. let o = object_named es os objects x named in let n : None ≡ Some k = sym (h.apart o.0 o.1) ∙ (ap (get nat_cmp left) (sym o.2) ∙ there) in cc n;
+  least = all_from_in (λ (c : Certificate). c.object < x → IsNamed es c.object) certificates (λ c i l. below c i l (get nat_cmp left c.object) refl);
+  none = λ y r named s. no_refusal es certificates d y (fine_at es certificates os left objects h y named) r s;
+}
+  where
+    greater : (a b : ℕ) → b < a → is_gt (nat_cmp a b) ≡ false → ⊥
+    greater a b l q = go (nat_cmp a b) (ranked a b _ refl) q
+      where
+        go : (r : Ordering) → MatchOrdering r (a < b) (a ≡ b) (b < a) → is_gt r ≡ false → ⊥
+        go Less m q = omega arith
+        go Equal m q = let m' : a ≡ b = m in omega arith
+        go Greater m q = cc q
+
+    below : (c : Certificate) → In c certificates → c.object < x → (o : Option ℕ) → get nat_cmp left c.object ≡ o → IsNamed es c.object
+    below c i l None q = let g = h.gone c i q in subst (IsNamed es) g.2 (is_named es os objects g.0 g.1)
+    below c i l (Some j) q = absurd (greater x c.object l (lower c.object (subst IsSome (sym q) refl)))
+
+-- ---- where the next object is refused
+
+before_next : (os : List ObjectCalls) (o : ObjectCalls) (later : List ObjectCalls) → Pairs (λ a b. a.object < b.object) (os ++ o ∷ later) → (p : ObjectCalls) → In p os → p.object < o.object
+before_next [] o later r p i = absurd i
+before_next (q ∷ os) o later r p i = elim i [
+  | inl e ↦ subst (λ (z : ObjectCalls). z.object < o.object) (sym e) (r.0 o (middle os))
+  | inr j ↦ before_next os o later r.1 p j
+]
+  where
+    middle : (os : List ObjectCalls) → In o (os ++ o ∷ later)
+    middle [] = inl refl
+    middle (q ∷ os) = inr (middle os)
+
+already : (os : List ObjectCalls) (o : ObjectCalls) (later : List ObjectCalls) → Pairs (λ a b. a.object < b.object) (os ++ o ∷ later) → (p : ObjectCalls) → In p (os ++ o ∷ later) → p.object < o.object → In p os
+already [] o later r p i l = elim i [
+  | inl e ↦ (let e' : p.object ≡ o.object = ap (λ (z : ObjectCalls). z.object) e in absurd (omega arith))
+  | inr j ↦ (let g = r.0 p j in absurd (omega arith))
+]
+already (q ∷ os) o later r p i l = elim i [
+  | inl e ↦ inl e
+  | inr j ↦ inr (already os o later r.1 p j l)
+]
+
+pub first_refusal : (es : List Event) (certificates : List Certificate) (all os : List ObjectCalls) (o : ObjectCalls) (later : List ObjectCalls) (left : BTreeMap ℕ ℕ) (r : Refusal) → AllPairs (λ a b. a.object ≢ b.object) certificates → AreObjects es all
+    → all ≡ os ++ o ∷ later → IsChecked es certificates os left → IsRefusedNext (kind_at es o.object) (calls_on o.object (denoted es)) left certificates o.object r → IsFirstRefusal es certificates r
+first_refusal es certificates all os o later left r d objects split h refused = go r refused
+  where
+    up : Pairs (λ a b. a.object < b.object) (os ++ o ∷ later)
+    up = subst (Pairs (λ a b. a.object < b.object)) split (pairs_from_all (λ a b. a.object < b.object) all objects.rising)
+
+    middle : (os : List ObjectCalls) → In o (os ++ o ∷ later)
+    middle [] = inl refl
+    middle (q ∷ os) = inr (middle os)
+
+    named : IsNamed es o.object
+    named = is_named es all objects o (subst (In o) (sym split) (middle os))
+
+    least : (y : ℕ) (s : Refusal) → y < o.object → IsNamed es y → IsRefusalAt es certificates y s → ⊥
+    least y s l named stands =
+        let p = object_named es all objects y named in
+        let l' : p.0.object < o.object = subst (λ z. z < o.object) p.2 l in
+        let i = already os o later up p.0 (subst (In p.0) split p.1) l' in
+        no_refusal es certificates d y (subst (IsFineAt es certificates) (sym p.2) (h.fine p.0 i)) s stands
+
+    go : (r : Refusal) → IsRefusedNext (kind_at es o.object) (calls_on o.object (denoted es)) left certificates o.object r → IsFirstRefusal es certificates r
+    go (NoCertificate y) s = record {
+      object = o.object;
+      named = named;
+      stands = (s.0, λ c.
+          let g = h.gone c.certificate (in_from_contains certificates c.certificate c.stands) (ap (get nat_cmp left) c.for_object ∙ s.1) in
+          let b = before_next os o later up g.0 g.1 in
+          let e : g.0.object ≡ o.object = g.2 ∙ c.for_object in
+          omega arith);
+      least = least;
+    }
+    go (StrangeObject y) s = absurd s
+    go (BadOrder y f) s = record { object = o.object; named = named; stands = (s.0, s.1, s.2); least = least }
+    go NoMemory s = tt
+
+-- certificates that are valid are refused by want of memory alone
+pub refused_are_not_valid : (es : List Event) (certificates : List Certificate) (all os : List ObjectCalls) (o : ObjectCalls) (later : List ObjectCalls) (left : BTreeMap ℕ ℕ) (r : Refusal) → AllPairs (λ a b. a.object ≢ b.object) certificates → AreObjects es all
+    → all ≡ os ++ o ∷ later → IsChecked es certificates os left → IsRefusedNext (kind_at es o.object) (calls_on o.object (denoted es)) left certificates o.object r → AreValid es certificates → r ≡ NoMemory
+refused_are_not_valid es certificates all os o later left r d objects split h refused valid = go r (first_refusal es certificates all os o later left r d objects split h refused) refused
+  where
+    go : (r : Refusal) → IsFirstRefusal es certificates r → IsRefusedNext (kind_at es o.object) (calls_on o.object (denoted es)) left certificates o.object r → r ≡ NoMemory
+    go (NoCertificate y) f s = absurd (f.stands.1 (valid.each f.object f.named).0)
+    go (StrangeObject y) f s = absurd s
+    go (BadOrder y g) f s =
+        let each = valid.each o.object (subst (IsNamed es) (sym f.stands.0 ∙ s.0) f.named) in
+        absurd (s.3 (subst (λ (c : Certificate). IsValidOrder (kind_at es o.object) (calls_on o.object (denoted es)) c.order.items) (same_orders certificates d o.object each.0 s.1) each.1))
+    go NoMemory f s = refl
+
+pub strange_is_not_valid : (es : List Event) (certificates : List Certificate) (x : ℕ) → IsLeastStrange es certificates x → AreValid es certificates → ⊥
+strange_is_not_valid es certificates x h valid = h.not_named (subst (IsNamed es) h.certified.for_object (all_at (λ (c : Certificate). IsNamed es c.object) certificates valid.none_besides h.certified.certificate (in_from_contains certificates h.certified.certificate h.certified.stands)))
+
+-- ---- the list of objects
+
+pub are_objects : (es : List Event) (fs os : List ObjectCalls) → fs ≡ os → AllPairs (λ a b. a.object < b.object) os → ((x : ℕ) → Contains (map (λ o. o.object) os) x ↔ IsNamed es x)
+    → All (λ o. o.kind ≡ kind_at es o.object) os → All (λ o. calls_of o.ops ≡ calls_on o.object (denoted es)) os → AreObjects es fs
+are_objects es fs os is rising named kinds calls = subst (AreObjects es) (sym is) (record { rising = rising; named = named; kinds = kinds; calls = calls })
+
+pub next_parts : (fs : List ObjectCalls) (i : ℕ) (o : ObjectCalls) → i < length fs → o ≡ get_or fs i o → fs ≡ take i fs ++ o ∷ drop (suc i) fs
+next_parts fs i o l is = parts fs i l ∙ ap (λ x. take i fs ++ x ∷ drop (suc i) fs) (sym is)
+  where
+    parts : (gs : List ObjectCalls) (j : ℕ) → j < length gs → gs ≡ take j gs ++ get_or gs j o ∷ drop (suc j) gs
+    parts [] j m = absurd (omega arith)
+    parts (g ∷ gs) zero m = refl
+    parts (g ∷ gs) (suc j) m = ap (λ t. g ∷ t) (parts gs j (omega arith))
+
+in_objects : (fs : List ObjectCalls) (i : ℕ) (o : ObjectCalls) → i < length fs → o ≡ get_or fs i o → In o fs
+in_objects fs i o l is = subst (λ z. In z fs) (sym is) (in_from_get fs i o l)
+
+pub next_fine : (es : List Event) (certificates : List Certificate) (fs : List ObjectCalls) (i : ℕ) (o : ObjectCalls) → AreObjects es fs → i < length fs → o ≡ get_or fs i o → IsFine o.kind (calls_of o.ops) certificates o.object → IsFineAt es certificates o.object
+next_fine es certificates fs i o h l is fine =
+    let j = in_objects fs i o l is in
+    let its_kind = subst (λ k. IsFine k (calls_of o.ops) certificates o.object) (all_at (λ (o : ObjectCalls). o.kind ≡ kind_at es o.object) fs h.kinds o j) fine in
+    subst (λ cs. IsFine (kind_at es o.object) cs certificates o.object) (all_at (λ (o : ObjectCalls). calls_of o.ops ≡ calls_on o.object (denoted es)) fs h.calls o j) its_kind
+
+pub next_refused : (es : List Event) (certificates : List Certificate) (fs : List ObjectCalls) (i : ℕ) (o : ObjectCalls) (left : BTreeMap ℕ ℕ) (r : Refusal) → AreObjects es fs → i < length fs → o ≡ get_or fs i o
+    → IsRefusedNext o.kind (calls_of o.ops) left certificates o.object r → IsRefusedNext (kind_at es o.object) (calls_on o.object (denoted es)) left certificates o.object r
+next_refused es certificates fs i o left r h l is refused =
+    let j = in_objects fs i o l is in
+    let its_kind = subst (λ k. IsRefusedNext k (calls_of o.ops) left certificates o.object r) (all_at (λ (o : ObjectCalls). o.kind ≡ kind_at es o.object) fs h.kinds o j) refused in
+    subst (λ cs. IsRefusedNext (kind_at es o.object) cs left certificates o.object r) (all_at (λ (o : ObjectCalls). calls_of o.ops ≡ calls_on o.object (denoted es)) fs h.calls o j) its_kind
+
+pub none_left : (left : BTreeMap ℕ ℕ) → (0 < btree_map_len left → ⊥) → (x : ℕ) → get nat_cmp left x ≡ None
+none_left left h x = go left.entries h
+  where
+    go : (es : List (ℕ × ℕ)) → (0 < length es → ⊥) → lookup (is_at (nat_cmp x)) es ≡ None
+    go [] n = refl
+    go (p ∷ ps) n = absurd (n (omega arith))

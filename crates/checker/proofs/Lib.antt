@@ -1,0 +1,9 @@
+pub mod Walking
+pub mod Deciding
+pub mod Exact
+pub mod Steps
+pub mod Finding
+pub mod Objects
+pub mod Certificates
+pub mod Marks
+pub mod Ending

@@ -1,0 +1,13 @@
+//! Checks orders of operations.
+#![tactic(auto)]
+
+mod all;
+mod object;
+mod place;
+mod refusal;
+mod walk;
+
+pub use all::check_all;
+pub use object::check_object;
+pub use refusal::{OrderFault, Refusal};
+pub use walk::check_order;

@@ -1,0 +1,135 @@
+//! The walk along an order.
+
+ghost use Rattle.std.specs.Prelude.{◌≡◌, ◌≢◌, ℕ, ◌<◌, length, true, false, Some, List, Bool, OnOk, IfErr, IfSome, IfNone, All, AllPairs, MatchOption, MatchBool, is_some, max, slice_index_or};
+ghost use Rattle.std.specs.Option.{option_map_or};
+ghost use Rattle.std.specs.List.{HoldsAt};
+ghost use Rattle.model.specs.declared.AnyOp.{AnyOp};
+ghost use Rattle.model.specs.declared.AnyReply.{AnyReply};
+ghost use Rattle.model.specs.Objects.{empty, kind_of};
+ghost use Rattle.model.specs.Orders.{IsValidOrder};
+ghost use Rattle.events.specs.declared.operations.Invocation.{Invocation};
+ghost use Rattle.events.specs.Operations.{calls_of, return_of};
+ghost use Rattle.checker.specs.Ends.{IsLate, IsEarly, Differs, Agrees, AreMarked, IsFirstUnmarked};
+ghost use Rattle.checker.specs.Refusals.{RefusesOrder};
+
+use crate::place::place_of;
+use crate::refusal::{OrderFault, Refusal};
+use events::{End, Invocation};
+use seq_objects::{AnyOp, AnyReply, Kind, SeqObject};
+use std::alloc::Global;
+
+/// The greatest number so far, if the operation returned before that was reached.
+fn late_by(end: &End, greatest: Option<u32>) -> Option<u32>
+    ensures { MatchOption result (IsEarly end.now greatest) (λ by. (greatest ≡ Some by) × IsLate end.now by) }
+{
+    match (end, greatest) {
+        (End::Returned { at, .. }, Some(by)) if *at < by => Some(by),
+        _ => None,
+    }
+}
+
+/// The greatest number, with one more.
+fn raised(greatest: Option<u32>, number: u32) -> u32
+    ensures { result ≡ option_map_or (λ by. max by number) greatest number }
+{
+    match greatest {
+        Some(by) => by.max(number),
+        None => number,
+    }
+}
+
+fn is_same(a: AnyReply, b: AnyReply) -> bool
+    ensures { MatchBool result (a ≡ b) (a ≢ b) }
+{
+    a == b
+}
+
+/// Whether the operation returned another reply.
+fn differs(end: &End, gives: AnyReply) -> bool
+    ensures { MatchBool result (Differs end.now gives) (Agrees end.now gives) }
+{
+    match end {
+        End::Returned { reply, .. } => !is_same(*reply, gives),
+        _ => false,
+    }
+}
+
+fn has_returned(end: &End) -> bool
+    ensures { result ≡ is_some (return_of end.now) }
+{
+    match end {
+        End::Returned { .. } => true,
+        _ => false,
+    }
+}
+
+/// The number of the first operation that returned and is not marked.
+fn omitted(ops: &[Invocation], seen: &[bool]) -> Option<u32>
+    requires { length seen.now ≡ length ops.now }
+    ensures none { IfNone result (AreMarked ops.now seen.now (length ops.now)) }
+    ensures some { IfSome result (λ n. IsFirstUnmarked ops.now seen.now n) }
+{
+    for (k, o) in ops.iter().enumerate() {
+        if has_returned(&o.end) && !seen[k] {
+            return Some(o.number);
+        }
+    }
+    None
+}
+
+fn refused(object: u32, fault: OrderFault) -> Result<(), Refusal>
+    ensures { result ≡ Err (Refusal.BadOrder object fault) }
+{
+    Err(Refusal::BadOrder { object, fault })
+}
+
+/// Checks an order of the operations of the object with this number, from an object of its kind that is empty.
+pub fn check_order<S: SeqObject<Op = AnyOp, Reply = AnyReply>>(
+    alloc: Global,
+    number: u32,
+    kind: Kind,
+    mut object: S,
+    ops: &[Invocation],
+    order: &[i64],
+) -> Result<(), Refusal>
+    requires empty { S.content object ≡ empty kind }
+    requires own_ops { (op : AnyOp) → S.op_in op ≡ op }
+    requires own_replies { (r : AnyReply) → S.reply_in r ≡ r }
+    requires rising { AllPairs (λ a b. a.number < b.number) ops.now }
+    requires of_kind { All (λ o. kind_of o.op ≡ kind) ops.now }
+    ensures valid { OnOk result (IsValidOrder kind (calls_of ops.now) order.now) }
+    ensures refused { IfErr result (RefusesOrder number kind (calls_of ops.now) order.now) }
+{
+    let Ok(mut seen) = vec![in alloc; false; ops.len()] else {
+        return Err(Refusal::NoMemory);
+    };
+    let mut greatest: Option<u32> = None;
+    for entry in order {
+        let op = *entry;
+        let Some(k) = place_of(ops, op) else {
+            return refused(number, OrderFault::UnknownOperation { op });
+        };
+        if seen[k] {
+            return refused(number, OrderFault::Repeated { op });
+        }
+        let call = ops[k];
+        if let Some(by) = late_by(&call.end, greatest) {
+            return refused(number, OrderFault::TooLate { op, by });
+        }
+        if !object.possible(&call.op) {
+            return refused(number, OrderFault::NotPossible { op });
+        }
+        let Ok(gives) = object.apply(&call.op) else {
+            return Err(Refusal::NoMemory);
+        };
+        if differs(&call.end, gives) {
+            return refused(number, OrderFault::WrongReply { op, gives });
+        }
+        seen[k] = true;
+        greatest = Some(raised(greatest, call.number));
+    }
+    match omitted(ops, &seen) {
+        Some(op) => refused(number, OrderFault::Omitted { op }),
+        None => Ok(()),
+    }
+}
