@@ -1,0 +1,16 @@
+pub mod Datum
+pub mod Bytes
+pub mod Token
+pub mod Spells
+pub mod Faults
+pub mod NameTexts
+pub mod Names
+pub mod Outs
+pub mod Text
+pub mod Laws
+pub mod Sent
+pub mod Writing
+pub mod View
+pub mod Reading
+pub mod Inside
+pub mod Results

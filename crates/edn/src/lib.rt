@@ -1,13 +1,33 @@
-// A library with one function.
+//! Reads and writes EDN, in a profile of its own.
+//!
+//! A text is UTF-8, at most 268,435,456 bytes, and a sequence of elements: `nil`, `true`, `false`,
+//! integers of 64 bits, strings, keywords, vectors in brackets, and maps in braces, whose keys are
+//! distinct keywords. At most 16 vectors and maps are open at once. Tabs, line feeds, carriage
+//! returns, spaces and commas separate elements; a semicolon begins a comment that goes on to a
+//! line feed or the end. `specs/Spells.antt` says it exactly.
 #![tactic(auto)]
 
-ghost use Rattle.std.specs.Prelude.{◌≡◌};
-ghost use Rattle.edn.specs.Echo.{echo_of};
+mod bytes;
+mod entries;
+mod fault;
+mod form;
+mod laws;
+mod lexer;
+mod limits;
+mod reader;
+mod sink;
+mod state;
+mod string;
+mod word;
+mod writer;
 
-// The `ensures` clause is the contract: what `echo` returns is `echo_of` of its argument, a definition
-// in `specs/Echo.antt`, which a caller's clause can cite too.
-pub fn echo(x: usize) -> usize
-    ensures { result ≡ echo_of x }
-{
-    x
-}
+pub use fault::{EdnFault, FaultKind};
+pub use form::{Form, Name};
+pub use laws::{joined_spell, lines_spell, one_reading, text_spells};
+pub use limits::fits;
+pub use reader::{MAX_LENGTH, read_forms};
+pub use sink::{Failed, Out, Sink};
+pub use writer::{WriteFault, write_bytes, write_form, write_integer};
+
+#[cfg(test)]
+mod tests;

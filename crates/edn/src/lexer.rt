@@ -1,0 +1,89 @@
+//! Tokens from the front of a text.
+ghost use Rattle.std.specs.Prelude.{◌≡◌, ◌<◌, length};
+ghost use Rattle.std.specs.Str.{IsUtf8};
+ghost use Rattle.edn.specs.Reading as spec;
+ghost use Rattle.edn.specs.Results.{GivesToken};
+
+use crate::bytes::{is_separator, is_token_byte};
+use crate::fault::Stop;
+use crate::form::Form;
+use crate::string::string_of;
+use crate::word::form_of;
+use std::alloc::Global;
+
+/// A bracket, or an element that stands alone.
+#[derive(Drop)]
+pub enum Token {
+    OpenVector,
+    CloseVector,
+    OpenMap,
+    CloseMap,
+    Leaf(Form),
+}
+
+/// After separators and comments.
+pub fn skip(text: &[u8]) -> &[u8]
+    ensures { result.now ≡ spec.skip text.now }
+{
+    let mut rest = text;
+    let mut in_comment = false;
+    'bytes: while let [b, tail @ ..] = rest {
+        if in_comment {
+            in_comment = *b != b'\n';
+        } else if *b == b';' {
+            in_comment = true;
+        } else if !is_separator(*b) {
+            return rest;
+        }
+        rest = tail;
+    }
+    rest
+}
+
+/// After the bytes of a token.
+fn after_word(text: &[u8]) -> &[u8]
+    ensures { result.now ≡ spec.after_word text.now }
+{
+    let mut rest = text;
+    'bytes: while let [b, tail @ ..] = rest {
+        if !is_token_byte(*b) {
+            return rest;
+        }
+        rest = tail;
+    }
+    rest
+}
+
+/// A word, and what follows it.
+#[tactic(auto, using(crate::proofs::Words::word_is_front, crate::proofs::Words::after_word_within))]
+fn split_word(text: &[u8]) -> (&[u8], &[u8])
+    ensures word { result.0.now ≡ spec.word text.now }
+    ensures rest { result.1.now ≡ spec.after_word text.now }
+{
+    let rest = after_word(text);
+    let word = &text[..text.len() - rest.len()];
+    (word, rest)
+}
+
+/// The token at the front, of which there is one, and what follows it.
+#[tactic(auto, using(crate::proofs::Words::after_word_shorter), unfolding(crate::specs::Reading::first))]
+pub fn first_token(alloc: Global, text: &[u8]) -> Result<(Token, &[u8]), Stop>
+    requires some { 0 < length text.now }
+    requires utf8 { IsUtf8 text.now }
+    ensures { GivesToken result (spec.first text.now) }
+{
+    match text {
+        [b'[', rest @ ..] => Ok((Token::OpenVector, rest)),
+        [b']', rest @ ..] => Ok((Token::CloseVector, rest)),
+        [b'{', rest @ ..] => Ok((Token::OpenMap, rest)),
+        [b'}', rest @ ..] => Ok((Token::CloseMap, rest)),
+        [b'"', rest @ ..] => string_of(alloc, rest),
+        _ => {
+            let (word, rest) = split_word(text);
+            match form_of(alloc, word) {
+                Ok(form) => Ok((Token::Leaf(form), rest)),
+                Err(cause) => Err(Stop::at(cause, text)),
+            }
+        }
+    }
+}
