@@ -1,0 +1,71 @@
+//! `fcbench`: judges histories of concurrent objects.
+#![tactic(auto)]
+
+use edn::Out;
+use judging::{FAILED, Line, LineFault, line, perform};
+use std::io;
+use std::io::Read;
+use std::process::ExitCode;
+use std::rt::{Env, Files};
+
+/// One byte more than the longest text that is judged.
+const READ_LIMIT: u64 = 268_435_457;
+
+/// The exit status where the command line is refused.
+const USAGE: u8 = 64;
+
+/// The exit status where memory was refused before the command began.
+const NO_MEMORY: u8 = 3;
+
+/// The bytes of a file, to its end or to the limit.
+fn bytes_of<R: Files + Alloc>(rt: &R, name: &str) -> io::Result<Vec<u8, R::A>> {
+    let file = std::fs::open(rt, name)?;
+    let mut bytes = Vec::new(rt.alloc());
+    file.take(READ_LIMIT).read_to_end(&mut bytes)?;
+    Ok(bytes)
+}
+
+fn unreadable<R: Eprint>(rt: &R, name: &str) -> io::Result<u8> {
+    rt.eprintln(format_args!("fcbench: cannot read {name}"))?;
+    Ok(FAILED)
+}
+
+/// Reads the files of a command, and does it.
+fn run_line<R: Files + AllocGlobal + Print + Eprint>(rt: &R, line: &Line) -> io::Result<u8> {
+    let Line::Check { history, certs } = line;
+    let Ok(first) = bytes_of(rt, history) else {
+        return unreadable(rt, history);
+    };
+    let Ok(second) = bytes_of(rt, certs) else {
+        return unreadable(rt, certs);
+    };
+    let mut output = Out::new(io::writer(rt));
+    Ok(perform(rt.alloc(), line, &first, &second, &mut output))
+}
+
+fn run<R: Files + AllocGlobal + Print + Eprint + Env>(rt: &R) -> io::Result<u8> {
+    let alloc = rt.alloc();
+    let words: Vec<String> = std::env::args(rt)?.collect(alloc)?;
+    match line(alloc, &words) {
+        Ok(line) => run_line(rt, &line),
+        Err(LineFault::Help(text)) => {
+            rt.print(text.as_str())?;
+            Ok(0)
+        }
+        Err(LineFault::Refused(text)) => {
+            rt.eprint(text.as_str())?;
+            Ok(USAGE)
+        }
+        Err(LineFault::NoMemory) => {
+            rt.println("out of memory")?;
+            Ok(NO_MEMORY)
+        }
+    }
+}
+
+fn main(rt: HostRuntime) -> ExitCode {
+    match run(&rt) {
+        Ok(status) => ExitCode::from(status),
+        Err(_) => ExitCode::from(FAILED),
+    }
+}

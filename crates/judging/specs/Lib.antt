@@ -1,0 +1,5 @@
+pub mod Texts
+pub mod Verdicts
+pub use Rattle.model.specs.Linearizable
+pub use Rattle.events.specs.Events
+pub use Rattle.checker.specs.Refusals

@@ -1,0 +1,80 @@
+//! The judge.
+
+ghost use Rattle.std.specs.Prelude.{◌≡◌, OnOk, IfErr};
+ghost use Rattle.model.specs.Linearizable.{IsLinearizable};
+ghost use Rattle.model.specs.Orders.{events};
+ghost use Rattle.events.specs.Events.{kind_at, denoted};
+ghost use Rattle.certificate.specs.Denotes.{AreDistinct};
+ghost use Rattle.checker.specs.Refusals.{AreValid, IsFirstRefusal};
+ghost use Rattle.judging.specs.Texts.{AreValidTexts, IsLinearizableText, IsFirstRefusalText, IsFirstFault, verdict_of};
+ghost use Rattle.judging.specs.Verdicts.{OnYes, IfNo, IfMalformed};
+
+use crate::texts::{Stop, certificates_in, history_in};
+use certificate::Certificate;
+use checker::{Refusal, check_all};
+use history::History;
+use locality::named_objects;
+use report::{Verdict, summary};
+use std::alloc::Global;
+
+/// Checks the certificates. Where they are valid the history is linearizable.
+fn check(
+    alloc: Global,
+    history: &History,
+    certificates: &[Certificate],
+) -> Result<(), Refusal>
+    requires { AreDistinct certificates.now }
+    ensures valid { OnOk result (AreValid history.now certificates.now) }
+    ensures linearizable { OnOk result (IsLinearizable (kind_at history.now) (events (denoted history.now))) }
+    ensures refused { IfErr result (IsFirstRefusal history.now certificates.now) }
+    ensures exact { AreValid history.now certificates.now → IfErr result (λ e. e ≡ Refusal.NoMemory) }
+{
+    // These two do nothing. The first says that the events denote a well-formed history, the second is locality.
+    history.events();
+    named_objects();
+    check_all(alloc, history, certificates)
+}
+
+/// Judges a history, as a text of Jepsen operation maps, by a text of certificates, an order of operations for each
+/// object.
+///
+/// Where `judge` answers Yes, the history that the text denotes is linearizable: some completion of it is, process by
+/// process, equal to one sequential history over all objects that is legal for every object and keeps every return
+/// before a later invocation; it answers No only with the first fault that truly stands in the certificates.
+///
+/// The history's text comes first, then what its maps say, then the certificates' text, its forms, and the check; the
+/// first fault is the answer. `NoMemory` says nothing of the texts. One thread does the work, whatever the number of
+/// `workers`. Linearizability is that of Herlihy and Wing, TOPLAS 1990, section 2.
+pub fn judge(alloc: Global, history: &[u8], certificates: &[u8], workers: u32) -> Verdict
+    ensures linearizable { OnYes result (IsLinearizableText history.now) }
+    ensures valid { OnYes result (AreValidTexts history.now certificates.now) }
+    ensures refused { IfNo result (IsFirstRefusalText history.now certificates.now) }
+    ensures malformed { IfMalformed result (IsFirstFault history.now certificates.now) }
+{
+    let _ = workers;
+    let client_events = match history_in(alloc, history) {
+        Ok(client_events) => client_events,
+        Err(stop) => return stopped(stop),
+    };
+    let orders = match certificates_in(alloc, certificates) {
+        Ok(orders) => orders,
+        Err(stop) => return stopped(stop),
+    };
+    match check(alloc, &client_events, &orders) {
+        Ok(()) => match summary(alloc, &client_events) {
+            Ok(summary) => Verdict::Yes(summary),
+            Err(_) => Verdict::NoMemory,
+        },
+        Err(Refusal::NoMemory) => Verdict::NoMemory,
+        Err(refusal) => Verdict::No(refusal),
+    }
+}
+
+fn stopped(stop: Stop) -> Verdict
+    ensures { result ≡ verdict_of stop }
+{
+    match stop {
+        Stop::Stopped(fault) => Verdict::Malformed(fault),
+        Stop::NoMemory => Verdict::NoMemory,
+    }
+}

@@ -1,0 +1,310 @@
+//! Texts, what is written for them, and the exit status.
+
+pub struct Row {
+    pub name: &'static str,
+    pub history: &'static str,
+    pub certificates: &'static str,
+    pub status: u8,
+    pub output: &'static str,
+}
+
+pub const ROWS: [Row; 29] = [
+    Row {
+        name: "empty texts",
+        history: "",
+        certificates: "",
+        status: 0,
+        output: "yes: 0 operations, 0 objects\n",
+    },
+    Row {
+        name: "use in turn",
+        history: "{:process 0, :type :invoke, :f :enqueue, :value 1}\n\
+            {:process 0, :type :ok, :f :enqueue, :value 1}\n\
+            {:process 0, :type :invoke, :f :dequeue}\n\
+            {:process 0, :type :ok, :f :dequeue, :value 1}",
+        certificates: "{:object 0, :order [0 2]}",
+        status: 0,
+        output: "yes: 2 operations, 1 objects\nqueue: 1 objects, 2 operations\n",
+    },
+    Row {
+        name: "overlapping operations change places",
+        history: "{:process 0, :type :invoke, :f :enqueue, :value 1}\n\
+            {:process 1, :type :invoke, :f :enqueue, :value 2}\n\
+            {:process 0, :type :ok, :f :enqueue, :value 1}\n\
+            {:process 1, :type :ok, :f :enqueue, :value 2}\n\
+            {:process 0, :type :invoke, :f :dequeue}\n\
+            {:process 0, :type :ok, :f :dequeue, :value 2}",
+        certificates: "{:object 0, :order [1 0 4]}",
+        status: 0,
+        output: "yes: 3 operations, 1 objects\nqueue: 1 objects, 3 operations\n",
+    },
+    Row {
+        name: "the order does not give the reply",
+        history: "{:process 0, :type :invoke, :f :enqueue, :value 1}\n\
+            {:process 1, :type :invoke, :f :enqueue, :value 2}\n\
+            {:process 0, :type :ok, :f :enqueue, :value 1}\n\
+            {:process 1, :type :ok, :f :enqueue, :value 2}\n\
+            {:process 0, :type :invoke, :f :dequeue}\n\
+            {:process 0, :type :ok, :f :dequeue, :value 2}",
+        certificates: "{:object 0, :order [0 1 4]}",
+        status: 1,
+        output: "no: C6 object 0: 4 gives 1\n",
+    },
+    Row {
+        name: "too late",
+        history: "{:process 0, :type :invoke, :f :enqueue, :value 1}\n\
+            {:process 0, :type :ok, :f :enqueue, :value 1}\n\
+            {:process 1, :type :invoke, :f :enqueue, :value 2}\n\
+            {:process 1, :type :ok, :f :enqueue, :value 2}\n\
+            {:process 0, :type :invoke, :f :dequeue}\n\
+            {:process 0, :type :ok, :f :dequeue, :value 2}",
+        certificates: "{:object 0, :order [2 0 4]}",
+        status: 1,
+        output: "no: C5 object 0: 0 returned before 2 was invoked\n",
+    },
+    Row {
+        name: "operations in turn keep their order",
+        history: "{:process 0, :type :invoke, :f :enqueue, :value 1}\n\
+            {:process 0, :type :ok, :f :enqueue, :value 1}\n\
+            {:process 1, :type :invoke, :f :enqueue, :value 2}\n\
+            {:process 1, :type :ok, :f :enqueue, :value 2}\n\
+            {:process 0, :type :invoke, :f :dequeue}\n\
+            {:process 0, :type :ok, :f :dequeue, :value 2}",
+        certificates: "{:object 0, :order [0 2 4]}",
+        status: 1,
+        output: "no: C6 object 0: 4 gives 1\n",
+    },
+    Row {
+        name: "two objects",
+        history: "{:process 0, :type :invoke, :f :dequeue, :object 0}\n\
+            {:process 1, :type :invoke, :f :dequeue, :object 1}\n\
+            {:process 2, :type :invoke, :f :enqueue, :value 7, :object 0}\n\
+            {:process 3, :type :invoke, :f :enqueue, :value 8, :object 1}\n\
+            {:process 0, :type :ok, :f :dequeue, :value 7, :object 0}\n\
+            {:process 1, :type :ok, :f :dequeue, :value 8, :object 1}\n\
+            {:process 2, :type :ok, :f :enqueue, :value 7, :object 0}\n\
+            {:process 3, :type :ok, :f :enqueue, :value 8, :object 1}",
+        certificates: "{:object 1, :order [3 1]} {:object 0, :order [2 0]}",
+        status: 0,
+        output: "yes: 4 operations, 2 objects\nqueue: 2 objects, 4 operations\n",
+    },
+    Row {
+        name: "a pending operation takes effect",
+        history: "{:process 0, :type :invoke, :f :enqueue, :value 9}\n\
+            {:process 1, :type :invoke, :f :dequeue}\n\
+            {:process 1, :type :ok, :f :dequeue, :value 9}",
+        certificates: "{:object 0, :order [0 1]}",
+        status: 0,
+        output: "yes: 2 operations, 1 objects\nqueue: 1 objects, 2 operations\n",
+    },
+    Row {
+        name: "a pending operation is left out",
+        history: "{:process 0, :type :invoke, :f :enqueue, :value 9}\n\
+            {:process 1, :type :invoke, :f :dequeue}\n\
+            {:process 1, :type :ok, :f :dequeue, :value 9}",
+        certificates: "{:object 0, :order [1]}",
+        status: 1,
+        output: "no: C6 object 0: 1 gives nil\n",
+    },
+    Row {
+        name: "a failed operation in the order",
+        history: "{:process 0, :type :invoke, :f :enqueue, :value 5}\n\
+            {:process 0, :type :fail, :f :enqueue, :value 5}",
+        certificates: "{:object 0, :order [0]}",
+        status: 1,
+        output: "no: C3 object 0: 0 is no operation\n",
+    },
+    Row {
+        name: "a failed operation is none",
+        history: "{:process 0, :type :invoke, :f :enqueue, :value 5}\n\
+            {:process 0, :type :fail, :f :enqueue, :value 5}",
+        certificates: "{:object 0, :order []}",
+        status: 0,
+        output: "yes: 0 operations, 1 objects\nqueue: 1 objects, 0 operations\n",
+    },
+    Row {
+        name: "twice",
+        history: "{:process 0, :type :invoke, :f :enqueue, :value 1}\n\
+            {:process 0, :type :ok, :f :enqueue, :value 1}\n\
+            {:process 0, :type :invoke, :f :dequeue}\n\
+            {:process 0, :type :ok, :f :dequeue, :value 1}",
+        certificates: "{:object 0, :order [0 0 2]}",
+        status: 1,
+        output: "no: C4 object 0: 0 stands twice\n",
+    },
+    Row {
+        name: "left out",
+        history: "{:process 0, :type :invoke, :f :enqueue, :value 1}\n\
+            {:process 0, :type :ok, :f :enqueue, :value 1}\n\
+            {:process 0, :type :invoke, :f :dequeue}\n\
+            {:process 0, :type :ok, :f :dequeue, :value 1}",
+        certificates: "{:object 0, :order [0]}",
+        status: 1,
+        output: "no: C7 object 0: 2 is left out\n",
+    },
+    Row {
+        name: "after info",
+        history: "{:process 0, :type :invoke, :f :enqueue, :value 1}\n\
+            {:process 0, :type :info, :f :enqueue, :value 1}\n\
+            {:process 0, :type :invoke, :f :enqueue, :value 2}",
+        certificates: "",
+        status: 2,
+        output: "malformed history: H8 at map 2\n",
+    },
+    Row {
+        name: "ignored maps count",
+        history: "{:process :nemesis}\n\
+            {:process :nemesis}\n\
+            {:process 0, :type :invoke, :f :enqueue, :value 1}\n\
+            {:process 0, :type :ok, :f :enqueue, :value 1}\n\
+            {:process 0, :type :invoke, :f :dequeue}\n\
+            {:process 0, :type :ok, :f :dequeue, :value 1}",
+        certificates: "{:object 0, :order [2 4]}",
+        status: 0,
+        output: "yes: 2 operations, 1 objects\nqueue: 1 objects, 2 operations\n",
+    },
+    Row {
+        name: "the number of an ignored map",
+        history: "{:process :nemesis}\n\
+            {:process :nemesis}\n\
+            {:process 0, :type :invoke, :f :enqueue, :value 1}\n\
+            {:process 0, :type :ok, :f :enqueue, :value 1}\n\
+            {:process 0, :type :invoke, :f :dequeue}\n\
+            {:process 0, :type :ok, :f :dequeue, :value 1}",
+        certificates: "{:object 0, :order [0 2]}",
+        status: 1,
+        output: "no: C3 object 0: 0 is no operation\n",
+    },
+    Row {
+        name: "an unfinished map",
+        history: "{:process 0, :type :invoke",
+        certificates: "",
+        status: 2,
+        output: "malformed history: E2 at byte 26\n",
+    },
+    Row {
+        name: "a doubled key",
+        history: "{:f :enqueue, :f :enqueue}",
+        certificates: "",
+        status: 2,
+        output: "malformed history: E5 at byte 14\n",
+    },
+    Row {
+        name: "a leading zero",
+        history: "007",
+        certificates: "",
+        status: 2,
+        output: "malformed history: E3 at byte 0\n",
+    },
+    Row {
+        name: "too deep",
+        history: "[[[[[[[[[[[[[[[[[",
+        certificates: "",
+        status: 2,
+        output: "malformed history: E8 at byte 16\n",
+    },
+    Row {
+        name: "a heap",
+        history: "{:process 0, :type :invoke, :f :insert, :value 5}\n\
+            {:process 0, :type :ok, :f :insert, :value 5}\n\
+            {:process 0, :type :invoke, :f :insert, :value 5}\n\
+            {:process 0, :type :ok, :f :insert, :value 5}\n\
+            {:process 0, :type :invoke, :f :insert, :value -3}\n\
+            {:process 0, :type :ok, :f :insert, :value -3}\n\
+            {:process 0, :type :invoke, :f :extract-min}\n\
+            {:process 0, :type :ok, :f :extract-min, :value -3}\n\
+            {:process 0, :type :invoke, :f :extract-min}\n\
+            {:process 0, :type :ok, :f :extract-min, :value 5}\n\
+            {:process 0, :type :invoke, :f :extract-min}\n\
+            {:process 0, :type :ok, :f :extract-min, :value 5}\n\
+            {:process 0, :type :invoke, :f :extract-min}\n\
+            {:process 0, :type :ok, :f :extract-min, :value nil}",
+        certificates: "{:object 0, :order [0 2 4 6 8 10 12]}",
+        status: 0,
+        output: "yes: 7 operations, 1 objects\nheap: 1 objects, 7 operations\n",
+    },
+    Row {
+        name: "no certificate",
+        history: "{:process 0, :type :invoke, :f :enqueue, :value 1}\n\
+            {:process 0, :type :ok, :f :enqueue, :value 1}\n\
+            {:process 0, :type :invoke, :f :dequeue}\n\
+            {:process 0, :type :ok, :f :dequeue, :value 1}",
+        certificates: "",
+        status: 1,
+        output: "no: C1 object 0 has no certificate\n",
+    },
+    Row {
+        name: "a strange object",
+        history: "",
+        certificates: "{:object 3, :order []}",
+        status: 1,
+        output: "no: C2 object 3 is not in the history\n",
+    },
+    Row {
+        name: "a register",
+        history: "{:process 0, :type :invoke, :f :cas, :value [1 2]}\n\
+            {:process 0, :type :ok, :f :cas, :value false}\n\
+            {:process 0, :type :invoke, :f :write, :value 1}\n\
+            {:process 0, :type :ok, :f :write, :value 1}\n\
+            {:process 0, :type :invoke, :f :cas, :value [1 2]}\n\
+            {:process 0, :type :ok, :f :cas, :value [1 2]}\n\
+            {:process 0, :type :invoke, :f :read}\n\
+            {:process 0, :type :ok, :f :read, :value 2}",
+        certificates: "{:object 0, :order [0 2 4 6]}",
+        status: 0,
+        output: "yes: 4 operations, 1 objects\nregister: 1 objects, 4 operations\n",
+    },
+    Row {
+        name: "a map",
+        history: "{:process 0, :type :invoke, :f :put, :value [1 10]}\n\
+            {:process 0, :type :ok, :f :put, :value nil}\n\
+            {:process 0, :type :invoke, :f :put, :value [1 11]}\n\
+            {:process 0, :type :ok, :f :put, :value 10}\n\
+            {:process 0, :type :invoke, :f :get, :value 1}\n\
+            {:process 0, :type :ok, :f :get, :value 11}\n\
+            {:process 0, :type :invoke, :f :del, :value 1}\n\
+            {:process 0, :type :ok, :f :del, :value 11}\n\
+            {:process 0, :type :invoke, :f :get, :value 1}\n\
+            {:process 0, :type :ok, :f :get, :value nil}",
+        certificates: "{:object 0, :order [0 2 4 6 8]}",
+        status: 0,
+        output: "yes: 5 operations, 1 objects\nmap: 1 objects, 5 operations\n",
+    },
+    Row {
+        name: "two kinds on an object",
+        history: "{:process 0, :type :invoke, :f :enqueue, :value 1}\n\
+            {:process 0, :type :ok, :f :enqueue, :value 1}\n\
+            {:process 0, :type :invoke, :f :push, :value 2}",
+        certificates: "",
+        status: 2,
+        output: "malformed history: H4 at map 2\n",
+    },
+    Row {
+        name: "a busy process",
+        history: "{:process 0, :type :invoke, :f :dequeue}\n\
+            {:process 0, :type :invoke, :f :dequeue}",
+        certificates: "",
+        status: 2,
+        output: "malformed history: H5 at map 1\n",
+    },
+    Row {
+        name: "two certificates of one object",
+        history: "{:process 0, :type :invoke, :f :enqueue, :value 1}\n\
+            {:process 0, :type :ok, :f :enqueue, :value 1}\n\
+            {:process 0, :type :invoke, :f :dequeue}\n\
+            {:process 0, :type :ok, :f :dequeue, :value 1}",
+        certificates: "{:object 0, :order [0 2]} {:object 0, :order []}",
+        status: 2,
+        output: "malformed certificates: K2 at form 1\n",
+    },
+    Row {
+        name: "no map as a certificate",
+        history: "{:process 0, :type :invoke, :f :enqueue, :value 1}\n\
+            {:process 0, :type :ok, :f :enqueue, :value 1}\n\
+            {:process 0, :type :invoke, :f :dequeue}\n\
+            {:process 0, :type :ok, :f :dequeue, :value 1}",
+        certificates: "[0 2]",
+        status: 2,
+        output: "malformed certificates: K1 at form 0\n",
+    },
+];

@@ -1,0 +1,55 @@
+//! From texts to a history and to certificates.
+
+ghost use Rattle.std.specs.Prelude.{◌≡◌, ◌≢◌, List, IfOk, IfErr};
+ghost use Rattle.events.specs.declared.event.Event.{Event};
+ghost use Rattle.certificate.specs.declared.Certificate.{Certificate};
+ghost use Rattle.certificate.specs.Denotes.{AreDistinct};
+ghost use Rattle.judging.specs.Texts.{DenotesHistory, DenotesCertificates, IsHistoryFault, IsCertificatesFault};
+
+use certificate::{Certificate, CertFaultKind, read_certificates};
+use edn::{FaultKind, read_forms};
+use history::{History, HistoryFaultKind, read_history};
+use report::Fault;
+use std::alloc::Global;
+
+/// What stops the reading of a text.
+#[derive(Clone, Copy, Debug, PartialEq, Eq)]
+pub(crate) enum Stop {
+    Stopped(Fault),
+    NoMemory,
+}
+
+/// The history that the text denotes.
+pub(crate) fn history_in(alloc: Global, text: &[u8]) -> Result<History, Stop>
+    ensures denotes { IfOk result (λ es. DenotesHistory text.now es) }
+    ensures stop { IfErr result (IsHistoryFault text.now) }
+{
+    let forms = match read_forms(alloc, text) {
+        Ok(forms) => forms,
+        Err(fault) if fault.kind == FaultKind::NoMemory => return Err(Stop::NoMemory),
+        Err(fault) => return Err(Stop::Stopped(Fault::HistoryText(fault))),
+    };
+    match read_history(alloc, forms) {
+        Ok(history) => Ok(history),
+        Err(fault) if fault.kind == HistoryFaultKind::NoMemory => Err(Stop::NoMemory),
+        Err(fault) => Err(Stop::Stopped(Fault::HistoryMaps(fault))),
+    }
+}
+
+/// The certificates that the text denotes.
+pub(crate) fn certificates_in(alloc: Global, text: &[u8]) -> Result<Vec<Certificate>, Stop>
+    ensures denotes { IfOk result (λ cs. DenotesCertificates text.now cs.items) }
+    ensures distinct { IfOk result (λ cs. AreDistinct cs.items) }
+    ensures stop { IfErr result (IsCertificatesFault text.now) }
+{
+    let forms = match read_forms(alloc, text) {
+        Ok(forms) => forms,
+        Err(fault) if fault.kind == FaultKind::NoMemory => return Err(Stop::NoMemory),
+        Err(fault) => return Err(Stop::Stopped(Fault::CertificateText(fault))),
+    };
+    match read_certificates(alloc, forms) {
+        Ok(certificates) => Ok(certificates),
+        Err(fault) if fault.kind == CertFaultKind::NoMemory => Err(Stop::NoMemory),
+        Err(fault) => Err(Stop::Stopped(Fault::CertificateForms(fault))),
+    }
+}

@@ -1,0 +1,24 @@
+use Rattle.std.proofs.Common.{List, length, map, None, ap, ◌∙◌}
+use Rattle.report.specs.Counts.{first_seen, same_kind}
+use Rattle.report.specs.Invoked.{invoked, operation_count, named, count_in}
+use Rattle.report.specs.declared.counting.Invoked.{Invoked}
+use Rattle.report.proofs.Uses.{operations_are, objects_are, counts_are}
+use Rattle.report.proofs.counting.summary_of.Goals as goal
+
+pub returns-clause-operations : goal.returns-clause-operations
+returns-clause-operations c =
+    let all = c.deref-2.ensures.value ∙ c.in_ok-all.ensures in
+    c.count_operations.ensures ∙ ap (operation_count None) all ∙ operations_are c.args.events.now
+
+pub returns-clause-objects : goal.returns-clause-objects
+returns-clause-objects c =
+    let all = c.deref-3.ensures.value ∙ c.in_ok-all.ensures in
+    c.in_ok-count_objects.ensures ∙ ap (λ xs. length (named None xs)) all ∙ ap length (objects_are c.args.events.now)
+
+pub returns-clause-kinds : goal.returns-clause-kinds
+returns-clause-kinds c =
+    let es = c.args.events.now in
+    let seen = c.deref.ensures.value ∙ c.in_ok-all.ensures in
+    let all = c.deref-4.ensures.value ∙ c.in_ok-all.ensures in
+    let kinds = c.as_slice.ensures.keys ∙ c.in_ok-kinds.ensures ∙ ap (λ (xs : List Invoked). first_seen same_kind (map (λ (i : Invoked). i.kind) xs)) seen in
+    c.in_ok-count_kinds.ensures ∙ ap (map (count_in c.deref-4.result.now)) kinds ∙ ap (λ (xs : List Invoked). map (count_in xs) (first_seen same_kind (map (λ (i : Invoked). i.kind) (invoked es)))) all ∙ counts_are es

@@ -1,0 +1,36 @@
+-- The invocations as they are counted. No public clause speaks of it.
+use Rattle.std.specs.Prelude.{ℕ, Bool, true, List, [], ◌∷◌, ◌++◌, map, filter, length, Option, Some, None, nat_eq, not, ◌&&◌}
+use Rattle.model.specs.declared.Kind.{Kind}
+use Rattle.model.specs.Objects.{kind_of}
+use Rattle.events.specs.declared.event.Action.{Action}
+use Rattle.events.specs.declared.event.Action.TheVariants.{Invoke, Ok, Fail, Info}
+use Rattle.events.specs.declared.event.Event.{Event}
+use Rattle.events.specs.Events.{next_event, fails}
+use Rattle.report.specs.declared.counting.Invoked.{Invoked}
+use Rattle.report.specs.declared.verdict.KindCount.{KindCount}
+use Rattle.report.specs.Counts.{first_seen, same_kind}
+
+-- the invocation that an event is, and whether its operation failed
+abbrev pub invoked_by : ℕ → Action → Bool → List Invoked
+invoked_by x (Invoke op) failed = record { object = x; kind = kind_of op; failed = failed } ∷ []
+invoked_by x (Ok r) failed = []
+invoked_by x Fail failed = []
+invoked_by x Info failed = []
+
+abbrev pub invoked : List Event → List Invoked
+invoked [] = []
+invoked (e ∷ later) = invoked_by e.object e.action (fails (next_event e.process later)) ++ invoked later
+
+-- of this kind, or of any
+abbrev pub is_of : Option Kind → Invoked → Bool
+is_of None i = true
+is_of (Some k) i = same_kind k i.kind
+
+abbrev pub operation_count : Option Kind → List Invoked → ℕ
+operation_count k xs = length (filter (λ i. is_of k i && not i.failed) xs)
+
+abbrev pub named : Option Kind → List Invoked → List ℕ
+named k xs = first_seen nat_eq (map (λ i. i.object) (filter (is_of k) xs))
+
+abbrev pub count_in : List Invoked → Kind → KindCount
+count_in xs k = record { kind = k; objects = length (named (Some k) xs); operations = operation_count (Some k) xs }

@@ -1,0 +1,4 @@
+pub mod Counts
+pub mod Invoked
+pub mod Lines
+pub mod Pieces

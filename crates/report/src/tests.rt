@@ -1,0 +1,237 @@
+use super::*;
+use crate::counting::summary_of;
+use certificate::{CertFault, CertFaultKind};
+use checker::{OrderFault, Refusal};
+use edn::{EdnFault, FaultKind, Out, WriteFault};
+use events::{Action, Event, History};
+use history::{HistoryFault, HistoryFaultKind};
+use seq_objects::{AnyOp, AnyReply, Kind};
+use std::alloc::{AllocError, Global};
+use std::io;
+use std::test::Fail;
+
+/// The lines of the verdict.
+fn lines(alloc: Global, verdict: &Verdict, commented: bool) -> Result<Vec<u8>, Fail> {
+    let mut sink = Out::new(Vec::new(alloc));
+    write_verdict(verdict, commented, &mut sink)?;
+    Ok(sink.into_inner())
+}
+
+fn refused(fault: OrderFault) -> Verdict {
+    Verdict::No(Refusal::BadOrder { object: 0, fault })
+}
+
+fn gives(op: i64, gives: AnyReply) -> Verdict {
+    refused(OrderFault::WrongReply { op, gives })
+}
+
+fn text_fault(kind: FaultKind, place: usize) -> EdnFault {
+    EdnFault { kind, place }
+}
+
+#[test]
+fn refusals(rt: HostRuntime) -> Result<(), Fail> {
+    let rows = [
+        (
+            Verdict::No(Refusal::NoCertificate { object: 0 }),
+            "no: C1 object 0 has no certificate\n",
+        ),
+        (
+            Verdict::No(Refusal::StrangeObject { object: 3 }),
+            "no: C2 object 3 is not in the history\n",
+        ),
+        (
+            refused(OrderFault::UnknownOperation { op: -7 }),
+            "no: C3 object 0: -7 is no operation\n",
+        ),
+        (
+            refused(OrderFault::Repeated { op: 0 }),
+            "no: C4 object 0: 0 stands twice\n",
+        ),
+        (
+            refused(OrderFault::TooLate { op: 0, by: 2 }),
+            "no: C5 object 0: 0 returned before 2 was invoked\n",
+        ),
+        (
+            gives(4, AnyReply::Value(Some(1))),
+            "no: C6 object 0: 4 gives 1\n",
+        ),
+        (
+            gives(1, AnyReply::Value(None)),
+            "no: C6 object 0: 1 gives nil\n",
+        ),
+        (
+            gives(2, AnyReply::NotSwapped),
+            "no: C6 object 0: 2 gives false\n",
+        ),
+        (
+            gives(2, AnyReply::Swapped(1, -2)),
+            "no: C6 object 0: 2 gives [1 -2]\n",
+        ),
+        (
+            refused(OrderFault::Omitted { op: 2 }),
+            "no: C7 object 0: 2 is left out\n",
+        ),
+        (
+            refused(OrderFault::NotPossible { op: 2 }),
+            "no: C9 object 0: 2 is not possible\n",
+        ),
+        (Verdict::No(Refusal::NoMemory), "out of memory\n"),
+        (Verdict::NoMemory, "out of memory\n"),
+    ];
+    for (verdict, want) in rows.iter() {
+        assert_eq!(rt;
+            lines(rt.alloc(), verdict, false)?.as_slice(),
+            want.as_bytes()
+        );
+        let line = lines(rt.alloc(), verdict, true)?;
+        assert_eq!(rt; line.as_slice().strip_prefix(b"; "), Some(want.as_bytes()));
+    }
+    Ok(())
+}
+
+#[test]
+fn faults(rt: HostRuntime) -> Result<(), Fail> {
+    let (kind, map) = (HistoryFaultKind::AfterInfo, 2);
+    let (second, form) = (CertFaultKind::TwoForOneObject, 1);
+    let rows = [
+        (
+            Fault::HistoryText(text_fault(FaultKind::NumberRange, 19)),
+            "malformed history: E4 at byte 19\n",
+        ),
+        (
+            Fault::HistoryText(text_fault(FaultKind::TooLong, 0)),
+            "malformed history: E10 at byte 0\n",
+        ),
+        (
+            Fault::HistoryMaps(HistoryFault { kind, map }),
+            "malformed history: H8 at map 2\n",
+        ),
+        (
+            Fault::CertificateText(text_fault(FaultKind::BadToken, 0)),
+            "malformed certificates: E3 at byte 0\n",
+        ),
+        (
+            Fault::CertificateForms(CertFault { kind: second, form }),
+            "malformed certificates: K2 at form 1\n",
+        ),
+    ];
+    for (fault, want) in rows.iter() {
+        let verdict = Verdict::Malformed(*fault);
+        assert_eq!(rt;
+            lines(rt.alloc(), &verdict, false)?.as_slice(),
+            want.as_bytes()
+        );
+        let line = lines(rt.alloc(), &verdict, true)?;
+        assert_eq!(rt; line.as_slice().strip_prefix(b"; "), Some(want.as_bytes()));
+    }
+    Ok(())
+}
+
+fn event(number: u32, process: u64, object: u32, action: Action) -> Event {
+    Event {
+        number,
+        process,
+        object,
+        action,
+    }
+}
+
+fn value(v: i64) -> Action {
+    Action::Ok(AnyReply::Value(Some(v)))
+}
+
+/// One process puts in 1, and takes it out.
+fn put_and_taken() -> [Event; 4] {
+    [
+        event(0, 0, 0, Action::Invoke(AnyOp::Enqueue(1))),
+        event(1, 0, 0, value(1)),
+        event(2, 0, 0, Action::Invoke(AnyOp::Dequeue)),
+        event(3, 0, 0, value(1)),
+    ]
+}
+
+/// Operations on three objects: one failed, which was alone on its object, one returned, and one is left open.
+fn on_three_objects() -> [Event; 5] {
+    [
+        event(0, 0, 9, Action::Invoke(AnyOp::Push(5))),
+        event(1, 1, 2, Action::Invoke(AnyOp::Write(5))),
+        event(2, 0, 9, Action::Fail),
+        event(3, 0, 65_535, Action::Invoke(AnyOp::Read)),
+        event(4, 1, 2, value(5)),
+    ]
+}
+
+fn yes(alloc: Global, events: &[Event]) -> Result<Verdict, AllocError> {
+    Ok(Verdict::Yes(summary_of(alloc, events)?))
+}
+
+#[test]
+fn summaries(rt: HostRuntime) -> Result<(), Fail> {
+    let verdict = yes(rt.alloc(), &put_and_taken())?;
+    let want = b"yes: 2 operations, 1 objects\nqueue: 1 objects, 2 operations\n";
+    assert_eq!(rt;
+        lines(rt.alloc(), &verdict, false)?.as_slice(),
+        want.as_slice()
+    );
+    let verdict = yes(rt.alloc(), &on_three_objects())?;
+    let want =
+        b"; yes: 2 operations, 3 objects\n; stack: 1 objects, 0 operations\n; register: 2 objects, 2 operations\n";
+    assert_eq!(rt;
+        lines(rt.alloc(), &verdict, true)?.as_slice(),
+        want.as_slice()
+    );
+    Ok(())
+}
+
+#[test]
+fn empty_history(rt: HostRuntime) -> Result<(), Fail> {
+    let history = History::new(Vec::new(rt.alloc()));
+    let verdict = Verdict::Yes(summary(rt.alloc(), &history)?);
+    let want = b"yes: 0 operations, 0 objects\n";
+    assert_eq!(rt;
+        lines(rt.alloc(), &verdict, false)?.as_slice(),
+        want.as_slice()
+    );
+    Ok(())
+}
+
+/// Room for so many bytes, of which it takes three at a time.
+#[derive(Drop)]
+struct Room {
+    taken: Vec<u8>,
+    left: usize,
+}
+
+impl io::Write for Room {
+    fn write(&mut self, bytes: &[u8]) -> io::Result<usize> {
+        let n = bytes.len().min(self.left).min(3);
+        if self.taken.extend_from_slice(&bytes[..n]).is_err() {
+            return Ok(0);
+        }
+        self.left -= n;
+        Ok(n)
+    }
+
+    fn flush(&mut self) -> io::Result<()> {
+        Ok(())
+    }
+}
+
+#[test]
+fn failing_sink(rt: HostRuntime) -> Result<(), Fail> {
+    let verdict = yes(rt.alloc(), &put_and_taken())?;
+    let mut sink = Out::new(Room {
+        taken: Vec::new(rt.alloc()),
+        left: 20,
+    });
+    assert_eq!(rt;
+        write_verdict(&verdict, false, &mut sink),
+        Err(WriteFault::Device)
+    );
+    assert_eq!(rt;
+        sink.into_inner().taken.as_slice(),
+        b"yes: 2 operations, 1".as_slice()
+    );
+    Ok(())
+}
