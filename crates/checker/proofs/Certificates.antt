@@ -46,9 +46,9 @@ pub one_placed : (certificates : List Certificate) (m n : BTreeMap ℕ ℕ) (k :
 one_placed certificates m n k d l is places some own others = (
   λ x j q. elim (apart_or_same x d.object) [
     | inl e ↦ (
-      let same : k ≡ j = same_Some k j (sym own ∙ (ap (get nat_cmp n) (sym e) ∙ q)) in
-      subst (IsPlace certificates x) same (record { inside = l; for_object = λ c. ap (λ (z : Certificate). z.object) (get_or_default certificates k c d l ∙ sym is) ∙ sym e })
-    )
+        let same : k ≡ j = same_Some k j (sym own ∙ (ap (get nat_cmp n) (sym e) ∙ q)) in
+        subst (IsPlace certificates x) same (record { inside = l; for_object = λ c. ap (λ (z : Certificate). z.object) (get_or_default certificates k c d l ∙ sym is) ∙ sym e })
+        )
     | inr ne ↦ places x j (sym (others x ne) ∙ q)
   ],
   λ c i. elim (apart_or_same c.object d.object) [
@@ -272,11 +272,14 @@ first_refusal es certificates all os o later left r d objects split h refused = 
     go (NoCertificate y) s = record {
       object = o.object;
       named = named;
-      stands = (s.0, λ c.
-          let g = h.gone c.certificate (in_from_contains certificates c.certificate c.stands) (ap (get nat_cmp left) c.for_object ∙ s.1) in
-          let b = before_next os o later up g.0 g.1 in
-          let e : g.0.object ≡ o.object = g.2 ∙ c.for_object in
-          omega arith);
+      stands = (
+        s.0,
+        λ c.
+            let g = h.gone c.certificate (in_from_contains certificates c.certificate c.stands) (ap (get nat_cmp left) c.for_object ∙ s.1) in
+            let b = before_next os o later up g.0 g.1 in
+            let e : g.0.object ≡ o.object = g.2 ∙ c.for_object in
+            omega arith,
+      );
       least = least;
     }
     go (StrangeObject y) s = absurd s

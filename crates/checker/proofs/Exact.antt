@@ -53,13 +53,15 @@ pub valid_so_far : (kind : Kind) (calls : List Call) (order : List ℤ) → Risi
 valid_so_far kind calls order u v =
     let own : (c : Call) → In c v.entries → call_named calls (pos c.number) ≡ Some c = λ c i. names_itself calls c u (in_from_contains calls c (all_at (Contains calls) v.entries v.known c i)) in
     let is = v.numbers in
-    let along = replies_along calls (empty kind) v.entries own v.replies in
-    (along.0, record {
-      known = λ z i. let f = named_entry calls v.entries own z (subst (In z) is i) in (f.0, f.2);
-      once = pairs_from_all (λ a b. a ≢ b) order v.once;
-      in_order = subst (Pairs (InOrder calls)) (sym is) (order_along calls v.entries own (pairs_from_all (λ (a b : Call). ReturnsBefore b a → ⊥) v.entries v.in_order));
-      replies = subst (λ o. Along calls (empty kind) o along.0) (sym is) along.1;
-    })
+    let along = replies_along calls (empty kind) v.entries own v.replies in (
+      along.0,
+      record {
+        known = λ z i. let f = named_entry calls v.entries own z (subst (In z) is i) in (f.0, f.2);
+        once = pairs_from_all (λ a b. a ≢ b) order v.once;
+        in_order = subst (Pairs (InOrder calls)) (sym is) (order_along calls v.entries own (pairs_from_all (λ (a b : Call). ReturnsBefore b a → ⊥) v.entries v.in_order));
+        replies = subst (λ o. Along calls (empty kind) o along.0) (sym is) along.1;
+      },
+    )
 
 -- so an order with a first fault is not valid
 pub fault_refutes : (kind : Kind) (calls : List Call) (order : List ℤ) (f : OrderFault) → Rising calls → IsFirstFault kind calls order f → IsValidOrder kind calls order → ⊥

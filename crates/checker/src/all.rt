@@ -16,10 +16,7 @@ use std::alloc::{AllocError, Global};
 use std::collections::BTreeMap;
 
 /// Where the certificate of each object stands.
-fn places(
-    alloc: Global,
-    certificates: &[Certificate],
-) -> Result<BTreeMap<u32, usize>, AllocError>
+fn places(alloc: Global, certificates: &[Certificate]) -> Result<BTreeMap<u32, usize>, AllocError>
     ensures found { IfOk result (λ m. ArePlaces m certificates.now) }
     ensures all { IfOk result (λ m. All (λ c. IsSome (get nat_cmp m c.object)) certificates.now) }
 {

@@ -11,3 +11,6 @@ pub use all::check_all;
 pub use object::check_object;
 pub use refusal::{OrderFault, Refusal};
 pub use walk::check_order;
+
+#[cfg(test)]
+mod tests;

@@ -10,3 +10,6 @@ pub use by_object::split;
 pub use event::{Action, Event};
 pub use history::History;
 pub use operations::{End, Invocation, ObjectHistory};
+
+#[cfg(test)]
+mod tests;

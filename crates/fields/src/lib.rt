@@ -60,3 +60,6 @@ pub fn object(number: Option<u64>) -> Option<u32>
         _ => None,
     }
 }
+
+#[cfg(test)]
+mod tests;

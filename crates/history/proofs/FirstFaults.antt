@@ -135,10 +135,13 @@ abbrev NoneBelow : List Datum → ClientMap → HistoryFaultKind → Type 0
 NoneBelow ds m kind = (k : HistoryFaultKind) → FaultOf ds m k → number_of k < number_of kind → ⊥
 
 first_of : (ds : List Datum) (m : ClientMap) (kind : HistoryFaultKind) → FaultOf ds m kind → NoneBelow ds m kind → IsFirstOf ds m kind
-first_of ds m kind stands none = record { stands = stands; first = λ k h. elim (cases_order (number_of kind) (number_of k)) [
-  | inl q ↦ omega arith
-  | inr r ↦ elim r [ inl l ↦ omega arith | inr l ↦ absurd (none k h l) ]
-] }
+first_of ds m kind stands none = record {
+  stands = stands;
+  first = λ k h. elim (cases_order (number_of kind) (number_of k)) [
+    | inl q ↦ omega arith
+    | inr r ↦ elim r [ inl l ↦ omega arith | inr l ↦ absurd (none k h l) ]
+  ];
+}
 
 pub unknown_first : (ds : List Datum) (m : ClientMap) → m.function ≡ None → IsFirstOf ds m UnknownFunction
 unknown_first ds m none = first_of ds m UnknownFunction none below

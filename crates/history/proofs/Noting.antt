@@ -82,11 +82,13 @@ one_more earlier x kind m o h = record { stands = contains_left earlier m o h.st
 
 own_kind : (earlier : List ClientMap) (m : ClientMap) (f : Function) (kept : Option Kind) → m.function ≡ Some f → IsKindOf kept earlier m.object → IsNoOther kept (kind_of_function f) → IsKindOf (Some (kind_of_function f)) (earlier ++ m ∷ []) m.object
 own_kind earlier m f kept known is same =
-    let here : IsOneOfKind (earlier ++ m ∷ []) m.object (kind_of_function f) m = record { stands = contains_last earlier m; on_object = refl; function = f; is_known = known; of_kind = refl } in
-    ((m, here), λ o c x. elim (contains_push earlier m o c) [
-      | inl i ↦ one_more earlier m.object (kind_of_function f) m o (before kept is same o i x)
-      | inr e ↦ subst (IsOneOfKind (earlier ++ m ∷ []) m.object (kind_of_function f)) (sym e) here
-    ])
+    let here : IsOneOfKind (earlier ++ m ∷ []) m.object (kind_of_function f) m = record { stands = contains_last earlier m; on_object = refl; function = f; is_known = known; of_kind = refl } in (
+      (m, here),
+      λ o c x. elim (contains_push earlier m o c) [
+        | inl i ↦ one_more earlier m.object (kind_of_function f) m o (before kept is same o i x)
+        | inr e ↦ subst (IsOneOfKind (earlier ++ m ∷ []) m.object (kind_of_function f)) (sym e) here
+      ],
+    )
   where
     before : (kept : Option Kind) → IsKindOf kept earlier m.object → IsNoOther kept (kind_of_function f) → (o : ClientMap) → Contains earlier o → o.object ≡ m.object → IsOneOfKind earlier m.object (kind_of_function f) o
     before None k s o c x = absurd (k o c x)
@@ -97,10 +99,13 @@ other_kind earlier m x None ne is = λ o c q. elim (contains_push earlier m o c)
   | inl i ↦ is o i q
   | inr e ↦ ne (sym q ∙ ap (λ (y : ClientMap). y.object) e)
 ]
-other_kind earlier m x (Some kind) ne is = ((is.0.0, one_more earlier x kind m is.0.0 is.0.1), λ o c q. elim (contains_push earlier m o c) [
-  | inl i ↦ one_more earlier x kind m o (is.1 o i q)
-  | inr e ↦ absurd (ne (sym q ∙ ap (λ (y : ClientMap). y.object) e))
-])
+other_kind earlier m x (Some kind) ne is = (
+  (is.0.0, one_more earlier x kind m is.0.0 is.0.1),
+  λ o c q. elim (contains_push earlier m o c) [
+    | inl i ↦ one_more earlier x kind m o (is.1 o i q)
+    | inr e ↦ absurd (ne (sym q ∙ ap (λ (y : ClientMap). y.object) e))
+  ],
+)
 
 kinds_more : (earlier : List ClientMap) (m : ClientMap) (f : Function) (old new : ℕ → Option Kind) → m.function ≡ Some f → ((x : ℕ) → IsKindOf (old x) earlier x) → IsNoOther (old m.object) (kind_of_function f) → new m.object ≡ Some (kind_of_function f) → ((x : ℕ) → x ≢ m.object → new x ≡ old x) → (x : ℕ) → IsKindOf (new x) (earlier ++ m ∷ []) x
 kinds_more earlier m f old new known h same own others x = elim (cases_eq x m.object) [

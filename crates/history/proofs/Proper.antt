@@ -104,7 +104,7 @@ are_last p [] (m ∷ ms) h = absurd h
 are_last p (e ∷ es) [] h = absurd h
 are_last p (e ∷ es) (m ∷ ms) h =
     subst (λ x. AreLast x (last_map p (m ∷ ms))) (sym (last_cons_event p e es)) (subst (AreLast (option_or (last_event p es) (cond (e.process == p) (Some e) None))) (sym (last_cons_map p m ms))
-      (or_last (last_event p es) (cond (e.process == p) (Some e) None) (last_map p ms) (cond (m.process == p) (Some m) None) (are_last p es ms h.1) own))
+    (or_last (last_event p es) (cond (e.process == p) (Some e) None) (last_map p ms) (cond (m.process == p) (Some m) None) (are_last p es ms h.1) own))
   where
     both : (b : Bool) → AreLast (cond b (Some e) None) (cond b (Some m) None)
     both true = h.0

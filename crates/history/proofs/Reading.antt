@@ -23,7 +23,7 @@ events_push n [] d = append-nil (event_of n (client_of d)) ∙ ap (λ k. event_o
 events_push n (x ∷ ds) d =
     ap (λ es. event_of n (client_of x) ++ es) (events_push (n + 1) ds d)
     ∙ (sym (append_assoc (event_of n (client_of x)) (events_from (n + 1) ds) (event_of (n + 1 + length ds) (client_of d)))
-      ∙ ap (λ k. (event_of n (client_of x) ++ events_from (n + 1) ds) ++ event_of k (client_of d)) (let e : n + 1 + length ds ≡ n + length (x ∷ ds) = omega arith in e))
+    ∙ ap (λ k. (event_of n (client_of x) ++ events_from (n + 1) ds) ++ event_of k (client_of d)) (let e : n + 1 + length ds ≡ n + length (x ∷ ds) = omega arith in e))
 
 -- a split of a longer list
 split_push : (ds : List Datum) (d : Datum) (earlier later : List Datum) (e : Datum) → ds ++ d ∷ [] ≡ earlier ++ e ∷ later → ((earlier ≡ ds) × (e ≡ d)) ⊎ ((rest : List Datum) × (ds ≡ earlier ++ e ∷ rest))

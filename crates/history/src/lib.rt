@@ -10,3 +10,6 @@ mod seen;
 pub use events::{Action, End, Event, History, Invocation, ObjectHistory, split};
 pub use fault::{HistoryFault, HistoryFaultKind};
 pub use reader::read_history;
+
+#[cfg(test)]
+mod tests;

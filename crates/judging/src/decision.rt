@@ -18,11 +18,7 @@ use report::{Verdict, summary};
 use std::alloc::Global;
 
 /// Checks the certificates. Where they are valid the history is linearizable.
-fn check(
-    alloc: Global,
-    history: &History,
-    certificates: &[Certificate],
-) -> Result<(), Refusal>
+fn check(alloc: Global, history: &History, certificates: &[Certificate]) -> Result<(), Refusal>
     requires { AreDistinct certificates.now }
     ensures valid { OnOk result (AreValid history.now certificates.now) }
     ensures linearizable { OnOk result (IsLinearizable (kind_at history.now) (events (denoted history.now))) }

@@ -23,13 +23,7 @@ fn status_of(verdict: &Verdict) -> u8 {
 
 /// Does the command on the bytes of its first and second file, writes its output, and gives the exit status: 0 for yes,
 /// 1 for no, 2 where a text is malformed, 3 where memory was refused, 4 where the output failed.
-pub fn perform<S: Sink>(
-    alloc: Global,
-    line: &Line,
-    first: &[u8],
-    second: &[u8],
-    sink: &mut S,
-) -> u8
+pub fn perform<S: Sink>(alloc: Global, line: &Line, first: &[u8], second: &[u8], sink: &mut S) -> u8
     requires working { S.broken sink.old ≡ false }
 {
     match line {

@@ -6,7 +6,7 @@ ghost use Rattle.certificate.specs.declared.Certificate.{Certificate};
 ghost use Rattle.certificate.specs.Denotes.{AreDistinct};
 ghost use Rattle.judging.specs.Texts.{DenotesHistory, DenotesCertificates, IsHistoryFault, IsCertificatesFault};
 
-use certificate::{Certificate, CertFaultKind, read_certificates};
+use certificate::{CertFaultKind, Certificate, read_certificates};
 use edn::{FaultKind, read_forms};
 use history::{History, HistoryFaultKind, read_history};
 use report::Fault;
