@@ -1,6 +1,6 @@
 -- Forms read one after the other.
-use Rattle.std.proofs.Common.{◌≡◌, ◌≢◌, ℕ, zero, suc, ◌+◌, ◌<◌, ◌==◌, Bool, true, false, cond, List, [], ◌∷◌, ◌++◌, length, take, drop, get_or, map, option_map, Option, Some, None, Contains, refl, ap, sym, ◌∙◌, append_assoc, length-append, arith}
-use Rattle.std.specs.Prelude.{ℤ, ◌||◌, codes, option_and_then}
+use Rattle.std.proofs.Common.{◌≡◌, ◌≢◌, ℕ, zero, suc, ◌+◌, ◌<◌, ◌==◌, Bool, true, false, cond, List, [], ◌∷◌, ◌++◌, length, take, drop, get_or, map, option_map, Option, Some, None, Contains, refl, ap, sym, ◌∙◌, length-append, arith}
+use Rattle.std.specs.Prelude.{ℤ, ◌||◌, codes}
 use Rattle.std.specs.List.{list_any}
 use Rattle.std.proofs.lemmas.Bool.{both_ways, or_parts, eqb-true, eq-eqb}
 use Rattle.std.proofs.lemmas.List.{drop_more, take_more, take-append-drop, length-take-le, length-map, map-append}
@@ -11,7 +11,7 @@ use Rattle.edn.specs.Datum.{Datum, dictionary, Entries, items_of}
 use Rattle.edn.specs.View.{view, views}
 use Rattle.edn.specs.declared.form.Form.{Form}
 use Rattle.fields.specs.Fields.{value_at, natural_in, object_in}
-use Rattle.certificate.specs.Denotes.{Reading, integer_in, integers_in, order_in, reading_with, certificate_of, reading_of, AreDistinct, Denotes}
+use Rattle.certificate.specs.Denotes.{Reading, integers_in, order_in, reading_with, certificate_of, reading_of, AreDistinct, Denotes}
 use Rattle.certificate.specs.Faults.{IsFault, IsFaultless, IsFirstFault}
 use Rattle.certificate.specs.Inside.{IsFaultAmong, AreRead}
 use Rattle.certificate.specs.declared.Certificate.{Certificate}
@@ -28,23 +28,6 @@ integers_behind done fs = option_map (λ zs. done ++ zs) (integers_in (items_of 
 at_place : (fs : List Form) (i : ℕ) (f : Form) → i < length fs → f ≡ get_or fs i f → drop i fs ≡ f ∷ drop (i + 1) fs
 at_place fs i f lt e = drop_more fs i f lt ∙ ap (λ (y : Form). y ∷ drop (i + 1) fs) (sym e)
 
-behind_integer : (done : List ℤ) (z : ℤ) (more : Option (List ℤ)) → option_map (λ zs. done ++ zs) (option_map (λ zs. z ∷ zs) more) ≡ option_map (λ zs. (done ++ z ∷ []) ++ zs) more
-behind_integer done z None = refl
-behind_integer done z (Some zs) = ap Some (sym (append_assoc done (z ∷ []) zs))
-
-pub one_integer : (done : List ℤ) (fs : List Form) (i : ℕ) (f : Form) (z : ℤ) → i < length fs → f ≡ get_or fs i f → Some z ≡ integer_in (view f)
-    → integers_behind done (drop i fs) ≡ integers_behind (done ++ z ∷ []) (drop (i + 1) fs)
-one_integer done fs i f z lt e is =
-    ap (integers_behind done) (at_place fs i f lt e)
-    ∙ ap (λ v. option_map (λ zs. done ++ zs) (option_and_then (λ y. option_map (λ zs. y ∷ zs) (integers_in (items_of (views (drop (i + 1) fs))))) v)) (sym is)
-    ∙ behind_integer done z (integers_in (items_of (views (drop (i + 1) fs))))
-
-pub no_integer : (done : List ℤ) (fs : List Form) (i : ℕ) (f : Form) → i < length fs → f ≡ get_or fs i f → None ≡ integer_in (view f)
-    → integers_behind done (drop i fs) ≡ None
-no_integer done fs i f lt e is =
-    ap (integers_behind done) (at_place fs i f lt e)
-    ∙ ap (λ v. option_map (λ zs. done ++ zs) (option_and_then (λ y. option_map (λ zs. y ∷ zs) (integers_in (items_of (views (drop (i + 1) fs))))) v)) (sym is)
-
 -- ---- one certificate
 
 pub no_object : (es : Entries) (v : Option Datum) (n : Option ℕ) → v ≡ value_at (codes "object") es → n ≡ natural_in v → None ≡ object_in n → None ≡ certificate_of (dictionary es)
@@ -56,9 +39,6 @@ both_keys es v w n x o h k e g q =
     ap (λ y. reading_with y o) (e ∙ ap object_in k ∙ ap (λ u. object_in (natural_in u)) h) ∙ ap (reading_with (object_in (natural_in (value_at (codes "object") es)))) (q ∙ ap order_in g)
 
 -- ---- the forms so far
-
-pub nothing_read : (among : ℕ → Bool) → ((x : ℕ) → among x ≡ false) → AreRead [] [] among
-nothing_read among none = record { denoted = record { each = refl; distinct = λ i j d lt lt2. absurd (omega arith) }; objects = none }
 
 either : (b w t : Bool) → (b || cond w true t) ≡ cond w true (b || t)
 either true true t = refl

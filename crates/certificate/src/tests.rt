@@ -145,3 +145,19 @@ fn failing_sink(rt: HostRuntime) -> Result<(), Fail> {
     }
     Ok(())
 }
+
+/// Passes whichever allocation is refused: reading answers that memory ran out, or as ever.
+#[test]
+fn refused_memory(rt: HostRuntime) -> Result<(), Fail> {
+    let text =
+        b"{:object 0, :order [0 2 4 6 8 10 12]} {:object 3, :order [1]} {:object 4, :order []}";
+    let Ok(forms) = read_forms(rt.alloc(), text) else {
+        return Ok(());
+    };
+    assert!(rt; all_fit(forms.as_slice()));
+    match read_certificates(rt.alloc(), forms) {
+        Ok(certificates) => assert_eq!(rt; certificates.len(), 3),
+        Err(fault) => assert_eq!(rt; fault.kind, CertFaultKind::NoMemory),
+    }
+    Ok(())
+}

@@ -25,7 +25,17 @@ fn bytes_of<R: Files + Alloc>(rt: &R, name: &str) -> io::Result<Vec<u8, R::A>> {
     Ok(bytes)
 }
 
-fn unreadable<R: Eprint>(rt: &R, name: &str) -> io::Result<u8> {
+/// Says that memory was refused before the command began.
+fn no_memory<R: Print>(rt: &R) -> io::Result<u8> {
+    rt.println("out of memory")?;
+    Ok(NO_MEMORY)
+}
+
+/// Says why a file could not be read.
+fn unread<R: Print + Eprint>(rt: &R, name: &str, error: &io::Error) -> io::Result<u8> {
+    if error.kind() == io::ErrorKind::OutOfMemory {
+        return no_memory(rt);
+    }
     rt.eprintln(format_args!("fcbench: cannot read {name}"))?;
     Ok(FAILED)
 }
@@ -33,20 +43,20 @@ fn unreadable<R: Eprint>(rt: &R, name: &str) -> io::Result<u8> {
 /// Reads the files of a command, and does it.
 fn run_line<R: Files + AllocGlobal + Print + Eprint>(rt: &R, line: &Line) -> io::Result<u8> {
     let Line::Check { history, certs } = line;
-    let Ok(first) = bytes_of(rt, history) else {
-        return unreadable(rt, history);
+    let first = match bytes_of(rt, history) {
+        Ok(bytes) => bytes,
+        Err(error) => return unread(rt, history, &error),
     };
-    let Ok(second) = bytes_of(rt, certs) else {
-        return unreadable(rt, certs);
+    let second = match bytes_of(rt, certs) {
+        Ok(bytes) => bytes,
+        Err(error) => return unread(rt, certs, &error),
     };
     let mut output = Out::new(io::writer(rt));
     Ok(perform(rt.alloc(), line, &first, &second, &mut output))
 }
 
-fn run<R: Files + AllocGlobal + Print + Eprint + Env>(rt: &R) -> io::Result<u8> {
-    let alloc = rt.alloc();
-    let words: Vec<String> = std::env::args(rt)?.collect(alloc)?;
-    match line(alloc, &words) {
+fn run_words<R: Files + AllocGlobal + Print + Eprint>(rt: &R, words: &[String]) -> io::Result<u8> {
+    match line(rt.alloc(), words) {
         Ok(line) => run_line(rt, &line),
         Err(LineFault::Help(text)) => {
             rt.print(text.as_str())?;
@@ -56,9 +66,22 @@ fn run<R: Files + AllocGlobal + Print + Eprint + Env>(rt: &R) -> io::Result<u8> 
             rt.eprint(text.as_str())?;
             Ok(USAGE)
         }
-        Err(LineFault::NoMemory) => {
-            rt.println("out of memory")?;
-            Ok(NO_MEMORY)
+        Err(LineFault::NoMemory) => no_memory(rt),
+    }
+}
+
+/// The words of the command line, the program's name first.
+fn words_of<R: AllocGlobal + Env>(rt: &R) -> io::Result<Vec<String>> {
+    Ok(std::env::args(rt)?.collect(rt.alloc())?)
+}
+
+fn run<R: Files + AllocGlobal + Print + Eprint + Env>(rt: &R) -> io::Result<u8> {
+    match words_of(rt) {
+        Ok(words) => run_words(rt, &words),
+        Err(error) if error.kind() == io::ErrorKind::OutOfMemory => no_memory(rt),
+        Err(_) => {
+            rt.eprintln("fcbench: a word of the command line is not UTF-8")?;
+            Ok(USAGE)
         }
     }
 }

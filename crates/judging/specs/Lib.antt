@@ -1,5 +1,6 @@
 pub mod Texts
 pub mod Verdicts
+pub mod Statuses
 pub use Rattle.model.specs.Linearizable
 pub use Rattle.events.specs.Events
 pub use Rattle.checker.specs.Refusals

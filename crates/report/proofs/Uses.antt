@@ -1,10 +1,8 @@
 -- Counting the invocations of a history.
-use Rattle.std.proofs.Common.{◌≡◌, ℕ, suc, ◌+◌, ◌<◌, ◌==◌, ◌&&◌, Bool, true, false, not, cond, List, [], ◌∷◌, ◌++◌, length, take, get_or, map, filter, Option, Some, None, refl, ap, sym, ◌∙◌, length-append, arith}
+use Rattle.std.proofs.Common.{◌≡◌, ℕ, suc, ◌+◌, ◌<◌, ◌&&◌, Bool, true, false, not, cond, List, [], ◌∷◌, ◌++◌, length, take, get_or, map, filter, Option, Some, None, refl, ap, sym, ◌∙◌}
 use Rattle.std.specs.Prelude.{nat_eq, ◌||◌}
 use Rattle.std.specs.List.{list_any, cons_option}
-use Rattle.std.proofs.lemmas.Bool.{eqb-true}
-use Rattle.std.proofs.lemmas.List.{take_more, append-nil, map-append}
-use Rattle.std.proofs.lemmas.List.Elements.{filter-append}
+use Rattle.std.proofs.lemmas.List.{take_more, map-append}
 use Rattle.std.proofs.lemmas.List.Sums.{fold-append}
 use Rattle.model.specs.declared.Kind.{Kind}
 use Rattle.model.specs.Objects.{kind_of}
@@ -22,64 +20,10 @@ use Rattle.report.specs.declared.counting.Invoked.{Invoked}
 pub first_seen-push : {X : Type 0} (same : X → X → Bool) (xs : List X) (y : X) → first_seen same (xs ++ y ∷ []) ≡ with_new same (first_seen same xs) y
 first_seen-push same xs y = fold-append (with_new same) [] xs (y ∷ [])
 
-filter-one : {X : Type 0} (p : X → Bool) (xs : List X) (y : X) (b : Bool) → p y ≡ b → filter p (xs ++ y ∷ []) ≡ cond b (filter p xs ++ y ∷ []) (filter p xs)
-filter-one p xs y true e = filter-append p xs (y ∷ []) ∙ ap (λ b. filter p xs ++ cond b (y ∷ []) []) e
-filter-one p xs y false e = filter-append p xs (y ∷ []) ∙ ap (λ b. filter p xs ++ cond b (y ∷ []) []) e ∙ append-nil (filter p xs)
-
-pub named_here : (k : Option Kind) (all : List Invoked) (i : ℕ) (d : Invoked) → i < length all → is_of k (get_or all i d) ≡ true → named k (take (i + 1) all) ≡ with_new nat_eq (named k (take i all)) (get_or all i d).object
-named_here k all i d lt e =
-    let x = get_or all i d in
-    ap (named k) (take_more all i d lt)
-    ∙ ap (λ xs. first_seen nat_eq (map (λ (v : Invoked). v.object) xs)) (filter-one (is_of k) (take i all) x true e)
-    ∙ ap (first_seen nat_eq) (map-append (λ (v : Invoked). v.object) (filter (is_of k) (take i all)) (x ∷ []))
-    ∙ first_seen-push nat_eq (map (λ (v : Invoked). v.object) (filter (is_of k) (take i all))) x.object
-
-pub named_elsewhere : (k : Option Kind) (all : List Invoked) (i : ℕ) (d : Invoked) → i < length all → is_of k (get_or all i d) ≡ false → named k (take (i + 1) all) ≡ named k (take i all)
-named_elsewhere k all i d lt e =
-    ap (named k) (take_more all i d lt) ∙ ap (λ xs. first_seen nat_eq (map (λ (v : Invoked). v.object) xs)) (filter-one (is_of k) (take i all) (get_or all i d) false e)
-
 -- the objects that were seen, as a set
 pub record AreSeen (among : ℕ → Bool) (size : ℕ) (seen : List ℕ) : Type 0 where
   pub objects : (x : ℕ) → among x ≡ list_any (nat_eq x) seen
   pub count : size ≡ length seen
-
-pub none_seen : (among : ℕ → Bool) (size : ℕ) → ((x : ℕ) → among x ≡ false) → size ≡ 0 → AreSeen among size []
-none_seen among size h e = record { objects = h; count = e }
-
-flip : (x y : ℕ) → (x == y) ≡ (y == x)
-flip x y = search (arith)
-
-or_nothing : (b : Bool) → (b || false) ≡ cond b true false
-or_nothing true = refl
-or_nothing false = refl
-
-swap_or : (a b c : Bool) → (a || cond b true c) ≡ cond b true (a || c)
-swap_or true true c = refl
-swap_or true false c = refl
-swap_or false true c = refl
-swap_or false false c = refl
-
-list_any-append : (p : ℕ → Bool) (xs : List ℕ) (y : ℕ) → list_any p (xs ++ y ∷ []) ≡ cond (p y) true (list_any p xs)
-list_any-append p [] y = or_nothing (p y)
-list_any-append p (x ∷ xs) y = ap (λ b. p x || b) (list_any-append p xs y) ∙ swap_or (p x) (p y) (list_any p xs)
-
--- an object that is there already
-same_seen : (seen : List ℕ) (x q : ℕ) (b : Bool) → (x == q) ≡ b → list_any (nat_eq x) seen ≡ true → list_any (nat_eq q) seen ≡ cond b true (list_any (nat_eq q) seen)
-same_seen seen x q true e h = ap (λ y. list_any (nat_eq y) seen) (sym (eqb-true x q e)) ∙ h
-same_seen seen x q false e h = refl
-
-pub one_seen : (among after : ℕ → Bool) (size more : ℕ) (seen : List ℕ) (x : ℕ) → AreSeen among size seen → ((q : ℕ) → after q ≡ cond (x == q) true (among q)) → more ≡ size + cond (among x) 0 1 → AreSeen after more (with_new nat_eq seen x)
-one_seen among after size more seen x h step grown = by (list_any (nat_eq x) seen) refl
-  where
-    by : (b : Bool) → list_any (nat_eq x) seen ≡ b → AreSeen after more (cond b seen (seen ++ x ∷ []))
-    by true e = record {
-      objects = λ q. step q ∙ ap (λ v. cond (x == q) true v) (h.objects q) ∙ sym (same_seen seen x q (x == q) refl e);
-      count = grown ∙ ap (λ v. size + cond v 0 1) (h.objects x ∙ e) ∙ omega (arith, h.count);
-    }
-    by false e = record {
-      objects = λ q. step q ∙ ap (λ v. cond (x == q) true v) (h.objects q) ∙ ap (λ v. cond v true (list_any (nat_eq q) seen)) (flip x q) ∙ sym (list_any-append (nat_eq q) seen x);
-      count = grown ∙ ap (λ v. size + cond v 0 1) (h.objects x ∙ e) ∙ omega (arith, h.count, length-append seen (x ∷ []));
-    }
 
 -- ---- kinds
 

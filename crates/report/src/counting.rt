@@ -1,10 +1,11 @@
 //! What a history has, in all and of each kind.
 
-ghost use Rattle.std.specs.Prelude.{◌≡◌, ◌==◌, ◌+◌, ◌++◌, ℕ, if◌then◌else◌, true, false, IfOk, OnOk, length, map, reverse, unwrap_or};
+ghost use Rattle.std.specs.Prelude.{◌≡◌, ◌≢◌, ◌==◌, ◌+◌, ◌++◌, ◌↔◌, ℕ, AllPairs, Contains, if◌then◌else◌, true, false, IfOk, OnOk, length, map, reverse, unwrap_or};
 ghost use Rattle.std.specs.Ordering.{nat_cmp};
 ghost use Rattle.std.specs.BTreeMap.{get};
 ghost use Rattle.std.specs.BTreeSet.{contains, btree_set_len};
 ghost use Rattle.events.specs.Events as event;
+ghost use Rattle.events.specs.Events.{IsNamed};
 ghost use Rattle.report.specs.Counts.{same_kind, first_seen, uses, objects_in, kinds_in, operations_in, count_of};
 ghost use Rattle.report.specs.Invoked.{invoked, invoked_by, is_of, operation_count, named, count_in};
 
@@ -163,6 +164,9 @@ pub(crate) fn summary_of(alloc: Global, events: &[Event]) -> Result<Summary, All
 pub fn summary(alloc: Global, history: &History) -> Result<Summary, AllocError>
     ensures operations { IfOk result (λ s. s.operations ≡ length (operations_in history.now)) }
     ensures objects { IfOk result (λ s. s.objects ≡ length (objects_in (uses history.now))) }
+    // These are the objects that some invocation names, each once.
+    ensures named { (x : ℕ) → Contains (objects_in (uses history.now)) x ↔ IsNamed history.now x }
+    ensures once { AllPairs (λ x y. x ≢ y) (objects_in (uses history.now)) }
     // The kinds stand in the order of their first invocations, each once.
     ensures kinds { IfOk result (λ s. s.kinds.items ≡ map (count_of history.now) (kinds_in (uses history.now))) }
 {

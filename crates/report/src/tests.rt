@@ -235,3 +235,14 @@ fn failing_sink(rt: HostRuntime) -> Result<(), Fail> {
     );
     Ok(())
 }
+
+/// Passes whichever allocation is refused: the counts are right, or memory ran out.
+#[test]
+fn refused_memory(rt: HostRuntime) -> Result<(), Fail> {
+    if let Ok(counts) = summary_of(rt.alloc(), &on_three_objects()) {
+        assert_eq!(rt; counts.operations, 2);
+        assert_eq!(rt; counts.objects, 3);
+        assert_eq!(rt; counts.kinds.len(), 2);
+    }
+    Ok(())
+}

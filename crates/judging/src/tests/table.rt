@@ -8,7 +8,7 @@ pub struct Row {
     pub output: &'static str,
 }
 
-pub const ROWS: [Row; 29] = [
+pub const ROWS: [Row; 44] = [
     Row {
         name: "empty texts",
         history: "",
@@ -306,5 +306,157 @@ pub const ROWS: [Row; 29] = [
         certificates: "[0 2]",
         status: 2,
         output: "malformed certificates: K1 at form 0\n",
+    },
+    Row {
+        name: "a cas answered with another number",
+        history: "{:process 0, :type :invoke, :f :cas, :value [1 2]}\n\
+            {:process 0, :type :ok, :f :cas, :value 7}",
+        certificates: "{:object 0, :order [0]}",
+        status: 2,
+        output: "malformed history: H3 at map 1\n",
+    },
+    Row {
+        name: "a cas that should have failed",
+        history: "{:process 0, :type :invoke, :f :cas, :value [1 2]}\n\
+            {:process 0, :type :ok, :f :cas, :value [1 2]}",
+        certificates: "{:object 0, :order [0]}",
+        status: 1,
+        output: "no: C6 object 0: 0 gives false\n",
+    },
+    Row {
+        name: "a bad value before a stray completion",
+        history: "{:process 0, :type :ok, :f :enqueue, :value nil}",
+        certificates: "",
+        status: 2,
+        output: "malformed history: H3 at map 0\n",
+    },
+    Row {
+        name: "a completion of another function",
+        history: "{:process 0, :type :invoke, :f :enqueue, :value 1}\n\
+            {:process 0, :type :ok, :f :dequeue, :value nil}",
+        certificates: "",
+        status: 2,
+        output: "malformed history: H7 at map 1\n",
+    },
+    Row {
+        name: "another kind before another function",
+        history: "{:process 0, :type :invoke, :f :enqueue, :value 1}\n\
+            {:process 0, :type :ok, :f :push, :value 1}",
+        certificates: "",
+        status: 2,
+        output: "malformed history: H4 at map 1\n",
+    },
+    Row {
+        name: "a completion after info",
+        history: "{:process 0, :type :invoke, :f :enqueue, :value 1}\n\
+            {:process 0, :type :info, :f :enqueue, :value 1}\n\
+            {:process 0, :type :ok, :f :enqueue, :value 1}",
+        certificates: "",
+        status: 2,
+        output: "malformed history: H8 at map 2\n",
+    },
+    Row {
+        name: "two objects, certificates exchanged",
+        history: "{:process 0, :type :invoke, :f :dequeue, :object 0}\n\
+            {:process 1, :type :invoke, :f :dequeue, :object 1}\n\
+            {:process 2, :type :invoke, :f :enqueue, :value 7, :object 0}\n\
+            {:process 3, :type :invoke, :f :enqueue, :value 8, :object 1}\n\
+            {:process 0, :type :ok, :f :dequeue, :value 7, :object 0}\n\
+            {:process 1, :type :ok, :f :dequeue, :value 8, :object 1}\n\
+            {:process 2, :type :ok, :f :enqueue, :value 7, :object 0}\n\
+            {:process 3, :type :ok, :f :enqueue, :value 8, :object 1}",
+        certificates: "{:object 0, :order [2 0]} {:object 1, :order [3 1]}",
+        status: 0,
+        output: "yes: 4 operations, 2 objects\nqueue: 2 objects, 4 operations\n",
+    },
+    Row {
+        name: "two objects, one certificate",
+        history: "{:process 0, :type :invoke, :f :dequeue, :object 0}\n\
+            {:process 1, :type :invoke, :f :dequeue, :object 1}\n\
+            {:process 2, :type :invoke, :f :enqueue, :value 7, :object 0}\n\
+            {:process 3, :type :invoke, :f :enqueue, :value 8, :object 1}\n\
+            {:process 0, :type :ok, :f :dequeue, :value 7, :object 0}\n\
+            {:process 1, :type :ok, :f :dequeue, :value 8, :object 1}\n\
+            {:process 2, :type :ok, :f :enqueue, :value 7, :object 0}\n\
+            {:process 3, :type :ok, :f :enqueue, :value 8, :object 1}",
+        certificates: "{:object 1, :order [3 1]}",
+        status: 1,
+        output: "no: C1 object 0 has no certificate\n",
+    },
+    Row {
+        name: "a certificate too many",
+        history: "{:process 0, :type :invoke, :f :dequeue, :object 0}\n\
+            {:process 1, :type :invoke, :f :dequeue, :object 1}\n\
+            {:process 2, :type :invoke, :f :enqueue, :value 7, :object 0}\n\
+            {:process 3, :type :invoke, :f :enqueue, :value 8, :object 1}\n\
+            {:process 0, :type :ok, :f :dequeue, :value 7, :object 0}\n\
+            {:process 1, :type :ok, :f :dequeue, :value 8, :object 1}\n\
+            {:process 2, :type :ok, :f :enqueue, :value 7, :object 0}\n\
+            {:process 3, :type :ok, :f :enqueue, :value 8, :object 1}",
+        certificates: "{:object 1, :order [3 1]} {:object 0, :order [2 0]} {:object 2, :order []}",
+        status: 1,
+        output: "no: C2 object 2 is not in the history\n",
+    },
+    Row {
+        name: "the greatest number as an entry",
+        history: "{:process 0, :type :invoke, :f :enqueue, :value 1}\n\
+            {:process 0, :type :ok, :f :enqueue, :value 1}\n\
+            {:process 0, :type :invoke, :f :dequeue}\n\
+            {:process 0, :type :ok, :f :dequeue, :value 1}",
+        certificates: "{:object 0, :order [0 9223372036854775807]}",
+        status: 1,
+        output: "no: C3 object 0: 9223372036854775807 is no operation\n",
+    },
+    Row {
+        name: "a negative entry",
+        history: "{:process 0, :type :invoke, :f :enqueue, :value 1}\n\
+            {:process 0, :type :ok, :f :enqueue, :value 1}\n\
+            {:process 0, :type :invoke, :f :dequeue}\n\
+            {:process 0, :type :ok, :f :dequeue, :value 1}",
+        certificates: "{:object 0, :order [-1]}",
+        status: 1,
+        output: "no: C3 object 0: -1 is no operation\n",
+    },
+    Row {
+        name: "an entry past the range",
+        history: "{:process 0, :type :invoke, :f :enqueue, :value 1}\n\
+            {:process 0, :type :ok, :f :enqueue, :value 1}\n\
+            {:process 0, :type :invoke, :f :dequeue}\n\
+            {:process 0, :type :ok, :f :dequeue, :value 1}",
+        certificates: "{:object 0, :order [9223372036854775808]}",
+        status: 2,
+        output: "malformed certificates: E4 at byte 20\n",
+    },
+    Row {
+        name: "a mutex",
+        history: "{:process 0, :type :invoke, :f :acquire, :value nil}\n\
+            {:process 0, :type :ok, :f :acquire, :value nil}\n\
+            {:process 1, :type :invoke, :f :acquire, :value nil}\n\
+            {:process 0, :type :invoke, :f :release, :value nil}\n\
+            {:process 0, :type :ok, :f :release, :value nil}\n\
+            {:process 1, :type :ok, :f :acquire, :value nil}",
+        certificates: "{:object 0, :order [0 3 2]}",
+        status: 0,
+        output: "yes: 3 operations, 1 objects\nmutex: 1 objects, 3 operations\n",
+    },
+    Row {
+        name: "a mutex held twice",
+        history: "{:process 0, :type :invoke, :f :acquire, :value nil}\n\
+            {:process 0, :type :ok, :f :acquire, :value nil}\n\
+            {:process 1, :type :invoke, :f :acquire, :value nil}\n\
+            {:process 0, :type :invoke, :f :release, :value nil}\n\
+            {:process 0, :type :ok, :f :release, :value nil}\n\
+            {:process 1, :type :ok, :f :acquire, :value nil}",
+        certificates: "{:object 0, :order [0 2 3]}",
+        status: 1,
+        output: "no: C9 object 0: 2 is not possible\n",
+    },
+    Row {
+        name: "a mutex released alone",
+        history: "{:process 0, :type :invoke, :f :release}\n\
+            {:process 0, :type :ok, :f :release}",
+        certificates: "{:object 0, :order [0]}",
+        status: 1,
+        output: "no: C9 object 0: 0 is not possible\n",
     },
 ];
