@@ -189,87 +189,88 @@ fn valid_orders(rt: HostRuntime) -> Result<(), Fail> {
     Ok(())
 }
 
+/// Histories and orders, each with the first fault.
+const FAULTS: [(&str, &[i64], OrderFault); 24] = [
+    (FAILED, &[0], OrderFault::UnknownOperation { op: 0 }),
+    (
+        BEHIND_OTHERS,
+        &[0, 2],
+        OrderFault::UnknownOperation { op: 0 },
+    ),
+    (IN_TURN, &[0, 1, 2], OrderFault::UnknownOperation { op: 1 }),
+    (IN_TURN, &[0, -1], OrderFault::UnknownOperation { op: -1 }),
+    (
+        IN_TURN,
+        &[4_294_967_296],
+        OrderFault::UnknownOperation { op: 4_294_967_296 },
+    ),
+    (IN_TURN, &[0, 0, 2], OrderFault::Repeated { op: 0 }),
+    (PENDING, &[0, 0, 1], OrderFault::Repeated { op: 0 }),
+    (ONE_BY_ONE, &[2, 0, 4], OrderFault::TooLate { op: 0, by: 2 }),
+    (
+        ONE_BY_ONE,
+        &[4, 2, 0],
+        OrderFault::WrongReply {
+            op: 4,
+            gives: AnyReply::Value(None),
+        },
+    ),
+    // The greatest invocation does not stand at the entry before.
+    (SPANNED, &[3, 0, 1], OrderFault::TooLate { op: 1, by: 3 }),
+    (SPANNED, &[0, 3, 1], OrderFault::TooLate { op: 1, by: 3 }),
+    (RELEASED_FIRST, &[0], OrderFault::NotPossible { op: 0 }),
+    (MUTEX, &[0, 2, 3], OrderFault::NotPossible { op: 2 }),
+    (SECOND_WAITS, &[0, 2], OrderFault::NotPossible { op: 2 }),
+    (
+        AT_ONCE,
+        &[0, 1, 4],
+        OrderFault::WrongReply {
+            op: 4,
+            gives: AnyReply::Value(Some(1)),
+        },
+    ),
+    (
+        ONE_BY_ONE,
+        &[0, 2, 4],
+        OrderFault::WrongReply {
+            op: 4,
+            gives: AnyReply::Value(Some(1)),
+        },
+    ),
+    (
+        PENDING,
+        &[1],
+        OrderFault::WrongReply {
+            op: 1,
+            gives: AnyReply::Value(None),
+        },
+    ),
+    (
+        HEAP,
+        &[0, 2, 6],
+        OrderFault::WrongReply {
+            op: 6,
+            gives: AnyReply::Value(Some(5)),
+        },
+    ),
+    (
+        REGISTER,
+        &[4],
+        OrderFault::WrongReply {
+            op: 4,
+            gives: AnyReply::NotSwapped,
+        },
+    ),
+    (IN_TURN, &[0], OrderFault::Omitted { op: 2 }),
+    (IN_TURN, &[], OrderFault::Omitted { op: 0 }),
+    (PENDING, &[], OrderFault::Omitted { op: 1 }),
+    (HEAP, &[0, 2, 4, 6, 8], OrderFault::Omitted { op: 10 }),
+    (MUTEX, &[0, 3], OrderFault::Omitted { op: 2 }),
+];
+
 #[test]
 fn first_faults(rt: HostRuntime) -> Result<(), Fail> {
-    let value = AnyReply::Value;
-    let rows: [(&str, &[i64], OrderFault); 24] = [
-        (FAILED, &[0], OrderFault::UnknownOperation { op: 0 }),
-        (
-            BEHIND_OTHERS,
-            &[0, 2],
-            OrderFault::UnknownOperation { op: 0 },
-        ),
-        (IN_TURN, &[0, 1, 2], OrderFault::UnknownOperation { op: 1 }),
-        (IN_TURN, &[0, -1], OrderFault::UnknownOperation { op: -1 }),
-        (
-            IN_TURN,
-            &[4_294_967_296],
-            OrderFault::UnknownOperation { op: 4_294_967_296 },
-        ),
-        (IN_TURN, &[0, 0, 2], OrderFault::Repeated { op: 0 }),
-        (PENDING, &[0, 0, 1], OrderFault::Repeated { op: 0 }),
-        (ONE_BY_ONE, &[2, 0, 4], OrderFault::TooLate { op: 0, by: 2 }),
-        (
-            ONE_BY_ONE,
-            &[4, 2, 0],
-            OrderFault::WrongReply {
-                op: 4,
-                gives: value(None),
-            },
-        ),
-        // The greatest invocation does not stand at the entry before.
-        (SPANNED, &[3, 0, 1], OrderFault::TooLate { op: 1, by: 3 }),
-        (SPANNED, &[0, 3, 1], OrderFault::TooLate { op: 1, by: 3 }),
-        (RELEASED_FIRST, &[0], OrderFault::NotPossible { op: 0 }),
-        (MUTEX, &[0, 2, 3], OrderFault::NotPossible { op: 2 }),
-        (SECOND_WAITS, &[0, 2], OrderFault::NotPossible { op: 2 }),
-        (
-            AT_ONCE,
-            &[0, 1, 4],
-            OrderFault::WrongReply {
-                op: 4,
-                gives: value(Some(1)),
-            },
-        ),
-        (
-            ONE_BY_ONE,
-            &[0, 2, 4],
-            OrderFault::WrongReply {
-                op: 4,
-                gives: value(Some(1)),
-            },
-        ),
-        (
-            PENDING,
-            &[1],
-            OrderFault::WrongReply {
-                op: 1,
-                gives: value(None),
-            },
-        ),
-        (
-            HEAP,
-            &[0, 2, 6],
-            OrderFault::WrongReply {
-                op: 6,
-                gives: value(Some(5)),
-            },
-        ),
-        (
-            REGISTER,
-            &[4],
-            OrderFault::WrongReply {
-                op: 4,
-                gives: AnyReply::NotSwapped,
-            },
-        ),
-        (IN_TURN, &[0], OrderFault::Omitted { op: 2 }),
-        (IN_TURN, &[], OrderFault::Omitted { op: 0 }),
-        (PENDING, &[], OrderFault::Omitted { op: 1 }),
-        (HEAP, &[0, 2, 4, 6, 8], OrderFault::Omitted { op: 10 }),
-        (MUTEX, &[0, 3], OrderFault::Omitted { op: 2 }),
-    ];
-    for (history, order, fault) in rows {
+    for (history, order, fault) in FAULTS {
         let answers = answers(rt.alloc(), history, order)?;
         let refused = Err(Refusal::BadOrder { object: 0, fault });
         assert_eq!(rt;
