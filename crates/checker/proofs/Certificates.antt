@@ -23,14 +23,6 @@ use Rattle.checker.specs.Faults.{IsFirstFault}
 use Rattle.checker.specs.Refusals.{RefusesOrder, HasCertificate, AreValid, IsRefusalAt, IsLeastRefusal, IsLeastStrange, IsFirstRefusal}
 use Rattle.checker.specs.Checking.{IsPlace, ArePlaces, IsFine, IsRefusedNext}
 
-pub apart_keys : (k q : ℕ) → q ≢ k → is_eq (nat_cmp k q) ≡ false
-apart_keys k q ne = go (nat_cmp k q) (ranked k q _ refl)
-  where
-    go : (r : Ordering) → MatchOrdering r (k < q) (k ≡ q) (q < k) → is_eq r ≡ false
-    go Less h = refl
-    go Equal h = absurd (ne (sym h))
-    go Greater h = refl
-
 apart_or_same : (x y : ℕ) → (x ≡ y) ⊎ (x ≢ y)
 apart_or_same x y = elim (cases_order x y) [
   | inl e ↦ inl e

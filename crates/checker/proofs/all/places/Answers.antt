@@ -1,5 +1,6 @@
 use Rattle.std.proofs.Common.{get_or, ap}
-use Rattle.checker.proofs.Certificates.{apart_keys, one_placed, all_placed}
+use Rattle.events.proofs.Gathering.{apart_keys}
+use Rattle.checker.proofs.Certificates.{one_placed, all_placed}
 use Rattle.checker.proofs.all.places.Goals as goal
 
 pub loop-k-preserved : goal.loop-k-preserved
