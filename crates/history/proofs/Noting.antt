@@ -134,11 +134,3 @@ seen_skip seen ds d h none =
       kinds = λ x. subst (λ cs. IsKindOf (get nat_cmp seen.kinds x) cs x) whole (h.kinds x);
       closed = λ p. subst (λ cs. IsClosed cs p → (o : ClientMap) × (last_map p cs ≡ Some o) × (o.type ≡ info)) whole (h.closed p);
     }
-
-pub apart_keys : (k q : ℕ) → q ≢ k → is_eq (nat_cmp k q) ≡ false
-apart_keys k q ne = go (nat_cmp k q) (ranked k q _ refl)
-  where
-    go : (r : Ordering) → MatchOrdering r (k < q) (k ≡ q) (q < k) → is_eq r ≡ false
-    go Less h = refl
-    go Equal h = absurd (ne (sym h))
-    go Greater h = refl
