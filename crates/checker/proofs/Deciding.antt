@@ -10,8 +10,8 @@ use Rattle.model.specs.Orders.{Call, Return, ReturnsBefore, RepliesAlong, IsVali
 use Rattle.model.proofs.Lists.{In, Pairs, in_from_contains, contains_from_in, all_from_in, all_from_pairs}
 use Rattle.checker.specs.declared.refusal.OrderFault.{OrderFault}
 use Rattle.checker.specs.declared.refusal.OrderFault.TheVariants.{UnknownOperation, Repeated, TooLate, NotPossible, WrongReply, Omitted}
-use Rattle.checker.specs.Faults.{call_named, content_after, IsGreatest, content_at, IsFaultAt, rank, IsFirstAtPlace}
-use Rattle.checker.proofs.Walking.{named, InOrder, ReplyIs, IsStep, Along, SoFar, found_number, found_known, along_content, none_before}
+use Rattle.checker.specs.Faults.{call_named, IsGreatest, IsFaultAt, rank, IsFirstAtPlace}
+use Rattle.checker.proofs.Walking.{named, InOrder, ReplyIs, Along, SoFar, found_number, found_known, along_content, none_before}
 
 -- the calls that an order names
 in_named : (calls : List Call) (o : List ℤ) (c : Call) → In c (named calls o) → (z : ℤ) × In z o × (call_named calls z ≡ Some c)

@@ -1,5 +1,5 @@
 -- The answers of the walk, from what it knows.
-use Rattle.std.proofs.Common.{◌≡◌, ◌≢◌, ℕ, ℤ, pos, ◌+◌, ◌<◌, ◌≤◌, ◌↔◌, max, Bool, true, false, inl, inr, List, [], ◌∷◌, ◌++◌, length, take, set, Option, Some, None, IsSome, is_some, AllPairs, Contains, IsTrue, slice_get, get_or, Result, Ok, Err, IfErr, refl, ap, sym, ◌∙◌, subst, arith}
+use Rattle.std.proofs.Common.{◌≡◌, ℕ, ℤ, pos, ◌+◌, ◌<◌, ◌≤◌, ◌↔◌, max, Bool, true, false, inl, inr, List, [], ◌∷◌, ◌++◌, length, take, set, Option, Some, None, IsSome, is_some, AllPairs, Contains, IsTrue, slice_get, get_or, Result, Err, IfErr, refl, ap, sym, ◌∙◌, subst, arith}
 use Rattle.std.specs.Option.{option_map_or}
 use Rattle.std.proofs.lemmas.Int.{ints}
 use Rattle.std.proofs.lemmas.Option.{same_Some}
@@ -9,7 +9,7 @@ use Rattle.model.specs.declared.Kind.{Kind}
 use Rattle.model.specs.declared.AnyOp.{AnyOp}
 use Rattle.model.specs.declared.AnyReply.{AnyReply}
 use Rattle.model.specs.Objects.{Content, kind_with, next}
-use Rattle.model.specs.Orders.{Call, Return, IsValidOrder}
+use Rattle.model.specs.Orders.{Call, IsValidOrder}
 use Rattle.model.proofs.Lists.{In, in_from_contains, contains_from_in, all_from_in}
 use Rattle.events.specs.declared.operations.End.{End}
 use Rattle.events.specs.declared.operations.End.TheVariants.{Returned, Pending, Failed}
@@ -21,10 +21,10 @@ use Rattle.checker.specs.Refusals.{RefusesOrder}
 use Rattle.checker.specs.declared.refusal.OrderFault.{OrderFault}
 use Rattle.checker.specs.declared.refusal.OrderFault.TheVariants.{Repeated, TooLate, NotPossible, WrongReply}
 use Rattle.checker.specs.Ends.{IsLate, IsEarly, Differs, Agrees, AreMarked, IsFirstUnmarked}
-use Rattle.checker.specs.Faults.{call_named, IsGreatest, IsFirstFault, IsFirstAtPlace, IsLeastOmitted}
+use Rattle.checker.specs.Faults.{IsGreatest, IsFirstFault, IsFirstAtPlace, IsLeastOmitted}
 use Rattle.checker.proofs.Walking.{IsStep, found_number, found_known, no_fault}
 use Rattle.checker.proofs.Deciding.{Reaches, IsInTime, valid_from, repeated_first, late_first, impossible_first, wrong_first}
-use Rattle.checker.proofs.Steps.{Walk, AtHand, away, number_at, walk_more, stands_true, stands_false, call_parts, call_at_place, place_of_call, one_call, all_early, numbers_apart}
+use Rattle.checker.proofs.Steps.{Walk, AtHand, away, number_at, walk_more, stands_true, stands_false, call_parts, call_at_place, place_of_call, one_call, all_early}
 
 -- a refusal that names the first fault
 pub refused_by : (n : ℕ) (kind : Kind) (calls : List Call) (order : List ℤ) (fault : OrderFault) (r : Result (Unit {0}) Refusal) → r ≡ Err (BadOrder n fault) → IsFirstFault kind calls order fault → IfErr r (RefusesOrder n kind calls order)

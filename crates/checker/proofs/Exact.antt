@@ -1,17 +1,17 @@
 -- A valid order has no fault.
-use Rattle.std.proofs.Common.{◌≡◌, ◌≢◌, ℤ, pos, ◌<◌, ◌==◌, cond, inl, inr, List, [], ◌∷◌, map, Option, Some, None, IfSome, IsSome, AllPairs, Contains, refl, ap, sym, ◌∙◌, subst, arith}
+use Rattle.std.proofs.Common.{◌≡◌, ◌≢◌, ℤ, pos, ◌<◌, ◌==◌, cond, inl, inr, List, [], ◌∷◌, map, Option, Some, None, IfSome, IsSome, Contains, refl, ap, sym, ◌∙◌, subst, arith}
 use Rattle.std.specs.List.{find}
 use Rattle.std.proofs.lemmas.Bool.{eq-eqb, ne_eqb}
 use Rattle.std.proofs.lemmas.Option.{same_Some}
 use Rattle.model.specs.declared.Kind.{Kind}
 use Rattle.model.specs.declared.AnyReply.{AnyReply}
-use Rattle.model.specs.Objects.{Content, empty, next}
+use Rattle.model.specs.Objects.{Content, empty}
 use Rattle.model.specs.Orders.{Call, Return, ReturnsBefore, RepliesAlong, IsValidOrder}
 use Rattle.model.proofs.Lists.{In, Pairs, in_map, in_map_from, in_from_contains, contains_from_in, all_at, pairs_from_all}
 use Rattle.checker.specs.declared.refusal.OrderFault.{OrderFault}
 use Rattle.checker.specs.declared.refusal.OrderFault.TheVariants.{UnknownOperation, Repeated, TooLate, NotPossible, WrongReply, Omitted}
 use Rattle.checker.specs.Faults.{call_named, IsFirstFault}
-use Rattle.checker.proofs.Walking.{SoFar, InOrder, ReplyIs, IsStep, Along, no_fault}
+use Rattle.checker.proofs.Walking.{SoFar, InOrder, ReplyIs, Along, no_fault}
 
 -- the calls in the order of their numbers
 abbrev pub Rising : List Call → Type 0

@@ -1,5 +1,5 @@
 -- Operations as calls, what the walk knows after some entries, and one entry more.
-use Rattle.std.proofs.Common.{◌≡◌, ◌≢◌, ℕ, ℤ, pos, negsuc, ◌≤ℤ◌, zero, suc, ◌<◌, ◌≤◌, ◌==◌, ◌||◌, max, Bool, true, false, ◌⊎◌, inl, inr, List, [], ◌∷◌, ◌++◌, length, set, replicate, Option, Some, None, All, AllPairs, get_or, refl, ap, sym, ◌∙◌, subst, arith}
+use Rattle.std.proofs.Common.{◌≡◌, ◌≢◌, ℕ, ℤ, pos, negsuc, ◌≤ℤ◌, zero, suc, ◌<◌, ◌≤◌, ◌==◌, ◌||◌, max, Bool, true, false, ◌⊎◌, inl, inr, List, [], ◌∷◌, ◌++◌, length, set, replicate, Option, Some, None, AllPairs, get_or, refl, ap, sym, ◌∙◌, subst, arith}
 use Rattle.std.proofs.lemmas.Int.{ints}
 use Rattle.std.specs.Option.{option_map_or}
 use Rattle.std.specs.List.{list_any, cons_option}
@@ -8,7 +8,6 @@ use Rattle.std.proofs.lemmas.List.{length-set, get_or-set_same, get_or-set_other
 use Rattle.std.proofs.lemmas.Bool.{eqb-true, ne_eqb, eq-eqb, or_cases, or_left, or_right, cases_eq, cases_order}
 use Rattle.model.specs.declared.Kind.{Kind}
 use Rattle.model.specs.declared.Kind.TheVariants.{Queue, Stack, Heap, Register, Map, Mutex}
-use Rattle.model.specs.declared.AnyOp.{AnyOp}
 use Rattle.model.specs.Objects.{Content, empty, kind_with}
 use Rattle.model.specs.Orders.{Call, Return}
 use Rattle.model.proofs.Lists.{In, in_append, in_from_contains, contains_from_in, all_from_in, all_at}
@@ -17,7 +16,7 @@ use Rattle.events.specs.declared.operations.End.TheVariants.{Returned, Pending, 
 use Rattle.events.specs.declared.operations.Invocation.{Invocation}
 use Rattle.events.specs.Operations.{call_with, call_of, calls_of, return_of}
 use Rattle.checker.specs.Faults.{call_named, IsGreatest}
-use Rattle.checker.specs.Ends.{IsEarly, Agrees}
+use Rattle.checker.specs.Ends.{IsEarly}
 use Rattle.checker.proofs.Walking.{IsStep, SoFar, found_number, more}
 
 or_false : (b : Bool) → (b || false) ≡ (false || b)

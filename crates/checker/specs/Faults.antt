@@ -1,7 +1,6 @@
 -- What can be wrong with an order of an object's operations, and which fault is the first.
-use Rattle.std.specs.Prelude.{◌≡◌, ◌≢◌, ℕ, ℤ, pos, negsuc, ◌≤ℤ◌, ◌==◌, ◌<◌, ◌≤◌, ⊤, List, [], ◌∷◌, Option, Some, None, IsSome, All, Contains, slice_get, take, find, option_map, option_and_then}
+use Rattle.std.specs.Prelude.{◌≡◌, ◌≢◌, ℕ, ℤ, pos, negsuc, ◌≤ℤ◌, ◌==◌, ◌<◌, ◌≤◌, List, [], ◌∷◌, Option, Some, None, IsSome, All, Contains, slice_get, take, find, option_map, option_and_then}
 use Rattle.model.specs.declared.Kind.{Kind}
-use Rattle.model.specs.declared.AnyReply.{AnyReply}
 use Rattle.model.specs.Objects.{Content, empty, next}
 use Rattle.model.specs.Orders.{Call, Return}
 use Rattle.checker.specs.declared.refusal.OrderFault.{OrderFault}

@@ -10,6 +10,7 @@ ghost use Rattle.model.specs.Orders.{IsValidOrder};
 ghost use Rattle.events.specs.declared.operations.Invocation.{Invocation};
 ghost use Rattle.events.specs.Operations.{calls_of, return_of};
 ghost use Rattle.checker.specs.Ends.{IsLate, IsEarly, Differs, Agrees, AreMarked, IsFirstUnmarked};
+ghost use Rattle.checker.specs.Faults.{IsFirstFault};
 ghost use Rattle.checker.specs.Refusals.{RefusesOrder};
 
 use crate::place::place_of;
@@ -83,8 +84,8 @@ fn refused(object: u32, fault: OrderFault) -> Result<(), Refusal>
     Err(Refusal::BadOrder { object, fault })
 }
 
-/// Checks an order of the operations of the object with this number, from an object of its kind that is empty.
-pub fn check_order<S: SeqObject<Op = AnyOp, Reply = AnyReply>>(
+/// Checks the entries of an order one by one, from an empty object, and what the order leaves out.
+fn check_entries<S: SeqObject<Op = AnyOp, Reply = AnyReply>>(
     alloc: Global,
     number: u32,
     kind: Kind,
@@ -132,4 +133,28 @@ pub fn check_order<S: SeqObject<Op = AnyOp, Reply = AnyReply>>(
         Some(op) => refused(number, OrderFault::Omitted { op }),
         None => Ok(()),
     }
+}
+
+/// Checks an order of the operations of the object with this number, from an object of its kind that is empty. `Ok`
+/// exactly where the order is valid, and else the first fault, but for want of memory.
+pub fn check_order<S: SeqObject<Op = AnyOp, Reply = AnyReply>>(
+    alloc: Global,
+    number: u32,
+    kind: Kind,
+    object: S,
+    ops: &[Invocation],
+    order: &[i64],
+) -> Result<(), Refusal>
+    requires empty { S.content object ≡ empty kind }
+    requires own_ops { (op : AnyOp) → S.op_in op ≡ op }
+    requires own_replies { (r : AnyReply) → S.reply_in r ≡ r }
+    requires rising { AllPairs (λ a b. a.number < b.number) ops.now }
+    requires of_kind { All (λ o. kind_of o.op ≡ kind) ops.now }
+    ensures valid { OnOk result (IsValidOrder kind (calls_of ops.now) order.now) }
+    ensures refused { IfErr result (RefusesOrder number kind (calls_of ops.now) order.now) }
+    ensures faultless { OnOk result ((fault : OrderFault) → IsFirstFault kind (calls_of ops.now) order.now fault → ⊥) }
+    // An order that is refused, but for want of memory, is not valid.
+    ensures exact { IsValidOrder kind (calls_of ops.now) order.now → IfErr result (λ e. e ≡ Refusal.NoMemory) }
+{
+    check_entries(alloc, number, kind, object, ops, order)
 }

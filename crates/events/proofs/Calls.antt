@@ -1,19 +1,14 @@
 -- The operations of an object among proper events are its calls in what these denote.
-use Rattle.std.proofs.Common.{◌≡◌, ◌≢◌, ℕ, ◌==◌, ◌<◌, ◌&&◌, Bool, true, false, cond, ◌⊎◌, inl, inr, List, [], ◌∷◌, ◌++◌, map, filter, Option, Some, None, refl, ap, sym, ◌∙◌, subst, arith}
-use Rattle.std.specs.List.{cons_option, filter_map}
+use Rattle.std.proofs.Common.{◌≡◌, ℕ, ◌==◌, ◌&&◌, Bool, true, false, cond, List, [], ◌∷◌, ◌++◌, map, filter, Option, Some, None, refl, ap, sym, ◌∙◌, subst}
+use Rattle.std.specs.List.{cons_option}
 use Rattle.std.specs.Option.{option_or}
 use Rattle.std.proofs.lemmas.Bool.{eqb-true, eqb-false, eq-eqb, ne_eqb}
-use Rattle.std.proofs.lemmas.List.Elements.{filter-append, filter_map-append}
+use Rattle.std.proofs.lemmas.List.Elements.{filter_map-append}
 use Rattle.model.specs.declared.AnyOp.{AnyOp}
-use Rattle.model.specs.declared.AnyReply.{AnyReply}
-use Rattle.model.specs.Histories.{Inv, Res}
 use Rattle.model.specs.Orders.{Numbered, Return, Call, ProcessCall, response_of, calls_in, calls_on}
 use Rattle.events.specs.declared.event.Action.{Action}
 use Rattle.events.specs.declared.event.Action.TheVariants.{Invoke, Ok, Fail, Info}
 use Rattle.events.specs.declared.event.Event.{Event}
-use Rattle.events.specs.declared.operations.End.{End}
-use Rattle.events.specs.declared.operations.End.TheVariants.{Returned, Pending, Failed}
-use Rattle.events.specs.declared.operations.Invocation.{Invocation}
 use Rattle.events.specs.Events.{next_event, is_fail, fails, denoted_by, denoted, IsProper}
 use Rattle.events.specs.Operations.{end_by, end_at, begun, operations_on, return_of, call_with, call_of, calls_of}
 use Rattle.events.proofs.Runs.{State, idle, busy, closed, state_by, MayDo, Runs, runs_from_start}

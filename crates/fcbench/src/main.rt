@@ -7,6 +7,13 @@ use std::io;
 use std::io::Read;
 use std::process::ExitCode;
 use std::rt::{Env, Files};
+use std::sync::Wait;
+use std::thread::Threads;
+
+/// What a command uses of the host.
+trait Host: Files + AllocGlobal + Print + Eprint + Threads + Wait + Sync {}
+
+impl<R: Files + AllocGlobal + Print + Eprint + Threads + Wait + Sync> Host for R {}
 
 /// One byte more than the longest text that is judged.
 const READ_LIMIT: u64 = 268_435_457;
@@ -40,9 +47,14 @@ fn unread<R: Print + Eprint>(rt: &R, name: &str, error: &io::Error) -> io::Resul
     Ok(FAILED)
 }
 
-/// Reads the files of a command, and does it.
-fn run_line<R: Files + AllocGlobal + Print + Eprint>(rt: &R, line: &Line) -> io::Result<u8> {
-    let Line::Check { history, certs } = line;
+/// Does the command on the bytes of its files.
+fn do_line<R: Host>(rt: &R, line: &Line, first: &[u8], second: &[u8]) -> u8 {
+    let mut output = Out::new(io::writer(rt));
+    perform(rt, rt.alloc(), line, first, second, &mut output)
+}
+
+/// Reads the files of a check, and does it.
+fn run_check<R: Host>(rt: &R, line: &Line, history: &str, certs: &str) -> io::Result<u8> {
     let first = match bytes_of(rt, history) {
         Ok(bytes) => bytes,
         Err(error) => return unread(rt, history, &error),
@@ -51,11 +63,17 @@ fn run_line<R: Files + AllocGlobal + Print + Eprint>(rt: &R, line: &Line) -> io:
         Ok(bytes) => bytes,
         Err(error) => return unread(rt, certs, &error),
     };
-    let mut output = Out::new(io::writer(rt));
-    Ok(perform(rt.alloc(), line, &first, &second, &mut output))
+    Ok(do_line(rt, line, &first, &second))
 }
 
-fn run_words<R: Files + AllocGlobal + Print + Eprint>(rt: &R, words: &[String]) -> io::Result<u8> {
+fn run_line<R: Host>(rt: &R, line: &Line) -> io::Result<u8> {
+    match line {
+        Line::Check { history, certs } => run_check(rt, line, history, certs),
+        Line::Run => Ok(do_line(rt, line, b"", b"")),
+    }
+}
+
+fn run_words<R: Host>(rt: &R, words: &[String]) -> io::Result<u8> {
     match line(rt.alloc(), words) {
         Ok(line) => run_line(rt, &line),
         Err(LineFault::Help(text)) => {
@@ -75,7 +93,7 @@ fn words_of<R: AllocGlobal + Env>(rt: &R) -> io::Result<Vec<String>> {
     Ok(std::env::args(rt)?.collect(rt.alloc())?)
 }
 
-fn run<R: Files + AllocGlobal + Print + Eprint + Env>(rt: &R) -> io::Result<u8> {
+fn run<R: Host + Env>(rt: &R) -> io::Result<u8> {
     match words_of(rt) {
         Ok(words) => run_words(rt, &words),
         Err(error) if error.kind() == io::ErrorKind::OutOfMemory => no_memory(rt),

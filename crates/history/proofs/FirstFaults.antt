@@ -1,6 +1,5 @@
 -- Which fault of one more map is the first, by what is kept of those so far.
-use Rattle.std.proofs.Common.{◌≡◌, ◌≢◌, ℕ, ◌<◌, ◌≤◌, ◌⊎◌, inl, inr, List, [], ◌∷◌, ◌++◌, length, option_map, Option, Some, None, Contains, Bool, true, false, cond, find, reverse, ◌==◌, refl, ap, sym, ◌∙◌, subst, arith}
-use Rattle.std.specs.Prelude.{option_and_then}
+use Rattle.std.proofs.Common.{◌≡◌, ◌≢◌, ℕ, ◌<◌, ◌≤◌, ◌⊎◌, inl, inr, List, [], ◌∷◌, length, option_map, Option, Some, None, Contains, Bool, true, false, cond, find, reverse, ◌==◌, refl, ap, sym, ◌∙◌, subst, arith}
 use Rattle.std.proofs.lemmas.Option.{same_Some}
 use Rattle.std.proofs.lemmas.Bool.{cases_order, eqb-true}
 use Rattle.std.proofs.lemmas.List.{reverse-append}
@@ -18,9 +17,9 @@ use Rattle.history.specs.declared.seen.Process.TheVariants as doing
 use Rattle.history.specs.declared.fault.HistoryFaultKind.{HistoryFaultKind}
 use Rattle.history.specs.declared.fault.HistoryFaultKind.TheVariants.{NotAnOperation, UnknownFunction, BadValue, MixedKinds, Busy, Stray, Mismatch, AfterInfo, TooMany, NoMemory}
 use Rattle.history.specs.Maps.{ClientMap, MapType, invoke, ok, fail, info, clients, op_in, reply_in}
-use Rattle.history.specs.Faults.{last_map, IsOutstanding, IsClosed, HasBadValue, IsOfOtherKind, Differs, max_maps, number_of}
+use Rattle.history.specs.Faults.{last_map, IsOutstanding, IsClosed, HasBadValue, Differs, max_maps, number_of}
 use Rattle.history.specs.Denotes.{action_of}
-use Rattle.history.specs.Seen.{IsDoing, IsKept, IsOneOfKind, IsKindOf, FaultOf, IsFirstOf, HasNone, idle_fault, IsMismatch, IsBusyFault, IsProcessFault, IsOther, IsNoOther}
+use Rattle.history.specs.Seen.{IsKept, IsKindOf, FaultOf, IsFirstOf, HasNone, idle_fault, IsBusyFault, IsProcessFault, IsOther, IsNoOther}
 
 -- what is known of a map that passed so many tests
 pub record PassesShape (m : ClientMap) (f : Function) (a : Action) : Type 0 where

@@ -1,14 +1,13 @@
 -- The events of forms without a fault are proper.
-use Rattle.std.proofs.Common.{◌≡◌, ◌≢◌, ℕ, ◌+◌, ◌<◌, ◌≤◌, ◌==◌, ◌⊎◌, inl, inr, Bool, true, false, cond, List, [], ◌∷◌, ◌++◌, length, find, reverse, Option, Some, None, option_map, Contains, AllPairs, refl, ap, sym, ◌∙◌, subst, append_assoc, arith}
+use Rattle.std.proofs.Common.{◌≡◌, ◌≢◌, ℕ, ◌+◌, ◌<◌, ◌≤◌, ◌==◌, inl, inr, Bool, true, false, cond, List, [], ◌∷◌, ◌++◌, find, reverse, Option, Some, None, option_map, refl, ap, sym, ◌∙◌, subst, arith}
 use Rattle.std.specs.Prelude.{option_and_then}
 use Rattle.std.specs.Option.{option_or}
 use Rattle.std.specs.List.{cons_option}
 use Rattle.std.proofs.lemmas.Option.{same_Some}
 use Rattle.std.proofs.lemmas.Bool.{cases_eq}
-use Rattle.std.proofs.lemmas.List.{reverse-append, append-nil}
+use Rattle.std.proofs.lemmas.List.{reverse-append}
 use Rattle.std.proofs.lemmas.List.Folds.{find-append}
 use Rattle.model.proofs.Lists.{In, Pairs, in_append, in_from_contains, contains_from_in, all_from_pairs}
-use Rattle.model.specs.declared.Kind.{Kind}
 use Rattle.model.specs.declared.AnyOp.{AnyOp}
 use Rattle.model.specs.declared.AnyReply.{AnyReply}
 use Rattle.model.specs.Objects.{kind_of}
@@ -20,7 +19,7 @@ use Rattle.seq_objects.specs.Values.{op_with, reply_with, function_in, reply_val
 use Rattle.events.specs.declared.event.Action.{Action}
 use Rattle.events.specs.declared.event.Action.TheVariants.{Invoke, Ok, Fail, Info}
 use Rattle.events.specs.declared.event.Event.{Event}
-use Rattle.events.specs.Events.{last_event, IsIdle, IsIdleAfter, IsOfKindAt, IsOutstanding, HasShape, Follows, IsProper}
+use Rattle.events.specs.Events.{last_event, IsIdle, IsIdleAfter, IsOfKindAt, IsOutstanding, Follows, IsProper}
 use Rattle.history.specs.declared.fault.HistoryFaultKind.{HistoryFaultKind}
 use Rattle.history.specs.declared.fault.HistoryFaultKind.TheVariants.{BadValue, UnknownFunction, MixedKinds, Busy, Stray, Mismatch, AfterInfo}
 use Rattle.history.specs.Maps.{ClientMap, MapType, invoke, ok, fail, info, client_of, clients, plain_value, op_in, reply_in}

@@ -1,6 +1,6 @@
 -- The forms read so far.
-use Rattle.std.proofs.Common.{◌≡◌, ◌≢◌, ℕ, ◌+◌, ◌<◌, ◌≤◌, ◌⊎◌, inl, inr, List, [], ◌∷◌, ◌++◌, length, take, drop, get_or, map, Option, Some, None, zero, suc, append_assoc, zero-add, refl, ap, sym, ◌∙◌, subst, arith}
-use Rattle.std.proofs.lemmas.List.{append-nil, take_more, drop_more, take_all}
+use Rattle.std.proofs.Common.{◌≡◌, ℕ, ◌+◌, ◌<◌, ◌≤◌, ◌⊎◌, inl, inr, List, [], ◌∷◌, ◌++◌, length, take, drop, get_or, map, zero, suc, append_assoc, zero-add, refl, ap, sym, ◌∙◌, subst, arith}
+use Rattle.std.proofs.lemmas.List.{append-nil, take_more, take_all}
 use Rattle.edn.specs.Datum.{Datum}
 use Rattle.edn.specs.View.{view, views}
 use Rattle.edn.specs.declared.form.Form.{Form}

@@ -1,4 +1,4 @@
--- The exit status of a verdict.
+-- The exit status of a verdict. A refusal for want of memory is never answered: `judge` says `NoMemory`.
 use Rattle.std.specs.Prelude.{ℕ}
 use Rattle.checker.specs.declared.refusal.Refusal.TheVariants as refusal
 use Rattle.report.specs.declared.verdict.Verdict.{Verdict}

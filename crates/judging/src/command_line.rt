@@ -1,5 +1,8 @@
 //! What a command line asks for.
 
+ghost use Rattle.std.specs.Prelude.{◌≡◌};
+ghost use Rattle.judging.specs.declared.command_line.LineFault.TheVariants.{NoMemory};
+
 use std::alloc::{AllocError, AllocFailed};
 use thiserror::Error as ErrorText;
 
@@ -8,6 +11,8 @@ use thiserror::Error as ErrorText;
 pub enum Line {
     /// To judge the history in one file by the certificates in another.
     Check { history: String, certs: String },
+    /// To run clients, and to judge what they did.
+    Run,
 }
 
 /// Why the words ask for nothing.
@@ -24,12 +29,16 @@ pub enum LineFault {
 }
 
 impl From<AllocError> for LineFault {
+    ghost from_gives = { λ _ e. e ≡ NoMemory };
+
     fn from(_e: AllocError) -> LineFault {
         LineFault::NoMemory
     }
 }
 
 impl<T: Drop> From<AllocFailed<T>> for LineFault {
+    ghost from_gives = { λ _ e. e ≡ NoMemory };
+
     fn from(_e: AllocFailed<T>) -> LineFault {
         LineFault::NoMemory
     }

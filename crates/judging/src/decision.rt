@@ -6,8 +6,8 @@ ghost use Rattle.model.specs.Orders.{events};
 ghost use Rattle.events.specs.Events.{kind_at, denoted};
 ghost use Rattle.certificate.specs.Denotes.{AreDistinct};
 ghost use Rattle.checker.specs.Refusals.{AreValid, IsFirstRefusal};
-ghost use Rattle.judging.specs.Texts.{AreValidTexts, IsLinearizableText, IsFirstRefusalText, IsFirstFault, verdict_of};
-ghost use Rattle.judging.specs.Verdicts.{OnYes, IfNo, IfMalformed};
+ghost use Rattle.judging.specs.Texts.{AreValidTexts, IsLinearizableText, IsFirstRefusalText, IsFirstFault, HasCounts, verdict_of};
+ghost use Rattle.judging.specs.Verdicts.{OnYes, IfYes, IfNo, IfMalformed, IsYesUnlessMemory};
 
 use crate::texts::{Stop, certificates_in, history_in};
 use certificate::Certificate;
@@ -43,7 +43,10 @@ fn check(alloc: Global, history: &History, certificates: &[Certificate]) -> Resu
 /// `workers`. Linearizability is that of Herlihy and Wing, TOPLAS 1990, section 2.
 pub fn judge(alloc: Global, history: &[u8], certificates: &[u8], workers: u32) -> Verdict
     ensures linearizable { OnYes result (IsLinearizableText history.now) }
+    ensures counts { IfYes result (HasCounts history.now) }
     ensures valid { OnYes result (AreValidTexts history.now certificates.now) }
+    // With `valid`: Yes is answered exactly where both texts denote and the certificates are valid, but for want of memory.
+    ensures accepts { AreValidTexts history.now certificates.now → IsYesUnlessMemory result }
     ensures refused { IfNo result (IsFirstRefusalText history.now certificates.now) }
     ensures malformed { IfMalformed result (IsFirstFault history.now certificates.now) }
 {

@@ -1,49 +1,68 @@
 //! What the program does.
 
-ghost use Rattle.std.specs.Prelude.{◌≡◌, ◌≢◌, false};
+ghost use Rattle.std.specs.Prelude.{◌≡◌, ◌≢◌, ◌++◌, ℕ, List, false, true};
 ghost use Rattle.std.specs.Io.KnownBytes.{Appends};
+ghost use Rattle.edn.specs.Sent.{SendsFront};
 ghost use Rattle.report.specs.Lines.{verdict_text};
 ghost use Rattle.report.specs.declared.verdict.Verdict.{Verdict};
 ghost use Rattle.judging.specs.Statuses as spec;
 ghost use Rattle.judging.specs.Texts.{IsLinearizableText};
+ghost use Rattle.judging.specs.Runs.{IsRunOutput};
 ghost use Rattle.judging.specs.Verdicts.{Holds};
+ghost use Rattle.judging.specs.Words.{IsCheck, IsRun};
 
 use crate::command_line::Line;
 use crate::decision::judge;
-use checker::Refusal;
+use crate::running::run;
+use crate::statuses::{FAILED, status_of};
 use edn::Sink;
-use report::{Verdict, write_verdict};
+use report::write_verdict;
 use std::alloc::Global;
+use std::sync::Wait;
+use std::thread::Threads;
 
-/// The exit status where the output failed or a file could not be read.
-pub const FAILED: u8 = 4;
-
-fn status_of(verdict: &Verdict) -> u8
-    ensures { result ≡ spec.status_of verdict.now }
+/// Judges the texts, and writes the verdict.
+fn check<S: Sink>(alloc: Global, first: &[u8], second: &[u8], sink: &mut S) -> u8
+    requires working { S.broken sink.old ≡ false }
+    ensures linearizable { result ≡ 0 → IsLinearizableText first.now }
+    ensures written { result ≢ FAILED → (v : Verdict) × Holds first.now second.now v × (result ≡ spec.status_of v) × Appends (S.sent sink.old) (S.sent sink.new) (verdict_text false v) }
+    ensures usable { result ≢ FAILED → S.broken sink.new ≡ false }
+    ensures failed { result ≡ FAILED → S.broken sink.new ≡ true }
+    ensures front { result ≡ FAILED → (v : Verdict) × Holds first.now second.now v × SendsFront (S.sent sink.old) (S.sent sink.new) (verdict_text false v) }
 {
-    match verdict {
-        Verdict::Yes(_) => 0,
-        Verdict::No(Refusal::NoMemory) | Verdict::NoMemory => 3,
-        Verdict::No(_) => 1,
-        Verdict::Malformed(_) => 2,
+    let verdict = judge(alloc, first, second, 1);
+    match write_verdict(&verdict, false, sink) {
+        Ok(()) => status_of(&verdict),
+        Err(_) => FAILED,
     }
 }
 
-/// Does the command on the bytes of its first and second file, writes its output, and gives the exit status: 0 for yes,
-/// 1 for no, 2 where a text is malformed, 3 where memory was refused, 4 where the output failed.
-pub fn perform<S: Sink>(alloc: Global, line: &Line, first: &[u8], second: &[u8], sink: &mut S) -> u8
+/// Does the command on the bytes of its first and second file (empty where it has none), writes its output, and gives
+/// the exit status: 0 for yes, 1 for no, 2 where a text is malformed, 3 where memory was refused or a thread could not
+/// be started, 4 where the output failed.
+pub fn perform<R: Threads + Wait + Sync, S: Sink>(
+    rt: &R,
+    alloc: Global,
+    line: &Line,
+    first: &[u8],
+    second: &[u8],
+    sink: &mut S,
+) -> u8
     requires working { S.broken sink.old ≡ false }
-    ensures linearizable { result ≡ 0 → IsLinearizableText first.now }
+    ensures linearizable { IsCheck line.now → result ≡ 0 → IsLinearizableText first.now }
     // Where the output did not fail, the lines of a verdict that holds are written, and the status is its own.
-    ensures written { result ≢ FAILED → (v : Verdict) × Holds first.now second.now v × (result ≡ spec.status_of v) × Appends (S.sent sink.old) (S.sent sink.new) (verdict_text false v) }
+    ensures written { IsCheck line.now → result ≢ FAILED → (v : Verdict) × Holds first.now second.now v × (result ≡ spec.status_of v) × Appends (S.sent sink.old) (S.sent sink.new) (verdict_text false v) }
+    ensures usable { result ≢ FAILED → S.broken sink.new ≡ false }
+    // Where it failed, a beginning of the lines was sent.
+    ensures failed { result ≡ FAILED → S.broken sink.new ≡ true }
+    ensures front { IsCheck line.now → result ≡ FAILED → (v : Verdict) × Holds first.now second.now v × SendsFront (S.sent sink.old) (S.sent sink.new) (verdict_text false v) }
+    // A run that ends with 0 has written a history that is linearizable, and comments behind it.
+    ensures run_linearizable { IsRun line.now → result ≡ 0 → (h c : List ℕ) × IsLinearizableText h × Appends (S.sent sink.old) (S.sent sink.new) (h ++ c) }
+    ensures run_written { IsRun line.now → result ≢ FAILED → (text : List ℕ) × IsRunOutput result text × Appends (S.sent sink.old) (S.sent sink.new) text }
+    ensures run_front { IsRun line.now → result ≡ FAILED → (status : ℕ) × (text : List ℕ) × IsRunOutput status text × SendsFront (S.sent sink.old) (S.sent sink.new) text }
 {
     match line {
-        Line::Check { .. } => {
-            let verdict = judge(alloc, first, second, 1);
-            match write_verdict(&verdict, false, sink) {
-                Ok(()) => status_of(&verdict),
-                Err(_) => FAILED,
-            }
-        }
+        Line::Check { .. } => check(alloc, first, second, sink),
+        Line::Run => run(rt, alloc, sink),
     }
 }

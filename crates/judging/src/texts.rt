@@ -1,13 +1,13 @@
 //! From texts to a history and to certificates.
 
-ghost use Rattle.std.specs.Prelude.{◌≡◌, ◌≢◌, List, IfOk, IfErr};
+ghost use Rattle.std.specs.Prelude.{◌≡◌, ◌≢◌, ◌≤◌, List, length, map, IfOk, IfErr};
 ghost use Rattle.events.specs.declared.event.Event.{Event};
 ghost use Rattle.certificate.specs.declared.Certificate.{Certificate};
-ghost use Rattle.certificate.specs.Denotes.{AreDistinct};
+ghost use Rattle.certificate.specs.Denotes.{AreDistinct, reading_of};
 ghost use Rattle.judging.specs.Texts.{DenotesHistory, DenotesCertificates, IsHistoryFault, IsCertificatesFault};
 
 use certificate::{CertFaultKind, Certificate, read_certificates};
-use edn::{FaultKind, read_forms};
+use edn::{FaultKind, MAX_LENGTH, read_forms};
 use history::{History, HistoryFaultKind, read_history};
 use report::Fault;
 use std::alloc::Global;
@@ -22,7 +22,10 @@ pub(crate) enum Stop {
 /// The history that the text denotes.
 pub(crate) fn history_in(alloc: Global, text: &[u8]) -> Result<History, Stop>
     ensures denotes { IfOk result (λ es. DenotesHistory text.now es) }
+    ensures only { IfOk result (λ es. (fs : List Event) → DenotesHistory text.now fs → fs ≡ es) }
+    ensures short { IfOk result (λ _. length text.now ≤ MAX_LENGTH) }
     ensures stop { IfErr result (IsHistoryFault text.now) }
+    ensures accepts { IfErr result (λ s. (es : List Event) → DenotesHistory text.now es → length text.now ≤ MAX_LENGTH → s ≡ Stop.NoMemory) }
 {
     let forms = match read_forms(alloc, text) {
         Ok(forms) => forms,
@@ -39,8 +42,11 @@ pub(crate) fn history_in(alloc: Global, text: &[u8]) -> Result<History, Stop>
 /// The certificates that the text denotes.
 pub(crate) fn certificates_in(alloc: Global, text: &[u8]) -> Result<Vec<Certificate>, Stop>
     ensures denotes { IfOk result (λ cs. DenotesCertificates text.now cs.items) }
+    ensures only { IfOk result (λ cs. (ds : List Certificate) → DenotesCertificates text.now ds → map reading_of ds ≡ map reading_of cs.items) }
     ensures distinct { IfOk result (λ cs. AreDistinct cs.items) }
+    ensures short { IfOk result (λ _. length text.now ≤ MAX_LENGTH) }
     ensures stop { IfErr result (IsCertificatesFault text.now) }
+    ensures accepts { IfErr result (λ s. (cs : List Certificate) → DenotesCertificates text.now cs → length text.now ≤ MAX_LENGTH → s ≡ Stop.NoMemory) }
 {
     let forms = match read_forms(alloc, text) {
         Ok(forms) => forms,

@@ -10,28 +10,32 @@ use Rattle.events.specs.declared.event.Action.{Action}
 use Rattle.events.specs.declared.event.Action.TheVariants.{Invoke, Ok, Fail, Info}
 use Rattle.events.specs.declared.event.Event.{Event}
 use Rattle.events.specs.Events.{IsNamed}
-use Rattle.report.specs.Counts.{Use, use_by, uses, with_new, objects_in}
+use Rattle.report.specs.Counts.{Use, use_by, uses, with_new, same_kind, place_of, objects_in, kinds_in}
 
 Contains-cons : {X : Type 0} → (x : X) (xs : List X) (y : X) → Contains xs y → Contains (x ∷ xs) y
 Contains-cons x xs y (k, lt, is) = (suc k, omega arith, is)
 
-any_none : (p : ℕ → Bool) (xs : List ℕ) (k d : ℕ) → list_any p xs ≡ false → k < length xs → p (get_or xs k d) ≡ false
+any_none : {X : Type 0} (p : X → Bool) (xs : List X) (k : ℕ) (d : X) → list_any p xs ≡ false → k < length xs → p (get_or xs k d) ≡ false
 any_none p [] k d h lt = absurd (omega arith)
 any_none p (x ∷ xs) zero d h lt = (or_parts (p x) (list_any p xs) h).0
 any_none p (x ∷ xs) (suc k) d h lt = any_none p xs k d (or_parts (p x) (list_any p xs) h).1 (omega arith)
 
--- ---- each once
+-- ---- each once, by a test that equal elements pass
 
-with_new_once : (seen : List ℕ) (x : ℕ) (b : Bool) → list_any (nat_eq x) seen ≡ b → AllPairs (λ a c. a ≢ c) seen → AllPairs (λ a c. a ≢ c) (cond b seen (seen ++ x ∷ []))
-with_new_once seen x true e h = h
-with_new_once seen x false e h = all_pairs_push (λ (a c : ℕ). a ≢ c) seen x h (λ k d lt same. both_ways (x == get_or seen k d) (any_none (nat_eq x) seen k d e lt) (eq-eqb x (get_or seen k d) (sym same)))
+module _ {X : Type 0} (same : X → X → Bool) (passes : (x y : X) → x ≡ y → same x y ≡ true) where
+  with_new_once : (seen : List X) (x : X) (b : Bool) → list_any (same x) seen ≡ b → AllPairs (λ a c. a ≢ c) seen → AllPairs (λ a c. a ≢ c) (cond b seen (seen ++ x ∷ []))
+  with_new_once seen x true e h = h
+  with_new_once seen x false e h = all_pairs_push (λ (a c : X). a ≢ c) seen x h (λ k d lt equal. both_ways (same x (get_or seen k d)) (any_none (same x) seen k d e lt) (passes x (get_or seen k d) (sym equal)))
 
-seen_once : (seen xs : List ℕ) → AllPairs (λ a c. a ≢ c) seen → AllPairs (λ a c. a ≢ c) (fold (with_new nat_eq) seen xs)
-seen_once seen [] h = h
-seen_once seen (x ∷ xs) h = seen_once (with_new nat_eq seen x) xs (with_new_once seen x (list_any (nat_eq x) seen) refl h)
+  seen_once : (seen xs : List X) → AllPairs (λ a c. a ≢ c) seen → AllPairs (λ a c. a ≢ c) (fold (with_new same) seen xs)
+  seen_once seen [] h = h
+  seen_once seen (x ∷ xs) h = seen_once (with_new same seen x) xs (with_new_once seen x (list_any (same x) seen) refl h)
 
 pub objects_once : (us : List Use) → AllPairs (λ a c. a ≢ c) (objects_in us)
-objects_once us = seen_once [] (map (λ (u : Use). u.object) us) (λ i j d lt below. absurd (omega arith))
+objects_once us = seen_once nat_eq eq-eqb [] (map (λ (u : Use). u.object) us) (λ i j d lt below. absurd (omega arith))
+
+pub kinds_once : (us : List Use) → AllPairs (λ k l. k ≢ l) (kinds_in us)
+kinds_once us = seen_once same_kind (λ k l e. eq-eqb (place_of k) (place_of l) (ap place_of e)) [] (map (λ (u : Use). u.kind) us) (λ i j d lt below. absurd (omega arith))
 
 -- ---- those of the list
 

@@ -2,6 +2,7 @@
 use Rattle.std.specs.Prelude.{ℕ, Bool, true, false, List, [], ◌∷◌, ◌++◌, codes, decimal}
 use Rattle.std.specs.Fmt.{signed_decimal}
 use Rattle.edn.specs.Faults.{text_of_kind}
+use Rattle.history.specs.Faults.{number_of}
 use Rattle.history.specs.declared.fault.HistoryFaultKind.{HistoryFaultKind}
 use Rattle.history.specs.declared.fault.HistoryFaultKind.TheVariants as history
 use Rattle.certificate.specs.declared.fault.CertFaultKind.{CertFaultKind}
@@ -68,19 +69,6 @@ refusal_line refusal.NoMemory = no_memory_line
 
 -- ---- malformed
 
--- the number behind the letter H
-abbrev pub history_number : HistoryFaultKind → ℕ
-history_number history.NotAnOperation = 1
-history_number history.UnknownFunction = 2
-history_number history.BadValue = 3
-history_number history.MixedKinds = 4
-history_number history.Busy = 5
-history_number history.Stray = 6
-history_number history.Mismatch = 7
-history_number history.AfterInfo = 8
-history_number history.TooMany = 9
-history_number history.NoMemory = 10
-
 -- the number behind the letter K
 abbrev pub certificate_number : CertFaultKind → ℕ
 certificate_number certificate.NotACertificate = 1
@@ -89,7 +77,7 @@ certificate_number certificate.NoMemory = 3
 
 abbrev pub fault_line : Fault → List ℕ
 fault_line (HistoryText e) = codes "malformed history: " ++ (text_of_kind e.kind ++ (codes " at byte " ++ (decimal e.place ++ codes "\n")))
-fault_line (HistoryMaps h) = codes "malformed history: H" ++ (decimal (history_number h.kind) ++ (codes " at map " ++ (decimal h.map ++ codes "\n")))
+fault_line (HistoryMaps h) = codes "malformed history: H" ++ (decimal (number_of h.kind) ++ (codes " at map " ++ (decimal h.map ++ codes "\n")))
 fault_line (CertificateText e) = codes "malformed certificates: " ++ (text_of_kind e.kind ++ (codes " at byte " ++ (decimal e.place ++ codes "\n")))
 fault_line (CertificateForms k) = codes "malformed certificates: K" ++ (decimal (certificate_number k.kind) ++ (codes " at form " ++ (decimal k.form ++ codes "\n")))
 

@@ -169,6 +169,7 @@ pub fn summary(alloc: Global, history: &History) -> Result<Summary, AllocError>
     ensures once { AllPairs (λ x y. x ≢ y) (objects_in (uses history.now)) }
     // The kinds stand in the order of their first invocations, each once.
     ensures kinds { IfOk result (λ s. s.kinds.items ≡ map (count_of history.now) (kinds_in (uses history.now))) }
+    ensures kinds_once { AllPairs (λ k l. k ≢ l) (kinds_in (uses history.now)) }
 {
     summary_of(alloc, history.events())
 }

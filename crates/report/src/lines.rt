@@ -4,6 +4,7 @@ ghost use Rattle.std.specs.Prelude.{◌≡◌, ◌++◌, false, true, codes, dec
 ghost use Rattle.std.specs.Fmt.{signed_decimal};
 ghost use Rattle.std.specs.Io.KnownBytes.{Appends};
 ghost use Rattle.edn.specs.Sent.{SendsFront};
+ghost use Rattle.history.specs.Faults.{number_of};
 ghost use Rattle.report.specs.Lines as text;
 ghost use Rattle.report.specs.Lines.{comment_text};
 
@@ -274,7 +275,7 @@ fn write_refusal<S: Sink>(refusal: &Refusal, commented: bool, sink: &mut S) -> R
 
 /// The number behind the letter H.
 fn history_number(kind: HistoryFaultKind) -> usize
-    ensures { result ≡ text.history_number kind }
+    ensures { result ≡ number_of kind }
 {
     match kind {
         HistoryFaultKind::NotAnOperation => 1,

@@ -1,7 +1,6 @@
-use Rattle.std.proofs.Common.{◌+◌, ◌++◌, ◌∷◌, [], take, drop, suc, sym, ap, ◌∙◌, subst, IfErr}
+use Rattle.std.proofs.Common.{◌++◌, ◌∷◌, [], take, drop, suc, sym, ap, ◌∙◌, subst}
 use Rattle.std.proofs.lemmas.Result.{err_from_is_err_and}
 use Rattle.std.proofs.lemmas.List.{take_more, take_all}
-use Rattle.checker.specs.Refusals.{IsFirstRefusal}
 use Rattle.checker.proofs.Certificates.{IsChecked, are_objects, next_parts, next_fine, next_refused, none_checked, one_checked, all_valid, none_left, least_strange, first_refusal, refused_are_not_valid, strange_is_not_valid}
 use Rattle.checker.proofs.all.check_all.Goals as goal
 

@@ -3,7 +3,7 @@ use Rattle.judging.proofs.Reading.{forms_fit, not_memory, not_history_memory}
 use Rattle.judging.proofs.texts.history_in.Goals as goal
 
 pub returns-in-Err-2-clause-stop : goal.returns-in-Err-2-clause-stop
-returns-in-Err-2-clause-stop c = (c.in-Err.ensures.too_long, c.in-Err.ensures.none (λ q. let e = c.if-eq.ensures in not_memory c.in-Err.fault.kind (sym e) q))
+returns-in-Err-2-clause-stop c = let e = c.if-eq.ensures in (not_memory c.in-Err.fault.kind (sym e), c.in-Err.ensures.too_long, c.in-Err.ensures.none (not_memory c.in-Err.fault.kind (sym e)))
 
 pub read_history-requires : goal.read_history-requires
 read_history-requires c = (forms_fit c.in-Ok.forms.items c.in-Ok.ensures.spelled.fits)

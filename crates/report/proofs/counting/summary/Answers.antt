@@ -1,5 +1,5 @@
 use Rattle.report.specs.Counts.{uses}
-use Rattle.report.proofs.Named.{objects_named, objects_once}
+use Rattle.report.proofs.Named.{objects_named, objects_once, kinds_once}
 use Rattle.report.proofs.counting.summary.Goals as goal
 
 pub returns-clause-named : goal.returns-clause-named
@@ -7,3 +7,6 @@ returns-clause-named c = objects_named c.args.history.now
 
 pub returns-clause-once : goal.returns-clause-once
 returns-clause-once c = objects_once (uses c.args.history.now)
+
+pub returns-clause-kinds_once : goal.returns-clause-kinds_once
+returns-clause-kinds_once c = kinds_once (uses c.args.history.now)

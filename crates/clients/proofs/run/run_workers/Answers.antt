@@ -1,0 +1,14 @@
+use Rattle.std.proofs.Common.{◌≤◌, ◌∙◌, length, sym, subst}
+use Rattle.clients.specs.Workloads.{calls_at}
+use Rattle.clients.specs.Made.{IsDeskFor}
+use Rattle.clients.proofs.Ends.{ran}
+use Rattle.clients.proofs.run.run_workers.Goals as goal
+
+pub returns-clause-ran : goal.returns-clause-ran
+returns-clause-ran g c =
+    let made : IsDeskFor c.in_ok-desk.desk c.args.workload.now = record {
+      kinds = c.in_ok-desk.ensures.desk.0 ∙ (c.in_ok-objects.ensures.kinds ∙ c.kinds.ensures.kinds);
+      clients = c.in_ok-desk.ensures.desk.1 ∙ c.clients.ensures.clients;
+      quota = λ k low. subst (λ z. length (calls_at c.args.workload.now k) ≤ z) (sym c.in_ok-desk.ensures.desk.2) (c.quota.ensures.enough k low);
+    } in
+    ran c.in_ok-desk.desk c.args.workload.now c.in_ok-last.last c.close.result made c.in_ok-last.ensures.done c.close.ensures

@@ -1,0 +1,55 @@
+//! A client that makes its calls.
+
+ghost use Rattle.std.specs.Prelude.{◌≡◌, ◌<◌, length};
+ghost use Rattle.world.specs.World.{AnyAnswer};
+ghost use Rattle.desk_rule.specs.declared.board.Own.TheVariants.{Idle};
+ghost use Rattle.combiner.specs.Waits.{Called};
+ghost use Rattle.clients.specs.Workloads.{IsCall};
+ghost use Rattle.clients.specs.Made.{MayWork, Worked};
+
+use combiner::call;
+use model::AnyOp;
+use publication::{Client, Desk};
+use seq_objects::AnyObject;
+use std::sync::Wait;
+
+/// Makes the calls, one after another, and hands the client back.
+pub(crate) fn work<R: Wait>(
+    rt: &R,
+    desk: &Desk<AnyObject>,
+    client: Client<AnyObject>,
+    calls: &[(u32, AnyOp)],
+) -> Client<AnyObject>
+    requires { MayWork desk.now client calls.now }
+    ensures desk { result.desk ≡ client.desk }
+    ensures worked { Worked calls.now client.knows result.knows }
+{
+    let mut client = client;
+    for called in calls {
+        let (object, op) = *called;
+        client = make(rt, desk, client, object, op);
+    }
+    client
+}
+
+// Makes one call. It cannot be refused.
+fn make<R: Wait>(
+    rt: &R,
+    desk: &Desk<AnyObject>,
+    client: Client<AnyObject>,
+    object: u32,
+    op: AnyOp,
+) -> Client<AnyObject>
+    requires desk { client.desk ≡ desk.now.id }
+    requires idle { client.knows.own ≡ Idle }
+    requires room { length client.knows.done < client.desk.quota }
+    requires fits { IsCall desk.now.kinds (object, op) }
+    ensures desk { result.desk ≡ client.desk }
+    ensures called { (a : AnyAnswer) × Called client.knows object op a result.knows }
+{
+    let (client, answered) = call(rt, desk, client, object, op);
+    match answered {
+        Ok(_) => client,
+        Err(_) => unreachable!(),
+    }
+}

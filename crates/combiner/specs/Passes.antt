@@ -1,0 +1,53 @@
+-- What a pass over the rows does.
+use Rattle.std.specs.Prelude.{◌≡◌, ◌⊎◌, ℕ, true, List, ⊤}
+use Rattle.world.specs.World.{AnyEntry, AnyRequest, kind_at}
+use Rattle.desk_rule.specs.declared.board.Own.TheVariants as own
+use Rattle.desk_rule.specs.declared.board.View.{View}
+use Rattle.desk_rule.specs.Views.{seen_of}
+use Rattle.publication.specs.Handles.{Holding}
+use Rattle.publication.specs.Calls.{CanDo}
+use Rattle.combiner.specs.declared.passes.Combined.{Combined}
+use Rattle.combiner.specs.declared.passes.Combined.TheVariants as combined
+use Rattle.combiner.specs.declared.passes.Tried.{Tried}
+use Rattle.combiner.specs.declared.passes.Tried.TheVariants as tried
+
+-- the client and its own calls stay
+pub record KeepsCalls (v w : View) : Type 0 where
+  pub number : w.number ≡ v.number
+  pub kinds : w.kinds ≡ v.kinds
+  pub own : w.own ≡ v.own
+  pub done : w.done ≡ v.done
+
+-- A call of the client on the object x that is outstanding is known to be answered; or the object cannot do it after
+-- this log.
+abbrev pub IsSettledBy : ℕ → List AnyEntry → View → Type 0
+IsSettledBy x log v = (q : AnyRequest) → v.own ≡ own.Waiting q → q.object ≡ x → (v.ready ≡ true) ⊎ (CanDo (kind_at v.kinds x) log q.op → ⊥)
+
+-- the same, after the log that the client has seen
+abbrev pub IsSettled : ℕ → View → Type 0
+IsSettled x v = IsSettledBy x (seen_of v x) v
+
+-- the same, of the object that is held
+abbrev pub IsSettledNow : Holding → Type 0
+IsSettledNow p = IsSettledBy p.object p.log p.knows
+
+-- from p to q rows were tried
+pub record Goes (p q : Holding) : Type 0 where
+  pub desk : q.desk ≡ p.desk
+  pub object : q.object ≡ p.object
+  pub calls : KeepsCalls p.knows q.knows
+  pub ready : p.knows.ready ≡ true → q.knows.ready ≡ true
+
+-- The own row was tried: its request for the object, if there is one, is known to be answered, or it was put back,
+-- since the object cannot do it now.
+abbrev pub IsTried : Holding → Tried → Type 0
+IsTried p tried.PutBack = (q : AnyRequest) → p.knows.own ≡ own.Waiting q → CanDo (kind_at p.knows.kinds p.object) p.log q.op → ⊥
+IsTried p t = (q : AnyRequest) → p.knows.own ≡ own.Waiting q → q.object ≡ p.object → p.knows.ready ≡ true
+
+abbrev pub IfServed : Combined → Type 0 → Type 0
+IfServed (combined.Served pass count) P = P
+IfServed combined.Busy P = ⊤
+
+abbrev pub IfBusy : Combined → Type 0 → Type 0
+IfBusy (combined.Served pass count) P = ⊤
+IfBusy combined.Busy P = P

@@ -1,0 +1,213 @@
+-- How a desk begins: the first state, a new client, and a client's first step.
+use Rattle.std.proofs.Common.{◌≡◌, ◌≢◌, ℕ, zero, suc, ◌+◌, ◌<◌, ◌≤◌, Bool, true, false, List, [], ◌∷◌, ◌++◌, map, length, replicate, get_or, set, Option, Some, None, length-append, refl, sym, ap, ◌∙◌, subst, ◌⊎◌, ⊎_elim, inl, inr, arith, length-set}
+use mathlib.Core.Option as maybe
+use mathlib.Core.Option.{some, some-injective, some-ne-none}
+use lib.ListN.{get_elem?, length-map}
+use Rattle.std.proofs.lemmas.List.Elements.{All-nil}
+use Rattle.atomic_table.specs.Table.{State, Me, step, takes, chain, opening, stepped, Allows, Splits}
+use Rattle.atomic_table.proofs.Lists.{at_set, at_map, at_snoc, set_else}
+use Rattle.model.specs.declared.Kind.{Kind}
+use Rattle.model.specs.declared.AnyOp.{AnyOp}
+use Rattle.model.specs.declared.AnyReply.{AnyReply}
+use Rattle.model.specs.Objects.{Content, empty}
+use Rattle.desk_rule.specs.declared.board.Core.{Core}
+use Rattle.desk_rule.specs.declared.board.Slot.{Slot}
+use Rattle.desk_rule.specs.declared.board.Slot.TheVariants as slot
+use Rattle.desk_rule.specs.declared.board.Own.TheVariants as own
+use Rattle.desk_rule.specs.declared.board.Held.TheVariants as held
+use Rattle.desk_rule.specs.declared.board.PutBack.{PutBack}
+use Rattle.desk_rule.specs.declared.board.View.{View}
+use Rattle.world.specs.World.{AnyEntry, AnyRequest, Stage, absent, idle, posted, picked, World, kind_at, entries_of, served, served_now, request_of, StartsWith}
+use Rattle.world.specs.Sound.{Sound}
+use Rattle.world.specs.Moves.{changed, staged}
+use Rattle.world.proofs.Changed.{changed_here, changed_else}
+use Rattle.world.proofs.Moved.{sound_staged}
+use Rattle.desk_rule.specs.Views.{newcomer, founder, one_made, seen_of, owed, calling}
+use Rattle.desk_rule.specs.Rule.{row_word, OwnOk, HeldOk, SeatOk, ViewOk, Makers, Fits, MessageAt, Tied, Kept}
+use Rattle.desk_rule.specs.Plays as play
+use Rattle.desk_rule.proofs.Seats.{Alike, seats_after, makers_after, mine, Rule}
+use Rattle.desk_rule.proofs.Ties.{tied_coming}
+use Rattle.desk_rule.proofs.Calls.{gone, later_gone, seat_gone, calm}
+
+pub nils : {A : Type 0} (n x : ℕ) → ◌≡◌ {A = List A} (get_or (replicate n []) x []) []
+nils zero x = refl
+nils (suc n) zero = refl
+nils (suc n) (suc x) = nils n x
+
+pub at_end : {A : Type 0} (l : List A) (a b : A) (j : ℕ) → get_elem? (l ++ a ∷ []) j ≡ some b → (get_elem? l j ≡ some b) ⊎ ((j ≡ length l) × (a ≡ b))
+at_end [] a b zero e = inr (refl, some-injective a b e)
+at_end [] a b (suc j) e = absurd (some-ne-none b (sym e))
+at_end (x ∷ xs) a b zero e = inl e
+at_end (x ∷ xs) a b (suc j) e = ⊎_elim (λ t. inl t) (λ (t : (j ≡ length xs) × (a ≡ b)). inr (ap suc t.0, t.1)) (at_end xs a b j e)
+
+unseen : (kinds : List Kind) (c x : ℕ) → seen_of (newcomer kinds c) x ≡ []
+unseen kinds c x = nils 16 x
+
+-- the world at the start
+abbrev dawn : World
+dawn = record { clock = 0; holder = λ _. None; hand = λ _. None; log = λ _. []; stage = λ _. absent; done = λ _. []; ended = λ _. false }
+
+sound_dawn : (kinds : List Kind) (quota : ℕ) → Sound kinds quota dawn
+sound_dawn kinds quota = record {
+  legal = λ x. (empty (kind_at kinds x), refl);
+  counted = λ c x. refl;
+  in_hand = λ x r e. absurd (cc);
+  picked_up = λ r q e. absurd (cc);
+  empty_hand = λ x e. refl;
+  fitting = λ c q e. absurd (cc);
+  early = λ x. All-nil (λ (e : AnyEntry). e.ticket < 0);
+  drawn = refl;
+  within = λ c. omega arith;
+}
+
+module _ {S O R : Type 0} (content : S → Content) (op_in : O → AnyOp) (reply_in : R → AnyReply) (kinds : List Kind) (clients quota : ℕ) where
+  abbrev K : State (Slot S O R) View → Type 0
+  K = Rule content op_in reply_in kinds clients quota
+
+  pub opens : (words : List ℕ) (slots : List (Slot S O R)) → length kinds < 17 → clients < 33 → quota < 10001 → length words ≡ 81 → ((i : ℕ) → get_or words i 0 ≡ 0) → length slots ≡ 80
+      → ((x : ℕ) → x < length kinds → (k : Core S O R) × (get_elem? slots x ≡ some (slot.Core k)) × Fits content op_in reply_in (kind_at kinds x) k [])
+      → ((i : ℕ) → 16 ≤ i → i < 80 → get_elem? slots i ≡ some slot.Nothing) → K (opening words slots (founder kinds))
+  opens words slots few people small wide zeros deep cores others = record {
+    world = dawn;
+    seat_of = λ _. 0;
+    few_calls = small;
+    few_clients = people;
+    holders = λ x c e. absurd (cc);
+    sound = sound_dawn kinds quota;
+    tied = record {
+      wide = wide;
+      deep = length-map slots (λ (x : Slot S O R). some x) ∙ deep;
+      objects = few;
+      locks = λ x l. zeros x;
+      rows = λ r l. zeros (16 + r);
+      ends = λ c l. zeros (48 + c);
+      clock = zeros 80;
+      cores = λ x l e. let k = cores x l in (k.0, at_map some slots x (slot.Core k.0) k.1, k.2);
+      messages = λ r l. at_map some slots (16 + r) slot.Nothing (others (16 + r) (omega arith) (omega arith));
+      journals = λ c l. record { at_first = λ e. at_map some slots (48 + c) slot.Nothing (others (48 + c) (omega arith) (omega arith)); at_last = λ e. absurd (cc) };
+    };
+    seats = λ j v e. ⊎_elim (λ (t : get_elem? [] j ≡ some v). absurd (some-ne-none v (sym t))) (λ (t : founder kinds ≡ v). subst (λ z. ViewOk kinds dawn (λ _. 0) j z) t record {
+      told = λ x. ([], ap (λ z. z ++ []) (sym (nils 16 x)));
+      heard = λ x. ([], refl);
+      client = λ is. absurd (cc);
+      unmade = λ is c l. (refl, refl, refl, λ x f. cc);
+      maker_kinds = λ is. refl;
+    }) (at_snoc [] (founder kinds) v j e);
+    makers = record {
+      made = λ j v e is i u f. (
+        (λ tc. ⊎_elim (λ (t : get_elem? [] i ≡ some u). absurd (some-ne-none u (sym t))) (λ (t : founder kinds ≡ u). let g = ap (λ z. z.client) t in absurd (cc)) (at_snoc [] (founder kinds) u i f)),
+        λ tm. ⊎_elim (λ (t : get_elem? [] i ≡ some u). absurd (some-ne-none u (sym t))) (λ (t : (i ≡ 0) × (founder kinds ≡ u)).
+            ⊎_elim (λ (h : get_elem? [] j ≡ some v). absurd (some-ne-none v (sym h))) (λ (h : (j ≡ 0) × (founder kinds ≡ v)). t.0 ∙ sym h.0) (at_end [] (founder kinds) v j e)) (at_end [] (founder kinds) u i f),
+      );
+      numbers = λ j v e is. ⊎_elim (λ (t : get_elem? [] j ≡ some v). absurd (some-ne-none v (sym t))) (λ (t : founder kinds ≡ v). let g = ap (λ z. z.client) t in absurd (cc)) (at_snoc [] (founder kinds) v j e);
+    };
+  }
+
+  pub makes_client : (id : ℕ) (v : View) → v.maker ≡ true → v.client ≡ false → v.made < clients → Splits K id v (one_made v) (newcomer v.kinds v.made)
+  makes_client id v is un low s k at =
+      let w : World = k.world in let c : ℕ = v.made in let l : View = one_made v in let new : View = newcomer v.kinds c in let here : ℕ = length (set s.views id l) in
+      let so' : ℕ → ℕ = changed k.seat_of c here in let old = k.seats id v at in let none_yet = old.unmade is c (omega arith) in let few = k.few_clients in record {
+        world = w;
+        seat_of = so';
+        few_calls = k.few_calls;
+        few_clients = k.few_clients;
+        holders = k.holders;
+        sound = k.sound;
+        tied = k.tied;
+        seats = λ j u e. ⊎_elim
+            (λ (t : get_elem? (set s.views id l) j ≡ some u). ⊎_elim
+            (λ (h : (j ≡ id) × (l ≡ u)). subst (λ z. ViewOk kinds w so' j z) h.1 record {
+              told = old.told;
+              heard = old.heard;
+              client = λ f. absurd (cc);
+              unmade = λ _ d g. old.unmade is d (omega arith);
+              maker_kinds = λ _. old.maker_kinds is;
+            })
+            (λ (h : (j ≢ id) × (get_elem? s.views j ≡ some u)). let b = k.seats j u h.1 in record {
+              told = b.told;
+              heard = b.heard;
+              client = λ f. let low' = (k.makers.made id v at is j u h.1).0 f in let g = b.client f in (changed_else k.seat_of c here u.number (λ x. omega arith) ∙ g.0, g.1);
+              unmade = b.unmade;
+              maker_kinds = b.maker_kinds;
+            })
+            (at_set s.views id j l u t))
+            (λ (t : (j ≡ here) × (new ≡ u)). subst (λ z. ViewOk kinds w so' j z) t.1 record {
+              told = λ x. (w.log x, ap (λ z. z ++ w.log x) (sym (unseen v.kinds c x)));
+              heard = λ x. (w.log x, refl);
+              client = λ _. (
+                changed_here k.seat_of c here ∙ sym t.0,
+                record {
+                  number = refl;
+                  small = omega arith;
+                  kinds_are = old.maker_kinds is;
+                  done = sym none_yet.1;
+                  own = none_yet.0;
+                  ready = λ f. absurd (cc);
+                  wide_seen = refl;
+                  seen = λ x. (w.log x, ap (λ z. z ++ w.log x) (sym (unseen v.kinds c x)));
+                  covers = λ x. ([], ap (entries_of c) (unseen v.kinds c x));
+                  held = none_yet.3;
+                  ended = none_yet.2;
+                  retired = All-nil (λ d. w.ended d ≡ true);
+                  back = All-nil (λ (b : PutBack). (w.stage b.row ≡ posted b.request) × (w.holder b.request.object ≡ Some c));
+                },
+              );
+              unmade = λ f. absurd (cc);
+              maker_kinds = λ f. absurd (cc);
+            })
+            (at_end (set s.views id l) new u j e);
+        makers = record {
+          made = λ j u e f i y g.
+              let known : (a : ℕ) (z : View) → get_elem? (set s.views id l ++ new ∷ []) a ≡ some z → ((a ≡ id) × (l ≡ z)) ⊎ (((a ≢ id) × (get_elem? s.views a ≡ some z)) ⊎ (new ≡ z)) = λ a z q. ⊎_elim
+              (λ (t : get_elem? (set s.views id l) a ≡ some z). ⊎_elim (λ (h : (a ≡ id) × (l ≡ z)). inl h) (λ (h : (a ≢ id) × (get_elem? s.views a ≡ some z)). inr (inl h)) (at_set s.views id a l z t))
+              (λ (t : (a ≡ here) × (new ≡ z)). inr (inr t.1)) (at_end (set s.views id l) new z a q) in
+              let at_id : (a : ℕ) (z : View) → get_elem? (set s.views id l ++ new ∷ []) a ≡ some z → z.maker ≡ true → (a ≡ id) × (z.made ≡ c + 1) = λ a z q tm. ⊎_elim (λ (h : (a ≡ id) × (l ≡ z)). (h.0, ap (λ p. p.made) (sym h.1)))
+              (λ (h : ((a ≢ id) × (get_elem? s.views a ≡ some z)) ⊎ (new ≡ z)). ⊎_elim (λ (r : (a ≢ id) × (get_elem? s.views a ≡ some z)). absurd (r.0 ((k.makers.made id v at is a z r.1).1 tm))) (λ (r : new ≡ z). let o = ap (λ p. p.maker) r in absurd (cc)) h) (known a z q) in
+              let a = at_id j u e f in (
+                (λ tc. ⊎_elim (λ (h : (i ≡ id) × (l ≡ y)). let o = ap (λ p. p.client) h.1 in absurd (cc))
+                    (λ (h : ((i ≢ id) × (get_elem? s.views i ≡ some y)) ⊎ (new ≡ y)). ⊎_elim (λ (r : (i ≢ id) × (get_elem? s.views i ≡ some y)). let o = (k.makers.made id v at is i y r.1).0 tc in let b = a.1 in omega arith) (λ (r : new ≡ y). let o = ap (λ p. p.number) r in let b = a.1 in omega arith) h) (known i y g)),
+                λ tm. (at_id i y g tm).0 ∙ sym a.0,
+              );
+          numbers = λ j u e is'. ⊎_elim
+              (λ (t : get_elem? (set s.views id l) j ≡ some u). ⊎_elim (λ (h : (j ≡ id) × (l ≡ u)). let o = ap (λ p. p.client) h.1 in absurd (cc)) (λ (h : (j ≢ id) × (get_elem? s.views j ≡ some u)). k.makers.numbers j u h.1 is') (at_set s.views id j l u t))
+              (λ (t : (j ≡ here) × (new ≡ u)). let o = ap (λ p. p.number) t.1 in omega arith) (at_end (set s.views id l) new u j e);
+        };
+      }
+
+  pub begins_it : (slots id c : ℕ) (m : Me (Slot S O R) View) → m.0.client ≡ true → m.0.number ≡ c → c < 32 → m.0.own ≡ own.Absent → m.0.held ≡ held.Free → m.0.ended ≡ false
+      → Allows K slots id m (16 + c) (λ f. f) (play.begins content op_in reply_in (step slots (16 + c) 0 0 maybe.none) m)
+  begins_it slots id c m cl number low is free going s k deep at small =
+      let w : World = k.world in let ok = subst (λ z. SeatOk kinds w z m.0) number (mine content op_in reply_in kinds clients quota s k id m.0 cl at) in let v' : View = calling own.Idle m.0 in
+      let was : w.stage c ≡ absent = subst (λ o. OwnOk o (w.stage c)) is ok.own in let word = k.tied.rows c low in
+      let before : (p : AnyRequest) → w.stage c ≢ picked p = λ p e. let g = sym was ∙ e in absurd (cc) in
+      let alike : Alike m.0 v' = record { client = refl; number = refl; maker = refl; made = refl; heard = refl } in let not = calm kinds w c m.0 ok (λ r a e. let g = sym was ∙ e in absurd (cc)) in
+      let message : get_elem? s.homes (16 + c) ≡ some (some slot.Nothing) = subst (MessageAt content op_in reply_in (get_elem? s.homes (16 + c))) was (k.tied.messages c low) in
+      let journal = (k.tied.journals c low).at_first was in (
+        v',
+        chain (takes (48 + c) slot.Nothing) (takes (16 + c) slot.Nothing),
+        (journal, set_else s.homes (48 + c) (16 + c) maybe.none (λ e. omega arith) ∙ message),
+        record {
+          world = staged w c idle;
+          seat_of = k.seat_of;
+          few_calls = k.few_calls;
+          few_clients = k.few_clients;
+          holders = k.holders;
+          sound = sound_staged kinds quota w c idle before (λ p e. absurd (cc)) (ap request_of (sym was)) (λ y. ap (served_now y c) (sym was)) k.sound;
+          tied = tied_coming content op_in reply_in kinds w c (get_or s.words (16 + c) 0) idle s.words s.homes low (λ e. absurd (cc)) (ok.ended ∙ going) (word ∙ ap row_word was) (λ home. tt) k.tied;
+          seats = seats_after kinds clients w (staged w c idle) k.seat_of s.views id m.0 v' at cl alike k.makers k.seats
+              (λ d other. later_gone w w.clock c d idle w.done before (λ p e. let g = sym was ∙ e in absurd (cc)) refl (λ e. other (e ∙ sym number)))
+              (subst (λ z. SeatOk kinds (staged w c idle) z v') (sym number) (subst (λ b. SeatOk kinds (staged w c idle) c (record m.0 { own = own.Idle; ready = b })) (sym not)
+              (seat_gone kinds w w.clock c idle w.done m.0 own.Idle m.0.done refl ok.done free
+              (λ y. subst (λ o. StartsWith (entries_of c (seen_of m.0 y)) (served y c m.0.done ++ owed y c o)) is (ok.covers y)) ok)));
+          makers = makers_after clients s.views id m.0 v' at alike k.makers;
+        },
+        λ d same. let e : c ≡ d = omega arith in ap (λ (z : ℕ). (v', (16 + z, slot.Nothing) ∷ (48 + z, slot.Nothing) ∷ m.1)) e,
+      )
+
+zeros : (n i : ℕ) → ◌≡◌ {A = ℕ} (get_or (replicate n 0) i 0) 0
+zeros zero i = refl
+zeros (suc n) zero = refl
+zeros (suc n) (suc i) = zeros n i
+
+pub zero_words : (i : ℕ) → ◌≡◌ {A = ℕ} (get_or (replicate 81 0) i 0) 0
+zero_words i = zeros 81 i

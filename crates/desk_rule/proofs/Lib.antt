@@ -1,0 +1,9 @@
+pub mod Seats
+pub mod Ties
+pub mod Seeing
+pub mod Locks
+pub mod Rows
+pub mod Calls
+pub mod Beginnings
+pub mod Ends
+pub mod Meets

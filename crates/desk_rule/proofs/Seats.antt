@@ -1,0 +1,147 @@
+-- What a step of one client leaves of what the others know.
+use Rattle.std.proofs.Common.{◌≡◌, ◌≢◌, ℕ, ◌+◌, ◌<◌, ◌≤◌, Bool, true, false, List, [], ◌∷◌, ◌++◌, length, get_or, set, Option, Some, None, refl, sym, ap, subst, ◌∙◌, ◌⊎◌, ⊎_elim, inl, inr, arith}
+use mathlib.Core.Logic.{dite}
+use mathlib.Core.Option as maybe
+use mathlib.Core.Option.{some}
+use lib.ListN.{get_elem?}
+use lib.Seq.{set-get_or}
+use Rattle.atomic_table.specs.Table.{State, Me, keeps, stepped}
+use Rattle.atomic_table.proofs.Lists.{at_set}
+use Rattle.model.specs.declared.Kind.{Kind}
+use Rattle.model.specs.declared.AnyOp.{AnyOp}
+use Rattle.model.specs.declared.AnyReply.{AnyReply}
+use Rattle.model.specs.Objects.{Content}
+use Rattle.desk_rule.specs.declared.board.Slot.{Slot}
+use Rattle.desk_rule.specs.declared.board.Own.{Own}
+use Rattle.desk_rule.specs.declared.board.Own.TheVariants as own
+use Rattle.desk_rule.specs.declared.board.Held.{Held}
+use Rattle.desk_rule.specs.declared.board.Held.TheVariants as held
+use Rattle.desk_rule.specs.declared.board.View.{View}
+use Rattle.world.specs.World.{AnyEntry, AnyRequest, AnyAnswer, Stage, absent, posted, picked, answered, World, StartsWith}
+use Rattle.world.proofs.Entries.{starts_longer, starts_same}
+use Rattle.desk_rule.specs.Views.{seen_of, heard_of, missing}
+use Rattle.desk_rule.specs.Rule.{OwnOk, HeldOk, SeatOk, ViewOk, Makers, Tied, Kept}
+
+-- what the client c, which knows what it knows in w, needs of a step of another to w'
+pub record Later (w w' : World) (c : ℕ) : Type 0 where
+  pub own : (o : Own) → OwnOk o (w.stage c) → OwnOk o (w'.stage c)
+  pub ready : (q : AnyRequest) (a : AnyAnswer) → w.stage c ≡ answered q a → w'.stage c ≡ answered q a
+  pub done : w'.done c ≡ w.done c
+  pub logs : (x : ℕ) → StartsWith (w'.log x) (w.log x)
+  pub held : (x : ℕ) → w.holder x ≡ Some c → (w'.holder x ≡ w.holder x) × (w'.hand x ≡ w.hand x) × (w'.log x ≡ w.log x)
+  pub holds : (x : ℕ) → w'.holder x ≡ Some c → w.holder x ≡ Some c
+  pub picked : (x r : ℕ) (q : AnyRequest) → w.holder x ≡ Some c → w.hand x ≡ Some r → w.stage r ≡ picked q → w'.stage r ≡ picked q
+  pub posted : (r : ℕ) (q : AnyRequest) → w.holder q.object ≡ Some c → w.stage r ≡ posted q → w'.stage r ≡ posted q
+  pub ended : w'.ended c ≡ w.ended c
+  pub all_ended : (d : ℕ) → w.ended d ≡ true → w'.ended d ≡ true
+
+pub same_later : (w : World) (c : ℕ) → Later w w c
+same_later w c = record {
+  own = λ o e. e;
+  ready = λ q a e. e;
+  done = refl;
+  logs = λ x. starts_same (w.log x);
+  held = λ x e. (refl, refl, refl);
+  holds = λ x e. e;
+  picked = λ x r q e f g. g;
+  posted = λ r q e g. g;
+  ended = refl;
+  all_ended = λ d e. e;
+}
+
+held_stays : (n : ℕ) (w w' : World) (c : ℕ) → Later w w' c → (h : Held) → HeldOk n w c h → HeldOk n w' c h
+held_stays n w w' c t held.Free k = λ x e. k x (t.holds x e)
+held_stays n w w' c t (held.Pass x l) k = let e = t.held x k.1 in (k.0, e.0 ∙ k.1, e.1 ∙ k.2, e.2 ∙ k.3, λ y f. k.4 y (t.holds y f))
+held_stays n w w' c t (held.Hand x l r q) k = let e = t.held x k.1 in (k.0, e.0 ∙ k.1, e.1 ∙ k.2, e.2 ∙ k.3, (λ y f. k.4 y (t.holds y f)), k.5, t.picked x r q k.1 k.2 k.6)
+
+pub seat_stays : (kinds : List Kind) (w w' : World) (c : ℕ) (v : View) → Later w w' c → SeatOk kinds w c v → SeatOk kinds w' c v
+seat_stays kinds w w' c v t k = record {
+  number = k.number;
+  small = k.small;
+  kinds_are = k.kinds_are;
+  done = k.done ∙ sym t.done;
+  own = t.own v.own k.own;
+  ready = λ is. let a = k.ready is in (a.0, a.1, t.ready a.0 a.1 a.2);
+  wide_seen = k.wide_seen;
+  seen = λ x. starts_longer (w'.log x) (w.log x) (seen_of v x) (t.logs x) (k.seen x);
+  covers = k.covers;
+  held = held_stays (length kinds) w w' c t v.held k.held;
+  ended = t.ended ∙ k.ended;
+  retired = λ i d l. t.all_ended (get_or v.retired i d) (k.retired i d l);
+  back = λ i d l. let b = k.back i d l in let p = get_or v.back i d in (t.posted p.row p.request b.1 b.0, (t.held p.request.object b.1).0 ∙ b.1);
+}
+
+-- what no step of a client's own changes in its view
+pub record Alike (v v' : View) : Type 0 where
+  pub client : v'.client ≡ v.client
+  pub number : v'.number ≡ v.number
+  pub maker : v'.maker ≡ v.maker
+  pub made : v'.made ≡ v.made
+  pub heard : v'.heard ≡ v.heard
+
+pub seats_after : (kinds : List Kind) (clients : ℕ) (w w' : World) (so : ℕ → ℕ) (vs : List View) (id : ℕ) (v v' : View) → get_elem? vs id ≡ some v → v.client ≡ true → Alike v v' → Makers clients vs
+    → ((j : ℕ) (u : View) → get_elem? vs j ≡ some u → ViewOk kinds w so j u) → ((c : ℕ) → c ≢ v.number → Later w w' c) → SeatOk kinds w' v.number v'
+    → (j : ℕ) (u : View) → get_elem? (set vs id v') j ≡ some u → ViewOk kinds w' so j u
+seats_after kinds clients w w' so vs id v v' at cl alike makers before others ok j u e =
+    let here = (before id v at).client cl in let next : 1 + v.number ≢ v.number = λ h. omega arith in let logs = (others (1 + v.number) next).logs in
+    let is_made : (c : ℕ) (z : View) (i : ℕ) → get_elem? vs i ≡ some z → z.maker ≡ true → z.made ≤ c → c ≢ v.number = λ c z i g is l same. let low = (makers.made i z g is id v at).0 cl in omega arith in
+    let unmade : (c : ℕ) → c ≢ v.number → (w.stage c ≡ absent) × (w.done c ≡ []) × (w.ended c ≡ false) × ((x : ℕ) → w.holder x ≢ Some c) → (w'.stage c ≡ absent) × (w'.done c ≡ []) × (w'.ended c ≡ false) × ((x : ℕ) → w'.holder x ≢ Some c) =
+    λ c apart b. let o = others c apart in (o.own own.Absent b.0, o.done ∙ b.1, o.ended ∙ b.2, λ x f. b.3 x (o.holds x f)) in
+    ⊎_elim (λ (t : (j ≡ id) × (v' ≡ u)). subst (λ (z : ℕ × View). ViewOk kinds w' so z.0 z.1) (λ i. (sym t.0 i, t.1 i)) record {
+      told = ok.seen;
+      heard = λ x. subst (λ z. StartsWith (w'.log x) (get_or z x [])) (sym alike.heard) (starts_longer (w'.log x) (w.log x) (heard_of v x) (logs x) ((before id v at).heard x));
+      client = λ _. (ap so alike.number ∙ here.0, subst (λ z. SeatOk kinds w' z v') (sym alike.number) ok);
+      unmade = λ is c l. let is' : v.maker ≡ true = sym alike.maker ∙ is in let l' : v.made ≤ c = subst (λ z. z ≤ c) alike.made l in unmade c (is_made c v id at is' l') ((before id v at).unmade is' c l');
+      maker_kinds = λ is. ok.kinds_are;
+    })
+    (λ (t : (j ≢ id) × (get_elem? vs j ≡ some u)). let b = before j u t.1 in record {
+      told = λ x. starts_longer (w'.log x) (w.log x) (seen_of u x) (logs x) (b.told x);
+      heard = λ x. starts_longer (w'.log x) (w.log x) (heard_of u x) (logs x) (b.heard x);
+      client = λ is. let c = b.client is in (c.0, seat_stays kinds w w' u.number u (others u.number (λ g. t.0 (sym c.0 ∙ (ap so g ∙ here.0)))) c.1);
+      unmade = λ is c l. unmade c (is_made c u j t.1 is l) (b.unmade is c l);
+      maker_kinds = b.maker_kinds;
+    }) (at_set vs id j v' u e)
+
+pub makers_stay : (clients : ℕ) (vs : List View) (id : ℕ) (v v' : View) → get_elem? vs id ≡ some v → v'.client ≡ v.client → v'.number ≡ v.number → v'.maker ≡ v.maker → v'.made ≡ v.made → Makers clients vs → Makers clients (set vs id v')
+makers_stay clients vs id v v' at client number maker made before =
+    let back : (a : ℕ) (z : View) → get_elem? (set vs id v') a ≡ some z → (y : View) × (get_elem? vs a ≡ some y) × (z.client ≡ y.client) × (z.number ≡ y.number) × (z.maker ≡ y.maker) × (z.made ≡ y.made)
+    = λ a z g. ⊎_elim (λ (h : (a ≡ id) × (v' ≡ z)). (v, ap (get_elem? vs) h.0 ∙ at, ap (λ q. q.client) (sym h.1) ∙ client, ap (λ q. q.number) (sym h.1) ∙ number, ap (λ q. q.maker) (sym h.1) ∙ maker, ap (λ q. q.made) (sym h.1) ∙ made))
+    (λ (h : (a ≢ id) × (get_elem? vs a ≡ some z)). (z, h.1, refl, refl, refl, refl)) (at_set vs id a v' z g) in
+    record {
+      made = λ j u e is i t f. let a = back j u e in let b = back i t f in let low = before.made j a.0 a.1 (sym a.4 ∙ is) i b.0 b.1 in let n₁ = b.3 in let n₂ = a.5 in
+          ((λ tc. let l = low.0 (sym b.2 ∙ tc) in omega arith), λ tm. low.1 (sym b.4 ∙ tm));
+      numbers = λ j u e is. let a = back j u e in let low = before.numbers j a.0 a.1 (sym a.2 ∙ is) in let n = a.3 in omega arith;
+    }
+
+pub makers_after : (clients : ℕ) (vs : List View) (id : ℕ) (v v' : View) → get_elem? vs id ≡ some v → Alike v v' → Makers clients vs → Makers clients (set vs id v')
+makers_after clients vs id v v' at alike = makers_stay clients vs id v v' at alike.client alike.number alike.maker alike.made
+
+module _ {S O R : Type 0} (content : S → Content) (op_in : O → AnyOp) (reply_in : R → AnyReply) (kinds : List Kind) (clients quota : ℕ) where
+  abbrev pub St : Type 0
+  St = State (Slot S O R) View
+
+  abbrev pub Rule : St → Type 0
+  Rule = Kept content op_in reply_in kinds clients quota
+
+  pub mine : (s : St) (k : Rule s) (id : ℕ) (v : View) → v.client ≡ true → get_elem? s.views id ≡ some v → SeatOk kinds k.world v.number v
+  mine s k id v cl at = ((k.seats id v at).client cl).1
+
+  -- a step that changes no word
+  pub unmoved : (s : St) (k : Rule s) (i id : ℕ) (v v' : View) (cs : List (ℕ × Slot S O R)) → get_elem? s.views id ≡ some v → v.client ≡ true → Alike v v' → SeatOk kinds k.world v.number v'
+      → Rule (stepped s i (get_or s.words i 0) id cs v' keeps)
+  unmoved s k i id v v' cs at cl alike ok = subst (λ (ws : List ℕ). Rule record { words = ws; homes = s.homes; views = set s.views id v' }) (sym (set-get_or s.words i 0)) record {
+    world = k.world;
+    seat_of = k.seat_of;
+    few_calls = k.few_calls;
+    few_clients = k.few_clients;
+    holders = k.holders;
+    sound = k.sound;
+    tied = k.tied;
+    seats = seats_after kinds clients k.world k.world k.seat_of s.views id v v' at cl alike k.makers k.seats (λ c other. same_later k.world c) ok;
+    makers = makers_after clients s.views id v v' at alike k.makers;
+  }
+
+  pub misses : (s : St) (k : Rule s) (i id : ℕ) (v : View) (cs : List (ℕ × Slot S O R)) → v.client ≡ true → get_elem? s.views id ≡ some v → Rule (stepped s i (get_or s.words i 0) id cs (missing i v) keeps)
+  misses s k i id v cs cl at = let ok = mine s k id v cl at in unmoved s k i id v (missing i v) cs at cl
+      record { client = refl; number = refl; maker = refl; made = refl; heard = refl }
+      record { number = ok.number; small = ok.small; kinds_are = ok.kinds_are; done = ok.done; own = ok.own; ready = ok.ready; wide_seen = ok.wide_seen; seen = ok.seen; covers = ok.covers; held = ok.held; ended = ok.ended; retired = ok.retired; back = ok.back }

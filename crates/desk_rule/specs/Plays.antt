@@ -1,0 +1,92 @@
+-- What each step on the table tells the client that takes it: what it knows and has in its hands then.
+use Rattle.std.specs.Prelude.{◌≡◌, ◌≢◌, ℕ, ◌+◌, ◌<◌, Bool, true, false, List, [], ◌∷◌, ◌++◌, map, length, slice_set, All}
+use Rattle.atomic_table.specs.Table.{Me, Step, rest}
+use Rattle.model.specs.declared.AnyOp.{AnyOp}
+use Rattle.model.specs.declared.AnyReply.{AnyReply}
+use Rattle.model.specs.Objects.{Content, kind_of}
+use Rattle.desk_rule.specs.declared.board.Core.{Core}
+use Rattle.desk_rule.specs.declared.board.Slot.{Slot}
+use Rattle.desk_rule.specs.declared.board.Slot.TheVariants as slot
+use Rattle.desk_rule.specs.declared.board.Own.TheVariants as own
+use Rattle.desk_rule.specs.declared.board.Held.TheVariants as held
+use Rattle.desk_rule.specs.declared.board.View.{View}
+use Rattle.world.specs.declared.Request.{Request}
+use Rattle.world.specs.declared.Answer.{Answer}
+use Rattle.world.specs.World.{AnyEntry, AnyRequest, AnyAnswer, kind_at, logged, logged_on, entries_of, served, IsLegal, StartsWith}
+use Rattle.world.specs.Images.{request_in, answer_in}
+use Rattle.desk_rule.specs.Views.{seen_of, heard_of, missing, noting, holding, handling, putting_back, answering, IsAccount, learnt, calling, taking, done_with, seeing, ending, knowing_end}
+use Rattle.desk_rule.specs.Rule.{Fits}
+
+module _ {S O R : Type 0} (content : S → Content) (op_in : O → AnyOp) (reply_in : R → AnyReply) where
+  abbrev pub Hands : Type 0
+  Hands = Me (Slot S O R) View
+
+  -- the lock was free: the object with its log came out, and the log begins with what was seen. Or it was held, a miss
+  abbrev pub wins : Step (Slot S O R) → Hands → ℕ → Hands → Type 0
+  wins st m found m' =
+      (found ≡ 0 → (k : Core S O R) × (l : List AnyEntry) × (m' ≡ (holding st.word l m.0, (st.word, slot.Core k) ∷ m.1))
+      × Fits content op_in reply_in (kind_at m.0.kinds st.word) k l × StartsWith l (seen_of m.0 st.word))
+      × (found ≢ 0 → m' ≡ (missing st.word m.0, m.1))
+
+  -- what was put back is what the client has seen of the object
+  abbrev pub releases : Step (Slot S O R) → Hands → ℕ → Hands → Type 0
+  releases st m found m' = (l : List AnyEntry) → m.0.held ≡ held.Pass st.word l → (m' ≡ (learnt st.word l m.0, rest m.1)) × IsAccount st.word m.0 l
+
+  -- A request for the object in hand came out of the row, the one that was put back there, if any, and at the own row
+  -- the own one. Or there was none, a miss, and none was put back there
+  abbrev pub picks : Step (Slot S O R) → Hands → ℕ → Hands → Type 0
+  picks st m found m' = (x r : ℕ) (l : List AnyEntry) → m.0.held ≡ held.Pass x l → st.word ≡ 16 + r →
+      (found ≡ st.first → (p : Request O) × (p.object ≡ x) × (kind_of (op_in p.op) ≡ kind_at m.0.kinds x) × (m' ≡ (handling x l r (request_in op_in p) m.0, (st.word, slot.Request p) ∷ m.1))
+      × All (λ b. b.row ≡ r → b.request ≡ request_in op_in p) m.0.back
+      × ((q : AnyRequest) → r ≡ m.0.number → m.0.own ≡ own.Waiting q → request_in op_in p ≡ q))
+      × (found ≢ st.first → (m' ≡ (noting st.word x m.0, m.1)) × All (λ b. b.row ≢ r) m.0.back)
+
+  -- the answer in hand went into the row, and the log has grown by what it says
+  abbrev pub answers : Step (Slot S O R) → Hands → ℕ → Hands → Type 0
+  answers st m found m' = (x r i : ℕ) (l : List AnyEntry) (q : AnyRequest) (b : Answer R) (tl : List (ℕ × Slot S O R)) → m.0.held ≡ held.Hand x l r q → m.1 ≡ (i, slot.Answer b) ∷ tl
+      → m' ≡ (answering r x (l ++ logged r q (answer_in reply_in b)) m.0, tl)
+
+  -- the request in hand went back into its row
+  abbrev pub puts_back : Step (Slot S O R) → Hands → ℕ → Hands → Type 0
+  puts_back st m found m' = (x r : ℕ) (l : List AnyEntry) (q : AnyRequest) → m.0.held ≡ held.Hand x l r q → m' ≡ (putting_back x l r q m.0, rest m.1)
+
+  -- the request in hand has its ticket
+  abbrev pub draws : Step (Slot S O R) → Hands → ℕ → Hands → Type 0
+  draws st m found m' = (i : ℕ) (p : Request O) (tl : List (ℕ × Slot S O R)) → m.1 ≡ (i, slot.Request p) ∷ tl → m' ≡ (calling (own.Drawn (request_in op_in (record p { ticket = found }))) m.0, m.1)
+
+  abbrev pub posts : Step (Slot S O R) → Hands → ℕ → Hands → Type 0
+  posts st m found m' = (q : AnyRequest) → m.0.own ≡ own.Drawn q → m' ≡ (calling (own.Waiting q) m.0, rest m.1)
+
+  -- The answer came out of the own row, and the log of its object was seen: it is legal, begins with what was seen
+  -- before, and has of the own calls those that are over and this one. Or there was none, a miss
+  abbrev pub takes_answer : Step (Slot S O R) → Hands → ℕ → Hands → Type 0
+  takes_answer st m found m' = (q : AnyRequest) → m.0.own ≡ own.Waiting q →
+      (found ≡ 33 → (b : Answer R) × (l : List AnyEntry) × (m' ≡ (taking q (answer_in reply_in b) l m.0, (st.word, slot.Answer b) ∷ m.1)) × IsLegal (kind_at m.0.kinds q.object) l
+      × StartsWith l (seen_of m.0 q.object) × (entries_of m.0.number l ≡ served q.object m.0.number m.0.done ++ logged m.0.number q (answer_in reply_in b)))
+      × (found ≢ 33 → (m' ≡ (missing st.word m.0, m.1)) × (m.0.ready ≡ false))
+
+  -- the return has its ticket, which is greater than each in what was seen of the call's object
+  abbrev pub returns : Step (Slot S O R) → Hands → ℕ → Hands → Type 0
+  returns st m found m' = (q : AnyRequest) (a : AnyAnswer) → m.0.own ≡ own.Taken q a → (m' ≡ (done_with q a found m.0, m.1)) × All (λ e. e.ticket < found) (seen_of m.0 q.object)
+
+  -- the client's own slots came out of their places
+  abbrev pub begins : Step (Slot S O R) → Hands → ℕ → Hands → Type 0
+  begins st m found m' = (c : ℕ) → st.word ≡ 16 + c → m' ≡ (calling own.Idle m.0, (16 + c, slot.Nothing) ∷ (48 + c, slot.Nothing) ∷ m.1)
+
+  -- The log so far was seen, which begins with what was seen and what was heard, and has of the own calls what a client
+  -- is to find in it
+  abbrev pub learns : Step (Slot S O R) → Hands → ℕ → Hands → Type 0
+  learns st m found m' = (l : List AnyEntry) × (m' ≡ (seeing st.word l m.0, m.1)) × IsLegal (kind_at m.0.kinds st.word) l
+      × StartsWith l (seen_of m.0 st.word) × StartsWith l (heard_of m.0 st.word) × (length m.0.seen ≡ 16) × IsAccount st.word m.0 l
+
+  -- what was heard is what is seen
+  abbrev pub adopts : Step (Slot S O R) → Hands → ℕ → Hands → Type 0
+  adopts st m found m' = (m' ≡ (seeing st.word (heard_of m.0 st.word) m.0, m.1)) × IsAccount st.word m.0 (heard_of m.0 st.word)
+
+  -- the journal went into its place, and the client has ended
+  abbrev pub ends : Step (Slot S O R) → Hands → ℕ → Hands → Type 0
+  ends st m found m' = m' ≡ (ending m.0, rest m.1)
+
+  -- the client d has ended. Or it has not, a miss
+  abbrev pub sees_end : Step (Slot S O R) → Hands → ℕ → Hands → Type 0
+  sees_end st m found m' = (d : ℕ) → st.word ≡ 48 + d → (found ≡ 1 → m' ≡ (knowing_end d m.0, m.1)) × (found ≢ 1 → m' ≡ (missing st.word m.0, m.1))

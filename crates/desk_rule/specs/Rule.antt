@@ -1,0 +1,140 @@
+-- The rule of the desk's table. Word x is the lock of object x, 16 + c the row of client c, 48 + c its end, and 80 the
+-- clock. Slot x is the core of object x, 16 + c the request or answer of client c, and 48 + c its journal.
+use Rattle.std.specs.Prelude.{◌≡◌, ◌≢◌, ◌⊎◌, ℕ, ◌+◌, ◌<◌, ◌≤◌, Bool, true, false, List, [], ◌∷◌, ◌++◌, map, length, slice_index, Option, Some, None, All}
+use mathlib.Core.Option.{some}
+use mathlib.Core.Option as maybe
+use lib.ListN.{get_elem?}
+use Rattle.atomic_table.specs.Table.{State}
+use Rattle.model.specs.declared.Kind.{Kind}
+use Rattle.model.specs.declared.AnyOp.{AnyOp}
+use Rattle.model.specs.declared.AnyReply.{AnyReply}
+use Rattle.model.specs.Objects.{Content, empty}
+use Rattle.desk_rule.specs.declared.board.Core.{Core}
+use Rattle.desk_rule.specs.declared.board.Journal.{Journal}
+use Rattle.desk_rule.specs.declared.board.Slot.{Slot}
+use Rattle.desk_rule.specs.declared.board.Slot.TheVariants as slot
+use Rattle.desk_rule.specs.declared.board.Own.{Own}
+use Rattle.desk_rule.specs.declared.board.Own.TheVariants as own
+use Rattle.desk_rule.specs.declared.board.Held.{Held}
+use Rattle.desk_rule.specs.declared.board.Held.TheVariants as held
+use Rattle.desk_rule.specs.declared.board.View.{View}
+use Rattle.world.specs.declared.Request.{Request}
+use Rattle.world.specs.declared.Answer.{Answer}
+use Rattle.world.specs.World.{AnyEntry, AnyRequest, AnyAnswer, AnyDone, Stage, absent, idle, drawn, posted, picked, answered, taken, World, kind_at, entries_of, served, request_of, journal_of, Replays, StartsWith}
+use Rattle.world.specs.Sound.{Sound}
+use Rattle.world.specs.Images.{request_in, answer_in, entry_in, event_in}
+use Rattle.desk_rule.specs.Views.{founder, seen_of, heard_of, owed}
+pub use Rattle.desk_rule.specs.Views.{founder}
+
+-- a place for a slot's value, which may be out
+abbrev pub Home : (S O R : Type 0) → Type 0
+Home S O R = maybe.Option (maybe.Option (Slot S O R))
+
+abbrev pub lock_word : Option ℕ → ℕ
+lock_word None = 0
+lock_word (Some c) = 1 + c
+
+abbrev pub row_word : Stage → ℕ
+row_word absent = 0
+row_word idle = 0
+row_word (drawn q) = 0
+row_word (posted q) = 1 + q.object
+row_word (picked q) = 17 + q.object
+row_word (answered q a) = 33
+row_word (taken q a) = 0
+
+abbrev pub end_word : Bool → ℕ
+end_word false = 0
+end_word true = 1
+
+-- what a client knows of its own call agrees with the stage
+abbrev pub OwnOk : Own → Stage → Type 0
+OwnOk own.Absent t = t ≡ absent
+OwnOk own.Idle t = t ≡ idle
+OwnOk (own.Drawn q) t = t ≡ drawn q
+OwnOk (own.Waiting q) t = (t ≡ posted q) ⊎ ((t ≡ picked q) ⊎ ((a : AnyAnswer) × (t ≡ answered q a)))
+OwnOk (own.Taken q a) t = t ≡ taken q a
+
+-- what the client c holds, by its view, is what it holds in the world, where there are n objects
+abbrev pub HeldOk : ℕ → World → ℕ → Held → Type 0
+HeldOk n w c held.Free = (x : ℕ) → w.holder x ≢ Some c
+HeldOk n w c (held.Pass x l) = (x < n) × (w.holder x ≡ Some c) × (w.hand x ≡ None) × (w.log x ≡ l) × ((y : ℕ) → w.holder y ≡ Some c → y ≡ x)
+HeldOk n w c (held.Hand x l r q) = (x < n) × (w.holder x ≡ Some c) × (w.hand x ≡ Some r) × (w.log x ≡ l) × ((y : ℕ) → w.holder y ≡ Some c → y ≡ x) × (r < 32) × (w.stage r ≡ picked q)
+
+-- the view of the client c
+pub record SeatOk (kinds : List Kind) (w : World) (c : ℕ) (v : View) : Type 0 where
+  pub number : v.number ≡ c
+  pub small : c < 32
+  pub kinds_are : v.kinds ≡ kinds
+  pub done : v.done ≡ w.done c
+  pub own : OwnOk v.own (w.stage c)
+  -- where the client knows that its row is answered, it is
+  pub ready : v.ready ≡ true → (q : AnyRequest) × (a : AnyAnswer) × (w.stage c ≡ answered q a)
+  -- what it has seen of an object is a beginning of its log, which has the client's calls that are over
+  pub wide_seen : length v.seen ≡ 16
+  pub seen : (x : ℕ) → StartsWith (w.log x) (seen_of v x)
+  pub covers : (x : ℕ) → StartsWith (entries_of c (seen_of v x)) (served x c v.done ++ owed x c v.own)
+  pub held : HeldOk (length kinds) w c v.held
+  pub ended : w.ended c ≡ v.ended
+  pub retired : All (λ d. w.ended d ≡ true) v.retired
+  -- what was put back stands in its row, and its object is held
+  pub back : All (λ b. (w.stage b.row ≡ posted b.request) × (w.holder b.request.object ≡ Some c)) v.back
+
+-- any view: a client's, the maker's, or a letter
+pub record ViewOk (kinds : List Kind) (w : World) (seat_of : ℕ → ℕ) (j : ℕ) (v : View) : Type 0 where
+  pub told : (x : ℕ) → StartsWith (w.log x) (seen_of v x)
+  pub heard : (x : ℕ) → StartsWith (w.log x) (heard_of v x)
+  pub client : v.client ≡ true → (seat_of v.number ≡ j) × SeatOk kinds w v.number v
+  pub unmade : v.maker ≡ true → (c : ℕ) → v.made ≤ c → (w.stage c ≡ absent) × (w.done c ≡ []) × (w.ended c ≡ false) × ((x : ℕ) → w.holder x ≢ Some c)
+  pub maker_kinds : v.maker ≡ true → v.kinds ≡ kinds
+
+-- the maker is one, and has made every client, and no more than there are to be
+pub record Makers (clients : ℕ) (views : List View) : Type 0 where
+  pub made : (j : ℕ) (v : View) → get_elem? views j ≡ some v → v.maker ≡ true → (i : ℕ) (u : View) → get_elem? views i ≡ some u → (u.client ≡ true → u.number < v.made) × (u.maker ≡ true → i ≡ j)
+  pub numbers : (j : ℕ) (v : View) → get_elem? views j ≡ some v → v.client ≡ true → v.number < clients
+
+module _ {S O R : Type 0} (content : S → Content) (op_in : O → AnyOp) (reply_in : R → AnyReply) where
+  -- the core has this log, and its object what the log leaves
+  abbrev pub Fits : Kind → Core S O R → List AnyEntry → Type 0
+  Fits kind k log = (map (entry_in op_in reply_in) k.log.items ≡ log) × Replays (empty kind) log (content k.object)
+
+  abbrev pub CoreAt : Kind → Home S O R → List AnyEntry → Type 0
+  CoreAt kind home log = (k : Core S O R) × (home ≡ some (some (slot.Core k))) × Fits kind k log
+
+  -- the slot of a client's request or answer
+  abbrev pub MessageAt : Home S O R → Stage → Type 0
+  MessageAt home absent = home ≡ some (some slot.Nothing)
+  MessageAt home (posted q) = (p : Request O) × (home ≡ some (some (slot.Request p))) × (request_in op_in p ≡ q)
+  MessageAt home (answered q a) = (b : Answer R) × (home ≡ some (some (slot.Answer b))) × (answer_in reply_in b ≡ a)
+  MessageAt home t = Unit {0}
+
+  -- the slot of a client's journal: empty until the client has come, and out until it has ended
+  pub record JournalAt (home : Home S O R) (t : Stage) (ds : List AnyDone) (ended : Bool) : Type 0 where
+    pub at_first : t ≡ absent → home ≡ some (some slot.Nothing)
+    pub at_last : ended ≡ true → (j : Journal O R) × (home ≡ some (some (slot.Journal j))) × (map (event_in op_in reply_in) j.events.items ≡ journal_of ds (request_of t))
+
+  -- the words and the slots at home
+  pub record Tied (kinds : List Kind) (w : World) (words : List ℕ) (homes : List (maybe.Option (Slot S O R))) : Type 0 where
+    pub wide : length words ≡ 81
+    pub deep : length homes ≡ 80
+    pub objects : length kinds < 17
+    pub locks : (x : ℕ) → x < length kinds → slice_index words x ≡ lock_word (w.holder x)
+    pub rows : (r : ℕ) → r < 32 → slice_index words (16 + r) ≡ row_word (w.stage r)
+    pub ends : (c : ℕ) → c < 32 → slice_index words (48 + c) ≡ end_word (w.ended c)
+    pub clock : slice_index words 80 ≡ w.clock
+    pub cores : (x : ℕ) → x < length kinds → w.holder x ≡ None → CoreAt (kind_at kinds x) (get_elem? homes x) (w.log x)
+    pub messages : (r : ℕ) → r < 32 → MessageAt (get_elem? homes (16 + r)) (w.stage r)
+    pub journals : (c : ℕ) → c < 32 → JournalAt (get_elem? homes (48 + c)) (w.stage c) (w.done c) (w.ended c)
+
+  -- the rule: there is a sound world to which words, slots and views are tied
+  pub record Kept (kinds : List Kind) (clients quota : ℕ) (s : State (Slot S O R) View) : Type 0 where
+    pub world : World
+    pub seat_of : ℕ → ℕ
+    pub few_calls : quota < 10001
+    pub few_clients : clients < 33
+    pub sound : Sound kinds quota world
+    pub tied : Tied kinds world s.words s.homes
+    pub seats : (j : ℕ) (v : View) → get_elem? s.views j ≡ some v → ViewOk kinds world seat_of j v
+    pub makers : Makers clients s.views
+    -- who holds an object has not ended
+    pub holders : (x c : ℕ) → world.holder x ≡ Some c → (c < clients) × (world.ended c ≡ false)

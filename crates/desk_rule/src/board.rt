@@ -1,0 +1,101 @@
+//! What the desk's table holds, and what a client knows of it.
+
+use atomic_table::TableRule;
+use model::{AnyOp, AnyReply, Kind};
+use seq_objects::SeqObject;
+use std::collections::LinkedList;
+use world::{Answer, DoneCall, JournalEvent, LogEntry, Request};
+
+/// An object with its log, and how many passes there were.
+#[derive(Drop)]
+pub struct Core<S, O, R> {
+    pub object: S,
+    pub log: Vec<LogEntry<O, R>>,
+    pub passes: u64,
+}
+
+/// What a client did.
+#[derive(Drop)]
+pub struct Journal<O, R> {
+    pub events: Vec<JournalEvent<O, R>>,
+}
+
+#[derive(Drop)]
+pub enum Slot<S, O, R> {
+    Nothing,
+    Core(Core<S, O, R>),
+    Request(Request<O>),
+    Answer(Answer<R>),
+    Journal(Journal<O, R>),
+}
+
+/// A client's own call, as the client knows it.
+pub enum Own {
+    /// The client's slots are still at home.
+    Absent,
+    Idle,
+    Drawn(Request<AnyOp>),
+    Waiting(Request<AnyOp>),
+    Taken(Request<AnyOp>, Answer<AnyReply>),
+}
+
+/// What a client holds: nothing, an object with this log, or also the request of a row.
+pub enum Held {
+    Free,
+    Pass(u32, LinkedList<LogEntry<AnyOp, AnyReply>>),
+    Hand(u32, LinkedList<LogEntry<AnyOp, AnyReply>>, u32, Request<AnyOp>),
+}
+
+/// A request that was put back into its row.
+pub struct PutBack {
+    pub row: u32,
+    pub request: Request<AnyOp>,
+}
+
+/// What a client knows. No value of it is made.
+pub struct View {
+    /// False of a view that only carries what was seen from one client to another, and of the one that makes the
+    /// clients.
+    pub client: bool,
+    pub number: u32,
+    /// It makes the clients, whose numbers are below `made`.
+    pub maker: bool,
+    pub made: u32,
+    /// The kind of each object.
+    pub kinds: LinkedList<Kind>,
+    /// The calls that are over.
+    pub done: LinkedList<DoneCall<AnyOp, AnyReply>>,
+    pub own: Own,
+    /// The own row is answered.
+    pub ready: bool,
+    /// Of each object, by its number, a beginning of its log.
+    pub seen: LinkedList<LinkedList<LogEntry<AnyOp, AnyReply>>>,
+    /// The same, as another client told it.
+    pub heard: LinkedList<LinkedList<LogEntry<AnyOp, AnyReply>>>,
+    /// The requests that were put back into their rows while the object is held.
+    pub back: LinkedList<PutBack>,
+    /// The words at which an exchange missed, or an end word was found unset.
+    pub missed: LinkedList<u64>,
+    pub held: Held,
+    pub ended: bool,
+    /// The clients that are known to have ended.
+    pub retired: LinkedList<u32>,
+}
+
+/// What the desk is made for: objects of these kinds, this many clients, and so many calls for each of them.
+#[derive(Drop)]
+pub struct Plan {
+    pub kinds: Vec<Kind>,
+    pub clients: u32,
+    pub quota: u32,
+}
+
+pub struct DeskRule;
+
+impl<S: SeqObject> TableRule<Slot<S, S::Op, S::Reply>, View, Plan> for DeskRule {
+    ghost use Rattle.desk_rule.specs.Rule.{Kept, founder};
+
+    ghost holds = { λ k. Kept S.content S.op_in S.reply_in k.kinds.items k.clients k.quota };
+
+    ghost first = { λ k. founder k.kinds.items };
+}

@@ -1,0 +1,192 @@
+-- A client that wins an object, serves rows and puts the object back: its fields go on agreeing with what it knows.
+use Rattle.std.proofs.Common.{◌≡◌, ◌≢◌, ℕ, ◌+◌, ◌<◌, Bool, true, List, [], ◌∷◌, ◌++◌, length, map, get_or, set, refl, sym, ap, subst, ◌∙◌, arith, length-set}
+use Rattle.atomic_table.specs.Table.{rest, Me}
+use Rattle.model.specs.declared.Kind.{Kind}
+use Rattle.model.specs.declared.AnyOp.{AnyOp}
+use Rattle.model.specs.declared.AnyReply.{AnyReply}
+use Rattle.model.specs.Objects.{Content, empty, kind_of}
+use Rattle.world.specs.declared.Request.{Request}
+use Rattle.world.specs.declared.Answer.{Answer}
+use Rattle.world.specs.World.{AnyEntry, AnyRequest, AnyAnswer, kind_at, logged, Replays, IsLegal, Serves}
+use Rattle.world.specs.Images.{request_in, answer_in, entry_in}
+use Rattle.world.proofs.Entries.{replays_more}
+use Rattle.desk_rule.specs.declared.board.Core.{Core}
+use Rattle.desk_rule.specs.declared.board.Journal.{Journal}
+use Rattle.desk_rule.specs.declared.board.PutBack.{PutBack}
+use Rattle.desk_rule.specs.declared.board.Slot.{Slot}
+use Rattle.desk_rule.specs.declared.board.Slot.TheVariants as slot
+use Rattle.desk_rule.specs.declared.board.Held.{Held}
+use Rattle.desk_rule.specs.declared.board.Held.TheVariants as held
+use Rattle.desk_rule.specs.declared.board.View.{View}
+use Rattle.desk_rule.specs.Views.{seen_of, missing, noting, holding, handling, putting_back, answering, learnt, seeing, IsAtRest, IsAccount}
+use Rattle.desk_rule.specs.Rule.{Fits}
+use Rattle.desk_rule.proofs.Seeing.{seen_all}
+use Rattle.publication.specs.Handles.{Agrees, at_hand, log_of, IsClient, IsPass, IsHand}
+
+module _ {O R : Type 0} (op_in : O → AnyOp) (reply_in : R → AnyReply) where
+  -- what a client holds, has put back and has missed does not matter
+  pub agrees_light : (number calls quota : ℕ) (outstanding : Bool) (j : Journal O R) (v : View) (h : Held) (bs : List PutBack) (ms : List ℕ) (rd : Bool) → Agrees op_in reply_in number calls quota outstanding j v
+      → Agrees op_in reply_in number calls quota outstanding j (record v { held = h; back = bs; missed = ms; ready = rd })
+  agrees_light number calls quota outstanding j v h bs ms rd k = record {
+    client_is = k.client_is;
+    number_is = k.number_is;
+    number_low = k.number_low;
+    at_rest = k.at_rest;
+    going = k.going;
+    calls_is = k.calls_is;
+    within = k.within;
+    few = k.few;
+    outstanding_is = k.outstanding_is;
+    journal_is = k.journal_is;
+    room = k.room;
+    wide = k.wide;
+    accounts = k.accounts;
+  }
+
+  -- the client sees the list l of x
+  pub agrees_seeing : (number calls quota : ℕ) (outstanding : Bool) (j : Journal O R) (v : View) (x : ℕ) (l : List AnyEntry) → x < 16 → IsAccount x v l → Agrees op_in reply_in number calls quota outstanding j v
+      → Agrees op_in reply_in number calls quota outstanding j (seeing x l v)
+  agrees_seeing number calls quota outstanding j v x l low account k = let wide = k.wide in record {
+    client_is = k.client_is;
+    number_is = k.number_is;
+    number_low = k.number_low;
+    at_rest = k.at_rest;
+    going = k.going;
+    calls_is = k.calls_is;
+    within = k.within;
+    few = k.few;
+    outstanding_is = k.outstanding_is;
+    journal_is = k.journal_is;
+    room = k.room;
+    wide = length-set v.seen x l ∙ wide;
+    accounts = seen_all (λ y z. IsAccount y v z) v.seen x l (omega arith) account (λ y _. k.accounts y);
+  }
+
+module _ {S O R : Type 0} (content : S → Content) (op_in : O → AnyOp) (reply_in : R → AnyReply) where
+  -- the core after a request was served
+  pub core_grows : (kind : Kind) (r : ℕ) (k k' : Core S O R) (q : Request O) (a : Answer R) → Fits content op_in reply_in kind k (log_of op_in reply_in k)
+      → log_of op_in reply_in k' ≡ log_of op_in reply_in k ++ logged r (request_in op_in q) (answer_in reply_in a) → Serves (content k.object) (op_in q.op) (answer_in reply_in a) (content k'.object)
+      → Fits content op_in reply_in kind k' (log_of op_in reply_in k')
+  core_grows kind r k k' q a fits log did =
+      (refl, subst (λ z. Replays (empty kind) z (content k'.object)) (sym log) (replays_more (empty kind) (content k.object) (content k'.object) (log_of op_in reply_in k) r (request_in op_in q) (answer_in reply_in a) fits.1 did))
+
+module _ {S O R : Type 0} (content : S → Content) (op_in : O → AnyOp) (reply_in : R → AnyReply) (number calls quota : ℕ) (outstanding : Bool) (j : Journal O R) where
+  abbrev M : Type 0
+  M = Me (Slot S O R) View
+
+  abbrev TheClient : M → Type 0
+  TheClient = IsClient op_in reply_in number calls quota outstanding j
+
+  abbrev ThePass : ℕ → Core S O R → M → Type 0
+  ThePass = IsPass content op_in reply_in number calls quota outstanding j
+
+  abbrev TheHand : ℕ → Core S O R → ℕ → Request O → M → Type 0
+  TheHand = IsHand content op_in reply_in number calls quota outstanding j
+
+  abbrev light : (v : View) (h : Held) (bs : List PutBack) (ms : List ℕ) (rd : Bool) → Agrees op_in reply_in number calls quota outstanding j v → Agrees op_in reply_in number calls quota outstanding j (record v { held = h; back = bs; missed = ms; ready = rd })
+  light = agrees_light op_in reply_in number calls quota outstanding j
+
+  pub missed_ok : (i : ℕ) (m d : M) → TheClient m → d ≡ (missing i m.0, m.1) → TheClient d
+  missed_ok i m d k e = subst TheClient (sym e) record { agrees = light m.0 m.0.held m.0.back (missing i m.0).missed m.0.ready k.agrees; free = k.free; in_hand = k.in_hand }
+
+  -- the core is out of its slot: m before, a after the win, b with nothing in the slot
+  pub pass_ok : (x : ℕ) (k core : Core S O R) (l : List AnyEntry) (m a b : M) → TheClient m → a ≡ (holding x l m.0, (x, slot.Core k) ∷ m.1) → b ≡ (a.0, (x, slot.Nothing) ∷ rest a.1) → core ≡ k
+      → Fits content op_in reply_in (kind_at m.0.kinds x) k l → x < 16 → ThePass x core b
+  pass_ok x k core l m a b c e f same fits low =
+      let log : log_of op_in reply_in core ≡ l = ap (log_of op_in reply_in) same ∙ fits.0 in
+      let is : b ≡ (holding x (log_of op_in reply_in core) m.0, (x, slot.Nothing) ∷ m.1) = f ∙ (ap (λ z. (z.0, (x, slot.Nothing) ∷ rest z.1)) e ∙ ap (λ z. (holding x z m.0, (x, slot.Nothing) ∷ m.1)) (sym log)) in
+      subst (ThePass x core) (sym is) record {
+        agrees = light m.0 (held.Pass x (log_of op_in reply_in core)) m.0.back m.0.missed m.0.ready c.agrees;
+        holds = refl;
+        in_hand = ap (λ z. (x, slot.Nothing) ∷ z) c.in_hand;
+        fits = (refl, subst (λ z. Replays (empty (kind_at m.0.kinds x)) (log_of op_in reply_in z) (content z.object)) (sym same) (subst (λ z. Replays (empty (kind_at m.0.kinds x)) z (content k.object)) (sym fits.0) fits.1));
+        low = low;
+      }
+
+  -- the client after its pass was put back: m before, a with the core in hand, b after the step
+  pub released_ok : (x : ℕ) (core : Core S O R) (m a b : M) → ThePass x core m → a ≡ (m.0, (x, slot.Core core) ∷ rest m.1) → b ≡ (learnt x (log_of op_in reply_in core) a.0, rest a.1)
+      → IsAccount x a.0 (log_of op_in reply_in core) → TheClient b
+  released_ok x core m a b p e f account =
+      let l : List AnyEntry = log_of op_in reply_in core in let is : b ≡ (learnt x l m.0, rest m.1) = f ∙ ap (λ z. (learnt x l z.0, rest z.1)) e in
+      let account' : IsAccount x m.0 l = subst (λ (z : M). IsAccount x z.0 l) e account in
+      subst TheClient (sym is) record {
+        agrees = light (seeing x l m.0) held.Free [] m.0.missed m.0.ready (agrees_seeing op_in reply_in number calls quota outstanding j m.0 x l p.low account' p.agrees);
+        free = refl;
+        in_hand = ap rest p.in_hand;
+      }
+
+  -- with the core in hand, the client may release
+  pub release_ready : (x : ℕ) (core : Core S O R) (m a : M) → ThePass x core m → a ≡ (m.0, (x, slot.Core core) ∷ rest m.1)
+      → (a.0.client ≡ true) × (a.0.held ≡ held.Pass x (log_of op_in reply_in core)) × (a.1 ≡ (x, slot.Core core) ∷ rest m.1) × Fits content op_in reply_in (kind_at a.0.kinds x) core (log_of op_in reply_in core) × IsAtRest a.0.own
+  release_ready x core m a p e = subst (λ (z : M). (z.0.client ≡ true) × (z.0.held ≡ held.Pass x (log_of op_in reply_in core)) × (z.1 ≡ (x, slot.Core core) ∷ rest m.1) × Fits content op_in reply_in (kind_at z.0.kinds x) core (log_of op_in reply_in core) × IsAtRest z.0.own)
+      (sym e) (p.agrees.client_is, p.holds, refl, p.fits, p.agrees.at_rest)
+
+  -- with the request in hand again, the client may put it back
+  pub back_ready : (x : ℕ) (core : Core S O R) (r : ℕ) (p : Request O) (m b : M) → TheHand x core r p m → b ≡ (m.0, (16 + r, slot.Request p) ∷ rest m.1)
+      → (b.0.client ≡ true) × (b.0.held ≡ held.Hand x (log_of op_in reply_in core) r (request_in op_in p)) × (b.1 ≡ (16 + r, slot.Request p) ∷ rest m.1)
+  back_ready x core r p m b h e = subst (λ (z : M). (z.0.client ≡ true) × (z.0.held ≡ held.Hand x (log_of op_in reply_in core) r (request_in op_in p)) × (z.1 ≡ (16 + r, slot.Request p) ∷ rest m.1)) (sym e) (h.agrees.client_is, h.holds, refl)
+
+  -- with the answer in hand, the client may answer
+  pub answer_ready : (x : ℕ) (k k' : Core S O R) (r : ℕ) (q : Request O) (a : Answer R) (m b : M) → TheHand x k r q m → b ≡ (m.0, (16 + r, slot.Answer a) ∷ rest m.1)
+      → log_of op_in reply_in k' ≡ log_of op_in reply_in k ++ logged r (request_in op_in q) (answer_in reply_in a) → Serves (content k.object) (op_in q.op) (answer_in reply_in a) (content k'.object)
+      → (b.0.client ≡ true) × (b.0.held ≡ held.Hand x (log_of op_in reply_in k) r (request_in op_in q)) × (b.1 ≡ (16 + r, slot.Answer a) ∷ rest m.1)
+      × IsLegal (kind_at b.0.kinds x) (log_of op_in reply_in k ++ logged r (request_in op_in q) (answer_in reply_in a))
+  answer_ready x k k' r q a m b h e log did =
+      subst (λ (z : M). (z.0.client ≡ true) × (z.0.held ≡ held.Hand x (log_of op_in reply_in k) r (request_in op_in q)) × (z.1 ≡ (16 + r, slot.Answer a) ∷ rest m.1)
+      × IsLegal (kind_at z.0.kinds x) (log_of op_in reply_in k ++ logged r (request_in op_in q) (answer_in reply_in a))) (sym e)
+      (h.agrees.client_is, h.holds, refl, (content k'.object, replays_more (empty (kind_at m.0.kinds x)) (content k.object) (content k'.object) (log_of op_in reply_in k) r (request_in op_in q) (answer_in reply_in a) h.fits.1 did))
+
+  -- a pass after a miss at a row
+  pub noted_ok : (x : ℕ) (core : Core S O R) (i : ℕ) (m b : M) → ThePass x core m → b ≡ (noting i x m.0, m.1) → ThePass x core b
+  noted_ok x core i m b p f = subst (ThePass x core) (sym f) record {
+    agrees = light m.0 m.0.held m.0.back (noting i x m.0).missed (noting i x m.0).ready p.agrees;
+    holds = p.holds;
+    in_hand = p.in_hand;
+    fits = p.fits;
+    low = p.low;
+  }
+
+  -- the request q is out of its slot: a after the pick, b with nothing in the slot
+  pub hand_ok : (x : ℕ) (core : Core S O R) (r : ℕ) (q p : Request O) (m a b : M) → ThePass x core m → a ≡ (handling x (log_of op_in reply_in core) r (request_in op_in q) m.0, (16 + r, slot.Request q) ∷ m.1)
+      → b ≡ (a.0, (16 + r, slot.Nothing) ∷ rest a.1) → q ≡ p → q.object ≡ x → kind_of (op_in q.op) ≡ kind_at m.0.kinds x → r < 32 → TheHand x core r p b
+  hand_ok x core r q p m a b k e f same on of_kind low =
+      let l : List AnyEntry = log_of op_in reply_in core in
+      let is : b ≡ (handling x l r (request_in op_in p) m.0, (16 + r, slot.Nothing) ∷ m.1) = f ∙ (ap (λ z. (z.0, (16 + r, slot.Nothing) ∷ rest z.1)) e ∙ ap (λ z. (handling x l r (request_in op_in z) m.0, (16 + r, slot.Nothing) ∷ m.1)) same) in
+      subst (TheHand x core r p) (sym is) record {
+        agrees = light m.0 (held.Hand x l r (request_in op_in p)) (handling x l r (request_in op_in p) m.0).back m.0.missed m.0.ready k.agrees;
+        holds = refl;
+        in_hand = ap (λ z. (16 + r, slot.Nothing) ∷ z) k.in_hand;
+        fits = k.fits;
+        low = k.low;
+        row_low = low;
+        on = ap (λ z. z.object) (sym same) ∙ on;
+        of_kind = ap (λ z. kind_of (op_in z.op)) (sym same) ∙ of_kind;
+      }
+
+  -- the request is back in its row: b with the request in its slot, d after the step
+  pub back_ok : (x : ℕ) (core : Core S O R) (r : ℕ) (p : Request O) (m b d : M) → TheHand x core r p m → b ≡ (m.0, (16 + r, slot.Request p) ∷ rest m.1)
+      → d ≡ (putting_back x (log_of op_in reply_in core) r (request_in op_in p) b.0, rest b.1) → ThePass x core d
+  back_ok x core r p m b d h e f =
+      let l : List AnyEntry = log_of op_in reply_in core in let q : AnyRequest = request_in op_in p in
+      let is : d ≡ (putting_back x l r q m.0, rest m.1) = f ∙ ap (λ z. (putting_back x l r q z.0, rest z.1)) e in
+      subst (ThePass x core) (sym is) record {
+        agrees = light m.0 (held.Pass x l) (putting_back x l r q m.0).back m.0.missed m.0.ready h.agrees;
+        holds = refl;
+        in_hand = ap rest h.in_hand;
+        fits = h.fits;
+        low = h.low;
+      }
+
+  -- the pass after an answer: b with the answer in hand, d after the step
+  pub answered_ok : (x r : ℕ) (k k' : Core S O R) (q : Request O) (a : Answer R) (m b d : M) → TheHand x k r q m → Fits content op_in reply_in (kind_at m.0.kinds x) k' (log_of op_in reply_in k')
+      → log_of op_in reply_in k' ≡ log_of op_in reply_in k ++ logged r (request_in op_in q) (answer_in reply_in a) → b ≡ (m.0, (16 + r, slot.Answer a) ∷ rest m.1)
+      → d ≡ (answering r x (log_of op_in reply_in k ++ logged r (request_in op_in q) (answer_in reply_in a)) b.0, rest m.1) → ThePass x k' d
+  answered_ok x r k k' q a m b d h fits log e f =
+      let is : d ≡ (answering r x (log_of op_in reply_in k') m.0, rest m.1) = f ∙ λ i. (answering r x (sym log i) (e i).0, rest m.1) in
+      subst (ThePass x k') (sym is) record {
+        agrees = light m.0 (held.Pass x (log_of op_in reply_in k')) m.0.back m.0.missed (answering r x (log_of op_in reply_in k') m.0).ready h.agrees;
+        holds = refl;
+        in_hand = ap rest h.in_hand;
+        fits = fits;
+        low = h.low;
+      }

@@ -1,0 +1,10 @@
+pub mod Slots
+pub mod Holds
+pub mod Said
+pub mod Turns
+pub mod Encounters
+pub mod Growing
+pub mod Newcomers
+pub mod Endings
+pub mod Gathering
+pub mod Leavings

@@ -1,0 +1,78 @@
+-- A new desk, and a client that has made no call.
+use Rattle.std.proofs.Common.{◌≡◌, ℕ, zero, suc, ◌+◌, ◌<◌, ◌≤◌, Bool, false, List, [], ◌∷◌, ◌++◌, length, map, get_or, replicate, refl, sym, ap, subst, ◌∙◌, arith}
+use mathlib.Core.Option.{some, some-injective, some-ne-none}
+use lib.ListN.{get_elem?, length-map}
+use Rattle.atomic_table.specs.Table.{Me, opening}
+use Rattle.model.specs.declared.Kind.{Kind}
+use Rattle.model.specs.declared.Kind.TheVariants.{Queue}
+use Rattle.model.specs.declared.AnyOp.{AnyOp}
+use Rattle.model.specs.declared.AnyReply.{AnyReply}
+use Rattle.model.specs.Objects.{Content, empty, kind_with}
+use Rattle.world.specs.World.{AnyEntry, kind_at, entries_of}
+use Rattle.world.specs.Images.{entry_in, event_in}
+use Rattle.desk_rule.specs.declared.board.Core.{Core}
+use Rattle.desk_rule.specs.declared.board.Journal.{Journal}
+use Rattle.desk_rule.specs.declared.board.Plan.{Plan}
+use Rattle.desk_rule.specs.declared.board.Slot.{Slot}
+use Rattle.desk_rule.specs.declared.board.Slot.TheVariants as slot
+use Rattle.desk_rule.specs.declared.board.Own.TheVariants as own
+use Rattle.desk_rule.specs.declared.board.View.{View}
+use Rattle.desk_rule.specs.Views.{newcomer, founder, founder_of, calling}
+use Rattle.desk_rule.specs.Rule.{Kept}
+use Rattle.desk_rule.proofs.Beginnings.{nils, opens, zero_words}
+use Rattle.publication.specs.Handles.{IsClient, at_hand}
+use Rattle.publication.proofs.Growing.{there}
+use Rattle.publication.specs.Making.{IsLaid, AreEmpty, kinds_with, HasRoom, IsSmall}
+
+module _ {A : Type 0} where
+  holds_there : (P : A → Type 0) (l : List A) (i : ℕ) (a : A) → get_elem? l i ≡ some a → ((k : ℕ) (d : A) → k < length l → P (get_or l k d)) → P a
+  holds_there P [] i a e all = absurd (some-ne-none a (sym e))
+  holds_there P (x ∷ xs) zero a e all = subst P (some-injective x a e) (all 0 a (omega arith))
+  holds_there P (x ∷ xs) (suc i) a e all = holds_there P xs i a e (λ k d h. all (suc k) d (omega arith))
+
+  kind_there : (f : A → Kind) (l : List A) (i : ℕ) (a : A) → get_elem? l i ≡ some a → kind_at (map f l) i ≡ f a
+  kind_there f [] i a e = absurd (some-ne-none a (sym e))
+  kind_there f (x ∷ xs) zero a e = ap f (some-injective x a e)
+  kind_there f (x ∷ xs) (suc i) a e = kind_there f xs i a e
+
+module _ {S O R : Type 0} (content : S → Content) (op_in : O → AnyOp) (reply_in : R → AnyReply) where
+  pub opens_on : (plan : Plan) (objects : List S) (slots : List (Slot S O R)) → IsSmall plan → plan.kinds.items ≡ kinds_with content objects → AreEmpty content objects → IsLaid objects slots
+      → Kept content op_in reply_in plan.kinds.items plan.clients plan.quota (opening (replicate 81 0) slots (founder plan.kinds.items))
+  opens_on plan objects slots small are clean laid = let count : length plan.kinds.items ≡ length objects = ap length are ∙ length-map objects (λ o. kind_with (content o)) in let few = small.0 in
+      opens content op_in reply_in plan.kinds.items plan.clients plan.quota (replicate 81 0) slots small.0 small.1 small.2 refl zero_words laid.long
+      (λ x l. let o = there objects x (omega arith) in let k = laid.cores x o.0 o.1 in
+      let kind : kind_at plan.kinds.items x ≡ kind_with (content o.0) = ap (λ z. kind_at z x) are ∙ kind_there (λ o. kind_with (content o)) objects x o.0 o.1 in
+      let is : content o.0 ≡ empty (kind_with (content o.0)) = holds_there (λ o. content o ≡ empty (kind_with (content o))) objects x o.0 o.1 clean in
+      (k.0, k.1, (ap (map (entry_in op_in reply_in)) k.3, ap empty kind ∙ (sym is ∙ ap content (sym k.2)))))
+      (λ i h l. laid.others i (omega arith) l)
+
+module _ {S O R : Type 0} (op_in : O → AnyOp) (reply_in : R → AnyReply) where
+  -- a client after its first step
+  pub begun_ok : (kinds : List Kind) (number quota : ℕ) (j : Journal O R) (m : Me (Slot S O R) View) → number < 32 → quota < 10001 → HasRoom quota j → m ≡ (calling own.Idle (newcomer kinds number), at_hand number own.Idle)
+      → IsClient op_in reply_in number 0 quota false j m
+  begun_ok kinds number quota j m low few room is = subst (IsClient op_in reply_in number 0 quota false j) (sym is) record {
+    agrees = record {
+      client_is = refl;
+      number_is = refl;
+      number_low = low;
+      at_rest = tt;
+      going = refl;
+      calls_is = refl;
+      within = omega arith;
+      few = few;
+      outstanding_is = refl;
+      journal_is = ap (map (event_in op_in reply_in)) room.0;
+      room = room.1;
+      wide = refl;
+      accounts = λ x. ([], ap (entries_of number) (nils 16 x), refl);
+    };
+    free = refl;
+    in_hand = refl;
+  }
+
+module _ {S O R : Type 0} where
+  -- its seat: the founder's, then split off, then after its first step
+  pub entered : (kinds : List Kind) (number : ℕ) (f new m : Me (Slot S O R) View) → f ≡ (founder_of kinds number, []) → new ≡ (newcomer f.0.kinds f.0.made, [])
+      → m ≡ (calling own.Idle new.0, (16 + number, slot.Nothing) ∷ (48 + number, slot.Nothing) ∷ new.1) → m ≡ (calling own.Idle (newcomer kinds number), at_hand number own.Idle)
+  entered kinds number f new m a b e = e ∙ (ap (λ (z : Me (Slot S O R) View). (calling own.Idle z.0, (16 + number, slot.Nothing) ∷ (48 + number, slot.Nothing) ∷ z.1)) b
+      ∙ ap (λ (z : Me (Slot S O R) View). (calling own.Idle (newcomer z.0.kinds z.0.made), at_hand number own.Idle)) a)

@@ -1,0 +1,29 @@
+use Rattle.std.proofs.Common.{rules, arith, ◌≡◌, ◌<◌, ℕ, ◌+◌, ◌∷◌, ◌++◌, length, refl, sym, ap, ◌∙◌, subst}
+use Rattle.desk_rule.proofs.Rows.{answers_it}
+use Rattle.publication.proofs.Holds.{answer_ready, core_grows, answered_ok}
+use Rattle.publication.proofs.Said.{may_serve, answered}
+use Rattle.publication.proofs.client.Hand.answer.Goals as goal
+
+pub serve-answer-requires-after_bounds : goal.serve-answer-requires-after_bounds
+serve-answer-requires-after_bounds g c = λ κs bounds. may_serve c.args.self _ _ (sym c.self.view_is) c.self.invariant.fits.1 c.requires.possible
+
+pub store-requires : goal.store-requires
+store-requires g c = let h = c.self.invariant in let low = h.row_low in let wide = c.desk.invariant.0.0 in let e = c.serve-answer.ensures in
+    let r = answer_ready g.S.SeqObject.content g.S.SeqObject.op_in g.S.SeqObject.reply_in _ _ _ _ _ _ c.self.inside.core c.serve-answer.new.core _ c.self.inside.request c.serve-answer.result _ _ h c.exchange.ensures.3 e.log e.content in (
+      search rules,
+      omega arith,
+      answers_it _ _ _ _ _ _ _ _ _ _ _ _ _ _ _ r.0 r.1 r.2 h.on r.3,
+    )
+
+pub invariant_of-result : goal.invariant_of-result
+invariant_of-result g c = let h = c.self.invariant in let e = c.serve-answer.ensures in
+    let r = answer_ready g.S.SeqObject.content g.S.SeqObject.op_in g.S.SeqObject.reply_in _ _ _ _ _ _ c.self.inside.core c.serve-answer.new.core _ c.self.inside.request c.serve-answer.result _ _ h c.exchange.ensures.3 e.log e.content in
+    answered_ok g.S.SeqObject.content g.S.SeqObject.op_in g.S.SeqObject.reply_in _ _ _ _ _ _ _ c.self.inside.core c.serve-answer.new.core c.self.inside.request c.serve-answer.result _ _ _ h
+    (core_grows g.S.SeqObject.content g.S.SeqObject.op_in g.S.SeqObject.reply_in _ _ c.self.inside.core c.serve-answer.new.core c.self.inside.request c.serve-answer.result h.fits e.log e.content) e.log c.exchange.ensures.3
+    (c.store.ensures.2 _ _ _ _ _ _ _ r.1 r.2)
+
+pub returns-clause-answered : goal.returns-clause-answered
+returns-clause-answered g c = let h = c.self.invariant in let e = c.serve-answer.ensures in
+    let r = answer_ready g.S.SeqObject.content g.S.SeqObject.op_in g.S.SeqObject.reply_in _ _ _ _ _ _ c.self.inside.core c.serve-answer.new.core _ c.self.inside.request c.serve-answer.result _ _ h c.exchange.ensures.3 e.log e.content in
+    let fits = core_grows g.S.SeqObject.content g.S.SeqObject.op_in g.S.SeqObject.reply_in _ _ c.self.inside.core c.serve-answer.new.core c.self.inside.request c.serve-answer.result h.fits e.log e.content in
+    answered c.args.self _ _ _ _ _ _ _ _ _ (sym c.self.view_is) c.exchange.ensures.3 (c.store.ensures.2 _ _ _ _ _ _ _ r.1 r.2) e.log (_, fits.1)

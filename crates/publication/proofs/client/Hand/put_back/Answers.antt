@@ -1,0 +1,20 @@
+use Rattle.std.proofs.Common.{rules, arith, ◌≡◌, ◌<◌, ℕ, ◌+◌, ◌∷◌, ◌++◌, length, refl, sym, ap, ◌∙◌, subst}
+use Rattle.desk_rule.proofs.Rows.{puts_back_it}
+use Rattle.publication.proofs.Holds.{back_ready, back_ok}
+use Rattle.publication.proofs.Said.{is_put_back}
+use Rattle.publication.proofs.client.Hand.put_back.Goals as goal
+
+pub store-requires : goal.store-requires
+store-requires g c = let h = c.self.invariant in let low = h.row_low in let wide = c.desk.invariant.0.0 in let r = back_ready g.S.SeqObject.content g.S.SeqObject.op_in g.S.SeqObject.reply_in _ _ _ _ _ _ c.self.inside.core _ c.self.inside.request _ _ h c.exchange.ensures.3 in (
+  search rules,
+  omega arith,
+  puts_back_it _ _ _ _ _ _ _ _ _ _ _ _ _ _ c.self.inside.request _ r.0 r.1 r.2 refl h.on refl,
+)
+
+pub invariant_of-result : goal.invariant_of-result
+invariant_of-result g c = let h = c.self.invariant in let r = back_ready g.S.SeqObject.content g.S.SeqObject.op_in g.S.SeqObject.reply_in _ _ _ _ _ _ c.self.inside.core _ c.self.inside.request _ _ h c.exchange.ensures.3 in
+    back_ok g.S.SeqObject.content g.S.SeqObject.op_in g.S.SeqObject.reply_in _ _ _ _ _ _ _ _ _ _ _ _ h c.exchange.ensures.3 (c.store.ensures.2 _ _ _ _ r.1)
+
+pub returns-clause-put_back : goal.returns-clause-put_back
+returns-clause-put_back g c = let h = c.self.invariant in let r = back_ready g.S.SeqObject.content g.S.SeqObject.op_in g.S.SeqObject.reply_in _ _ _ _ _ _ c.self.inside.core _ c.self.inside.request _ _ h c.exchange.ensures.3 in
+    is_put_back c.args.self _ _ _ _ _ _ _ (sym c.self.view_is) c.exchange.ensures.3 (c.store.ensures.2 _ _ _ _ r.1)

@@ -1,0 +1,18 @@
+use Rattle.std.proofs.Common.{arith, refl, sym, ap, ◌∙◌}
+use Rattle.desk_rule.proofs.Ends.{sees_it}
+use Rattle.publication.proofs.Endings.{either_view, watching_ok}
+use Rattle.publication.proofs.closing.sees_end.Goals as goal
+
+pub load-requires : goal.load-requires
+load-requires g c = let d = c.desk.invariant.0 in let wide = d.0 in let few = d.6 in let low = c.requires.client in let count = ap (λ s. s.clients) c.desk.view_is in (
+  ap (λ k. k.desk.table) c.last.view_is ∙ (ap (λ s. s.table) c.requires.desk ∙ sym (ap (λ s. s.id.table) c.desk.view_is)),
+  omega arith,
+  sees_it _ _ _ _ _ _ _ _ _ _ c.last.invariant.agrees.client_is (omega arith),
+)
+
+pub invariant_of-last : goal.invariant_of-last
+invariant_of-last g c = let t = c.load.ensures.2 c.args.client refl in watching_ok _ _ _ _ _ _ _ c.load.result c.args.client _ _ c.last.invariant t.0 t.1
+
+pub returns-clause-seen : goal.returns-clause-seen
+returns-clause-seen g c = let t = c.load.ensures.2 c.args.client refl in
+    either_view c.load.result c.args.client c.last.inside.member.seat.me.0 c.args.last.now.knows c.load.new.seat.me.0 (ap (λ k. k.knows) c.last.view_is) (λ e. ap (λ m. m.0) (t.0 e)) (λ n. ap (λ m. m.0) (t.1 n))

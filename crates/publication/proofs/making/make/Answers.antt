@@ -1,0 +1,22 @@
+use Rattle.std.proofs.Common.{arith, refl, ap, ◌∙◌}
+use Rattle.desk_rule.proofs.Beginnings.{makes_client, begins_it}
+use Rattle.publication.proofs.Newcomers.{begun_ok, entered}
+use Rattle.publication.proofs.making.make.Goals as goal
+
+pub split_seat-seat-requires : goal.split_seat-seat-requires
+split_seat-seat-requires g c = let me = c.requires.founder in let made = ap (λ m. m.0.made) me in let low = c.requires.plan.1 in let wide = c.requires.table.1 in
+    (c.requires.table.0, omega arith, makes_client _ _ _ _ _ _ _ _ (ap (λ m. m.0.maker) me) (ap (λ m. m.0.client) me) (omega arith))
+
+pub load-requires : goal.load-requires
+load-requires g c = let me = c.requires.founder in let made = ap (λ m. m.0.made) me in let low = c.requires.plan.1 in let few = c.requires.plan.0.1 in let wide = c.requires.table.1 in let seat = c.split_seat-seat.ensures.4 in
+    (c.split_seat-seat.ensures.3 ∙ c.requires.table.0, omega arith, begins_it _ _ _ _ _ _ _ _ c.args.number _ (ap (λ m. m.0.client) seat) (ap (λ m. m.0.number) seat ∙ made) (omega arith) (ap (λ m. m.0.own) seat) (ap (λ m. m.0.held) seat) (ap (λ m. m.0.ended) seat))
+
+pub invariant_of-result : goal.invariant_of-result
+invariant_of-result g c = let few = c.requires.plan.0.1 in let low = c.requires.plan.1 in let quota = c.requires.plan.0.2 in let is = c.requires.plan.2 in
+    begun_ok g.S.SeqObject.op_in g.S.SeqObject.reply_in c.args.table.now.shared.key.kinds.items c.args.number c.args.quota c.args.journal c.load.new.seat.me (omega arith) (omega arith) c.requires.journal
+    (entered c.args.table.now.shared.key.kinds.items c.args.number c.args.founder.now.me c.split_seat-seat.result.me c.load.new.seat.me c.requires.founder c.split_seat-seat.ensures.4 (c.load.ensures.2 c.args.number refl))
+
+pub returns-clause-client : goal.returns-clause-client
+returns-clause-client g c = let table = c.load.ensures.0 ∙ (c.split_seat-seat.ensures.3 ∙ c.requires.table.0) in
+    let me = entered c.args.table.now.shared.key.kinds.items c.args.number c.args.founder.now.me c.split_seat-seat.result.me c.load.new.seat.me c.requires.founder c.split_seat-seat.ensures.4 (c.load.ensures.2 c.args.number refl) in
+    λ i. record { desk = record { table = table i; quota = c.args.quota }; knows = (me i).0 }

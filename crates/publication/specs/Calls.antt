@@ -1,0 +1,163 @@
+-- What the desk's calls say of clients and of what they hold.
+use Rattle.std.specs.Prelude.{◌≡◌, ◌≢◌, ◌⊎◌, ℕ, ◌+◌, ◌<◌, ◌≤◌, Bool, true, false, List, [], ◌∷◌, ◌++◌, length, map, All, Contains, ⊤, Option, Some, None, IsSome}
+use Rattle.model.specs.declared.Kind.{Kind}
+use Rattle.model.specs.declared.AnyOp.{AnyOp}
+use Rattle.model.specs.declared.AnyReply.{AnyReply}
+use Rattle.model.specs.Objects.{Content, empty, kind_of, next}
+use Rattle.world.specs.declared.JournalEvent.TheVariants.{Invoked, Returned}
+use Rattle.world.specs.World.{AnyEntry, AnyRequest, AnyAnswer, kind_at, logged, entries_of, served, calls_made, Replays, IsLegal, StartsWith}
+use Rattle.desk_rule.specs.declared.board.Own.TheVariants as own
+use Rattle.desk_rule.specs.declared.board.View.{View}
+use Rattle.desk_rule.specs.Views.{seen_of, own_request, journal, is_waiting, missing, noting, holding, handling, putting_back, answering, learnt, calling, taking, done_with, seeing}
+use Rattle.world.specs.Images.{entry_in, event_in}
+use Rattle.recorder.specs.Records.{Recorded, journal_at, log_at}
+use Rattle.publication.specs.declared.desk.Post.{Post}
+use Rattle.publication.specs.declared.desk.Post.TheVariants as post
+use Rattle.publication.specs.declared.desk.Win.{Win}
+use Rattle.publication.specs.declared.desk.Win.TheVariants as win
+use Rattle.publication.specs.declared.desk.Picked.{Picked}
+use Rattle.publication.specs.declared.desk.Picked.TheVariants as pick
+use Rattle.publication.specs.Handles.{DeskId, DeskSeen, Known, Holding, Handling}
+
+-- The call was posted as the outstanding one of an idle client: its invocation is the last event of the journal.
+pub record Posted (v : View) (object : ℕ) (op : AnyOp) (w : View) : Type 0 where
+  pub ticket : ℕ
+  pub was_idle : v.own ≡ own.Idle
+  pub knows : w ≡ calling (own.Waiting record { object = object; ticket = ticket; op = op }) v
+  pub journal : journal w ≡ journal v ++ Invoked ticket object op ∷ []
+
+-- the client has no call outstanding, and may post one more
+abbrev pub MayPost : Known → Type 0
+MayPost c = (is_waiting c.knows.own ≡ false) × (calls_made c.knows.done (own_request c.knows.own) < c.desk.quota)
+
+-- there is no object x, or it is of another kind
+abbrev pub IsNotOfKind : List Kind → ℕ → Kind → Post → Type 0
+IsNotOfKind kinds x kind post.NoSuchObject = length kinds ≤ x
+IsNotOfKind kinds x kind post.OtherKind = (x < length kinds) × (kind ≢ kind_at kinds x)
+IsNotOfKind kinds x kind e = ⊥
+
+-- why a call on the object x was not posted
+abbrev pub PostRefused : DeskSeen → Known → ℕ → AnyOp → Post → Type 0
+PostRefused d c x op post.Outstanding = is_waiting c.knows.own ≡ true
+PostRefused d c x op post.Spent = (is_waiting c.knows.own ≡ false) × (c.desk.quota ≤ calls_made c.knows.done (own_request c.knows.own))
+PostRefused d c x op e = MayPost c × IsNotOfKind d.kinds x (kind_of op) e
+
+-- The own call is over, with this answer. The log of its object that was seen is legal, begins with all that was seen
+-- before, and holds of the client's own calls those that are over and this one. The ticket of the return is greater than
+-- each in it, and the return is the last event of the journal.
+pub record Polled (v : View) (a : AnyAnswer) (w : View) : Type 0 where
+  pub request : AnyRequest
+  pub log : List AnyEntry
+  pub ticket : ℕ
+  pub waited : v.own ≡ own.Waiting request
+  pub knows : w ≡ done_with request a ticket (taking request a log v)
+  pub legal : IsLegal (kind_at v.kinds request.object) log
+  pub begins : StartsWith log (seen_of v request.object)
+  pub counted : entries_of v.number log ≡ served request.object v.number v.done ++ logged v.number request a
+  pub later : All (λ e. e.ticket < ticket) log
+  pub journal : journal w ≡ journal v ++ Returned ticket a ∷ []
+
+-- nothing was outstanding, or the row was tried once, and the client did not know that it was answered
+abbrev pub NotPolled : View → View → Type 0
+NotPolled v w = ((is_waiting v.own ≡ false) × (w ≡ v)) ⊎ ((w ≡ missing (16 + v.number) v) × (v.ready ≡ false))
+
+-- The object x is held. Its log is legal, leaves what the object contains, and begins with all that was seen of it.
+pub record Opened (c : Known) (x : ℕ) (p : Holding) : Type 0 where
+  pub object : p.object ≡ x
+  pub knows : p.knows ≡ holding x p.log c.knows
+  pub legal : IsLegal (kind_at c.knows.kinds x) p.log
+  pub begins : StartsWith p.log (seen_of c.knows x)
+
+-- The request of the row is in hand. It is for the object that is held, and of its kind. It is the one that this pass had
+-- put back there, if any, and at the own row it is the own one.
+pub record Got (p : Holding) (r : ℕ) (h : Handling) : Type 0 where
+  pub object : h.object ≡ p.object
+  pub log : h.log ≡ p.log
+  pub row : h.row ≡ r
+  pub knows : h.knows ≡ handling p.object p.log r h.request p.knows
+  pub on : h.request.object ≡ p.object
+  pub of_kind : kind_of h.request.op ≡ kind_at p.knows.kinds p.object
+  pub again : All (λ b. b.row ≡ r → b.request ≡ h.request) p.knows.back
+  pub mine : (q : AnyRequest) → r ≡ p.knows.number → p.knows.own ≡ own.Waiting q → h.request ≡ q
+
+-- the row was tried once, and had no request for the object; so this pass had put none back there
+pub record NotGot (p : Holding) (r : ℕ) (q : Holding) : Type 0 where
+  pub object : q.object ≡ p.object
+  pub log : q.log ≡ p.log
+  pub knows : q.knows ≡ noting (16 + r) p.object p.knows
+  pub none_back : All (λ b. b.row ≢ r) p.knows.back
+
+-- after the log, the object can do the operation
+abbrev pub CanDo : Kind → List AnyEntry → AnyOp → Type 0
+CanDo kind log op = (content : Content) × Replays (empty kind) log content × IsSome (next content op)
+
+-- the kind of the object that is held
+abbrev pub kind_held : Handling → Kind
+kind_held h = kind_at h.knows.kinds h.object
+
+-- The request in hand is answered: the log has one entry more, with the request's client, ticket and operation, and the
+-- reply, and is legal; or memory was refused, and it has none.
+pub record Answered (h : Handling) (a : AnyAnswer) (p : Holding) : Type 0 where
+  pub object : p.object ≡ h.object
+  pub log : p.log ≡ h.log ++ logged h.row h.request a
+  pub legal : IsLegal (kind_held h) p.log
+  pub knows : p.knows ≡ answering h.row h.object p.log h.knows
+
+-- the request in hand is back in its row, and nothing else changed
+pub record IsPutBack (h : Handling) (p : Holding) : Type 0 where
+  pub object : p.object ≡ h.object
+  pub log : p.log ≡ h.log
+  pub knows : p.knows ≡ putting_back h.object h.log h.row h.request h.knows
+
+-- Both have seen one legal log of the object x, which begins with what each had seen, and nothing else of theirs has
+-- changed but what they were told.
+pub record Met (x : ℕ) (one other one' other' : Known) : Type 0 where
+  pub log : List AnyEntry
+  pub first : one'.knows ≡ seeing x log (record one.knows { heard = one'.knows.heard })
+  pub second : other'.knows ≡ seeing x log (record other.knows { heard = other'.knows.heard })
+  pub legal : IsLegal (kind_at one.knows.kinds x) log
+  pub begins_first : StartsWith log (seen_of one.knows x)
+  pub begins_second : StartsWith log (seen_of other.knows x)
+
+-- another client than the last had not retired when its end word was read, and all others of lower number had
+pub record StillThere (d : DeskSeen) (last : Known) (client : ℕ) (after : Known) : Type 0 where
+  pub client_low : client < d.clients
+  pub other : client ≢ last.knows.number
+  pub least : (c : ℕ) → c < client → c ≢ last.knows.number → Contains after.knows.retired c
+  pub tried : (v : View) × (after.knows ≡ missing (48 + client) v) × (v ≡ record last.knows { retired = v.retired })
+
+module _ {O R : Type 0} (op_in : O → AnyOp) (reply_in : R → AnyReply) where
+  -- The record has a journal for each client, and for each object a legal log. The last client's journal is its own, and
+  -- each log begins with what it had seen.
+  pub record Closed (d : DeskSeen) (last : Known) (r : Recorded O R) : Type 0 where
+    pub journals : length r.journals ≡ d.clients
+    pub logs : length r.logs ≡ length d.kinds
+    pub own : map (event_in op_in reply_in) (journal_at r last.knows.number) ≡ journal last.knows
+    pub legal : (x : ℕ) → x < length d.kinds → IsLegal (kind_at d.kinds x) (map (entry_in op_in reply_in) (log_at r x))
+    pub seen : (x : ℕ) → x < length d.kinds → StartsWith (map (entry_in op_in reply_in) (log_at r x)) (seen_of last.knows x)
+
+module _ {S O R : Type 0} where
+  -- the desk and the number of the client that comes back
+  abbrev pub desk_after_win : Win S O R → DeskId
+  desk_after_win (win.Won p) = p.desk
+  desk_after_win (win.Held c) = c.desk
+
+  abbrev pub IfWon : Win S O R → (Holding → Type 0) → Type 0
+  IfWon (win.Won p) P = P p
+  IfWon (win.Held c) P = ⊤
+
+  abbrev pub IfHeld : Win S O R → (Known → Type 0) → Type 0
+  IfHeld (win.Won p) P = ⊤
+  IfHeld (win.Held c) P = P c
+
+  abbrev pub desk_after_pick : Picked S O R → DeskId
+  desk_after_pick (pick.Got h) = h.desk
+  desk_after_pick (pick.Not p) = p.desk
+
+  abbrev pub IfGot : Picked S O R → (Handling → Type 0) → Type 0
+  IfGot (pick.Got h) P = P h
+  IfGot (pick.Not p) P = ⊤
+
+  abbrev pub IfNot : Picked S O R → (Holding → Type 0) → Type 0
+  IfNot (pick.Got h) P = ⊤
+  IfNot (pick.Not p) P = P p

@@ -1,0 +1,55 @@
+-- What is left of a desk, and what its record takes of it.
+use Rattle.std.specs.Prelude.{◌≡◌, ◌≢◌, ℕ, ◌+◌, ◌<◌, ◌≤◌, Bool, false, List, [], length, slice_index_or, Contains}
+use Rattle.std.specs.Slots.{slots_items, slots_filled, slots_len}
+use Rattle.std.specs.Slots.Ownership.{Filled}
+use Rattle.atomic_table.specs.declared.owned.Closed.{Closed}
+use mathlib.Core.Option.{some}
+use lib.ListN.{get_elem?}
+use Rattle.world.specs.declared.JournalEvent.{JournalEvent}
+use Rattle.world.specs.declared.LogEntry.{LogEntry}
+use Rattle.desk_rule.specs.declared.board.Core.{Core}
+use Rattle.desk_rule.specs.declared.board.Journal.{Journal}
+use Rattle.desk_rule.specs.declared.board.Slot.{Slot}
+use Rattle.desk_rule.specs.declared.board.Slot.TheVariants as slot
+use Rattle.publication.specs.Handles.{DeskSeen, Known}
+
+-- the values of all slots
+abbrev pub values_of : {X A : Type 0} → Closed X A → List X
+values_of left = slots_items left.slots
+
+-- those of the first n slots were taken out
+abbrev pub IsTakenTo : {X A : Type 0} → ℕ → Closed X A → Type 0
+IsTakenTo n left = (slots_len left.slots ≡ 80) × Filled (slots_filled left.slots) n 80 × ((k : ℕ) → k < n → slice_index_or (slots_filled left.slots) k false ≡ false)
+
+module _ {S O R : Type 0} where
+  abbrev pub HasCore : List (Slot S O R) → ℕ → Type 0
+  HasCore xs x = (k : Core S O R) × (get_elem? xs x ≡ some (slot.Core k))
+
+  abbrev pub HasJournal : List (Slot S O R) → ℕ → Type 0
+  HasJournal xs c = (j : Journal O R) × (get_elem? xs (48 + c) ≡ some (slot.Journal j))
+
+  -- the log of the object x
+  abbrev pub IsLogOf : List (Slot S O R) → ℕ → List (LogEntry O R) → Type 0
+  IsLogOf xs x log = (k : Core S O R) × (get_elem? xs x ≡ some (slot.Core k)) × (k.log.items ≡ log)
+
+  -- the journal that the client c left
+  abbrev pub IsJournalOf : List (Slot S O R) → ℕ → List (JournalEvent O R) → Type 0
+  IsJournalOf xs c events = (j : Journal O R) × (get_elem? xs (48 + c) ≡ some (slot.Journal j)) × (j.events.items ≡ events)
+
+  abbrev pub AreLogs : ℕ → List (Slot S O R) → List (List (LogEntry O R)) → Type 0
+  AreLogs n xs logs = (length logs ≡ n) × ((x : ℕ) → x < n → IsLogOf xs x (slice_index_or logs x []))
+
+  abbrev pub AreJournals : ℕ → ℕ → List (Slot S O R) → List (List (JournalEvent O R)) → Type 0
+  AreJournals from n xs journals = (length journals ≡ n) × ((c : ℕ) → from ≤ c → c < n → IsJournalOf xs c (slice_index_or journals c []))
+
+-- what stood below n stands there still
+abbrev pub IsSameBelow : {A : Type 0} → ℕ → List (List A) → List (List A) → Type 0
+IsSameBelow n xs ys = (k : ℕ) → k < n → slice_index_or ys k [] ≡ slice_index_or xs k []
+
+-- the last client knows of each other below n that it has ended
+abbrev pub HaveEnded : ℕ → Known → Type 0
+HaveEnded n last = (c : ℕ) → c < n → c ≢ last.knows.number → Contains last.knows.retired c
+
+-- it has learnt of such, and of nothing else
+abbrev pub HasLearntEnds : Known → Known → Type 0
+HasLearntEnds before after = after ≡ record before { knows = record before.knows { retired = after.knows.retired } }

@@ -1,0 +1,122 @@
+-- What contracts see of a desk, of a client, and of a client that holds an object.
+use Rattle.std.specs.Prelude.{◌≡◌, ℕ, ◌+◌, ◌<◌, ◌≤◌, Bool, true, false, List, [], ◌∷◌, ◌++◌, map, length, vec_capacity}
+use Rattle.std.specs.declared.vec.Vec.{Vec}
+use mathlib.Core.Option.{some}
+use lib.ListN.{get_elem?}
+use Rattle.atomic_table.specs.Table.{Me}
+use Rattle.atomic_table.specs.Seated.{TableId}
+use Rattle.model.specs.declared.Kind.{Kind}
+use Rattle.model.specs.declared.AnyOp.{AnyOp}
+use Rattle.model.specs.declared.AnyReply.{AnyReply}
+use Rattle.model.specs.Objects.{Content, kind_of}
+use Rattle.world.specs.declared.Request.{Request}
+use Rattle.world.specs.World.{AnyEntry, AnyRequest, kind_at, calls_made}
+use Rattle.world.specs.Images.{request_in, entry_in, event_in}
+use Rattle.desk_rule.specs.declared.board.Core.{Core}
+use Rattle.desk_rule.specs.declared.board.Journal.{Journal}
+use Rattle.desk_rule.specs.declared.board.Plan.{Plan}
+use Rattle.desk_rule.specs.declared.board.Slot.{Slot}
+use Rattle.desk_rule.specs.declared.board.Slot.TheVariants as slot
+use Rattle.desk_rule.specs.declared.board.Own.{Own}
+use Rattle.desk_rule.specs.declared.board.Own.TheVariants as own
+use Rattle.desk_rule.specs.declared.board.Held.TheVariants as held
+use Rattle.desk_rule.specs.declared.board.View.{View}
+use Rattle.desk_rule.specs.Views.{newcomer, calling, own_request, journal, is_waiting, seen_of, IsAtRest, IsAccount}
+use Rattle.desk_rule.specs.Rule.{Fits}
+
+-- which desk: its table, and the quota of each of its clients
+pub record DeskId : Type 0 where
+  pub table : TableId
+  pub quota : ℕ
+
+pub record DeskSeen : Type 0 where
+  pub id : DeskId
+  pub kinds : List Kind
+  pub clients : ℕ
+
+-- a client: its desk, and what it knows
+pub record Known : Type 0 where
+  pub desk : DeskId
+  pub knows : View
+
+-- a client that holds an object: also the object's number and its log
+pub record Holding : Type 0 where
+  pub desk : DeskId
+  pub knows : View
+  pub object : ℕ
+  pub log : List AnyEntry
+
+-- a client that holds an object and a request: also the row that the request is of
+pub record Handling : Type 0 where
+  pub desk : DeskId
+  pub knows : View
+  pub object : ℕ
+  pub log : List AnyEntry
+  pub row : ℕ
+  pub request : AnyRequest
+
+-- nothing is in it yet, and n elements fit
+abbrev pub IsRoom : {A Z : Type 0} → ℕ → Vec A Z → Type 0
+IsRoom n v = (v.items ≡ []) × (n ≤ vec_capacity v)
+
+-- a desk over this table
+abbrev pub IsDesk : TableId → Plan → DeskSeen → Type 0
+IsDesk table plan d = (table.words ≡ 81) × (table.slots ≡ 80) × (plan.kinds.items ≡ d.kinds) × (plan.clients ≡ d.clients) × (plan.quota ≡ d.id.quota) × (length d.kinds < 17) × (d.clients < 33) × (d.id.quota < 10001)
+
+module _ {O R : Type 0} (op_in : O → AnyOp) (reply_in : R → AnyReply) where
+  -- what the client's fields say of what it knows
+  pub record Agrees (number calls quota : ℕ) (outstanding : Bool) (j : Journal O R) (v : View) : Type 0 where
+    pub client_is : v.client ≡ true
+    pub number_is : v.number ≡ number
+    pub number_low : number < 32
+    pub at_rest : IsAtRest v.own
+    pub going : v.ended ≡ false
+    pub calls_is : calls ≡ calls_made v.done (own_request v.own)
+    pub within : calls ≤ quota
+    pub few : quota < 10001
+    pub outstanding_is : outstanding ≡ is_waiting v.own
+    pub journal_is : map (event_in op_in reply_in) j.events.items ≡ journal v
+    pub room : quota + quota ≤ vec_capacity j.events
+    pub wide : length v.seen ≡ 16
+    pub accounts : (x : ℕ) → IsAccount x v (seen_of v x)
+
+module _ {S O R : Type 0} where
+  -- the slots that the client has: that of its journal, and that of its request while it has none
+  abbrev pub at_hand : ℕ → Own → List (ℕ × Slot S O R)
+  at_hand c own.Idle = (16 + c, slot.Nothing) ∷ (48 + c, slot.Nothing) ∷ []
+  at_hand c o = (48 + c, slot.Nothing) ∷ []
+
+module _ {S O R : Type 0} (op_in : O → AnyOp) (reply_in : R → AnyReply) where
+  pub record IsClient (number calls quota : ℕ) (outstanding : Bool) (j : Journal O R) (me : Me (Slot S O R) View) : Type 0 where
+    pub agrees : Agrees op_in reply_in number calls quota outstanding j me.0
+    pub free : me.0.held ≡ held.Free
+    pub in_hand : me.1 ≡ at_hand number me.0.own
+
+  -- the log as contracts see it
+  abbrev pub log_of : Core S O R → List AnyEntry
+  log_of core = map (entry_in op_in reply_in) core.log.items
+
+module _ {S O R : Type 0} (content : S → Content) (op_in : O → AnyOp) (reply_in : R → AnyReply) where
+  pub record IsPass (number calls quota : ℕ) (outstanding : Bool) (j : Journal O R) (object : ℕ) (core : Core S O R) (me : Me (Slot S O R) View) : Type 0 where
+    pub agrees : Agrees op_in reply_in number calls quota outstanding j me.0
+    pub holds : me.0.held ≡ held.Pass object (log_of op_in reply_in core)
+    pub in_hand : me.1 ≡ (object, slot.Nothing) ∷ at_hand number me.0.own
+    pub fits : Fits content op_in reply_in (kind_at me.0.kinds object) core (log_of op_in reply_in core)
+    pub low : object < 16
+
+  pub record IsHand (number calls quota : ℕ) (outstanding : Bool) (j : Journal O R) (object : ℕ) (core : Core S O R) (row : ℕ) (request : Request O) (me : Me (Slot S O R) View) : Type 0 where
+    pub agrees : Agrees op_in reply_in number calls quota outstanding j me.0
+    pub holds : me.0.held ≡ held.Hand object (log_of op_in reply_in core) row (request_in op_in request)
+    pub in_hand : me.1 ≡ (16 + row, slot.Nothing) ∷ (object, slot.Nothing) ∷ at_hand number me.0.own
+    pub fits : Fits content op_in reply_in (kind_at me.0.kinds object) core (log_of op_in reply_in core)
+    pub low : object < 16
+    pub row_low : row < 32
+    pub on : request.object ≡ object
+    pub of_kind : kind_of (op_in request.op) ≡ kind_at me.0.kinds object
+
+-- a client that has made no call
+abbrev pub begun : DeskId → List Kind → ℕ → Known
+begun d kinds c = record { desk = d; knows = calling own.Idle (newcomer kinds c) }
+
+abbrev pub AllBegun : DeskId → List Kind → List Known → Type 0
+AllBegun d kinds cs = (c : ℕ) → c < length cs → get_elem? cs c ≡ some (begun d kinds c)

@@ -1,0 +1,4 @@
+pub mod Handles
+pub mod Calls
+pub mod Making
+pub mod Closing

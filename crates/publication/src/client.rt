@@ -1,0 +1,96 @@
+//! A client, and what it becomes while it holds an object.
+
+ghost use Rattle.std.specs.Prelude.{◌≡◌, ◌<◌, ℕ};
+ghost use Rattle.desk_rule.specs.Views.{is_waiting, seen_of, IsAccount};
+
+use atomic_table::Seat;
+use desk_rule::{Core, Journal, Slot, View};
+use seq_objects::SeqObject;
+use std::marker::Model;
+use world::Request;
+
+pub(crate) type Place<S, O, R> = Seat<Slot<S, O, R>, View>;
+
+/// A client's seat at the table, with what it keeps itself.
+#[derive(Drop)]
+pub(crate) struct Member<S: SeqObject> {
+    pub seat: Place<S, S::Op, S::Reply>,
+    pub number: u32,
+    pub calls: u32,
+    pub quota: u32,
+    pub outstanding: bool,
+    pub journal: Journal<S::Op, S::Reply>,
+}
+
+/// A client that holds no object.
+#[derive(Drop)]
+pub struct Client<S: SeqObject> {
+    pub(crate) member: Member<S>,
+}
+
+impl<S: SeqObject> Model for Client<S> {
+    ghost use Rattle.publication.specs.Handles.{Known, IsClient};
+
+    ghost Value = { Known };
+
+    ghost view = { λ c. record { desk = record { table = c.member.seat.table_id; quota = c.member.quota }; knows = c.member.seat.me.0 } };
+
+    ghost invariant = { λ c. IsClient S.op_in S.reply_in c.member.number c.member.calls c.member.quota c.member.outstanding c.member.journal c.member.seat.me };
+}
+
+/// A client that holds an object. It must be spent.
+pub struct Pass<S: SeqObject> {
+    pub(crate) member: Member<S>,
+    pub(crate) object: u32,
+    pub(crate) core: Core<S, S::Op, S::Reply>,
+}
+
+impl<S: SeqObject> Model for Pass<S> {
+    ghost use Rattle.publication.specs.Handles.{Holding, IsPass, log_of};
+
+    ghost Value = { Holding };
+
+    ghost view = { λ p. record { desk = record { table = p.member.seat.table_id; quota = p.member.quota }; knows = p.member.seat.me.0; object = p.object; log = log_of S.op_in S.reply_in p.core } };
+
+    ghost invariant = { λ p. IsPass S.content S.op_in S.reply_in p.member.number p.member.calls p.member.quota p.member.outstanding p.member.journal p.object p.core p.member.seat.me };
+}
+
+/// A client that holds an object and the request of a row. It must be spent.
+pub struct Hand<S: SeqObject> {
+    pub(crate) member: Member<S>,
+    pub(crate) object: u32,
+    pub(crate) core: Core<S, S::Op, S::Reply>,
+    pub(crate) row: u32,
+    pub(crate) request: Request<S::Op>,
+}
+
+impl<S: SeqObject> Model for Hand<S> {
+    ghost use Rattle.world.specs.Images.{request_in};
+    ghost use Rattle.publication.specs.Handles.{Handling, IsHand, log_of};
+
+    ghost Value = { Handling };
+
+    ghost view = { λ p. record { desk = record { table = p.member.seat.table_id; quota = p.member.quota }; knows = p.member.seat.me.0; object = p.object; log = log_of S.op_in S.reply_in p.core; row = p.row; request = request_in S.op_in p.request } };
+
+    ghost invariant = { λ p. IsHand S.content S.op_in S.reply_in p.member.number p.member.calls p.member.quota p.member.outstanding p.member.journal p.object p.core p.row p.request p.member.seat.me };
+}
+
+impl<S: SeqObject> Client<S> {
+    /// The client's number, which is that of its row.
+    pub fn number(&self) -> u32
+        ensures number { result ≡ self.now.knows.number }
+        ensures low { result < 32 }
+    {
+        self.member.number
+    }
+
+    /// Whether a call was posted whose answer was not taken.
+    pub fn outstanding(&self) -> bool
+        ensures outstanding { result ≡ is_waiting self.now.knows.own }
+        // At every moment, what the client has seen of an object holds of its own calls just those that are over and
+        // were not refused, each once and in order, and the outstanding one at most once.
+        ensures accounts { (x : ℕ) → IsAccount x self.now.knows (seen_of self.now.knows x) }
+    {
+        self.member.outstanding
+    }
+}

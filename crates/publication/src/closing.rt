@@ -1,0 +1,223 @@
+//! The end of a client, and of the desk.
+
+ghost use Rattle.std.specs.Prelude.{◌≡◌, ◌≢◌, ℕ, ◌+◌, ◌<◌, ◌≤◌, false, [], length, slice_index_or, vec_len, vec_capacity, IfOk, IfErr, IfSome, IfNone, if◌then◌else◌};
+ghost use Rattle.recorder.specs.Records.{items_of};
+ghost use Rattle.desk_rule.specs.Views.{is_waiting, missing, knowing_end};
+ghost use Rattle.publication.specs.Handles.{IsRoom};
+ghost use Rattle.publication.specs.Calls.{Closed, StillThere};
+ghost use Rattle.publication.specs.Closing.{values_of, IsTakenTo, HasCore, HasJournal, IsLogOf, IsJournalOf, AreLogs, AreJournals, IsSameBelow, HaveEnded, HasLearntEnds};
+
+use crate::client::{Client, Member};
+use crate::desk::Desk;
+use crate::making::SLOTS;
+use crate::plays::{Ends, SeesEnd};
+use desk_rule::{Core, Journal, Slot};
+use recorder::{JournalEvent, LogEntry, Record};
+use seq_objects::SeqObject;
+use std::alloc::Global;
+
+type Left<S, O, R> = atomic_table::Closed<Slot<S, O, R>, Global>;
+
+/// A client has not retired: the desk and the last client come back, with its number.
+pub struct Unretired<S: SeqObject> {
+    pub desk: Desk<S>,
+    pub last: Client<S>,
+    pub client: u32,
+}
+
+impl<S: SeqObject> Desk<S> {
+    /// Ends a client, and leaves its journal with the desk.
+    pub fn retire(&self, client: Client<S>)
+        requires desk { client.desk ≡ self.now.id }
+        requires idle { is_waiting client.knows.own ≡ false }
+    {
+        let Client { member } = client;
+        let Member {
+            mut seat,
+            number,
+            journal,
+            ..
+        } = member;
+        let shared = &self.table.shared;
+        let slot = 48 + number as usize;
+        seat.turn();
+        let _ = shared.exchange(&mut seat, slot, Slot::Journal(journal));
+        shared.store::<Ends>(&mut seat, slot, 1);
+    }
+
+    /// Ends the last client and the desk. The error names the least other client that has not retired.
+    pub fn close(self, mut last: Client<S>) -> Result<Record<S>, Unretired<S>>
+        requires desk { last.desk ≡ self.id }
+        requires idle { is_waiting last.knows.own ≡ false }
+        ensures closed { IfOk result (Closed S.op_in S.reply_in self last) }
+        ensures unretired { IfErr result (λ u. (u.desk ≡ self) × (u.last.desk ≡ last.desk) × StillThere self last u.client u.last) }
+    {
+        match first_unretired(&self, &mut last) {
+            Some(client) => Err(Unretired {
+                desk: self,
+                last,
+                client,
+            }),
+            None => Ok(gather(self, last)),
+        }
+    }
+}
+
+// Whether the client has ended. It is a miss where it has not.
+fn sees_end<S: SeqObject>(desk: &Desk<S>, last: &mut Client<S>, client: u32) -> bool
+    requires desk { last.old.desk ≡ desk.now.id }
+    requires client { client < desk.now.clients }
+    ensures desk { last.new.desk ≡ last.old.desk }
+    ensures seen { last.new.knows ≡ (if result then knowing_end client last.old.knows else missing (48 + client) last.old.knows) }
+{
+    let shared = &desk.table.shared;
+    shared.load::<SeesEnd>(&mut last.member.seat, 48 + client as usize) == 1
+}
+
+// The least other client that has not ended.
+fn first_unretired<S: SeqObject>(desk: &Desk<S>, last: &mut Client<S>) -> Option<u32>
+    requires { last.old.desk ≡ desk.now.id }
+    ensures desk { last.new.desk ≡ last.old.desk }
+    ensures found { IfSome result (λ c. StillThere desk.now last.old c last.new) }
+    ensures all { IfNone result (HaveEnded desk.now.clients last.new × HasLearntEnds last.old last.new) }
+{
+    let number = last.number();
+    for client in 0..desk.clients() {
+        if client != number && !sees_end(desk, last, client) {
+            return Some(client);
+        }
+    }
+    None
+}
+
+// The log of an object.
+fn take_log<S: SeqObject>(
+    left: &mut Left<S, S::Op, S::Reply>,
+    x: usize,
+) -> Vec<LogEntry<S::Op, S::Reply>>
+    requires slots { IsTakenTo x left.old × (x < 80) }
+    requires core { HasCore (values_of left.old) x }
+    ensures slots { IsTakenTo (x + 1) left.new × (values_of left.new ≡ values_of left.old) }
+    ensures log { IsLogOf (values_of left.old) x result.items }
+{
+    match left.take(x) {
+        Slot::Core(Core { log, .. }) => log,
+        _ => unreachable!(),
+    }
+}
+
+// The logs of the objects, which stand first.
+fn take_logs<S: SeqObject>(
+    left: &mut Left<S, S::Op, S::Reply>,
+    objects: usize,
+    logs: &mut Vec<Vec<LogEntry<S::Op, S::Reply>>>,
+)
+    requires slots { IsTakenTo 0 left.old × (objects < 17) }
+    requires cores { (x : ℕ) → x < objects → HasCore (values_of left.old) x }
+    requires room { IsRoom objects logs.old }
+    ensures slots { IsTakenTo objects left.new × (values_of left.new ≡ values_of left.old) }
+    ensures logs { AreLogs objects (values_of left.old) (items_of logs.new.items) }
+{
+    for x in 0..objects {
+        logs.push_reserved(take_log(left, x));
+    }
+}
+
+// Drops what stands from one slot up to another.
+fn pass_over<S: SeqObject>(left: &mut Left<S, S::Op, S::Reply>, from: usize, to: usize)
+    requires { IsTakenTo from left.old × (from ≤ to) × (to ≤ 80) }
+    ensures { IsTakenTo to left.new × (values_of left.new ≡ values_of left.old) }
+{
+    for i in from..to {
+        drop(left.take(i));
+    }
+}
+
+// The journal that a client left.
+fn take_journal<S: SeqObject>(
+    left: &mut Left<S, S::Op, S::Reply>,
+    client: u32,
+) -> Vec<JournalEvent<S::Op, S::Reply>>
+    requires slots { IsTakenTo (48 + client) left.old × (client < 32) }
+    requires journal { HasJournal (values_of left.old) client }
+    ensures slots { IsTakenTo (49 + client) left.new × (values_of left.new ≡ values_of left.old) }
+    ensures journal { IsJournalOf (values_of left.old) client result.items }
+{
+    match left.take(48 + client as usize) {
+        Slot::Journal(Journal { events }) => events,
+        _ => unreachable!(),
+    }
+}
+
+// The journals of the clients from one number up to another.
+fn take_journals<S: SeqObject>(
+    left: &mut Left<S, S::Op, S::Reply>,
+    from: u32,
+    to: u32,
+    journals: &mut Vec<Vec<JournalEvent<S::Op, S::Reply>>>,
+)
+    requires slots { IsTakenTo (48 + from) left.old × (from ≤ to) × (to < 33) }
+    requires present { (c : ℕ) → from ≤ c → c < to → HasJournal (values_of left.old) c }
+    requires room { (vec_len journals.old ≡ from) × (to ≤ vec_capacity journals.old) }
+    ensures slots { IsTakenTo (48 + to) left.new × (values_of left.new ≡ values_of left.old) }
+    ensures journals { AreJournals from to (values_of left.old) (items_of journals.new.items) × IsSameBelow from (items_of journals.old.items) (items_of journals.new.items) }
+    ensures room { vec_capacity journals.new ≡ vec_capacity journals.old }
+{
+    for client in from..to {
+        journals.push_reserved(take_journal(left, client));
+    }
+}
+
+// The journal of each client: the last one's own, and what the others left.
+fn take_all_journals<S: SeqObject>(
+    left: &mut Left<S, S::Op, S::Reply>,
+    clients: u32,
+    number: u32,
+    own: Vec<JournalEvent<S::Op, S::Reply>>,
+    journals: &mut Vec<Vec<JournalEvent<S::Op, S::Reply>>>,
+)
+    requires slots { IsTakenTo 48 left.old × (number < clients) × (clients < 33) }
+    requires present { (c : ℕ) → c < clients → c ≢ number → HasJournal (values_of left.old) c }
+    requires room { IsRoom clients journals.old × (vec_len journals.old ≡ 0) }
+    ensures slots { IsTakenTo (48 + clients) left.new × (values_of left.new ≡ values_of left.old) }
+    ensures count { length (items_of journals.new.items) ≡ clients }
+    ensures own { slice_index_or (items_of journals.new.items) number [] ≡ own.items }
+    ensures others { (c : ℕ) → c < clients → c ≢ number → IsJournalOf (values_of left.old) c (slice_index_or (items_of journals.new.items) c []) }
+{
+    let own_slot = 48 + number as usize;
+    take_journals(left, 0, number, journals);
+    pass_over(left, own_slot, own_slot + 1);
+    journals.push_reserved(own);
+    take_journals(left, number + 1, clients, journals);
+}
+
+// The record of a desk that all other clients have left.
+fn gather<S: SeqObject>(desk: Desk<S>, last: Client<S>) -> Record<S>
+    requires desk { last.desk ≡ desk.id }
+    requires ended { HaveEnded desk.clients last }
+    ensures { Closed S.op_in S.reply_in desk last result }
+{
+    let Desk {
+        table,
+        kinds,
+        clients,
+        quota: _,
+        mut journals,
+        mut logs,
+    } = desk;
+    let Client { member } = last;
+    let Member {
+        seat,
+        number,
+        journal,
+        ..
+    } = member;
+    let objects = kinds.len();
+    let mut left = table.close_with(seat);
+    take_logs(&mut left, objects, &mut logs);
+    pass_over(&mut left, objects, 48);
+    take_all_journals(&mut left, clients, number, journal.events, &mut journals);
+    pass_over(&mut left, 48 + clients as usize, SLOTS);
+    left.free();
+    Record::new(journals, logs)
+}

@@ -1,0 +1,197 @@
+//! The desk: posting a call, polling for its answer, and winning an object.
+
+ghost use Rattle.std.specs.Prelude.{◌≡◌, ◌<◌, length, IfOk, IfErr, IfSome, IfNone, OnOk};
+ghost use Rattle.model.specs.Objects.{kind_of};
+ghost use Rattle.world.specs.World.{kind_at};
+ghost use Rattle.world.specs.Images.{answer_in};
+ghost use Rattle.desk_rule.specs.Views.{missing};
+
+use crate::client::{Client, Hand, Member, Pass};
+use crate::plays::{Draws, Posts, Returns, Takes, Wins};
+use atomic_table::Table;
+use desk_rule::{Core, DeskRule, Journal, Plan, Slot, View};
+use model::Kind;
+use recorder::{Answer, JournalEvent, LogEntry};
+use seq_objects::SeqObject;
+use std::alloc::Global;
+use std::marker::Model;
+use world::Request;
+
+pub(crate) type Board<S, O, R> = Table<Slot<S, O, R>, View, Plan, DeskRule, Global>;
+
+/// The word of the clock. Word x is the lock of object x, 16 + c the row of client c, and 48 + c its end.
+pub(crate) const CLOCK: usize = 80;
+
+/// A row that has an answer. Else it is 0 while empty, 1 + x with a request for x, and 17 + x once that was picked up.
+pub(crate) const ANSWERED: u64 = 33;
+
+/// Objects that are served to clients.
+#[derive(Drop)]
+pub struct Desk<S: SeqObject> {
+    pub(crate) table: Board<S, S::Op, S::Reply>,
+    pub(crate) kinds: Vec<Kind>,
+    pub(crate) clients: u32,
+    pub(crate) quota: u32,
+    // Room for the record.
+    pub(crate) journals: Vec<Vec<JournalEvent<S::Op, S::Reply>>>,
+    pub(crate) logs: Vec<Vec<LogEntry<S::Op, S::Reply>>>,
+}
+
+impl<S: SeqObject> Model for Desk<S> {
+    ghost use Rattle.std.specs.Prelude.{length};
+    ghost use Rattle.publication.specs.Handles.{DeskSeen, IsDesk, IsRoom};
+
+    ghost Value = { DeskSeen };
+
+    ghost view = { λ d. record { id = record { table = d.table.shared.table_id; quota = d.quota }; kinds = d.kinds.items; clients = d.clients } };
+
+    ghost invariant = { λ d. IsDesk d.table.shared.table_id d.table.shared.key (record { id = record { table = d.table.shared.table_id; quota = d.quota }; kinds = d.kinds.items; clients = d.clients }) × IsRoom d.clients d.journals × IsRoom (length d.kinds.items) d.logs };
+}
+
+/// Why a call was not posted.
+#[derive(Clone, Copy, Debug, PartialEq, Eq)]
+pub enum Post {
+    /// P1: the client has a call outstanding.
+    Outstanding,
+    /// P2: its quota is used.
+    Spent,
+    /// P3
+    NoSuchObject,
+    /// P4: the operation is of another kind than the object.
+    OtherKind,
+}
+
+pub enum Win<S: SeqObject> {
+    Won(Pass<S>),
+    /// The lock word was held.
+    Held(Client<S>),
+}
+
+pub enum Picked<S: SeqObject> {
+    Got(Hand<S>),
+    /// The row had no request for the object.
+    Not(Pass<S>),
+}
+
+impl<S: SeqObject> Desk<S> {
+    ghost use Rattle.publication.specs.Calls.{IsNotOfKind, Posted, PostRefused, Polled, NotPolled, Opened, desk_after_win, IfWon, IfHeld};
+
+    pub fn objects(&self) -> u32
+        ensures { result ≡ length self.now.kinds }
+    {
+        self.kinds.len() as u32
+    }
+
+    pub fn clients(&self) -> u32
+        ensures clients { result ≡ self.now.clients }
+        ensures few { result < 33 }
+    {
+        self.clients
+    }
+
+    // Whether there is such an object, of this kind.
+    fn has_kind(&self, object: u32, kind: Kind) -> Result<(), Post>
+        ensures ok { OnOk result ((object < length self.now.kinds) × (kind ≡ kind_at self.now.kinds object)) }
+        ensures err { IfErr result (IsNotOfKind self.now.kinds object kind) }
+    {
+        if object as usize >= self.kinds.len() {
+            return Err(Post::NoSuchObject);
+        }
+        if kind != self.kinds[object as usize] {
+            return Err(Post::OtherKind);
+        }
+        Ok(())
+    }
+
+    /// Posts a call. It takes one ticket, unless it is refused, and then nothing changes.
+    pub fn post(&self, client: &mut Client<S>, object: u32, op: S::Op) -> Result<(), Post>
+        requires { client.old.desk ≡ self.now.id }
+        ensures desk { client.new.desk ≡ client.old.desk }
+        ensures there { OnOk result ((object < length self.now.kinds) × (kind_of (S.op_in op) ≡ kind_at self.now.kinds object)) }
+        ensures posted { IfOk result (λ _. Posted client.old.knows object (S.op_in op) client.new.knows) }
+        ensures refused { IfErr result (λ e. (client.new ≡ client.old) × PostRefused self.now client.old object (S.op_in op) e) }
+    {
+        let member = &mut client.member;
+        if member.outstanding {
+            return Err(Post::Outstanding);
+        }
+        if member.calls >= member.quota {
+            return Err(Post::Spent);
+        }
+        if let Err(fault) = self.has_kind(object, S::kind_of(&op)) {
+            return Err(fault);
+        }
+        let slot = 16 + member.number as usize;
+        let shared = &self.table.shared;
+        let seat = &mut member.seat;
+        let asked = Request {
+            object,
+            ticket: 0,
+            op,
+        };
+        let _ = shared.exchange(seat, slot, Slot::Request(asked));
+        let ticket = shared.fetch_add::<Draws>(seat, CLOCK, 1);
+        let asked = Request { object, ticket, op };
+        let _ = shared.exchange(seat, slot, Slot::Request(asked));
+        shared.store::<Posts>(seat, slot, 1 + object as u64);
+        let invoked = JournalEvent::Invoked { ticket, object, op };
+        member.journal.events.push_reserved(invoked);
+        member.outstanding = true;
+        member.calls += 1;
+        Ok(())
+    }
+
+    /// Takes the answer of the outstanding call, if there is one. Taking it takes one ticket.
+    pub fn poll(&self, client: &mut Client<S>) -> Option<Answer<S::Reply>>
+        requires { client.old.desk ≡ self.now.id }
+        ensures desk { client.new.desk ≡ client.old.desk }
+        ensures polled { IfSome result (λ a. Polled client.old.knows (answer_in S.reply_in a) client.new.knows) }
+        ensures missed { IfNone result (NotPolled client.old.knows client.new.knows) }
+    {
+        let member = &mut client.member;
+        if !member.outstanding {
+            return None;
+        }
+        let slot = 16 + member.number as usize;
+        let shared = &self.table.shared;
+        let seat = &mut member.seat;
+        if shared.compare_exchange::<Takes>(seat, slot, ANSWERED, 0) != ANSWERED {
+            return None;
+        }
+        match shared.exchange(seat, slot, Slot::Nothing) {
+            Slot::Answer(answer) => {
+                let ticket = shared.fetch_add::<Returns>(seat, CLOCK, 1);
+                let returned = JournalEvent::Returned { ticket, answer };
+                member.journal.events.push_reserved(returned);
+                member.outstanding = false;
+                Some(answer)
+            }
+            _ => unreachable!(),
+        }
+    }
+
+    /// Tries the lock word of the object once.
+    pub fn win(&self, client: Client<S>, object: u32) -> Win<S>
+        requires desk { client.desk ≡ self.now.id }
+        requires object { object < length self.now.kinds }
+        ensures desk { desk_after_win result ≡ client.desk }
+        ensures won { IfWon result (Opened client object) }
+        ensures held { IfHeld result (λ c. c.knows ≡ missing object client.knows) }
+    {
+        let Client { mut member } = client;
+        let shared = &self.table.shared;
+        let word = object as usize;
+        let mine = 1 + member.number as u64;
+        if shared.compare_exchange::<Wins>(&mut member.seat, word, 0, mine) != 0 {
+            return Win::Held(Client { member });
+        }
+        match shared.exchange(&mut member.seat, word, Slot::Nothing) {
+            Slot::Core(core) => Win::Won(Pass {
+                member,
+                object,
+                core,
+            }),
+            _ => unreachable!(),
+        }
+    }
+}

@@ -1,0 +1,23 @@
+//! A desk: sequential objects served to many threads by flat combining, with one log an object.
+//!
+//! A client posts a call in its row and polls for the answer. Whoever wins an object serves the requests of all rows
+//! for it. No call waits, and none holds a lock: each takes single atomic steps on the words of one table.
+//! Hendler, Incze, Shavit, Tzafrir, "Flat Combining and the Synchronization-Parallelism Tradeoff", SPAA 2010.
+#![tactic(auto)]
+
+mod client;
+mod closing;
+mod desk;
+mod making;
+mod meeting;
+mod pass;
+mod plays;
+
+pub use client::{Client, Hand, Pass};
+pub use closing::Unretired;
+pub use desk::{Desk, Picked, Post, Win};
+pub use recorder::{Answer, JournalEvent, LogEntry, Record};
+pub use world::Request;
+
+#[cfg(test)]
+mod tests;

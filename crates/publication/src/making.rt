@@ -1,0 +1,192 @@
+//! A new desk, and its clients.
+
+ghost use Rattle.std.specs.Prelude.{◌≡◌, ◌+◌, ◌<◌, ◌≤◌, [], length, map, All, IfOk, vec_len, vec_capacity};
+ghost use Rattle.model.specs.Objects.{empty, kind_with};
+ghost use Rattle.desk_rule.specs.Views.{founder_of};
+ghost use Rattle.publication.specs.Handles.{AllBegun, IsRoom, begun};
+ghost use Rattle.publication.specs.Making.{AreCores, IsLaid, AreEmpty, kinds_with, HasRoom, IsSmall};
+
+use crate::client::{Client, Member, Place};
+use crate::desk::{Board, Desk};
+use crate::plays::{Begins, Makes};
+use atomic_table::Table;
+use desk_rule::{Core, Journal, Plan, Slot};
+use model::Kind;
+use seq_objects::SeqObject;
+use std::alloc::{AllocError, Global};
+
+/// How many slots the table has.
+pub(crate) const SLOTS: usize = 80;
+
+// The kind of each object.
+fn kinds_of<S: SeqObject>(alloc: Global, objects: &[S]) -> Result<Vec<Kind>, AllocError>
+    ensures { IfOk result (λ v. v.items ≡ kinds_with S.content objects.now) }
+{
+    let mut kinds = Vec::with_capacity(alloc, objects.len())?;
+    for object in objects {
+        kinds.push_reserved(object.kind());
+    }
+    Ok(kinds)
+}
+
+// A slot for each object, with an empty log.
+fn cores<S: SeqObject>(
+    alloc: Global,
+    objects: Vec<S>,
+) -> Result<Vec<Slot<S, S::Op, S::Reply>>, AllocError>
+    requires { length objects.items < 17 }
+    ensures { IfOk result (λ v. (vec_len v ≡ length objects.items) × (vec_capacity v ≡ 80) × AreCores objects.items v.items) }
+{
+    let mut slots = Vec::with_capacity(alloc, SLOTS)?;
+    for object in objects {
+        let log = Vec::new(alloc);
+        slots.push_reserved(Slot::Core(Core {
+            object,
+            log,
+            passes: 0,
+        }));
+    }
+    Ok(slots)
+}
+
+// All slots: behind the objects there is nothing.
+fn lay<S: SeqObject>(
+    alloc: Global,
+    objects: Vec<S>,
+) -> Result<Vec<Slot<S, S::Op, S::Reply>>, AllocError>
+    requires { length objects.items < 17 }
+    ensures { IfOk result (λ v. IsLaid objects.items v.items) }
+{
+    let mut slots = cores(alloc, objects)?;
+    while slots.len() < SLOTS {
+        slots.push_reserved(Slot::Nothing);
+    }
+    Ok(slots)
+}
+
+type Opened<S, O, R> = (Board<S, O, R>, Place<S, O, R>);
+
+// The table, and the seat that makes the clients.
+fn open<S: SeqObject>(
+    alloc: Global,
+    objects: Vec<S>,
+    plan: &Plan,
+) -> Result<Opened<S, S::Op, S::Reply>, AllocError>
+    requires objects { AreEmpty S.content objects.items }
+    requires plan { (plan.now.kinds.items ≡ kinds_with S.content objects.items) × IsSmall plan.now }
+    ensures { IfOk result (λ r. (r.1.table_id ≡ r.0.shared.table_id) × (r.0.shared.table_id.words ≡ 81) × (r.0.shared.table_id.slots ≡ 80) × (r.0.shared.key ≡ plan.now) × (r.1.me ≡ (founder_of plan.now.kinds.items 0, []))) }
+{
+    let slots = lay(alloc, objects)?;
+    let words = [0; 81];
+    match Table::new(alloc, &words, slots, plan) {
+        Ok(opened) => Ok(opened),
+        Err(_) => Err(AllocError),
+    }
+}
+
+// A journal for each client.
+fn journals<O: Drop, R: Drop>(
+    alloc: Global,
+    clients: u32,
+    quota: u32,
+) -> Result<Vec<Journal<O, R>>, AllocError>
+    requires { quota < 10001 }
+    ensures { IfOk result (λ v. (vec_len v ≡ clients) × All (HasRoom quota) v.items) }
+{
+    let mut journals = Vec::with_capacity(alloc, clients as usize)?;
+    for _ in 0..clients {
+        let events = Vec::with_capacity(alloc, 2 * quota as usize)?;
+        journals.push_reserved(Journal { events });
+    }
+    Ok(journals)
+}
+
+// A client more.
+fn make<S: SeqObject>(
+    table: &Board<S, S::Op, S::Reply>,
+    founder: &mut Place<S, S::Op, S::Reply>,
+    journal: Journal<S::Op, S::Reply>,
+    number: u32,
+    quota: u32,
+) -> Client<S>
+    requires table { (founder.old.table_id ≡ table.now.shared.table_id) × (table.now.shared.table_id.words ≡ 81) }
+    requires plan { IsSmall table.now.shared.key × (number < table.now.shared.key.clients) × (quota ≡ table.now.shared.key.quota) }
+    requires founder { founder.old.me ≡ (founder_of table.now.shared.key.kinds.items number, []) }
+    requires journal { HasRoom quota journal }
+    ensures founder { (founder.new.table_id ≡ founder.old.table_id) × (founder.new.me ≡ (founder_of table.now.shared.key.kinds.items (number + 1), [])) }
+    ensures client { result ≡ begun (record { table = table.now.shared.table_id; quota = quota }) table.now.shared.key.kinds.items number }
+{
+    let shared = &table.shared;
+    let mut seat = shared.split_seat::<Makes>(founder);
+    shared.load::<Begins>(&mut seat, 16 + number as usize);
+    let member = Member {
+        seat,
+        number,
+        calls: 0,
+        quota,
+        outstanding: false,
+        journal,
+    };
+    Client { member }
+}
+
+// The clients, each with a journal.
+fn make_all<S: SeqObject>(
+    table: &Board<S, S::Op, S::Reply>,
+    mut founder: Place<S, S::Op, S::Reply>,
+    mut journals: Vec<Journal<S::Op, S::Reply>>,
+    made: &mut Vec<Client<S>>,
+    quota: u32,
+)
+    requires table { (founder.table_id ≡ table.now.shared.table_id) × (table.now.shared.table_id.words ≡ 81) }
+    requires plan { IsSmall table.now.shared.key × (quota ≡ table.now.shared.key.quota) }
+    requires founder { founder.me ≡ (founder_of table.now.shared.key.kinds.items 0, []) }
+    requires journals { (vec_len journals ≡ table.now.shared.key.clients) × All (HasRoom quota) journals.items }
+    requires made { IsRoom table.now.shared.key.clients made.old × (vec_len made.old ≡ 0) }
+    ensures { (length made.new.items ≡ table.now.shared.key.clients) × AllBegun (record { table = table.now.shared.table_id; quota = quota }) table.now.shared.key.kinds.items made.new.items }
+{
+    let mut number = 0;
+    while let Some(journal) = journals.pop() {
+        made.push_reserved(make(table, &mut founder, journal, number, quota));
+        number += 1;
+    }
+}
+
+impl<S: SeqObject> Desk<S> {
+    /// A desk for these objects, which are empty, and its clients, each of which may make so many calls. It makes the
+    /// room that the calls of desk and clients need.
+    pub fn new(
+        alloc: Global,
+        objects: Vec<S>,
+        clients: u32,
+        quota: u32,
+    ) -> Result<(Desk<S>, Vec<Client<S>>), AllocError>
+        requires objects { (0 < length objects.items) × (length objects.items < 17) × All (λ o. S.content o ≡ empty (kind_with (S.content o))) objects.items }
+        requires clients { (0 < clients) × (clients < 33) }
+        requires quota { quota < 10001 }
+        ensures desk { IfOk result (λ r. (r.0.kinds ≡ map (λ o. kind_with (S.content o)) objects.items) × (r.0.clients ≡ clients) × (r.0.id.quota ≡ quota)) }
+        ensures clients { IfOk result (λ r. (length r.1.items ≡ clients) × AllBegun r.0.id r.0.kinds r.1.items) }
+    {
+        let kinds = kinds_of(alloc, &objects)?;
+        let plan = Plan {
+            kinds: kinds_of(alloc, &objects)?,
+            clients,
+            quota,
+        };
+        let room = journals(alloc, clients, quota)?;
+        let mut made = Vec::with_capacity(alloc, clients as usize)?;
+        let journals = Vec::with_capacity(alloc, clients as usize)?;
+        let logs = Vec::with_capacity(alloc, objects.len())?;
+        let (table, founder) = open(alloc, objects, &plan)?;
+        make_all(&table, founder, room, &mut made, quota);
+        let desk = Desk {
+            table,
+            kinds,
+            clients,
+            quota,
+            journals,
+            logs,
+        };
+        Ok((desk, made))
+    }
+}

@@ -1,0 +1,32 @@
+//! Two clients meet.
+
+ghost use Rattle.std.specs.Prelude.{◌≡◌, ◌<◌, length};
+ghost use Rattle.publication.specs.Calls.{Met};
+
+use crate::client::Client;
+use crate::desk::Desk;
+use crate::plays::{Adopts, Hears, Learns, Tells};
+use seq_objects::SeqObject;
+
+impl<S: SeqObject> Desk<S> {
+    /// Afterwards both have seen one log of the object. The lock word is loaded twice, and no word changes.
+    pub fn meet(&self, one: Client<S>, other: Client<S>, object: u32) -> (Client<S>, Client<S>)
+        requires one { one.desk ≡ self.now.id }
+        requires other { other.desk ≡ self.now.id }
+        requires object { object < length self.now.kinds }
+        ensures desk { (result.0.desk ≡ one.desk) × (result.1.desk ≡ other.desk) }
+        ensures met { Met object one other result.0 result.1 }
+    {
+        let Client { member: mut first } = one;
+        let Client { member: mut second } = other;
+        let shared = &self.table.shared;
+        let word = object as usize;
+        let letter = shared.split_seat::<Tells>(&mut second.seat);
+        shared.join_seat::<Hears>(&mut first.seat, letter);
+        shared.load::<Learns>(&mut first.seat, word);
+        let letter = shared.split_seat::<Tells>(&mut first.seat);
+        shared.join_seat::<Hears>(&mut second.seat, letter);
+        shared.load::<Adopts>(&mut second.seat, word);
+        (Client { member: first }, Client { member: second })
+    }
+}

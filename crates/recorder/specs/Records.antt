@@ -1,0 +1,20 @@
+-- A record of a desk: what each client did, and the log of each object.
+use Rattle.std.specs.Prelude.{ℕ, List, [], map, slice_index_or}
+use Rattle.std.specs.declared.vec.Vec.{Vec}
+use Rattle.world.specs.declared.LogEntry.{LogEntry}
+use Rattle.world.specs.declared.JournalEvent.{JournalEvent}
+
+pub record Recorded (O R : Type 0) : Type 0 where
+  pub journals : List (List (JournalEvent O R))
+  pub logs : List (List (LogEntry O R))
+
+-- the elements of each
+abbrev pub items_of : {A Z : Type 0} → List (Vec A Z) → List (List A)
+items_of vs = map (λ v. v.items) vs
+
+module _ {O R : Type 0} where
+  abbrev pub journal_at : Recorded O R → ℕ → List (JournalEvent O R)
+  journal_at r c = slice_index_or r.journals c []
+
+  abbrev pub log_at : Recorded O R → ℕ → List (LogEntry O R)
+  log_at r x = slice_index_or r.logs x []

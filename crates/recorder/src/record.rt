@@ -1,0 +1,67 @@
+//! The record of a desk.
+
+ghost use Rattle.std.specs.Prelude.{◌≡◌, ◌<◌, length, vec_len};
+ghost use Rattle.recorder.specs.Records.{journal_at, log_at};
+
+use seq_objects::SeqObject;
+use std::marker::Model;
+use world::{JournalEvent, LogEntry};
+
+/// The journals of the clients and the logs of the objects, each by number.
+#[derive(Drop)]
+pub struct Record<S: SeqObject> {
+    journals: Vec<Vec<JournalEvent<S::Op, S::Reply>>>,
+    logs: Vec<Vec<LogEntry<S::Op, S::Reply>>>,
+}
+
+impl<S: SeqObject> Model for Record<S> {
+    ghost use Rattle.recorder.specs.Records.{Recorded, items_of};
+
+    ghost Value = { Recorded S.Op S.Reply };
+
+    ghost view = { λ r. record { journals = items_of r.journals.items; logs = items_of r.logs.items } };
+}
+
+impl<S: SeqObject> Record<S> {
+    ghost use Rattle.recorder.specs.Records.{items_of};
+
+    /// The record of these journals and logs.
+    pub fn new(
+        journals: Vec<Vec<JournalEvent<S::Op, S::Reply>>>,
+        logs: Vec<Vec<LogEntry<S::Op, S::Reply>>>,
+    ) -> Record<S>
+        ensures { result ≡ record { journals = items_of journals.items; logs = items_of logs.items } }
+    {
+        Record { journals, logs }
+    }
+
+    /// How many clients there are.
+    pub fn clients(&self) -> usize
+        ensures { result ≡ length self.now.journals }
+    {
+        self.journals.len()
+    }
+
+    /// How many objects there are.
+    pub fn objects(&self) -> usize
+        ensures { result ≡ length self.now.logs }
+    {
+        self.logs.len()
+    }
+
+    /// What the client did, in order.
+    pub fn journal(&self, client: u32) -> &[JournalEvent<S::Op, S::Reply>]
+        requires { client < length self.now.journals }
+        ensures { result.now ≡ journal_at self.now client }
+    {
+        self.journals[client as usize].as_slice()
+    }
+
+    /// The operations that were done on the object, in order.
+    pub fn log(&self, object: u32) -> &[LogEntry<S::Op, S::Reply>]
+        requires { object < length self.now.logs }
+        ensures { result.now ≡ log_at self.now object }
+    {
+        self.logs[object as usize].as_slice()
+    }
+}

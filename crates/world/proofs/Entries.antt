@@ -1,0 +1,44 @@
+-- The entries of a client in a log that grows, and the replay of such a log.
+use Rattle.std.proofs.Common.{◌≡◌, ◌≢◌, ℕ, Bool, true, false, cond, eqb, eq-eqb, ne_eqb, List, [], ◌∷◌, ◌++◌, refl, sym, ap, subst, ◌∙◌, append_assoc, append-nil}
+use Rattle.model.specs.Objects.{Content, next}
+use Rattle.world.specs.declared.Answer.TheVariants.{Reply, Refused}
+use Rattle.world.specs.World.{AnyEntry, AnyRequest, AnyAnswer, AnyDone, logged, logged_on, entries_of, served, Replays, StartsWith, Serves}
+
+pub starts_longer : (xs ys zs : List AnyEntry) → StartsWith xs ys → StartsWith ys zs → StartsWith xs zs
+starts_longer xs ys zs a b = (b.0 ++ a.0, a.1 ∙ (ap (λ l. l ++ a.0) b.1 ∙ append_assoc zs b.0 a.0))
+
+pub starts_same : (xs : List AnyEntry) → StartsWith xs xs
+starts_same xs = ([], sym (append-nil xs))
+
+pub entries-append : (c : ℕ) (xs ys : List AnyEntry) → entries_of c (xs ++ ys) ≡ entries_of c xs ++ entries_of c ys
+entries-append c [] ys = refl
+entries-append c (e ∷ es) ys = elim (eqb e.client c) as (λ b. cond b (e ∷ entries_of c (es ++ ys)) (entries_of c (es ++ ys)) ≡ cond b (e ∷ entries_of c es) (entries_of c es) ++ entries_of c ys)
+    [ true ↦ ap (λ z. e ∷ z) (entries-append c es ys) | false ↦ entries-append c es ys ]
+
+pub own_entries : (c : ℕ) (q : AnyRequest) (a : AnyAnswer) → entries_of c (logged c q a) ≡ logged c q a
+own_entries c q (Reply p) = ap (λ b. cond b (logged c q (Reply p)) []) (eq-eqb c c refl)
+own_entries c q Refused = refl
+
+pub others_entries : (c r : ℕ) (q : AnyRequest) (a : AnyAnswer) → c ≢ r → entries_of c (logged r q a) ≡ []
+others_entries c r q (Reply p) other = ap (λ b. cond b (logged r q (Reply p)) []) (ne_eqb r c (λ e. other (sym e)))
+others_entries c r q Refused other = refl
+
+pub logged_here : (x c : ℕ) (q : AnyRequest) (a : AnyAnswer) → q.object ≡ x → logged_on x c q a ≡ logged c q a
+logged_here x c q a on = ap (λ b. cond b (logged c q a) []) (eq-eqb q.object x on)
+
+pub logged_else : (x c : ℕ) (q : AnyRequest) (a : AnyAnswer) → q.object ≢ x → logged_on x c q a ≡ []
+logged_else x c q a other = ap (λ b. cond b (logged c q a) []) (ne_eqb q.object x other)
+
+pub served-append : (x c : ℕ) (ds es : List AnyDone) → served x c (ds ++ es) ≡ served x c ds ++ served x c es
+served-append x c [] es = refl
+served-append x c (d ∷ ds) es = ap (λ z. logged_on x c d.request d.answer ++ z) (served-append x c ds es) ∙ sym (append_assoc (logged_on x c d.request d.answer) (served x c ds) (served x c es))
+
+-- one call more
+pub served_more : (x c t : ℕ) (ds : List AnyDone) (q : AnyRequest) (a : AnyAnswer) → served x c (ds ++ record { request = q; answer = a; returned = t } ∷ []) ≡ served x c ds ++ logged_on x c q a
+served_more x c t ds q a = served-append x c ds (record { request = q; answer = a; returned = t } ∷ []) ∙ ap (λ z. served x c ds ++ z) (append-nil (logged_on x c q a))
+
+-- a log that is replayed goes on with what is served
+pub replays_more : (c m after : Content) (l : List AnyEntry) (r : ℕ) (q : AnyRequest) (a : AnyAnswer) → Replays c l m → Serves m q.op a after → Replays c (l ++ logged r q a) after
+replays_more c m after [] r q (Reply p) h s = (after, ap (λ z. next z q.op) h ∙ s, refl)
+replays_more c m after [] r q Refused h s = h ∙ sym s
+replays_more c m after (e ∷ es) r q a h s = (h.0, h.1, replays_more h.0 m after es r q a h.2 s)

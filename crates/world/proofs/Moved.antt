@@ -1,0 +1,183 @@
+-- What each move changes leaves the world sound.
+use Rattle.std.proofs.Common.{◌≡◌, ◌≢◌, ℕ, ◌+◌, ◌*◌, ◌<◌, ◌≤◌, List, [], ◌∷◌, ◌++◌, Option, Some, None, All, length, get_or, refl, sym, ap, subst, ◌∙◌, arith, append-nil, append_assoc}
+use mathlib.Core.Logic.{dite}
+use native.Mathlib.Decide.{ℕ_discrete}
+use Rattle.std.proofs.lemmas.List.Elements.{All-append, All-nil, All-cons}
+use Rattle.std.proofs.lemmas.Option.{same_Some}
+use Rattle.model.specs.declared.Kind.{Kind}
+use Rattle.model.specs.Objects.{Content, empty, kind_of}
+use Rattle.world.specs.declared.Answer.TheVariants.{Reply, Refused}
+use Rattle.world.specs.World.{AnyEntry, AnyRequest, AnyAnswer, AnyDone, Stage, posted, picked, answered, World, kind_at, logged, logged_on, entries_of, served, served_now, request_of, calls_made, tickets_drawn, Replays, IsLegal, StartsWith, Serves}
+use Rattle.world.specs.Moves.{changed, staged, ticked, held_by, handed, served_by, ended_by}
+use Rattle.world.specs.Sound.{Sound, total}
+use Rattle.world.proofs.Changed.{changed_here, changed_else, changed_all}
+use Rattle.world.proofs.Entries.{entries-append, own_entries, others_entries, logged_here, logged_else, replays_more, starts_same}
+use Rattle.world.proofs.Totals.{total_same, total_one, total_le}
+
+module _ (kinds : List Kind) (quota : ℕ) where
+  abbrev S : World → Type 0
+  S = Sound kinds quota
+
+  pub sound_held : (w : World) (x : ℕ) (h : Option ℕ) → (h ≡ None → w.hand x ≡ None) → S w → S (held_by w x h)
+  sound_held w x h free k = record {
+    legal = k.legal;
+    counted = k.counted;
+    in_hand = k.in_hand;
+    picked_up = k.picked_up;
+    empty_hand = changed_all (λ y g. g ≡ None → w.hand y ≡ None) w.holder x h free (λ y _. k.empty_hand y);
+    fitting = k.fitting;
+    early = k.early;
+    drawn = k.drawn;
+    within = k.within;
+  }
+
+  pub sound_ended : (w : World) (c : ℕ) → S w → S (ended_by w c)
+  sound_ended w c k = record {
+    legal = k.legal;
+    counted = k.counted;
+    in_hand = k.in_hand;
+    picked_up = k.picked_up;
+    empty_hand = k.empty_hand;
+    fitting = k.fitting;
+    early = k.early;
+    drawn = k.drawn;
+    within = k.within;
+  }
+
+  -- the client c goes to a stage with the same request, which is in no hand before or after
+  pub sound_staged : (w : World) (c : ℕ) (t : Stage) → ((q : AnyRequest) → w.stage c ≢ picked q) → ((q : AnyRequest) → t ≢ picked q) → request_of t ≡ request_of (w.stage c)
+      → ((x : ℕ) → served_now x c t ≡ served_now x c (w.stage c)) → S w → S (staged w c t)
+  sound_staged w c t before after same puts k = record {
+    legal = k.legal;
+    counted = λ d x. changed_all (λ d t. entries_of d (w.log x) ≡ served x d (w.done d) ++ served_now x d t) w.stage c t
+        (k.counted c x ∙ ap (λ z. served x c (w.done c) ++ z) (sym (puts x))) (λ d _. k.counted d x) d;
+    in_hand = λ x r e. let b = k.in_hand x r e in (b.0, changed_else w.stage c t r (λ g. before b.0 (ap w.stage (sym g) ∙ b.1)) ∙ b.1, b.2);
+    picked_up = λ r q. changed_all (λ r t. t ≡ picked q → w.hand q.object ≡ Some r) w.stage c t (λ e. absurd (after q e)) (λ r _. k.picked_up r q) r;
+    empty_hand = k.empty_hand;
+    fitting = λ d q. changed_all (λ d t. request_of t ≡ Some q → (kind_of q.op ≡ kind_at kinds q.object) × (q.ticket < w.clock)) w.stage c t (λ e. k.fitting c q (sym same ∙ e)) (λ d _. k.fitting d q) d;
+    early = k.early;
+    drawn = total_same (λ d. tickets_drawn (w.done d) (request_of (changed w.stage c t d))) (λ d. tickets_drawn (w.done d) (request_of (w.stage d))) 32
+        (λ d _. changed_all (λ d t. tickets_drawn (w.done d) (request_of t) ≡ tickets_drawn (w.done d) (request_of (w.stage d))) w.stage c t (ap (tickets_drawn (w.done c)) same) (λ d _. refl) d) ∙ k.drawn;
+    within = changed_all (λ d t. calls_made (w.done d) (request_of t) ≤ quota) w.stage c t (subst (λ z. calls_made (w.done c) z ≤ quota) (sym same) (k.within c)) (λ d _. k.within d);
+  }
+
+  -- the client c draws a ticket, and goes to the stage t with these calls over
+  pub sound_ticked : (w : World) (c : ℕ) (t : Stage) (ds : List AnyDone) → c < 32 → ((q : AnyRequest) → w.stage c ≢ picked q) → ((q : AnyRequest) → t ≢ picked q)
+      → ((x : ℕ) → served x c ds ++ served_now x c t ≡ served x c (w.done c) ++ served_now x c (w.stage c))
+      → ((q : AnyRequest) → request_of t ≡ Some q → (kind_of q.op ≡ kind_at kinds q.object) × (q.ticket ≡ w.clock))
+      → tickets_drawn ds (request_of t) ≡ tickets_drawn (w.done c) (request_of (w.stage c)) + 1 → calls_made ds (request_of t) ≤ quota → S w → S (ticked w c t ds)
+  sound_ticked w c t ds low before after puts fits more few k = record {
+    legal = k.legal;
+    counted = λ d x. changed_all (λ d t. entries_of d (w.log x) ≡ served x d (changed w.done c ds d) ++ served_now x d t) w.stage c t
+        (k.counted c x ∙ (sym (puts x) ∙ ap (λ z. served x c z ++ served_now x c t) (sym (changed_here w.done c ds))))
+        (λ d other. k.counted d x ∙ ap (λ z. served x d z ++ served_now x d (w.stage d)) (sym (changed_else w.done c ds d other))) d;
+    in_hand = λ x r e. let b = k.in_hand x r e in (b.0, changed_else w.stage c t r (λ g. before b.0 (ap w.stage (sym g) ∙ b.1)) ∙ b.1, b.2);
+    picked_up = λ r q. changed_all (λ r t. t ≡ picked q → w.hand q.object ≡ Some r) w.stage c t (λ e. absurd (after q e)) (λ r _. k.picked_up r q) r;
+    empty_hand = k.empty_hand;
+    fitting = λ d q. changed_all (λ d t. request_of t ≡ Some q → (kind_of q.op ≡ kind_at kinds q.object) × (q.ticket < w.clock + 1)) w.stage c t
+        (λ e. let f = fits q e in let g = f.1 in (f.0, omega arith)) (λ d _ e. let f = k.fitting d q e in let g = f.1 in (f.0, omega arith)) d;
+    early = λ x i d l. let a = k.early x i d l in omega arith;
+    drawn = total_one (λ d. tickets_drawn (w.done d) (request_of (w.stage d))) (λ d. tickets_drawn (changed w.done c ds d) (request_of (changed w.stage c t d))) 32 c low
+        ((λ i. tickets_drawn (changed_here w.done c ds i) (request_of (changed_here w.stage c t i))) ∙ more)
+        (λ d other i. tickets_drawn (changed_else w.done c ds d other i) (request_of (changed_else w.stage c t d other i))) ∙ ap (λ z. z + 1) k.drawn;
+    within = λ d. changed_all (λ d t. calls_made (changed w.done c ds d) (request_of t) ≤ quota) w.stage c t
+        (subst (λ z. calls_made z (request_of t) ≤ quota) (sym (changed_here w.done c ds)) few) (λ d other. subst (λ z. calls_made z (request_of (w.stage d)) ≤ quota) (sym (changed_else w.done c ds d other)) (k.within d)) d;
+  }
+
+  -- the stage of the row r changes, with the same request, which is for x, and so does what the holder of x has in hand
+  same_totals : (w : World) (r : ℕ) (t : Stage) → request_of t ≡ request_of (w.stage r) → S w
+      → total (λ d. tickets_drawn (w.done d) (request_of (changed w.stage r t d))) 32 ≡ w.clock
+  same_totals w r t same k = total_same (λ d. tickets_drawn (w.done d) (request_of (changed w.stage r t d))) (λ d. tickets_drawn (w.done d) (request_of (w.stage d))) 32
+      (λ d _. changed_all (λ d t. tickets_drawn (w.done d) (request_of t) ≡ tickets_drawn (w.done d) (request_of (w.stage d))) w.stage r t (ap (tickets_drawn (w.done r)) same) (λ d _. refl) d) ∙ k.drawn
+
+  pub sound_picked : (w : World) (x r c : ℕ) (q : AnyRequest) → w.stage r ≡ posted q → q.object ≡ x → w.holder x ≡ Some c → w.hand x ≡ None → S w → S (handed w x (Some r) r (picked q))
+  sound_picked w x r c q is on holds free k = record {
+    legal = k.legal;
+    counted = λ d y. changed_all (λ d t. entries_of d (w.log y) ≡ served y d (w.done d) ++ served_now y d t) w.stage r (picked q)
+        (k.counted r y ∙ ap (λ z. served y r (w.done r) ++ served_now y r z) is) (λ d _. k.counted d y) d;
+    in_hand = λ y j. changed_all (λ y h. h ≡ Some j → (p : AnyRequest) × (changed w.stage r (picked q) j ≡ picked p) × (p.object ≡ y)) w.hand x (Some r)
+        (λ e. (q, ap (changed w.stage r (picked q)) (sym (same_Some r j e)) ∙ changed_here w.stage r (picked q), on))
+        (λ y _ e. let b = k.in_hand y j e in (b.0, changed_else w.stage r (picked q) j (λ g. let f = sym is ∙ (ap w.stage (sym g) ∙ b.1) in absurd (cc)) ∙ b.1, b.2)) y;
+    picked_up = λ j p. changed_all (λ j t. t ≡ picked p → changed w.hand x (Some r) p.object ≡ Some j) w.stage r (picked q)
+        (λ e. let f : q ≡ p = cc in ap (changed w.hand x (Some r)) (ap (λ z. z.object) (sym f) ∙ on) ∙ changed_here w.hand x (Some r))
+        (λ j _ e. changed_else w.hand x (Some r) p.object (λ same. let g = sym free ∙ (ap w.hand (sym same) ∙ k.picked_up j p e) in absurd (cc)) ∙ k.picked_up j p e) j;
+    empty_hand = λ y e. changed_else w.hand x (Some r) y (λ same. let g = sym holds ∙ (ap w.holder (sym same) ∙ e) in absurd (cc)) ∙ k.empty_hand y e;
+    fitting = λ d p. changed_all (λ d t. request_of t ≡ Some p → (kind_of p.op ≡ kind_at kinds p.object) × (p.ticket < w.clock)) w.stage r (picked q)
+        (λ e. k.fitting r p (ap request_of is ∙ e)) (λ d _. k.fitting d p) d;
+    early = k.early;
+    drawn = same_totals w r (picked q) (ap request_of (sym is)) k;
+    within = changed_all (λ d t. calls_made (w.done d) (request_of t) ≤ quota) w.stage r (picked q) (subst (λ z. calls_made (w.done r) (request_of z) ≤ quota) is (k.within r)) (λ d _. k.within d);
+  }
+
+  -- after the row r, picked up for x, is put back or answered, no other row is in the hand of the holder of x
+  others_in_hand : (w : World) (x r j : ℕ) (t : Stage) (q : AnyRequest) → w.stage r ≡ picked q → q.object ≡ x → S w
+      → (y : ℕ) → changed w.hand x None y ≡ Some j → (p : AnyRequest) × (changed w.stage r t j ≡ picked p) × (p.object ≡ y)
+  others_in_hand w x r j t q is on k = changed_all (λ y h. h ≡ Some j → (p : AnyRequest) × (changed w.stage r t j ≡ picked p) × (p.object ≡ y)) w.hand x None
+      (λ e. absurd (cc))
+      (λ y other e. let b = k.in_hand y j e in
+      (b.0, changed_else w.stage r t j (λ g. let f : picked q ≡ picked b.0 = sym is ∙ (ap w.stage (sym g) ∙ b.1) in let f' : q ≡ b.0 = cc in other (sym b.2 ∙ (ap (λ z. z.object) (sym f') ∙ on))) ∙ b.1, b.2))
+
+  others_picked_up : (w : World) (x r : ℕ) (t : Stage) (q : AnyRequest) → w.stage r ≡ picked q → q.object ≡ x → w.hand x ≡ Some r → ((p : AnyRequest) → t ≢ picked p) → S w
+      → (j : ℕ) (p : AnyRequest) → changed w.stage r t j ≡ picked p → changed w.hand x None p.object ≡ Some j
+  others_picked_up w x r t q is on held never k j p = changed_all (λ j t. t ≡ picked p → changed w.hand x None p.object ≡ Some j) w.stage r t
+      (λ e. absurd (never p e))
+      (λ j other e. changed_else w.hand x None p.object (λ same. other (same_Some j r (sym (k.picked_up j p e) ∙ (ap w.hand same ∙ held)))) ∙ k.picked_up j p e) j
+
+  pub sound_put_back : (w : World) (x r c : ℕ) (q : AnyRequest) → w.stage r ≡ picked q → q.object ≡ x → w.holder x ≡ Some c → w.hand x ≡ Some r → S w → S (handed w x None r (posted q))
+  sound_put_back w x r c q is on holds held k = record {
+    legal = k.legal;
+    counted = λ d y. changed_all (λ d t. entries_of d (w.log y) ≡ served y d (w.done d) ++ served_now y d t) w.stage r (posted q)
+        (k.counted r y ∙ ap (λ z. served y r (w.done r) ++ served_now y r z) is) (λ d _. k.counted d y) d;
+    in_hand = λ y j. others_in_hand w x r j (posted q) q is on k y;
+    picked_up = others_picked_up w x r (posted q) q is on held (λ p e. absurd (cc)) k;
+    empty_hand = changed_all (λ y h. w.holder y ≡ None → h ≡ None) w.hand x None (λ e. refl) (λ y _. k.empty_hand y);
+    fitting = λ d p. changed_all (λ d t. request_of t ≡ Some p → (kind_of p.op ≡ kind_at kinds p.object) × (p.ticket < w.clock)) w.stage r (posted q)
+        (λ e. k.fitting r p (ap request_of is ∙ e)) (λ d _. k.fitting d p) d;
+    early = k.early;
+    drawn = same_totals w r (posted q) (ap request_of (sym is)) k;
+    within = changed_all (λ d t. calls_made (w.done d) (request_of t) ≤ quota) w.stage r (posted q) (subst (λ z. calls_made (w.done r) (request_of z) ≤ quota) is (k.within r)) (λ d _. k.within d);
+  }
+
+  -- what an answer puts into the log is early
+  early_logged : (clock r : ℕ) (q : AnyRequest) (a : AnyAnswer) → q.ticket < clock → All (λ (e : AnyEntry). e.ticket < clock) (logged r q a)
+  early_logged clock r q (Reply p) l = All-cons (λ (e : AnyEntry). e.ticket < clock) (record { client = r; ticket = q.ticket; op = q.op; reply = p }) [] l (All-nil (λ (e : AnyEntry). e.ticket < clock))
+  early_logged clock r q Refused l = All-nil (λ (e : AnyEntry). e.ticket < clock)
+
+  counted_after : (w : World) (x r : ℕ) (q : AnyRequest) (a : AnyAnswer) → w.stage r ≡ picked q → q.object ≡ x → S w
+      → (d y : ℕ) → entries_of d (changed w.log x (w.log x ++ logged r q a) y) ≡ served y d (w.done d) ++ served_now y d (changed w.stage r (answered q a) d)
+  counted_after w x r q a is on k d y =
+      let l : List AnyEntry = w.log x ++ logged r q a in
+      let mine : entries_of r (w.log y) ≡ served y r (w.done r) = k.counted r y ∙ (ap (λ z. served y r (w.done r) ++ served_now y r z) is ∙ append-nil (served y r (w.done r))) in
+      let mine_x : entries_of r (w.log x) ≡ served x r (w.done r) = k.counted r x ∙ (ap (λ z. served x r (w.done r) ++ served_now x r z) is ∙ append-nil (served x r (w.done r))) in
+      changed_all (λ d t. entries_of d (changed w.log x l y) ≡ served y d (w.done d) ++ served_now y d t) w.stage r (answered q a)
+      (dite (ℕ_discrete y x)
+      (λ same. subst (λ z. entries_of r (changed w.log x l z) ≡ served z r (w.done r) ++ logged_on z r q a) (sym same)
+      (ap (entries_of r) (changed_here w.log x l) ∙ (entries-append r (w.log x) (logged r q a) ∙ (λ i. mine_x i ++ (own_entries r q a ∙ sym (logged_here x r q a on)) i))))
+      (λ other. ap (entries_of r) (changed_else w.log x l y other) ∙ (mine ∙ (sym (append-nil (served y r (w.done r))) ∙ ap (λ z. served y r (w.done r) ++ z) (sym (logged_else y r q a (λ e. other (sym e ∙ on))))))))
+      (λ d apart. dite (ℕ_discrete y x)
+      (λ same. subst (λ z. entries_of d (changed w.log x l z) ≡ served z d (w.done d) ++ served_now z d (w.stage d)) (sym same)
+      (ap (entries_of d) (changed_here w.log x l) ∙ (entries-append d (w.log x) (logged r q a) ∙ (ap (λ z. entries_of d (w.log x) ++ z) (others_entries d r q a apart) ∙ (append-nil (entries_of d (w.log x)) ∙ k.counted d x)))))
+      (λ other. ap (entries_of d) (changed_else w.log x l y other) ∙ k.counted d y))
+      d
+
+  pub sound_served : (w : World) (x r c : ℕ) (q : AnyRequest) (a : AnyAnswer) → w.stage r ≡ picked q → q.object ≡ x → w.holder x ≡ Some c → w.hand x ≡ Some r
+      → IsLegal (kind_at kinds x) (w.log x ++ logged r q a) → S w → S (served_by w x r q a)
+  sound_served w x r c q a is on holds held legal k = record {
+    legal = changed_all (λ y l. IsLegal (kind_at kinds y) l) w.log x (w.log x ++ logged r q a) legal (λ y _. k.legal y);
+    counted = counted_after w x r q a is on k;
+    in_hand = λ y j. others_in_hand w x r j (answered q a) q is on k y;
+    picked_up = others_picked_up w x r (answered q a) q is on held (λ p e. absurd (cc)) k;
+    empty_hand = changed_all (λ y h. w.holder y ≡ None → h ≡ None) w.hand x None (λ e. refl) (λ y _. k.empty_hand y);
+    fitting = λ d p. changed_all (λ d t. request_of t ≡ Some p → (kind_of p.op ≡ kind_at kinds p.object) × (p.ticket < w.clock)) w.stage r (answered q a)
+        (λ e. k.fitting r p (ap request_of is ∙ e)) (λ d _. k.fitting d p) d;
+    early = changed_all (λ y l. All (λ (e : AnyEntry). e.ticket < w.clock) l) w.log x (w.log x ++ logged r q a)
+        (All-append (λ (e : AnyEntry). e.ticket < w.clock) (w.log x) (logged r q a) (k.early x) (early_logged w.clock r q a (k.fitting r q (ap request_of is)).1)) (λ y _. k.early y);
+    drawn = same_totals w r (answered q a) (ap request_of (sym is)) k;
+    within = changed_all (λ d t. calls_made (w.done d) (request_of t) ≤ quota) w.stage r (answered q a) (subst (λ z. calls_made (w.done r) (request_of z) ≤ quota) is (k.within r)) (λ d _. k.within d);
+  }
+
+  -- no client's tickets can fill the clock
+  pub clock_low : (w : World) → quota < 10001 → S w → w.clock ≤ 640000
+  clock_low w small k =
+      let all : total (λ c. tickets_drawn (w.done c) (request_of (w.stage c))) 32 ≤ 32 * (quota + quota) = total_le (λ c. tickets_drawn (w.done c) (request_of (w.stage c))) 32 (quota + quota) (λ c l. let q = k.within c in omega arith) in
+      let e = k.drawn in omega arith
