@@ -18,14 +18,14 @@ use Rattle.desk_rule.specs.declared.board.Held.TheVariants as held
 use Rattle.desk_rule.specs.declared.board.PutBack.{PutBack}
 use Rattle.desk_rule.specs.declared.board.View.{View}
 use Rattle.world.specs.World.{AnyEntry, AnyRequest, Stage, absent, idle, posted, picked, World, kind_at, entries_of, served, served_now, request_of, StartsWith}
-use Rattle.world.specs.Sound.{Sound}
+use Rattle.world.specs.Sound.{Sound, IsAmong, IsInTime}
 use Rattle.world.specs.Moves.{changed, staged}
 use Rattle.world.proofs.Changed.{changed_here, changed_else}
 use Rattle.world.proofs.Moved.{sound_staged}
 use Rattle.desk_rule.specs.Views.{newcomer, founder, one_made, seen_of, owed, calling}
 use Rattle.desk_rule.specs.Rule.{row_word, OwnOk, HeldOk, SeatOk, ViewOk, Makers, Fits, MessageAt, Tied, Kept}
 use Rattle.desk_rule.specs.Plays as play
-use Rattle.desk_rule.proofs.Seats.{Alike, seats_after, makers_after, mine, Rule}
+use Rattle.desk_rule.proofs.Seats.{Alike, seats_after, makers_after, come_after, mine, Rule}
 use Rattle.desk_rule.proofs.Ties.{tied_coming}
 use Rattle.desk_rule.proofs.Calls.{gone, later_gone, seat_gone, calm}
 
@@ -58,6 +58,17 @@ sound_dawn kinds quota = record {
   early = λ x. All-nil (λ (e : AnyEntry). e.ticket < 0);
   drawn = refl;
   within = λ c. omega arith;
+  journals = record {
+    tickets = record {
+      rising = λ c i j d l m. absurd (omega arith);
+      below = λ c. All-nil (λ t. t < 0);
+      apart = λ c d t h. let l = h.1 in absurd (omega arith);
+      each = λ t l. absurd (omega arith);
+    };
+    on_objects = λ c. All-nil (IsAmong (length kinds));
+    in_time = λ c. All-nil (IsInTime dawn c);
+    not_come = λ c e. refl;
+  };
 }
 
 module _ {S O R : Type 0} (content : S → Content) (op_in : O → AnyOp) (reply_in : R → AnyReply) (kinds : List Kind) (clients quota : ℕ) where
@@ -73,6 +84,7 @@ module _ {S O R : Type 0} (content : S → Content) (op_in : O → AnyOp) (reply
     few_calls = small;
     few_clients = people;
     holders = λ x c e. absurd (cc);
+    come = λ c came. absurd (came refl);
     sound = sound_dawn kinds quota;
     tied = record {
       wide = wide;
@@ -112,6 +124,7 @@ module _ {S O R : Type 0} (content : S → Content) (op_in : O → AnyOp) (reply
         few_calls = k.few_calls;
         few_clients = k.few_clients;
         holders = k.holders;
+        come = k.come;
         sound = k.sound;
         tied = k.tied;
         seats = λ j u e. ⊎_elim
@@ -192,7 +205,8 @@ module _ {S O R : Type 0} (content : S → Content) (op_in : O → AnyOp) (reply
           few_calls = k.few_calls;
           few_clients = k.few_clients;
           holders = k.holders;
-          sound = sound_staged kinds quota w c idle before (λ p e. absurd (cc)) (ap request_of (sym was)) (λ y. ap (served_now y c) (sym was)) k.sound;
+          come = come_after clients w c idle (subst (λ z. z < clients) number (k.makers.numbers id m.0 at cl)) k.come;
+          sound = sound_staged kinds quota w c idle before (λ p e. absurd (cc)) (ap request_of (sym was)) (λ e. absurd (cc)) (λ y. ap (served_now y c) (sym was)) k.sound;
           tied = tied_coming content op_in reply_in kinds w c (get_or s.words (16 + c) 0) idle s.words s.homes low (λ e. absurd (cc)) (ok.ended ∙ going) (word ∙ ap row_word was) (λ home. tt) k.tied;
           seats = seats_after kinds clients w (staged w c idle) k.seat_of s.views id m.0 v' at cl alike k.makers k.seats
               (λ d other. later_gone w w.clock c d idle w.done before (λ p e. let g = sym was ∙ e in absurd (cc)) refl (λ e. other (e ∙ sym number)))

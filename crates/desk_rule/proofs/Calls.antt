@@ -25,11 +25,12 @@ use Rattle.world.specs.Moves.{changed, staged, ticked}
 use Rattle.world.specs.Images.{request_in, answer_in}
 use Rattle.world.proofs.Changed.{changed_here, changed_else, changed_all}
 use Rattle.world.proofs.Entries.{starts_same, starts_longer, logged_here, logged_else, served_more}
+use Rattle.world.proofs.Tickets.{journals_called, journals_returned}
 use Rattle.world.proofs.Moved.{sound_staged, sound_ticked, clock_low}
 use Rattle.desk_rule.specs.Views.{seen_of, owed, missing, calling, taking, done_with, seeing}
 use Rattle.desk_rule.specs.Rule.{row_word, OwnOk, HeldOk, SeatOk, MessageAt}
 use Rattle.desk_rule.specs.Plays as play
-use Rattle.desk_rule.proofs.Seats.{Later, Alike, seats_after, makers_after, mine, misses, Rule}
+use Rattle.desk_rule.proofs.Seats.{Later, Alike, seats_after, makers_after, come_after, mine, misses, Rule}
 use Rattle.desk_rule.proofs.Seeing.{all_covered, saw, seen_all}
 use Rattle.desk_rule.proofs.Ties.{tied_row, tied_clock}
 
@@ -94,9 +95,9 @@ module _ {S O R : Type 0} (content : S → Content) (op_in : O → AnyOp) (reply
   more_by_one s k = let low = clock_low kinds quota k.world k.few_calls k.sound in let is = k.tied.clock in omega arith
 
   pub draws_it : (slots id i : ℕ) (m : Me (Slot S O R) View) (p : Request O) (tl : List (ℕ × Slot S O R)) → m.0.client ≡ true → m.0.own ≡ own.Idle → m.0.held ≡ held.Free → m.0.ended ≡ false → m.1 ≡ (i, slot.Request p) ∷ tl
-      → kind_of (op_in p.op) ≡ kind_at kinds p.object → length m.0.done < quota
+      → p.object < length kinds → kind_of (op_in p.op) ≡ kind_at kinds p.object → length m.0.done < quota
       → Allows K slots id m 80 (λ x. (x + 1) % 2 ^ 64) (play.draws content op_in reply_in (step slots 80 1 0 maybe.none) m)
-  draws_it slots id i m p tl cl is free going carried fits few s k deep at small =
+  draws_it slots id i m p tl cl is free going carried on fits few s k deep at small =
       let w : World = k.world in let c : ℕ = m.0.number in let ok = mine content op_in reply_in kinds clients quota s k id m.0 cl at in let found : ℕ = get_or s.words 80 0 in
       let q : AnyRequest = request_in op_in (record p { ticket = found }) in let t : Stage = drawn q in let v' : View = calling (own.Drawn q) m.0 in
       let was : w.stage c ≡ idle = subst (λ o. OwnOk o (w.stage c)) is ok.own in let before : (r : AnyRequest) → w.stage c ≢ picked r = λ r e. let g = sym was ∙ e in absurd (cc) in
@@ -113,8 +114,9 @@ module _ {S O R : Type 0} (content : S → Content) (op_in : O → AnyOp) (reply
           few_calls = k.few_calls;
           few_clients = k.few_clients;
           holders = k.holders;
+          come = come_after clients w c t (k.makers.numbers id m.0 at cl) k.come;
           sound = sound_ticked kinds quota w c t (w.done c) ok.small before (λ r e. absurd (cc)) (λ y. ap (λ z. served y c (w.done c) ++ served_now y c z) (sym was))
-              (λ r e. let same : q ≡ r = cc in (ap (λ z. kind_of z.op) (sym same) ∙ (fits ∙ (λ j. kind_at kinds (same j).object)), ap (λ z. z.ticket) (sym same) ∙ ticket)) tickets calls k.sound;
+              (λ r e. let same : q ≡ r = cc in (ap (λ z. kind_of z.op) (sym same) ∙ (fits ∙ (λ j. kind_at kinds (same j).object)), ap (λ z. z.ticket) (sym same) ∙ ticket)) tickets calls (journals_called kinds w c q was ticket on k.sound.journals) k.sound;
           tied = tied_clock content op_in reply_in kinds w c ((found + 1) % 2 ^ 64) t (w.done c) s.words s.homes (λ e. absurd (cc)) (ok.ended ∙ going) (ap row_word was) (λ home. tt) (more_by_one s k) k.tied;
           seats = seats_after kinds clients w (ticked w c t (w.done c)) k.seat_of s.views id m.0 v' at cl alike k.makers k.seats
               (λ d other. later_gone w (w.clock + 1) c d t (changed w.done c (w.done c)) before (λ r e. let g = sym was ∙ e in absurd (cc)) (changed_else w.done c (w.done c) d other) other)
@@ -149,7 +151,8 @@ module _ {S O R : Type 0} (content : S → Content) (op_in : O → AnyOp) (reply
           few_calls = k.few_calls;
           few_clients = k.few_clients;
           holders = k.holders;
-          sound = sound_staged kinds quota w c t before (λ r e. absurd (cc)) (ap request_of (sym was)) (λ y. ap (served_now y c) (sym was)) k.sound;
+          come = come_after clients w c t (subst (λ z. z < clients) number (k.makers.numbers id m.0 at cl)) k.come;
+          sound = sound_staged kinds quota w c t before (λ r e. absurd (cc)) (ap request_of (sym was)) (λ e. absurd (cc)) (λ y. ap (served_now y c) (sym was)) k.sound;
           tied = tied_row content op_in reply_in kinds w c n t w.hand w.log s.words s.homes (some (slot.Request p)) ok.small (λ y _. refl) (λ e. absurd (cc)) (ap request_of (sym was)) word (p, refl, same) k.tied;
           seats = seats_after kinds clients w (staged w c t) k.seat_of s.views id m.0 v' at cl alike k.makers k.seats
               (λ d other. later_gone w w.clock c d t w.done before (λ r e. let g = sym was ∙ e in absurd (cc)) refl (λ e. other (e ∙ sym number)))
@@ -197,7 +200,8 @@ module _ {S O R : Type 0} (content : S → Content) (op_in : O → AnyOp) (reply
           few_calls = k.few_calls;
           few_clients = k.few_clients;
           holders = k.holders;
-          sound = sound_staged kinds quota w c t before (λ p e. absurd (cc)) (ap request_of (sym was)) (λ y. ap (served_now y c) (sym was)) k.sound;
+          come = come_after clients w c t (subst (λ z. z < clients) number (k.makers.numbers id m.0 at cl)) k.come;
+          sound = sound_staged kinds quota w c t before (λ p e. absurd (cc)) (ap request_of (sym was)) (λ e. absurd (cc)) (λ y. ap (served_now y c) (sym was)) k.sound;
           tied = tied_row content op_in reply_in kinds w c 0 t w.hand w.log s.words s.homes maybe.none few (λ y _. refl) (λ e. absurd (cc)) (ap request_of (sym was)) refl tt k.tied;
           seats = seats_after kinds clients w (staged w c t) k.seat_of s.views id m.0 v' at cl alike k.makers k.seats
               (λ d other. later_gone w w.clock c d t w.done before (λ r e. let g = sym was ∙ e in absurd (cc)) refl (λ e. other (e ∙ sym number)))
@@ -251,8 +255,9 @@ module _ {S O R : Type 0} (content : S → Content) (op_in : O → AnyOp) (reply
           few_calls = k.few_calls;
           few_clients = k.few_clients;
           holders = k.holders;
+          come = come_after clients w c idle (k.makers.numbers id m.0 at cl) k.come;
           sound = sound_ticked kinds quota w c idle ds ok.small before (λ r e. absurd (cc))
-              (λ y. append-nil (served y c ds) ∙ (served_more y c found (w.done c) q a ∙ ap (λ z. served y c (w.done c) ++ served_now y c z) (sym was))) (λ r e. absurd (cc)) tickets calls k.sound;
+              (λ y. append-nil (served y c ds) ∙ (served_more y c found (w.done c) q a ∙ ap (λ z. served y c (w.done c) ++ served_now y c z) (sym was))) (λ r e. absurd (cc)) tickets calls (journals_returned kinds quota w c found q a was k.tied.clock k.sound) k.sound;
           tied = tied_clock content op_in reply_in kinds w c ((found + 1) % 2 ^ 64) idle ds s.words s.homes (λ e. absurd (cc)) (ok.ended ∙ going) (ap row_word was) (λ home. tt) (more_by_one s k) k.tied;
           seats = seats_after kinds clients w (ticked w c idle ds) k.seat_of s.views id m.0 v' at cl alike k.makers k.seats
               (λ e other. later_gone w (w.clock + 1) c e idle (changed w.done c ds) before (λ r f. let g = sym was ∙ f in absurd (cc)) (changed_else w.done c ds e other) other)

@@ -71,6 +71,7 @@ module _ {S O R : Type 0} (content : S → Content) (op_in : O → AnyOp) (reply
           few_calls = k.few_calls;
           few_clients = k.few_clients;
           holders = λ x d e. let b = k.holders x d e in (b.0, changed_else w.ended c true d (λ same. subst (HeldOk (length kinds) w c) free ok.held x (e ∙ ap Some same)) ∙ b.1);
+          come = k.come;
           sound = sound_ended kinds quota w c k.sound;
           tied = tied_end content op_in reply_in kinds w c j s.words s.homes ok.small (λ e. let g = sym was ∙ e in absurd (cc)) says' k.tied;
           seats = seats_after kinds clients w (ended_by w c) k.seat_of s.views id m.0 v' at cl alike k.makers k.seats (λ d other. later_ended w c d (λ e. other (e ∙ sym number)))

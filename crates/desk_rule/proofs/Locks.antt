@@ -94,6 +94,7 @@ module _ {S O R : Type 0} (content : S → Content) (op_in : O → AnyOp) (reply
           few_clients = k.few_clients;
           holders = λ y d. changed_all (λ y h. h ≡ Some d → (d < clients) × (w.ended d ≡ false)) w.holder x (Some c)
               (λ e. let same = same_number c d e in let low = k.makers.numbers id m.0 at cl in (omega arith, ap w.ended (sym same) ∙ (ok.ended ∙ going))) (λ y _. k.holders y d) y;
+          come = k.come;
           sound = sound_held kinds quota w x (Some c) (λ e. absurd (cc)) k.sound;
           tied = tied_lock content op_in reply_in kinds w x n (Some c) s.words s.homes maybe.none inside is (λ e. absurd (cc)) k.tied;
           seats = seats_after kinds clients w (held_by w x (Some c)) k.seat_of s.views id m.0 v' at cl record { client = refl; number = refl; maker = refl; made = refl; heard = refl } k.makers k.seats
@@ -139,6 +140,7 @@ module _ {S O R : Type 0} (content : S → Content) (op_in : O → AnyOp) (reply
           few_calls = k.few_calls;
           few_clients = k.few_clients;
           holders = λ y d. changed_all (λ y h. h ≡ Some d → (d < clients) × (w.ended d ≡ false)) w.holder x None (λ e. absurd (cc)) (λ y _. k.holders y d) y;
+          come = k.come;
           sound = sound_held kinds quota w x None (λ _. h.2) k.sound;
           tied = tied_lock content op_in reply_in kinds w x 0 None s.words s.homes (some (slot.Core core)) inside refl (λ _. (core, refl, fits')) k.tied;
           seats = seats_after kinds clients w (held_by w x None) k.seat_of s.views id m.0 v' at cl record { client = refl; number = refl; maker = refl; made = refl; heard = refl } k.makers k.seats

@@ -51,6 +51,7 @@ module _ {S O R : Type 0} (content : S → Content) (op_in : O → AnyOp) (reply
     few_calls = k.few_calls;
     few_clients = k.few_clients;
     holders = k.holders;
+    come = k.come;
     sound = k.sound;
     tied = k.tied;
     seats = λ j u e. ⊎_elim (k.seats j u) (λ (t : (j ≡ length s.views) × (letter v ≡ u)). subst (λ z. ViewOk kinds k.world k.seat_of j z) t.1 record {
@@ -72,6 +73,7 @@ module _ {S O R : Type 0} (content : S → Content) (op_in : O → AnyOp) (reply
         few_calls = k.few_calls;
         few_clients = k.few_clients;
         holders = k.holders;
+        come = k.come;
         sound = k.sound;
         tied = k.tied;
         seats = λ j u e. ⊎_elim

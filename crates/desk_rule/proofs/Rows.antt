@@ -33,7 +33,7 @@ use Rattle.world.proofs.Moved.{sound_picked, sound_put_back, sound_served}
 use Rattle.desk_rule.specs.Views.{seen_of, waits_on, noting, handling, putting_back, answering}
 use Rattle.desk_rule.specs.Rule.{row_word, OwnOk, HeldOk, SeatOk, MessageAt}
 use Rattle.desk_rule.specs.Plays as play
-use Rattle.desk_rule.proofs.Seats.{Later, Alike, seats_after, makers_after, mine, unmoved, Rule}
+use Rattle.desk_rule.proofs.Seats.{Later, Alike, seats_after, makers_after, come_after, mine, unmoved, Rule}
 use Rattle.desk_rule.proofs.Ties.{tied_row}
 use Rattle.desk_rule.proofs.Locks.{same_number}
 
@@ -215,6 +215,7 @@ module _ {S O R : Type 0} (content : S → Content) (op_in : O → AnyOp) (reply
           few_calls = k.few_calls;
           few_clients = k.few_clients;
           holders = k.holders;
+          come = come_after clients w r t (k.come r (λ e. let f = sym b.1 ∙ e in absurd (cc))) k.come;
           sound = sound_picked kinds quota w x r c q b.1 b.2 h.1 h.2 k.sound;
           tied = tied_row content op_in reply_in kinds w r (17 + x) t (changed w.hand x (Some r)) w.log s.words s.homes maybe.none inside (λ y _. refl) (λ e. absurd (cc)) (ap request_of (sym b.1)) (ap (λ z. 17 + z) (sym b.2)) tt k.tied;
           seats = seats_after kinds clients w (handed w x (Some r) r t) k.seat_of s.views id m.0 v' at cl (alike_held m.0 (held.Hand x l r q) bs) k.makers k.seats
@@ -276,6 +277,7 @@ module _ {S O R : Type 0} (content : S → Content) (op_in : O → AnyOp) (reply
           few_calls = k.few_calls;
           few_clients = k.few_clients;
           holders = k.holders;
+          come = come_after clients w r t (k.come r (λ e. let f = sym h.6 ∙ e in absurd (cc))) k.come;
           sound = sound_put_back kinds quota w x r c q h.6 on h.1 h.2 k.sound;
           tied = tied_row content op_in reply_in kinds w r n t (changed w.hand x None) w.log s.words s.homes (some (slot.Request p)) h.5 (λ y _. refl) (λ e. absurd (cc)) (ap request_of (sym h.6)) (word ∙ ap (λ z. 1 + z) (sym on)) (p, refl, is) k.tied;
           seats = seats_after kinds clients w (handed w x None r t) k.seat_of s.views id m.0 v' at cl (alike_held m.0 (held.Pass x l) bs) k.makers k.seats
@@ -338,6 +340,7 @@ module _ {S O R : Type 0} (content : S → Content) (op_in : O → AnyOp) (reply
           few_calls = k.few_calls;
           few_clients = k.few_clients;
           holders = k.holders;
+          come = come_after clients w r t (k.come r (λ e. let f = sym h.6 ∙ e in absurd (cc))) k.come;
           sound = sound_served kinds quota w x r c q a h.6 on h.1 h.2 legal' k.sound;
           tied = tied_row content op_in reply_in kinds w r 33 t (changed w.hand x None) (changed w.log x (w.log x ++ more)) s.words s.homes (some (slot.Answer b)) h.5
               (λ y e. changed_else w.log x (w.log x ++ more) y (λ same. let f = sym h.1 ∙ (ap w.holder (sym same) ∙ e) in absurd (cc))) (λ e. absurd (cc)) (ap request_of (sym h.6)) refl (b, refl, refl) k.tied;

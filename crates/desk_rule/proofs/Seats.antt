@@ -18,6 +18,8 @@ use Rattle.desk_rule.specs.declared.board.Held.{Held}
 use Rattle.desk_rule.specs.declared.board.Held.TheVariants as held
 use Rattle.desk_rule.specs.declared.board.View.{View}
 use Rattle.world.specs.World.{AnyEntry, AnyRequest, AnyAnswer, Stage, absent, posted, picked, answered, World, StartsWith}
+use Rattle.world.specs.Moves.{changed}
+use Rattle.world.proofs.Changed.{changed_all}
 use Rattle.world.proofs.Entries.{starts_longer, starts_same}
 use Rattle.desk_rule.specs.Views.{seen_of, heard_of, missing}
 use Rattle.desk_rule.specs.Rule.{OwnOk, HeldOk, SeatOk, ViewOk, Makers, Tied, Kept}
@@ -113,6 +115,10 @@ makers_stay clients vs id v v' at client number maker made before =
       numbers = λ j u e is. let a = back j u e in let low = before.numbers j a.0 a.1 (sym a.2 ∙ is) in let n = a.3 in omega arith;
     }
 
+-- who has come is one of the clients still, after one of them goes to another stage
+pub come_after : (clients : ℕ) (w : World) (c : ℕ) (t : Stage) → c < clients → ((d : ℕ) → w.stage d ≢ absent → d < clients) → (d : ℕ) → changed w.stage c t d ≢ absent → d < clients
+come_after clients w c t low all = changed_all (λ d s. s ≢ absent → d < clients) w.stage c t (λ _. low) (λ d _. all d)
+
 pub makers_after : (clients : ℕ) (vs : List View) (id : ℕ) (v v' : View) → get_elem? vs id ≡ some v → Alike v v' → Makers clients vs → Makers clients (set vs id v')
 makers_after clients vs id v v' at alike = makers_stay clients vs id v v' at alike.client alike.number alike.maker alike.made
 
@@ -135,6 +141,7 @@ module _ {S O R : Type 0} (content : S → Content) (op_in : O → AnyOp) (reply
     few_calls = k.few_calls;
     few_clients = k.few_clients;
     holders = k.holders;
+    come = k.come;
     sound = k.sound;
     tied = k.tied;
     seats = seats_after kinds clients k.world k.world k.seat_of s.views id v v' at cl alike k.makers k.seats (λ c other. same_later k.world c) ok;

@@ -138,3 +138,5 @@ module _ {S O R : Type 0} (content : S → Content) (op_in : O → AnyOp) (reply
     pub makers : Makers clients s.views
     -- who holds an object has not ended
     pub holders : (x c : ℕ) → world.holder x ≡ Some c → (c < clients) × (world.ended c ≡ false)
+    -- who has come is one of the clients
+    pub come : (c : ℕ) → world.stage c ≢ absent → c < clients

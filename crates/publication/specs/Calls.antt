@@ -10,6 +10,7 @@ use Rattle.desk_rule.specs.declared.board.Own.TheVariants as own
 use Rattle.desk_rule.specs.declared.board.View.{View}
 use Rattle.desk_rule.specs.Views.{seen_of, own_request, journal, is_waiting, missing, noting, holding, handling, putting_back, answering, learnt, calling, taking, done_with, seeing}
 use Rattle.world.specs.Images.{entry_in, event_in}
+use Rattle.world.specs.Records.{IsSoundRecord}
 use Rattle.recorder.specs.Records.{Recorded, journal_at, log_at}
 use Rattle.publication.specs.declared.desk.Post.{Post}
 use Rattle.publication.specs.declared.desk.Post.TheVariants as post
@@ -127,14 +128,15 @@ pub record StillThere (d : DeskSeen) (last : Known) (client : ℕ) (after : Know
   pub tried : (v : View) × (after.knows ≡ missing (48 + client) v) × (v ≡ record last.knows { retired = v.retired })
 
 module _ {O R : Type 0} (op_in : O → AnyOp) (reply_in : R → AnyReply) where
-  -- The record has a journal for each client, and for each object a legal log. The last client's journal is its own, and
-  -- each log begins with what it had seen.
+  -- The record has a journal for each client and a log for each object, and is sound: its history is well-formed, and each
+  -- log is legal and a valid order. The last client's journal is its own, and each log begins with what it had seen.
   pub record Closed (d : DeskSeen) (last : Known) (r : Recorded O R) : Type 0 where
     pub journals : length r.journals ≡ d.clients
     pub logs : length r.logs ≡ length d.kinds
     pub own : map (event_in op_in reply_in) (journal_at r last.knows.number) ≡ journal last.knows
     pub legal : (x : ℕ) → x < length d.kinds → IsLegal (kind_at d.kinds x) (map (entry_in op_in reply_in) (log_at r x))
     pub seen : (x : ℕ) → x < length d.kinds → StartsWith (map (entry_in op_in reply_in) (log_at r x)) (seen_of last.knows x)
+    pub sound : IsSoundRecord d.kinds (λ c. map (event_in op_in reply_in) (journal_at r c)) (λ x. map (entry_in op_in reply_in) (log_at r x))
 
 module _ {S O R : Type 0} where
   -- the desk and the number of the client that comes back

@@ -1,6 +1,14 @@
 pub mod Changed
 pub mod Entries
 pub mod Totals
+pub mod Tickets
+pub mod Beyond
 pub mod Moved
 pub mod SameKind
 pub mod Moving
+pub mod Shares
+pub mod Denoted
+pub mod Sources
+pub mod Chosen
+pub mod RecordHistory
+pub mod RecordOrders

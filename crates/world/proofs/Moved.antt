@@ -7,11 +7,12 @@ use Rattle.std.proofs.lemmas.Option.{same_Some}
 use Rattle.model.specs.declared.Kind.{Kind}
 use Rattle.model.specs.Objects.{Content, empty, kind_of}
 use Rattle.world.specs.declared.Answer.TheVariants.{Reply, Refused}
-use Rattle.world.specs.World.{AnyEntry, AnyRequest, AnyAnswer, AnyDone, Stage, posted, picked, answered, World, kind_at, logged, logged_on, entries_of, served, served_now, request_of, calls_made, tickets_drawn, Replays, IsLegal, StartsWith, Serves}
+use Rattle.world.specs.World.{AnyEntry, AnyRequest, AnyAnswer, AnyDone, Stage, absent, posted, picked, answered, World, kind_at, logged, logged_on, entries_of, served, served_now, request_of, calls_made, tickets_drawn, Replays, IsLegal, StartsWith, Serves}
 use Rattle.world.specs.Moves.{changed, staged, ticked, held_by, handed, served_by, ended_by}
-use Rattle.world.specs.Sound.{Sound, total}
+use Rattle.world.specs.Sound.{Sound, SoundJournals, total}
 use Rattle.world.proofs.Changed.{changed_here, changed_else, changed_all}
 use Rattle.world.proofs.Entries.{entries-append, own_entries, others_entries, logged_here, logged_else, replays_more, starts_same}
+use Rattle.world.proofs.Tickets.{journals_kept, journals_staged}
 use Rattle.world.proofs.Totals.{total_same, total_one, total_le}
 
 module _ (kinds : List Kind) (quota : ℕ) where
@@ -29,6 +30,7 @@ module _ (kinds : List Kind) (quota : ℕ) where
     early = k.early;
     drawn = k.drawn;
     within = k.within;
+    journals = journals_kept kinds w (held_by w x h) refl (λ c. refl) (λ c. refl) (λ c e. e) (λ y. starts_same (w.log y)) k.journals;
   }
 
   pub sound_ended : (w : World) (c : ℕ) → S w → S (ended_by w c)
@@ -42,12 +44,13 @@ module _ (kinds : List Kind) (quota : ℕ) where
     early = k.early;
     drawn = k.drawn;
     within = k.within;
+    journals = journals_kept kinds w (ended_by w c) refl (λ c. refl) (λ c. refl) (λ c e. e) (λ y. starts_same (w.log y)) k.journals;
   }
 
   -- the client c goes to a stage with the same request, which is in no hand before or after
-  pub sound_staged : (w : World) (c : ℕ) (t : Stage) → ((q : AnyRequest) → w.stage c ≢ picked q) → ((q : AnyRequest) → t ≢ picked q) → request_of t ≡ request_of (w.stage c)
+  pub sound_staged : (w : World) (c : ℕ) (t : Stage) → ((q : AnyRequest) → w.stage c ≢ picked q) → ((q : AnyRequest) → t ≢ picked q) → request_of t ≡ request_of (w.stage c) → t ≢ absent
       → ((x : ℕ) → served_now x c t ≡ served_now x c (w.stage c)) → S w → S (staged w c t)
-  sound_staged w c t before after same puts k = record {
+  sound_staged w c t before after same came puts k = record {
     legal = k.legal;
     counted = λ d x. changed_all (λ d t. entries_of d (w.log x) ≡ served x d (w.done d) ++ served_now x d t) w.stage c t
         (k.counted c x ∙ ap (λ z. served x c (w.done c) ++ z) (sym (puts x))) (λ d _. k.counted d x) d;
@@ -59,14 +62,15 @@ module _ (kinds : List Kind) (quota : ℕ) where
     drawn = total_same (λ d. tickets_drawn (w.done d) (request_of (changed w.stage c t d))) (λ d. tickets_drawn (w.done d) (request_of (w.stage d))) 32
         (λ d _. changed_all (λ d t. tickets_drawn (w.done d) (request_of t) ≡ tickets_drawn (w.done d) (request_of (w.stage d))) w.stage c t (ap (tickets_drawn (w.done c)) same) (λ d _. refl) d) ∙ k.drawn;
     within = changed_all (λ d t. calls_made (w.done d) (request_of t) ≤ quota) w.stage c t (subst (λ z. calls_made (w.done c) z ≤ quota) (sym same) (k.within c)) (λ d _. k.within d);
+    journals = journals_staged kinds w (staged w c t) c t refl (λ d. refl) (λ d. refl) same came (λ y. starts_same (w.log y)) k.journals;
   }
 
   -- the client c draws a ticket, and goes to the stage t with these calls over
   pub sound_ticked : (w : World) (c : ℕ) (t : Stage) (ds : List AnyDone) → c < 32 → ((q : AnyRequest) → w.stage c ≢ picked q) → ((q : AnyRequest) → t ≢ picked q)
       → ((x : ℕ) → served x c ds ++ served_now x c t ≡ served x c (w.done c) ++ served_now x c (w.stage c))
       → ((q : AnyRequest) → request_of t ≡ Some q → (kind_of q.op ≡ kind_at kinds q.object) × (q.ticket ≡ w.clock))
-      → tickets_drawn ds (request_of t) ≡ tickets_drawn (w.done c) (request_of (w.stage c)) + 1 → calls_made ds (request_of t) ≤ quota → S w → S (ticked w c t ds)
-  sound_ticked w c t ds low before after puts fits more few k = record {
+      → tickets_drawn ds (request_of t) ≡ tickets_drawn (w.done c) (request_of (w.stage c)) + 1 → calls_made ds (request_of t) ≤ quota → SoundJournals kinds (ticked w c t ds) → S w → S (ticked w c t ds)
+  sound_ticked w c t ds low before after puts fits more few journals k = record {
     legal = k.legal;
     counted = λ d x. changed_all (λ d t. entries_of d (w.log x) ≡ served x d (changed w.done c ds d) ++ served_now x d t) w.stage c t
         (k.counted c x ∙ (sym (puts x) ∙ ap (λ z. served x c z ++ served_now x c t) (sym (changed_here w.done c ds))))
@@ -82,6 +86,7 @@ module _ (kinds : List Kind) (quota : ℕ) where
         (λ d other i. tickets_drawn (changed_else w.done c ds d other i) (request_of (changed_else w.stage c t d other i))) ∙ ap (λ z. z + 1) k.drawn;
     within = λ d. changed_all (λ d t. calls_made (changed w.done c ds d) (request_of t) ≤ quota) w.stage c t
         (subst (λ z. calls_made z (request_of t) ≤ quota) (sym (changed_here w.done c ds)) few) (λ d other. subst (λ z. calls_made z (request_of (w.stage d)) ≤ quota) (sym (changed_else w.done c ds d other)) (k.within d)) d;
+    journals = journals;
   }
 
   -- the stage of the row r changes, with the same request, which is for x, and so does what the holder of x has in hand
@@ -107,6 +112,7 @@ module _ (kinds : List Kind) (quota : ℕ) where
     early = k.early;
     drawn = same_totals w r (picked q) (ap request_of (sym is)) k;
     within = changed_all (λ d t. calls_made (w.done d) (request_of t) ≤ quota) w.stage r (picked q) (subst (λ z. calls_made (w.done r) (request_of z) ≤ quota) is (k.within r)) (λ d _. k.within d);
+    journals = journals_staged kinds w (handed w x (Some r) r (picked q)) r (picked q) refl (λ d. refl) (λ d. refl) (ap request_of (sym is)) (λ e. absurd (cc)) (λ y. starts_same (w.log y)) k.journals;
   }
 
   -- after the row r, picked up for x, is put back or answered, no other row is in the hand of the holder of x
@@ -136,6 +142,7 @@ module _ (kinds : List Kind) (quota : ℕ) where
     early = k.early;
     drawn = same_totals w r (posted q) (ap request_of (sym is)) k;
     within = changed_all (λ d t. calls_made (w.done d) (request_of t) ≤ quota) w.stage r (posted q) (subst (λ z. calls_made (w.done r) (request_of z) ≤ quota) is (k.within r)) (λ d _. k.within d);
+    journals = journals_staged kinds w (handed w x None r (posted q)) r (posted q) refl (λ d. refl) (λ d. refl) (ap request_of (sym is)) (λ e. absurd (cc)) (λ y. starts_same (w.log y)) k.journals;
   }
 
   -- what an answer puts into the log is early
@@ -174,6 +181,8 @@ module _ (kinds : List Kind) (quota : ℕ) where
         (All-append (λ (e : AnyEntry). e.ticket < w.clock) (w.log x) (logged r q a) (k.early x) (early_logged w.clock r q a (k.fitting r q (ap request_of is)).1)) (λ y _. k.early y);
     drawn = same_totals w r (answered q a) (ap request_of (sym is)) k;
     within = changed_all (λ d t. calls_made (w.done d) (request_of t) ≤ quota) w.stage r (answered q a) (subst (λ z. calls_made (w.done r) (request_of z) ≤ quota) is (k.within r)) (λ d _. k.within d);
+    journals = journals_staged kinds w (served_by w x r q a) r (answered q a) refl (λ d. refl) (λ d. refl) (ap request_of (sym is)) (λ e. absurd (cc))
+        (changed_all (λ y l. StartsWith l (w.log y)) w.log x (w.log x ++ logged r q a) (logged r q a, refl) (λ y _. starts_same (w.log y))) k.journals;
   }
 
   -- no client's tickets can fill the clock

@@ -6,6 +6,7 @@ use Rattle.world.specs.World.{AnyRequest, AnyAnswer, AnyDone, idle, drawn, poste
 use Rattle.world.specs.Moves.{staged, ticked, held_by, handed, served_by, ended_by, Step, draw_call, draw_return, post, win, pick, answer, put_back, take, release, end, Takes, Moves}
 use Rattle.world.specs.Sound.{Sound}
 use Rattle.world.proofs.Entries.{served_more, replays_more}
+use Rattle.world.proofs.Tickets.{journals_called, journals_returned}
 use Rattle.world.proofs.Moved.{sound_held, sound_ended, sound_staged, sound_ticked, sound_picked, sound_put_back, sound_served}
 
 module _ (kinds : List Kind) (quota : ℕ) where
@@ -22,20 +23,20 @@ module _ (kinds : List Kind) (quota : ℕ) where
       let few = t.1 in
       subst S (sym t.4) (sound_ticked kinds quota w c (drawn q) (w.done c) low (λ r e. let g = sym t.0 ∙ e in absurd (cc)) (λ r e. absurd (cc))
       (λ y. ap (λ z. served y c (w.done c) ++ served_now y c z) (sym t.0))
-      (λ r e. let same : q ≡ r = cc in (ap (λ z. kind_of z.op) (sym same) ∙ (t.3 ∙ ap (λ z. kind_at kinds z.object) same), ap (λ z. z.ticket) (sym same))) tickets (omega arith) k)
+      (λ r e. let same : q ≡ r = cc in (ap (λ z. kind_of z.op) (sym same) ∙ (t.3 ∙ ap (λ z. kind_at kinds z.object) same), ap (λ z. z.ticket) (sym same))) tickets (omega arith) (journals_called kinds w c q t.0 refl t.2 k.journals) k)
   takes_sound draw_return w w' c low t k = let q : AnyRequest = t.0 in let a : AnyAnswer = t.1 in let d : AnyDone = record { request = q; answer = a; returned = w.clock } in let ds : List AnyDone = w.done c ++ d ∷ [] in
       let long : length ds ≡ length (w.done c) + 1 = length-append (w.done c) (d ∷ []) in
       let few : calls_made (w.done c) (Some q) ≤ quota = subst (λ z. calls_made (w.done c) (request_of z) ≤ quota) t.2 (k.within c) in let calls : calls_made ds None ≤ quota = omega arith in
       let tickets : tickets_drawn ds None ≡ tickets_drawn (w.done c) (request_of (w.stage c)) + 1 = (let e : tickets_drawn ds None ≡ tickets_drawn (w.done c) (Some q) + 1 = omega arith in e ∙ ap (λ z. tickets_drawn (w.done c) (request_of z) + 1) (sym t.2)) in
       subst S (sym t.3) (sound_ticked kinds quota w c idle ds low (λ r e. let g = sym t.2 ∙ e in absurd (cc)) (λ r e. absurd (cc))
-      (λ y. append-nil (served y c ds) ∙ (served_more y c w.clock (w.done c) q a ∙ ap (λ z. served y c (w.done c) ++ served_now y c z) (sym t.2))) (λ r e. absurd (cc)) tickets calls k)
-  takes_sound post w w' c low t k = subst S (sym t.2) (sound_staged kinds quota w c (posted t.0) (λ r e. let g = sym t.1 ∙ e in absurd (cc)) (λ r e. absurd (cc)) (ap request_of (sym t.1)) (λ y. ap (served_now y c) (sym t.1)) k)
+      (λ y. append-nil (served y c ds) ∙ (served_more y c w.clock (w.done c) q a ∙ ap (λ z. served y c (w.done c) ++ served_now y c z) (sym t.2))) (λ r e. absurd (cc)) tickets calls (journals_returned kinds quota w c w.clock q a t.2 refl k) k)
+  takes_sound post w w' c low t k = subst S (sym t.2) (sound_staged kinds quota w c (posted t.0) (λ r e. let g = sym t.1 ∙ e in absurd (cc)) (λ r e. absurd (cc)) (ap request_of (sym t.1)) (λ e. absurd (cc)) (λ y. ap (served_now y c) (sym t.1)) k)
   takes_sound (win x) w w' c low t k = subst S (sym t.3) (sound_held kinds quota w x (Some c) (λ e. absurd (cc)) k)
   takes_sound (pick r) w w' c low t k = subst S (sym t.6) (sound_picked kinds quota w t.0 r c t.1 t.4 t.5 t.2 t.3 k)
   takes_sound answer w w' c low t k = let x : ℕ = t.0 in let r : ℕ = t.1 in let q : AnyRequest = t.2 in let h = t.6 in let on = on_object w x r q h.1 h.2 k in
       subst S (sym t.9) (sound_served kinds quota w x r c q t.5 h.2 on h.0 h.1 (t.4, replays_more (empty (kind_at kinds x)) t.3 t.4 (w.log x) r q t.5 h.3 t.8) k)
   takes_sound put_back w w' c low t k = let h = t.4 in subst S (sym t.6) (sound_put_back kinds quota w t.0 t.1 c t.2 h.2 (on_object w t.0 t.1 t.2 h.1 h.2 k) h.0 h.1 k)
-  takes_sound take w w' c low t k = subst S (sym t.3) (sound_staged kinds quota w c (taken t.0 t.1) (λ r e. let g = sym t.2 ∙ e in absurd (cc)) (λ r e. absurd (cc)) (ap request_of (sym t.2)) (λ y. ap (served_now y c) (sym t.2)) k)
+  takes_sound take w w' c low t k = subst S (sym t.3) (sound_staged kinds quota w c (taken t.0 t.1) (λ r e. let g = sym t.2 ∙ e in absurd (cc)) (λ r e. absurd (cc)) (ap request_of (sym t.2)) (λ e. absurd (cc)) (λ y. ap (served_now y c) (sym t.2)) k)
   takes_sound release w w' c low t k = subst S (sym t.3) (sound_held kinds quota w t.0 None (λ _. t.2) k)
   takes_sound end w w' c low t k = subst S (sym t.2) (sound_ended kinds quota w c k)
 

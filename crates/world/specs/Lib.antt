@@ -2,3 +2,4 @@ pub mod World
 pub mod Moves
 pub mod Sound
 pub mod Images
+pub mod Records

@@ -1,13 +1,39 @@
 -- What holds of the world between any two moves.
-use Rattle.std.specs.Prelude.{◌≡◌, ℕ, zero, suc, ◌+◌, ◌<◌, ◌≤◌, Bool, true, List, [], ◌++◌, Option, Some, None, All}
+use Rattle.std.specs.Prelude.{◌≡◌, ℕ, zero, suc, ◌+◌, ◌<◌, ◌≤◌, ⊤, List, [], ◌++◌, length, Option, Some, None, All, AllPairs, Contains}
 use Rattle.model.specs.declared.Kind.{Kind}
 use Rattle.model.specs.Objects.{kind_of}
-use Rattle.world.specs.World.{AnyEntry, AnyRequest, Stage, absent, idle, picked, World, kind_at, entries_of, served, served_now, request_of, calls_made, tickets_drawn, IsLegal}
+use Rattle.world.specs.declared.JournalEvent.TheVariants.{Invoked, Returned}
+use Rattle.world.specs.World.{AnyEntry, AnyRequest, AnyEvent, AnyDone, Stage, absent, picked, World, kind_at, logged, entries_of, served, served_now, request_of, calls_made, tickets_drawn, journal_in, tickets_in, IsLegal}
 
 -- the sum of the first n values
 abbrev pub total : (ℕ → ℕ) → ℕ → ℕ
 total f zero = 0
 total f (suc n) = f n + total f n
+
+-- Of several lists of numbers each rises, and together they hold the numbers below n, each once.
+pub record ShareOut (n : ℕ) (lists : ℕ → List ℕ) : Type 0 where
+  pub rising : (c : ℕ) → AllPairs (λ t u. t < u) (lists c)
+  pub below : (c : ℕ) → All (λ t. t < n) (lists c)
+  pub apart : (c d t : ℕ) → Contains (lists c) t → Contains (lists d) t → c ≡ d
+  pub each : (t : ℕ) → t < n → (c : ℕ) × Contains (lists c) t
+
+-- an invocation is on one of the first n objects
+abbrev pub IsAmong : ℕ → AnyEvent → Type 0
+IsAmong n (Invoked t x op) = x < n
+IsAmong n (Returned t a) = ⊤
+
+-- what a call that is over has put into the log stands behind calls that were invoked before it returned
+abbrev pub IsInTime : World → ℕ → AnyDone → Type 0
+IsInTime w c d = (before : List AnyEntry) × (after : List AnyEntry) × (w.log d.request.object ≡ before ++ logged c d.request d.answer ++ after) × All (λ e. e.ticket < d.returned) before
+
+-- what holds of the journals
+pub record SoundJournals (kinds : List Kind) (w : World) : Type 0 where
+  -- each ticket below the clock stands in one journal, once
+  pub tickets : ShareOut w.clock (tickets_in w)
+  pub on_objects : (c : ℕ) → All (IsAmong (length kinds)) (journal_in w c)
+  pub in_time : (c : ℕ) → All (IsInTime w c) (w.done c)
+  -- a client that has not come has done nothing
+  pub not_come : (c : ℕ) → w.stage c ≡ absent → w.done c ≡ []
 
 pub record Sound (kinds : List Kind) (quota : ℕ) (w : World) : Type 0 where
   -- each log is legal
@@ -26,3 +52,4 @@ pub record Sound (kinds : List Kind) (quota : ℕ) (w : World) : Type 0 where
   -- the clock counts the tickets, and no client makes more calls than its quota
   pub drawn : total (λ c. tickets_drawn (w.done c) (request_of (w.stage c))) 32 ≡ w.clock
   pub within : (c : ℕ) → calls_made (w.done c) (request_of (w.stage c)) ≤ quota
+  pub journals : SoundJournals kinds w

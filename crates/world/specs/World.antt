@@ -2,7 +2,7 @@
 -- each client the stage of its call and the calls that are over. Objects and clients are named by number.
 -- After Hendler, Incze, Shavit, Tzafrir, SPAA 2010, section 2: a client's row is its publication record, and the holder
 -- of an object is its combiner.
-use Rattle.std.specs.Prelude.{◌≡◌, ℕ, ◌+◌, ◌*◌, ◌==◌, Bool, List, [], ◌∷◌, ◌++◌, length, slice_index_or, Option, Some, None, if◌then◌else◌}
+use Rattle.std.specs.Prelude.{◌≡◌, ℕ, ◌+◌, ◌*◌, ◌==◌, Bool, List, [], ◌∷◌, ◌++◌, map, length, slice_index_or, Option, Some, None, if◌then◌else◌}
 use Rattle.model.specs.declared.Kind.{Kind}
 use Rattle.model.specs.declared.Kind.TheVariants.{Queue}
 use Rattle.model.specs.declared.AnyOp.{AnyOp}
@@ -121,6 +121,17 @@ abbrev pub journal_of : List AnyDone → Option AnyRequest → List AnyEvent
 journal_of [] None = []
 journal_of [] (Some q) = invoked q ∷ []
 journal_of (d ∷ ds) q = invoked d.request ∷ Returned d.returned d.answer ∷ journal_of ds q
+
+abbrev pub journal_in : World → ℕ → List AnyEvent
+journal_in w c = journal_of (w.done c) (request_of (w.stage c))
+
+abbrev pub ticket_of : AnyEvent → ℕ
+ticket_of (Invoked t x op) = t
+ticket_of (Returned t a) = t
+
+-- the tickets that a client has drawn, in order
+abbrev pub tickets_in : World → ℕ → List ℕ
+tickets_in w c = map ticket_of (journal_in w c)
 
 -- From this content on, each operation of the log was possible, and its reply is the one that `next` gives; and the
 -- object contains this after it.

@@ -1,12 +1,25 @@
-//! The theorem of the world.
+//! The theorems of the world.
 
 ghost use Rattle.std.specs.Prelude.{ℕ, List};
 ghost use Rattle.model.specs.declared.Kind.{Kind};
-ghost use Rattle.world.specs.World.{World};
+ghost use Rattle.model.specs.Orders.{events};
+ghost use Rattle.model.specs.Linearizable.{IsLinearizable};
+ghost use Rattle.world.specs.World.{AnyEntry, AnyEvent, World, kind_at, journal_in};
 ghost use Rattle.world.specs.Moves.{Step, Moves};
 ghost use Rattle.world.specs.Sound.{Sound};
+ghost use Rattle.world.specs.Records.{IsSoundRecord};
 
 /// Each move of each client leaves a sound world sound, for all objects and quotas.
 pub fn each_move_keeps_it_sound()
     ensures { (kinds : List Kind) (quota : ℕ) (step : Step) (w w' : World) (client : ℕ) → Moves kinds quota step w client w' → Sound kinds quota w → Sound kinds quota w' }
+{}
+
+/// The record of a sound world is sound: its history is well-formed, and each log is a valid order. Calls may be under way.
+pub fn record_is_sound()
+    ensures { (kinds : List Kind) (quota : ℕ) (w : World) → Sound kinds quota w → IsSoundRecord kinds (journal_in w) w.log }
+{}
+
+/// The history of a sound record is linearizable.
+pub fn sound_record_is_linearizable()
+    ensures { (kinds : List Kind) (journals : ℕ → List AnyEvent) (logs : ℕ → List AnyEntry) (r : IsSoundRecord kinds journals logs) → IsLinearizable (kind_at kinds) (events r.history) }
 {}

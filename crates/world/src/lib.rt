@@ -7,7 +7,7 @@
 
 mod laws;
 
-pub use laws::each_move_keeps_it_sound;
+pub use laws::{each_move_keeps_it_sound, record_is_sound, sound_record_is_linearizable};
 
 /// What the log of an object says of one operation: whose it was, the ticket of its invocation, the operation, and
 /// its reply.

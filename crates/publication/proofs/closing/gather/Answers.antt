@@ -3,7 +3,7 @@ use Rattle.std.specs.Slots.{slots_items}
 use Rattle.world.specs.Images.{event_in}
 use Rattle.recorder.specs.Records.{items_of}
 use Rattle.desk_rule.specs.Views.{journal}
-use Rattle.publication.specs.Closing.{values_of, HasJournal, AreLogs}
+use Rattle.publication.specs.Closing.{values_of, HasJournal, IsJournalOf, AreLogs}
 use Rattle.publication.proofs.Leavings.{left_by, closed_ok}
 use Rattle.publication.proofs.closing.gather.Goals as goal
 
@@ -30,7 +30,7 @@ take_all_journals-requires-clause-present g c lfts within = let d = c.desk.invar
     let left = left_by g.S.SeqObject.content g.S.SeqObject.op_in g.S.SeqObject.reply_in c.desk.inside.table.shared.key c.args.desk c.args.last c.last.inside.member.seat.id c.last.inside.member.seat.me.0 (slots_items c.close_with-left.result.words) (values_of c.close_with-left.result)
     (d.2 ∙ ap (λ s. s.kinds) c.desk.view_is) (d.3 ∙ ap (λ s. s.clients) c.desk.view_is) (ap (λ k. k.knows) c.last.view_is) k.agrees.client_is k.free c.requires.ended e.values.2 in
     let own : c.last.inside.member.number ≡ c.args.last.knows.number = sym k.agrees.number_is ∙ ap (λ k. k.knows.number) c.last.view_is in let clients = ap (λ s. s.clients) c.desk.view_is in
-    λ n l other. subst (λ xs. HasJournal xs n) (sym (c.pass_over.ensures.1 ∙ c.take_logs.ensures.slots.1)) (left.journals n (omega arith) (λ f. other (f ∙ sym own)))
+    λ n l other. subst (λ xs. HasJournal xs n) (sym (c.pass_over.ensures.1 ∙ c.take_logs.ensures.slots.1)) (let b = left.journals n (omega arith) (λ f. other (f ∙ sym own)) in (b.0, b.1))
 
 pub returns : goal.returns
 returns g c = let d = c.desk.invariant.0 in let k = c.last.invariant in let e = c.close_with-left.ensures in
@@ -38,10 +38,13 @@ returns g c = let d = c.desk.invariant.0 in let k = c.last.invariant in let e = 
     (d.2 ∙ ap (λ s. s.kinds) c.desk.view_is) (d.3 ∙ ap (λ s. s.clients) c.desk.view_is) (ap (λ k. k.knows) c.last.view_is) k.agrees.client_is k.free c.requires.ended e.values.2 in
     let own : c.last.inside.member.number ≡ c.args.last.knows.number = sym k.agrees.number_is ∙ ap (λ k. k.knows.number) c.last.view_is in
     let n = c.len-objects.ensures in let count : length c.desk.inside.kinds.items ≡ vec_len c.desk.inside.kinds = search rules in let same : length c.desk.inside.kinds.items ≡ length c.args.desk.kinds = ap (λ s. length s.kinds) c.desk.view_is in
-    let all : c.len-objects.result ≡ length c.args.desk.kinds = omega arith in
-    closed_ok g.S.SeqObject.op_in g.S.SeqObject.reply_in c.args.desk c.args.last (values_of c.close_with-left.result) c.new.result left
+    let all : c.len-objects.result ≡ length c.args.desk.kinds = omega arith in let clients : c.desk.inside.clients ≡ c.args.desk.clients = ap (λ s. s.clients) c.desk.view_is in
+    closed_ok g.S.SeqObject.op_in g.S.SeqObject.reply_in c.args.desk c.desk.inside.table.shared.key.quota c.args.last (values_of c.close_with-left.result) c.new.result left
     (subst (λ m. AreLogs m (values_of c.close_with-left.result) c.new.result.logs) all (subst (λ l. AreLogs c.len-objects.result (values_of c.close_with-left.result) l) (sym (ap (λ r. r.logs) c.new.ensures)) c.take_logs.ensures.logs))
     (ap (λ r. length r.journals) c.new.ensures ∙ (c.take_all_journals.ensures.count ∙ ap (λ s. s.clients) c.desk.view_is))
     (ap (λ r. map (event_in g.S.SeqObject.op_in g.S.SeqObject.reply_in) (get_or r.journals c.args.last.knows.number [])) c.new.ensures
     ∙ (ap (λ m. map (event_in g.S.SeqObject.op_in g.S.SeqObject.reply_in) (get_or (items_of c.take_all_journals.new.journals.items) m [])) (sym own)
     ∙ (ap (map (event_in g.S.SeqObject.op_in g.S.SeqObject.reply_in)) c.take_all_journals.ensures.own ∙ (k.agrees.journal_is ∙ ap (λ k. journal k.knows) c.last.view_is))))
+    (λ n l other. subst (λ js. IsJournalOf (values_of c.close_with-left.result) n (get_or js n [])) (sym (ap (λ r. r.journals) c.new.ensures))
+    (subst (λ xs. IsJournalOf xs n (get_or (items_of c.take_all_journals.new.journals.items) n [])) (c.pass_over.ensures.1 ∙ c.take_logs.ensures.slots.1)
+    (c.take_all_journals.ensures.others n (omega arith) (λ f. other (f ∙ own)))))

@@ -16,6 +16,7 @@ fetch_add-ticket-requires g c = let k = subst (λ b. IsClient g.S.SeqObject.op_i
     let is = own_idle _ k.agrees.at_rest (sym k.agrees.outstanding_is) in
     let d = c.self.invariant.0 in let wide = d.0 in let e = c.exchange.ensures.3 in let ok = c.in_default.ensures.ok in
     let kinds = sym (ap (λ v. v.kinds) c.self.view_is) ∙ sym d.2 in
+    let on : c.args.object < length c.self.inside.table.shared.key.kinds.items = subst (λ (ks : List Kind). c.args.object < length ks) kinds ok.0 in
     let fits = sym c.kind_of.ensures ∙ (ok.1 ∙ ap (λ (ks : List Kind). kind_at ks c.args.object) kinds) in
     let quota : c.client.inside.member.quota ≡ c.self.inside.table.shared.key.quota = ap (λ v. v.desk.quota) c.client.view_is ∙ (ap (λ z. z.quota) c.requires ∙ (sym (ap (λ v. v.id.quota) c.self.view_is) ∙ sym d.4)) in
     let few : c.client.inside.member.calls < c.client.inside.member.quota = search rules in
@@ -24,7 +25,7 @@ fetch_add-ticket-requires g c = let k = subst (λ b. IsClient g.S.SeqObject.op_i
     let count : length c.exchange.new.seat.me.0.done < c.self.inside.table.shared.key.quota = omega arith in (
       search rules,
       omega arith,
-      draws_it _ _ _ _ _ _ _ _ _ _ _ _ (ap (λ z. z.0.client) e ∙ k.agrees.client_is) (ap (λ z. z.0.own) e ∙ is) (ap (λ z. z.0.held) e ∙ k.free) (ap (λ z. z.0.ended) e ∙ k.agrees.going) (ap (λ z. z.1) e) fits count,
+      draws_it _ _ _ _ _ _ _ _ _ _ _ _ (ap (λ z. z.0.client) e ∙ k.agrees.client_is) (ap (λ z. z.0.own) e ∙ is) (ap (λ z. z.0.held) e ∙ k.free) (ap (λ z. z.0.ended) e ∙ k.agrees.going) (ap (λ z. z.1) e) on fits count,
     )
 
 pub exchange-requires-2 : goal.exchange-requires-2
