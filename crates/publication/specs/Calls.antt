@@ -156,6 +156,10 @@ module _ {S O R : Type 0} where
   desk_after_pick (pick.Got h) = h.desk
   desk_after_pick (pick.Not p) = p.desk
 
+  abbrev pub passes_after_pick : Picked S O R → ℕ
+  passes_after_pick (pick.Got h) = h.passes
+  passes_after_pick (pick.Not p) = p.passes
+
   abbrev pub IfGot : Picked S O R → (Handling → Type 0) → Type 0
   IfGot (pick.Got h) P = P h
   IfGot (pick.Not p) P = ⊤

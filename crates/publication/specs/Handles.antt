@@ -39,12 +39,13 @@ pub record Known : Type 0 where
   pub desk : DeskId
   pub knows : View
 
--- a client that holds an object: also the object's number and its log
+-- a client that holds an object: also the object's number, its log, and how many passes there were over it
 pub record Holding : Type 0 where
   pub desk : DeskId
   pub knows : View
   pub object : ℕ
   pub log : List AnyEntry
+  pub passes : ℕ
 
 -- a client that holds an object and a request: also the row that the request is of
 pub record Handling : Type 0 where
@@ -52,6 +53,7 @@ pub record Handling : Type 0 where
   pub knows : View
   pub object : ℕ
   pub log : List AnyEntry
+  pub passes : ℕ
   pub row : ℕ
   pub request : AnyRequest
 

@@ -50,7 +50,7 @@ impl<S: SeqObject> Model for Pass<S> {
 
     ghost Value = { Holding };
 
-    ghost view = { λ p. record { desk = record { table = p.member.seat.table_id; quota = p.member.quota }; knows = p.member.seat.me.0; object = p.object; log = log_of S.op_in S.reply_in p.core } };
+    ghost view = { λ p. record { desk = record { table = p.member.seat.table_id; quota = p.member.quota }; knows = p.member.seat.me.0; object = p.object; log = log_of S.op_in S.reply_in p.core; passes = p.core.passes } };
 
     ghost invariant = { λ p. IsPass S.content S.op_in S.reply_in p.member.number p.member.calls p.member.quota p.member.outstanding p.member.journal p.object p.core p.member.seat.me };
 }
@@ -70,7 +70,7 @@ impl<S: SeqObject> Model for Hand<S> {
 
     ghost Value = { Handling };
 
-    ghost view = { λ p. record { desk = record { table = p.member.seat.table_id; quota = p.member.quota }; knows = p.member.seat.me.0; object = p.object; log = log_of S.op_in S.reply_in p.core; row = p.row; request = request_in S.op_in p.request } };
+    ghost view = { λ p. record { desk = record { table = p.member.seat.table_id; quota = p.member.quota }; knows = p.member.seat.me.0; object = p.object; log = log_of S.op_in S.reply_in p.core; passes = p.core.passes; row = p.row; request = request_in S.op_in p.request } };
 
     ghost invariant = { λ p. IsHand S.content S.op_in S.reply_in p.member.number p.member.calls p.member.quota p.member.outstanding p.member.journal p.object p.core p.row p.request p.member.seat.me };
 }

@@ -1,11 +1,11 @@
 //! Serving the rows of an object that is held.
 
-ghost use Rattle.std.specs.Prelude.{◌≡◌, ◌<◌, ◌++◌, ◌↔◌, map, IsTrue, IsSome};
+ghost use Rattle.std.specs.Prelude.{◌≡◌, ◌+◌, ◌-◌, ◌^◌, ◌<◌, ◌++◌, ◌↔◌, min, map, IsTrue, IsSome};
 ghost use Rattle.model.specs.Objects.{next};
 ghost use Rattle.world.specs.World.{logged, Serves};
 ghost use Rattle.world.specs.Images.{request_in, answer_in, entry_in};
 ghost use Rattle.desk_rule.specs.Views.{learnt, seen_of};
-ghost use Rattle.publication.specs.Calls.{Got, NotGot, CanDo, kind_held, Answered, IsPutBack, desk_after_pick, IfGot, IfNot};
+ghost use Rattle.publication.specs.Calls.{Got, NotGot, CanDo, kind_held, Answered, IsPutBack, desk_after_pick, passes_after_pick, IfGot, IfNot};
 
 use crate::client::{Client, Hand, Pass};
 use crate::desk::{ANSWERED, Desk, Picked};
@@ -29,6 +29,7 @@ impl<S: SeqObject> Pass<S> {
         requires desk { self.desk ≡ desk.now.id }
         requires row { row < 32 }
         ensures desk { desk_after_pick result ≡ self.desk }
+        ensures passes { passes_after_pick result ≡ self.passes }
         ensures got { IfGot result (Got self row) }
         ensures missed { IfNot result (NotGot self row) }
     {
@@ -62,7 +63,8 @@ impl<S: SeqObject> Pass<S> {
 
     /// One more pass over the object: its number, which stays at the greatest once it is there.
     pub fn count_pass(&mut self) -> u64
-        ensures { self.new ≡ self.old }
+        ensures counted { self.new ≡ record self.old { passes = result } }
+        ensures raised { result ≡ min (self.old.passes + 1) (2 ^ 64 - 1) }
     {
         self.core.passes = self.core.passes.saturating_add(1);
         self.core.passes
@@ -110,6 +112,7 @@ impl<S: SeqObject> Hand<S> {
         requires desk { self.desk ≡ desk.now.id }
         requires possible { CanDo (kind_held self) self.log self.request.op }
         ensures desk { result.0.desk ≡ self.desk }
+        ensures passes { result.0.passes ≡ self.passes }
         ensures answered { Answered self (answer_in S.reply_in result.1) result.0 }
     {
         let Hand {
@@ -139,6 +142,7 @@ impl<S: SeqObject> Hand<S> {
         requires desk { self.desk ≡ desk.now.id }
         requires impossible { CanDo (kind_held self) self.log self.request.op → ⊥ }
         ensures desk { result.desk ≡ self.desk }
+        ensures passes { result.passes ≡ self.passes }
         ensures put_back { IsPutBack self result }
     {
         let Hand {
@@ -168,6 +172,7 @@ fn serve<S: SeqObject>(
 ) -> Answer<S::Reply>
     requires { IsSome (next (S.content core.old.object) (S.op_in request.now.op)) }
     ensures log { map (entry_in S.op_in S.reply_in) core.new.log.items ≡ map (entry_in S.op_in S.reply_in) core.old.log.items ++ logged row (request_in S.op_in request.now) (answer_in S.reply_in result) }
+    ensures passes { core.new.passes ≡ core.old.passes }
     ensures content { Serves (S.content core.old.object) (S.op_in request.now.op) (answer_in S.reply_in result) (S.content core.new.object) }
 {
     let Core {

@@ -26,4 +26,4 @@ pub returns-clause-answered : goal.returns-clause-answered
 returns-clause-answered g c = let h = c.self.invariant in let e = c.serve-answer.ensures in
     let r = answer_ready g.S.SeqObject.content g.S.SeqObject.op_in g.S.SeqObject.reply_in _ _ _ _ _ _ c.self.inside.core c.serve-answer.new.core _ c.self.inside.request c.serve-answer.result _ _ h c.exchange.ensures.3 e.log e.content in
     let fits = core_grows g.S.SeqObject.content g.S.SeqObject.op_in g.S.SeqObject.reply_in _ _ c.self.inside.core c.serve-answer.new.core c.self.inside.request c.serve-answer.result h.fits e.log e.content in
-    answered c.args.self _ _ _ _ _ _ _ _ _ (sym c.self.view_is) c.exchange.ensures.3 (c.store.ensures.2 _ _ _ _ _ _ _ r.1 r.2) e.log (_, fits.1)
+    answered c.args.self _ _ _ _ _ _ _ _ _ _ (sym c.self.view_is) c.exchange.ensures.3 (c.store.ensures.2 _ _ _ _ _ _ _ r.1 r.2) e.log (_, fits.1)

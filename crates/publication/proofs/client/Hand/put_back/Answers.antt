@@ -17,4 +17,4 @@ invariant_of-result g c = let h = c.self.invariant in let r = back_ready g.S.Seq
 
 pub returns-clause-put_back : goal.returns-clause-put_back
 returns-clause-put_back g c = let h = c.self.invariant in let r = back_ready g.S.SeqObject.content g.S.SeqObject.op_in g.S.SeqObject.reply_in _ _ _ _ _ _ c.self.inside.core _ c.self.inside.request _ _ h c.exchange.ensures.3 in
-    is_put_back c.args.self _ _ _ _ _ _ _ (sym c.self.view_is) c.exchange.ensures.3 (c.store.ensures.2 _ _ _ _ r.1)
+    is_put_back c.args.self _ _ _ _ _ _ _ _ (sym c.self.view_is) c.exchange.ensures.3 (c.store.ensures.2 _ _ _ _ r.1)

@@ -17,7 +17,7 @@ invariant_of-result g c = noted_ok g.S.SeqObject.content g.S.SeqObject.op_in g.S
 
 pub returns-then-compare_exchange-posted-clause-missed : goal.returns-then-compare_exchange-posted-clause-missed
 returns-then-compare_exchange-posted-clause-missed g c = let t = (c.compare_exchange.ensures.2 _ c.args.row _ c.self.invariant.holds refl).1 (search rules) in
-    not_got c.args.self _ c.args.row _ _ (sym c.self.view_is) (ap (λ m. m.0) t.0) t.1
+    not_got c.args.self _ _ c.args.row _ _ (sym c.self.view_is) (ap (λ m. m.0) t.0) t.1
 
 pub exchange-requires : goal.exchange-requires
 exchange-requires g c = let t = (c.compare_exchange.ensures.2 _ c.args.row _ c.self.invariant.holds refl).0 (search rules) in (search rules, can_exchange _ _ _ _ (ap (λ m. m.1) t.3))
@@ -31,4 +31,4 @@ unreachable-requires g c = let t = (c.compare_exchange.ensures.2 _ c.args.row _ 
 
 pub returns-clause-got : goal.returns-clause-got
 returns-clause-got g c = let t = (c.compare_exchange.ensures.2 _ c.args.row _ c.self.invariant.holds refl).0 (search rules) in
-    got g.S.SeqObject.op_in c.args.self _ c.args.row t.0 c.in-Request.request _ _ _ _ (sym c.self.view_is) t.3 c.exchange.ensures.3 (same_request _ _ (sym (came_out _ _ _ _ _ (ap (λ m. m.1) t.3) c.exchange.ensures.2) ∙ c.in-Request.is)) t.1 t.2 t.4 t.5
+    got g.S.SeqObject.op_in c.args.self _ _ c.args.row t.0 c.in-Request.request _ _ _ _ (sym c.self.view_is) t.3 c.exchange.ensures.3 (same_request _ _ (sym (came_out _ _ _ _ _ (ap (λ m. m.1) t.3) c.exchange.ensures.2) ∙ c.in-Request.is)) t.1 t.2 t.4 t.5
