@@ -5,7 +5,6 @@ ghost use Rattle.edn.specs.View.{view};
 use super::*;
 use edn::{Form, Out, WriteFault, fits, read_forms};
 use std::alloc::Global;
-use std::io;
 use std::test::Fail;
 
 /// Whether each form fits, which is what the reader of certificates asks.
@@ -101,28 +100,6 @@ fn other_keys_are_ignored(rt: HostRuntime) -> Result<(), Fail> {
     Ok(())
 }
 
-/// Room for so many bytes, of which it takes three at a time.
-#[derive(Drop)]
-struct Room {
-    taken: Vec<u8>,
-    left: usize,
-}
-
-impl io::Write for Room {
-    fn write(&mut self, bytes: &[u8]) -> io::Result<usize> {
-        let n = bytes.len().min(self.left).min(3);
-        if self.taken.extend_from_slice(&bytes[..n]).is_err() {
-            return Ok(0);
-        }
-        self.left -= n;
-        Ok(n)
-    }
-
-    fn flush(&mut self) -> io::Result<()> {
-        Ok(())
-    }
-}
-
 #[test]
 fn failing_sink(rt: HostRuntime) -> Result<(), Fail> {
     let text = b"{:object 0, :order [0 2 -5]}\n{:object 3, :order []}\n";
@@ -130,10 +107,8 @@ fn failing_sink(rt: HostRuntime) -> Result<(), Fail> {
         return Err(Fail::new("certificates are refused"));
     };
     for left in 0..text.len() + 1 {
-        let mut sink = Out::new(Room {
-            taken: Vec::new(rt.alloc()),
-            left,
-        });
+        let mut room = vec![in rt.alloc(); 0; left]?;
+        let mut sink = Out::new(room.as_mut_slice());
         let wrote = write_certificates(certificates.as_slice(), &mut sink);
         let want = if left < text.len() {
             Err(WriteFault::Device)
@@ -141,7 +116,7 @@ fn failing_sink(rt: HostRuntime) -> Result<(), Fail> {
             Ok(())
         };
         assert_eq!(rt; wrote, want);
-        assert_eq!(rt; sink.into_inner().taken.as_slice(), &text[..left]);
+        assert_eq!(rt; room.as_slice(), &text[..left]);
     }
     Ok(())
 }

@@ -1,16 +1,16 @@
 -- Operations as calls, what the walk knows after some entries, and one entry more.
-use Rattle.std.proofs.Common.{◌≡◌, ◌≢◌, ℕ, ℤ, pos, negsuc, ◌≤ℤ◌, zero, suc, ◌<◌, ◌≤◌, ◌==◌, ◌||◌, max, Bool, true, false, ◌⊎◌, inl, inr, List, [], ◌∷◌, ◌++◌, length, set, replicate, Option, Some, None, AllPairs, get_or, refl, ap, sym, ◌∙◌, subst, arith}
+use Rattle.std.proofs.Common.{◌≡◌, ◌≢◌, ℕ, ℤ, pos, negsuc, ◌≤ℤ◌, zero, suc, ◌<◌, ◌≤◌, ◌==◌, ◌||◌, max, Bool, true, false, ◌⊎◌, inl, inr, List, [], ◌∷◌, ◌++◌, length, set, Option, Some, None, AllPairs, get_or, refl, ap, sym, ◌∙◌, subst, arith}
 use Rattle.std.proofs.lemmas.Int.{ints}
 use Rattle.std.specs.Option.{option_map_or}
 use Rattle.std.specs.List.{list_any, cons_option}
 use Rattle.std.proofs.lemmas.Option.{same_Some}
-use Rattle.std.proofs.lemmas.List.{length-set, get_or-set_same, get_or-set_other, get_or_default, get_or-replicate, length-replicate}
+use Rattle.std.proofs.lemmas.List.{length-set, get_or-set_same, get_or-set_other, get_or_default}
+use Rattle.std.proofs.Math.Bool.{or_assoc}
 use Rattle.std.proofs.lemmas.Bool.{eqb-true, ne_eqb, eq-eqb, or_cases, or_left, or_right, cases_eq, cases_order}
 use Rattle.model.specs.declared.Kind.{Kind}
-use Rattle.model.specs.declared.Kind.TheVariants.{Queue, Stack, Heap, Register, Map, Mutex}
-use Rattle.model.specs.Objects.{Content, empty, kind_with}
+use Rattle.model.specs.Objects.{Content, kind_with}
 use Rattle.model.specs.Orders.{Call, Return}
-use Rattle.model.proofs.Lists.{In, in_append, in_from_contains, contains_from_in, all_from_in, all_at}
+use Rattle.model.proofs.Lists.{In, in_append, in_from_contains, contains_from_in, all_from_in, all_at, in_left, in_right}
 use Rattle.events.specs.declared.operations.End.{End}
 use Rattle.events.specs.declared.operations.End.TheVariants.{Returned, Pending, Failed}
 use Rattle.events.specs.declared.operations.Invocation.{Invocation}
@@ -22,10 +22,6 @@ use Rattle.checker.proofs.Walking.{IsStep, SoFar, found_number, more}
 or_false : (b : Bool) → (b || false) ≡ (false || b)
 or_false true = refl
 or_false false = refl
-
-or_assoc : (a b c : Bool) → (a || (b || c)) ≡ ((a || b) || c)
-or_assoc true b c = refl
-or_assoc false b c = refl
 
 or_nothing : (a b : Bool) → b ≡ false → (a || b) ≡ a
 or_nothing true b e = refl
@@ -39,14 +35,6 @@ at_most n z e = omega (arith, ints)
 
 at_most_of : (n top : ℕ) (z : ℤ) → z ≡ pos n → n ≤ top → z ≤ℤ pos top
 at_most_of n top z e l = omega (arith, ints)
-
-in_left : {X : Type 0} (y : X) (a b : List X) → In y a → In y (a ++ b)
-in_left y [] b i = absurd i
-in_left y (x ∷ a) b i = elim i [ inl e ↦ inl e | inr j ↦ inr (in_left y a b j) ]
-
-in_right : {X : Type 0} (y : X) (a b : List X) → In y b → In y (a ++ b)
-in_right y [] b i = i
-in_right y (x ∷ a) b i = inr (in_right y a b i)
 
 pub numbers_apart : (ops : List Invocation) (k j : ℕ) (d e : Invocation) → AllPairs (λ a b. a.number < b.number) ops → k < length ops → j < length ops → k ≢ j → (get_or ops k d).number ≢ (get_or ops j e).number
 numbers_apart ops k j d e up l m ne q = elim (cases_order k j) [
@@ -82,7 +70,7 @@ stands_false n o e i = let t = stands_from n o i in absurd (cc (e, t))
 
 stands_push : (n m : ℕ) (o : List ℤ) → stands_in n (o ++ pos m ∷ []) ≡ (stands_in n o || (m == n))
 stands_push n m [] = or_false (m == n)
-stands_push n m (z ∷ o) = ap (λ b. is_number n z || b) (stands_push n m o) ∙ or_assoc (is_number n z) (stands_in n o) (m == n)
+stands_push n m (z ∷ o) = ap (λ b. is_number n z || b) (stands_push n m o) ∙ sym (or_assoc (is_number n z) (stands_in n o) (m == n))
 
 -- the greatest number of an order, if there is one
 abbrev pub TopIs : Option ℕ → List ℤ → Type 0
@@ -96,23 +84,6 @@ pub record Walk (kind : Kind) (ops : List Invocation) (o : List ℤ) (seen : Lis
   pub long : length seen ≡ length ops
   pub marks : (k : ℕ) (d : Invocation) → k < length ops → get_or seen k false ≡ stands_in (get_or ops k d).number o
   pub top : TopIs greatest o
-
-kind_of_empty : (kind : Kind) → kind_with (empty kind) ≡ kind
-kind_of_empty Queue = refl
-kind_of_empty Stack = refl
-kind_of_empty Heap = refl
-kind_of_empty Register = refl
-kind_of_empty Map = refl
-kind_of_empty Mutex = refl
-
-pub at_start : (kind : Kind) (ops : List Invocation) (content : Content) (seen : List Bool) → seen ≡ replicate (length ops) false → content ≡ empty kind → Walk kind ops [] seen content None
-at_start kind ops content seen none e = record {
-  so_far = record { known = λ z i. absurd i; once = tt; in_order = tt; replies = sym e };
-  of_kind = ap kind_with e ∙ kind_of_empty kind;
-  long = ap length none ∙ length-replicate (length ops) false;
-  marks = λ k d l. ap (λ (s : List Bool). get_or s k false) none ∙ get_or-replicate (length ops) k false false l;
-  top = refl;
-}
 
 -- the operation of a call
 pub call_parts : (o : Invocation) (c : Call) → call_of o ≡ Some c → (o.number ≡ c.number) × (o.op ≡ c.op) × (return_of o.«end» ≡ c.returned)

@@ -29,7 +29,7 @@ may_begin d w c x cs is k low calls fit = record {
 }
 
 -- it is client 0, and has made them
-pub is_done : (d : DeskSeen) (w : Work) (x y : Known) (cs : List Call) → x ≡ begun d.id d.kinds 0 → cs ≡ calls_at w 0 → y.desk ≡ x.desk → Worked cs x.knows y.knows → IsDone d w y
+is_done : (d : DeskSeen) (w : Work) (x y : Known) (cs : List Call) → x ≡ begun d.id d.kinds 0 → cs ≡ calls_at w 0 → y.desk ≡ x.desk → Worked cs x.knows y.knows → IsDone d w y
 is_done d w x y cs is calls desk k = record {
   desk = desk ∙ ap (λ z. z.desk) is;
   number = k.number ∙ ap (λ z. z.knows.number) is;

@@ -58,6 +58,6 @@ pub record Ran (w : Work) (r : Recorded AnyOp AnyReply) : Type 0 where
   pub number : last.knows.number ≡ 0
   pub closed : Closed (λ (op : AnyOp). op) (λ (reply : AnyReply). reply) desk last r
 
--- The desk d was closed with this client, which had misses and may know of more ends than this: nothing else of it changed.
+-- The desk d was closed with this client, whose number and journal are those of c: it only looked at end words since.
 abbrev pub ClosedAs : DeskSeen → Known → Recorded AnyOp AnyReply → Type 0
 ClosedAs d c r = (last : Known) × (last.knows.number ≡ c.knows.number) × (journal last.knows ≡ journal c.knows) × Closed (λ (op : AnyOp). op) (λ (reply : AnyReply). reply) d last r

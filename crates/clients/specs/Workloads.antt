@@ -1,6 +1,5 @@
 -- What the clients of a desk are to call.
-use Rattle.std.specs.Prelude.{◌≡◌, ℕ, ◌<◌, ℤ, List, [], ◌∷◌, length, map, All, slice_index_or}
-use Rattle.std.specs.declared.vec.Vec.{Vec}
+use Rattle.std.specs.Prelude.{◌≡◌, ℕ, ◌<◌, ℤ, List, [], ◌∷◌, length, All, slice_index_or}
 use Rattle.model.specs.declared.Kind.{Kind}
 use Rattle.model.specs.declared.AnyOp.{AnyOp}
 use Rattle.model.specs.declared.AnyOp.TheVariants.{Enqueue, Dequeue}
@@ -15,9 +14,6 @@ Call = ℕ × AnyOp
 pub record Work : Type 0 where
   pub kinds : List Kind
   pub calls : List (List Call)
-
-abbrev pub items_of : {A Z : Type 0} → List (Vec A Z) → List (List A)
-items_of vs = map (λ v. v.items) vs
 
 abbrev pub calls_at : Work → ℕ → List Call
 calls_at w c = slice_index_or w.calls c []

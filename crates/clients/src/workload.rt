@@ -15,7 +15,8 @@ pub struct Workload {
 }
 
 impl Model for Workload {
-    ghost use Rattle.clients.specs.Workloads.{Work, IsWorkload, items_of};
+    ghost use Rattle.recorder.specs.Records.{items_of};
+    ghost use Rattle.clients.specs.Workloads.{Work, IsWorkload};
 
     ghost Value = { Work };
 

@@ -1,37 +1,53 @@
 -- What the try of a row does to a pass, and what a whole pass does.
-use Rattle.std.proofs.Common.{◌≡◌, ◌≢◌, ℕ, ◌+◌, Bool, true, ◌||◌, ◌&&◌, eq-eqb, refl, sym, ap, ◌∙◌, subst, inl, inr}
+use Rattle.std.proofs.Common.{◌≡◌, ◌≢◌, ℕ, ◌+◌, ◌<◌, ◌≤◌, Bool, true, false, ◌||◌, ◌&&◌, List, [], ◌++◌, length, get_or, set, eq-eqb, refl, sym, ap, ◌∙◌, subst, inl, inr, ⊎_elim}
+use mathlib.Core.Logic.{dite}
+use native.Mathlib.Decide.{ℕ_discrete}
 use Rattle.std.proofs.Math.Bool.{or-true}
-use Rattle.world.specs.World.{AnyRequest, AnyAnswer, kind_at}
+use Rattle.std.proofs.lemmas.Bool.{or_left, cases_lt}
+use Rattle.std.proofs.lemmas.List.{get_or-set_same, get_or-set_other, set_past}
+use Rattle.world.specs.World.{AnyEntry, AnyRequest, AnyAnswer, kind_at, logged, StartsWith}
+use Rattle.world.proofs.Entries.{starts_same, starts_longer}
+use Rattle.desk_rule.specs.declared.board.Held.{Held}
+use Rattle.desk_rule.specs.declared.board.PutBack.{PutBack}
 use Rattle.desk_rule.specs.declared.board.Own.{Own}
 use Rattle.desk_rule.specs.declared.board.Own.TheVariants as own
 use Rattle.desk_rule.specs.declared.board.View.{View}
-use Rattle.desk_rule.specs.Views.{seen_of, waits_on, learnt}
+use Rattle.desk_rule.specs.Views.{seen_of, is_waiting, waits_on, missing, holding, learnt}
 use Rattle.publication.specs.Handles.{Holding, Handling}
-use Rattle.publication.specs.Calls.{Got, NotGot, CanDo, kind_held, Answered, IsPutBack}
+use Rattle.publication.specs.Calls.{NotPolled, Got, NotGot, CanDo, kind_held, Answered, IsPutBack}
 use Rattle.combiner.specs.declared.passes.Tried.{Tried}
 use Rattle.combiner.specs.declared.passes.Tried.TheVariants as tried
 use Rattle.combiner.specs.Passes.{KeepsCalls, Goes, IsTried, IsSettled, IsSettledBy, IsSettledNow}
 
-stays_true : (a b : Bool) → a ≡ true → (a || b) ≡ true
-stays_true a b e = ap (λ z. z || b) e
-
 -- what stays where the own calls of w are written from those of v
-pub keeps_same : (v w u : View) → w ≡ u → KeepsCalls v u → KeepsCalls v w
+keeps_same : (v w u : View) → w ≡ u → KeepsCalls v u → KeepsCalls v w
 keeps_same v w u e k = subst (KeepsCalls v) (sym e) k
 
 pub keeps_on : (v w u : View) → KeepsCalls v w → KeepsCalls w u → KeepsCalls v u
-keeps_on v w u a b = record { number = b.number ∙ a.number; kinds = b.kinds ∙ a.kinds; own = b.own ∙ a.own; done = b.done ∙ a.done }
+keeps_on v w u a b = record {
+  number = b.number ∙ a.number;
+  kinds = b.kinds ∙ a.kinds;
+  own = b.own ∙ a.own;
+  done = b.done ∙ a.done;
+  seen = λ x. starts_longer (seen_of u x) (seen_of w x) (seen_of v x) (b.seen x) (a.seen x);
+}
 
-pub keeps_all : (v : View) → KeepsCalls v v
-keeps_all v = record { number = refl; kinds = refl; own = refl; done = refl }
+keeps_all : (v : View) → KeepsCalls v v
+keeps_all v = record { number = refl; kinds = refl; own = refl; done = refl; seen = λ x. starts_same (seen_of v x) }
+
+-- what is held, put back, missed, and known of the own row does not matter
+pub keeps_held : (v : View) {h : Held} {back : List PutBack} {missed : List ℕ} {ready : Bool} → KeepsCalls v (record v { held = h; back = back; missed = missed; ready = ready })
+keeps_held v = record { number = refl; kinds = refl; own = refl; done = refl; seen = λ x. starts_same (seen_of v x) }
 
 pub goes_nowhere : (p : Holding) → Goes p p
-goes_nowhere p = record { desk = refl; object = refl; calls = keeps_all p.knows; ready = λ e. e }
+goes_nowhere p = record { desk = refl; object = refl; log = starts_same p.log; seen = refl; calls = keeps_all p.knows; ready = λ e. e }
 
 pub goes_on : (p q r : Holding) → Goes p q → Goes q r → Goes p r
 goes_on p q r a b = record {
   desk = b.desk ∙ a.desk;
   object = b.object ∙ a.object;
+  log = starts_longer r.log q.log p.log b.log a.log;
+  seen = b.seen ∙ a.seen;
   calls = keeps_on p.knows q.knows r.knows a.calls b.calls;
   ready = λ e. b.ready (a.ready e);
 }
@@ -40,8 +56,10 @@ pub not_goes : (p q : Holding) (row : ℕ) → q.desk ≡ p.desk → NotGot p ro
 not_goes p q row d n = let k = n.knows in record {
   desk = d;
   object = n.object;
-  calls = keeps_same p.knows q.knows _ k record { number = refl; kinds = refl; own = refl; done = refl };
-  ready = λ e. ap (λ z. z.ready) k ∙ stays_true _ _ e;
+  log = subst (λ l. StartsWith l p.log) (sym n.log) (starts_same p.log);
+  seen = ap (λ z. z.seen) k;
+  calls = keeps_same p.knows q.knows _ k (keeps_held p.knows);
+  ready = λ e. ap (λ z. z.ready) k ∙ or_left _ _ e;
 }
 
 waits : (x : ℕ) (o : Own) (q : AnyRequest) → o ≡ own.Waiting q → q.object ≡ x → waits_on x o ≡ true
@@ -56,8 +74,10 @@ pub answered_goes : (p : Holding) (h : Handling) (q : Holding) (row : ℕ) (a : 
 answered_goes p h q row a d d' g k = record {
   desk = d' ∙ d;
   object = k.object ∙ g.object;
-  calls = keeps_on p.knows h.knows q.knows (keeps_same p.knows h.knows _ g.knows record { number = refl; kinds = refl; own = refl; done = refl }) (keeps_same h.knows q.knows _ k.knows record { number = refl; kinds = refl; own = refl; done = refl });
-  ready = λ e. ap (λ z. z.ready) k.knows ∙ stays_true _ _ (ap (λ z. z.ready) g.knows ∙ e);
+  log = (logged h.row h.request a, k.log ∙ ap (λ z. z ++ logged h.row h.request a) g.log);
+  seen = ap (λ z. z.seen) k.knows ∙ ap (λ z. z.seen) g.knows;
+  calls = keeps_on p.knows h.knows q.knows (keeps_same p.knows h.knows _ g.knows (keeps_held p.knows)) (keeps_same h.knows q.knows _ k.knows (keeps_held h.knows));
+  ready = λ e. ap (λ z. z.ready) k.knows ∙ or_left _ _ (ap (λ z. z.ready) g.knows ∙ e);
 }
 
 pub answered_tried : (p : Holding) (h : Handling) (q : Holding) (row : ℕ) (a : AnyAnswer) → Got p row h → Answered h a q → row ≡ p.knows.number → IsTried q tried.Answered
@@ -68,7 +88,9 @@ pub back_goes : (p : Holding) (h : Handling) (q : Holding) (row : ℕ) → h.des
 back_goes p h q row d d' g k = record {
   desk = d' ∙ d;
   object = k.object ∙ g.object;
-  calls = keeps_on p.knows h.knows q.knows (keeps_same p.knows h.knows _ g.knows record { number = refl; kinds = refl; own = refl; done = refl }) (keeps_same h.knows q.knows _ k.knows record { number = refl; kinds = refl; own = refl; done = refl });
+  log = subst (λ l. StartsWith l p.log) (sym (k.log ∙ g.log)) (starts_same p.log);
+  seen = ap (λ z. z.seen) k.knows ∙ ap (λ z. z.seen) g.knows;
+  calls = keeps_on p.knows h.knows q.knows (keeps_same p.knows h.knows _ g.knows (keeps_held p.knows)) (keeps_same h.knows q.knows _ k.knows (keeps_held h.knows));
   ready = λ e. ap (λ z. z.ready) k.knows ∙ (ap (λ z. z.ready) g.knows ∙ e);
 }
 
@@ -97,3 +119,26 @@ settled_last q tried.PutBack own p waiting on = inr (own p waiting)
 pub settled_after : (x : ℕ) (q : Holding) (v : View) → q.object ≡ x → v ≡ learnt q.object q.log q.knows → seen_of v q.object ≡ q.log → IsSettledNow q → IsSettled x v
 settled_after x q v on is seen s =
     subst (λ y. IsSettled y v) on (subst (λ l. IsSettledBy q.object l v) (sym seen) (subst (IsSettledBy q.object q.log) (sym is) (λ p waiting at. s p waiting at)))
+
+-- what was seen goes on where a longer log is seen
+pub seen_on : (s : List (List AnyEntry)) (x : ℕ) (l : List AnyEntry) → StartsWith l (get_or s x []) → (y : ℕ) → StartsWith (get_or (set s x l) y []) (get_or s y [])
+seen_on s x l begins y = dite (ℕ_discrete y x)
+    (λ same. ⊎_elim
+    (λ (here : x < length s). subst (λ z. StartsWith (get_or (set s x l) z []) (get_or s z [])) (sym same) (subst (λ z. StartsWith z (get_or s x [])) (sym (get_or-set_same s x l [] here)) begins))
+    (λ (past : length s ≤ x). subst (λ z. StartsWith (get_or z y []) (get_or s y [])) (sym (set_past s x l past)) (starts_same (get_or s y [])))
+    (cases_lt x (length s)))
+    (λ other. subst (λ z. StartsWith z (get_or s y [])) (sym (get_or-set_other s x y l [] other)) (starts_same (get_or s y [])))
+
+-- the client after its pass, which began as p, was put back as q
+pub keeps_learnt : (c : View) (x : ℕ) (p q : Holding) (v : View) → p.knows ≡ holding x p.log c → p.object ≡ x → StartsWith p.log (seen_of c x) → Goes p q → v ≡ learnt q.object q.log q.knows → KeepsCalls c v
+keeps_learnt c x p q v opened on begins g is =
+    let longer : StartsWith q.log (seen_of q.knows q.object) = subst (λ z. StartsWith q.log (get_or z q.object [])) (sym (g.seen ∙ ap (λ z. z.seen) opened))
+    (subst (λ y. StartsWith q.log (seen_of c y)) (sym (g.object ∙ on)) (starts_longer q.log p.log (seen_of c x) g.log begins)) in
+    keeps_on c q.knows v (keeps_on c p.knows q.knows (keeps_same c p.knows _ opened (keeps_held c)) g.calls)
+    (keeps_same q.knows v _ is record { number = refl; kinds = refl; own = refl; done = refl; seen = seen_on q.knows.seen q.object q.log longer })
+
+pub keeps_missed : (x : ℕ) (v w : View) → w ≡ missing x v → KeepsCalls v w
+keeps_missed x v w is = keeps_same v w _ is (keeps_held v)
+
+pub keeps_unpolled : (v w : View) → NotPolled v w → KeepsCalls v w
+keeps_unpolled v w n = ⊎_elim (λ (a : (is_waiting v.own ≡ false) × (w ≡ v)). keeps_same v w v a.1 (keeps_all v)) (λ (b : (w ≡ missing (16 + v.number) v) × (v.ready ≡ false)). keeps_same v w _ b.0 (keeps_held v)) n

@@ -1,13 +1,16 @@
 -- What a call that waited did.
-use Rattle.std.proofs.Common.{◌≡◌, ℕ, ◌+◌, [], ◌∷◌, ◌++◌, length, ap, ◌∙◌, length-append, append_assoc}
+use Rattle.std.proofs.Common.{◌≡◌, ℕ, ◌+◌, ◌<◌, [], ◌∷◌, ◌++◌, All, length, sym, ap, subst, ◌∙◌, length-append, append_assoc}
 use Rattle.model.specs.declared.AnyOp.{AnyOp}
-use Rattle.world.specs.World.{AnyAnswer, journal_of}
+use Rattle.world.specs.World.{AnyEntry, AnyRequest, AnyAnswer, kind_at, logged, entries_of, served, journal_of, IsLegal, StartsWith}
+use Rattle.world.proofs.Entries.{starts_longer}
 use Rattle.world.specs.declared.JournalEvent.TheVariants.{Invoked, Returned}
 use Rattle.desk_rule.specs.declared.board.View.{View}
-use Rattle.desk_rule.specs.Views.{journal, own_request}
+use Rattle.desk_rule.specs.declared.board.Own.TheVariants as own
+use Rattle.desk_rule.specs.Views.{journal, own_request, seen_of}
 use Rattle.publication.specs.Calls.{Posted, Polled}
 use Rattle.combiner.specs.Passes.{KeepsCalls}
-use Rattle.combiner.specs.Waits.{Called, Returns}
+use Rattle.combiner.specs.Waits.{Called, Returns, IsLogged}
+use Rattle.combiner.proofs.Served.{seen_on}
 
 pub returned : (v u w : View) (a : AnyAnswer) → KeepsCalls v u → Polled u a w → Returns v a w
 returned v u w a k p =
@@ -18,6 +21,14 @@ returned v u w a k p =
       idle = ap (λ z. z.own) p.knows;
       calls = done ∙ ap (λ z. length z + 1) k.done;
       journal = p.journal ∙ (λ i. journal_of (k.done i) (own_request (k.own i)) ++ Returned p.ticket a ∷ []);
+      request = p.request;
+      waited = sym k.own ∙ p.waited;
+      seen = λ x. starts_longer (seen_of w x) (seen_of u x) (seen_of v x) (subst (λ z. StartsWith (seen_of z x) (seen_of u x)) (sym p.knows) (seen_on u.seen p.request.object p.log p.begins x)) (k.seen x);
+      logged = record {
+        legal = subst (IsLegal (kind_at v.kinds p.request.object)) (sym p.seen) (subst (λ z. IsLegal (kind_at z p.request.object) p.log) k.kinds p.legal);
+        counted = (λ i. entries_of (sym k.number i) (p.seen i)) ∙ (p.counted ∙ λ i. served p.request.object (k.number i) (k.done i) ++ logged (k.number i) p.request a);
+        later = subst (All (λ (e : AnyEntry). e.ticket < p.ticket)) (sym p.seen) p.later;
+      };
     }
 
 pub called : (v u w : View) (object : ℕ) (op : AnyOp) (a : AnyAnswer) → Posted v object op u → Returns u a w → Called v object op a w
@@ -30,4 +41,8 @@ called v u w object op a p r = record {
   idle = r.idle;
   calls = r.calls ∙ ap (λ (z : View). length z.done + 1) p.knows;
   journal = r.journal ∙ (ap (λ z. z ++ Returned r.ticket a ∷ []) p.journal ∙ append_assoc (journal v) (Invoked p.ticket object op ∷ []) (Returned r.ticket a ∷ []));
+  seen = subst (λ (z : View). (x : ℕ) → StartsWith (seen_of w x) (seen_of z x)) p.knows r.seen;
+  logged = let q : AnyRequest = record { object = object; ticket = p.ticket; op = op } in
+      let is : r.request ≡ q = (let e : own.Waiting r.request ≡ own.Waiting q = sym r.waited ∙ ap (λ z. z.own) p.knows in cc) in
+      let l = subst (λ (z : View). IsLogged z q a r.ticket w) p.knows (subst (λ z. IsLogged u z a r.ticket w) is r.logged) in record { legal = l.legal; counted = l.counted; later = l.later };
 }

@@ -1,6 +1,6 @@
 -- What a pass over the rows does.
 use Rattle.std.specs.Prelude.{◌≡◌, ◌⊎◌, ℕ, true, List, ⊤}
-use Rattle.world.specs.World.{AnyEntry, AnyRequest, kind_at}
+use Rattle.world.specs.World.{AnyEntry, AnyRequest, kind_at, StartsWith}
 use Rattle.desk_rule.specs.declared.board.Own.TheVariants as own
 use Rattle.desk_rule.specs.declared.board.View.{View}
 use Rattle.desk_rule.specs.Views.{seen_of}
@@ -11,12 +11,13 @@ use Rattle.combiner.specs.declared.passes.Combined.TheVariants as combined
 use Rattle.combiner.specs.declared.passes.Tried.{Tried}
 use Rattle.combiner.specs.declared.passes.Tried.TheVariants as tried
 
--- the client and its own calls stay
+-- the client and its own calls stay, and what it has seen goes on
 pub record KeepsCalls (v w : View) : Type 0 where
   pub number : w.number ≡ v.number
   pub kinds : w.kinds ≡ v.kinds
   pub own : w.own ≡ v.own
   pub done : w.done ≡ v.done
+  pub seen : (x : ℕ) → StartsWith (seen_of w x) (seen_of v x)
 
 -- A call of the client on the object x that is outstanding is known to be answered; or the object cannot do it after
 -- this log.
@@ -35,6 +36,8 @@ IsSettledNow p = IsSettledBy p.object p.log p.knows
 pub record Goes (p q : Holding) : Type 0 where
   pub desk : q.desk ≡ p.desk
   pub object : q.object ≡ p.object
+  pub log : StartsWith q.log p.log
+  pub seen : q.knows.seen ≡ p.knows.seen
   pub calls : KeepsCalls p.knows q.knows
   pub ready : p.knows.ready ≡ true → q.knows.ready ≡ true
 

@@ -1,11 +1,11 @@
 -- What a call that waited for its answer did.
-use Rattle.std.specs.Prelude.{◌≡◌, ℕ, ◌+◌, [], ◌∷◌, ◌++◌, length}
+use Rattle.std.specs.Prelude.{◌≡◌, ℕ, ◌+◌, ◌<◌, [], ◌∷◌, ◌++◌, length, All}
 use Rattle.model.specs.declared.AnyOp.{AnyOp}
-use Rattle.world.specs.World.{AnyAnswer}
+use Rattle.world.specs.World.{AnyRequest, AnyAnswer, kind_at, logged, entries_of, served, IsLegal, StartsWith}
 use Rattle.world.specs.declared.JournalEvent.TheVariants.{Invoked, Returned}
 use Rattle.desk_rule.specs.declared.board.Own.TheVariants as own
 use Rattle.desk_rule.specs.declared.board.View.{View}
-use Rattle.desk_rule.specs.Views.{journal}
+use Rattle.desk_rule.specs.Views.{journal, seen_of}
 use Rattle.publication.specs.declared.desk.Post.{Post}
 use Rattle.combiner.specs.declared.waiting.CallFault.{CallFault}
 use Rattle.combiner.specs.declared.waiting.CallFault.TheVariants as fault
@@ -13,6 +13,13 @@ use Rattle.combiner.specs.declared.waiting.CallFault.TheVariants as fault
 -- why the call was not posted
 abbrev pub post_of : CallFault → Post
 post_of (fault.Post e) = e
+
+-- What the client has seen of the request's object after its call is over: a legal log, which holds of its own calls those
+-- before and this one, and in which all were invoked before this one returned.
+pub record IsLogged (v : View) (request : AnyRequest) (a : AnyAnswer) (returned : ℕ) (w : View) : Type 0 where
+  pub legal : IsLegal (kind_at v.kinds request.object) (seen_of w request.object)
+  pub counted : entries_of v.number (seen_of w request.object) ≡ served request.object v.number v.done ++ logged v.number request a
+  pub later : All (λ e. e.ticket < returned) (seen_of w request.object)
 
 -- the outstanding call is over, with this answer
 pub record Returns (v : View) (a : AnyAnswer) (w : View) : Type 0 where
@@ -22,9 +29,13 @@ pub record Returns (v : View) (a : AnyAnswer) (w : View) : Type 0 where
   pub idle : w.own ≡ own.Idle
   pub calls : length w.done ≡ length v.done + 1
   pub journal : journal w ≡ journal v ++ Returned ticket a ∷ []
+  pub request : AnyRequest
+  pub waited : v.own ≡ own.Waiting request
+  pub seen : (x : ℕ) → StartsWith (seen_of w x) (seen_of v x)
+  pub logged : IsLogged v request a ticket w
 
 -- An idle client made one call, with this answer: its invocation and its return are the last events of the journal, and
--- the client is idle.
+-- the client is idle. What it has seen goes on, and has the call.
 pub record Called (v : View) (object : ℕ) (op : AnyOp) (a : AnyAnswer) (w : View) : Type 0 where
   pub invoked : ℕ
   pub returned : ℕ
@@ -34,3 +45,5 @@ pub record Called (v : View) (object : ℕ) (op : AnyOp) (a : AnyAnswer) (w : Vi
   pub idle : w.own ≡ own.Idle
   pub calls : length w.done ≡ length v.done + 1
   pub journal : journal w ≡ journal v ++ Invoked invoked object op ∷ Returned returned a ∷ []
+  pub seen : (x : ℕ) → StartsWith (seen_of w x) (seen_of v x)
+  pub logged : IsLogged v (record { object = object; ticket = invoked; op = op }) a returned w

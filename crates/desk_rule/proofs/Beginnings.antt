@@ -1,15 +1,15 @@
 -- How a desk begins: the first state, a new client, and a client's first step.
-use Rattle.std.proofs.Common.{◌≡◌, ◌≢◌, ℕ, zero, suc, ◌+◌, ◌<◌, ◌≤◌, Bool, true, false, List, [], ◌∷◌, ◌++◌, map, length, replicate, get_or, set, Option, Some, None, length-append, refl, sym, ap, ◌∙◌, subst, ◌⊎◌, ⊎_elim, inl, inr, arith, length-set}
+use Rattle.std.proofs.Common.{◌≡◌, ◌≢◌, ℕ, zero, suc, ◌+◌, ◌<◌, ◌≤◌, true, false, List, [], ◌∷◌, ◌++◌, length, replicate, get_or, set, Some, refl, sym, ap, ◌∙◌, subst, ◌⊎◌, ⊎_elim, inl, inr, arith}
 use mathlib.Core.Option as maybe
 use mathlib.Core.Option.{some, some-injective, some-ne-none}
 use lib.ListN.{get_elem?, length-map}
 use Rattle.std.proofs.lemmas.List.Elements.{All-nil}
-use Rattle.atomic_table.specs.Table.{State, Me, step, takes, chain, opening, stepped, Allows, Splits}
+use Rattle.atomic_table.specs.Table.{State, Me, step, takes, chain, opening, Allows, Splits}
 use Rattle.atomic_table.proofs.Lists.{at_set, at_map, at_snoc, set_else}
 use Rattle.model.specs.declared.Kind.{Kind}
 use Rattle.model.specs.declared.AnyOp.{AnyOp}
 use Rattle.model.specs.declared.AnyReply.{AnyReply}
-use Rattle.model.specs.Objects.{Content, empty}
+use Rattle.model.specs.Objects.{Content}
 use Rattle.desk_rule.specs.declared.board.Core.{Core}
 use Rattle.desk_rule.specs.declared.board.Slot.{Slot}
 use Rattle.desk_rule.specs.declared.board.Slot.TheVariants as slot
@@ -17,22 +17,21 @@ use Rattle.desk_rule.specs.declared.board.Own.TheVariants as own
 use Rattle.desk_rule.specs.declared.board.Held.TheVariants as held
 use Rattle.desk_rule.specs.declared.board.PutBack.{PutBack}
 use Rattle.desk_rule.specs.declared.board.View.{View}
-use Rattle.world.specs.World.{AnyEntry, AnyRequest, Stage, absent, idle, posted, picked, World, kind_at, entries_of, served, served_now, request_of, StartsWith}
-use Rattle.world.specs.Sound.{Sound, IsAmong, IsInTime}
+use Rattle.world.specs.World.{AnyRequest, absent, idle, posted, picked, World, opening_world, kind_at, entries_of}
 use Rattle.world.specs.Moves.{changed, staged}
 use Rattle.world.proofs.Changed.{changed_here, changed_else}
-use Rattle.world.proofs.Moved.{sound_staged}
-use Rattle.desk_rule.specs.Views.{newcomer, founder, one_made, seen_of, owed, calling}
-use Rattle.desk_rule.specs.Rule.{row_word, OwnOk, HeldOk, SeatOk, ViewOk, Makers, Fits, MessageAt, Tied, Kept}
+use Rattle.world.proofs.Opening.{sound_opening, sound_come}
+use Rattle.desk_rule.specs.Views.{newcomer, founder, one_made, seen_of, calling}
+use Rattle.desk_rule.specs.Rule.{row_word, OwnOk, SeatOk, ViewOk, Fits, MessageAt}
 use Rattle.desk_rule.specs.Plays as play
-use Rattle.desk_rule.proofs.Seats.{Alike, seats_after, makers_after, come_after, mine, Rule}
+use Rattle.desk_rule.proofs.Seats.{alike, kept_after, come_after, mine, Rule}
 use Rattle.desk_rule.proofs.Ties.{tied_coming}
-use Rattle.desk_rule.proofs.Calls.{gone, later_gone, seat_gone, calm}
+use Rattle.desk_rule.proofs.Calls.{later_gone, seat_unanswered, covers_own}
 
-pub nils : {A : Type 0} (n x : ℕ) → ◌≡◌ {A = List A} (get_or (replicate n []) x []) []
-nils zero x = refl
-nils (suc n) zero = refl
-nils (suc n) (suc x) = nils n x
+pub get_or-replicate_same : {A : Type 0} (a : A) (n i : ℕ) → get_or (replicate n a) i a ≡ a
+get_or-replicate_same a zero i = refl
+get_or-replicate_same a (suc n) zero = refl
+get_or-replicate_same a (suc n) (suc i) = get_or-replicate_same a n i
 
 pub at_end : {A : Type 0} (l : List A) (a b : A) (j : ℕ) → get_elem? (l ++ a ∷ []) j ≡ some b → (get_elem? l j ≡ some b) ⊎ ((j ≡ length l) × (a ≡ b))
 at_end [] a b zero e = inr (refl, some-injective a b e)
@@ -41,35 +40,7 @@ at_end (x ∷ xs) a b zero e = inl e
 at_end (x ∷ xs) a b (suc j) e = ⊎_elim (λ t. inl t) (λ (t : (j ≡ length xs) × (a ≡ b)). inr (ap suc t.0, t.1)) (at_end xs a b j e)
 
 unseen : (kinds : List Kind) (c x : ℕ) → seen_of (newcomer kinds c) x ≡ []
-unseen kinds c x = nils 16 x
-
--- the world at the start
-abbrev dawn : World
-dawn = record { clock = 0; holder = λ _. None; hand = λ _. None; log = λ _. []; stage = λ _. absent; done = λ _. []; ended = λ _. false }
-
-sound_dawn : (kinds : List Kind) (quota : ℕ) → Sound kinds quota dawn
-sound_dawn kinds quota = record {
-  legal = λ x. (empty (kind_at kinds x), refl);
-  counted = λ c x. refl;
-  in_hand = λ x r e. absurd (cc);
-  picked_up = λ r q e. absurd (cc);
-  empty_hand = λ x e. refl;
-  fitting = λ c q e. absurd (cc);
-  early = λ x. All-nil (λ (e : AnyEntry). e.ticket < 0);
-  drawn = refl;
-  within = λ c. omega arith;
-  journals = record {
-    tickets = record {
-      rising = λ c i j d l m. absurd (omega arith);
-      below = λ c. All-nil (λ t. t < 0);
-      apart = λ c d t h. let l = h.1 in absurd (omega arith);
-      each = λ t l. absurd (omega arith);
-    };
-    on_objects = λ c. All-nil (IsAmong (length kinds));
-    in_time = λ c. All-nil (IsInTime dawn c);
-    not_come = λ c e. refl;
-  };
-}
+unseen kinds c x = get_or-replicate_same [] 16 x
 
 module _ {S O R : Type 0} (content : S → Content) (op_in : O → AnyOp) (reply_in : R → AnyReply) (kinds : List Kind) (clients quota : ℕ) where
   abbrev K : State (Slot S O R) View → Type 0
@@ -79,13 +50,13 @@ module _ {S O R : Type 0} (content : S → Content) (op_in : O → AnyOp) (reply
       → ((x : ℕ) → x < length kinds → (k : Core S O R) × (get_elem? slots x ≡ some (slot.Core k)) × Fits content op_in reply_in (kind_at kinds x) k [])
       → ((i : ℕ) → 16 ≤ i → i < 80 → get_elem? slots i ≡ some slot.Nothing) → K (opening words slots (founder kinds))
   opens words slots few people small wide zeros deep cores others = record {
-    world = dawn;
+    world = opening_world;
     seat_of = λ _. 0;
     few_calls = small;
     few_clients = people;
     holders = λ x c e. absurd (cc);
     come = λ c came. absurd (came refl);
-    sound = sound_dawn kinds quota;
+    sound = sound_opening kinds quota;
     tied = record {
       wide = wide;
       deep = length-map slots (λ (x : Slot S O R). some x) ∙ deep;
@@ -98,8 +69,8 @@ module _ {S O R : Type 0} (content : S → Content) (op_in : O → AnyOp) (reply
       messages = λ r l. at_map some slots (16 + r) slot.Nothing (others (16 + r) (omega arith) (omega arith));
       journals = λ c l. record { at_first = λ e. at_map some slots (48 + c) slot.Nothing (others (48 + c) (omega arith) (omega arith)); at_last = λ e. absurd (cc) };
     };
-    seats = λ j v e. ⊎_elim (λ (t : get_elem? [] j ≡ some v). absurd (some-ne-none v (sym t))) (λ (t : founder kinds ≡ v). subst (λ z. ViewOk kinds dawn (λ _. 0) j z) t record {
-      told = λ x. ([], ap (λ z. z ++ []) (sym (nils 16 x)));
+    seats = λ j v e. ⊎_elim (λ (t : get_elem? [] j ≡ some v). absurd (some-ne-none v (sym t))) (λ (t : founder kinds ≡ v). subst (λ z. ViewOk kinds opening_world (λ _. 0) j z) t record {
+      told = λ x. ([], ap (λ z. z ++ []) (sym (get_or-replicate_same [] 16 x)));
       heard = λ x. ([], refl);
       client = λ is. absurd (cc);
       unmade = λ is c l. (refl, refl, refl, λ x f. cc);
@@ -193,35 +164,20 @@ module _ {S O R : Type 0} (content : S → Content) (op_in : O → AnyOp) (reply
       let w : World = k.world in let ok = subst (λ z. SeatOk kinds w z m.0) number (mine content op_in reply_in kinds clients quota s k id m.0 cl at) in let v' : View = calling own.Idle m.0 in
       let was : w.stage c ≡ absent = subst (λ o. OwnOk o (w.stage c)) is ok.own in let word = k.tied.rows c low in
       let before : (p : AnyRequest) → w.stage c ≢ picked p = λ p e. let g = sym was ∙ e in absurd (cc) in
-      let alike : Alike m.0 v' = record { client = refl; number = refl; maker = refl; made = refl; heard = refl } in let not = calm kinds w c m.0 ok (λ r a e. let g = sym was ∙ e in absurd (cc)) in
       let message : get_elem? s.homes (16 + c) ≡ some (some slot.Nothing) = subst (MessageAt content op_in reply_in (get_elem? s.homes (16 + c))) was (k.tied.messages c low) in
       let journal = (k.tied.journals c low).at_first was in (
         v',
         chain (takes (48 + c) slot.Nothing) (takes (16 + c) slot.Nothing),
         (journal, set_else s.homes (48 + c) (16 + c) maybe.none (λ e. omega arith) ∙ message),
-        record {
+        kept_after content op_in reply_in kinds clients quota s k id m.0 v' at cl alike record {
           world = staged w c idle;
-          seat_of = k.seat_of;
-          few_calls = k.few_calls;
-          few_clients = k.few_clients;
           holders = k.holders;
           come = come_after clients w c idle (subst (λ z. z < clients) number (k.makers.numbers id m.0 at cl)) k.come;
-          sound = sound_staged kinds quota w c idle before (λ p e. absurd (cc)) (ap request_of (sym was)) (λ e. absurd (cc)) (λ y. ap (served_now y c) (sym was)) k.sound;
+          sound = sound_come kinds quota w c was k.sound;
           tied = tied_coming content op_in reply_in kinds w c (get_or s.words (16 + c) 0) idle s.words s.homes low (λ e. absurd (cc)) (ok.ended ∙ going) (word ∙ ap row_word was) (λ home. tt) k.tied;
-          seats = seats_after kinds clients w (staged w c idle) k.seat_of s.views id m.0 v' at cl alike k.makers k.seats
-              (λ d other. later_gone w w.clock c d idle w.done before (λ p e. let g = sym was ∙ e in absurd (cc)) refl (λ e. other (e ∙ sym number)))
-              (subst (λ z. SeatOk kinds (staged w c idle) z v') (sym number) (subst (λ b. SeatOk kinds (staged w c idle) c (record m.0 { own = own.Idle; ready = b })) (sym not)
-              (seat_gone kinds w w.clock c idle w.done m.0 own.Idle m.0.done refl ok.done free
-              (λ y. subst (λ o. StartsWith (entries_of c (seen_of m.0 y)) (served y c m.0.done ++ owed y c o)) is (ok.covers y)) ok)));
-          makers = makers_after clients s.views id m.0 v' at alike k.makers;
+          others = λ d other. later_gone w w.clock c d idle w.done before (λ p e. let g = sym was ∙ e in absurd (cc)) refl (λ e. other (e ∙ sym number));
+          own = subst (λ z. SeatOk kinds (staged w c idle) z v') (sym number)
+              (seat_unanswered kinds w w.clock c idle w.done m.0 own.Idle m.0.done (λ p a e. let g = sym was ∙ e in absurd (cc)) refl ok.done free (covers_own kinds w c m.0 own.Absent is ok) ok);
         },
         λ d same. let e : c ≡ d = omega arith in ap (λ (z : ℕ). (v', (16 + z, slot.Nothing) ∷ (48 + z, slot.Nothing) ∷ m.1)) e,
       )
-
-zeros : (n i : ℕ) → ◌≡◌ {A = ℕ} (get_or (replicate n 0) i 0) 0
-zeros zero i = refl
-zeros (suc n) zero = refl
-zeros (suc n) (suc i) = zeros n i
-
-pub zero_words : (i : ℕ) → ◌≡◌ {A = ℕ} (get_or (replicate 81 0) i 0) 0
-zero_words i = zeros 81 i

@@ -1,5 +1,6 @@
 -- The steps of a client's own call keep the rule: drawing tickets, posting, and taking the answer.
-use Rattle.std.proofs.Common.{◌≡◌, ◌≢◌, ℕ, ◌+◌, ◌%◌, ◌^◌, ◌<◌, ◌≤◌, eqb, Bool, true, false, List, [], ◌∷◌, ◌++◌, length, get_or, set, Option, Some, None, All, refl, sym, ap, subst, ◌∙◌, ◌⊎◌, ⊎_elim, inl, inr, arith, eq-eqb, ne_eqb, append-nil, length-append}
+use Rattle.std.proofs.Common.{◌≡◌, ◌≢◌, ℕ, ◌+◌, ◌%◌, ◌^◌, ◌<◌, eqb, true, false, List, [], ◌∷◌, ◌++◌, length, get_or, set, None, All, refl, sym, ap, subst, ◌∙◌, ◌⊎◌, ⊎_elim, inl, arith, eq-eqb, ne_eqb, append-nil, length-append}
+use Rattle.std.proofs.lemmas.Bool.{false_from_ne_true}
 use Rattle.std.proofs.lemmas.List.{get_or_append_left}
 use mathlib.Core.Logic.{dite}
 use mathlib.Core.Option as maybe
@@ -20,17 +21,16 @@ use Rattle.desk_rule.specs.declared.board.Held.TheVariants as held
 use Rattle.desk_rule.specs.declared.board.View.{View}
 use Rattle.world.specs.declared.Request.{Request}
 use Rattle.world.specs.declared.Answer.{Answer}
-use Rattle.world.specs.World.{AnyEntry, AnyRequest, AnyAnswer, AnyDone, Stage, absent, idle, drawn, posted, picked, answered, taken, World, kind_at, logged, logged_on, entries_of, served, served_now, request_of, calls_made, tickets_drawn, IsLegal, StartsWith}
+use Rattle.world.specs.World.{AnyEntry, AnyRequest, AnyAnswer, AnyDone, Stage, idle, drawn, posted, picked, answered, taken, World, kind_at, logged, logged_on, entries_of, served, served_now, request_of, calls_made, IsLegal, StartsWith}
 use Rattle.world.specs.Moves.{changed, staged, ticked}
 use Rattle.world.specs.Images.{request_in, answer_in}
-use Rattle.world.proofs.Changed.{changed_here, changed_else, changed_all}
-use Rattle.world.proofs.Entries.{starts_same, starts_longer, logged_here, logged_else, served_more}
-use Rattle.world.proofs.Tickets.{journals_called, journals_returned}
-use Rattle.world.proofs.Moved.{sound_staged, sound_ticked, clock_low}
+use Rattle.world.proofs.Changed.{changed_here, changed_else}
+use Rattle.world.proofs.Entries.{starts_same, logged_here, logged_else, served_more}
+use Rattle.world.proofs.Moved.{sound_staged, sound_called, sound_returned, clock_low}
 use Rattle.desk_rule.specs.Views.{seen_of, owed, missing, calling, taking, done_with, seeing}
 use Rattle.desk_rule.specs.Rule.{row_word, OwnOk, HeldOk, SeatOk, MessageAt}
 use Rattle.desk_rule.specs.Plays as play
-use Rattle.desk_rule.proofs.Seats.{Later, Alike, seats_after, makers_after, come_after, mine, misses, Rule}
+use Rattle.desk_rule.proofs.Seats.{Later, alike, kept_after, come_after, mine, misses, Rule}
 use Rattle.desk_rule.proofs.Seeing.{all_covered, saw, seen_all}
 use Rattle.desk_rule.proofs.Ties.{tied_row, tied_clock}
 
@@ -38,6 +38,7 @@ use Rattle.desk_rule.proofs.Ties.{tied_row, tied_clock}
 abbrev pub gone : World → ℕ → ℕ → Stage → (ℕ → List AnyDone) → World
 gone w n c t dones = record w { clock = n; stage = changed w.stage c t; done = dones }
 
+-- another client
 pub later_gone : (w : World) (n c d : ℕ) (t : Stage) (dones : ℕ → List AnyDone) → ((q : AnyRequest) → w.stage c ≢ picked q) → ((q : AnyRequest) → w.stage c ≢ posted q) → dones d ≡ w.done d → d ≢ c → Later w (gone w n c t dones) d
 later_gone w n c d t dones before apart same other = record {
   own = λ o e. subst (OwnOk o) (sym (changed_else w.stage c t d other)) e;
@@ -53,7 +54,7 @@ later_gone w n c d t dones before apart same other = record {
 }
 
 -- the client itself, which holds nothing
-pub seat_gone : (kinds : List Kind) (w : World) (n c : ℕ) (t : Stage) (dones : ℕ → List AnyDone) (v : View) (o : Own) (ds : List AnyDone) → OwnOk o t → ds ≡ dones c → v.held ≡ held.Free
+seat_gone : (kinds : List Kind) (w : World) (n c : ℕ) (t : Stage) (dones : ℕ → List AnyDone) (v : View) (o : Own) (ds : List AnyDone) → OwnOk o t → ds ≡ dones c → v.held ≡ held.Free
     → ((x : ℕ) → StartsWith (entries_of c (seen_of v x)) (served x c ds ++ owed x c o)) → SeatOk kinds w c v → SeatOk kinds (gone w n c t dones) c (record v { own = o; done = ds; ready = false })
 seat_gone kinds w n c t dones v o ds is over free covers ok = record {
   number = ok.number;
@@ -71,13 +72,16 @@ seat_gone kinds w n c t dones v o ds is over free covers ok = record {
   back = λ i d l. let b = ok.back i d l in absurd (subst (HeldOk (length kinds) w c) free ok.held (get_or v.back i d).request.object b.1);
 }
 
-not_ready : (b : Bool) → (b ≡ true → ⊥) → b ≡ false
-not_ready true h = absurd (h refl)
-not_ready false h = refl
+-- the same of a client whose row is not answered before either
+pub seat_unanswered : (kinds : List Kind) (w : World) (n c : ℕ) (t : Stage) (dones : ℕ → List AnyDone) (v : View) (o : Own) (ds : List AnyDone) → ((q : AnyRequest) (a : AnyAnswer) → w.stage c ≢ answered q a) → OwnOk o t → ds ≡ dones c
+    → v.held ≡ held.Free → ((x : ℕ) → StartsWith (entries_of c (seen_of v x)) (served x c ds ++ owed x c o)) → SeatOk kinds w c v → SeatOk kinds (gone w n c t dones) c (record v { own = o; done = ds })
+seat_unanswered kinds w n c t dones v o ds never is over free covers ok =
+    let not : v.ready ≡ false = false_from_ne_true v.ready (λ e. let a = ok.ready e in never a.0 a.1 a.2) in
+    subst (λ b. SeatOk kinds (gone w n c t dones) c (record v { own = o; done = ds; ready = b })) (sym not) (seat_gone kinds w n c t dones v o ds is over free covers ok)
 
--- the view of a client that is idle, or has drawn its ticket, does not say that its row is answered
-pub calm : (kinds : List Kind) (w : World) (c : ℕ) (v : View) → SeatOk kinds w c v → ((q : AnyRequest) (a : AnyAnswer) → w.stage c ≢ answered q a) → v.ready ≡ false
-calm kinds w c v ok never = not_ready v.ready (λ e. let a = ok.ready e in never a.0 a.1 a.2)
+-- what the client has seen of each object, where its own call is this
+pub covers_own : (kinds : List Kind) (w : World) (c : ℕ) (v : View) (o : Own) → v.own ≡ o → SeatOk kinds w c v → (x : ℕ) → StartsWith (entries_of c (seen_of v x)) (served x c v.done ++ owed x c o)
+covers_own kinds w c v o is ok x = subst (λ o. StartsWith (entries_of c (seen_of v x)) (served x c v.done ++ owed x c o)) is (ok.covers x)
 
 all_start : {A : Type 0} (P : A → Type 0) (xs ys : List A) → All P (xs ++ ys) → All P xs
 all_start P xs ys h k d l = subst P (get_or_append_left xs ys d k l) (h k d (omega (arith, length-append xs ys)))
@@ -101,29 +105,19 @@ module _ {S O R : Type 0} (content : S → Content) (op_in : O → AnyOp) (reply
       let w : World = k.world in let c : ℕ = m.0.number in let ok = mine content op_in reply_in kinds clients quota s k id m.0 cl at in let found : ℕ = get_or s.words 80 0 in
       let q : AnyRequest = request_in op_in (record p { ticket = found }) in let t : Stage = drawn q in let v' : View = calling (own.Drawn q) m.0 in
       let was : w.stage c ≡ idle = subst (λ o. OwnOk o (w.stage c)) is ok.own in let before : (r : AnyRequest) → w.stage c ≢ picked r = λ r e. let g = sym was ∙ e in absurd (cc) in
-      let alike : Alike m.0 v' = record { client = refl; number = refl; maker = refl; made = refl; heard = refl } in let not = calm kinds w c m.0 ok (λ r a e. let g = sym was ∙ e in absurd (cc)) in
-      let ticket : found ≡ w.clock = k.tied.clock in let over = ok.done in
-      let calls : calls_made (w.done c) (Some q) ≤ quota = subst (λ z. calls_made z (Some q) ≤ quota) over (omega arith) in
-      let tickets : tickets_drawn (w.done c) (Some q) ≡ tickets_drawn (w.done c) (request_of (w.stage c)) + 1 = (let e : tickets_drawn (w.done c) (Some q) ≡ tickets_drawn (w.done c) None + 1 = omega arith in e ∙ ap (λ z. tickets_drawn (w.done c) (request_of z) + 1) (sym was)) in (
+      let never : (r : AnyRequest) (a : AnyAnswer) → w.stage c ≢ answered r a = λ r a e. let g = sym was ∙ e in absurd (cc) in
+      let ticket : found ≡ w.clock = k.tied.clock in let over = ok.done in let few' : calls_made (w.done c) None < quota = subst (λ z. calls_made z None < quota) over (omega arith) in (
         v',
         keeps,
         tt,
-        record {
+        kept_after content op_in reply_in kinds clients quota s k id m.0 v' at cl alike record {
           world = ticked w c t (w.done c);
-          seat_of = k.seat_of;
-          few_calls = k.few_calls;
-          few_clients = k.few_clients;
           holders = k.holders;
           come = come_after clients w c t (k.makers.numbers id m.0 at cl) k.come;
-          sound = sound_ticked kinds quota w c t (w.done c) ok.small before (λ r e. absurd (cc)) (λ y. ap (λ z. served y c (w.done c) ++ served_now y c z) (sym was))
-              (λ r e. let same : q ≡ r = cc in (ap (λ z. kind_of z.op) (sym same) ∙ (fits ∙ (λ j. kind_at kinds (same j).object)), ap (λ z. z.ticket) (sym same) ∙ ticket)) tickets calls (journals_called kinds w c q was ticket on k.sound.journals) k.sound;
+          sound = sound_called kinds quota w c q ok.small was few' on fits ticket k.sound;
           tied = tied_clock content op_in reply_in kinds w c ((found + 1) % 2 ^ 64) t (w.done c) s.words s.homes (λ e. absurd (cc)) (ok.ended ∙ going) (ap row_word was) (λ home. tt) (more_by_one s k) k.tied;
-          seats = seats_after kinds clients w (ticked w c t (w.done c)) k.seat_of s.views id m.0 v' at cl alike k.makers k.seats
-              (λ d other. later_gone w (w.clock + 1) c d t (changed w.done c (w.done c)) before (λ r e. let g = sym was ∙ e in absurd (cc)) (changed_else w.done c (w.done c) d other) other)
-              (subst (λ b. SeatOk kinds (ticked w c t (w.done c)) c (record m.0 { own = own.Drawn q; ready = b })) (sym not)
-              (seat_gone kinds w (w.clock + 1) c t (changed w.done c (w.done c)) m.0 (own.Drawn q) m.0.done refl (over ∙ sym (changed_here w.done c (w.done c))) free
-              (λ y. subst (λ o. StartsWith (entries_of c (seen_of m.0 y)) (served y c m.0.done ++ owed y c o)) is (ok.covers y)) ok));
-          makers = makers_after clients s.views id m.0 v' at alike k.makers;
+          others = λ d other. later_gone w (w.clock + 1) c d t (changed w.done c (w.done c)) before (λ r e. let g = sym was ∙ e in absurd (cc)) (changed_else w.done c (w.done c) d other) other;
+          own = seat_unanswered kinds w (w.clock + 1) c t (changed w.done c (w.done c)) m.0 (own.Drawn q) m.0.done never refl (over ∙ sym (changed_here w.done c (w.done c))) free (covers_own kinds w c m.0 own.Idle is ok) ok;
         },
         λ i' p' tl' carried'. ap (λ (z : Request O). (calling (own.Drawn (request_in op_in (record z { ticket = found }))) m.0, m.1)) (ap (request_carried p) (sym carried ∙ carried')),
       )
@@ -141,26 +135,20 @@ module _ {S O R : Type 0} (content : S → Content) (op_in : O → AnyOp) (reply
       let w : World = k.world in let ok = subst (λ z. SeatOk kinds w z m.0) number (mine content op_in reply_in kinds clients quota s k id m.0 cl at) in let t : Stage = posted q in
       let v' : View = calling (own.Waiting q) m.0 in let was : w.stage c ≡ drawn q = subst (λ o. OwnOk o (w.stage c)) is ok.own in
       let before : (r : AnyRequest) → w.stage c ≢ picked r = λ r e. let g = sym was ∙ e in absurd (cc) in
-      let alike : Alike m.0 v' = record { client = refl; number = refl; maker = refl; made = refl; heard = refl } in let not = calm kinds w c m.0 ok (λ r a e. let g = sym was ∙ e in absurd (cc)) in (
+      let never : (r : AnyRequest) (a : AnyAnswer) → w.stage c ≢ answered r a = λ r a e. let g = sym was ∙ e in absurd (cc) in (
         v',
         gives,
         tt,
-        subst (λ cs. K record { words = set s.words (16 + c) n; homes = put_back s.homes cs; views = set s.views id v' }) (sym carried) record {
+        subst (λ cs. K record { words = set s.words (16 + c) n; homes = put_back s.homes cs; views = set s.views id v' }) (sym carried) (kept_after content op_in reply_in kinds clients quota s k id m.0 v' at cl alike record {
           world = staged w c t;
-          seat_of = k.seat_of;
-          few_calls = k.few_calls;
-          few_clients = k.few_clients;
           holders = k.holders;
           come = come_after clients w c t (subst (λ z. z < clients) number (k.makers.numbers id m.0 at cl)) k.come;
           sound = sound_staged kinds quota w c t before (λ r e. absurd (cc)) (ap request_of (sym was)) (λ e. absurd (cc)) (λ y. ap (served_now y c) (sym was)) k.sound;
           tied = tied_row content op_in reply_in kinds w c n t w.hand w.log s.words s.homes (some (slot.Request p)) ok.small (λ y _. refl) (λ e. absurd (cc)) (ap request_of (sym was)) word (p, refl, same) k.tied;
-          seats = seats_after kinds clients w (staged w c t) k.seat_of s.views id m.0 v' at cl alike k.makers k.seats
-              (λ d other. later_gone w w.clock c d t w.done before (λ r e. let g = sym was ∙ e in absurd (cc)) refl (λ e. other (e ∙ sym number)))
-              (subst (λ z. SeatOk kinds (staged w c t) z v') (sym number) (subst (λ b. SeatOk kinds (staged w c t) c (record m.0 { own = own.Waiting q; ready = b })) (sym not)
-              (seat_gone kinds w w.clock c t w.done m.0 (own.Waiting q) m.0.done (inl refl) ok.done free
-              (λ y. subst (λ o. StartsWith (entries_of c (seen_of m.0 y)) (served y c m.0.done ++ owed y c o)) is (ok.covers y)) ok)));
-          makers = makers_after clients s.views id m.0 v' at alike k.makers;
-        },
+          others = λ d other. later_gone w w.clock c d t w.done before (λ r e. let g = sym was ∙ e in absurd (cc)) refl (λ e. other (e ∙ sym number));
+          own = subst (λ z. SeatOk kinds (staged w c t) z v') (sym number)
+              (seat_unanswered kinds w w.clock c t w.done m.0 (own.Waiting q) m.0.done never (inl refl) ok.done free (covers_own kinds w c m.0 (own.Drawn q) is ok) ok);
+        }),
         λ r is'. ap (λ (z : AnyRequest). (calling (own.Waiting z) m.0, rest m.1)) (ap (request_known q) (sym is ∙ is')),
       )
 
@@ -174,8 +162,7 @@ module _ {S O R : Type 0} (content : S → Content) (op_in : O → AnyOp) (reply
       → (y : ℕ) → StartsWith (entries_of c (seen_of (seeing q.object l v) y)) (served y c v.done ++ owed y c (own.Taken q a))
   covers_taken kinds w c v q a l is low e ok = seen_all (λ y z. StartsWith (entries_of c z) (served y c v.done ++ logged_on y c q a)) v.seen q.object l low
       ([], e ∙ sym (append-nil (served q.object c v.done ++ logged_on q.object c q a)))
-      (λ y other. subst (λ z. StartsWith (entries_of c (seen_of v y)) (served y c v.done ++ z)) (sym (logged_else y c q a (λ f. other (sym f))))
-      (subst (λ o. StartsWith (entries_of c (seen_of v y)) (served y c v.done ++ owed y c o)) is (ok.covers y)))
+      (λ y other. subst (λ z. StartsWith (entries_of c (seen_of v y)) (served y c v.done ++ z)) (sym (logged_else y c q a (λ f. other (sym f)))) (covers_own kinds w c v (own.Waiting q) is ok y))
 
   pub takes_it : (slots id j : ℕ) (m : Me (Slot S O R) View) (q : AnyRequest) → m.0.client ≡ true → m.0.number ≡ j → m.0.own ≡ own.Waiting q → m.0.held ≡ held.Free → q.object < 16 → j < 32
       → Allows K slots id m (16 + j) (λ f. either (eqb f 33) 0 f) (play.takes_answer content op_in reply_in (step slots (16 + j) 33 0 maybe.none) m)
@@ -188,47 +175,40 @@ module _ {S O R : Type 0} (content : S → Content) (op_in : O → AnyOp) (reply
       let home = subst (MessageAt content op_in reply_in (get_elem? s.homes (16 + c))) was (k.tied.messages c few) in let b : Answer R = home.0 in let a : AnyAnswer = f.0 in let image : answer_in reply_in b ≡ a = home.2 in
       let t : Stage = taken q a in let v' : View = taking q (answer_in reply_in b) l m.0 in
       let before : (p : AnyRequest) → w.stage c ≢ picked p = λ p e. let g = sym was ∙ e in absurd (cc) in
-      let alike : Alike m.0 v' = record { client = refl; number = refl; maker = refl; made = refl; heard = refl } in
       let calls : entries_of c l ≡ served x c m.0.done ++ logged_on x c q a = k.sound.counted c x ∙ λ i. served x c (sym ok.done i) ++ served_now x c (was i) in
       let begins = saw kinds w c x m.0 l low (starts_same l) (all_covered kinds quota w c x m.0.done m.0.own ok.done ok.own k.sound) ok in (
         v',
         takes (16 + c) (slot.Answer b),
         home.1,
-        subst (λ z. K (stepped s (16 + c) (either z 0 (get_or s.words (16 + c) 0)) id m.1 v' (takes (16 + c) (slot.Answer b)))) (sym (eq-eqb (get_or s.words (16 + c) 0) 33 hit)) record {
+        subst (λ z. K (stepped s (16 + c) (either z 0 (get_or s.words (16 + c) 0)) id m.1 v' (takes (16 + c) (slot.Answer b)))) (sym (eq-eqb (get_or s.words (16 + c) 0) 33 hit)) (kept_after content op_in reply_in kinds clients quota s k id m.0 v' at cl alike record {
           world = staged w c t;
-          seat_of = k.seat_of;
-          few_calls = k.few_calls;
-          few_clients = k.few_clients;
           holders = k.holders;
           come = come_after clients w c t (subst (λ z. z < clients) number (k.makers.numbers id m.0 at cl)) k.come;
           sound = sound_staged kinds quota w c t before (λ p e. absurd (cc)) (ap request_of (sym was)) (λ e. absurd (cc)) (λ y. ap (served_now y c) (sym was)) k.sound;
           tied = tied_row content op_in reply_in kinds w c 0 t w.hand w.log s.words s.homes maybe.none few (λ y _. refl) (λ e. absurd (cc)) (ap request_of (sym was)) refl tt k.tied;
-          seats = seats_after kinds clients w (staged w c t) k.seat_of s.views id m.0 v' at cl alike k.makers k.seats
-              (λ d other. later_gone w w.clock c d t w.done before (λ r e. let g = sym was ∙ e in absurd (cc)) refl (λ e. other (e ∙ sym number)))
-              (subst (λ z. SeatOk kinds (staged w c t) z v') (sym number) (subst (λ z. SeatOk kinds (staged w c t) c (taking q z l m.0)) (sym image)
-              (seat_gone kinds w w.clock c t w.done (seeing x l m.0) (own.Taken q a) m.0.done refl ok.done free (covers_taken kinds w c m.0 q a l is (omega arith) calls ok) begins)));
-          makers = makers_after clients s.views id m.0 v' at alike k.makers;
-        },
-        λ p is'. subst (λ z. (get_or s.words (16 + c) 0 ≡ 33 → (b' : Answer R) × (l' : List AnyEntry) × (◌≡◌ {A = Me (Slot S O R) View} (v', (16 + c, slot.Answer b) ∷ m.1) (taking z (answer_in reply_in b') l' m.0, (16 + c, slot.Answer b') ∷ m.1))
-            × IsLegal (kind_at m.0.kinds z.object) l' × StartsWith l' (seen_of m.0 z.object) × (entries_of m.0.number l' ≡ served z.object m.0.number m.0.done ++ logged m.0.number z (answer_in reply_in b')))
-            × (get_or s.words (16 + c) 0 ≢ 33 → (◌≡◌ {A = Me (Slot S O R) View} (v', (16 + c, slot.Answer b) ∷ m.1) (missing (16 + c) m.0, m.1)) × (m.0.ready ≡ false))) (ap (request_known q) (sym is ∙ is')) (
-              (λ _. (
-                b,
-                l,
-                refl,
-                subst (λ z. IsLegal (kind_at z x) l) (sym ok.kinds_are) (k.sound.legal x),
-                ok.seen x,
-                subst (λ z. entries_of z l ≡ served x z m.0.done ++ logged z q (answer_in reply_in b)) (sym number) (calls ∙ ap (λ z. served x c m.0.done ++ z) (logged_here x c q a refl ∙ ap (logged c q) (sym image))),
-              )),
-              λ miss. absurd (miss hit),
-            ),
+          others = λ d other. later_gone w w.clock c d t w.done before (λ r e. let g = sym was ∙ e in absurd (cc)) refl (λ e. other (e ∙ sym number));
+          own = subst (λ z. SeatOk kinds (staged w c t) z v') (sym number) (subst (λ z. SeatOk kinds (staged w c t) c (taking q z l m.0)) (sym image)
+              (seat_gone kinds w w.clock c t w.done (seeing x l m.0) (own.Taken q a) m.0.done refl ok.done free (covers_taken kinds w c m.0 q a l is (omega arith) calls ok) begins));
+        }),
+        λ p is'. let same = ap (request_known q) (sym is ∙ is') in (
+          (λ _. (
+            b,
+            l,
+            (λ i. (taking (same i) (answer_in reply_in b) l m.0, (16 + c, slot.Answer b) ∷ m.1)),
+            subst (λ z. IsLegal (kind_at m.0.kinds z.object) l) same (subst (λ z. IsLegal (kind_at z x) l) (sym ok.kinds_are) (k.sound.legal x)),
+            subst (λ z. StartsWith l (seen_of m.0 z.object)) same (ok.seen x),
+            subst (λ z. entries_of m.0.number l ≡ served z.object m.0.number m.0.done ++ logged m.0.number z (answer_in reply_in b)) same
+                (subst (λ z. entries_of z l ≡ served x z m.0.done ++ logged z q (answer_in reply_in b)) (sym number) (calls ∙ ap (λ z. served x c m.0.done ++ z) (logged_here x c q a refl ∙ ap (logged c q) (sym image)))),
+          )),
+          λ miss. absurd (miss hit),
+        ),
       ))
       (λ miss. (
         missing (16 + c) m.0,
         keeps,
         tt,
         subst (λ z. K (stepped s (16 + c) (either z 0 (get_or s.words (16 + c) 0)) id m.1 (missing (16 + c) m.0) keeps)) (sym (ne_eqb (get_or s.words (16 + c) 0) 33 miss)) (misses content op_in reply_in kinds clients quota s k (16 + c) id m.0 m.1 cl at),
-        λ p is'. ((λ hit. absurd (miss hit)), λ _. (refl, not_ready m.0.ready (λ e. let a = ok.ready e in miss (word ∙ ap row_word a.2)))),
+        λ p is'. ((λ hit. absurd (miss hit)), λ _. (refl, false_from_ne_true m.0.ready (λ e. let a = ok.ready e in miss (word ∙ ap row_word a.2)))),
       ))
 
   abbrev answer_known : AnyAnswer → Own → AnyAnswer
@@ -241,31 +221,20 @@ module _ {S O R : Type 0} (content : S → Content) (op_in : O → AnyOp) (reply
       let w : World = k.world in let c : ℕ = m.0.number in let ok = mine content op_in reply_in kinds clients quota s k id m.0 cl at in let found : ℕ = get_or s.words 80 0 in
       let d : AnyDone = record { request = q; answer = a; returned = found } in let ds : List AnyDone = w.done c ++ d ∷ [] in let v' : View = done_with q a found m.0 in
       let was : w.stage c ≡ taken q a = subst (λ o. OwnOk o (w.stage c)) is ok.own in let before : (r : AnyRequest) → w.stage c ≢ picked r = λ r e. let g = sym was ∙ e in absurd (cc) in
-      let alike : Alike m.0 v' = record { client = refl; number = refl; maker = refl; made = refl; heard = refl } in let not = calm kinds w c m.0 ok (λ r a e. let g = sym was ∙ e in absurd (cc)) in
-      let long : length ds ≡ length (w.done c) + 1 = length-append (w.done c) (d ∷ []) in let few = k.sound.within c in
-      let few' : calls_made (w.done c) (Some q) ≤ quota = subst (λ z. calls_made (w.done c) (request_of z) ≤ quota) was few in let calls : calls_made ds None ≤ quota = omega arith in
-      let tickets : tickets_drawn ds None ≡ tickets_drawn (w.done c) (request_of (w.stage c)) + 1 = (let e : tickets_drawn ds None ≡ tickets_drawn (w.done c) (Some q) + 1 = omega arith in e ∙ ap (λ z. tickets_drawn (w.done c) (request_of z) + 1) (sym was)) in
+      let never : (r : AnyRequest) (a : AnyAnswer) → w.stage c ≢ answered r a = λ r a e. let g = sym was ∙ e in absurd (cc) in
       let prefix = ok.seen q.object in (
         v',
         keeps,
         tt,
-        record {
+        kept_after content op_in reply_in kinds clients quota s k id m.0 v' at cl alike record {
           world = ticked w c idle ds;
-          seat_of = k.seat_of;
-          few_calls = k.few_calls;
-          few_clients = k.few_clients;
           holders = k.holders;
           come = come_after clients w c idle (k.makers.numbers id m.0 at cl) k.come;
-          sound = sound_ticked kinds quota w c idle ds ok.small before (λ r e. absurd (cc))
-              (λ y. append-nil (served y c ds) ∙ (served_more y c found (w.done c) q a ∙ ap (λ z. served y c (w.done c) ++ served_now y c z) (sym was))) (λ r e. absurd (cc)) tickets calls (journals_returned kinds quota w c found q a was k.tied.clock k.sound) k.sound;
+          sound = sound_returned kinds quota w c found q a ok.small was k.tied.clock k.sound;
           tied = tied_clock content op_in reply_in kinds w c ((found + 1) % 2 ^ 64) idle ds s.words s.homes (λ e. absurd (cc)) (ok.ended ∙ going) (ap row_word was) (λ home. tt) (more_by_one s k) k.tied;
-          seats = seats_after kinds clients w (ticked w c idle ds) k.seat_of s.views id m.0 v' at cl alike k.makers k.seats
-              (λ e other. later_gone w (w.clock + 1) c e idle (changed w.done c ds) before (λ r f. let g = sym was ∙ f in absurd (cc)) (changed_else w.done c ds e other) other)
-              (subst (λ b. SeatOk kinds (ticked w c idle ds) c (record m.0 { own = own.Idle; done = m.0.done ++ d ∷ []; ready = b })) (sym not)
-              (seat_gone kinds w (w.clock + 1) c idle (changed w.done c ds) m.0 own.Idle (m.0.done ++ d ∷ []) refl (ap (λ z. z ++ d ∷ []) ok.done ∙ sym (changed_here w.done c ds)) free
-              (λ y. subst (StartsWith (entries_of c (seen_of m.0 y))) (sym (append-nil (served y c (m.0.done ++ d ∷ [])) ∙ served_more y c found m.0.done q a))
-              (subst (λ o. StartsWith (entries_of c (seen_of m.0 y)) (served y c m.0.done ++ owed y c o)) is (ok.covers y))) ok));
-          makers = makers_after clients s.views id m.0 v' at alike k.makers;
+          others = λ e other. later_gone w (w.clock + 1) c e idle (changed w.done c ds) before (λ r f. let g = sym was ∙ f in absurd (cc)) (changed_else w.done c ds e other) other;
+          own = seat_unanswered kinds w (w.clock + 1) c idle (changed w.done c ds) m.0 own.Idle (m.0.done ++ d ∷ []) never refl (ap (λ z. z ++ d ∷ []) ok.done ∙ sym (changed_here w.done c ds)) free
+              (λ y. subst (StartsWith (entries_of c (seen_of m.0 y))) (sym (append-nil (served y c (m.0.done ++ d ∷ [])) ∙ served_more y c found m.0.done q a)) (covers_own kinds w c m.0 (own.Taken q a) is ok y)) ok;
         },
         λ p b is'. let e = sym is ∙ is' in (
           (λ i. (done_with (ap (request_known q) e i) (ap (answer_known a) e i) found m.0, m.1)),

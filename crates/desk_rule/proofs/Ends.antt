@@ -1,12 +1,11 @@
 -- The end of a client, and the sight of another's.
-use Rattle.std.proofs.Common.{◌≡◌, ◌≢◌, ℕ, ◌+◌, ◌<◌, Bool, true, false, List, [], ◌∷◌, ◌++◌, map, length, get_or, set, Option, Some, None, All, refl, sym, ap, ◌∙◌, subst, arith}
+use Rattle.std.proofs.Common.{◌≡◌, ◌≢◌, ℕ, ◌+◌, ◌<◌, Bool, true, false, List, ◌∷◌, map, length, get_or, set, Some, refl, sym, ap, ◌∙◌, subst, arith}
 use mathlib.Core.Logic.{dite}
 use mathlib.Core.Option as maybe
 use mathlib.Core.Option.{some}
 use native.Mathlib.Decide.{ℕ_discrete}
-use lib.ListN.{get_elem?}
 use Rattle.std.proofs.lemmas.List.Elements.{All-push}
-use Rattle.atomic_table.specs.Table.{State, Me, step, keeps, gives, put_back, rest, Allows}
+use Rattle.atomic_table.specs.Table.{State, Me, step, keeps, gives, put_back, Allows}
 use Rattle.model.specs.declared.Kind.{Kind}
 use Rattle.model.specs.declared.AnyOp.{AnyOp}
 use Rattle.model.specs.declared.AnyReply.{AnyReply}
@@ -17,16 +16,16 @@ use Rattle.desk_rule.specs.declared.board.Slot.TheVariants as slot
 use Rattle.desk_rule.specs.declared.board.Own.TheVariants as own
 use Rattle.desk_rule.specs.declared.board.Held.TheVariants as held
 use Rattle.desk_rule.specs.declared.board.View.{View}
-use Rattle.world.specs.World.{Stage, absent, idle, World, request_of, journal_of}
+use Rattle.world.specs.World.{idle, World, request_of, journal_of}
 use Rattle.world.specs.Moves.{changed, ended_by}
 use Rattle.world.specs.Images.{event_in}
 use Rattle.world.proofs.Changed.{changed_here, changed_else, changed_all}
 use Rattle.world.proofs.Entries.{starts_same}
 use Rattle.world.proofs.Moved.{sound_ended}
-use Rattle.desk_rule.specs.Views.{journal, missing, ending, knowing_end}
+use Rattle.desk_rule.specs.Views.{own_request, journal, missing, ending, knowing_end}
 use Rattle.desk_rule.specs.Rule.{end_word, OwnOk, HeldOk, SeatOk}
 use Rattle.desk_rule.specs.Plays as play
-use Rattle.desk_rule.proofs.Seats.{Later, Alike, seats_after, makers_after, mine, unmoved, misses, Rule}
+use Rattle.desk_rule.proofs.Seats.{Later, alike, kept_after, seat_knowing, mine, unmoved, misses, Rule}
 use Rattle.desk_rule.proofs.Ties.{tied_end}
 
 still_ended : (w : World) (c d : ℕ) → w.ended d ≡ true → changed w.ended c true d ≡ true
@@ -60,38 +59,33 @@ module _ {S O R : Type 0} (content : S → Content) (op_in : O → AnyOp) (reply
   ends_it slots id c m j tl cl number is free says carried s k deep at small =
       let w : World = k.world in let ok = subst (λ z. SeatOk kinds w z m.0) number (mine content op_in reply_in kinds clients quota s k id m.0 cl at) in let v' : View = ending m.0 in
       let was : w.stage c ≡ idle = subst (λ o. OwnOk o (w.stage c)) is ok.own in
-      let says' : map (event_in op_in reply_in) j.events.items ≡ journal_of (w.done c) (request_of (w.stage c)) = says ∙ ((λ i. journal_of (ok.done i) (Rattle.desk_rule.specs.Views.own_request (is i))) ∙ ap (λ z. journal_of (w.done c) (request_of z)) (sym was)) in
-      let alike : Alike m.0 v' = record { client = refl; number = refl; maker = refl; made = refl; heard = refl } in (
+      let says' : map (event_in op_in reply_in) j.events.items ≡ journal_of (w.done c) (request_of (w.stage c)) = says ∙ ((λ i. journal_of (ok.done i) (own_request (is i))) ∙ ap (λ z. journal_of (w.done c) (request_of z)) (sym was)) in (
         v',
         gives,
         tt,
-        subst (λ cs. K record { words = set s.words (48 + c) 1; homes = put_back s.homes cs; views = set s.views id v' }) (sym carried) record {
+        subst (λ cs. K record { words = set s.words (48 + c) 1; homes = put_back s.homes cs; views = set s.views id v' }) (sym carried) (kept_after content op_in reply_in kinds clients quota s k id m.0 v' at cl alike record {
           world = ended_by w c;
-          seat_of = k.seat_of;
-          few_calls = k.few_calls;
-          few_clients = k.few_clients;
           holders = λ x d e. let b = k.holders x d e in (b.0, changed_else w.ended c true d (λ same. subst (HeldOk (length kinds) w c) free ok.held x (e ∙ ap Some same)) ∙ b.1);
           come = k.come;
           sound = sound_ended kinds quota w c k.sound;
           tied = tied_end content op_in reply_in kinds w c j s.words s.homes ok.small (λ e. let g = sym was ∙ e in absurd (cc)) says' k.tied;
-          seats = seats_after kinds clients w (ended_by w c) k.seat_of s.views id m.0 v' at cl alike k.makers k.seats (λ d other. later_ended w c d (λ e. other (e ∙ sym number)))
-              (subst (λ z. SeatOk kinds (ended_by w c) z v') (sym number) record {
-                number = ok.number;
-                small = ok.small;
-                kinds_are = ok.kinds_are;
-                done = ok.done;
-                own = ok.own;
-                ready = ok.ready;
-                wide_seen = ok.wide_seen;
-                seen = ok.seen;
-                covers = ok.covers;
-                held = ok.held;
-                ended = changed_here w.ended c true;
-                retired = λ i d l. still_ended w c (get_or m.0.retired i d) (ok.retired i d l);
-                back = ok.back;
-              });
-          makers = makers_after clients s.views id m.0 v' at alike k.makers;
-        },
+          others = λ d other. later_ended w c d (λ e. other (e ∙ sym number));
+          own = subst (λ z. SeatOk kinds (ended_by w c) z v') (sym number) record {
+            number = ok.number;
+            small = ok.small;
+            kinds_are = ok.kinds_are;
+            done = ok.done;
+            own = ok.own;
+            ready = ok.ready;
+            wide_seen = ok.wide_seen;
+            seen = ok.seen;
+            covers = ok.covers;
+            held = ok.held;
+            ended = changed_here w.ended c true;
+            retired = λ i d l. still_ended w c (get_or m.0.retired i d) (ok.retired i d l);
+            back = ok.back;
+          };
+        }),
         refl,
       )
 
@@ -103,21 +97,8 @@ module _ {S O R : Type 0} (content : S → Content) (op_in : O → AnyOp) (reply
         knowing_end d m.0,
         keeps,
         tt,
-        unmoved content op_in reply_in kinds clients quota s k (48 + d) id m.0 (knowing_end d m.0) m.1 at cl record { client = refl; number = refl; maker = refl; made = refl; heard = refl } record {
-          number = ok.number;
-          small = ok.small;
-          kinds_are = ok.kinds_are;
-          done = ok.done;
-          own = ok.own;
-          ready = ok.ready;
-          wide_seen = ok.wide_seen;
-          seen = ok.seen;
-          covers = ok.covers;
-          held = ok.held;
-          ended = ok.ended;
-          retired = All-push (λ e. w.ended e ≡ true) m.0.retired d ok.retired is;
-          back = ok.back;
-        },
+        unmoved content op_in reply_in kinds clients quota s k (48 + d) id m.0 (knowing_end d m.0) m.1 at cl
+            alike (seat_knowing ok.ready (All-push (λ e. w.ended e ≡ true) m.0.retired d ok.retired is) ok),
         λ e same. let f : d ≡ e = omega arith in ((λ _. ap (λ z. (knowing_end z m.0, m.1)) f), λ miss. absurd (miss hit)),
       ))
       (λ miss. (

@@ -1,12 +1,13 @@
 -- Winning and releasing an object keep the rule.
-use Rattle.std.proofs.Common.{◌≡◌, ◌≢◌, ℕ, ◌+◌, ◌<◌, eqb, Bool, true, false, List, [], ◌∷◌, ◌++◌, length, get_or, set, Option, Some, None, All, refl, sym, ap, subst, ◌∙◌, arith, eq-eqb, ne_eqb}
+use Rattle.std.proofs.Common.{◌≡◌, ◌≢◌, ℕ, ◌+◌, ◌<◌, eqb, true, false, List, [], ◌∷◌, length, get_or, set, Option, Some, None, All, refl, sym, ap, subst, ◌∙◌, arith, eq-eqb, ne_eqb}
 use mathlib.Core.Logic.{dite}
 use mathlib.Core.Option as maybe
 use mathlib.Core.Option.{some}
 use native.Mathlib.Decide.{ℕ_discrete}
-use lib.ListN.{get_elem?}
 use prog.Atomic.{either}
-use Rattle.atomic_table.specs.Table.{Me, step, keeps, takes, gives, put_back, rest, stepped, Allows}
+use Rattle.std.proofs.lemmas.List.Elements.{All-nil}
+use Rattle.std.proofs.lemmas.Option.{same_Some}
+use Rattle.atomic_table.specs.Table.{State, Me, step, keeps, takes, gives, put_back, rest, stepped, Allows}
 use Rattle.model.specs.declared.Kind.{Kind}
 use Rattle.model.specs.declared.AnyOp.{AnyOp}
 use Rattle.model.specs.declared.AnyReply.{AnyReply}
@@ -18,16 +19,15 @@ use Rattle.desk_rule.specs.declared.board.Held.{Held}
 use Rattle.desk_rule.specs.declared.board.Held.TheVariants as held
 use Rattle.desk_rule.specs.declared.board.PutBack.{PutBack}
 use Rattle.desk_rule.specs.declared.board.View.{View}
-use Rattle.std.proofs.lemmas.List.Elements.{All-nil}
-use Rattle.world.specs.World.{AnyEntry, posted, World, kind_at, entries_of, served}
+use Rattle.world.specs.World.{AnyEntry, posted, World, kind_at}
 use Rattle.world.specs.Moves.{changed, held_by}
 use Rattle.world.proofs.Changed.{changed_here, changed_else, changed_all}
 use Rattle.world.proofs.Entries.{starts_same}
 use Rattle.world.proofs.Moved.{sound_held}
-use Rattle.desk_rule.specs.Views.{seen_of, owed, missing, holding, learnt, seeing, IsAtRest, IsAccount}
+use Rattle.desk_rule.specs.Views.{missing, holding, learnt, seeing, IsAtRest, IsAccount}
 use Rattle.desk_rule.specs.Rule.{lock_word, Fits, HeldOk, SeatOk}
 use Rattle.desk_rule.specs.Plays as play
-use Rattle.desk_rule.proofs.Seats.{Later, Alike, seats_after, makers_after, mine, unmoved, misses, Rule}
+use Rattle.desk_rule.proofs.Seats.{Later, alike, kept_after, mine, misses, Rule}
 use Rattle.desk_rule.proofs.Seeing.{all_covered, saw, accounts}
 use Rattle.desk_rule.proofs.Ties.{tied_lock}
 
@@ -50,6 +50,11 @@ later_held w x d h other away = record {
   all_ended = λ e g. g;
 }
 
+abbrev pub held_log : Held → List AnyEntry
+held_log (held.Pass x l) = l
+held_log (held.Hand x l r q) = l
+held_log o = []
+
 -- the client itself
 seat_held : (kinds : List Kind) (w : World) (c x : ℕ) (h : Option ℕ) (v : View) (o : Held) (bs : List PutBack) → All (λ b. (w.stage b.row ≡ posted b.request) × (changed w.holder x h b.request.object ≡ Some c)) bs
     → SeatOk kinds w c v → HeldOk (length kinds) (held_by w x h) c o → SeatOk kinds (held_by w x h) c (record v { held = o; back = bs })
@@ -69,11 +74,8 @@ seat_held kinds w c x h v o bs in_rows ok now = record {
   back = in_rows;
 }
 
-pub same_number : (a b : ℕ) → Some a ≡ Some b → a ≡ b
-same_number a b e = cc
-
 module _ {S O R : Type 0} (content : S → Content) (op_in : O → AnyOp) (reply_in : R → AnyReply) (kinds : List Kind) (clients quota : ℕ) where
-  abbrev K : Rattle.atomic_table.specs.Table.State (Slot S O R) View → Type 0
+  abbrev K : State (Slot S O R) View → Type 0
   K = Rule content op_in reply_in kinds clients quota
 
   pub wins : (slots id x n : ℕ) (m : Me (Slot S O R) View) → m.0.client ≡ true → x < length kinds → n ≡ 1 + m.0.number → m.0.held ≡ held.Free → m.0.ended ≡ false
@@ -87,28 +89,23 @@ module _ {S O R : Type 0} (content : S → Content) (op_in : O → AnyOp) (reply
         v',
         takes x (slot.Core home.0),
         home.1,
-        subst (λ b. K (stepped s x (either b n (get_or s.words x 0)) id m.1 v' (takes x (slot.Core home.0)))) (sym (eq-eqb (get_or s.words x 0) 0 hit)) record {
+        subst (λ b. K (stepped s x (either b n (get_or s.words x 0)) id m.1 v' (takes x (slot.Core home.0)))) (sym (eq-eqb (get_or s.words x 0) 0 hit)) (kept_after content op_in reply_in kinds clients quota s k id m.0 v' at cl alike record {
           world = held_by w x (Some c);
-          seat_of = k.seat_of;
-          few_calls = k.few_calls;
-          few_clients = k.few_clients;
           holders = λ y d. changed_all (λ y h. h ≡ Some d → (d < clients) × (w.ended d ≡ false)) w.holder x (Some c)
-              (λ e. let same = same_number c d e in let low = k.makers.numbers id m.0 at cl in (omega arith, ap w.ended (sym same) ∙ (ok.ended ∙ going))) (λ y _. k.holders y d) y;
+              (λ e. let same = same_Some c d e in let low = k.makers.numbers id m.0 at cl in (omega arith, ap w.ended (sym same) ∙ (ok.ended ∙ going))) (λ y _. k.holders y d) y;
           come = k.come;
           sound = sound_held kinds quota w x (Some c) (λ e. absurd (cc)) k.sound;
           tied = tied_lock content op_in reply_in kinds w x n (Some c) s.words s.homes maybe.none inside is (λ e. absurd (cc)) k.tied;
-          seats = seats_after kinds clients w (held_by w x (Some c)) k.seat_of s.views id m.0 v' at cl record { client = refl; number = refl; maker = refl; made = refl; heard = refl } k.makers k.seats
-              (λ d other. later_held w x d (Some c) (λ e. absurd (cc)) (λ e. other (sym (same_number c d e))))
-              (seat_held kinds w c x (Some c) m.0 (held.Pass x (w.log x)) m.0.back
+          others = λ d other. later_held w x d (Some c) (λ e. absurd (cc)) (λ e. other (sym (same_Some c d e)));
+          own = seat_held kinds w c x (Some c) m.0 (held.Pass x (w.log x)) m.0.back
               (λ i d l. let b = ok.back i d l in (b.0, changed_all (λ y h. w.holder y ≡ Some c → h ≡ Some c) w.holder x (Some c) (λ _. refl) (λ y _ e. e) (get_or m.0.back i d).request.object b.1)) ok (
                 inside,
                 changed_here w.holder x (Some c),
                 k.sound.empty_hand x none_holds,
                 refl,
                 changed_all (λ y h. h ≡ Some c → y ≡ x) w.holder x (Some c) (λ _. refl) (λ y _ e. absurd (nothing y e)),
-              ));
-          makers = makers_after clients s.views id m.0 v' at record { client = refl; number = refl; maker = refl; made = refl; heard = refl } k.makers;
-        },
+              );
+        }),
         ((λ _. (home.0, w.log x, refl, subst (λ z. Fits content op_in reply_in (kind_at z x) home.0 (w.log x)) (sym ok.kinds_are) home.2, ok.seen x)), λ miss. absurd (miss hit)),
       ))
       (λ miss. (
@@ -118,11 +115,6 @@ module _ {S O R : Type 0} (content : S → Content) (op_in : O → AnyOp) (reply
         subst (λ b. K (stepped s x (either b n (get_or s.words x 0)) id m.1 (missing x m.0) keeps)) (sym (ne_eqb (get_or s.words x 0) 0 miss)) (misses content op_in reply_in kinds clients quota s k x id m.0 m.1 cl at),
         ((λ hit. absurd (miss hit)), λ _. refl),
       ))
-
-  abbrev held_log : Held → List AnyEntry
-  held_log (held.Pass x l) = l
-  held_log (held.Hand x l r q) = l
-  held_log o = []
 
   pub releases : (slots id x : ℕ) (m : Me (Slot S O R) View) (l : List AnyEntry) (k : Core S O R) (tl : List (ℕ × Slot S O R)) → m.0.client ≡ true → m.0.held ≡ held.Pass x l → m.1 ≡ (x, slot.Core k) ∷ tl
       → Fits content op_in reply_in (kind_at m.0.kinds x) k l → IsAtRest m.0.own → Allows K slots id m x (λ _. 0) (λ _. play.releases content op_in reply_in (step slots x 0 0 maybe.none) m 0)
@@ -134,21 +126,16 @@ module _ {S O R : Type 0} (content : S → Content) (op_in : O → AnyOp) (reply
         v',
         gives,
         tt,
-        subst (λ cs. K record { words = set s.words x 0; homes = put_back s.homes cs; views = set s.views id v' }) (sym carried) record {
+        subst (λ cs. K record { words = set s.words x 0; homes = put_back s.homes cs; views = set s.views id v' }) (sym carried) (kept_after content op_in reply_in kinds clients quota s k id m.0 v' at cl alike record {
           world = held_by w x None;
-          seat_of = k.seat_of;
-          few_calls = k.few_calls;
-          few_clients = k.few_clients;
           holders = λ y d. changed_all (λ y h. h ≡ Some d → (d < clients) × (w.ended d ≡ false)) w.holder x None (λ e. absurd (cc)) (λ y _. k.holders y d) y;
           come = k.come;
           sound = sound_held kinds quota w x None (λ _. h.2) k.sound;
           tied = tied_lock content op_in reply_in kinds w x 0 None s.words s.homes (some (slot.Core core)) inside refl (λ _. (core, refl, fits')) k.tied;
-          seats = seats_after kinds clients w (held_by w x None) k.seat_of s.views id m.0 v' at cl record { client = refl; number = refl; maker = refl; made = refl; heard = refl } k.makers k.seats
-              (λ d other. later_held w x d None (λ e. other (sym (same_number c d (sym h.1 ∙ e)))) (λ e. absurd (cc)))
-              (subst (λ z. SeatOk kinds (held_by w x None) c (learnt x z m.0)) h.3 (seat_held kinds w c x None (seeing x (w.log x) m.0) held.Free [] (All-nil (λ (b : PutBack). (w.stage b.row ≡ posted b.request) × (changed w.holder x None b.request.object ≡ Some c))) seat
-              (changed_all (λ y h'. h' ≢ Some c) w.holder x None (λ e. absurd (cc)) (λ y other e. other (h.4 y e)))));
-          makers = makers_after clients s.views id m.0 v' at record { client = refl; number = refl; maker = refl; made = refl; heard = refl } k.makers;
-        },
+          others = λ d other. later_held w x d None (λ e. other (sym (same_Some c d (sym h.1 ∙ e)))) (λ e. absurd (cc));
+          own = subst (λ z. SeatOk kinds (held_by w x None) c (learnt x z m.0)) h.3 (seat_held kinds w c x None (seeing x (w.log x) m.0) held.Free [] (All-nil (λ (b : PutBack). (w.stage b.row ≡ posted b.request) × (changed w.holder x None b.request.object ≡ Some c))) seat
+              (changed_all (λ y h'. h' ≢ Some c) w.holder x None (λ e. absurd (cc)) (λ y other e. other (h.4 y e))));
+        }),
         λ l' pass'. let same = ap held_log (sym pass ∙ pass') in (
           ap (λ z. (learnt x z m.0, rest m.1)) same,
           subst (IsAccount x m.0) (h.3 ∙ same) (accounts kinds quota w x m.0 (w.log x) calm ok.done ok.own k.sound (starts_same (w.log x)) covers),

@@ -1,5 +1,5 @@
 -- How what one client has seen comes to another.
-use Rattle.std.proofs.Common.{◌≡◌, ◌≢◌, ℕ, ◌+◌, ◌<◌, ◌≤◌, Bool, true, false, List, [], ◌∷◌, ◌++◌, length, get_or, set, refl, sym, ap, ◌∙◌, subst, ◌⊎◌, ⊎_elim, inl, inr, arith, get_or-set_same}
+use Rattle.std.proofs.Common.{◌≡◌, ◌≢◌, ℕ, ◌<◌, true, false, List, [], ◌∷◌, ◌++◌, length, get_or, set, refl, sym, ap, ◌∙◌, subst, ◌⊎◌, ⊎_elim, inl, inr, arith, get_or-set_same}
 use mathlib.Core.Option as maybe
 use mathlib.Core.Option.{some}
 use lib.ListN.{get_elem?}
@@ -12,33 +12,30 @@ use Rattle.model.specs.Objects.{Content}
 use Rattle.desk_rule.specs.declared.board.Slot.{Slot}
 use Rattle.desk_rule.specs.declared.board.View.{View}
 use Rattle.world.specs.World.{AnyEntry, World, kind_at, entries_of, IsLegal, StartsWith}
-use Rattle.world.proofs.Entries.{starts_same, starts_longer}
+use Rattle.world.proofs.Entries.{legal_front, starts_same, starts_longer}
 use Rattle.desk_rule.specs.Views.{seen_of, heard_of, seeing, letter, hearing, silent, IsAtRest}
-use Rattle.desk_rule.specs.Rule.{SeatOk, ViewOk, Makers}
+use Rattle.desk_rule.specs.Rule.{ViewOk, Makers}
 use Rattle.desk_rule.specs.Plays as play
-use Rattle.desk_rule.proofs.Seats.{Alike, makers_stay, mine, unmoved, Rule}
+use Rattle.desk_rule.proofs.Seats.{alike, makers_stay, seat_knowing, mine, unmoved, Rule}
 use Rattle.desk_rule.proofs.Seeing.{all_covered, entries_start, saw, accounts}
-use Rattle.desk_rule.proofs.Beginnings.{nils, at_end}
+use Rattle.desk_rule.proofs.Beginnings.{get_or-replicate_same, at_end}
+
+-- a list whose views are those of another list, and one that is no client's and no maker's
+makers_with : (clients : ℕ) (vs us : List View) (b : View) → b.client ≡ false → b.maker ≡ false → ((a : ℕ) (z : View) → get_elem? us a ≡ some z → (get_elem? vs a ≡ some z) ⊎ (b ≡ z)) → Makers clients vs → Makers clients us
+makers_with clients vs us b idle_client idle_maker old k = record {
+  made = λ j v e is i u f. ⊎_elim (λ (p : get_elem? vs j ≡ some v). ⊎_elim (λ (q : get_elem? vs i ≡ some u). k.made j v p is i u q)
+      (λ (q : b ≡ u). ((λ tc. let h = sym idle_client ∙ (ap (λ z. z.client) q ∙ tc) in absurd (cc)), λ tm. let h = sym idle_maker ∙ (ap (λ z. z.maker) q ∙ tm) in absurd (cc))) (old i u f))
+      (λ (p : b ≡ v). let h = sym idle_maker ∙ (ap (λ z. z.maker) p ∙ is) in absurd (cc)) (old j v e);
+  numbers = λ j v e is. ⊎_elim (λ (p : get_elem? vs j ≡ some v). k.numbers j v p is) (λ (p : b ≡ v). let h = sym idle_client ∙ (ap (λ z. z.client) p ∙ is) in absurd (cc)) (old j v e);
+}
 
 makers_more : (clients : ℕ) (vs : List View) (b : View) → b.client ≡ false → b.maker ≡ false → Makers clients vs → Makers clients (vs ++ b ∷ [])
-makers_more clients vs b idle_client idle_maker k =
-    let old : (a : ℕ) (z : View) → get_elem? (vs ++ b ∷ []) a ≡ some z → (get_elem? vs a ≡ some z) ⊎ (b ≡ z) = λ a z q. ⊎_elim (λ t. inl t) (λ (t : (a ≡ length vs) × (b ≡ z)). inr t.1) (at_end vs b z a q) in
-    record {
-      made = λ j v e is i u f. ⊎_elim (λ (p : get_elem? vs j ≡ some v). ⊎_elim (λ (q : get_elem? vs i ≡ some u). k.made j v p is i u q)
-          (λ (q : b ≡ u). ((λ tc. let h = sym idle_client ∙ (ap (λ z. z.client) q ∙ tc) in absurd (cc)), λ tm. let h = sym idle_maker ∙ (ap (λ z. z.maker) q ∙ tm) in absurd (cc))) (old i u f))
-          (λ (p : b ≡ v). let h = sym idle_maker ∙ (ap (λ z. z.maker) p ∙ is) in absurd (cc)) (old j v e);
-      numbers = λ j v e is. ⊎_elim (λ (p : get_elem? vs j ≡ some v). k.numbers j v p is) (λ (p : b ≡ v). let h = sym idle_client ∙ (ap (λ z. z.client) p ∙ is) in absurd (cc)) (old j v e);
-    }
+makers_more clients vs b idle_client idle_maker = makers_with clients vs (vs ++ b ∷ []) b idle_client idle_maker
+    (λ a z q. ⊎_elim (λ t. inl t) (λ (t : (a ≡ length vs) × (b ≡ z)). inr t.1) (at_end vs b z a q))
 
 makers_drop : (clients : ℕ) (vs : List View) (id : ℕ) (b : View) → b.client ≡ false → b.maker ≡ false → Makers clients vs → Makers clients (set vs id b)
-makers_drop clients vs id b idle_client idle_maker k =
-    let old : (a : ℕ) (z : View) → get_elem? (set vs id b) a ≡ some z → (get_elem? vs a ≡ some z) ⊎ (b ≡ z) = λ a z q. ⊎_elim (λ (t : (a ≡ id) × (b ≡ z)). inr t.1) (λ (t : (a ≢ id) × (get_elem? vs a ≡ some z)). inl t.1) (at_set vs id a b z q) in
-    record {
-      made = λ j v e is i u f. ⊎_elim (λ (p : get_elem? vs j ≡ some v). ⊎_elim (λ (q : get_elem? vs i ≡ some u). k.made j v p is i u q)
-          (λ (q : b ≡ u). ((λ tc. let h = sym idle_client ∙ (ap (λ z. z.client) q ∙ tc) in absurd (cc)), λ tm. let h = sym idle_maker ∙ (ap (λ z. z.maker) q ∙ tm) in absurd (cc))) (old i u f))
-          (λ (p : b ≡ v). let h = sym idle_maker ∙ (ap (λ z. z.maker) p ∙ is) in absurd (cc)) (old j v e);
-      numbers = λ j v e is. ⊎_elim (λ (p : get_elem? vs j ≡ some v). k.numbers j v p is) (λ (p : b ≡ v). let h = sym idle_client ∙ (ap (λ z. z.client) p ∙ is) in absurd (cc)) (old j v e);
-    }
+makers_drop clients vs id b idle_client idle_maker = makers_with clients vs (set vs id b) b idle_client idle_maker
+    (λ a z q. ⊎_elim (λ (t : (a ≡ id) × (b ≡ z)). inr t.1) (λ (t : (a ≢ id) × (get_elem? vs a ≡ some z)). inl t.1) (at_set vs id a b z q))
 
 module _ {S O R : Type 0} (content : S → Content) (op_in : O → AnyOp) (reply_in : R → AnyReply) (kinds : List Kind) (clients quota : ℕ) where
   abbrev K : State (Slot S O R) View → Type 0
@@ -78,7 +75,7 @@ module _ {S O R : Type 0} (content : S → Content) (op_in : O → AnyOp) (reply
         tied = k.tied;
         seats = λ j u e. ⊎_elim
             (λ (h : (j ≡ other) × (silent ≡ u)). subst (λ z. ViewOk kinds k.world k.seat_of j z) h.1 record {
-              told = λ x. (k.world.log x, ap (λ z. z ++ k.world.log x) (sym (nils 16 x)));
+              told = λ x. (k.world.log x, ap (λ z. z ++ k.world.log x) (sym (get_or-replicate_same [] 16 x)));
               heard = λ x. (k.world.log x, refl);
               client = λ f. absurd (cc);
               unmade = λ f. absurd (cc);
@@ -88,7 +85,7 @@ module _ {S O R : Type 0} (content : S → Content) (op_in : O → AnyOp) (reply
             (λ (g : (j ≡ id) × (v' ≡ u)). subst (λ (z : ℕ × View). ViewOk kinds k.world k.seat_of z.0 z.1) (λ i. (sym g.0 i, g.1 i)) record {
               told = old.told;
               heard = told;
-              client = λ f. let c = old.client f in let ok = c.1 in (c.0, record { number = ok.number; small = ok.small; kinds_are = ok.kinds_are; done = ok.done; own = ok.own; ready = ok.ready; wide_seen = ok.wide_seen; seen = ok.seen; covers = ok.covers; held = ok.held; ended = ok.ended; retired = ok.retired; back = ok.back });
+              client = λ f. let c = old.client f in let ok = c.1 in (c.0, seat_knowing ok.ready ok.retired ok);
               unmade = old.unmade;
               maker_kinds = old.maker_kinds;
             })
@@ -105,7 +102,7 @@ module _ {S O R : Type 0} (content : S → Content) (op_in : O → AnyOp) (reply
         seeing x l m.0,
         keeps,
         tt,
-        unmoved content op_in reply_in kinds clients quota s k x id m.0 (seeing x l m.0) m.1 at cl record { client = refl; number = refl; maker = refl; made = refl; heard = refl }
+        unmoved content op_in reply_in kinds clients quota s k x id m.0 (seeing x l m.0) m.1 at cl alike
             (saw kinds w c x m.0 l low (starts_same l) covers ok),
         (l, refl, subst (λ z. IsLegal (kind_at z x) l) (sym ok.kinds_are) (k.sound.legal x), ok.seen x, (k.seats id m.0 at).heard x, ok.wide_seen, accounts kinds quota w x m.0 l calm ok.done ok.own k.sound (starts_same l) covers),
       )
@@ -118,9 +115,9 @@ module _ {S O R : Type 0} (content : S → Content) (op_in : O → AnyOp) (reply
         seeing x l m.0,
         keeps,
         tt,
-        unmoved content op_in reply_in kinds clients quota s k x id m.0 (seeing x l m.0) m.1 at cl record { client = refl; number = refl; maker = refl; made = refl; heard = refl }
+        unmoved content op_in reply_in kinds clients quota s k x id m.0 (seeing x l m.0) m.1 at cl alike
             (saw kinds w c x m.0 l low ((k.seats id m.0 at).heard x) covers ok),
-        (refl, accounts kinds quota w x m.0 l calm ok.done ok.own k.sound ((k.seats id m.0 at).heard x) covers),
+        (refl, subst (λ z. IsLegal (kind_at z x) l) (sym ok.kinds_are) (legal_front (kind_at kinds x) (w.log x) l ((k.seats id m.0 at).heard x) (k.sound.legal x)), accounts kinds quota w x m.0 l calm ok.done ok.own k.sound ((k.seats id m.0 at).heard x) covers),
       )
 
 -- a and b before; a₁ has heard b, a₂ has learnt l, b₂ has heard a₂

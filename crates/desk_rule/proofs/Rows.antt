@@ -1,13 +1,14 @@
 -- Picking a request up, putting it back and answering it keep the rule.
-use Rattle.std.proofs.Common.{◌≡◌, ◌≢◌, ℕ, ◌+◌, ◌<◌, eqb, Bool, true, false, ◌&&◌, List, [], ◌∷◌, ◌++◌, length, get_or, set, filter, not, cond, Option, Some, None, All, refl, sym, ap, subst, ◌∙◌, ◌⊎◌, ⊎_elim, inl, inr, arith, eq-eqb, ne_eqb}
+use Rattle.std.proofs.Common.{◌≡◌, ◌≢◌, ℕ, ◌+◌, ◌<◌, eqb, Bool, true, ◌&&◌, ◌||◌, List, [], ◌∷◌, ◌++◌, length, get_or, set, filter, not, cond, Option, Some, None, All, refl, sym, ap, subst, ◌∙◌, ◌⊎◌, ⊎_elim, inl, inr, arith, eq-eqb, ne_eqb}
 use mathlib.Core.Logic.{dite}
 use mathlib.Core.Option as maybe
 use mathlib.Core.Option.{some}
 use native.Mathlib.Decide.{ℕ_discrete}
 use lib.ListN.{get_elem?}
 use prog.Atomic.{either}
-use Rattle.std.proofs.lemmas.Bool.{eqb-true, or_cases}
+use Rattle.std.proofs.lemmas.Bool.{eqb-true, and_parts, or_cases}
 use Rattle.std.proofs.lemmas.List.Elements.{All-nil, All-cons, All-head, All-tail, All-push}
+use Rattle.std.proofs.lemmas.Option.{same_Some}
 use Rattle.atomic_table.specs.Table.{State, Me, step, keeps, takes, gives, put_back, rest, stepped, Allows}
 use Rattle.model.specs.declared.Kind.{Kind}
 use Rattle.model.specs.declared.AnyOp.{AnyOp}
@@ -33,9 +34,9 @@ use Rattle.world.proofs.Moved.{sound_picked, sound_put_back, sound_served}
 use Rattle.desk_rule.specs.Views.{seen_of, waits_on, noting, handling, putting_back, answering}
 use Rattle.desk_rule.specs.Rule.{row_word, OwnOk, HeldOk, SeatOk, MessageAt}
 use Rattle.desk_rule.specs.Plays as play
-use Rattle.desk_rule.proofs.Seats.{Later, Alike, seats_after, makers_after, come_after, mine, unmoved, Rule}
+use Rattle.desk_rule.proofs.Seats.{Later, alike, kept_after, come_after, seat_knowing, mine, unmoved, Rule}
 use Rattle.desk_rule.proofs.Ties.{tied_row}
-use Rattle.desk_rule.proofs.Locks.{same_number}
+use Rattle.desk_rule.proofs.Locks.{held_log}
 
 is_posted : (t : Stage) (x : ℕ) → x < 16 → row_word t ≡ 1 + x → (q : AnyRequest) × (t ≡ posted q) × (q.object ≡ x)
 is_posted absent x small e = absurd (omega arith)
@@ -81,6 +82,7 @@ own_after w r d q t from to o = changed_all (λ d u. OwnOk o (w.stage d) → Own
 ready_after : (w : World) (r d : ℕ) (t : Stage) → ((q : AnyRequest) (a : AnyAnswer) → w.stage r ≢ answered q a) → (q : AnyRequest) (a : AnyAnswer) → w.stage d ≡ answered q a → changed w.stage r t d ≡ answered q a
 ready_after w r d t never q a e = changed_else w.stage r t d (λ same. never q a (ap w.stage (sym same) ∙ e)) ∙ e
 
+-- another client
 later_row : (w : World) (x r c d : ℕ) (q : AnyRequest) (t : Stage) (h : Option ℕ) (logs : ℕ → List AnyEntry) → Waits q (w.stage r) → Waits q t → ((q : AnyRequest) (a : AnyAnswer) → w.stage r ≢ answered q a)
     → ((y : ℕ) → StartsWith (logs y) (w.log y)) → ((y : ℕ) → y ≢ x → logs y ≡ w.log y) → ((y : ℕ) (p : AnyRequest) → w.holder y ≡ Some d → w.hand y ≡ Some r → w.stage r ≢ picked p)
     → ((p : AnyRequest) → w.holder p.object ≡ Some d → w.stage r ≢ posted p) → w.holder x ≡ Some c → d ≢ c → Later w (rowed w (changed w.hand x h) logs r t) d
@@ -89,7 +91,7 @@ later_row w x r c d q t h logs from to never grow keep apart unposted holds othe
   ready = ready_after w r d t never;
   done = refl;
   logs = grow;
-  held = λ y g. let away : y ≢ x = λ same. other (sym (same_number c d (sym holds ∙ (ap w.holder (sym same) ∙ g)))) in (refl, changed_else w.hand x h y away, keep y away);
+  held = λ y g. let away : y ≢ x = λ same. other (sym (same_Some c d (sym holds ∙ (ap w.holder (sym same) ∙ g)))) in (refl, changed_else w.hand x h y away, keep y away);
   holds = λ y g. g;
   picked = λ y j p g e f. changed_else w.stage r t j (λ same. apart y p g (e ∙ ap Some same) (ap w.stage (sym same) ∙ f)) ∙ f;
   posted = λ j p g e. changed_else w.stage r t j (λ same. unposted p g (ap w.stage (sym same) ∙ e)) ∙ e;
@@ -115,6 +117,7 @@ other_rows w c r t (b ∷ bs) h =
     (λ other. subst (λ z. All (InRow (changed w.stage r t) w.holder c) (cond (not z) (b ∷ filter (λ b. not (eqb b.row r)) bs) (filter (λ b. not (eqb b.row r)) bs))) (sym (ne_eqb b.row r other))
     (All-cons (InRow (changed w.stage r t) w.holder c) b (filter (λ b. not (eqb b.row r)) bs) (changed_else w.stage r t b.row other ∙ first.0, first.1) rest))
 
+-- the client itself
 seat_row : (kinds : List Kind) (w : World) (c r : ℕ) (q : AnyRequest) (t : Stage) (hands : ℕ → Option ℕ) (logs : ℕ → List AnyEntry) (v : View) (o : Held) (bs : List PutBack) → All (InRow (changed w.stage r t) w.holder c) bs → Waits q (w.stage r) → Waits q t
     → ((q : AnyRequest) (a : AnyAnswer) → w.stage r ≢ answered q a) → ((y : ℕ) → StartsWith (logs y) (w.log y)) → SeatOk kinds w c v → HeldOk (length kinds) (rowed w hands logs r t) c o
     → SeatOk kinds (rowed w hands logs r t) c (record v { held = o; back = bs })
@@ -147,42 +150,22 @@ noted kinds quota c x w (own.Waiting q) k free miss e ok = let at : q.object ≡
     (λ (d : (a : AnyAnswer) × (w.stage c ≡ answered q a)). (q, d.0, d.1)) b) ok
 noted kinds quota c x w (own.Taken q a) k free miss e ok = absurd (cc)
 
-and_parts : (a b : Bool) → (a && b) ≡ true → (a ≡ true) × (b ≡ true)
-and_parts true b e = (refl, e)
-and_parts false b e = absurd (cc)
-
 noting_ok : (kinds : List Kind) (quota c x r : ℕ) (w : World) (v : View) (l : List AnyEntry) → v.held ≡ held.Pass x l → Sound kinds quota w → row_word (w.stage r) ≢ 1 + x → SeatOk kinds w c v → SeatOk kinds w c (noting (16 + r) x v)
-noting_ok kinds quota c x r w v l pass k miss ok = let free = (subst (HeldOk (length kinds) w c) pass ok.held).2 in record {
-  number = ok.number;
-  small = ok.small;
-  kinds_are = ok.kinds_are;
-  done = ok.done;
-  own = ok.own;
-  ready = λ e. ⊎_elim ok.ready (λ (b : (eqb (16 + r) (16 + v.number) && waits_on x v.own) ≡ true).
-      let both = and_parts (eqb (16 + r) (16 + v.number)) (waits_on x v.own) b in let eq = eqb-true (16 + r) (16 + v.number) both.0 in let number = ok.number in let same : r ≡ c = omega arith in
-      noted kinds quota c x w v.own k free (subst (λ z. row_word (w.stage z) ≢ 1 + x) same miss) both.1 ok.own) (or_cases v.ready (eqb (16 + r) (16 + v.number) && waits_on x v.own) e);
-  wide_seen = ok.wide_seen;
-  seen = ok.seen;
-  covers = ok.covers;
-  held = ok.held;
-  ended = ok.ended;
-  retired = ok.retired;
-  back = ok.back;
-}
+noting_ok kinds quota c x r w v l pass k miss ok =
+    let free = (subst (HeldOk (length kinds) w c) pass ok.held).2 in let own_row : Bool = eqb (16 + r) (16 + v.number) in let number = ok.number in
+    let now : (own_row && waits_on x v.own) ≡ true → (q : AnyRequest) × (a : AnyAnswer) × (w.stage c ≡ answered q a) = λ b.
+    let both = and_parts own_row (waits_on x v.own) b in let eq = eqb-true (16 + r) (16 + v.number) both.0 in let same : r ≡ c = omega arith in
+    noted kinds quota c x w v.own k free (subst (λ z. row_word (w.stage z) ≢ 1 + x) same miss) both.1 ok.own in
+    seat_knowing (λ e. ⊎_elim ok.ready now (or_cases v.ready (own_row && waits_on x v.own) e)) ok.retired ok
 
 module _ {S O R : Type 0} (content : S → Content) (op_in : O → AnyOp) (reply_in : R → AnyReply) (kinds : List Kind) (clients quota : ℕ) where
   abbrev K : State (Slot S O R) View → Type 0
   K = Rule content op_in reply_in kinds clients quota
 
-  abbrev pub held_object : Held → ℕ
+  abbrev held_object : Held → ℕ
   held_object (held.Pass x l) = x
   held_object (held.Hand x l r q) = x
   held_object o = 0
-
-  abbrev pub held_log : Held → List AnyEntry
-  held_log (held.Pass x l) = l
-  held_log (held.Hand x l r q) = l
-  held_log o = []
 
   abbrev held_row : Held → ℕ
   held_row (held.Hand x l r q) = r
@@ -191,9 +174,6 @@ module _ {S O R : Type 0} (content : S → Content) (op_in : O → AnyOp) (reply
   abbrev held_request : AnyRequest → Held → AnyRequest
   held_request d (held.Hand x l r q) = q
   held_request d o = d
-
-  alike_held : (v : View) (o : Held) (bs : List PutBack) → Alike v (record v { held = o; back = bs })
-  alike_held v o bs = record { client = refl; number = refl; maker = refl; made = refl; heard = refl }
 
   pub picks_up : (slots id x r : ℕ) (m : Me (Slot S O R) View) (l : List AnyEntry) → m.0.client ≡ true → r < 32 → m.0.held ≡ held.Pass x l
       → Allows K slots id m (16 + r) (λ f. either (eqb f (1 + x)) (17 + x) f) (play.picks content op_in reply_in (step slots (16 + r) (1 + x) (17 + x) maybe.none) m)
@@ -209,22 +189,17 @@ module _ {S O R : Type 0} (content : S → Content) (op_in : O → AnyOp) (reply
         v',
         takes (16 + r) (slot.Request home.0),
         home.1,
-        subst (λ z. K (stepped s (16 + r) (either z (17 + x) (get_or s.words (16 + r) 0)) id m.1 v' (takes (16 + r) (slot.Request home.0)))) (sym (eq-eqb (get_or s.words (16 + r) 0) (1 + x) hit)) record {
+        subst (λ z. K (stepped s (16 + r) (either z (17 + x) (get_or s.words (16 + r) 0)) id m.1 v' (takes (16 + r) (slot.Request home.0)))) (sym (eq-eqb (get_or s.words (16 + r) 0) (1 + x) hit)) (kept_after content op_in reply_in kinds clients quota s k id m.0 v' at cl alike record {
           world = handed w x (Some r) r t;
-          seat_of = k.seat_of;
-          few_calls = k.few_calls;
-          few_clients = k.few_clients;
           holders = k.holders;
           come = come_after clients w r t (k.come r (λ e. let f = sym b.1 ∙ e in absurd (cc))) k.come;
           sound = sound_picked kinds quota w x r c q b.1 b.2 h.1 h.2 k.sound;
           tied = tied_row content op_in reply_in kinds w r (17 + x) t (changed w.hand x (Some r)) w.log s.words s.homes maybe.none inside (λ y _. refl) (λ e. absurd (cc)) (ap request_of (sym b.1)) (ap (λ z. 17 + z) (sym b.2)) tt k.tied;
-          seats = seats_after kinds clients w (handed w x (Some r) r t) k.seat_of s.views id m.0 v' at cl (alike_held m.0 (held.Hand x l r q) bs) k.makers k.seats
-              (λ d other. later_row w x r c d q t (Some r) w.log from to never (λ y. starts_same (w.log y)) (λ y _. refl) (λ y p _ _ e. let f = sym b.1 ∙ e in absurd (cc))
-              (λ p e f. let g : posted q ≡ posted p = sym b.1 ∙ f in let same : q ≡ p = cc in other (sym (same_number c d (sym h.1 ∙ (ap w.holder (sym b.2 ∙ ap (λ z. z.object) same) ∙ e))))) h.1 other)
-              (seat_row kinds w c r q t (changed w.hand x (Some r)) w.log m.0 (held.Hand x l r q) bs (other_rows w c r t m.0.back ok.back) from to never (λ y. starts_same (w.log y)) ok
-              (h.0, h.1, changed_here w.hand x (Some r), h.3, h.4, inside, changed_here w.stage r t));
-          makers = makers_after clients s.views id m.0 v' at (alike_held m.0 (held.Hand x l r q) bs) k.makers;
-        },
+          others = λ d other. later_row w x r c d q t (Some r) w.log from to never (λ y. starts_same (w.log y)) (λ y _. refl) (λ y p _ _ e. let f = sym b.1 ∙ e in absurd (cc))
+              (λ p e f. let g : posted q ≡ posted p = sym b.1 ∙ f in let same : q ≡ p = cc in other (sym (same_Some c d (sym h.1 ∙ (ap w.holder (sym b.2 ∙ ap (λ z. z.object) same) ∙ e))))) h.1 other;
+          own = seat_row kinds w c r q t (changed w.hand x (Some r)) w.log m.0 (held.Hand x l r q) bs (other_rows w c r t m.0.back ok.back) from to never (λ y. starts_same (w.log y)) ok
+              (h.0, h.1, changed_here w.hand x (Some r), h.3, h.4, inside, changed_here w.stage r t);
+        }),
         λ x' r' l' pass' e. let ex = ap held_object (sym pass ∙ pass') in let el = ap held_log (sym pass ∙ pass') in let er : r ≡ r' = omega arith in (
           (λ _. (
             home.0,
@@ -242,7 +217,7 @@ module _ {S O R : Type 0} (content : S → Content) (op_in : O → AnyOp) (reply
         keeps,
         tt,
         subst (λ z. K (stepped s (16 + r) (either z (17 + x) (get_or s.words (16 + r) 0)) id m.1 (noting (16 + r) x m.0) keeps)) (sym (ne_eqb (get_or s.words (16 + r) 0) (1 + x) miss))
-            (unmoved content op_in reply_in kinds clients quota s k (16 + r) id m.0 (noting (16 + r) x m.0) m.1 at cl record { client = refl; number = refl; maker = refl; made = refl; heard = refl }
+            (unmoved content op_in reply_in kinds clients quota s k (16 + r) id m.0 (noting (16 + r) x m.0) m.1 at cl alike
             (noting_ok kinds quota c x r w m.0 l pass k.sound (λ e. miss (word ∙ e)) ok)),
         λ x' r' l' pass' e. let ex = ap held_object (sym pass ∙ pass') in let er : r ≡ r' = omega arith in (
           (λ hit. absurd (miss hit)),
@@ -259,7 +234,7 @@ module _ {S O R : Type 0} (content : S → Content) (op_in : O → AnyOp) (reply
       → (y : ℕ) (p : AnyRequest) → w.holder y ≡ Some d → w.hand y ≡ Some r → w.stage r ≢ picked p
   apart w x r c d q is on holds other k y p g e f =
       let b = k.in_hand y r e in let z : picked q ≡ picked b.0 = sym is ∙ b.1 in let same : q ≡ b.0 = cc in let here : y ≡ x = sym b.2 ∙ (ap (λ u. u.object) (sym same) ∙ on) in
-      other (sym (same_number c d (sym holds ∙ (ap w.holder (sym here) ∙ g))))
+      other (sym (same_Some c d (sym holds ∙ (ap w.holder (sym here) ∙ g))))
 
   pub puts_back_it : (slots id x r n : ℕ) (m : Me (Slot S O R) View) (l : List AnyEntry) (q : AnyRequest) (p : Request O) (tl : List (ℕ × Slot S O R)) → m.0.client ≡ true → m.0.held ≡ held.Hand x l r q
       → m.1 ≡ (16 + r, slot.Request p) ∷ tl → request_in op_in p ≡ q → q.object ≡ x → n ≡ 1 + x
@@ -271,21 +246,16 @@ module _ {S O R : Type 0} (content : S → Content) (op_in : O → AnyOp) (reply
         v',
         gives,
         tt,
-        subst (λ cs. K record { words = set s.words (16 + r) n; homes = put_back s.homes cs; views = set s.views id v' }) (sym carried) record {
+        subst (λ cs. K record { words = set s.words (16 + r) n; homes = put_back s.homes cs; views = set s.views id v' }) (sym carried) (kept_after content op_in reply_in kinds clients quota s k id m.0 v' at cl alike record {
           world = handed w x None r t;
-          seat_of = k.seat_of;
-          few_calls = k.few_calls;
-          few_clients = k.few_clients;
           holders = k.holders;
           come = come_after clients w r t (k.come r (λ e. let f = sym h.6 ∙ e in absurd (cc))) k.come;
           sound = sound_put_back kinds quota w x r c q h.6 on h.1 h.2 k.sound;
           tied = tied_row content op_in reply_in kinds w r n t (changed w.hand x None) w.log s.words s.homes (some (slot.Request p)) h.5 (λ y _. refl) (λ e. absurd (cc)) (ap request_of (sym h.6)) (word ∙ ap (λ z. 1 + z) (sym on)) (p, refl, is) k.tied;
-          seats = seats_after kinds clients w (handed w x None r t) k.seat_of s.views id m.0 v' at cl (alike_held m.0 (held.Pass x l) bs) k.makers k.seats
-              (λ d other. later_row w x r c d q t None w.log from to never (λ y. starts_same (w.log y)) (λ y _. refl) (apart w x r c d q h.6 on h.1 other k.sound) (λ p _. unposted p) h.1 other)
-              (seat_row kinds w c r q t (changed w.hand x None) w.log m.0 (held.Pass x l) bs
-              (All-push (InRow (changed w.stage r t) w.holder c) m.0.back (record { row = r; request = q }) (rows_stay w c r t m.0.back unposted ok.back) (changed_here w.stage r t, ap w.holder on ∙ h.1)) from to never (λ y. starts_same (w.log y)) ok (h.0, h.1, changed_here w.hand x None, h.3, h.4));
-          makers = makers_after clients s.views id m.0 v' at (alike_held m.0 (held.Pass x l) bs) k.makers;
-        },
+          others = λ d other. later_row w x r c d q t None w.log from to never (λ y. starts_same (w.log y)) (λ y _. refl) (apart w x r c d q h.6 on h.1 other k.sound) (λ p _. unposted p) h.1 other;
+          own = seat_row kinds w c r q t (changed w.hand x None) w.log m.0 (held.Pass x l) bs
+              (All-push (InRow (changed w.stage r t) w.holder c) m.0.back (record { row = r; request = q }) (rows_stay w c r t m.0.back unposted ok.back) (changed_here w.stage r t, ap w.holder on ∙ h.1)) from to never (λ y. starts_same (w.log y)) ok (h.0, h.1, changed_here w.hand x None, h.3, h.4);
+        }),
         λ x' r' l' q' hand'. let e = sym hand ∙ hand' in λ i. (putting_back (ap held_object e i) (ap held_log e i) (ap held_row e i) (ap (held_request q) e i) m.0, rest m.1),
       )
 
@@ -294,25 +264,13 @@ module _ {S O R : Type 0} (content : S → Content) (op_in : O → AnyOp) (reply
 
   -- the client that answered, and knows that its own row is answered if it was that one
   seat_answered : (w : World) (c x r : ℕ) (q : AnyRequest) (a : AnyAnswer) (v : View) (o : Held) → w.stage r ≡ picked q → SeatOk kinds w c v → HeldOk (length kinds) (served_by w x r q a) c o
-      → SeatOk kinds (served_by w x r q a) c (record v { held = o; ready = Rattle.std.proofs.Common.◌||◌ v.ready (eqb r v.number) })
+      → SeatOk kinds (served_by w x r q a) c (record v { held = o; ready = v.ready || eqb r v.number })
   seat_answered w c x r q a v o is ok now =
       let from : Waits q (w.stage r) = inr (inl is) in let to : Waits q (answered q a) = inr (inr (a, refl)) in let never : (p : AnyRequest) (b : AnyAnswer) → w.stage r ≢ answered p b = λ p b e. let f = sym is ∙ e in absurd (cc) in
-      let base = seat_row kinds w c r q (answered q a) (changed w.hand x None) (changed w.log x (w.log x ++ logged r q a)) v o v.back (rows_stay w c r (answered q a) v.back (λ p e. let f = sym is ∙ e in absurd (cc)) ok.back) from to never (grows w x (logged r q a)) ok now in record {
-        number = base.number;
-        small = base.small;
-        kinds_are = base.kinds_are;
-        done = base.done;
-        own = base.own;
-        ready = λ e. ⊎_elim base.ready (λ (b : eqb r v.number ≡ true). (q, a, ap (changed w.stage r (answered q a)) (sym (eqb-true r v.number b ∙ ok.number)) ∙ changed_here w.stage r (answered q a)))
-            (or_cases v.ready (eqb r v.number) e);
-        wide_seen = base.wide_seen;
-        seen = base.seen;
-        covers = base.covers;
-        held = base.held;
-        ended = base.ended;
-        retired = base.retired;
-        back = base.back;
-      }
+      let base = seat_row kinds w c r q (answered q a) (changed w.hand x None) (changed w.log x (w.log x ++ logged r q a)) v o v.back (rows_stay w c r (answered q a) v.back (λ p e. let f = sym is ∙ e in absurd (cc)) ok.back) from to never (grows w x (logged r q a)) ok now in
+      let now : eqb r v.number ≡ true → (p : AnyRequest) × (b : AnyAnswer) × (changed w.stage r (answered q a) c ≡ answered p b) = λ b.
+      (q, a, ap (changed w.stage r (answered q a)) (sym (eqb-true r v.number b ∙ ok.number)) ∙ changed_here w.stage r (answered q a)) in
+      seat_knowing (λ e. ⊎_elim base.ready now (or_cases v.ready (eqb r v.number) e)) base.retired base
 
   abbrev answer_or : Answer R → Slot S O R → Answer R
   answer_or d (slot.Answer a) = a
@@ -329,26 +287,20 @@ module _ {S O R : Type 0} (content : S → Content) (op_in : O → AnyOp) (reply
       let w : World = k.world in let c : ℕ = m.0.number in let ok = mine content op_in reply_in kinds clients quota s k id m.0 cl at in let h = subst (HeldOk (length kinds) w c) hand ok.held in
       let a : AnyAnswer = answer_in reply_in b in let t : Stage = answered q a in let more : List AnyEntry = logged r q a in
       let from : Waits q (w.stage r) = inr (inl h.6) in let to : Waits q t = inr (inr (a, refl)) in let never : (p : AnyRequest) (a : AnyAnswer) → w.stage r ≢ answered p a = λ p a e. let f = sym h.6 ∙ e in absurd (cc) in
-      let alike : Alike m.0 (answering r x (l ++ more) m.0) = record { client = refl; number = refl; maker = refl; made = refl; heard = refl } in
       let legal' : IsLegal (kind_at kinds x) (w.log x ++ more) = subst (λ (z : List Kind × List AnyEntry). IsLegal (kind_at z.0 x) (z.1 ++ more)) (λ i. (ok.kinds_are i, sym h.3 i)) legal in (
         answering r x (l ++ more) m.0,
         gives,
         tt,
-        subst (λ cs. K record { words = set s.words (16 + r) 33; homes = put_back s.homes cs; views = set s.views id (answering r x (l ++ more) m.0) }) (sym carried) record {
+        subst (λ cs. K record { words = set s.words (16 + r) 33; homes = put_back s.homes cs; views = set s.views id (answering r x (l ++ more) m.0) }) (sym carried) (kept_after content op_in reply_in kinds clients quota s k id m.0 (answering r x (l ++ more) m.0) at cl alike record {
           world = served_by w x r q a;
-          seat_of = k.seat_of;
-          few_calls = k.few_calls;
-          few_clients = k.few_clients;
           holders = k.holders;
           come = come_after clients w r t (k.come r (λ e. let f = sym h.6 ∙ e in absurd (cc))) k.come;
           sound = sound_served kinds quota w x r c q a h.6 on h.1 h.2 legal' k.sound;
           tied = tied_row content op_in reply_in kinds w r 33 t (changed w.hand x None) (changed w.log x (w.log x ++ more)) s.words s.homes (some (slot.Answer b)) h.5
               (λ y e. changed_else w.log x (w.log x ++ more) y (λ same. let f = sym h.1 ∙ (ap w.holder (sym same) ∙ e) in absurd (cc))) (λ e. absurd (cc)) (ap request_of (sym h.6)) refl (b, refl, refl) k.tied;
-          seats = seats_after kinds clients w (served_by w x r q a) k.seat_of s.views id m.0 (answering r x (l ++ more) m.0) at cl alike k.makers k.seats
-              (λ d other. later_row w x r c d q t None (changed w.log x (w.log x ++ more)) from to never (grows w x more) (λ y away. changed_else w.log x (w.log x ++ more) y away) (apart w x r c d q h.6 on h.1 other k.sound) (λ p _ e. let f = sym h.6 ∙ e in absurd (cc)) h.1 other)
-              (seat_answered w c x r q a m.0 (held.Pass x (l ++ more)) h.6 ok (h.0, h.1, changed_here w.hand x None, changed_here w.log x (w.log x ++ more) ∙ ap (λ z. z ++ more) h.3, h.4));
-          makers = makers_after clients s.views id m.0 (answering r x (l ++ more) m.0) at alike k.makers;
-        },
+          others = λ d other. later_row w x r c d q t None (changed w.log x (w.log x ++ more)) from to never (grows w x more) (λ y away. changed_else w.log x (w.log x ++ more) y away) (apart w x r c d q h.6 on h.1 other k.sound) (λ p _ e. let f = sym h.6 ∙ e in absurd (cc)) h.1 other;
+          own = seat_answered w c x r q a m.0 (held.Pass x (l ++ more)) h.6 ok (h.0, h.1, changed_here w.hand x None, changed_here w.log x (w.log x ++ more) ∙ ap (λ z. z ++ more) h.3, h.4);
+        }),
         λ x' r' i l' q' b' tl' hand' carried'. let e = sym hand ∙ hand' in let f = sym carried ∙ carried' in λ j.
             (answering (ap held_row e j) (ap held_object e j) (ap held_log e j ++ logged (ap held_row e j) (ap (held_request q) e j) (answer_in reply_in (ap (answer_carried b) f j))) m.0, rest (carried' j)),
       )

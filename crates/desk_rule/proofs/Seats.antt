@@ -1,11 +1,10 @@
 -- What a step of one client leaves of what the others know.
-use Rattle.std.proofs.Common.{◌≡◌, ◌≢◌, ℕ, ◌+◌, ◌<◌, ◌≤◌, Bool, true, false, List, [], ◌∷◌, ◌++◌, length, get_or, set, Option, Some, None, refl, sym, ap, subst, ◌∙◌, ◌⊎◌, ⊎_elim, inl, inr, arith}
-use mathlib.Core.Logic.{dite}
+use Rattle.std.proofs.Common.{◌≡◌, ◌≢◌, ℕ, ◌+◌, ◌<◌, ◌≤◌, Bool, true, false, List, [], length, get_or, set, Some, All, refl, sym, ap, subst, ◌∙◌, ⊎_elim, arith}
 use mathlib.Core.Option as maybe
 use mathlib.Core.Option.{some}
 use lib.ListN.{get_elem?}
 use lib.Seq.{set-get_or}
-use Rattle.atomic_table.specs.Table.{State, Me, keeps, stepped}
+use Rattle.atomic_table.specs.Table.{State, keeps, stepped}
 use Rattle.atomic_table.proofs.Lists.{at_set}
 use Rattle.model.specs.declared.Kind.{Kind}
 use Rattle.model.specs.declared.AnyOp.{AnyOp}
@@ -16,9 +15,11 @@ use Rattle.desk_rule.specs.declared.board.Own.{Own}
 use Rattle.desk_rule.specs.declared.board.Own.TheVariants as own
 use Rattle.desk_rule.specs.declared.board.Held.{Held}
 use Rattle.desk_rule.specs.declared.board.Held.TheVariants as held
+use Rattle.desk_rule.specs.declared.board.PutBack.{PutBack}
 use Rattle.desk_rule.specs.declared.board.View.{View}
-use Rattle.world.specs.World.{AnyEntry, AnyRequest, AnyAnswer, Stage, absent, posted, picked, answered, World, StartsWith}
+use Rattle.world.specs.World.{AnyEntry, AnyRequest, AnyAnswer, AnyDone, Stage, absent, posted, picked, answered, World, StartsWith}
 use Rattle.world.specs.Moves.{changed}
+use Rattle.world.specs.Sound.{Sound}
 use Rattle.world.proofs.Changed.{changed_all}
 use Rattle.world.proofs.Entries.{starts_longer, starts_same}
 use Rattle.desk_rule.specs.Views.{seen_of, heard_of, missing}
@@ -37,7 +38,7 @@ pub record Later (w w' : World) (c : ℕ) : Type 0 where
   pub ended : w'.ended c ≡ w.ended c
   pub all_ended : (d : ℕ) → w.ended d ≡ true → w'.ended d ≡ true
 
-pub same_later : (w : World) (c : ℕ) → Later w w c
+same_later : (w : World) (c : ℕ) → Later w w c
 same_later w c = record {
   own = λ o e. e;
   ready = λ q a e. e;
@@ -56,7 +57,7 @@ held_stays n w w' c t held.Free k = λ x e. k x (t.holds x e)
 held_stays n w w' c t (held.Pass x l) k = let e = t.held x k.1 in (k.0, e.0 ∙ k.1, e.1 ∙ k.2, e.2 ∙ k.3, λ y f. k.4 y (t.holds y f))
 held_stays n w w' c t (held.Hand x l r q) k = let e = t.held x k.1 in (k.0, e.0 ∙ k.1, e.1 ∙ k.2, e.2 ∙ k.3, (λ y f. k.4 y (t.holds y f)), k.5, t.picked x r q k.1 k.2 k.6)
 
-pub seat_stays : (kinds : List Kind) (w w' : World) (c : ℕ) (v : View) → Later w w' c → SeatOk kinds w c v → SeatOk kinds w' c v
+seat_stays : (kinds : List Kind) (w w' : World) (c : ℕ) (v : View) → Later w w' c → SeatOk kinds w c v → SeatOk kinds w' c v
 seat_stays kinds w w' c v t k = record {
   number = k.number;
   small = k.small;
@@ -81,7 +82,33 @@ pub record Alike (v v' : View) : Type 0 where
   pub made : v'.made ≡ v.made
   pub heard : v'.heard ≡ v.heard
 
-pub seats_after : (kinds : List Kind) (clients : ℕ) (w w' : World) (so : ℕ → ℕ) (vs : List View) (id : ℕ) (v v' : View) → get_elem? vs id ≡ some v → v.client ≡ true → Alike v v' → Makers clients vs
+-- a view in which none of these changed
+pub alike : {v : View} {kinds : List Kind} {done : List AnyDone} {own : Own} {ready : Bool} {seen : List (List AnyEntry)} {back : List PutBack} {missed : List ℕ} {held : Held} {ended : Bool} {retired : List ℕ}
+    → Alike v (record v { kinds = kinds; done = done; own = own; ready = ready; seen = seen; back = back; missed = missed; held = held; ended = ended; retired = retired })
+alike = record { client = refl; number = refl; maker = refl; made = refl; heard = refl }
+
+-- A client that was told more, missed more, and knows more of its row and of the ends of others. What it was told and has
+-- missed does not matter.
+pub seat_knowing : {kinds : List Kind} {w : World} {c : ℕ} {v : View} {ready : Bool} {heard : List (List AnyEntry)} {missed : List ℕ} {retired : List ℕ} → (ready ≡ true → (q : AnyRequest) × (a : AnyAnswer) × (w.stage c ≡ answered q a))
+    → All (λ d. w.ended d ≡ true) retired → SeatOk kinds w c v → SeatOk kinds w c (record v { ready = ready; heard = heard; missed = missed; retired = retired })
+seat_knowing ready retired ok = record {
+  number = ok.number;
+  small = ok.small;
+  kinds_are = ok.kinds_are;
+  done = ok.done;
+  own = ok.own;
+  ready = ready;
+  wide_seen = ok.wide_seen;
+  seen = ok.seen;
+  covers = ok.covers;
+  held = ok.held;
+  ended = ok.ended;
+  retired = retired;
+  back = ok.back;
+}
+
+-- after a step to w', in which the client's view v becomes v', each view is true
+seats_after : (kinds : List Kind) (clients : ℕ) (w w' : World) (so : ℕ → ℕ) (vs : List View) (id : ℕ) (v v' : View) → get_elem? vs id ≡ some v → v.client ≡ true → Alike v v' → Makers clients vs
     → ((j : ℕ) (u : View) → get_elem? vs j ≡ some u → ViewOk kinds w so j u) → ((c : ℕ) → c ≢ v.number → Later w w' c) → SeatOk kinds w' v.number v'
     → (j : ℕ) (u : View) → get_elem? (set vs id v') j ≡ some u → ViewOk kinds w' so j u
 seats_after kinds clients w w' so vs id v v' at cl alike makers before others ok j u e =
@@ -119,7 +146,7 @@ makers_stay clients vs id v v' at client number maker made before =
 pub come_after : (clients : ℕ) (w : World) (c : ℕ) (t : Stage) → c < clients → ((d : ℕ) → w.stage d ≢ absent → d < clients) → (d : ℕ) → changed w.stage c t d ≢ absent → d < clients
 come_after clients w c t low all = changed_all (λ d s. s ≢ absent → d < clients) w.stage c t (λ _. low) (λ d _. all d)
 
-pub makers_after : (clients : ℕ) (vs : List View) (id : ℕ) (v v' : View) → get_elem? vs id ≡ some v → Alike v v' → Makers clients vs → Makers clients (set vs id v')
+makers_after : (clients : ℕ) (vs : List View) (id : ℕ) (v v' : View) → get_elem? vs id ≡ some v → Alike v v' → Makers clients vs → Makers clients (set vs id v')
 makers_after clients vs id v v' at alike = makers_stay clients vs id v v' at alike.client alike.number alike.maker alike.made
 
 module _ {S O R : Type 0} (content : S → Content) (op_in : O → AnyOp) (reply_in : R → AnyReply) (kinds : List Kind) (clients quota : ℕ) where
@@ -132,23 +159,36 @@ module _ {S O R : Type 0} (content : S → Content) (op_in : O → AnyOp) (reply
   pub mine : (s : St) (k : Rule s) (id : ℕ) (v : View) → v.client ≡ true → get_elem? s.views id ≡ some v → SeatOk kinds k.world v.number v
   mine s k id v cl at = ((k.seats id v at).client cl).1
 
-  -- a step that changes no word
-  pub unmoved : (s : St) (k : Rule s) (i id : ℕ) (v v' : View) (cs : List (ℕ × Slot S O R)) → get_elem? s.views id ≡ some v → v.client ≡ true → Alike v v' → SeatOk kinds k.world v.number v'
-      → Rule (stepped s i (get_or s.words i 0) id cs v' keeps)
-  unmoved s k i id v v' cs at cl alike ok = subst (λ (ws : List ℕ). Rule record { words = ws; homes = s.homes; views = set s.views id v' }) (sym (set-get_or s.words i 0)) record {
-    world = k.world;
+  -- the world after a step of the client whose view v becomes v', with what the rule asks of it
+  pub record After (s : St) (k : Rule s) (v v' : View) (words : List ℕ) (homes : List (maybe.Option (Slot S O R))) : Type 0 where
+    pub world : World
+    pub holders : (x d : ℕ) → world.holder x ≡ Some d → (d < clients) × (world.ended d ≡ false)
+    pub come : (d : ℕ) → world.stage d ≢ absent → d < clients
+    pub sound : Sound kinds quota world
+    pub tied : Tied content op_in reply_in kinds world words homes
+    pub others : (d : ℕ) → d ≢ v.number → Later k.world world d
+    pub own : SeatOk kinds world v.number v'
+
+  pub kept_after : {words : List ℕ} {homes : List (maybe.Option (Slot S O R))} (s : St) (k : Rule s) (id : ℕ) (v v' : View) → get_elem? s.views id ≡ some v → v.client ≡ true → Alike v v' → After s k v v' words homes
+      → Rule record { words = words; homes = homes; views = set s.views id v' }
+  kept_after s k id v v' at cl alike a = record {
+    world = a.world;
     seat_of = k.seat_of;
     few_calls = k.few_calls;
     few_clients = k.few_clients;
-    holders = k.holders;
-    come = k.come;
-    sound = k.sound;
-    tied = k.tied;
-    seats = seats_after kinds clients k.world k.world k.seat_of s.views id v v' at cl alike k.makers k.seats (λ c other. same_later k.world c) ok;
+    sound = a.sound;
+    tied = a.tied;
+    seats = seats_after kinds clients k.world a.world k.seat_of s.views id v v' at cl alike k.makers k.seats a.others a.own;
     makers = makers_after clients s.views id v v' at alike k.makers;
+    holders = a.holders;
+    come = a.come;
   }
 
+  -- a step that changes no word
+  pub unmoved : (s : St) (k : Rule s) (i id : ℕ) (v v' : View) (cs : List (ℕ × Slot S O R)) → get_elem? s.views id ≡ some v → v.client ≡ true → Alike v v' → SeatOk kinds k.world v.number v'
+      → Rule (stepped s i (get_or s.words i 0) id cs v' keeps)
+  unmoved s k i id v v' cs at cl alike ok = subst (λ (ws : List ℕ). Rule record { words = ws; homes = s.homes; views = set s.views id v' }) (sym (set-get_or s.words i 0))
+      (kept_after s k id v v' at cl alike record { world = k.world; holders = k.holders; come = k.come; sound = k.sound; tied = k.tied; others = λ c _. same_later k.world c; own = ok })
+
   pub misses : (s : St) (k : Rule s) (i id : ℕ) (v : View) (cs : List (ℕ × Slot S O R)) → v.client ≡ true → get_elem? s.views id ≡ some v → Rule (stepped s i (get_or s.words i 0) id cs (missing i v) keeps)
-  misses s k i id v cs cl at = let ok = mine s k id v cl at in unmoved s k i id v (missing i v) cs at cl
-      record { client = refl; number = refl; maker = refl; made = refl; heard = refl }
-      record { number = ok.number; small = ok.small; kinds_are = ok.kinds_are; done = ok.done; own = ok.own; ready = ok.ready; wide_seen = ok.wide_seen; seen = ok.seen; covers = ok.covers; held = ok.held; ended = ok.ended; retired = ok.retired; back = ok.back }
+  misses s k i id v cs cl at = let ok = mine s k id v cl at in unmoved s k i id v (missing i v) cs at cl alike (seat_knowing ok.ready ok.retired ok)

@@ -1,14 +1,14 @@
 -- A client sees more of a log.
-use Rattle.std.proofs.Common.{◌≡◌, ◌≢◌, ℕ, ◌+◌, ◌<◌, Bool, true, false, cond, eqb, ◌⊎◌, ⊎_elim, inl, inr, length-append, List, [], ◌∷◌, ◌++◌, length, get_or, set, refl, sym, ap, subst, ◌∙◌, arith, append_assoc, append-nil, length-set, get_or-set_other, get_or-set_same}
+use Rattle.std.proofs.Common.{◌≡◌, ◌≢◌, ℕ, ◌<◌, true, false, cond, eqb, ◌⊎◌, ⊎_elim, inl, inr, length-append, List, [], ◌∷◌, ◌++◌, length, get_or, set, refl, sym, ap, subst, ◌∙◌, arith, append_assoc, append-nil, length-set, get_or-set_other, get_or-set_same}
 use mathlib.Core.Logic.{dite}
 use native.Mathlib.Decide.{ℕ_discrete}
 use Rattle.model.specs.declared.Kind.{Kind}
 use Rattle.desk_rule.specs.declared.board.Own.{Own}
 use Rattle.desk_rule.specs.declared.board.Own.TheVariants as own
 use Rattle.desk_rule.specs.declared.board.View.{View}
-use Rattle.std.proofs.lemmas.List.{nil_from_length}
+use Rattle.std.proofs.lemmas.List.{append_cancel_left, nil_from_length}
 use Rattle.world.specs.declared.Answer.TheVariants.{Reply, Refused}
-use Rattle.world.specs.World.{AnyEntry, AnyRequest, AnyAnswer, AnyDone, Stage, idle, posted, picked, answered, World, logged, logged_on, entries_of, served, served_now, StartsWith}
+use Rattle.world.specs.World.{AnyEntry, AnyRequest, AnyAnswer, AnyDone, Stage, posted, picked, answered, World, logged, logged_on, entries_of, served, served_now, StartsWith}
 use Rattle.world.specs.Sound.{Sound}
 use Rattle.world.proofs.Entries.{entries-append}
 use Rattle.desk_rule.specs.Views.{owed, seeing, IsAtRest, MayHold, IsAccount}
@@ -55,10 +55,6 @@ saw kinds w c x v l low begins covers ok = let wide = ok.wide_seen in record {
   back = ok.back;
 }
 
-cancel : {A : Type 0} (xs ys zs : List A) → xs ++ ys ≡ xs ++ zs → ys ≡ zs
-cancel [] ys zs e = e
-cancel (x ∷ xs) ys zs e = cancel xs ys zs (cc)
-
 -- the front of a list of one element at most is empty or whole
 one_front : {A : Type 0} (l xs ys : List A) → length l < 2 → l ≡ xs ++ ys → (xs ≡ []) ⊎ (xs ≡ l)
 one_front l [] ys short e = inl refl
@@ -86,4 +82,4 @@ accounts kinds quota w x v l rest done ok k begins covers =
     let seen : entries_of c l ≡ d ++ now = covers.1 ∙ append_assoc d (owed x c v.own) covers.0 in
     let whole : d ++ served_now x c (w.stage c) ≡ d ++ (now ++ entries_of c begins.0) = ap (λ z. served x c z ++ served_now x c (w.stage c)) done ∙ (sym (k.counted c x) ∙ (ap (entries_of c) begins.1 ∙ (entries-append c l begins.0
     ∙ (ap (λ z. z ++ entries_of c begins.0) seen ∙ append_assoc d now (entries_of c begins.0))))) in
-    (now, seen, held_now x c v.own (w.stage c) now (entries_of c begins.0) rest ok (cancel d (served_now x c (w.stage c)) (now ++ entries_of c begins.0) whole))
+    (now, seen, held_now x c v.own (w.stage c) now (entries_of c begins.0) rest ok (append_cancel_left d (served_now x c (w.stage c)) (now ++ entries_of c begins.0) whole))

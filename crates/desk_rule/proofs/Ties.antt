@@ -1,5 +1,5 @@
 -- Words and slots stay tied to the world where one word and the slot that it guards change with it.
-use Rattle.std.proofs.Common.{◌≡◌, ◌≢◌, ℕ, ◌+◌, ◌<◌, ◌≤◌, Bool, true, false, List, [], ◌∷◌, ◌++◌, map, length, get_or, set, Option, Some, None, refl, sym, ap, subst, ◌∙◌, arith, length-set, get_or-set_other, get_or-set_same}
+use Rattle.std.proofs.Common.{◌≡◌, ◌≢◌, ℕ, ◌+◌, ◌<◌, Bool, true, false, List, map, length, get_or, set, Option, None, sym, ap, subst, ◌∙◌, arith, length-set, get_or-set_other, get_or-set_same}
 use mathlib.Core.Option as maybe
 use mathlib.Core.Option.{some}
 use lib.ListN.{get_elem?}
@@ -11,10 +11,10 @@ use Rattle.model.specs.Objects.{Content}
 use Rattle.desk_rule.specs.declared.board.Journal.{Journal}
 use Rattle.desk_rule.specs.declared.board.Slot.{Slot}
 use Rattle.desk_rule.specs.declared.board.Slot.TheVariants as slot
-use Rattle.world.specs.World.{AnyEntry, AnyRequest, AnyAnswer, AnyDone, Stage, absent, World, kind_at, request_of, journal_of}
+use Rattle.world.specs.World.{AnyEntry, AnyDone, Stage, absent, World, kind_at, request_of, journal_of}
 use Rattle.world.specs.Moves.{changed, staged, ticked, held_by, ended_by}
 use Rattle.world.specs.Images.{event_in}
-use Rattle.world.proofs.Changed.{changed_here, changed_else, changed_all}
+use Rattle.world.proofs.Changed.{changed_else, changed_all}
 use Rattle.desk_rule.specs.Rule.{Home, lock_word, row_word, end_word, Fits, CoreAt, MessageAt, JournalAt, Tied}
 
 module _ {S O R : Type 0} (content : S → Content) (op_in : O → AnyOp) (reply_in : R → AnyReply) (kinds : List Kind) where

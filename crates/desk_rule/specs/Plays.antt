@@ -1,5 +1,5 @@
 -- What each step on the table tells the client that takes it: what it knows and has in its hands then.
-use Rattle.std.specs.Prelude.{◌≡◌, ◌≢◌, ℕ, ◌+◌, ◌<◌, Bool, true, false, List, [], ◌∷◌, ◌++◌, map, length, slice_set, All}
+use Rattle.std.specs.Prelude.{◌≡◌, ◌≢◌, ℕ, ◌+◌, ◌<◌, false, List, ◌∷◌, ◌++◌, length, All}
 use Rattle.atomic_table.specs.Table.{Me, Step, rest}
 use Rattle.model.specs.declared.AnyOp.{AnyOp}
 use Rattle.model.specs.declared.AnyReply.{AnyReply}
@@ -12,7 +12,7 @@ use Rattle.desk_rule.specs.declared.board.Held.TheVariants as held
 use Rattle.desk_rule.specs.declared.board.View.{View}
 use Rattle.world.specs.declared.Request.{Request}
 use Rattle.world.specs.declared.Answer.{Answer}
-use Rattle.world.specs.World.{AnyEntry, AnyRequest, AnyAnswer, kind_at, logged, logged_on, entries_of, served, IsLegal, StartsWith}
+use Rattle.world.specs.World.{AnyEntry, AnyRequest, AnyAnswer, kind_at, logged, entries_of, served, IsLegal, StartsWith}
 use Rattle.world.specs.Images.{request_in, answer_in}
 use Rattle.desk_rule.specs.Views.{seen_of, heard_of, missing, noting, holding, handling, putting_back, answering, IsAccount, learnt, calling, taking, done_with, seeing, ending, knowing_end}
 use Rattle.desk_rule.specs.Rule.{Fits}
@@ -79,9 +79,9 @@ module _ {S O R : Type 0} (content : S → Content) (op_in : O → AnyOp) (reply
   learns st m found m' = (l : List AnyEntry) × (m' ≡ (seeing st.word l m.0, m.1)) × IsLegal (kind_at m.0.kinds st.word) l
       × StartsWith l (seen_of m.0 st.word) × StartsWith l (heard_of m.0 st.word) × (length m.0.seen ≡ 16) × IsAccount st.word m.0 l
 
-  -- what was heard is what is seen
+  -- what was heard, which is legal, is what is seen
   abbrev pub adopts : Step (Slot S O R) → Hands → ℕ → Hands → Type 0
-  adopts st m found m' = (m' ≡ (seeing st.word (heard_of m.0 st.word) m.0, m.1)) × IsAccount st.word m.0 (heard_of m.0 st.word)
+  adopts st m found m' = (m' ≡ (seeing st.word (heard_of m.0 st.word) m.0, m.1)) × IsLegal (kind_at m.0.kinds st.word) (heard_of m.0 st.word) × IsAccount st.word m.0 (heard_of m.0 st.word)
 
   -- the journal went into its place, and the client has ended
   abbrev pub ends : Step (Slot S O R) → Hands → ℕ → Hands → Type 0

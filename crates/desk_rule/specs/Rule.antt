@@ -1,6 +1,6 @@
 -- The rule of the desk's table. Word x is the lock of object x, 16 + c the row of client c, 48 + c its end, and 80 the
 -- clock. Slot x is the core of object x, 16 + c the request or answer of client c, and 48 + c its journal.
-use Rattle.std.specs.Prelude.{◌≡◌, ◌≢◌, ◌⊎◌, ℕ, ◌+◌, ◌<◌, ◌≤◌, Bool, true, false, List, [], ◌∷◌, ◌++◌, map, length, slice_index, Option, Some, None, All}
+use Rattle.std.specs.Prelude.{◌≡◌, ◌≢◌, ◌⊎◌, ℕ, ◌+◌, ◌<◌, ◌≤◌, Bool, true, false, List, [], ◌++◌, map, length, slice_index, Option, Some, None, All}
 use mathlib.Core.Option.{some}
 use mathlib.Core.Option as maybe
 use lib.ListN.{get_elem?}
@@ -23,8 +23,7 @@ use Rattle.world.specs.declared.Answer.{Answer}
 use Rattle.world.specs.World.{AnyEntry, AnyRequest, AnyAnswer, AnyDone, Stage, absent, idle, drawn, posted, picked, answered, taken, World, kind_at, entries_of, served, request_of, journal_of, Replays, StartsWith}
 use Rattle.world.specs.Sound.{Sound}
 use Rattle.world.specs.Images.{request_in, answer_in, entry_in, event_in}
-use Rattle.desk_rule.specs.Views.{founder, seen_of, heard_of, owed}
-pub use Rattle.desk_rule.specs.Views.{founder}
+use Rattle.desk_rule.specs.Views.{seen_of, heard_of, owed}
 
 -- a place for a slot's value, which may be out
 abbrev pub Home : (S O R : Type 0) → Type 0

@@ -93,7 +93,8 @@ pub struct Plan {
 pub struct DeskRule;
 
 impl<S: SeqObject> TableRule<Slot<S, S::Op, S::Reply>, View, Plan> for DeskRule {
-    ghost use Rattle.desk_rule.specs.Rule.{Kept, founder};
+    ghost use Rattle.desk_rule.specs.Rule.{Kept};
+    ghost use Rattle.desk_rule.specs.Views.{founder};
 
     ghost holds = { λ k. Kept S.content S.op_in S.reply_in k.kinds.items k.clients k.quota };
 

@@ -6,6 +6,7 @@ use Rattle.std.specs.BTreeSet.{BTreeSet, contains_text, Updates}
 use Rattle.std.specs.String.{string_cmp}
 use Rattle.std.proofs.lemmas.Map.Text.{btree_set_updates_text}
 use Rattle.std.proofs.lemmas.List.{take_more}
+use Rattle.std.proofs.Math.Bool.{or_assoc}
 use Rattle.edn.proofs.Strings.{some_is}
 use Rattle.std.specs.Prelude.{◌||◌}
 use Rattle.std.specs.Str.{bytes_eq}
@@ -32,13 +33,9 @@ or_last true y = refl
 or_last false true = refl
 or_last false false = refl
 
-or_assoc : (x y z : Bool) → (x || (y || z)) ≡ ((x || y) || z)
-or_assoc true y z = refl
-or_assoc false y z = refl
-
 pub has_key-append : (k : List ℕ) (es : List (List ℕ × Datum)) (l : List ℕ) (d : Datum) → has_key k (es ++ (l, d) ∷ []) ≡ (has_key k es || bytes_eq k l)
 has_key-append k [] l d = or_last false (bytes_eq k l)
-has_key-append k (e ∷ es) l d = ap (λ (b : Bool). bytes_eq k e.0 || b) (has_key-append k es l d) ∙ or_assoc (bytes_eq k e.0) (has_key k es) (bytes_eq k l)
+has_key-append k (e ∷ es) l d = ap (λ (b : Bool). bytes_eq k e.0 || b) (has_key-append k es l d) ∙ sym (or_assoc (bytes_eq k e.0) (has_key k es) (bytes_eq k l))
 
 same_comm : (a b : List ℕ) → bytes_eq a b ≡ bytes_eq b a
 same_comm a b = elim (cases_Bool (bytes_eq a b)) [ inl e ↦ e ∙ sym (rw (same_is a b e) (same_self b)) | inr e ↦ (let n : bytes_eq b a ≡ false = same_not b a (λ q. true_not_false (sym (same_self a) ∙ ap (λ (x : List ℕ). bytes_eq a x) (sym q) ∙ e)) in e ∙ sym n) ]

@@ -1,6 +1,7 @@
 pub mod Names
 pub mod Keys
 pub mod Strings
+pub mod Parts
 pub mod Words
 pub mod Stack
 pub mod Pairs

@@ -66,7 +66,7 @@ fn split_word(text: &[u8]) -> (&[u8], &[u8])
 }
 
 /// The token at the front, of which there is one, and what follows it.
-#[tactic(auto, using(crate::proofs::Words::after_word_shorter), unfolding(crate::specs::Reading::first))]
+#[tactic(auto, unfolding(crate::specs::Reading::first))]
 pub fn first_token(alloc: Global, text: &[u8]) -> Result<(Token, &[u8]), Stop>
     requires some { 0 < length text.now }
     requires utf8 { IsUtf8 text.now }

@@ -24,7 +24,6 @@ fn escape_of(c: u8) -> Option<u8>
 }
 
 /// The bytes of a string, and what follows the quote that ends it.
-#[tactic(auto, using(crate::proofs::Strings::front_of_byte))]
 fn bytes_of(alloc: Global, text: &[u8]) -> Result<(Vec<u8>, &[u8]), Stop>
     ensures { GivesAt (λ x. (x.0.items, x.1.now)) result (string_at text.now) }
 {

@@ -4,7 +4,7 @@ use Rattle.std.proofs.lemmas.Bool.{eqb-true, eq-eqb}
 use Rattle.model.specs.declared.AnyOp.{AnyOp}
 use Rattle.model.specs.declared.AnyReply.{AnyReply}
 use Rattle.model.specs.Objects.{kind_of}
-use Rattle.model.proofs.Lists.{In, Pairs, in_append, contains_from_in, all_from_in, all_from_pairs, pairs_from_all}
+use Rattle.model.proofs.Lists.{In, Pairs, in_append, contains_from_in, all_from_in, all_from_pairs, pairs_from_all, in_left, in_right, in_middle, in_split}
 use Rattle.events.specs.declared.event.Action.{Action}
 use Rattle.events.specs.declared.event.Action.TheVariants.{Invoke, Ok, Fail, Info}
 use Rattle.events.specs.declared.event.Event.{Event}
@@ -151,17 +151,6 @@ ends_after x es o h i = go o.«end» refl
 abbrev SameKind : Event → Event → Type 0
 SameKind e f = (a b : AnyOp) → e.object ≡ f.object → e.action ≡ Invoke a → f.action ≡ Invoke b → kind_of a ≡ kind_of b
 
-split_at : (es : List Event) (f : Event) → In f es → (earlier later : List Event) × (es ≡ earlier ++ f ∷ later)
-split_at [] f i = absurd i
-split_at (e ∷ es) f i = elim i [
-  | inl q ↦ ([], es, ap (λ x. x ∷ es) (sym q))
-  | inr j ↦ let s = split_at es f j in (e ∷ s.0, s.1, ap (λ t. e ∷ t) s.2)
-]
-
-in_middle : (xs ys : List Event) (e : Event) → In e (xs ++ e ∷ ys)
-in_middle [] ys e = inl refl
-in_middle (x ∷ xs) ys e = inr (in_middle xs ys e)
-
 kind_follows : (earlier : List Event) (p x : ℕ) (a : Action) (b : AnyOp) → Follows earlier p x a → a ≡ Invoke b → (e : Event) (c : AnyOp) → In e earlier → e.object ≡ x → e.action ≡ Invoke c → kind_of c ≡ kind_of b
 kind_follows earlier p x (Invoke op) b h q e c i s t = h.1 e c (contains_from_in earlier e i) s t ∙ ap kind_of (let r : op ≡ b = cc in r)
 kind_follows earlier p x (Ok r) b h q e c i s t = absurd (cc (q))
@@ -172,9 +161,9 @@ kinds_behind : (earlier es all : List Event) → all ≡ earlier ++ es → IsPro
 kinds_behind earlier [] all is h = tt
 kinds_behind earlier (e ∷ es) all is h = (
   λ f i a b same q r.
-      let s = split_at es f i in
+      let s = in_split f es i in
       let whole : all ≡ (earlier ++ e ∷ s.0) ++ f ∷ s.1 = is ∙ (ap (λ t. earlier ++ e ∷ t) s.2 ∙ sym (append_assoc earlier (e ∷ s.0) (f ∷ s.1))) in
-      kind_follows (earlier ++ e ∷ s.0) f.process f.object f.action b (h.each (earlier ++ e ∷ s.0) s.1 f whole) r e a (in_middle earlier s.0 e) same q,
+      kind_follows (earlier ++ e ∷ s.0) f.process f.object f.action b (h.each (earlier ++ e ∷ s.0) s.1 f whole) r e a (in_middle e earlier s.0) same q,
   kinds_behind (earlier ++ e ∷ []) es all (is ∙ sym (append_assoc earlier (e ∷ []) es)) h,
 )
 
@@ -220,14 +209,6 @@ pub named_by : (x : ℕ) (es : List Event) (o : Invocation) → In o (operations
 named_by x es o i =
     let b = operation_begins x es o i in
     record { event = b.event; op = o.op; stands = contains_from_in es b.event b.stands; on_object = b.on_object; invokes = b.invokes }
-
-in_left : {X : Type 0} (y : X) (a b : List X) → In y a → In y (a ++ b)
-in_left y [] b i = absurd i
-in_left y (x ∷ a) b i = elim i [ inl e ↦ inl e | inr j ↦ inr (in_left y a b j) ]
-
-in_right : {X : Type 0} (y : X) (a b : List X) → In y b → In y (a ++ b)
-in_right y [] b i = i
-in_right y (x ∷ a) b i = inr (in_right y a b i)
 
 pub operation_of : (x : ℕ) (es : List Event) (e : Event) (op : AnyOp) → In e es → e.object ≡ x → e.action ≡ Invoke op → (o : Invocation) × In o (operations_on x es)
 operation_of x [] e op i s t = absurd i

@@ -1,12 +1,12 @@
 -- Each process of a proper list of events is a run: idle, busy with an operation, idle again, .., and closed.
-use Rattle.std.proofs.Common.{◌≡◌, ℕ, ◌==◌, Bool, true, false, cond, List, [], ◌∷◌, ◌++◌, find, Option, Some, None, refl, ap, sym, ◌∙◌, subst, append_assoc}
+use Rattle.std.proofs.Common.{◌≡◌, ℕ, ◌==◌, true, false, cond, List, [], ◌∷◌, ◌++◌, find, Option, Some, None, refl, ap, sym, ◌∙◌, subst, append_assoc}
 use Rattle.std.proofs.lemmas.List.{reverse-append}
 use Rattle.std.proofs.lemmas.Bool.{eqb-true}
 use Rattle.model.specs.declared.AnyOp.{AnyOp}
 use Rattle.events.specs.declared.event.Action.{Action}
 use Rattle.events.specs.declared.event.Action.TheVariants.{Invoke, Ok, Fail, Info}
 use Rattle.events.specs.declared.event.Event.{Event}
-use Rattle.events.specs.Events.{last_event, next_event, IsIdleAfter, IsIdle, IsOutstanding, HasShape, Follows, IsProper}
+use Rattle.events.specs.Events.{last_event, IsIdleAfter, IsIdle, IsOutstanding, HasShape, Follows, IsProper}
 
 -- what a process is doing
 pub data State : Type 0 where
@@ -83,12 +83,3 @@ runs_behind p earlier (e ∷ es) all is proper =
 -- each process of proper events runs, idle at first
 pub runs_from_start : (es : List Event) (p : ℕ) → IsProper es → Runs p idle es
 runs_from_start es p proper = runs_behind p [] es es refl proper
-
--- a closed process has no events
-pub closed_none : (p : ℕ) (es : List Event) → Runs p closed es → next_event p es ≡ None
-closed_none p [] h = refl
-closed_none p (e ∷ es) h = go (e.process == p) refl (closed_none p es)
-  where
-    go : (b : Bool) → (e.process == p) ≡ b → (Runs p closed es → next_event p es ≡ None) → cond b (Some e) (next_event p es) ≡ None
-    go true q f = absurd (h.0 q).0
-    go false q f = f (h.1 q)

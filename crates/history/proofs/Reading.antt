@@ -48,13 +48,6 @@ faultless_push ds d h none earlier later e k q f = elim (split_push ds d earlier
   | inr s ↦ h earlier s.0 e k s.1 f
 ]
 
-pub nothing_read : (seen : Seen) → IsSeen seen [] → IsSoFar seen [] []
-nothing_read seen h = record { kept = h; faultless = λ earlier later d k q f. no_split earlier later d q; events = refl }
-  where
-    no_split : (earlier later : List Datum) (d : Datum) → [] ≡ earlier ++ d ∷ later → ⊥
-    no_split [] later d q = cc q
-    no_split (x ∷ xs) later d q = cc q
-
 -- one form more
 pub one_read : (old new : Seen) (fs : List Form) (i : ℕ) (f : Form) (es more : List Event) → i < length fs → f ≡ get_or fs i f → IsSoFar old (views (take i fs)) es → IsRead old new (views (take i fs)) (view f) more → IsSoFar new (views (take (i + 1) fs)) (es ++ more)
 one_read old new fs i f es more l is h r =

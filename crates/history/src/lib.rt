@@ -3,7 +3,7 @@
 
 mod client_map;
 mod fault;
-mod judging;
+mod map_faults;
 mod reader;
 mod seen;
 

@@ -1,7 +1,7 @@
 -- Each operation of the history that events denote is on an object that they name.
-use Rattle.std.proofs.Common.{◌≡◌, ℕ, Bool, true, false, List, [], ◌∷◌, ◌++◌, All, inl, inr, refl, ap, sym, Result, Ok, Err, OnOk}
+use Rattle.std.proofs.Common.{◌≡◌, Bool, true, false, List, [], ◌∷◌, ◌++◌, All, inl, inr, refl, ap, sym, Result, Ok, Err, OnOk}
 use Rattle.model.specs.Orders.{ProcessCall, calls_in}
-use Rattle.model.proofs.Lists.{In, all_from_in, in_from_contains, contains_from_in}
+use Rattle.model.proofs.Lists.{In, all_from_in, contains_from_in}
 use Rattle.events.specs.declared.event.Action.{Action}
 use Rattle.events.specs.declared.event.Action.TheVariants.{Invoke, Ok as Returned, Fail, Info}
 use Rattle.events.specs.declared.event.Event.{Event}
@@ -10,15 +10,7 @@ use Rattle.certificate.specs.declared.Certificate.{Certificate}
 use Rattle.checker.specs.declared.refusal.Refusal.{Refusal}
 use Rattle.checker.specs.Refusals.{AreValid}
 use Rattle.locality.specs.Locality.{HasValidOrder}
-
-later_named : (e : Event) (later : List Event) (x : ℕ) → IsNamed later x → IsNamed (e ∷ later) x
-later_named e later x h = record {
-  event = h.event;
-  op = h.op;
-  stands = contains_from_in (e ∷ later) h.event (inr (in_from_contains later h.event h.stands));
-  on_object = h.on_object;
-  invokes = h.invokes;
-}
+use Rattle.report.proofs.Named.{later_named}
 
 one_named : (e : Event) (later : List Event) (c : ProcessCall) → (In c (calls_in (denoted later)) → IsNamed later c.object)
     → (a : Action) → e.action ≡ a → (failed : Bool) → In c (calls_in (denoted_by e.number e.process e.object a failed ++ denoted later)) → IsNamed (e ∷ later) c.object

@@ -27,7 +27,7 @@ use Rattle.clap.specs.Walk.{Held, Names, Outcome, Row, Rule, Step, Text, Walk, a
 use Rattle.clap.proofs.OnLiterals.{clap_on_literals}
 use Rattle.clap.specs.declared.parser.matches.ValueSource.TheVariants.{CommandLine}
 use Rattle.clap.specs.declared.builder.value_parser.Reading.TheVariants.{AsWritten}
-use Rattle.judging.specs.Words.{AskFor, AskToCheck, AskToRun, Finds, FindsFiles, HasFiles, IsCommand, IsFault, IsFound, IsFor, IsPlain, IsPlainCheck, IsPlainRun, IsRunFound, check, command, run, values}
+use Rattle.judging.specs.Words.{AskFor, AskToCheck, AskToRun, Finds, HasFiles, IsCommand, IsFault, IsFound, IsFor, IsPlain, IsPlainCheck, IsPlainRun, IsRunFound, check, command, run, values}
 
 -- ---- the shapes that are built
 
@@ -120,15 +120,10 @@ flag_passes c only again rows pending word None e = short_passes c only again ro
 abbrev at : List Row → Option (Text × List Text) → ℕ → Bool → Walk
 at rows pending position is_trailing = record { held = held rows pending; waiting = idle; position = position; is_trailing = is_trailing; stopped = None }
 
-abbrev ToPositional : Shape → Names → List Row → Option (Text × List Text) → ℕ → Bool → Text → Type 0
-ToPositional s ns rows pending position is_trailing word =
-    (walked s.rules ns (at rows pending position is_trailing) word ≡ to_positional s.rules (arg_by_index s.rules position) word (at rows pending position is_trailing) (held rows pending))
+abbrev ToPositional : Shape → Names → List Row → Option (Text × List Text) → ℕ → Text → Type 0
+ToPositional s ns rows pending position word =
+    (walked s.rules ns (at rows pending position false) word ≡ to_positional s.rules (arg_by_index s.rules position) word (at rows pending position false) (held rows pending))
     × (step_fault s position (held rows pending) value ≡ [])
-
-trailing_turn : (s : Shape) (ns : Names) (rows : List Row) (pending : Option (Text × List Text)) (position : ℕ) (word : Text)
-    → turn_fault s ns (at rows pending position true) word ≡ [] → ToPositional s ns rows pending position true word
-unfolding walked
-trailing_turn s ns rows pending position word e = (refl, e)
 
 turn_parts : (s : Shape) (ns : Names) (rows : List Row) (pending : Option (Text × List Text)) (position : ℕ) (word : Text) → turn_fault s ns (at rows pending position false) word ≡ []
     → (word_fault s ns false idle word (held rows pending) ≡ [])
@@ -138,7 +133,7 @@ turn_parts s ns rows pending position word e = both_nil (word_fault s ns false i
 
 other_turn : (s : Shape) → OnlyHelp s.rules → (ns : Names) (rows : List Row) (pending : Option (Text × List Text)) (position : ℕ) (word : Text)
     → subcommand_met ns idle word ≡ None → bytes_eq word (codes "--") ≡ false
-    → turn_fault s ns (at rows pending position false) word ≡ [] → ToPositional s ns rows pending position false word
+    → turn_fault s ns (at rows pending position false) word ≡ [] → ToPositional s ns rows pending position word
 unfolding walked
 other_turn s only ns rows pending position word none differs e =
     let met : word_met s.rules ns false idle position word (held rows pending) ≡ (held rows pending, value) =
@@ -203,7 +198,7 @@ left is_trailing ws = if is_trailing then ws else values ws
 -- the walk takes the words at this place, and goes on past one `--`
 turn : (rows : List Row) (pending : Option (Text × List Text)) (position : ℕ) (word : Text) (b : Bool) → bytes_eq word (codes "--") ≡ b
     → turn_fault low [] (at rows pending position false) word ≡ []
-    → ((b ≡ true) × (walked low.rules [] (at rows pending position false) word ≡ at rows pending position true)) ⊎ ((b ≡ false) × ToPositional low [] rows pending position false word)
+    → ((b ≡ true) × (walked low.rules [] (at rows pending position false) word ≡ at rows pending position true)) ⊎ ((b ≡ false) × ToPositional low [] rows pending position word)
 unfolding walked
 turn rows pending position word true is e = inl (refl, rw is refl)
 turn rows pending position word false is e = inr (refl, other_turn low low_help [] rows pending position word refl is e)
@@ -525,20 +520,3 @@ module _ (inner : Found) (h c : Text) (f : HasFiles (rows_of inner) h c) where
 
 pub has_files : (inner : Found) (x y : Text) → first_value inner (codes "HISTORY") ≡ Some x → first_value inner (codes "CERTS") ≡ Some y → HasFiles (rows_of inner) x y
 has_files inner x y p q = record { history_first = sym (first_value-rows inner (codes "HISTORY")) ∙ p; certs_first = sym (first_value-rows inner (codes "CERTS")) ∙ q }
-
--- the command is a check where it has the name
-pub check_rows : (m : Option (Text × List Row)) (rows : List Row) → IsCommand m → option_map (λ p. p.0) m ≡ Some (codes "check") → option_map (λ p. p.1) m ≡ Some rows
-    → (m ≡ Some (codes "check", rows)) × (h c : Text) × HasFiles rows h c
-check_rows m rows (inl k) name e =
-    let same = found_rows m (codes "check") k.2.rows rows k.2.entered e in
-    (k.2.entered ∙ ap (λ r. Some (codes "check", r)) same, k.0, k.1, subst (λ r. HasFiles r k.0 k.1) same k.2.files)
-check_rows m rows (inr k) name e = absurd (not_run (one_name m (codes "run") (codes "check") k.rows k.entered name))
-
-pub finds_check : (m : Option (Text × List Row)) (rows : List Row) (l : Line) → m ≡ Some (codes "check", rows) → FindsFiles rows l → Finds m l
-finds_check m rows (Check h c) e f = record { rows = rows; entered = e; files = f }
-finds_check m rows Run e f = absurd f
-
--- and a run where it has not
-pub finds_run : (m : Option (Text × List Row)) → IsCommand m → (option_map (λ p. p.0) m ≡ Some (codes "check") → ⊥) → IsRunFound m
-finds_run m (inl k) other = absurd (other (ap (option_map (λ (p : Text × List Row). p.0)) k.2.entered))
-finds_run m (inr k) other = k

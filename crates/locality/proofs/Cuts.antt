@@ -7,7 +7,7 @@ use Rattle.std.proofs.lemmas.Bool.{eqb-true, eqb-false, ne_eqb, and_left, and_ri
 use Rattle.model.specs.declared.AnyReply.{AnyReply}
 use Rattle.model.specs.Histories.{Event, Inv, Res, process_of, object_of, is_invocation, by_process, by_object, matches, is_pending, complete, invokes, responds}
 use Rattle.model.specs.Orders.{Numbered, events, Return, ProcessCall}
-use Rattle.model.proofs.Lists.{In, Pairs, in_filter_passes, filter-filter, filter_same, filter_all, filter_none, filter-flat_map, flat_map_same, flat_map_filter}
+use Rattle.model.proofs.Lists.{In, Pairs, in_filter_passes, filter-filter, filter_same, filter_all, filter_none, filter-flat_map, flat_map_same, flat_map_filter, in_right}
 use Rattle.locality.proofs.Entries.{done}
 use Rattle.locality.proofs.ProcessHistories.{part, late, added, dones}
 
@@ -29,10 +29,6 @@ and_true false b e = refl
 not_less : (a b : List Numbered) (m x : Numbered) → Pairs (λ x y. x.number < y.number) (a ++ m ∷ b) → In x (m ∷ b) → m.number ≤ x.number
 not_less [] b m x u i = elim i [ inl e ↦ omega (arith, ap (λ (k : Numbered). k.number) e) | inr j ↦ let g = u.0 x j in omega arith ]
 not_less (y ∷ a) b m x u i = not_less a b m x u.1 i
-
-in_append_right : {X : Type 0} (y : X) (a b : List X) → In y b → In y (a ++ b)
-in_append_right y [] b i = i
-in_append_right y (x ∷ a) b i = inr (in_append_right y a b i)
 
 -- where a test keeps all of what f gives of some elements, and nothing of the others
 pub filter_pieces : {X Y : Type 0} (q : Y → Bool) (s : X → Bool) (f : X → List Y) (xs : List X) → ((x : X) → s x ≡ true → filter q (f x) ≡ f x) → ((x : X) → s x ≡ false → filter q (f x) ≡ []) → filter q (flat_map f xs) ≡ flat_map f (filter s xs)
@@ -128,7 +124,7 @@ length_filter_events q (m ∷ h) =
 
 pairs_across : (R : Numbered → Numbered → Type 0) (a b : List Numbered) (x y : Numbered) → Pairs R (a ++ b) → In x a → In y b → R x y
 pairs_across R [] b x y h i j = absurd i
-pairs_across R (z ∷ a) b x y h i j = elim i [ inl e ↦ subst (λ w. R w y) (sym e) (h.0 y (in_append_right y a b j)) | inr k ↦ pairs_across R a b x y h.1 k j ]
+pairs_across R (z ∷ a) b x y h i j = elim i [ inl e ↦ subst (λ w. R w y) (sym e) (h.0 y (in_right y a b j)) | inr k ↦ pairs_across R a b x y h.1 k j ]
 
 -- what stands before an event is what has a lesser number
 pub filter_before : (q : Numbered → Bool) (a : List Numbered) (m : Numbered) (b : List Numbered) → Pairs (λ x y. x.number < y.number) (a ++ m ∷ b) → filter q a ≡ filter (λ k. q k && nat_lt k.number m.number) (a ++ m ∷ b)

@@ -9,7 +9,7 @@ use Rattle.model.specs.Objects.{Content, empty}
 use Rattle.model.specs.Histories.{Event, Inv, Res, IsSequential}
 use Rattle.model.specs.Linearizable.{RepliesFrom}
 use Rattle.model.specs.Orders.{Return, Call, ProcessCall, ReturnsBefore, RepliesAlong, IsValidOrder}
-use Rattle.model.proofs.Lists.{In, Pairs, in_map, in_map_from, pairs_weaker, in_from_contains, all_at, pairs_from_all}
+use Rattle.model.proofs.Lists.{In, Pairs, in_map, in_map_from, pairs_weaker, in_from_contains, all_at, pairs_from_all, pairs_from_map}
 use Rattle.locality.proofs.Merge.{one_number}
 
 max_either : (a b : ℕ) → (max a b ≡ a) ⊎ (max a b ≡ b)
@@ -168,10 +168,6 @@ lifted ops (c ∷ cs) h =
     let e = in_map (λ (e : ProcessCall). e.call) c ops (in_from_contains (calls ops) c (h c (inl refl))) in
     let rest = lifted ops cs (λ d i. h d (inr i)) in
     (e.0 ∷ rest.0, cc (rest.1, e.2), λ f i. elim i [ inl q ↦ subst (λ (g : ProcessCall). In g ops) (sym q) e.1 | inr j ↦ rest.2 f j ])
-
-pairs_from_map : {X Y : Type 0} (R : Y → Y → Type 0) (f : X → Y) (xs : List X) → Pairs R (map f xs) → Pairs (λ a b. R (f a) (f b)) xs
-pairs_from_map R f [] h = tt
-pairs_from_map R f (x ∷ xs) h = (λ y i. h.0 (f y) (in_map_from f y xs i), pairs_from_map R f xs h.1)
 
 pub valid_entries : (kind : Kind) (ops : List ProcessCall) (order : List ℤ) → Pairs (λ a b. number_of a < number_of b) ops → IsValidOrder kind (calls ops) order → (es : List ProcessCall) × ValidEntries kind ops es
 valid_entries kind ops order up v =

@@ -10,7 +10,7 @@ use Rattle.model.specs.Objects.{Content, empty}
 use Rattle.model.specs.Histories.{Event, Inv, Res, process_of, object_of, is_invocation, by_process, by_object, complete, invokes, responds, IsSequential, Operation, IsOperation}
 use Rattle.model.specs.Linearizable.{RepliesFrom, IsLinearizable}
 use Rattle.model.specs.Orders.{Numbered, events, Return, Call, ProcessCall, response_of, begins, calls_in, calls_on, IsHistory, ReturnsBefore, RepliesAlong}
-use Rattle.model.proofs.Lists.{In, Pairs, in_filter, in_filter_passes, in_filter_from, pairs_filter, pairs_map, filter-filter, filter_all, filter_none, in_map, in_map_from, contains_from_in, all_from_in, all_from_pairs}
+use Rattle.model.proofs.Lists.{In, Pairs, in_filter, in_filter_passes, in_filter_from, pairs_filter, pairs_map, filter-filter, filter_all, filter_none, in_map, in_map_from, contains_from_in, all_from_in, all_from_pairs, in_left, in_middle, in_split}
 use Rattle.locality.specs.Locality.{HasValidOrder}
 use Rattle.locality.proofs.Merge.{one_number}
 use Rattle.locality.proofs.Entries.{number_of}
@@ -18,11 +18,6 @@ use Rattle.locality.proofs.ProcessHistories.{part, events-part, calls_in-part, c
 use Rattle.locality.proofs.Cuts.{complete_of_process, length_filter_events, filter_before, invokes_of_process, responds_in_part, filter_pieces}
 use Rattle.locality.proofs.Moments.{Moment, moment_from, precedes_from, count, count-append}
 use Rattle.locality.proofs.CompletedCalls.{Ended, two_events, ended_events, ops_of, Completed, Responses, completed_any, Lined, lined}
-
--- a list with an element falls into two at it
-in_split : {X : Type 0} (x : X) (xs : List X) → In x xs → (a b : List X) × (xs ≡ a ++ x ∷ b)
-in_split x [] i = absurd i
-in_split x (y ∷ xs) i = elim i [ inl e ↦ ([], xs, ap (λ z. z ∷ xs) (sym e)) | inr j ↦ let r = in_split x xs j in (y ∷ r.0, r.1, ap (λ zs. y ∷ zs) r.2) ]
 
 -- of two beginnings of a list one begins the other
 prefix_either : {X : Type 0} (a b c d : List X) → a ++ b ≡ c ++ d → ((w : List X) × (c ≡ a ++ w)) ⊎ ((w : List X) × (a ≡ c ++ w))
@@ -77,14 +72,6 @@ below_one u v o h =
     let few = filter_short q u in
     omega arith
 
-in_left : {X : Type 0} (y : X) (a b : List X) → In y a → In y (a ++ b)
-in_left y [] b i = absurd i
-in_left y (x ∷ a) b i = elim i [ inl e ↦ inl e | inr j ↦ inr (in_left y a b j) ]
-
-behind : (o : ProcessCall) (u v : List ProcessCall) → In o (u ++ o ∷ v)
-behind o [] v = inl refl
-behind o (x ∷ u) v = inr (behind o u v)
-
 pub filter_responses : (q : Event → Bool) (es : List Event) → Responses es → Responses (filter q es)
 filter_responses q [] r = tt
 filter_responses q (e ∷ es) r = let rest = filter_responses q es r.1 in elim (q e) as (λ b. Responses (cond b (e ∷ filter q es) (filter q es))) [ true ↦ (r.0, rest) | false ↦ rest ]
@@ -96,7 +83,7 @@ back_upto t [] v o r h q l k =
     subst (λ b. 1 ≤ length (cond b (o ∷ filter (λ e. is_back t e.call.returned) v) (filter (λ e. is_back t e.call.returned) v))) (sym e) (omega arith)
 back_upto t (x ∷ u) v o r h q l k =
     let rest = back_upto t u v o r h.1 q l k in
-    let b = h.0 o (behind o u v) in
+    let b = h.0 o (in_middle o u v) in
     let c = b.2 in
     let e : is_back t x.call.returned ≡ true = ap (is_back t) b.1 ∙ lt-ltb b.0.at t (omega arith) in
     subst (λ d. suc (suc (length u)) ≤ length (cond d (x ∷ filter (λ e. is_back t e.call.returned) (u ++ o ∷ v)) (filter (λ e. is_back t e.call.returned) (u ++ o ∷ v)))) (sym e) (omega arith)
@@ -117,16 +104,12 @@ some_back : (o : Option Return) → IsSome o → (r : Return) × (o ≡ Some r)
 some_back None s = absurd (cc s)
 some_back (Some r) s = (r, refl)
 
-in_middle : (a : Ended) (l n : List Ended) → In a (l ++ a ∷ n)
-in_middle a [] n = inl refl
-in_middle a (x ∷ l) n = inr (in_middle a l n)
-
 longer : (q : Ended → Bool) (l n : List Ended) (a : Ended) → q a ≡ true → suc (length (filter q l)) ≤ length (filter q (l ++ a ∷ n))
 longer q l n a e = omega (arith, ap length (filter-append q l (a ∷ n) ∙ ap (λ b. filter q l ++ cond b (a ∷ filter q n) (filter q n)) e), length-append (filter q l) (a ∷ filter q n))
 
 across : (u v : List ProcessCall) (a o : ProcessCall) → Pairs (λ a b. number_of a < number_of b) (u ++ o ∷ v) → In a u → number_of a < number_of o
 across [] v a o h i = absurd i
-across (x ∷ u) v a o h i = elim i [ inl e ↦ let g = h.0 o (behind o u v) in omega (arith, ap number_of e) | inr j ↦ across u v a o h.1 j ]
+across (x ∷ u) v a o h i = elim i [ inl e ↦ let g = h.0 o (in_middle o u v) in omega (arith, ap number_of e) | inr j ↦ across u v a o h.1 j ]
 
 invocations_all : (p : ℕ) (h : List Numbered) → count (invokes p) (events h) ≡ length (filter (λ e. e.process == p) (calls_in h))
 invocations_all p [] = refl

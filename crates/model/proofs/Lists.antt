@@ -31,6 +31,22 @@ pub in_append : {X : Type 0} (x : X) (xs ys : List X) → In x (xs ++ ys) → In
 in_append x [] ys h = inr h
 in_append x (y ∷ xs) ys h = grind (arith, in_append x xs ys)
 
+pub in_left : {X : Type 0} (y : X) (a b : List X) → In y a → In y (a ++ b)
+in_left y [] b i = absurd i
+in_left y (x ∷ a) b i = elim i [ inl e ↦ inl e | inr j ↦ inr (in_left y a b j) ]
+
+pub in_right : {X : Type 0} (y : X) (a b : List X) → In y b → In y (a ++ b)
+in_right y [] b i = i
+in_right y (x ∷ a) b i = inr (in_right y a b i)
+
+pub in_middle : {X : Type 0} (x : X) (xs ys : List X) → In x (xs ++ x ∷ ys)
+in_middle x xs ys = in_right x xs (x ∷ ys) (inl refl)
+
+-- a list falls into two at an element
+pub in_split : {X : Type 0} (x : X) (xs : List X) → In x xs → (earlier later : List X) × (xs ≡ earlier ++ x ∷ later)
+in_split x [] i = absurd i
+in_split x (y ∷ xs) i = elim i [ inl e ↦ ([], xs, ap (λ z. z ∷ xs) (sym e)) | inr j ↦ let r = in_split x xs j in (y ∷ r.0, r.1, ap (λ zs. y ∷ zs) r.2) ]
+
 pub pairs_filter : {X : Type 0} (R : X → X → Type 0) (p : X → Bool) (xs : List X) → Pairs R xs → Pairs R (filter p xs)
 pairs_filter R p [] h = tt
 pairs_filter {X} R p (x ∷ xs) h =
@@ -74,10 +90,6 @@ filter-flat_map p f (x ∷ xs) = filter-append p (f x) (flat_map f xs) ∙ ap (�
 pub flat_map_same : {X Y : Type 0} (f g : X → List Y) (xs : List X) → ((x : X) → In x xs → f x ≡ g x) → flat_map f xs ≡ flat_map g xs
 flat_map_same f g [] h = refl
 flat_map_same f g (x ∷ xs) h = ap (λ ys. ys ++ flat_map f xs) (h x (inl refl)) ∙ ap (λ ys. g x ++ ys) (flat_map_same f g xs (λ y i. h y (inr i)))
-
-pub flat_map_none : {X Y : Type 0} (f : X → List Y) (xs : List X) → ((x : X) → In x xs → f x ≡ []) → flat_map f xs ≡ []
-flat_map_none f [] h = refl
-flat_map_none f (x ∷ xs) h = ap (λ ys. ys ++ flat_map f xs) (h x (inl refl)) ∙ flat_map_none f xs (λ y i. h y (inr i))
 
 -- elements for which f gives nothing may be left out
 pub flat_map_filter : {X Y : Type 0} (f : X → List Y) (p : X → Bool) (xs : List X) → ((x : X) → In x xs → p x ≡ false → f x ≡ []) → flat_map f (filter p xs) ≡ flat_map f xs
@@ -190,6 +202,10 @@ pairs_map {X} R f (x ∷ xs) h = (λ y i. let r = in_map f y xs i in subst (R (f
 pub in_map_from : {X Y : Type 0} (f : X → Y) (x : X) (xs : List X) → In x xs → In (f x) (map f xs)
 in_map_from f x [] h = h
 in_map_from f x (y ∷ ys) h = elim h [ inl e ↦ inl (ap f e) | inr i ↦ inr (in_map_from f x ys i) ]
+
+pub pairs_from_map : {X Y : Type 0} (R : Y → Y → Type 0) (f : X → Y) (xs : List X) → Pairs R (map f xs) → Pairs (λ a b. R (f a) (f b)) xs
+pairs_from_map R f [] h = tt
+pairs_from_map R f (x ∷ xs) h = (λ y i. h.0 (f y) (in_map_from f y xs i), pairs_from_map R f xs h.1)
 
 -- ---- from the words of std, by index, to those by recursion, and back
 

@@ -1,5 +1,6 @@
 -- Two clients after they have met.
-use Rattle.std.proofs.Common.{◌≡◌, ℕ, ◌+◌, ◌<◌, Bool, List, length, get_or, set, refl, sym, ap, subst, ◌∙◌}
+use Rattle.std.proofs.Common.{◌≡◌, ℕ, ◌<◌, Bool, List, [], length, sym, ap, subst, ◌∙◌}
+use Rattle.std.proofs.lemmas.List.{get_or-set_same}
 use Rattle.atomic_table.specs.Table.{Me}
 use Rattle.model.specs.declared.AnyOp.{AnyOp}
 use Rattle.model.specs.declared.AnyReply.{AnyReply}
@@ -7,52 +8,28 @@ use Rattle.world.specs.World.{AnyEntry, kind_at, IsLegal, StartsWith}
 use Rattle.desk_rule.specs.declared.board.Journal.{Journal}
 use Rattle.desk_rule.specs.declared.board.Slot.{Slot}
 use Rattle.desk_rule.specs.declared.board.View.{View}
-use Rattle.desk_rule.specs.Views.{seen_of, heard_of, seeing, hearing, letter, IsAccount}
-use Rattle.publication.specs.Handles.{DeskId, Known, Agrees, IsClient}
+use Rattle.desk_rule.specs.Views.{seen_of, seeing, IsAccount}
+use Rattle.publication.specs.Handles.{DeskId, Known, IsClient}
 use Rattle.publication.specs.Calls.{Met}
-use Rattle.publication.proofs.Holds.{agrees_seeing}
+use Rattle.publication.proofs.Holds.{agrees_light, agrees_seeing}
 
 module _ {S O R : Type 0} (op_in : O → AnyOp) (reply_in : R → AnyReply) (number calls quota : ℕ) (outstanding : Bool) (j : Journal O R) where
   abbrev TheClient : Me (Slot S O R) View → Type 0
   TheClient = IsClient op_in reply_in number calls quota outstanding j
 
-  -- what a client was told does not matter
-  heard_ok : (m : Me (Slot S O R) View) (h : List (List AnyEntry)) → TheClient m → TheClient (record m.0 { heard = h }, m.1)
-  heard_ok m h k = let a = k.agrees in record {
-    agrees = record {
-      client_is = a.client_is;
-      number_is = a.number_is;
-      number_low = a.number_low;
-      at_rest = a.at_rest;
-      going = a.going;
-      calls_is = a.calls_is;
-      within = a.within;
-      few = a.few;
-      outstanding_is = a.outstanding_is;
-      journal_is = a.journal_is;
-      room = a.room;
-      wide = a.wide;
-      accounts = a.accounts;
-    };
-    free = k.free;
-    in_hand = k.in_hand;
-  }
-
   -- a client that was told h, and then saw l: d is its seat after both
-  pub met_ok : (x : ℕ) (l : List AnyEntry) (h : List (List AnyEntry)) (m d : Me (Slot S O R) View) → TheClient m → x < 16 → IsAccount x (record m.0 { heard = h }) l → d ≡ (seeing x l (record m.0 { heard = h }), m.1) → TheClient d
-  met_ok x l h m d k low account e = let told = heard_ok m h k in subst TheClient (sym e) record {
-    agrees = agrees_seeing op_in reply_in number calls quota outstanding j (record m.0 { heard = h }) x l low account told.agrees;
-    free = k.free;
-    in_hand = k.in_hand;
-  }
+  pub met_ok : (x : ℕ) (l : List AnyEntry) (h : List (List AnyEntry)) (m d : Me (Slot S O R) View) → TheClient m → x < 16 → IsLegal (kind_at m.0.kinds x) l → IsAccount x (record m.0 { heard = h }) l → d ≡ (seeing x l (record m.0 { heard = h }), m.1) → TheClient d
+  met_ok x l h m d k low legal account e = subst TheClient (sym e) record { agrees = agrees_seeing x l low legal account (agrees_light k.agrees); free = k.free; in_hand = k.in_hand }
 
 -- what the meeting says: a and b before, a' and b' after
 pub met : (x : ℕ) (one other : Known) (d e : DeskId) (a b a' b' : View) (l : List AnyEntry) (h i : List (List AnyEntry)) → one.knows ≡ a → other.knows ≡ b → a' ≡ seeing x l (record a { heard = h }) → b' ≡ seeing x l (record b { heard = i })
-    → IsLegal (kind_at a.kinds x) l → StartsWith l (seen_of a x) → StartsWith l (seen_of b x) → Met x one other (record { desk = d; knows = a' }) (record { desk = e; knows = b' })
-met x one other d e a b a' b' l h i p q f g legal first second = record {
+    → x < length a.seen → x < length b.seen → IsLegal (kind_at a.kinds x) l → StartsWith l (seen_of a x) → StartsWith l (seen_of b x) → Met x one other (record { desk = d; knows = a' }) (record { desk = e; knows = b' })
+met x one other d e a b a' b' l h i p q f g there there' legal first second = record {
   log = l;
   first = f ∙ λ k. seeing x l (record (sym p k) { heard = sym (ap (λ z. z.heard) f) k });
   second = g ∙ λ k. seeing x l (record (sym q k) { heard = sym (ap (λ z. z.heard) g) k });
+  seen_first = ap (λ z. seen_of z x) f ∙ get_or-set_same a.seen x l [] there;
+  seen_second = ap (λ z. seen_of z x) g ∙ get_or-set_same b.seen x l [] there';
   legal = subst (λ z. IsLegal (kind_at z.kinds x) l) (sym p) legal;
   begins_first = subst (λ z. StartsWith l (seen_of z x)) (sym p) first;
   begins_second = subst (λ z. StartsWith l (seen_of z x)) (sym q) second;

@@ -1,40 +1,25 @@
 -- The end of a client, and the sight of another's.
-use Rattle.std.proofs.Common.{◌≡◌, ◌≢◌, ℕ, ◌+◌, ◌<◌, Bool, true, false, List, [], ◌∷◌, ◌++◌, length, get_or, length-append, Contains, eqb, eq-eqb, ne_eqb, if◌then◌else◌, refl, sym, ap, subst, ◌∙◌, arith}
+use Rattle.std.proofs.Common.{◌≡◌, ◌≢◌, ℕ, ◌+◌, ◌<◌, Bool, List, [], ◌∷◌, ◌++◌, Contains, eqb, eq-eqb, ne_eqb, if◌then◌else◌, sym, ap, subst, ◌∙◌, arith}
 use mathlib.Core.Logic.{dite}
 use native.Mathlib.Decide.{ℕ_discrete}
-use Rattle.std.proofs.Math.ListN.{get_or-append}
-use Rattle.std.proofs.Math.Seq.{get_or-append_seam}
+use Rattle.std.proofs.lemmas.List.Elements.{Contains-push, Contains-append_left}
 use Rattle.atomic_table.specs.Table.{Me}
 use Rattle.model.specs.declared.AnyOp.{AnyOp}
 use Rattle.model.specs.declared.AnyReply.{AnyReply}
 use Rattle.desk_rule.specs.declared.board.Journal.{Journal}
 use Rattle.desk_rule.specs.declared.board.Slot.{Slot}
-use Rattle.desk_rule.specs.declared.board.Own.{Own}
-use Rattle.desk_rule.specs.declared.board.Own.TheVariants as own
 use Rattle.desk_rule.specs.declared.board.View.{View}
-use Rattle.desk_rule.specs.Views.{missing, knowing_end, is_waiting, IsAtRest}
+use Rattle.desk_rule.specs.Views.{missing, knowing_end}
 use Rattle.publication.specs.Handles.{DeskSeen, Known, IsClient}
 use Rattle.publication.specs.Calls.{StillThere}
 use Rattle.publication.specs.Closing.{HaveEnded, HasLearntEnds}
-
-pub at_rest_idle : (o : Own) → IsAtRest o → is_waiting o ≡ false → o ≡ own.Idle
-at_rest_idle own.Idle r e = refl
-at_rest_idle (own.Waiting q) r e = absurd (cc)
-at_rest_idle own.Absent r e = absurd r
-at_rest_idle (own.Drawn q) r e = absurd r
-at_rest_idle (own.Taken q a) r e = absurd r
+use Rattle.publication.proofs.Holds.{agrees_light}
 
 -- one of two views, as the word was 1 or not
 pub either_view : (found d : ℕ) (v v' w : View) → v ≡ v' → (found ≡ 1 → w ≡ knowing_end d v) → (found ≢ 1 → w ≡ missing (48 + d) v) → w ≡ (if eqb found 1 then knowing_end d v' else missing (48 + d) v')
 either_view found d v v' w same hit miss = dite (ℕ_discrete found 1)
     (λ e. hit e ∙ (ap (knowing_end d) same ∙ ap (λ (b : Bool). if b then knowing_end d v' else missing (48 + d) v') (sym (eq-eqb found 1 e))))
     (λ n. miss n ∙ (ap (missing (48 + d)) same ∙ ap (λ (b : Bool). if b then knowing_end d v' else missing (48 + d) v') (sym (ne_eqb found 1 n))))
-
-contains_more : (xs : List ℕ) (n c : ℕ) → Contains xs c → Contains (xs ++ n ∷ []) c
-contains_more xs n c k = let long : length (xs ++ n ∷ []) ≡ length xs + 1 = length-append xs (n ∷ []) in let low = k.1 in (k.0, omega arith, get_or-append xs (n ∷ []) c k.0 k.1 ∙ k.2)
-
-contains_last : (xs : List ℕ) (n c : ℕ) → c ≡ n → Contains (xs ++ n ∷ []) c
-contains_last xs n c e = let long : length (xs ++ n ∷ []) ≡ length xs + 1 = length-append xs (n ∷ []) in (length xs, omega arith, get_or-append_seam xs n [] c ∙ sym e)
 
 -- the client is the last one itself
 pub own_number : (n : ℕ) (b : Known) → n ≡ b.knows.number → HaveEnded n b → HaveEnded (n + 1) b
@@ -44,8 +29,8 @@ own_number n b e before c l other = before c (let d : c ≢ n = λ f. other (f �
 pub one_ended : (n : ℕ) (a b b' : Known) → b'.desk ≡ b.desk → b'.knows ≡ knowing_end n b.knows → HaveEnded n b → HasLearntEnds a b → HaveEnded (n + 1) b' × HasLearntEnds a b'
 one_ended n a b b' e f before is = subst (λ z. HaveEnded (n + 1) z × HasLearntEnds a z) (λ i. record { desk = sym e i; knows = sym f i }) (
   (λ c l other. dite (ℕ_discrete c n)
-      (λ same. contains_last b.knows.retired n c same)
-      (λ apart. contains_more b.knows.retired n c (before c (omega arith) other))),
+      (λ same. subst (Contains (b.knows.retired ++ n ∷ [])) (sym same) (Contains-push b.knows.retired n))
+      (λ apart. Contains-append_left b.knows.retired (n ∷ []) c (before c (omega arith) other))),
   ap (λ (z : Known). record z { knows = knowing_end n z.knows }) is,
 )
 
@@ -62,25 +47,7 @@ module _ {S O R : Type 0} (op_in : O → AnyOp) (reply_in : R → AnyReply) wher
   -- a client that has learnt only of ends and misses
   watching : (number calls quota : ℕ) (outstanding : Bool) (j : Journal O R) (m m' : Me (Slot S O R) View) (missed retired : List ℕ) → IsClient op_in reply_in number calls quota outstanding j m
       → m' ≡ (record m.0 { missed = missed; retired = retired }, m.1) → IsClient op_in reply_in number calls quota outstanding j m'
-  watching number calls quota outstanding j m m' missed retired k e = let h = k.agrees in subst (IsClient op_in reply_in number calls quota outstanding j) (sym e) record {
-    agrees = record {
-      client_is = h.client_is;
-      number_is = h.number_is;
-      number_low = h.number_low;
-      at_rest = h.at_rest;
-      going = h.going;
-      calls_is = h.calls_is;
-      within = h.within;
-      few = h.few;
-      outstanding_is = h.outstanding_is;
-      journal_is = h.journal_is;
-      room = h.room;
-      wide = h.wide;
-      accounts = h.accounts;
-    };
-    free = k.free;
-    in_hand = k.in_hand;
-  }
+  watching number calls quota outstanding j m m' missed retired k e = subst (IsClient op_in reply_in number calls quota outstanding j) (sym e) record { agrees = agrees_light k.agrees; free = k.free; in_hand = k.in_hand }
 
   pub watching_ok : (number calls quota : ℕ) (outstanding : Bool) (j : Journal O R) (found d : ℕ) (m m' : Me (Slot S O R) View) → IsClient op_in reply_in number calls quota outstanding j m
       → (found ≡ 1 → m' ≡ (knowing_end d m.0, m.1)) → (found ≢ 1 → m' ≡ (missing (48 + d) m.0, m.1)) → IsClient op_in reply_in number calls quota outstanding j m'

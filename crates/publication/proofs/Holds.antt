@@ -1,5 +1,5 @@
 -- A client that wins an object, serves rows and puts the object back: its fields go on agreeing with what it knows.
-use Rattle.std.proofs.Common.{◌≡◌, ◌≢◌, ℕ, ◌+◌, ◌<◌, Bool, true, List, [], ◌∷◌, ◌++◌, length, map, get_or, set, refl, sym, ap, subst, ◌∙◌, arith, length-set}
+use Rattle.std.proofs.Common.{◌≡◌, ℕ, ◌+◌, ◌<◌, Bool, true, List, [], ◌∷◌, ◌++◌, length, get_or, refl, sym, ap, subst, ◌∙◌, arith, length-set}
 use Rattle.atomic_table.specs.Table.{rest, Me}
 use Rattle.model.specs.declared.Kind.{Kind}
 use Rattle.model.specs.declared.AnyOp.{AnyOp}
@@ -7,8 +7,8 @@ use Rattle.model.specs.declared.AnyReply.{AnyReply}
 use Rattle.model.specs.Objects.{Content, empty, kind_of}
 use Rattle.world.specs.declared.Request.{Request}
 use Rattle.world.specs.declared.Answer.{Answer}
-use Rattle.world.specs.World.{AnyEntry, AnyRequest, AnyAnswer, kind_at, logged, Replays, IsLegal, Serves}
-use Rattle.world.specs.Images.{request_in, answer_in, entry_in}
+use Rattle.world.specs.World.{AnyEntry, AnyRequest, kind_at, logged, Replays, IsLegal, Serves}
+use Rattle.world.specs.Images.{request_in, answer_in}
 use Rattle.world.proofs.Entries.{replays_more}
 use Rattle.desk_rule.specs.declared.board.Core.{Core}
 use Rattle.desk_rule.specs.declared.board.Journal.{Journal}
@@ -18,16 +18,16 @@ use Rattle.desk_rule.specs.declared.board.Slot.TheVariants as slot
 use Rattle.desk_rule.specs.declared.board.Held.{Held}
 use Rattle.desk_rule.specs.declared.board.Held.TheVariants as held
 use Rattle.desk_rule.specs.declared.board.View.{View}
-use Rattle.desk_rule.specs.Views.{seen_of, missing, noting, holding, handling, putting_back, answering, learnt, seeing, IsAtRest, IsAccount}
+use Rattle.desk_rule.specs.Views.{missing, noting, holding, handling, putting_back, answering, learnt, seeing, IsAtRest, IsAccount}
 use Rattle.desk_rule.specs.Rule.{Fits}
 use Rattle.desk_rule.proofs.Seeing.{seen_all}
-use Rattle.publication.specs.Handles.{Agrees, at_hand, log_of, IsClient, IsPass, IsHand}
+use Rattle.publication.specs.Handles.{Agrees, log_of, IsClient, IsPass, IsHand}
 
-module _ {O R : Type 0} (op_in : O → AnyOp) (reply_in : R → AnyReply) where
-  -- what a client holds, has put back and has missed does not matter
-  pub agrees_light : (number calls quota : ℕ) (outstanding : Bool) (j : Journal O R) (v : View) (h : Held) (bs : List PutBack) (ms : List ℕ) (rd : Bool) → Agrees op_in reply_in number calls quota outstanding j v
-      → Agrees op_in reply_in number calls quota outstanding j (record v { held = h; back = bs; missed = ms; ready = rd })
-  agrees_light number calls quota outstanding j v h bs ms rd k = record {
+module _ {O R : Type 0} {op_in : O → AnyOp} {reply_in : R → AnyReply} {number calls quota : ℕ} {outstanding : Bool} {j : Journal O R} {v : View} where
+  -- the client has seen other lists
+  agrees_seen : {seen heard : List (List AnyEntry)} {h : Held} {back : List PutBack} {missed retired : List ℕ} {ready : Bool} → length seen ≡ 16 → ((x : ℕ) → IsLegal (kind_at v.kinds x) (get_or seen x [])) → ((x : ℕ) → IsAccount x v (get_or seen x [])) → Agrees op_in reply_in number calls quota outstanding j v
+      → Agrees op_in reply_in number calls quota outstanding j (record v { seen = seen; heard = heard; held = h; back = back; missed = missed; retired = retired; ready = ready })
+  agrees_seen wide legal accounts k = record {
     client_is = k.client_is;
     number_is = k.number_is;
     number_low = k.number_low;
@@ -39,28 +39,19 @@ module _ {O R : Type 0} (op_in : O → AnyOp) (reply_in : R → AnyReply) where
     outstanding_is = k.outstanding_is;
     journal_is = k.journal_is;
     room = k.room;
-    wide = k.wide;
-    accounts = k.accounts;
+    wide = wide;
+    legal = legal;
+    accounts = accounts;
   }
+
+  -- what a client was told, holds, has put back, has missed, and knows of ends and of its row does not matter
+  pub agrees_light : {heard : List (List AnyEntry)} {h : Held} {back : List PutBack} {missed retired : List ℕ} {ready : Bool} → Agrees op_in reply_in number calls quota outstanding j v
+      → Agrees op_in reply_in number calls quota outstanding j (record v { heard = heard; held = h; back = back; missed = missed; retired = retired; ready = ready })
+  agrees_light k = agrees_seen k.wide k.legal k.accounts k
 
   -- the client sees the list l of x
-  pub agrees_seeing : (number calls quota : ℕ) (outstanding : Bool) (j : Journal O R) (v : View) (x : ℕ) (l : List AnyEntry) → x < 16 → IsAccount x v l → Agrees op_in reply_in number calls quota outstanding j v
-      → Agrees op_in reply_in number calls quota outstanding j (seeing x l v)
-  agrees_seeing number calls quota outstanding j v x l low account k = let wide = k.wide in record {
-    client_is = k.client_is;
-    number_is = k.number_is;
-    number_low = k.number_low;
-    at_rest = k.at_rest;
-    going = k.going;
-    calls_is = k.calls_is;
-    within = k.within;
-    few = k.few;
-    outstanding_is = k.outstanding_is;
-    journal_is = k.journal_is;
-    room = k.room;
-    wide = length-set v.seen x l ∙ wide;
-    accounts = seen_all (λ y z. IsAccount y v z) v.seen x l (omega arith) account (λ y _. k.accounts y);
-  }
+  pub agrees_seeing : (x : ℕ) (l : List AnyEntry) → x < 16 → IsLegal (kind_at v.kinds x) l → IsAccount x v l → Agrees op_in reply_in number calls quota outstanding j v → Agrees op_in reply_in number calls quota outstanding j (seeing x l v)
+  agrees_seeing x l low legal account k = let wide = k.wide in agrees_seen (length-set v.seen x l ∙ wide) (seen_all (λ y z. IsLegal (kind_at v.kinds y) z) v.seen x l (omega arith) legal (λ y _. k.legal y)) (seen_all (λ y z. IsAccount y v z) v.seen x l (omega arith) account (λ y _. k.accounts y)) k
 
 module _ {S O R : Type 0} (content : S → Content) (op_in : O → AnyOp) (reply_in : R → AnyReply) where
   -- the core after a request was served
@@ -83,11 +74,8 @@ module _ {S O R : Type 0} (content : S → Content) (op_in : O → AnyOp) (reply
   abbrev TheHand : ℕ → Core S O R → ℕ → Request O → M → Type 0
   TheHand = IsHand content op_in reply_in number calls quota outstanding j
 
-  abbrev light : (v : View) (h : Held) (bs : List PutBack) (ms : List ℕ) (rd : Bool) → Agrees op_in reply_in number calls quota outstanding j v → Agrees op_in reply_in number calls quota outstanding j (record v { held = h; back = bs; missed = ms; ready = rd })
-  light = agrees_light op_in reply_in number calls quota outstanding j
-
   pub missed_ok : (i : ℕ) (m d : M) → TheClient m → d ≡ (missing i m.0, m.1) → TheClient d
-  missed_ok i m d k e = subst TheClient (sym e) record { agrees = light m.0 m.0.held m.0.back (missing i m.0).missed m.0.ready k.agrees; free = k.free; in_hand = k.in_hand }
+  missed_ok i m d k e = subst TheClient (sym e) record { agrees = agrees_light k.agrees; free = k.free; in_hand = k.in_hand }
 
   -- the core is out of its slot: m before, a after the win, b with nothing in the slot
   pub pass_ok : (x : ℕ) (k core : Core S O R) (l : List AnyEntry) (m a b : M) → TheClient m → a ≡ (holding x l m.0, (x, slot.Core k) ∷ m.1) → b ≡ (a.0, (x, slot.Nothing) ∷ rest a.1) → core ≡ k
@@ -96,7 +84,7 @@ module _ {S O R : Type 0} (content : S → Content) (op_in : O → AnyOp) (reply
       let log : log_of op_in reply_in core ≡ l = ap (log_of op_in reply_in) same ∙ fits.0 in
       let is : b ≡ (holding x (log_of op_in reply_in core) m.0, (x, slot.Nothing) ∷ m.1) = f ∙ (ap (λ z. (z.0, (x, slot.Nothing) ∷ rest z.1)) e ∙ ap (λ z. (holding x z m.0, (x, slot.Nothing) ∷ m.1)) (sym log)) in
       subst (ThePass x core) (sym is) record {
-        agrees = light m.0 (held.Pass x (log_of op_in reply_in core)) m.0.back m.0.missed m.0.ready c.agrees;
+        agrees = agrees_light c.agrees;
         holds = refl;
         in_hand = ap (λ z. (x, slot.Nothing) ∷ z) c.in_hand;
         fits = (refl, subst (λ z. Replays (empty (kind_at m.0.kinds x)) (log_of op_in reply_in z) (content z.object)) (sym same) (subst (λ z. Replays (empty (kind_at m.0.kinds x)) z (content k.object)) (sym fits.0) fits.1));
@@ -110,7 +98,7 @@ module _ {S O R : Type 0} (content : S → Content) (op_in : O → AnyOp) (reply
       let l : List AnyEntry = log_of op_in reply_in core in let is : b ≡ (learnt x l m.0, rest m.1) = f ∙ ap (λ z. (learnt x l z.0, rest z.1)) e in
       let account' : IsAccount x m.0 l = subst (λ (z : M). IsAccount x z.0 l) e account in
       subst TheClient (sym is) record {
-        agrees = light (seeing x l m.0) held.Free [] m.0.missed m.0.ready (agrees_seeing op_in reply_in number calls quota outstanding j m.0 x l p.low account' p.agrees);
+        agrees = agrees_light (agrees_seeing x l p.low (content core.object, p.fits.1) account' p.agrees);
         free = refl;
         in_hand = ap rest p.in_hand;
       }
@@ -139,7 +127,7 @@ module _ {S O R : Type 0} (content : S → Content) (op_in : O → AnyOp) (reply
   -- a pass after a miss at a row
   pub noted_ok : (x : ℕ) (core : Core S O R) (i : ℕ) (m b : M) → ThePass x core m → b ≡ (noting i x m.0, m.1) → ThePass x core b
   noted_ok x core i m b p f = subst (ThePass x core) (sym f) record {
-    agrees = light m.0 m.0.held m.0.back (noting i x m.0).missed (noting i x m.0).ready p.agrees;
+    agrees = agrees_light p.agrees;
     holds = p.holds;
     in_hand = p.in_hand;
     fits = p.fits;
@@ -153,7 +141,7 @@ module _ {S O R : Type 0} (content : S → Content) (op_in : O → AnyOp) (reply
       let l : List AnyEntry = log_of op_in reply_in core in
       let is : b ≡ (handling x l r (request_in op_in p) m.0, (16 + r, slot.Nothing) ∷ m.1) = f ∙ (ap (λ z. (z.0, (16 + r, slot.Nothing) ∷ rest z.1)) e ∙ ap (λ z. (handling x l r (request_in op_in z) m.0, (16 + r, slot.Nothing) ∷ m.1)) same) in
       subst (TheHand x core r p) (sym is) record {
-        agrees = light m.0 (held.Hand x l r (request_in op_in p)) (handling x l r (request_in op_in p) m.0).back m.0.missed m.0.ready k.agrees;
+        agrees = agrees_light k.agrees;
         holds = refl;
         in_hand = ap (λ z. (16 + r, slot.Nothing) ∷ z) k.in_hand;
         fits = k.fits;
@@ -170,7 +158,7 @@ module _ {S O R : Type 0} (content : S → Content) (op_in : O → AnyOp) (reply
       let l : List AnyEntry = log_of op_in reply_in core in let q : AnyRequest = request_in op_in p in
       let is : d ≡ (putting_back x l r q m.0, rest m.1) = f ∙ ap (λ z. (putting_back x l r q z.0, rest z.1)) e in
       subst (ThePass x core) (sym is) record {
-        agrees = light m.0 (held.Pass x l) (putting_back x l r q m.0).back m.0.missed m.0.ready h.agrees;
+        agrees = agrees_light h.agrees;
         holds = refl;
         in_hand = ap rest h.in_hand;
         fits = h.fits;
@@ -184,7 +172,7 @@ module _ {S O R : Type 0} (content : S → Content) (op_in : O → AnyOp) (reply
   answered_ok x r k k' q a m b d h fits log e f =
       let is : d ≡ (answering r x (log_of op_in reply_in k') m.0, rest m.1) = f ∙ λ i. (answering r x (sym log i) (e i).0, rest m.1) in
       subst (ThePass x k') (sym is) record {
-        agrees = light m.0 (held.Pass x (log_of op_in reply_in k')) m.0.back m.0.missed (answering r x (log_of op_in reply_in k') m.0).ready h.agrees;
+        agrees = agrees_light h.agrees;
         holds = refl;
         in_hand = ap rest h.in_hand;
         fits = fits;

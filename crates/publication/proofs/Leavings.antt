@@ -1,5 +1,5 @@
 -- What stands in the slots of a desk when all clients but one have ended, and that one holds nothing.
-use Rattle.std.proofs.Common.{◌≡◌, ◌≢◌, ◌⊎◌, ℕ, zero, suc, ◌+◌, ◌<◌, ◌≤◌, Bool, true, false, List, [], ◌∷◌, map, length, get_or, Option, Some, None, Contains, refl, sym, ap, subst, ◌∙◌, ⊎_elim, arith}
+use Rattle.std.proofs.Common.{◌≡◌, ◌≢◌, ◌⊎◌, ℕ, zero, suc, ◌+◌, ◌<◌, ◌≤◌, true, List, [], ◌∷◌, map, length, get_or, Option, Some, None, Contains, refl, sym, ap, subst, ◌∙◌, ⊎_elim, arith}
 use mathlib.Core.Logic.{dite}
 use mathlib.Core.Option.{some}
 use native.Mathlib.Decide.{ℕ_discrete}
@@ -30,20 +30,17 @@ use Rattle.desk_rule.specs.declared.board.View.{View}
 use Rattle.desk_rule.specs.Views.{seen_of, own_request, journal}
 use Rattle.desk_rule.specs.Rule.{OwnOk, HeldOk, Kept}
 use Rattle.desk_rule.proofs.Seats.{mine}
-use Rattle.publication.specs.Handles.{DeskSeen, Known}
+use Rattle.publication.specs.Handles.{DeskSeen, Known, log_of}
 use Rattle.publication.specs.Calls.{Closed}
 use Rattle.publication.specs.Closing.{IsJournalOf, AreLogs, HaveEnded, HasLearntEnds}
 
 module _ {S O R : Type 0} (op_in : O → AnyOp) (reply_in : R → AnyReply) where
-  abbrev log_in : Core S O R → List AnyEntry
-  log_in k = map (entry_in op_in reply_in) k.log.items
-
   -- the slots are those of a sound world, in which the last client has the view v
   pub record Leavings (kinds : List Kind) (clients quota : ℕ) (v : View) (xs : List (Slot S O R)) : Type 0 where
     pub world : World
     pub sound : Sound kinds quota world
     pub number_low : v.number < clients
-    pub cores : (x : ℕ) → x < length kinds → (k : Core S O R) × (get_elem? xs x ≡ some (slot.Core k)) × (log_in k ≡ world.log x)
+    pub cores : (x : ℕ) → x < length kinds → (k : Core S O R) × (get_elem? xs x ≡ some (slot.Core k)) × (log_of op_in reply_in k ≡ world.log x)
     pub seen : (x : ℕ) → StartsWith (world.log x) (seen_of v x)
     pub journals : (c : ℕ) → c < clients → c ≢ v.number → (j : Journal O R) × (get_elem? xs (48 + c) ≡ some (slot.Journal j)) × (map (event_in op_in reply_in) j.events.items ≡ journal_in world c)
     pub own : journal v ≡ journal_in world v.number
@@ -63,7 +60,7 @@ none_held None never = refl
 none_held (Some c) never = absurd (never c refl)
 
 module _ {S O R : Type 0} (content : S → Content) (op_in : O → AnyOp) (reply_in : R → AnyReply) (kinds : List Kind) (clients quota : ℕ) where
-  pub leavings : (id : ℕ) (v : View) (words : List ℕ) (xs : List (Slot S O R)) → v.client ≡ true → v.held ≡ held.Free → ((c : ℕ) → c < clients → c ≢ v.number → Contains v.retired c)
+  leavings : (id : ℕ) (v : View) (words : List ℕ) (xs : List (Slot S O R)) → v.client ≡ true → v.held ≡ held.Free → ((c : ℕ) → c < clients → c ≢ v.number → Contains v.retired c)
       → Final (Seen (Kept content op_in reply_in kinds clients quota) id v) words xs → Leavings op_in reply_in kinds clients quota v xs
   leavings id v words xs cl free all f =
       let s = f.0 in let k = f.1.0 in let at = f.1.1 in let home = f.4 in let w : World = k.world in let ok = mine content op_in reply_in kinds clients quota s k id v cl at in let few = k.few_clients in
@@ -98,7 +95,7 @@ module _ {S O R : Type 0} (op_in : O → AnyOp) (reply_in : R → AnyReply) (d :
   -- the record's logs and journals are those of the world
   same_logs : AreLogs (length d.kinds) xs r.logs → (x : ℕ) → map (entry_in op_in reply_in) (get_or r.logs x []) ≡ left.world.log x
   same_logs logs x = ⊎_elim
-      (λ (l : x < length d.kinds). let b = left.cores x l in let a = logs.1 x l in let same = same_core b.0 a.0 (sym b.1 ∙ a.1) in ap (map (entry_in op_in reply_in)) (sym a.2) ∙ (ap (log_in op_in reply_in) (sym same) ∙ b.2))
+      (λ (l : x < length d.kinds). let b = left.cores x l in let a = logs.1 x l in let same = same_core b.0 a.0 (sym b.1 ∙ a.1) in ap (map (entry_in op_in reply_in)) (sym a.2) ∙ (ap (log_of op_in reply_in) (sym same) ∙ b.2))
       (λ (far : length d.kinds ≤ x). let count = logs.0 in ap (map (entry_in op_in reply_in)) (nothing_past r.logs x (omega arith)) ∙ sym (no_log_beyond d.kinds quota left.world left.sound x far))
       (cases_lt x (length d.kinds))
 

@@ -1,16 +1,14 @@
 -- A new desk, and a client that has made no call.
-use Rattle.std.proofs.Common.{◌≡◌, ℕ, zero, suc, ◌+◌, ◌<◌, ◌≤◌, Bool, false, List, [], ◌∷◌, ◌++◌, length, map, get_or, replicate, refl, sym, ap, subst, ◌∙◌, arith}
+use Rattle.std.proofs.Common.{◌≡◌, ℕ, zero, suc, ◌+◌, ◌<◌, false, List, [], ◌∷◌, length, map, get_or, replicate, refl, sym, ap, subst, ◌∙◌, arith}
 use mathlib.Core.Option.{some, some-injective, some-ne-none}
 use lib.ListN.{get_elem?, length-map}
 use Rattle.atomic_table.specs.Table.{Me, opening}
 use Rattle.model.specs.declared.Kind.{Kind}
-use Rattle.model.specs.declared.Kind.TheVariants.{Queue}
 use Rattle.model.specs.declared.AnyOp.{AnyOp}
 use Rattle.model.specs.declared.AnyReply.{AnyReply}
 use Rattle.model.specs.Objects.{Content, empty, kind_with}
-use Rattle.world.specs.World.{AnyEntry, kind_at, entries_of}
+use Rattle.world.specs.World.{kind_at, entries_of, IsLegal}
 use Rattle.world.specs.Images.{entry_in, event_in}
-use Rattle.desk_rule.specs.declared.board.Core.{Core}
 use Rattle.desk_rule.specs.declared.board.Journal.{Journal}
 use Rattle.desk_rule.specs.declared.board.Plan.{Plan}
 use Rattle.desk_rule.specs.declared.board.Slot.{Slot}
@@ -19,7 +17,7 @@ use Rattle.desk_rule.specs.declared.board.Own.TheVariants as own
 use Rattle.desk_rule.specs.declared.board.View.{View}
 use Rattle.desk_rule.specs.Views.{newcomer, founder, founder_of, calling}
 use Rattle.desk_rule.specs.Rule.{Kept}
-use Rattle.desk_rule.proofs.Beginnings.{nils, opens, zero_words}
+use Rattle.desk_rule.proofs.Beginnings.{get_or-replicate_same, opens}
 use Rattle.publication.specs.Handles.{IsClient, at_hand}
 use Rattle.publication.proofs.Growing.{there}
 use Rattle.publication.specs.Making.{IsLaid, AreEmpty, kinds_with, HasRoom, IsSmall}
@@ -39,7 +37,7 @@ module _ {S O R : Type 0} (content : S → Content) (op_in : O → AnyOp) (reply
   pub opens_on : (plan : Plan) (objects : List S) (slots : List (Slot S O R)) → IsSmall plan → plan.kinds.items ≡ kinds_with content objects → AreEmpty content objects → IsLaid objects slots
       → Kept content op_in reply_in plan.kinds.items plan.clients plan.quota (opening (replicate 81 0) slots (founder plan.kinds.items))
   opens_on plan objects slots small are clean laid = let count : length plan.kinds.items ≡ length objects = ap length are ∙ length-map objects (λ o. kind_with (content o)) in let few = small.0 in
-      opens content op_in reply_in plan.kinds.items plan.clients plan.quota (replicate 81 0) slots small.0 small.1 small.2 refl zero_words laid.long
+      opens content op_in reply_in plan.kinds.items plan.clients plan.quota (replicate 81 0) slots small.0 small.1 small.2 refl (get_or-replicate_same 0 81) laid.long
       (λ x l. let o = there objects x (omega arith) in let k = laid.cores x o.0 o.1 in
       let kind : kind_at plan.kinds.items x ≡ kind_with (content o.0) = ap (λ z. kind_at z x) are ∙ kind_there (λ o. kind_with (content o)) objects x o.0 o.1 in
       let is : content o.0 ≡ empty (kind_with (content o.0)) = holds_there (λ o. content o ≡ empty (kind_with (content o))) objects x o.0 o.1 clean in
@@ -64,7 +62,8 @@ module _ {S O R : Type 0} (op_in : O → AnyOp) (reply_in : R → AnyReply) wher
       journal_is = ap (map (event_in op_in reply_in)) room.0;
       room = room.1;
       wide = refl;
-      accounts = λ x. ([], ap (entries_of number) (nils 16 x), refl);
+      legal = λ x. subst (IsLegal (kind_at kinds x)) (sym (get_or-replicate_same [] 16 x)) (empty (kind_at kinds x), refl);
+      accounts = λ x. ([], ap (entries_of number) (get_or-replicate_same [] 16 x), refl);
     };
     free = refl;
     in_hand = refl;

@@ -1,5 +1,5 @@
 -- What an exchange of a slot in hand gives.
-use Rattle.std.proofs.Common.{◌≡◌, ℕ, List, [], ◌∷◌, refl, sym, ap, ◌∙◌}
+use Rattle.std.proofs.Common.{◌≡◌, ℕ, List, [], ◌∷◌, sym, ap, ◌∙◌}
 use Rattle.atomic_table.specs.Table.{rest}
 use Rattle.world.specs.declared.Request.{Request}
 use Rattle.world.specs.declared.Answer.{Answer}
@@ -19,23 +19,11 @@ module _ {S O R : Type 0} where
   pub can_exchange : (i : ℕ) (x : Slot S O R) (cs tl : List (ℕ × Slot S O R)) → cs ≡ (i, x) ∷ tl → (old : Slot S O R) × (cs ≡ (i, old) ∷ rest cs)
   can_exchange i x cs tl e = (x, e ∙ ap (λ z. (i, x) ∷ rest z) (sym e))
 
-  abbrev core_or : Core S O R → Slot S O R → Core S O R
-  core_or d (slot.Core k) = k
-  core_or d s = d
-
   pub same_core : (k k' : Core S O R) → slot.Core k ≡ slot.Core k' → k ≡ k'
-  same_core k k' e = ap (core_or k) e
-
-  abbrev request_or : Request O → Slot S O R → Request O
-  request_or d (slot.Request q) = q
-  request_or d s = d
+  same_core k k' e = cc
 
   pub same_request : (q p : Request O) → ◌≡◌ {A = Slot S O R} (slot.Request q) (slot.Request p) → q ≡ p
-  same_request q p e = ap (request_or q) e
-
-  abbrev answer_or : Answer R → Slot S O R → Answer R
-  answer_or d (slot.Answer a) = a
-  answer_or d s = d
+  same_request q p e = cc
 
   pub same_answer : (a b : Answer R) → ◌≡◌ {A = Slot S O R} (slot.Answer a) (slot.Answer b) → a ≡ b
-  same_answer a b e = ap (answer_or a) e
+  same_answer a b e = cc

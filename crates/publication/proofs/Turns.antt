@@ -1,5 +1,5 @@
 -- A client over a whole post, and over a whole poll: m before, and one seat after each step.
-use Rattle.std.proofs.Common.{◌≡◌, ◌≢◌, ◌⊎◌, ⊎_elim, inl, inr, ℕ, ◌+◌, ◌<◌, ◌≤◌, Bool, true, false, List, [], ◌∷◌, ◌++◌, map, length, length-append, get_or, set, All, Option, Some, None, vec_len, vec_capacity, arith, refl, sym, ap, subst, ◌∙◌, get_or-set_same, length-set, append-nil, append_assoc}
+use Rattle.std.proofs.Common.{◌≡◌, ⊎_elim, inl, ℕ, ◌+◌, ◌<◌, Bool, true, false, List, [], ◌∷◌, ◌++◌, map, length, length-append, All, Option, Some, None, vec_len, vec_capacity, arith, refl, sym, ap, subst, ◌∙◌, get_or-set_same, length-set, append-nil}
 use mathlib.Core.List.{map-append}
 use lib.ListN.{length-map}
 use Rattle.atomic_table.specs.Table.{rest, Me}
@@ -17,11 +17,10 @@ use Rattle.desk_rule.specs.declared.board.Slot.{Slot}
 use Rattle.desk_rule.specs.declared.board.Slot.TheVariants as slot
 use Rattle.desk_rule.specs.declared.board.Own.{Own}
 use Rattle.desk_rule.specs.declared.board.Own.TheVariants as own
-use Rattle.desk_rule.specs.declared.board.Held.TheVariants as held
 use Rattle.desk_rule.specs.declared.board.View.{View}
-use Rattle.desk_rule.specs.Views.{seen_of, own_request, journal, is_waiting, calling, taking, done_with, seeing, MayHold, IsAccount, IsAtRest}
+use Rattle.desk_rule.specs.Views.{seen_of, own_request, is_waiting, calling, taking, done_with, MayHold, IsAccount, IsAtRest}
 use Rattle.desk_rule.proofs.Seeing.{seen_all}
-use Rattle.publication.specs.Handles.{Known, Agrees, IsClient, at_hand}
+use Rattle.publication.specs.Handles.{Agrees, IsClient, at_hand}
 use Rattle.publication.specs.Calls.{Posted, Polled}
 
 pub own_idle : (o : Own) → IsAtRest o → is_waiting o ≡ false → o ≡ own.Idle
@@ -38,13 +37,17 @@ own_waiting (own.Drawn q) a e = absurd a
 own_waiting (own.Waiting q) a e = (q, refl, a)
 own_waiting (own.Taken q b) a e = absurd a
 
+-- the same client, where it is known whether a call is outstanding
+pub outstanding_is : {S O R : Type 0} {op_in : O → AnyOp} {reply_in : R → AnyReply} {number calls quota : ℕ} {a b : Bool} {j : Journal O R} {m : Me (Slot S O R) View} → a ≡ b → IsClient op_in reply_in number calls quota a j m → IsClient op_in reply_in number calls quota b j m
+outstanding_is {op_in = op_in} {reply_in = reply_in} {number = number} {calls = calls} {quota = quota} {j = j} {m = m} e k = subst (λ z. IsClient op_in reply_in number calls quota z j m) e k
+
 -- the journal with one call more
-pub journal_asks : (ds : List AnyDone) (q : AnyRequest) → journal_of ds (Some q) ≡ journal_of ds None ++ invoked q ∷ []
+journal_asks : (ds : List AnyDone) (q : AnyRequest) → journal_of ds (Some q) ≡ journal_of ds None ++ invoked q ∷ []
 journal_asks [] q = refl
 journal_asks (d ∷ ds) q = ap (λ z. invoked d.request ∷ Returned d.returned d.answer ∷ z) (journal_asks ds q)
 
 -- the journal with one return more
-pub journal_ends : (ds : List AnyDone) (q : AnyRequest) (a : AnyAnswer) (t : ℕ) → journal_of (ds ++ record { request = q; answer = a; returned = t } ∷ []) None ≡ journal_of ds (Some q) ++ Returned t a ∷ []
+journal_ends : (ds : List AnyDone) (q : AnyRequest) (a : AnyAnswer) (t : ℕ) → journal_of (ds ++ record { request = q; answer = a; returned = t } ∷ []) None ≡ journal_of ds (Some q) ++ Returned t a ∷ []
 journal_ends [] q a t = refl
 journal_ends (d ∷ ds) q a t = ap (λ z. invoked d.request ∷ Returned d.returned d.answer ∷ z) (journal_ends ds q a t)
 
@@ -71,7 +74,7 @@ module _ {O R : Type 0} (op_in : O → AnyOp) (reply_in : R → AnyReply) where
       let calls' : calls_made v.done (own_request v.own) ≡ calls_made v.done None = ap (λ o. calls_made v.done (own_request o)) is in omega arith
 
   -- a journal after one event more
-  pub journal_grows : (j j' : Journal O R) (e : JournalEvent O R) (l : List AnyEvent) → map (event_in op_in reply_in) j.events.items ≡ l → j'.events.items ≡ j.events.items ++ e ∷ [] → map (event_in op_in reply_in) j'.events.items ≡ l ++ event_in op_in reply_in e ∷ []
+  journal_grows : (j j' : Journal O R) (e : JournalEvent O R) (l : List AnyEvent) → map (event_in op_in reply_in) j.events.items ≡ l → j'.events.items ≡ j.events.items ++ e ∷ [] → map (event_in op_in reply_in) j'.events.items ≡ l ++ event_in op_in reply_in e ∷ []
   journal_grows j j' e l is more = ap (map (event_in op_in reply_in)) more ∙ (map-append (event_in op_in reply_in) j.events.items (e ∷ []) ∙ ap (λ z. z ++ event_in op_in reply_in e ∷ []) is)
 
 module _ {S O R : Type 0} (op_in : O → AnyOp) (reply_in : R → AnyReply) where
@@ -104,6 +107,7 @@ module _ {S O R : Type 0} (op_in : O → AnyOp) (reply_in : R → AnyReply) wher
           journal_is = journal_grows op_in reply_in j j' (Invoked q.ticket q.object q.op) (journal_of m.0.done None) (h.journal_is ∙ ap (λ z. journal_of m.0.done (own_request z)) is) more ∙ sym (journal_asks m.0.done w);
           room = omega arith;
           wide = h.wide;
+          legal = h.legal;
           accounts = λ x. let a = h.accounts x in let f : a.0 ≡ [] = subst (λ o. MayHold x m.0.number o a.0) is a.2 in (a.0, a.1, inl f);
         };
         free = k.free;
@@ -130,11 +134,11 @@ module _ {S O R : Type 0} (op_in : O → AnyOp) (reply_in : R → AnyReply) wher
       ∙ ap (λ z. (done_with q w t (taking q w l m.0), (16 + number, slot.Nothing) ∷ z)) (k.in_hand ∙ ap (at_hand number) is)))
 
   -- the client after a poll that took the answer
-  pub poll_ok : (number calls quota t : ℕ) (j j' : Journal O R) (q : AnyRequest) (e : Answer R) (l : List AnyEntry) (m d : Me (Slot S O R) View) → IsClient op_in reply_in number calls quota true j m → m.0.own ≡ own.Waiting q → q.object < 16
+  pub poll_ok : (number calls quota t : ℕ) (j j' : Journal O R) (q : AnyRequest) (e : Answer R) (l : List AnyEntry) (m d : Me (Slot S O R) View) → IsClient op_in reply_in number calls quota true j m → m.0.own ≡ own.Waiting q → q.object < 16 → IsLegal (kind_at m.0.kinds q.object) l
       → entries_of m.0.number l ≡ served q.object m.0.number m.0.done ++ logged m.0.number q (answer_in reply_in e)
       → d ≡ (done_with q (answer_in reply_in e) t (taking q (answer_in reply_in e) l m.0), (16 + number, slot.Nothing) ∷ (48 + number, slot.Nothing) ∷ [])
       → j'.events.items ≡ j.events.items ++ Returned t e ∷ [] → vec_capacity j'.events ≡ vec_capacity j.events → IsClient op_in reply_in number calls quota false j' d
-  poll_ok number calls quota t j j' q e l m d k is low counted f more same = let h = k.agrees in let n = h.calls_is in let w : AnyAnswer = answer_in reply_in e in let room = h.room in let wide = h.wide in
+  poll_ok number calls quota t j j' q e l m d k is low legal counted f more same = let h = k.agrees in let n = h.calls_is in let w : AnyAnswer = answer_in reply_in e in let room = h.room in let wide = h.wide in
       let ds : List AnyDone = m.0.done ++ record { request = q; answer = w; returned = t } ∷ [] in let long : length ds ≡ length m.0.done + 1 = length-append m.0.done (record { request = q; answer = w; returned = t } ∷ []) in
       let count : calls_made m.0.done (own_request m.0.own) ≡ length m.0.done + 1 = ap (λ z. calls_made m.0.done (own_request z)) is in
       subst (IsClient op_in reply_in number calls quota false j') (sym f) record {
@@ -151,6 +155,7 @@ module _ {S O R : Type 0} (op_in : O → AnyOp) (reply_in : R → AnyReply) wher
           journal_is = journal_grows op_in reply_in j j' (Returned t e) (journal_of m.0.done (Some q)) (h.journal_is ∙ ap (λ z. journal_of m.0.done (own_request z)) is) more ∙ sym (journal_ends m.0.done q w t);
           room = omega arith;
           wide = length-set m.0.seen q.object l ∙ wide;
+          legal = seen_all (λ x z. IsLegal (kind_at m.0.kinds x) z) m.0.seen q.object l (omega arith) legal (λ x _. h.legal x);
           accounts = seen_all (λ x z. IsAccount x (done_with q w t (taking q w l m.0)) z) m.0.seen q.object l (omega arith)
               ([], counted ∙ (ap (λ z. served q.object m.0.number m.0.done ++ z) (sym (logged_here q.object m.0.number q w refl)) ∙ (sym (served_more q.object m.0.number t m.0.done q w) ∙ sym (append-nil (served q.object m.0.number ds)))), refl)
               (λ x other. let a = h.accounts x in let nothing : logged_on x m.0.number q w ≡ [] = logged_else x m.0.number q w (λ g. other (sym g)) in
@@ -174,6 +179,7 @@ module _ {S O R : Type 0} (op_in : O → AnyOp) (reply_in : R → AnyReply) wher
         ticket = t;
         waited = waits;
         knows = refl;
+        seen = get_or-set_same m.0.seen q.object l [] (omega arith);
         legal = legal;
         begins = begins;
         counted = counted;

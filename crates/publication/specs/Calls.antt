@@ -1,5 +1,5 @@
 -- What the desk's calls say of clients and of what they hold.
-use Rattle.std.specs.Prelude.{◌≡◌, ◌≢◌, ◌⊎◌, ℕ, ◌+◌, ◌<◌, ◌≤◌, Bool, true, false, List, [], ◌∷◌, ◌++◌, length, map, All, Contains, ⊤, Option, Some, None, IsSome}
+use Rattle.std.specs.Prelude.{◌≡◌, ◌≢◌, ◌⊎◌, ℕ, ◌+◌, ◌<◌, ◌≤◌, true, false, List, [], ◌∷◌, ◌++◌, length, map, All, Contains, ⊤, IsSome}
 use Rattle.model.specs.declared.Kind.{Kind}
 use Rattle.model.specs.declared.AnyOp.{AnyOp}
 use Rattle.model.specs.declared.AnyReply.{AnyReply}
@@ -8,7 +8,7 @@ use Rattle.world.specs.declared.JournalEvent.TheVariants.{Invoked, Returned}
 use Rattle.world.specs.World.{AnyEntry, AnyRequest, AnyAnswer, kind_at, logged, entries_of, served, calls_made, Replays, IsLegal, StartsWith}
 use Rattle.desk_rule.specs.declared.board.Own.TheVariants as own
 use Rattle.desk_rule.specs.declared.board.View.{View}
-use Rattle.desk_rule.specs.Views.{seen_of, own_request, journal, is_waiting, missing, noting, holding, handling, putting_back, answering, learnt, calling, taking, done_with, seeing}
+use Rattle.desk_rule.specs.Views.{seen_of, own_request, journal, is_waiting, missing, noting, holding, handling, putting_back, answering, calling, taking, done_with, seeing}
 use Rattle.world.specs.Images.{entry_in, event_in}
 use Rattle.world.specs.Records.{IsSoundRecord}
 use Rattle.recorder.specs.Records.{Recorded, journal_at, log_at}
@@ -52,6 +52,7 @@ pub record Polled (v : View) (a : AnyAnswer) (w : View) : Type 0 where
   pub ticket : ℕ
   pub waited : v.own ≡ own.Waiting request
   pub knows : w ≡ done_with request a ticket (taking request a log v)
+  pub seen : seen_of w request.object ≡ log
   pub legal : IsLegal (kind_at v.kinds request.object) log
   pub begins : StartsWith log (seen_of v request.object)
   pub counted : entries_of v.number log ≡ served request.object v.number v.done ++ logged v.number request a
@@ -62,7 +63,7 @@ pub record Polled (v : View) (a : AnyAnswer) (w : View) : Type 0 where
 abbrev pub NotPolled : View → View → Type 0
 NotPolled v w = ((is_waiting v.own ≡ false) × (w ≡ v)) ⊎ ((w ≡ missing (16 + v.number) v) × (v.ready ≡ false))
 
--- The object x is held. Its log is legal, leaves what the object contains, and begins with all that was seen of it.
+-- The object x is held. Its log is legal, and begins with all that was seen of it.
 pub record Opened (c : Known) (x : ℕ) (p : Holding) : Type 0 where
   pub object : p.object ≡ x
   pub knows : p.knows ≡ holding x p.log c.knows
@@ -116,6 +117,8 @@ pub record Met (x : ℕ) (one other one' other' : Known) : Type 0 where
   pub log : List AnyEntry
   pub first : one'.knows ≡ seeing x log (record one.knows { heard = one'.knows.heard })
   pub second : other'.knows ≡ seeing x log (record other.knows { heard = other'.knows.heard })
+  pub seen_first : seen_of one'.knows x ≡ log
+  pub seen_second : seen_of other'.knows x ≡ log
   pub legal : IsLegal (kind_at one.knows.kinds x) log
   pub begins_first : StartsWith log (seen_of one.knows x)
   pub begins_second : StartsWith log (seen_of other.knows x)

@@ -1,5 +1,5 @@
 -- What is left of a desk, and what its record takes of it.
-use Rattle.std.specs.Prelude.{◌≡◌, ◌≢◌, ℕ, ◌+◌, ◌<◌, ◌≤◌, Bool, false, List, [], length, slice_index_or, Contains}
+use Rattle.std.specs.Prelude.{◌≡◌, ◌≢◌, ℕ, ◌+◌, ◌<◌, ◌≤◌, false, List, [], length, slice_index_or, Contains}
 use Rattle.std.specs.Slots.{slots_items, slots_filled, slots_len}
 use Rattle.std.specs.Slots.Ownership.{Filled}
 use Rattle.atomic_table.specs.declared.owned.Closed.{Closed}
@@ -11,7 +11,7 @@ use Rattle.desk_rule.specs.declared.board.Core.{Core}
 use Rattle.desk_rule.specs.declared.board.Journal.{Journal}
 use Rattle.desk_rule.specs.declared.board.Slot.{Slot}
 use Rattle.desk_rule.specs.declared.board.Slot.TheVariants as slot
-use Rattle.publication.specs.Handles.{DeskSeen, Known}
+use Rattle.publication.specs.Handles.{Known}
 
 -- the values of all slots
 abbrev pub values_of : {X A : Type 0} → Closed X A → List X

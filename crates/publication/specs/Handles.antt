@@ -1,5 +1,5 @@
 -- What contracts see of a desk, of a client, and of a client that holds an object.
-use Rattle.std.specs.Prelude.{◌≡◌, ℕ, ◌+◌, ◌<◌, ◌≤◌, Bool, true, false, List, [], ◌∷◌, ◌++◌, map, length, vec_capacity}
+use Rattle.std.specs.Prelude.{◌≡◌, ℕ, ◌+◌, ◌<◌, ◌≤◌, Bool, true, false, List, [], ◌∷◌, map, length, vec_capacity}
 use Rattle.std.specs.declared.vec.Vec.{Vec}
 use mathlib.Core.Option.{some}
 use lib.ListN.{get_elem?}
@@ -10,7 +10,7 @@ use Rattle.model.specs.declared.AnyOp.{AnyOp}
 use Rattle.model.specs.declared.AnyReply.{AnyReply}
 use Rattle.model.specs.Objects.{Content, kind_of}
 use Rattle.world.specs.declared.Request.{Request}
-use Rattle.world.specs.World.{AnyEntry, AnyRequest, kind_at, calls_made}
+use Rattle.world.specs.World.{AnyEntry, AnyRequest, kind_at, calls_made, IsLegal}
 use Rattle.world.specs.Images.{request_in, entry_in, event_in}
 use Rattle.desk_rule.specs.declared.board.Core.{Core}
 use Rattle.desk_rule.specs.declared.board.Journal.{Journal}
@@ -80,6 +80,7 @@ module _ {O R : Type 0} (op_in : O → AnyOp) (reply_in : R → AnyReply) where
     pub journal_is : map (event_in op_in reply_in) j.events.items ≡ journal v
     pub room : quota + quota ≤ vec_capacity j.events
     pub wide : length v.seen ≡ 16
+    pub legal : (x : ℕ) → IsLegal (kind_at v.kinds x) (seen_of v x)
     pub accounts : (x : ℕ) → IsAccount x v (seen_of v x)
 
 module _ {S O R : Type 0} where

@@ -1,6 +1,7 @@
 //! A client, and what it becomes while it holds an object.
 
 ghost use Rattle.std.specs.Prelude.{◌≡◌, ◌<◌, ℕ};
+ghost use Rattle.world.specs.World.{kind_at, IsLegal};
 ghost use Rattle.desk_rule.specs.Views.{is_waiting, seen_of, IsAccount};
 
 use atomic_table::Seat;
@@ -87,7 +88,9 @@ impl<S: SeqObject> Client<S> {
     /// Whether a call was posted whose answer was not taken.
     pub fn outstanding(&self) -> bool
         ensures outstanding { result ≡ is_waiting self.now.knows.own }
-        // At every moment, what the client has seen of an object holds of its own calls just those that are over and
+        // At every moment, what the client has seen of an object is a legal log.
+        ensures legal { (x : ℕ) → IsLegal (kind_at self.now.knows.kinds x) (seen_of self.now.knows x) }
+        // And it holds of its own calls just those that are over and
         // were not refused, each once and in order, and the outstanding one at most once.
         ensures accounts { (x : ℕ) → IsAccount x self.now.knows (seen_of self.now.knows x) }
     {

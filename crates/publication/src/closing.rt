@@ -8,7 +8,7 @@ ghost use Rattle.publication.specs.Calls.{Closed, StillThere};
 ghost use Rattle.publication.specs.Closing.{values_of, IsTakenTo, HasCore, HasJournal, IsLogOf, IsJournalOf, AreLogs, AreJournals, IsSameBelow, HaveEnded, HasLearntEnds};
 
 use crate::client::{Client, Member};
-use crate::desk::Desk;
+use crate::desk::{Desk, ENDS};
 use crate::making::SLOTS;
 use crate::plays::{Ends, SeesEnd};
 use desk_rule::{Core, Journal, Slot};
@@ -39,7 +39,7 @@ impl<S: SeqObject> Desk<S> {
             ..
         } = member;
         let shared = &self.table.shared;
-        let slot = 48 + number as usize;
+        let slot = ENDS + number as usize;
         seat.turn();
         let _ = shared.exchange(&mut seat, slot, Slot::Journal(journal));
         shared.store::<Ends>(&mut seat, slot, 1);
@@ -71,7 +71,7 @@ fn sees_end<S: SeqObject>(desk: &Desk<S>, last: &mut Client<S>, client: u32) -> 
     ensures seen { last.new.knows ≡ (if result then knowing_end client last.old.knows else missing (48 + client) last.old.knows) }
 {
     let shared = &desk.table.shared;
-    shared.load::<SeesEnd>(&mut last.member.seat, 48 + client as usize) == 1
+    shared.load::<SeesEnd>(&mut last.member.seat, ENDS + client as usize) == 1
 }
 
 // The least other client that has not ended.
@@ -143,7 +143,7 @@ fn take_journal<S: SeqObject>(
     ensures slots { IsTakenTo (49 + client) left.new × (values_of left.new ≡ values_of left.old) }
     ensures journal { IsJournalOf (values_of left.old) client result.items }
 {
-    match left.take(48 + client as usize) {
+    match left.take(ENDS + client as usize) {
         Slot::Journal(Journal { events }) => events,
         _ => unreachable!(),
     }
@@ -184,7 +184,7 @@ fn take_all_journals<S: SeqObject>(
     ensures own { slice_index_or (items_of journals.new.items) number [] ≡ own.items }
     ensures others { (c : ℕ) → c < clients → c ≢ number → IsJournalOf (values_of left.old) c (slice_index_or (items_of journals.new.items) c []) }
 {
-    let own_slot = 48 + number as usize;
+    let own_slot = ENDS + number as usize;
     take_journals(left, 0, number, journals);
     pass_over(left, own_slot, own_slot + 1);
     journals.push_reserved(own);
@@ -215,9 +215,9 @@ fn gather<S: SeqObject>(desk: Desk<S>, last: Client<S>) -> Record<S>
     let objects = kinds.len();
     let mut left = table.close_with(seat);
     take_logs(&mut left, objects, &mut logs);
-    pass_over(&mut left, objects, 48);
+    pass_over(&mut left, objects, ENDS);
     take_all_journals(&mut left, clients, number, journal.events, &mut journals);
-    pass_over(&mut left, 48 + clients as usize, SLOTS);
+    pass_over(&mut left, ENDS + clients as usize, SLOTS);
     left.free();
     Record::new(journals, logs)
 }

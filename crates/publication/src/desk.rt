@@ -19,10 +19,22 @@ use world::Request;
 
 pub(crate) type Board<S, O, R> = Table<Slot<S, O, R>, View, Plan, DeskRule, Global>;
 
-/// The word of the clock. Word x is the lock of object x, 16 + c the row of client c, and 48 + c its end.
+/// Word x is the lock of object x, and slot x its core. This is the row of client 0, and the slot of its message.
+pub(crate) const ROWS: usize = 16;
+
+/// The end word of client 0, and the slot of its journal.
+pub(crate) const ENDS: usize = 48;
+
+/// The word of the clock.
 pub(crate) const CLOCK: usize = 80;
 
-/// A row that has an answer. Else it is 0 while empty, 1 + x with a request for x, and 17 + x once that was picked up.
+/// A row whose request for object 0 was posted. An empty row is 0.
+pub(crate) const POSTED: u64 = 1;
+
+/// A row whose request for object 0 was picked up.
+pub(crate) const PICKED: u64 = 17;
+
+/// A row that has an answer.
 pub(crate) const ANSWERED: u64 = 33;
 
 /// Objects that are served to clients.
@@ -55,18 +67,20 @@ pub enum Post {
     Outstanding,
     /// P2: its quota is used.
     Spent,
-    /// P3
+    /// P3: there is no such object.
     NoSuchObject,
     /// P4: the operation is of another kind than the object.
     OtherKind,
 }
 
+/// What a try to win an object came to.
 pub enum Win<S: SeqObject> {
     Won(Pass<S>),
     /// The lock word was held.
     Held(Client<S>),
 }
 
+/// What a try to pick up a request came to.
 pub enum Picked<S: SeqObject> {
     Got(Hand<S>),
     /// The row had no request for the object.
@@ -76,12 +90,14 @@ pub enum Picked<S: SeqObject> {
 impl<S: SeqObject> Desk<S> {
     ghost use Rattle.publication.specs.Calls.{IsNotOfKind, Posted, PostRefused, Polled, NotPolled, Opened, desk_after_win, IfWon, IfHeld};
 
+    /// How many objects there are.
     pub fn objects(&self) -> u32
         ensures { result ≡ length self.now.kinds }
     {
         self.kinds.len() as u32
     }
 
+    /// How many clients there are.
     pub fn clients(&self) -> u32
         ensures clients { result ≡ self.now.clients }
         ensures few { result < 33 }
@@ -121,7 +137,7 @@ impl<S: SeqObject> Desk<S> {
         if let Err(fault) = self.has_kind(object, S::kind_of(&op)) {
             return Err(fault);
         }
-        let slot = 16 + member.number as usize;
+        let slot = ROWS + member.number as usize;
         let shared = &self.table.shared;
         let seat = &mut member.seat;
         let asked = Request {
@@ -133,7 +149,7 @@ impl<S: SeqObject> Desk<S> {
         let ticket = shared.fetch_add::<Draws>(seat, CLOCK, 1);
         let asked = Request { object, ticket, op };
         let _ = shared.exchange(seat, slot, Slot::Request(asked));
-        shared.store::<Posts>(seat, slot, 1 + object as u64);
+        shared.store::<Posts>(seat, slot, POSTED + object as u64);
         let invoked = JournalEvent::Invoked { ticket, object, op };
         member.journal.events.push_reserved(invoked);
         member.outstanding = true;
@@ -152,7 +168,7 @@ impl<S: SeqObject> Desk<S> {
         if !member.outstanding {
             return None;
         }
-        let slot = 16 + member.number as usize;
+        let slot = ROWS + member.number as usize;
         let shared = &self.table.shared;
         let seat = &mut member.seat;
         if shared.compare_exchange::<Takes>(seat, slot, ANSWERED, 0) != ANSWERED {

@@ -7,7 +7,7 @@ ghost use Rattle.publication.specs.Handles.{AllBegun, IsRoom, begun};
 ghost use Rattle.publication.specs.Making.{AreCores, IsLaid, AreEmpty, kinds_with, HasRoom, IsSmall};
 
 use crate::client::{Client, Member, Place};
-use crate::desk::{Board, Desk};
+use crate::desk::{Board, Desk, ROWS};
 use crate::plays::{Begins, Makes};
 use atomic_table::Table;
 use desk_rule::{Core, Journal, Plan, Slot};
@@ -118,7 +118,7 @@ fn make<S: SeqObject>(
 {
     let shared = &table.shared;
     let mut seat = shared.split_seat::<Makes>(founder);
-    shared.load::<Begins>(&mut seat, 16 + number as usize);
+    shared.load::<Begins>(&mut seat, ROWS + number as usize);
     let member = Member {
         seat,
         number,
@@ -167,7 +167,6 @@ impl<S: SeqObject> Desk<S> {
         ensures desk { IfOk result (λ r. (r.0.kinds ≡ map (λ o. kind_with (S.content o)) objects.items) × (r.0.clients ≡ clients) × (r.0.id.quota ≡ quota)) }
         ensures clients { IfOk result (λ r. (length r.1.items ≡ clients) × AllBegun r.0.id r.0.kinds r.1.items) }
     {
-        let kinds = kinds_of(alloc, &objects)?;
         let plan = Plan {
             kinds: kinds_of(alloc, &objects)?,
             clients,
@@ -179,6 +178,7 @@ impl<S: SeqObject> Desk<S> {
         let logs = Vec::with_capacity(alloc, objects.len())?;
         let (table, founder) = open(alloc, objects, &plan)?;
         make_all(&table, founder, room, &mut made, quota);
+        let Plan { kinds, .. } = plan;
         let desk = Desk {
             table,
             kinds,

@@ -8,7 +8,7 @@ ghost use Rattle.desk_rule.specs.Views.{learnt, seen_of};
 ghost use Rattle.publication.specs.Calls.{Got, NotGot, CanDo, kind_held, Answered, IsPutBack, desk_after_pick, passes_after_pick, IfGot, IfNot};
 
 use crate::client::{Client, Hand, Pass};
-use crate::desk::{ANSWERED, Desk, Picked};
+use crate::desk::{ANSWERED, Desk, PICKED, POSTED, Picked, ROWS};
 use crate::plays::{Answers, Picks, PutsBack, Releases};
 use desk_rule::{Core, Slot};
 use recorder::{Answer, LogEntry};
@@ -39,9 +39,9 @@ impl<S: SeqObject> Pass<S> {
             core,
         } = self;
         let shared = &desk.table.shared;
-        let slot = 16 + row as usize;
-        let posted = 1 + object as u64;
-        let picked = 17 + object as u64;
+        let slot = ROWS + row as usize;
+        let posted = POSTED + object as u64;
+        let picked = PICKED + object as u64;
         if shared.compare_exchange::<Picks>(&mut member.seat, slot, posted, picked) != posted {
             return Picked::Not(Pass {
                 member,
@@ -124,7 +124,7 @@ impl<S: SeqObject> Hand<S> {
         } = self;
         let answer = serve(&mut core, row, &request);
         let shared = &desk.table.shared;
-        let slot = 16 + row as usize;
+        let slot = ROWS + row as usize;
         let _ = shared.exchange(&mut member.seat, slot, Slot::Answer(answer));
         shared.store::<Answers>(&mut member.seat, slot, ANSWERED);
         (
@@ -153,9 +153,9 @@ impl<S: SeqObject> Hand<S> {
             request,
         } = self;
         let shared = &desk.table.shared;
-        let slot = 16 + row as usize;
+        let slot = ROWS + row as usize;
         let _ = shared.exchange(&mut member.seat, slot, Slot::Request(request));
-        shared.store::<PutsBack>(&mut member.seat, slot, 1 + object as u64);
+        shared.store::<PutsBack>(&mut member.seat, slot, POSTED + object as u64);
         Pass {
             member,
             object,

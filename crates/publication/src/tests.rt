@@ -1,1 +1,126 @@
-mod making;
+//! A new desk, the end of its clients, and its own.
+
+ghost use Rattle.std.specs.Prelude.{◌≡◌, ◌+◌, ◌<◌, false, length, IfOk};
+ghost use Rattle.desk_rule.specs.Views.{is_waiting};
+ghost use Rattle.publication.specs.Handles.{AllBegun, begun};
+ghost use Rattle.publication.specs.Making.{AreEmpty};
+
+use crate::{Client, Desk, Unretired};
+use seq_objects::{AnyObject, Kind, SeqObject};
+use std::alloc::{AllocError, Global};
+use std::process::Abort;
+use std::test::Fail;
+
+// A queue and a stack.
+fn objects(alloc: Global) -> Result<Vec<AnyObject>, AllocError>
+    ensures { IfOk result (λ v. (length v.items ≡ 2) × AreEmpty ⟦<AnyObject as SeqObject>⟧.content v.items) }
+{
+    let mut objects = Vec::with_capacity(alloc, 2)?;
+    objects.push_reserved(AnyObject::empty(alloc, Kind::Queue));
+    objects.push_reserved(AnyObject::empty(alloc, Kind::Stack));
+    Ok(objects)
+}
+
+// A desk with these and three clients.
+fn desk(alloc: Global) -> Result<(Desk<AnyObject>, Vec<Client<AnyObject>>), AllocError>
+    ensures desk { IfOk result (λ r. (length r.0.kinds ≡ 2) × (r.0.clients ≡ 3)) }
+    ensures clients { IfOk result (λ r. (length r.1.items ≡ 3) × AllBegun r.0.id r.0.kinds r.1.items) }
+{
+    Desk::new(alloc, objects(alloc)?, 3, 1)
+}
+
+// The last of the clients.
+fn next(desk: &Desk<AnyObject>, clients: &mut Vec<Client<AnyObject>>) -> Client<AnyObject>
+    requires { (0 < length clients.old.items) × AllBegun desk.now.id desk.now.kinds clients.old.items }
+    ensures client { (result.desk ≡ desk.now.id) × (is_waiting result.knows.own ≡ false) }
+    ensures others { (length clients.new.items + 1 ≡ length clients.old.items) × AllBegun desk.now.id desk.now.kinds clients.new.items }
+{
+    match clients.pop() {
+        Some(client) => client,
+        None => unreachable!(),
+    }
+}
+
+// Closes the desk too early.
+fn refused(
+    rt: &impl Abort,
+    desk: Desk<AnyObject>,
+    last: Client<AnyObject>,
+) -> (Desk<AnyObject>, Client<AnyObject>, u32)
+    requires { (last.desk ≡ desk.id) × (is_waiting last.knows.own ≡ false) }
+    ensures { (result.0 ≡ desk) × (result.1.desk ≡ last.desk) × (is_waiting result.1.knows.own ≡ false) }
+{
+    match desk.close(last) {
+        Ok(_) => panic!(rt; "the desk was closed"),
+        Err(Unretired { desk, last, client }) => (desk, last, client),
+    }
+}
+
+// Closes it, and finds that nothing was done.
+fn closed(rt: &impl Abort, desk: Desk<AnyObject>, last: Client<AnyObject>)
+    requires { (last.desk ≡ desk.id) × (is_waiting last.knows.own ≡ false) × (length desk.kinds ≡ 2) × (desk.clients ≡ 3) }
+{
+    match desk.close(last) {
+        Ok(record) => {
+            assert_eq!(rt; record.clients(), 3);
+            assert_eq!(rt; record.objects(), 2);
+            for client in 0..3 {
+                assert!(rt; record.journal(client).is_empty(), "{client}");
+            }
+            for object in 0..2 {
+                assert!(rt; record.log(object).is_empty(), "{object}");
+            }
+        }
+        Err(Unretired { client, .. }) => panic!(rt; "{client} is still there"),
+    }
+}
+
+#[test]
+fn desk_begins_with_its_clients(rt: HostRuntime) -> Result<(), Fail> {
+    let (desk, clients) = desk(rt.alloc())?;
+    assert_eq!(rt; desk.objects(), 2);
+    assert_eq!(rt; desk.clients(), 3);
+    assert_eq!(rt; clients.len(), 3);
+    for (number, client) in clients.iter().enumerate() {
+        assert_eq!(rt; client.number() as usize, number);
+        assert!(rt; !client.outstanding());
+    }
+    Ok(())
+}
+
+#[test]
+fn last_client_closes(rt: HostRuntime) -> Result<(), Fail> {
+    let (desk, mut clients) = desk(rt.alloc())?;
+    let last = next(&desk, &mut clients);
+    desk.retire(next(&desk, &mut clients));
+    desk.retire(next(&desk, &mut clients));
+    closed(&rt, desk, last);
+    Ok(())
+}
+
+#[test]
+fn error_names_the_least_client(rt: HostRuntime) -> Result<(), Fail> {
+    let (desk, mut clients) = desk(rt.alloc())?;
+    let third = next(&desk, &mut clients);
+    let second = next(&desk, &mut clients);
+    let first = next(&desk, &mut clients);
+    let (desk, second, client) = refused(&rt, desk, second);
+    assert_eq!(rt; client, 0);
+    desk.retire(first);
+    let (desk, second, client) = refused(&rt, desk, second);
+    assert_eq!(rt; client, 2);
+    desk.retire(third);
+    closed(&rt, desk, second);
+    Ok(())
+}
+
+#[test]
+fn clients_come_back_from_a_meeting(rt: HostRuntime) -> Result<(), Fail> {
+    let (desk, mut clients) = desk(rt.alloc())?;
+    let third = next(&desk, &mut clients);
+    let second = next(&desk, &mut clients);
+    let (second, third) = desk.meet(second, third, 1);
+    assert_eq!(rt; second.number(), 1);
+    assert_eq!(rt; third.number(), 2);
+    Ok(())
+}

@@ -90,7 +90,7 @@ from_list xs y (inr h) = h
 
 -- ---- the objects of the invocations
 
-later_named : (e : Event) (es : List Event) (x : ℕ) → IsNamed es x → IsNamed (e ∷ es) x
+pub later_named : (e : Event) (es : List Event) (x : ℕ) → IsNamed es x → IsNamed (e ∷ es) x
 later_named e es x n = record { event = n.event; op = n.op; stands = Contains-cons e es n.event n.stands; on_object = n.on_object; invokes = n.invokes }
 
 used_named : (e : Event) (es : List Event) (a : Action) (x k : ℕ) → e.action ≡ a → k < length (map (λ (u : Use). u.object) (cons_option (use_by e.object a) (uses es))) → get_or (map (λ (u : Use). u.object) (cons_option (use_by e.object a) (uses es))) k x ≡ x

@@ -3,8 +3,6 @@ use Rattle.std.specs.Prelude.{ℕ, Bool, true, false, List, [], ◌∷◌, ◌++
 use Rattle.std.specs.Fmt.{signed_decimal}
 use Rattle.edn.specs.Faults.{text_of_kind}
 use Rattle.history.specs.Faults.{number_of}
-use Rattle.history.specs.declared.fault.HistoryFaultKind.{HistoryFaultKind}
-use Rattle.history.specs.declared.fault.HistoryFaultKind.TheVariants as history
 use Rattle.certificate.specs.declared.fault.CertFaultKind.{CertFaultKind}
 use Rattle.certificate.specs.declared.fault.CertFaultKind.TheVariants as certificate
 use Rattle.checker.specs.declared.refusal.OrderFault.{OrderFault}

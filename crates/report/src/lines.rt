@@ -57,45 +57,30 @@ fn write_wrong_reply<S: Sink>(
     ensures front { OnErr result (SendsFront (S.sent sink.old) (S.sent sink.new) (comment_text commented ++ text.order_line object (OrderFault.WrongReply op gives.now))) }
     ensures failed { OnErr result (S.broken sink.new ≡ true) }
 {
-    let (refused, number) = (
-        Piece::Text(b"no: C6 object "),
+    let code = b"no: C6 object ";
+    let (number, colon, entry) = (
         Piece::Natural(object as usize),
+        Piece::Text(b": "),
+        Piece::Integer(op),
     );
-    let (colon, entry) = (Piece::Text(b": "), Piece::Integer(op));
     match value_of_reply(gives) {
-        Value::Nil => write_line(
-            commented,
-            &[refused, number, colon, entry, Piece::Text(b" gives nil\n")],
-            sink,
-        ),
-        Value::False => write_line(
-            commented,
-            &[
-                refused,
-                number,
-                colon,
-                entry,
-                Piece::Text(b" gives false\n"),
-            ],
-            sink,
-        ),
-        Value::Int(n) => write_line(
-            commented,
-            &[
-                refused,
+        Value::Nil => write_entry(code, object, op, b" gives nil", commented, sink),
+        Value::False => write_entry(code, object, op, b" gives false", commented, sink),
+        Value::Int(n) => {
+            let line = [
+                Piece::Text(code),
                 number,
                 colon,
                 entry,
                 Piece::Text(b" gives "),
                 Piece::Integer(n),
                 Piece::Text(b"\n"),
-            ],
-            sink,
-        ),
-        Value::Pair(a, b) => write_line(
-            commented,
-            &[
-                refused,
+            ];
+            write_line(commented, &line, sink)
+        }
+        Value::Pair(a, b) => {
+            let line = [
+                Piece::Text(code),
                 number,
                 colon,
                 entry,
@@ -104,9 +89,9 @@ fn write_wrong_reply<S: Sink>(
                 Piece::Text(b" "),
                 Piece::Integer(b),
                 Piece::Text(b"]\n"),
-            ],
-            sink,
-        ),
+            ];
+            write_line(commented, &line, sink)
+        }
     }
 }
 

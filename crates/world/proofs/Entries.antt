@@ -1,8 +1,9 @@
 -- The entries of a client in a log that grows, and the replay of such a log.
-use Rattle.std.proofs.Common.{◌≡◌, ◌≢◌, ℕ, Bool, true, false, cond, eqb, eq-eqb, ne_eqb, List, [], ◌∷◌, ◌++◌, refl, sym, ap, subst, ◌∙◌, append_assoc, append-nil}
-use Rattle.model.specs.Objects.{Content, next}
+use Rattle.std.proofs.Common.{◌≡◌, ◌≢◌, ℕ, true, false, cond, eqb, eq-eqb, ne_eqb, List, [], ◌∷◌, ◌++◌, refl, sym, ap, subst, ◌∙◌, append_assoc, append-nil}
+use Rattle.model.specs.declared.Kind.{Kind}
+use Rattle.model.specs.Objects.{Content, empty, next}
 use Rattle.world.specs.declared.Answer.TheVariants.{Reply, Refused}
-use Rattle.world.specs.World.{AnyEntry, AnyRequest, AnyAnswer, AnyDone, logged, logged_on, entries_of, served, Replays, StartsWith, Serves}
+use Rattle.world.specs.World.{AnyEntry, AnyRequest, AnyAnswer, AnyDone, logged, logged_on, entries_of, served, Replays, IsLegal, StartsWith, Serves}
 
 pub starts_longer : (xs ys zs : List AnyEntry) → StartsWith xs ys → StartsWith ys zs → StartsWith xs zs
 starts_longer xs ys zs a b = (b.0 ++ a.0, a.1 ∙ (ap (λ l. l ++ a.0) b.1 ∙ append_assoc zs b.0 a.0))
@@ -29,7 +30,7 @@ logged_here x c q a on = ap (λ b. cond b (logged c q a) []) (eq-eqb q.object x 
 pub logged_else : (x c : ℕ) (q : AnyRequest) (a : AnyAnswer) → q.object ≢ x → logged_on x c q a ≡ []
 logged_else x c q a other = ap (λ b. cond b (logged c q a) []) (ne_eqb q.object x other)
 
-pub served-append : (x c : ℕ) (ds es : List AnyDone) → served x c (ds ++ es) ≡ served x c ds ++ served x c es
+served-append : (x c : ℕ) (ds es : List AnyDone) → served x c (ds ++ es) ≡ served x c ds ++ served x c es
 served-append x c [] es = refl
 served-append x c (d ∷ ds) es = ap (λ z. logged_on x c d.request d.answer ++ z) (served-append x c ds es) ∙ sym (append_assoc (logged_on x c d.request d.answer) (served x c ds) (served x c es))
 
@@ -42,3 +43,11 @@ pub replays_more : (c m after : Content) (l : List AnyEntry) (r : ℕ) (q : AnyR
 replays_more c m after [] r q (Reply p) h s = (after, ap (λ z. next z q.op) h ∙ s, refl)
 replays_more c m after [] r q Refused h s = h ∙ sym s
 replays_more c m after (e ∷ es) r q a h s = (h.0, h.1, replays_more h.0 m after es r q a h.2 s)
+
+-- what a log begins with is legal where the log is
+replays_front : (c after : Content) (xs ys : List AnyEntry) → Replays c (xs ++ ys) after → (between : Content) × Replays c xs between
+replays_front c after [] ys h = (c, refl)
+replays_front c after (x ∷ xs) ys h = let b = replays_front h.0 after xs ys h.2 in (b.0, (h.0, h.1, b.1))
+
+pub legal_front : (kind : Kind) (log seen : List AnyEntry) → StartsWith log seen → IsLegal kind log → IsLegal kind seen
+legal_front kind log seen begins legal = replays_front (empty kind) legal.0 seen begins.0 (subst (λ z. Replays (empty kind) z legal.0) begins.1 legal.1)

@@ -5,6 +5,7 @@ pub mod Tickets
 pub mod Beyond
 pub mod Moved
 pub mod SameKind
+pub mod Opening
 pub mod Moving
 pub mod Shares
 pub mod Denoted

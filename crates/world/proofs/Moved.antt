@@ -1,18 +1,18 @@
 -- What each move changes leaves the world sound.
-use Rattle.std.proofs.Common.{◌≡◌, ◌≢◌, ℕ, ◌+◌, ◌*◌, ◌<◌, ◌≤◌, List, [], ◌∷◌, ◌++◌, Option, Some, None, All, length, get_or, refl, sym, ap, subst, ◌∙◌, arith, append-nil, append_assoc}
+use Rattle.std.proofs.Common.{◌≡◌, ◌≢◌, ℕ, ◌+◌, ◌*◌, ◌<◌, ◌≤◌, List, [], ◌∷◌, ◌++◌, Option, Some, None, All, length, refl, sym, ap, subst, ◌∙◌, arith, append-nil, length-append}
 use mathlib.Core.Logic.{dite}
 use native.Mathlib.Decide.{ℕ_discrete}
 use Rattle.std.proofs.lemmas.List.Elements.{All-append, All-nil, All-cons}
 use Rattle.std.proofs.lemmas.Option.{same_Some}
 use Rattle.model.specs.declared.Kind.{Kind}
-use Rattle.model.specs.Objects.{Content, empty, kind_of}
+use Rattle.model.specs.Objects.{kind_of}
 use Rattle.world.specs.declared.Answer.TheVariants.{Reply, Refused}
-use Rattle.world.specs.World.{AnyEntry, AnyRequest, AnyAnswer, AnyDone, Stage, absent, posted, picked, answered, World, kind_at, logged, logged_on, entries_of, served, served_now, request_of, calls_made, tickets_drawn, Replays, IsLegal, StartsWith, Serves}
+use Rattle.world.specs.World.{AnyEntry, AnyRequest, AnyAnswer, AnyDone, Stage, absent, idle, drawn, posted, picked, answered, taken, World, kind_at, logged, logged_on, entries_of, served, served_now, request_of, calls_made, tickets_drawn, IsLegal, StartsWith}
 use Rattle.world.specs.Moves.{changed, staged, ticked, held_by, handed, served_by, ended_by}
 use Rattle.world.specs.Sound.{Sound, SoundJournals, total}
 use Rattle.world.proofs.Changed.{changed_here, changed_else, changed_all}
-use Rattle.world.proofs.Entries.{entries-append, own_entries, others_entries, logged_here, logged_else, replays_more, starts_same}
-use Rattle.world.proofs.Tickets.{journals_kept, journals_staged}
+use Rattle.world.proofs.Entries.{entries-append, own_entries, others_entries, logged_here, logged_else, served_more, starts_same}
+use Rattle.world.proofs.Tickets.{journals_kept, journals_staged, journals_called, journals_returned}
 use Rattle.world.proofs.Totals.{total_same, total_one, total_le}
 
 module _ (kinds : List Kind) (quota : ℕ) where
@@ -47,6 +47,18 @@ module _ (kinds : List Kind) (quota : ℕ) where
     journals = journals_kept kinds w (ended_by w c) refl (λ c. refl) (λ c. refl) (λ c e. e) (λ y. starts_same (w.log y)) k.journals;
   }
 
+  -- The stage of the row r changes, with the same request: what holds of requests goes on.
+  same_fitting : (w : World) (r : ℕ) (t : Stage) → request_of t ≡ request_of (w.stage r) → S w
+      → (d : ℕ) (q : AnyRequest) → request_of (changed w.stage r t d) ≡ Some q → (kind_of q.op ≡ kind_at kinds q.object) × (q.ticket < w.clock)
+  same_fitting w r t same k d q = changed_all (λ d t. request_of t ≡ Some q → (kind_of q.op ≡ kind_at kinds q.object) × (q.ticket < w.clock)) w.stage r t (λ e. k.fitting r q (sym same ∙ e)) (λ d _. k.fitting d q) d
+
+  same_totals : (w : World) (r : ℕ) (t : Stage) → request_of t ≡ request_of (w.stage r) → S w → total (λ d. tickets_drawn (w.done d) (request_of (changed w.stage r t d))) 32 ≡ w.clock
+  same_totals w r t same k = total_same (λ d. tickets_drawn (w.done d) (request_of (changed w.stage r t d))) (λ d. tickets_drawn (w.done d) (request_of (w.stage d))) 32
+      (λ d _. changed_all (λ d t. tickets_drawn (w.done d) (request_of t) ≡ tickets_drawn (w.done d) (request_of (w.stage d))) w.stage r t (ap (tickets_drawn (w.done r)) same) (λ d _. refl) d) ∙ k.drawn
+
+  same_calls : (w : World) (r : ℕ) (t : Stage) → request_of t ≡ request_of (w.stage r) → S w → (d : ℕ) → calls_made (w.done d) (request_of (changed w.stage r t d)) ≤ quota
+  same_calls w r t same k = changed_all (λ d t. calls_made (w.done d) (request_of t) ≤ quota) w.stage r t (subst (λ z. calls_made (w.done r) z ≤ quota) (sym same) (k.within r)) (λ d _. k.within d)
+
   -- the client c goes to a stage with the same request, which is in no hand before or after
   pub sound_staged : (w : World) (c : ℕ) (t : Stage) → ((q : AnyRequest) → w.stage c ≢ picked q) → ((q : AnyRequest) → t ≢ picked q) → request_of t ≡ request_of (w.stage c) → t ≢ absent
       → ((x : ℕ) → served_now x c t ≡ served_now x c (w.stage c)) → S w → S (staged w c t)
@@ -57,16 +69,15 @@ module _ (kinds : List Kind) (quota : ℕ) where
     in_hand = λ x r e. let b = k.in_hand x r e in (b.0, changed_else w.stage c t r (λ g. before b.0 (ap w.stage (sym g) ∙ b.1)) ∙ b.1, b.2);
     picked_up = λ r q. changed_all (λ r t. t ≡ picked q → w.hand q.object ≡ Some r) w.stage c t (λ e. absurd (after q e)) (λ r _. k.picked_up r q) r;
     empty_hand = k.empty_hand;
-    fitting = λ d q. changed_all (λ d t. request_of t ≡ Some q → (kind_of q.op ≡ kind_at kinds q.object) × (q.ticket < w.clock)) w.stage c t (λ e. k.fitting c q (sym same ∙ e)) (λ d _. k.fitting d q) d;
+    fitting = same_fitting w c t same k;
     early = k.early;
-    drawn = total_same (λ d. tickets_drawn (w.done d) (request_of (changed w.stage c t d))) (λ d. tickets_drawn (w.done d) (request_of (w.stage d))) 32
-        (λ d _. changed_all (λ d t. tickets_drawn (w.done d) (request_of t) ≡ tickets_drawn (w.done d) (request_of (w.stage d))) w.stage c t (ap (tickets_drawn (w.done c)) same) (λ d _. refl) d) ∙ k.drawn;
-    within = changed_all (λ d t. calls_made (w.done d) (request_of t) ≤ quota) w.stage c t (subst (λ z. calls_made (w.done c) z ≤ quota) (sym same) (k.within c)) (λ d _. k.within d);
+    drawn = same_totals w c t same k;
+    within = same_calls w c t same k;
     journals = journals_staged kinds w (staged w c t) c t refl (λ d. refl) (λ d. refl) same came (λ y. starts_same (w.log y)) k.journals;
   }
 
   -- the client c draws a ticket, and goes to the stage t with these calls over
-  pub sound_ticked : (w : World) (c : ℕ) (t : Stage) (ds : List AnyDone) → c < 32 → ((q : AnyRequest) → w.stage c ≢ picked q) → ((q : AnyRequest) → t ≢ picked q)
+  sound_ticked : (w : World) (c : ℕ) (t : Stage) (ds : List AnyDone) → c < 32 → ((q : AnyRequest) → w.stage c ≢ picked q) → ((q : AnyRequest) → t ≢ picked q)
       → ((x : ℕ) → served x c ds ++ served_now x c t ≡ served x c (w.done c) ++ served_now x c (w.stage c))
       → ((q : AnyRequest) → request_of t ≡ Some q → (kind_of q.op ≡ kind_at kinds q.object) × (q.ticket ≡ w.clock))
       → tickets_drawn ds (request_of t) ≡ tickets_drawn (w.done c) (request_of (w.stage c)) + 1 → calls_made ds (request_of t) ≤ quota → SoundJournals kinds (ticked w c t ds) → S w → S (ticked w c t ds)
@@ -89,12 +100,23 @@ module _ (kinds : List Kind) (quota : ℕ) where
     journals = journals;
   }
 
-  -- the stage of the row r changes, with the same request, which is for x, and so does what the holder of x has in hand
-  same_totals : (w : World) (r : ℕ) (t : Stage) → request_of t ≡ request_of (w.stage r) → S w
-      → total (λ d. tickets_drawn (w.done d) (request_of (changed w.stage r t d))) 32 ≡ w.clock
-  same_totals w r t same k = total_same (λ d. tickets_drawn (w.done d) (request_of (changed w.stage r t d))) (λ d. tickets_drawn (w.done d) (request_of (w.stage d))) 32
-      (λ d _. changed_all (λ d t. tickets_drawn (w.done d) (request_of t) ≡ tickets_drawn (w.done d) (request_of (w.stage d))) w.stage r t (ap (tickets_drawn (w.done r)) same) (λ d _. refl) d) ∙ k.drawn
+  -- the client c draws the ticket of a call
+  pub sound_called : (w : World) (c : ℕ) (q : AnyRequest) → c < 32 → w.stage c ≡ idle → calls_made (w.done c) None < quota → q.object < length kinds → kind_of q.op ≡ kind_at kinds q.object → q.ticket ≡ w.clock → S w → S (ticked w c (drawn q) (w.done c))
+  sound_called w c q low was few on fits ticket k =
+      let tickets : tickets_drawn (w.done c) (Some q) ≡ tickets_drawn (w.done c) (request_of (w.stage c)) + 1 = (let e : tickets_drawn (w.done c) (Some q) ≡ tickets_drawn (w.done c) None + 1 = omega arith in e ∙ ap (λ z. tickets_drawn (w.done c) (request_of z) + 1) (sym was)) in
+      sound_ticked w c (drawn q) (w.done c) low (λ r e. let g = sym was ∙ e in absurd (cc)) (λ r e. absurd (cc)) (λ x. ap (λ z. served x c (w.done c) ++ served_now x c z) (sym was))
+      (λ r e. let same = same_Some q r e in subst (λ (z : AnyRequest). (kind_of z.op ≡ kind_at kinds z.object) × (z.ticket ≡ w.clock)) same (fits, ticket)) tickets (omega arith) (journals_called kinds w c q was ticket on k.journals) k
 
+  -- the client c draws the ticket n of the return of its call
+  pub sound_returned : (w : World) (c n : ℕ) (q : AnyRequest) (a : AnyAnswer) → c < 32 → w.stage c ≡ taken q a → n ≡ w.clock → S w → S (ticked w c idle (w.done c ++ record { request = q; answer = a; returned = n } ∷ []))
+  sound_returned w c n q a low was now k =
+      let d : AnyDone = record { request = q; answer = a; returned = n } in let ds : List AnyDone = w.done c ++ d ∷ [] in let long : length ds ≡ length (w.done c) + 1 = length-append (w.done c) (d ∷ []) in
+      let few : calls_made (w.done c) (Some q) ≤ quota = subst (λ z. calls_made (w.done c) (request_of z) ≤ quota) was (k.within c) in let calls : calls_made ds None ≤ quota = omega arith in
+      let tickets : tickets_drawn ds None ≡ tickets_drawn (w.done c) (request_of (w.stage c)) + 1 = (let e : tickets_drawn ds None ≡ tickets_drawn (w.done c) (Some q) + 1 = omega arith in e ∙ ap (λ z. tickets_drawn (w.done c) (request_of z) + 1) (sym was)) in
+      sound_ticked w c idle ds low (λ r e. let g = sym was ∙ e in absurd (cc)) (λ r e. absurd (cc))
+      (λ x. append-nil (served x c ds) ∙ (served_more x c n (w.done c) q a ∙ ap (λ z. served x c (w.done c) ++ served_now x c z) (sym was))) (λ r e. absurd (cc)) tickets calls (journals_returned kinds quota w c n q a was now k) k
+
+  -- the row r, posted for x, comes into the hand of the client that holds x
   pub sound_picked : (w : World) (x r c : ℕ) (q : AnyRequest) → w.stage r ≡ posted q → q.object ≡ x → w.holder x ≡ Some c → w.hand x ≡ None → S w → S (handed w x (Some r) r (picked q))
   sound_picked w x r c q is on holds free k = record {
     legal = k.legal;
@@ -107,15 +129,15 @@ module _ (kinds : List Kind) (quota : ℕ) where
         (λ e. let f : q ≡ p = cc in ap (changed w.hand x (Some r)) (ap (λ z. z.object) (sym f) ∙ on) ∙ changed_here w.hand x (Some r))
         (λ j _ e. changed_else w.hand x (Some r) p.object (λ same. let g = sym free ∙ (ap w.hand (sym same) ∙ k.picked_up j p e) in absurd (cc)) ∙ k.picked_up j p e) j;
     empty_hand = λ y e. changed_else w.hand x (Some r) y (λ same. let g = sym holds ∙ (ap w.holder (sym same) ∙ e) in absurd (cc)) ∙ k.empty_hand y e;
-    fitting = λ d p. changed_all (λ d t. request_of t ≡ Some p → (kind_of p.op ≡ kind_at kinds p.object) × (p.ticket < w.clock)) w.stage r (picked q)
-        (λ e. k.fitting r p (ap request_of is ∙ e)) (λ d _. k.fitting d p) d;
+    fitting = same_fitting w r (picked q) (ap request_of (sym is)) k;
     early = k.early;
     drawn = same_totals w r (picked q) (ap request_of (sym is)) k;
-    within = changed_all (λ d t. calls_made (w.done d) (request_of t) ≤ quota) w.stage r (picked q) (subst (λ z. calls_made (w.done r) (request_of z) ≤ quota) is (k.within r)) (λ d _. k.within d);
+    within = same_calls w r (picked q) (ap request_of (sym is)) k;
     journals = journals_staged kinds w (handed w x (Some r) r (picked q)) r (picked q) refl (λ d. refl) (λ d. refl) (ap request_of (sym is)) (λ e. absurd (cc)) (λ y. starts_same (w.log y)) k.journals;
   }
 
-  -- after the row r, picked up for x, is put back or answered, no other row is in the hand of the holder of x
+  -- After the row r, picked up for x, is put back or answered, no other row is in the hand of the holder of x, and each
+  -- other row that was picked up is in a hand.
   others_in_hand : (w : World) (x r j : ℕ) (t : Stage) (q : AnyRequest) → w.stage r ≡ picked q → q.object ≡ x → S w
       → (y : ℕ) → changed w.hand x None y ≡ Some j → (p : AnyRequest) × (changed w.stage r t j ≡ picked p) × (p.object ≡ y)
   others_in_hand w x r j t q is on k = changed_all (λ y h. h ≡ Some j → (p : AnyRequest) × (changed w.stage r t j ≡ picked p) × (p.object ≡ y)) w.hand x None
@@ -137,11 +159,10 @@ module _ (kinds : List Kind) (quota : ℕ) where
     in_hand = λ y j. others_in_hand w x r j (posted q) q is on k y;
     picked_up = others_picked_up w x r (posted q) q is on held (λ p e. absurd (cc)) k;
     empty_hand = changed_all (λ y h. w.holder y ≡ None → h ≡ None) w.hand x None (λ e. refl) (λ y _. k.empty_hand y);
-    fitting = λ d p. changed_all (λ d t. request_of t ≡ Some p → (kind_of p.op ≡ kind_at kinds p.object) × (p.ticket < w.clock)) w.stage r (posted q)
-        (λ e. k.fitting r p (ap request_of is ∙ e)) (λ d _. k.fitting d p) d;
+    fitting = same_fitting w r (posted q) (ap request_of (sym is)) k;
     early = k.early;
     drawn = same_totals w r (posted q) (ap request_of (sym is)) k;
-    within = changed_all (λ d t. calls_made (w.done d) (request_of t) ≤ quota) w.stage r (posted q) (subst (λ z. calls_made (w.done r) (request_of z) ≤ quota) is (k.within r)) (λ d _. k.within d);
+    within = same_calls w r (posted q) (ap request_of (sym is)) k;
     journals = journals_staged kinds w (handed w x None r (posted q)) r (posted q) refl (λ d. refl) (λ d. refl) (ap request_of (sym is)) (λ e. absurd (cc)) (λ y. starts_same (w.log y)) k.journals;
   }
 
@@ -175,12 +196,11 @@ module _ (kinds : List Kind) (quota : ℕ) where
     in_hand = λ y j. others_in_hand w x r j (answered q a) q is on k y;
     picked_up = others_picked_up w x r (answered q a) q is on held (λ p e. absurd (cc)) k;
     empty_hand = changed_all (λ y h. w.holder y ≡ None → h ≡ None) w.hand x None (λ e. refl) (λ y _. k.empty_hand y);
-    fitting = λ d p. changed_all (λ d t. request_of t ≡ Some p → (kind_of p.op ≡ kind_at kinds p.object) × (p.ticket < w.clock)) w.stage r (answered q a)
-        (λ e. k.fitting r p (ap request_of is ∙ e)) (λ d _. k.fitting d p) d;
+    fitting = same_fitting w r (answered q a) (ap request_of (sym is)) k;
     early = changed_all (λ y l. All (λ (e : AnyEntry). e.ticket < w.clock) l) w.log x (w.log x ++ logged r q a)
         (All-append (λ (e : AnyEntry). e.ticket < w.clock) (w.log x) (logged r q a) (k.early x) (early_logged w.clock r q a (k.fitting r q (ap request_of is)).1)) (λ y _. k.early y);
     drawn = same_totals w r (answered q a) (ap request_of (sym is)) k;
-    within = changed_all (λ d t. calls_made (w.done d) (request_of t) ≤ quota) w.stage r (answered q a) (subst (λ z. calls_made (w.done r) (request_of z) ≤ quota) is (k.within r)) (λ d _. k.within d);
+    within = same_calls w r (answered q a) (ap request_of (sym is)) k;
     journals = journals_staged kinds w (served_by w x r q a) r (answered q a) refl (λ d. refl) (λ d. refl) (ap request_of (sym is)) (λ e. absurd (cc))
         (changed_all (λ y l. StartsWith l (w.log y)) w.log x (w.log x ++ logged r q a) (logged r q a, refl) (λ y _. starts_same (w.log y))) k.journals;
   }

@@ -1,13 +1,12 @@
 -- Each move leaves the world sound.
-use Rattle.std.proofs.Common.{◌≡◌, ◌≢◌, ℕ, ◌+◌, ◌<◌, ◌≤◌, List, [], ◌∷◌, ◌++◌, length, Option, Some, None, refl, sym, ap, subst, ◌∙◌, arith, append-nil, length-append}
+use Rattle.std.proofs.Common.{◌≡◌, ℕ, ◌<◌, List, Some, None, refl, sym, ap, subst, ◌∙◌}
 use Rattle.model.specs.declared.Kind.{Kind}
-use Rattle.model.specs.Objects.{empty, kind_of}
-use Rattle.world.specs.World.{AnyRequest, AnyAnswer, AnyDone, idle, drawn, posted, picked, taken, World, kind_at, served, served_now, request_of, calls_made, tickets_drawn}
-use Rattle.world.specs.Moves.{staged, ticked, held_by, handed, served_by, ended_by, Step, draw_call, draw_return, post, win, pick, answer, put_back, take, release, end, Takes, Moves}
+use Rattle.model.specs.Objects.{empty}
+use Rattle.world.specs.World.{AnyRequest, posted, picked, taken, World, kind_at, served_now, request_of}
+use Rattle.world.specs.Moves.{Step, draw_call, draw_return, post, win, pick, answer, put_back, take, release, end, Takes, Moves}
 use Rattle.world.specs.Sound.{Sound}
-use Rattle.world.proofs.Entries.{served_more, replays_more}
-use Rattle.world.proofs.Tickets.{journals_called, journals_returned}
-use Rattle.world.proofs.Moved.{sound_held, sound_ended, sound_staged, sound_ticked, sound_picked, sound_put_back, sound_served}
+use Rattle.world.proofs.Entries.{replays_more}
+use Rattle.world.proofs.Moved.{sound_held, sound_ended, sound_staged, sound_called, sound_returned, sound_picked, sound_put_back, sound_served}
 
 module _ (kinds : List Kind) (quota : ℕ) where
   abbrev S : World → Type 0
@@ -18,18 +17,8 @@ module _ (kinds : List Kind) (quota : ℕ) where
   on_object w x r q held is k = let b = k.in_hand x r held in let f : picked q ≡ picked b.0 = sym is ∙ b.1 in let same : q ≡ b.0 = cc in ap (λ z. z.object) same ∙ b.2
 
   takes_sound : (s : Step) (w w' : World) (c : ℕ) → c < 32 → Takes kinds quota s w c w' → S w → S w'
-  takes_sound (draw_call x op) w w' c low t k = let q : AnyRequest = record { object = x; ticket = w.clock; op = op } in
-      let tickets : tickets_drawn (w.done c) (Some q) ≡ tickets_drawn (w.done c) (request_of (w.stage c)) + 1 = (let e : tickets_drawn (w.done c) (Some q) ≡ tickets_drawn (w.done c) None + 1 = omega arith in e ∙ ap (λ z. tickets_drawn (w.done c) (request_of z) + 1) (sym t.0)) in
-      let few = t.1 in
-      subst S (sym t.4) (sound_ticked kinds quota w c (drawn q) (w.done c) low (λ r e. let g = sym t.0 ∙ e in absurd (cc)) (λ r e. absurd (cc))
-      (λ y. ap (λ z. served y c (w.done c) ++ served_now y c z) (sym t.0))
-      (λ r e. let same : q ≡ r = cc in (ap (λ z. kind_of z.op) (sym same) ∙ (t.3 ∙ ap (λ z. kind_at kinds z.object) same), ap (λ z. z.ticket) (sym same))) tickets (omega arith) (journals_called kinds w c q t.0 refl t.2 k.journals) k)
-  takes_sound draw_return w w' c low t k = let q : AnyRequest = t.0 in let a : AnyAnswer = t.1 in let d : AnyDone = record { request = q; answer = a; returned = w.clock } in let ds : List AnyDone = w.done c ++ d ∷ [] in
-      let long : length ds ≡ length (w.done c) + 1 = length-append (w.done c) (d ∷ []) in
-      let few : calls_made (w.done c) (Some q) ≤ quota = subst (λ z. calls_made (w.done c) (request_of z) ≤ quota) t.2 (k.within c) in let calls : calls_made ds None ≤ quota = omega arith in
-      let tickets : tickets_drawn ds None ≡ tickets_drawn (w.done c) (request_of (w.stage c)) + 1 = (let e : tickets_drawn ds None ≡ tickets_drawn (w.done c) (Some q) + 1 = omega arith in e ∙ ap (λ z. tickets_drawn (w.done c) (request_of z) + 1) (sym t.2)) in
-      subst S (sym t.3) (sound_ticked kinds quota w c idle ds low (λ r e. let g = sym t.2 ∙ e in absurd (cc)) (λ r e. absurd (cc))
-      (λ y. append-nil (served y c ds) ∙ (served_more y c w.clock (w.done c) q a ∙ ap (λ z. served y c (w.done c) ++ served_now y c z) (sym t.2))) (λ r e. absurd (cc)) tickets calls (journals_returned kinds quota w c w.clock q a t.2 refl k) k)
+  takes_sound (draw_call x op) w w' c low t k = subst S (sym t.4) (sound_called kinds quota w c (record { object = x; ticket = w.clock; op = op }) low t.0 t.1 t.2 t.3 refl k)
+  takes_sound draw_return w w' c low t k = subst S (sym t.3) (sound_returned kinds quota w c w.clock t.0 t.1 low t.2 refl k)
   takes_sound post w w' c low t k = subst S (sym t.2) (sound_staged kinds quota w c (posted t.0) (λ r e. let g = sym t.1 ∙ e in absurd (cc)) (λ r e. absurd (cc)) (ap request_of (sym t.1)) (λ e. absurd (cc)) (λ y. ap (served_now y c) (sym t.1)) k)
   takes_sound (win x) w w' c low t k = subst S (sym t.3) (sound_held kinds quota w x (Some c) (λ e. absurd (cc)) k)
   takes_sound (pick r) w w' c low t k = subst S (sym t.6) (sound_picked kinds quota w t.0 r c t.1 t.4 t.5 t.2 t.3 k)

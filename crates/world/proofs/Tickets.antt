@@ -1,12 +1,12 @@
 -- Journals and tickets: what holds of them goes on where nobody draws a ticket, and where one client draws the next.
-use Rattle.std.proofs.Common.{◌≡◌, ◌≢◌, ◌⊎◌, ℕ, ◌+◌, ◌<◌, List, [], ◌∷◌, ◌++◌, Option, Some, None, All, AllPairs, Contains, map, length, get_or, true, false, cond, eqb, refl, sym, ap, subst, ◌∙◌, ⊎_elim, inl, inr, arith, append_assoc}
+use Rattle.std.proofs.Common.{◌≡◌, ◌≢◌, ◌⊎◌, ℕ, ◌+◌, ◌<◌, List, [], ◌∷◌, ◌++◌, Some, None, All, AllPairs, Contains, map, length, true, false, cond, eqb, refl, sym, ap, subst, ◌∙◌, ⊎_elim, inl, inr, arith, append_assoc}
 use mathlib.Core.Logic.{dite}
 use native.Mathlib.Decide.{ℕ_discrete}
 use Rattle.std.proofs.lemmas.List.{length_push, length-append, get_or_push, get_or_append_left}
 use Rattle.std.proofs.lemmas.List.Elements.{All-nil, All-push, All-weaker, All-contains, Contains-append_left, Contains-push, Contains-push_cases}
 use Rattle.model.specs.declared.Kind.{Kind}
 use Rattle.world.specs.declared.Answer.TheVariants.{Reply, Refused}
-use Rattle.world.specs.declared.JournalEvent.TheVariants.{Invoked, Returned}
+use Rattle.world.specs.declared.JournalEvent.TheVariants.{Returned}
 use Rattle.world.specs.World.{AnyEntry, AnyRequest, AnyAnswer, AnyEvent, AnyDone, Stage, absent, idle, drawn, taken, World, logged, entries_of, served, served_now, request_of, invoked, journal_of, journal_in, ticket_of, tickets_in, StartsWith}
 use Rattle.world.specs.Moves.{changed, ticked}
 use Rattle.world.specs.Sound.{ShareOut, IsAmong, IsInTime, SoundJournals, Sound}

@@ -1,11 +1,10 @@
 -- The moves of the world: one step of one client, where it is possible, and what it changes.
 -- Hendler, Incze, Shavit, Tzafrir, SPAA 2010, section 2, step by step; put back is this project's.
-use Rattle.std.specs.Prelude.{◌≡◌, ◌⊎◌, ◌≢◌, ℕ, ◌+◌, ◌<◌, ◌==◌, Bool, true, false, List, [], ◌∷◌, ◌++◌, length, Option, Some, None, IsSome, if◌then◌else◌}
+use Rattle.std.specs.Prelude.{◌≡◌, ◌≢◌, ℕ, ◌+◌, ◌<◌, ◌==◌, true, false, List, [], ◌∷◌, ◌++◌, length, Option, Some, None, IsSome, if◌then◌else◌}
 use Rattle.model.specs.declared.Kind.{Kind}
 use Rattle.model.specs.declared.AnyOp.{AnyOp}
 use Rattle.model.specs.Objects.{Content, empty, kind_of, next}
-use Rattle.world.specs.declared.Answer.TheVariants.{Reply, Refused}
-use Rattle.world.specs.World.{AnyEntry, AnyRequest, AnyAnswer, AnyDone, Stage, absent, idle, drawn, posted, picked, answered, taken, World, kind_at, logged, request_of, calls_made, Replays, Serves}
+use Rattle.world.specs.World.{AnyRequest, AnyAnswer, AnyDone, Stage, absent, idle, drawn, posted, picked, answered, taken, World, kind_at, logged, calls_made, Replays, Serves}
 
 -- the function with another value at i
 unfoldable pub changed : {A : Type 0} → (ℕ → A) → ℕ → A → ℕ → A

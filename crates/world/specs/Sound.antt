@@ -1,9 +1,9 @@
 -- What holds of the world between any two moves.
-use Rattle.std.specs.Prelude.{◌≡◌, ℕ, zero, suc, ◌+◌, ◌<◌, ◌≤◌, ⊤, List, [], ◌++◌, length, Option, Some, None, All, AllPairs, Contains}
+use Rattle.std.specs.Prelude.{◌≡◌, ℕ, zero, suc, ◌+◌, ◌<◌, ◌≤◌, ⊤, List, [], ◌++◌, length, Some, None, All, AllPairs, Contains}
 use Rattle.model.specs.declared.Kind.{Kind}
 use Rattle.model.specs.Objects.{kind_of}
 use Rattle.world.specs.declared.JournalEvent.TheVariants.{Invoked, Returned}
-use Rattle.world.specs.World.{AnyEntry, AnyRequest, AnyEvent, AnyDone, Stage, absent, picked, World, kind_at, logged, entries_of, served, served_now, request_of, calls_made, tickets_drawn, journal_in, tickets_in, IsLegal}
+use Rattle.world.specs.World.{AnyEntry, AnyRequest, AnyEvent, AnyDone, absent, picked, World, kind_at, logged, entries_of, served, served_now, request_of, calls_made, tickets_drawn, journal_in, tickets_in, IsLegal}
 
 -- the sum of the first n values
 abbrev pub total : (ℕ → ℕ) → ℕ → ℕ

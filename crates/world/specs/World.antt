@@ -2,7 +2,7 @@
 -- each client the stage of its call and the calls that are over. Objects and clients are named by number.
 -- After Hendler, Incze, Shavit, Tzafrir, SPAA 2010, section 2: a client's row is its publication record, and the holder
 -- of an object is its combiner.
-use Rattle.std.specs.Prelude.{◌≡◌, ℕ, ◌+◌, ◌*◌, ◌==◌, Bool, List, [], ◌∷◌, ◌++◌, map, length, slice_index_or, Option, Some, None, if◌then◌else◌}
+use Rattle.std.specs.Prelude.{◌≡◌, ℕ, ◌+◌, ◌==◌, Bool, false, List, [], ◌∷◌, ◌++◌, map, length, slice_index_or, Option, Some, None, if◌then◌else◌}
 use Rattle.model.specs.declared.Kind.{Kind}
 use Rattle.model.specs.declared.Kind.TheVariants.{Queue}
 use Rattle.model.specs.declared.AnyOp.{AnyOp}
@@ -59,6 +59,10 @@ pub record World : Type 0 where
   -- the calls that are over, in order
   pub done : ℕ → List AnyDone
   pub ended : ℕ → Bool
+
+-- at the start no ticket was drawn, and no client has come
+abbrev pub opening_world : World
+opening_world = record { clock = 0; holder = λ _. None; hand = λ _. None; log = λ _. []; stage = λ _. absent; done = λ _. []; ended = λ _. false }
 
 -- the kind of an object
 abbrev pub kind_at : List Kind → ℕ → Kind

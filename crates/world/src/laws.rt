@@ -1,13 +1,23 @@
 //! The theorems of the world.
 
-ghost use Rattle.std.specs.Prelude.{ℕ, List};
+ghost use Rattle.std.specs.Prelude.{◌≡◌, ℕ, List};
 ghost use Rattle.model.specs.declared.Kind.{Kind};
 ghost use Rattle.model.specs.Orders.{events};
 ghost use Rattle.model.specs.Linearizable.{IsLinearizable};
-ghost use Rattle.world.specs.World.{AnyEntry, AnyEvent, World, kind_at, journal_in};
-ghost use Rattle.world.specs.Moves.{Step, Moves};
+ghost use Rattle.world.specs.World.{AnyEntry, AnyEvent, absent, idle, World, opening_world, kind_at, journal_in};
+ghost use Rattle.world.specs.Moves.{Step, Moves, staged};
 ghost use Rattle.world.specs.Sound.{Sound};
 ghost use Rattle.world.specs.Records.{IsSoundRecord};
+
+/// The world is sound at the start.
+pub fn opening_is_sound()
+    ensures { (kinds : List Kind) (quota : ℕ) → Sound kinds quota opening_world }
+{}
+
+/// A sound world is sound still when a client has come.
+pub fn coming_keeps_it_sound()
+    ensures { (kinds : List Kind) (quota : ℕ) (w : World) (client : ℕ) → w.stage client ≡ absent → Sound kinds quota w → Sound kinds quota (staged w client idle) }
+{}
 
 /// Each move of each client leaves a sound world sound, for all objects and quotas.
 pub fn each_move_keeps_it_sound()

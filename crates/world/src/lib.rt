@@ -7,7 +7,10 @@
 
 mod laws;
 
-pub use laws::{each_move_keeps_it_sound, record_is_sound, sound_record_is_linearizable};
+pub use laws::{
+    coming_keeps_it_sound, each_move_keeps_it_sound, opening_is_sound, record_is_sound,
+    sound_record_is_linearizable,
+};
 
 /// What the log of an object says of one operation: whose it was, the ticket of its invocation, the operation, and
 /// its reply.

@@ -1,4 +1,4 @@
-use Rattle.std.proofs.Common.{rules, arith, ◌≡◌, ◌<◌, ℕ, ◌+◌, ◌∷◌, ◌++◌, length, refl, sym, ap, ◌∙◌, subst}
+use Rattle.std.proofs.Common.{rules, arith, sym}
 use Rattle.desk_rule.proofs.Rows.{answers_it}
 use Rattle.publication.proofs.Holds.{answer_ready, core_grows, answered_ok}
 use Rattle.publication.proofs.Said.{may_serve, answered}

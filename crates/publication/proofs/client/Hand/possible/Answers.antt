@@ -1,4 +1,4 @@
-use Rattle.std.proofs.Common.{rules, arith, ◌≡◌, ◌<◌, ℕ, ◌+◌, ◌∷◌, ◌++◌, length, refl, sym, ap, ◌∙◌, subst}
+use Rattle.std.proofs.Common.{sym, ◌∙◌}
 use Rattle.publication.proofs.Said.{can_says}
 use Rattle.world.proofs.SameKind.{kind_replayed}
 use Rattle.publication.proofs.client.Hand.possible.Goals as goal

@@ -1,4 +1,4 @@
-use Rattle.std.proofs.Common.{rules, arith, ◌≡◌, ◌<◌, ℕ, ◌+◌, ◌∷◌, ◌++◌, length, refl, sym, ap, ◌∙◌, subst}
+use Rattle.std.proofs.Common.{rules, arith, refl, sym}
 use Rattle.desk_rule.proofs.Rows.{puts_back_it}
 use Rattle.publication.proofs.Holds.{back_ready, back_ok}
 use Rattle.publication.proofs.Said.{is_put_back}

@@ -1,4 +1,4 @@
-use Rattle.std.proofs.Common.{rules, arith, ◌≡◌, ◌<◌, ℕ, ◌+◌, ◌∷◌, ◌++◌, length, refl, sym, ap, ◌∙◌, subst}
+use Rattle.std.proofs.Common.{rules, arith, refl, sym, ap, ◌∙◌}
 use Rattle.desk_rule.proofs.Rows.{picks_up}
 use Rattle.publication.proofs.Slots.{came_out, same_request, can_exchange}
 use Rattle.publication.proofs.Holds.{noted_ok, hand_ok}

@@ -1,4 +1,4 @@
-use Rattle.std.proofs.Common.{rules, arith, ◌≡◌, ◌<◌, ℕ, ◌+◌, ◌∷◌, ◌++◌, length, refl, sym, ap, ◌∙◌, subst}
+use Rattle.std.proofs.Common.{rules, arith, sym}
 use Rattle.desk_rule.proofs.Locks.{releases}
 use Rattle.publication.proofs.Holds.{release_ready, released_ok}
 use Rattle.publication.proofs.Said.{is_released, log_is_seen}

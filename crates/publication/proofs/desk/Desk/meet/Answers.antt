@@ -1,7 +1,7 @@
-use Rattle.std.proofs.Common.{rules, arith, ◌≡◌, ◌<◌, ℕ, ◌+◌, length, refl, sym, ap, ◌∙◌, subst}
+use Rattle.std.proofs.Common.{rules, arith, ◌<◌, ℕ, length, sym, ap, ◌∙◌, subst}
 use Rattle.world.specs.World.{kind_at, IsLegal, StartsWith}
 use Rattle.desk_rule.specs.declared.board.View.{View}
-use Rattle.desk_rule.specs.Views.{seen_of, heard_of, seeing, hearing, letter, IsAtRest, IsAccount}
+use Rattle.desk_rule.specs.Views.{seen_of, heard_of, seeing, hearing, IsAtRest, IsAccount}
 use Rattle.desk_rule.proofs.Meets.{tells, hears, learns_it, adopts_it, told_back, begins_there}
 use Rattle.publication.proofs.Encounters.{met_ok, met}
 use Rattle.publication.proofs.desk.Desk.meet.Goals as goal
@@ -42,6 +42,7 @@ invariant_of-result g c = let d = c.self.invariant.0 in let few = d.5 in let low
     let x : ℕ = c.args.object in let t = c.load.ensures.2 in
     let first = c.split_seat-letter-2.ensures.2 ∙ (t.1 ∙ ap (λ z. (seeing x t.0 z.0, z.1)) c.join_seat.ensures.2) in
     met_ok g.S.SeqObject.op_in g.S.SeqObject.reply_in _ _ _ _ _ x t.0 c.split_seat-letter.result.me.0.seen c.one.inside.member.seat.me _ c.one.invariant low'
+    (subst (λ (v : View). IsLegal (kind_at v.kinds x) t.0) (ap (λ z. z.0) c.join_seat.ensures.2) t.2)
     (subst (λ (v : View). IsAccount x v t.0) (ap (λ z. z.0) c.join_seat.ensures.2) t.6) first
 
 pub invariant_of-result-2 : goal.invariant_of-result-2
@@ -53,10 +54,11 @@ invariant_of-result-2 g c = let d = c.self.invariant.0 in let few = d.5 in let l
     let whole = c.join_seat-2.ensures.2 ∙ ap (λ z. (hearing z.0 c.split_seat-letter-2.result.me.0, z.1)) c.split_seat-letter.ensures.2 in
     let u = c.load-2.ensures.2 in let second = u.0 ∙ (λ i. (seeing x (is i) (whole i).0, (whole i).1)) in
     met_ok g.S.SeqObject.op_in g.S.SeqObject.reply_in _ _ _ _ _ x t.0 c.split_seat-letter-2.result.me.0.seen c.other.inside.member.seat.me _ c.other.invariant low'
-    (subst (λ l. IsAccount x (hearing c.other.inside.member.seat.me.0 c.split_seat-letter-2.result.me.0) l) is (subst (λ (v : View). IsAccount x v (heard_of c.join_seat-2.new.seat.me.0 x)) (ap (λ z. z.0) whole) u.1)) second
+    (subst (λ l. IsLegal (kind_at c.other.inside.member.seat.me.0.kinds x) l) is (subst (λ (v : View). IsLegal (kind_at v.kinds x) (heard_of c.join_seat-2.new.seat.me.0 x)) (ap (λ z. z.0) whole) u.1))
+    (subst (λ l. IsAccount x (hearing c.other.inside.member.seat.me.0 c.split_seat-letter-2.result.me.0) l) is (subst (λ (v : View). IsAccount x v (heard_of c.join_seat-2.new.seat.me.0 x)) (ap (λ z. z.0) whole) u.2)) second
 
 pub returns-clause-met : goal.returns-clause-met
-returns-clause-met g c = let d = c.self.invariant.0 in let few = d.5 in let low : c.args.object < length c.self.inside.kinds.items = search rules in let low' : c.args.object < 16 = omega arith in
+returns-clause-met g c = let wide = c.one.invariant.agrees.wide in let wide' = c.other.invariant.agrees.wide in let d = c.self.invariant.0 in let few = d.5 in let low : c.args.object < length c.self.inside.kinds.items = search rules in let low' : c.args.object < 16 = omega arith in
     let x : ℕ = c.args.object in let t = c.load.ensures.2 in
     let first = c.split_seat-letter-2.ensures.2 ∙ (t.1 ∙ ap (λ z. (seeing x t.0 z.0, z.1)) c.join_seat.ensures.2) in
     let heard = ap (λ z. z.0) c.join_seat.ensures.2 ∙ ap (λ z. hearing c.one.inside.member.seat.me.0 z.0) c.split_seat-letter.ensures.4 in
@@ -66,7 +68,7 @@ returns-clause-met g c = let d = c.self.invariant.0 in let few = d.5 in let low 
     let u = c.load-2.ensures.2 in let second = u.0 ∙ (λ i. (seeing x (is i) (whole i).0, (whole i).1)) in
     let there = begins_there x c.one.inside.member.seat.me.0 c.other.inside.member.seat.me.0 c.join_seat.new.seat.me.0 c.join_seat-2.new.seat.me.0 t.0 heard (ap (λ z. z.seen) back) t.4 in
     met x c.args.one c.args.other _ _ c.one.inside.member.seat.me.0 c.other.inside.member.seat.me.0 _ _ t.0 c.split_seat-letter.result.me.0.seen c.split_seat-letter-2.result.me.0.seen
-    (sym (ap (λ k. k.knows) c.one.view_is)) (sym (ap (λ k. k.knows) c.other.view_is)) (ap (λ z. z.0) first) (ap (λ z. z.0) second)
+    (sym (ap (λ k. k.knows) c.one.view_is)) (sym (ap (λ k. k.knows) c.other.view_is)) (ap (λ z. z.0) first) (ap (λ z. z.0) second) (omega arith) (omega arith)
     (subst (λ (v : View). IsLegal (kind_at v.kinds x) t.0) (ap (λ z. z.0) c.join_seat.ensures.2) t.2)
     (subst (λ (v : View). StartsWith t.0 (seen_of v x)) (ap (λ z. z.0) c.join_seat.ensures.2) t.3)
     (subst (λ (v : View). StartsWith t.0 (seen_of v x)) (ap (λ z. z.0) whole) there)

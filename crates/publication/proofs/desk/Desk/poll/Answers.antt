@@ -1,14 +1,13 @@
-use Rattle.std.proofs.Common.{rules, arith, ◌≡◌, ◌<◌, ◌≤◌, ℕ, ◌+◌, ◌∷◌, ◌++◌, true, [], length, vec_len, inl, inr, refl, sym, ap, ◌∙◌, subst}
+use Rattle.std.proofs.Common.{rules, arith, ℕ, ◌+◌, ◌∷◌, ◌++◌, [], inr, sym, ap, ◌∙◌, subst}
 use Rattle.desk_rule.specs.declared.board.View.{View}
 use Rattle.desk_rule.specs.Views.{missing}
 use Rattle.desk_rule.proofs.Calls.{takes_it, returns_it}
-use Rattle.publication.specs.Handles.{IsClient}
 use Rattle.world.specs.declared.JournalEvent.TheVariants.{Returned}
 use Rattle.world.specs.Images.{answer_in}
 use Rattle.publication.specs.Calls.{Polled, NotPolled}
 use Rattle.publication.proofs.Slots.{can_exchange, came_out, same_answer}
 use Rattle.publication.proofs.Holds.{missed_ok}
-use Rattle.publication.proofs.Turns.{own_waiting, poll_turn, poll_ok, polled, room_to_return}
+use Rattle.publication.proofs.Turns.{own_waiting, outstanding_is, poll_turn, poll_ok, polled, room_to_return}
 use Rattle.publication.proofs.desk.Desk.poll.Goals as goal
 
 pub compare_exchange-requires : goal.compare_exchange-requires
@@ -32,7 +31,7 @@ exchange-requires g c = let k = c.client.invariant in let o = own_waiting _ k.ag
     let t = (c.compare_exchange.ensures.2 o.0 o.1).0 (search rules) in (search rules, can_exchange _ _ _ _ (ap (λ z. z.1) t.2))
 
 pub fetch_add-ticket-requires : goal.fetch_add-ticket-requires
-fetch_add-ticket-requires g c = let k = subst (λ b. IsClient g.S.SeqObject.op_in g.S.SeqObject.reply_in c.client.inside.member.number c.client.inside.member.calls c.client.inside.member.quota b c.client.inside.member.journal c.client.inside.member.seat.me) c.if-not-member.false c.client.invariant in
+fetch_add-ticket-requires g c = let k = outstanding_is c.if-not-member.false c.client.invariant in
     let o = own_waiting _ k.agrees.at_rest (sym k.agrees.outstanding_is) in let t = (c.compare_exchange.ensures.2 o.0 o.1).0 c.if-compare_exchange-ne-ANSWERED.false in
     let wide = c.self.invariant.0.0 in let took = ap (λ z. z.0) c.exchange.ensures.3 ∙ ap (λ z. z.0) t.2 in (
       search rules,
@@ -41,20 +40,20 @@ fetch_add-ticket-requires g c = let k = subst (λ b. IsClient g.S.SeqObject.op_i
     )
 
 pub push_reserved-requires : goal.push_reserved-requires
-push_reserved-requires g c = let k = subst (λ b. IsClient g.S.SeqObject.op_in g.S.SeqObject.reply_in c.client.inside.member.number c.client.inside.member.calls c.client.inside.member.quota b c.client.inside.member.journal c.client.inside.member.seat.me) c.if-not-member.false c.client.invariant in
+push_reserved-requires g c = let k = outstanding_is c.if-not-member.false c.client.invariant in
     let o = own_waiting _ k.agrees.at_rest (sym k.agrees.outstanding_is) in let t = (c.compare_exchange.ensures.2 o.0 o.1).0 c.if-compare_exchange-ne-ANSWERED.false in
     room_to_return g.S.SeqObject.op_in g.S.SeqObject.reply_in _ _ _ c.client.inside.member.journal _ o.0 k.agrees o.1
 
 pub invariant_of-client-2 : goal.invariant_of-client-2
-invariant_of-client-2 g c = let k = subst (λ b. IsClient g.S.SeqObject.op_in g.S.SeqObject.reply_in c.client.inside.member.number c.client.inside.member.calls c.client.inside.member.quota b c.client.inside.member.journal c.client.inside.member.seat.me) c.if-not-member.false c.client.invariant in
+invariant_of-client-2 g c = let k = outstanding_is c.if-not-member.false c.client.invariant in
     let o = own_waiting _ k.agrees.at_rest (sym k.agrees.outstanding_is) in let t = (c.compare_exchange.ensures.2 o.0 o.1).0 c.if-compare_exchange-ne-ANSWERED.false in
     let f = (c.fetch_add-ticket.ensures.2 _ _ (ap (λ z. z.0.own) c.exchange.ensures.3 ∙ ap (λ z. z.0.own) t.2)).0 in let p = c.push_reserved.ensures in
     let same = same_answer _ _ (sym (came_out _ _ _ _ _ (ap (λ m. m.1) t.2) c.exchange.ensures.2) ∙ c.in-Answer.is) in
     let turn = poll_turn g.S.SeqObject.op_in g.S.SeqObject.reply_in _ _ _ _ _ o.0 t.0 t.1 _ _ _ _ k o.1 t.2 c.exchange.ensures.3 f in
-    poll_ok g.S.SeqObject.op_in g.S.SeqObject.reply_in _ _ _ _ c.client.inside.member.journal _ o.0 t.0 t.1 _ _ k o.1 o.2 t.5 turn (p.items ∙ ap (λ a. c.client.inside.member.journal.events.items ++ Returned c.fetch_add-ticket.result a ∷ []) (sym same)) p.capacity
+    poll_ok g.S.SeqObject.op_in g.S.SeqObject.reply_in _ _ _ _ c.client.inside.member.journal _ o.0 t.0 t.1 _ _ k o.1 o.2 t.3 t.5 turn (p.items ∙ ap (λ a. c.client.inside.member.journal.events.items ++ Returned c.fetch_add-ticket.result a ∷ []) (sym same)) p.capacity
 
 pub returns-clause-polled : goal.returns-clause-polled
-returns-clause-polled g c = let k = subst (λ b. IsClient g.S.SeqObject.op_in g.S.SeqObject.reply_in c.client.inside.member.number c.client.inside.member.calls c.client.inside.member.quota b c.client.inside.member.journal c.client.inside.member.seat.me) c.if-not-member.false c.client.invariant in
+returns-clause-polled g c = let k = outstanding_is c.if-not-member.false c.client.invariant in
     let o = own_waiting _ k.agrees.at_rest (sym k.agrees.outstanding_is) in let t = (c.compare_exchange.ensures.2 o.0 o.1).0 c.if-compare_exchange-ne-ANSWERED.false in
     let f = c.fetch_add-ticket.ensures.2 _ _ (ap (λ z. z.0.own) c.exchange.ensures.3 ∙ ap (λ z. z.0.own) t.2) in
     let same = same_answer _ _ (sym (came_out _ _ _ _ _ (ap (λ m. m.1) t.2) c.exchange.ensures.2) ∙ c.in-Answer.is) in

@@ -1,18 +1,14 @@
-use Rattle.std.proofs.Common.{rules, arith, ◌≡◌, ◌<◌, ◌≤◌, ℕ, ◌+◌, ◌∷◌, ◌++◌, List, [], false, length, refl, sym, ap, ◌∙◌, subst}
-use Rattle.world.specs.declared.JournalEvent.TheVariants.{Invoked}
+use Rattle.std.proofs.Common.{rules, arith, ◌≡◌, ◌<◌, ◌+◌, List, length, refl, sym, ap, ◌∙◌, subst}
 use Rattle.model.specs.declared.Kind.{Kind}
 use Rattle.world.specs.World.{kind_at, calls_made}
 use Rattle.desk_rule.specs.Views.{own_request}
-use Rattle.desk_rule.specs.declared.board.View.{View}
 use Rattle.desk_rule.proofs.Calls.{draws_it, posts_it}
-use Rattle.publication.specs.Handles.{IsClient}
-use Rattle.publication.specs.Calls.{Posted}
 use Rattle.publication.proofs.Slots.{can_exchange}
-use Rattle.publication.proofs.Turns.{own_idle, post_turn, post_ok, posted, room_to_call}
+use Rattle.publication.proofs.Turns.{own_idle, outstanding_is, post_turn, post_ok, posted, room_to_call}
 use Rattle.publication.proofs.desk.Desk.post.Goals as goal
 
 pub fetch_add-ticket-requires : goal.fetch_add-ticket-requires
-fetch_add-ticket-requires g c = let k = subst (λ b. IsClient g.S.SeqObject.op_in g.S.SeqObject.reply_in c.client.inside.member.number c.client.inside.member.calls c.client.inside.member.quota b c.client.inside.member.journal c.client.inside.member.seat.me) c.if-member.false c.client.invariant in
+fetch_add-ticket-requires g c = let k = outstanding_is c.if-member.false c.client.invariant in
     let is = own_idle _ k.agrees.at_rest (sym k.agrees.outstanding_is) in
     let d = c.self.invariant.0 in let wide = d.0 in let e = c.exchange.ensures.3 in let ok = c.in_default.ensures.ok in
     let kinds = sym (ap (λ v. v.kinds) c.self.view_is) ∙ sym d.2 in
@@ -32,7 +28,7 @@ pub exchange-requires-2 : goal.exchange-requires-2
 exchange-requires-2 g c = let e = c.exchange.ensures.3 in (search rules, can_exchange _ _ _ _ (ap (λ z. z.1) (c.fetch_add-ticket.ensures.2 _ _ _ (ap (λ z. z.1) e)) ∙ ap (λ z. z.1) e))
 
 pub store-requires : goal.store-requires
-store-requires g c = let k = subst (λ b. IsClient g.S.SeqObject.op_in g.S.SeqObject.reply_in c.client.inside.member.number c.client.inside.member.calls c.client.inside.member.quota b c.client.inside.member.journal c.client.inside.member.seat.me) c.if-member.false c.client.invariant in
+store-requires g c = let k = outstanding_is c.if-member.false c.client.invariant in
     let is = own_idle _ k.agrees.at_rest (sym k.agrees.outstanding_is) in
     let wide = c.self.invariant.0.0 in let low = k.agrees.number_low in let e = c.exchange.ensures.3 in let f = c.fetch_add-ticket.ensures.2 _ _ _ (ap (λ z. z.1) e) in let h = c.exchange-2.ensures.3 in (
       search rules,
@@ -42,12 +38,12 @@ store-requires g c = let k = subst (λ b. IsClient g.S.SeqObject.op_in g.S.SeqOb
     )
 
 pub push_reserved-requires : goal.push_reserved-requires
-push_reserved-requires g c = let k = subst (λ b. IsClient g.S.SeqObject.op_in g.S.SeqObject.reply_in c.client.inside.member.number c.client.inside.member.calls c.client.inside.member.quota b c.client.inside.member.journal c.client.inside.member.seat.me) c.if-member.false c.client.invariant in
+push_reserved-requires g c = let k = outstanding_is c.if-member.false c.client.invariant in
     let is = own_idle _ k.agrees.at_rest (sym k.agrees.outstanding_is) in
     room_to_call g.S.SeqObject.op_in g.S.SeqObject.reply_in _ _ _ c.client.inside.member.journal _ k.agrees (search rules)
 
 pub invariant_of-client-2 : goal.invariant_of-client-2
-invariant_of-client-2 g c = let k = subst (λ b. IsClient g.S.SeqObject.op_in g.S.SeqObject.reply_in c.client.inside.member.number c.client.inside.member.calls c.client.inside.member.quota b c.client.inside.member.journal c.client.inside.member.seat.me) c.if-member.false c.client.invariant in
+invariant_of-client-2 g c = let k = outstanding_is c.if-member.false c.client.invariant in
     let is = own_idle _ k.agrees.at_rest (sym k.agrees.outstanding_is) in
     let e = c.exchange.ensures.3 in let f = c.fetch_add-ticket.ensures.2 _ _ _ (ap (λ z. z.1) e) in let h = c.exchange-2.ensures.3 in let p = c.push_reserved.ensures in let few = c.self.invariant.0.5 in let ok = c.in_default.ensures.ok in
     let turn = post_turn g.S.SeqObject.op_in g.S.SeqObject.reply_in _ _ _ _ _ (record { object = c.args.object; ticket = c.fetch_add-ticket.result; op = c.args.op }) _ _ _ _ _ k e f h (c.store.ensures.2 _ (ap (λ z. z.0.own) h ∙ ap (λ z. z.0.own) f)) in
@@ -55,7 +51,7 @@ invariant_of-client-2 g c = let k = subst (λ b. IsClient g.S.SeqObject.op_in g.
     post_ok g.S.SeqObject.op_in g.S.SeqObject.reply_in _ _ _ c.client.inside.member.journal _ _ _ _ k turn (omega arith) (search rules) p.items p.capacity
 
 pub returns-clause-posted : goal.returns-clause-posted
-returns-clause-posted g c = let k = subst (λ b. IsClient g.S.SeqObject.op_in g.S.SeqObject.reply_in c.client.inside.member.number c.client.inside.member.calls c.client.inside.member.quota b c.client.inside.member.journal c.client.inside.member.seat.me) c.if-member.false c.client.invariant in
+returns-clause-posted g c = let k = outstanding_is c.if-member.false c.client.invariant in
     let is = own_idle _ k.agrees.at_rest (sym k.agrees.outstanding_is) in
     let e = c.exchange.ensures.3 in let f = c.fetch_add-ticket.ensures.2 _ _ _ (ap (λ z. z.1) e) in let h = c.exchange-2.ensures.3 in
     let turn = post_turn g.S.SeqObject.op_in g.S.SeqObject.reply_in _ _ _ _ _ (record { object = c.args.object; ticket = c.fetch_add-ticket.result; op = c.args.op }) _ _ _ _ _ k e f h (c.store.ensures.2 _ (ap (λ z. z.0.own) h ∙ ap (λ z. z.0.own) f)) in

@@ -1,4 +1,4 @@
-use Rattle.std.proofs.Common.{rules, arith, ◌≡◌, ◌<◌, ℕ, ◌+◌, ◌∷◌, ◌++◌, length, refl, sym, ap, ◌∙◌, subst}
+use Rattle.std.proofs.Common.{rules, arith, ◌≡◌, ◌<◌, ℕ, ◌+◌, length, sym, ap, ◌∙◌, subst}
 use Rattle.desk_rule.proofs.Locks.{wins}
 use Rattle.publication.proofs.Slots.{came_out, same_core, can_exchange}
 use Rattle.publication.proofs.Holds.{missed_ok, pass_ok}

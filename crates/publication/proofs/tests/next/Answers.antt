@@ -2,7 +2,7 @@ use Rattle.std.proofs.Common.{ap}
 use Rattle.desk_rule.specs.Views.{is_waiting}
 use Rattle.publication.specs.Handles.{begun}
 use Rattle.publication.proofs.Growing.{one_fewer}
-use Rattle.publication.proofs.tests.making.next.Goals as goal
+use Rattle.publication.proofs.tests.next.Goals as goal
 
 pub returns-clause-client : goal.returns-clause-client
 returns-clause-client c = let e = one_fewer (begun c.args.desk.now.id c.args.desk.now.kinds) c.pop.new.self.items c.args.clients.now.items c.in-Some.client c.in-Some.ensures.items c.requires.1 in
