@@ -81,6 +81,7 @@ fn answer<R: Abort>(
 {
     match pass.pick(desk, row) {
         Picked::Got(hand) => {
+            assert_eq!(rt; hand.request().object, 0);
             assert!(rt; hand.possible());
             hand.answer(desk).0
         }
