@@ -3,3 +3,4 @@ pub mod Linking
 pub mod Bags
 pub mod Heaping
 pub mod Counting
+pub mod Merging
