@@ -1,0 +1,5 @@
+pub mod Rows
+pub mod RuleKept
+pub mod PlaceSteps
+pub mod WalkerSteps
+pub mod RosterMaking

@@ -1,0 +1,5 @@
+pub mod PublicationList
+pub mod Rule
+pub mod Plays
+pub mod Calls
+pub mod Inside

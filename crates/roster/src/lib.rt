@@ -1,0 +1,19 @@
+//! The publication list of flat combining: which rows a combiner looks at.
+//!
+//! The owner of a row puts it in front of the list. A combiner walks the list, and takes rows out.
+//! Hendler, Incze, Shavit, Tzafrir, "Flat Combining and the Synchronization-Parallelism Tradeoff", SPAA 2010.
+#![tactic(auto)]
+
+mod board;
+mod place;
+mod plays;
+mod roster;
+mod walker;
+
+pub use board::Enlist;
+pub use place::Place;
+pub use roster::Roster;
+pub use walker::Walker;
+
+#[cfg(test)]
+mod tests;
