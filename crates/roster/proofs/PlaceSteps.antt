@@ -34,10 +34,6 @@ abbrev number_of : View → ℕ
 number_of (view.Place c o t) = c
 number_of v = 0
 
-abbrev own_of : View → Own
-own_of (view.Place c o t) = o
-own_of v = own.Unknown
-
 abbrev over : Enlist → View → View
 over e (view.Place c o t) = view.Place c o (t ++ e ∷ [])
 over e v = v
@@ -51,7 +47,12 @@ see_keeps_rule slots id i c o t cs s k deep at small = (view.Place c o t, keeps,
 
 pub look_keeps_rule : (slots id c : ℕ) (t : List Enlist) (cs : List (ℕ × ℕ)) → Allows Holds slots id (view.Place c own.Unknown t, cs) (33 + c) (λ f. f) (play.looks (step slots (33 + c) 0 0 maybe.none) (view.Place c own.Unknown t, cs))
 look_keeps_rule slots id c t cs s k deep at small =
-    let w : PublicationList = k.list in let me : View = view.Place c own.Unknown t in let ok = known s k id c own.Unknown t at in let few = k.sound.few in let low = ok.1 in let word = k.tied.marks c (omega arith) in
+    let w : PublicationList = k.list in
+    let me : View = view.Place c own.Unknown t in
+    let ok = known s k id c own.Unknown t at in
+    let few = k.sound.few in
+    let low = ok.1 in
+    let word = k.tied.marks c (omega arith) in
     dite (ℕ_discrete (get_or s.words (33 + c) 0) 0)
     (λ zero. let asleep' = unmarked own.Unknown (w.stage c) refl ok.2 (sym word ∙ zero) in (
       view.Place c own.Asleep t,
@@ -64,8 +65,14 @@ look_keeps_rule slots id c t cs s k deep at small =
 
 pub wake_keeps_rule : (slots id c : ℕ) (t : List Enlist) (cs : List (ℕ × ℕ)) → Allows Holds slots id (view.Place c own.Asleep t, cs) (33 + c) (λ _. 1) (λ _. play.wakes (step slots (33 + c) 1 0 maybe.none) (view.Place c own.Asleep t, cs) 1)
 wake_keeps_rule slots id c t cs s k deep at small =
-    let w : PublicationList = k.list in let ok = known s k id c own.Asleep t at in let few = k.sound.few in let low = ok.1 in let n : ℕ = get_or s.words (1 + c) 0 in let was : w.stage c ≡ asleep = ok.2 in
-    let not_listed : w.stage c ≢ listed = λ e. let g = sym was ∙ e in absurd (cc) in let not_unlinked : w.stage c ≢ unlinked = λ e. let g = sym was ∙ e in absurd (cc) in (
+    let w : PublicationList = k.list in
+    let ok = known s k id c own.Asleep t at in
+    let few = k.sound.few in
+    let low = ok.1 in
+    let n : ℕ = get_or s.words (1 + c) 0 in
+    let was : w.stage c ≡ asleep = ok.2 in
+    let not_listed : w.stage c ≢ listed = λ e. let g = sym was ∙ e in absurd (cc) in
+    let not_unlinked : w.stage c ≢ unlinked = λ e. let g = sym was ∙ e in absurd (cc) in (
       view.Place c (own.Awake n) t,
       keeps,
       tt,
@@ -83,8 +90,13 @@ wake_keeps_rule slots id c t cs s k deep at small =
 
 pub link_keeps_rule : (slots id c m n : ℕ) (t : List Enlist) (cs : List (ℕ × ℕ)) → Allows Holds slots id (view.Place c (own.Awake m) t, cs) (1 + c) (λ _. n) (λ _. play.links (step slots (1 + c) n 0 maybe.none) (view.Place c (own.Awake m) t, cs) n)
 link_keeps_rule slots id c m n t cs s k deep at small =
-    let w : PublicationList = k.list in let ok = known s k id c (own.Awake m) t at in let few = k.sound.few in let low = ok.1 in let was : w.stage c ≡ awake m = ok.2 in
-    let not_listed : w.stage c ≢ listed = λ e. let g = sym was ∙ e in absurd (cc) in let not_unlinked : w.stage c ≢ unlinked = λ e. let g = sym was ∙ e in absurd (cc) in (
+    let w : PublicationList = k.list in
+    let ok = known s k id c (own.Awake m) t at in
+    let few = k.sound.few in
+    let low = ok.1 in
+    let was : w.stage c ≡ awake m = ok.2 in
+    let not_listed : w.stage c ≢ listed = λ e. let g = sym was ∙ e in absurd (cc) in
+    let not_unlinked : w.stage c ≢ unlinked = λ e. let g = sym was ∙ e in absurd (cc) in (
       view.Place c (own.Awake n) t,
       keeps,
       tt,
@@ -102,8 +114,14 @@ link_keeps_rule slots id c m n t cs s k deep at small =
 
 pub enlist_keeps_rule : (slots id c m : ℕ) (t : List Enlist) (cs : List (ℕ × ℕ)) → Allows Holds slots id (view.Place c (own.Awake m) t, cs) 0 (λ f. either (eqb f m) (1 + c) f) (play.enlists (step slots 0 m (1 + c) maybe.none) (view.Place c (own.Awake m) t, cs))
 enlist_keeps_rule slots id c m t cs s k deep at small =
-    let w : PublicationList = k.list in let me : View = view.Place c (own.Awake m) t in let ok = known s k id c (own.Awake m) t at in let few = k.sound.few in let low = ok.1 in let was : w.stage c ≡ awake m = ok.2 in
-    let not_unlinked : w.stage c ≢ unlinked = λ e. let g = sym was ∙ e in absurd (cc) in let found : ℕ = get_or s.words 0 0 in
+    let w : PublicationList = k.list in
+    let me : View = view.Place c (own.Awake m) t in
+    let ok = known s k id c (own.Awake m) t at in
+    let few = k.sound.few in
+    let low = ok.1 in
+    let was : w.stage c ≡ awake m = ok.2 in
+    let not_unlinked : w.stage c ≢ unlinked = λ e. let g = sym was ∙ e in absurd (cc) in
+    let found : ℕ = get_or s.words 0 0 in
     dite (ℕ_discrete found m)
     (λ hit. (
       view.Place c own.Unknown (t ++ Listed ∷ []),
@@ -146,10 +164,6 @@ look_allowed slots id c t m p = subst (λ z. Allows Holds slots id z (33 + c) (�
 pub look_found_asleep : (c found : ℕ) (t : List Enlist) (m m' : Hands) → IsPlace c false t m → play.looks (step 0 (33 + c) 0 0 maybe.none) m found m' → found ≡ 0 → m' ≡ on c own.Asleep t
 look_found_asleep c found t m m' p h e = let is = at_rest c t m p in (h c own.Unknown t (ap (λ z. z.0) is)).0 e ∙ ap (λ z. (view.Place c own.Asleep t, z.1)) is
 
--- the mark was set
-pub look_found_active : (c found : ℕ) (t : List Enlist) (m m' : Hands) → IsPlace c false t m → play.looks (step 0 (33 + c) 0 0 maybe.none) m found m' → found ≢ 0 → IsPlace c false (t ++ Already ∷ []) m'
-look_found_active c found t m m' p h e = let is = at_rest c t m p in (p.0, (own.Unknown, (h c own.Unknown t (ap (λ z. z.0) is)).1 e ∙ ap (λ z. (view.Place c own.Unknown (t ++ Already ∷ []), z.1)) is, refl))
-
 pub wake_allowed : (slots id c : ℕ) (t : List Enlist) (m : Hands) → m ≡ on c own.Asleep t → Allows Holds slots id m (33 + c) (λ _. 1) (λ _. play.wakes (step slots (33 + c) 1 0 maybe.none) m 1)
 wake_allowed slots id c t m e = subst (λ z. Allows Holds slots id z (33 + c) (λ _. 1) (λ _. play.wakes (step slots (33 + c) 1 0 maybe.none) z 1)) (sym e) (wake_keeps_rule slots id c t [])
 
@@ -168,9 +182,5 @@ link_leaves_linked c n t m m' p h = let a = trying c t m p in h c (own.Awake a.0
 pub enlist_allowed : (slots id c n : ℕ) (t : List Enlist) (m : Hands) → m ≡ on c (own.Awake n) t → Allows Holds slots id m 0 (λ f. either (eqb f n) (1 + c) f) (play.enlists (step slots 0 n (1 + c) maybe.none) m)
 enlist_allowed slots id c n t m e = subst (λ z. Allows Holds slots id z 0 (λ f. either (eqb f n) (1 + c) f) (play.enlists (step slots 0 n (1 + c) maybe.none) z)) (sym e) (enlist_keeps_rule slots id c n t [])
 
-pub enlist_leaves_listed : (c n found : ℕ) (t : List Enlist) (m m' : Hands) → c < 32 → m ≡ on c (own.Awake n) t → play.enlists (step 0 0 n (1 + c) maybe.none) m found m' → found ≡ n → IsPlace c false (t ++ Listed ∷ []) m'
-enlist_leaves_listed c n found t m m' low is h e = (low, (own.Unknown, (h c (own.Awake n) t (ap (λ z. z.0) is)).0 e ∙ ap (λ z. (view.Place c own.Unknown (t ++ Listed ∷ []), z.1)) is, refl))
-
 pub enlist_leaves_missed : (c n found : ℕ) (t : List Enlist) (m m' : Hands) → c < 32 → m ≡ on c (own.Awake n) t → play.enlists (step 0 0 n (1 + c) maybe.none) m found m' → found ≢ n → IsPlace c true (t ++ Missed ∷ []) m'
 enlist_leaves_missed c n found t m m' low is h e = (low, (own.Awake n, (h c (own.Awake n) t (ap (λ z. z.0) is)).1 e ∙ ap (λ z. (view.Place c (own.Awake n) (t ++ Missed ∷ []), z.1)) is, (n, refl)))
-

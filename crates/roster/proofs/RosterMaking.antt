@@ -53,8 +53,14 @@ later w j (view.Place d o ts) other ok = let low = ok.1 in (ok.0, omega arith, o
 
 pub split_keeps_rule : (id made : ℕ) (left : List ℕ) (out : Option ℕ) (walks : List (List ℕ)) → made < 32 → Splits Holds id (view.Walker made left out walks) (view.Walker (made + 1) left out walks) (view.Place made own.Unknown [])
 split_keeps_rule id made left out walks low s k at =
-    let w : PublicationList = k.list in let ok : ViewOk w id (view.Walker made left out walks) = k.seats id (view.Walker made left out walks) at in let is : made ≡ w.made = ok.1 in let w' : PublicationList = record w { made = w.made + 1 } in
-    let l : View = view.Walker (made + 1) left out walks in let new : View = view.Place made own.Unknown [] in let count = k.count in let long = length-set s.views id l in record {
+    let w : PublicationList = k.list in
+    let ok : ViewOk w id (view.Walker made left out walks) = k.seats id (view.Walker made left out walks) at in
+    let is : made ≡ w.made = ok.1 in
+    let w' : PublicationList = record w { made = w.made + 1 } in
+    let l : View = view.Walker (made + 1) left out walks in
+    let new : View = view.Place made own.Unknown [] in
+    let count = k.count in
+    let long = length-set s.views id l in record {
       list = w';
       sound = record { few = omega arith; low = λ i h. let z = k.sound.low i h in omega arith; distinct = k.sound.distinct; listed = k.sound.listed };
       tied = record { wide = k.tied.wide; head = k.tied.head; nexts = k.tied.nexts; links = k.tied.links; marks = k.tied.marks };
@@ -84,4 +90,3 @@ ArePlaces-more id n xs ys p k more is = (
       (λ (e : j ≡ n). subst (λ z. get_elem? (xs ++ p ∷ []) z ≡ some (record { roster = id; row = z; tries = [] })) (sym e) (at_last xs p n k.0 ∙ ap some is))
       (λ ne. at_longer xs (p ∷ []) j (record { roster = id; row = j; tries = [] }) (k.1 j (omega arith)))),
 )
-

@@ -52,7 +52,9 @@ word_at-remove_below l i k inside low = let long = length-remove l i inside in
     word_at_in (remove l i) k (omega arith) ∙ (ap (λ z. 1 + z) (get_or-remove_below l i 0 k low inside) ∙ sym (word_at_in l k (omega arith)))
 
 pub word_at-remove_above : (l : List ℕ) (i k : ℕ) → i < length l → i ≤ k → word_at (remove l i) k ≡ word_at l (suc k)
-word_at-remove_above l i k inside above = let next : k + 1 ≡ suc k = omega arith in let long = length-remove l i inside in dite (dec_le (length (remove l i)) k)
+word_at-remove_above l i k inside above =
+    let next : k + 1 ≡ suc k = omega arith in
+    let long = length-remove l i inside in dite (dec_le (length (remove l i)) k)
     (λ past. word_at_past (remove l i) k past ∙ sym (word_at_past l (suc k) (omega arith)))
     (λ n. let low = lt_of_not-le n in word_at_in (remove l i) k low ∙ (ap (λ z. 1 + z) (get_or-remove_above l i 0 k above inside ∙ ap (λ z. get_or l z 0) next) ∙ sym (word_at_in l (suc k) (omega arith))))
 
@@ -61,13 +63,18 @@ distinct_right xs ys d i j li lj e = let long = length-append xs ys in
     let both : length xs + i ≡ length xs + j = d (length xs + i) (length xs + j) (omega arith) (omega arith) (get_or-append-add xs ys i 0 ∙ (e ∙ sym (get_or-append-add xs ys j 0))) in omega arith
 
 pub distinct_remove : (l : List ℕ) (p : ℕ) → p < length l → IsDistinct l → IsDistinct (remove l p)
-distinct_remove l p inside d i j li lj e = let a = was_at l p i inside li in let b = was_at l p j inside lj in let same : a.0 ≡ b.0 = d a.0 b.0 a.1 b.1 (sym a.2 ∙ (e ∙ b.2)) in
+distinct_remove l p inside d i j li lj e =
+    let a = was_at l p i inside li in
+    let b = was_at l p j inside lj in
+    let same : a.0 ≡ b.0 = d a.0 b.0 a.1 b.1 (sym a.2 ∙ (e ∙ b.2)) in
     ⊎_elim (λ (x : (i < p) × (a.0 ≡ i)). ⊎_elim (λ (y : (j < p) × (b.0 ≡ j)). let u = x.1 in let v = y.1 in omega arith) (λ (y : (p ≤ j) × (b.0 ≡ j + 1)). let u = x.1 in let v = y.1 in let s = x.0 in let t = y.0 in omega arith) b.3)
     (λ (x : (p ≤ i) × (a.0 ≡ i + 1)). ⊎_elim (λ (y : (j < p) × (b.0 ≡ j)). let u = x.1 in let v = y.1 in let s = x.0 in let t = y.0 in omega arith) (λ (y : (p ≤ j) × (b.0 ≡ j + 1)). let u = x.1 in let v = y.1 in omega arith) b.3) a.3
 
 -- what was taken out is gone
 pub gone : (l : List ℕ) (p k : ℕ) → p < length l → IsDistinct l → k < length (remove l p) → get_or (remove l p) k 0 ≢ get_or l p 0
-gone l p k inside d low e = let a = was_at l p k inside low in let same : a.0 ≡ p = d a.0 p a.1 inside (sym a.2 ∙ e) in
+gone l p k inside d low e =
+    let a = was_at l p k inside low in
+    let same : a.0 ≡ p = d a.0 p a.1 inside (sym a.2 ∙ e) in
     ⊎_elim (λ (x : (k < p) × (a.0 ≡ k)). let u = x.1 in let v = x.0 in omega arith) (λ (x : (p ≤ k) × (a.0 ≡ k + 1)). let u = x.1 in let v = x.0 in omega arith) a.3
 
 pub distinct_more : (x : ℕ) (xs : List ℕ) → ((k : ℕ) → k < length xs → get_or xs k 0 ≢ x) → IsDistinct xs → IsDistinct (x ∷ xs)
@@ -90,5 +97,9 @@ few_below zero [] d low = omega arith
 few_below zero (x ∷ xs) d low = let h = low 0 (omega arith) in absurd (omega arith)
 few_below (suc n) l d low = ⊎_elim
     (λ (t : (i : ℕ) × (i < length l) × (get_or l i 0 ≡ n)). let long = length-remove l t.0 t.1 in
-    let rest = few_below n (remove l t.0) (distinct_remove l t.0 t.1 d) (λ k h. let a = was_at l t.0 k t.1 h in let lt = low a.0 a.1 in let ne = gone l t.0 k t.1 d h in let e = a.2 in let other : get_or (remove l t.0) k 0 ≢ n = λ f. ne (f ∙ sym t.2) in omega arith) in omega arith)
+    let rest = few_below n (remove l t.0) (distinct_remove l t.0 t.1 d) (λ k h. let a = was_at l t.0 k t.1 h in
+    let lt = low a.0 a.1 in
+    let ne = gone l t.0 k t.1 d h in
+    let e = a.2 in
+    let other : get_or (remove l t.0) k 0 ≢ n = λ f. ne (f ∙ sym t.2) in omega arith) in omega arith)
     (λ t. let rest = few_below n l d (λ k h. let lt = low k h in let ne = t k h in omega arith) in omega arith) (found n l)

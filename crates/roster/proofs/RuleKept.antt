@@ -1,4 +1,4 @@
--- What a step leaves: the world's own facts, the words, and what the other seats know.
+-- What a step leaves: what holds of the list itself, the words, and what the other seats know.
 use Rattle.std.proofs.Common.{◌≡◌, ◌≢◌, ◌⊎◌, ℕ, zero, suc, ◌+◌, ◌<◌, ◌≤◌, List, ◌∷◌, ◌++◌, length, get_or, set, remove, Option, Some, None, length-set, get_or-set_other, get_or-set_same, refl, sym, ap, ◌∙◌, subst, ⊎_elim, append_assoc, arith}
 use mathlib.Core.Logic.{dite}
 use native.Mathlib.Decide.{ℕ_discrete}
@@ -14,7 +14,7 @@ use Rattle.roster.specs.PublicationList.{Stage, asleep, awake, listed, unlinked,
 use Rattle.roster.specs.Rule.{OwnOk, TakenOutOk, ViewOk, Sound, Tied, Kept}
 use Rattle.roster.proofs.Rows.{changed_here, changed_else, changed_all, was_at, word_at-remove_below, word_at-remove_above, distinct_remove, distinct_more, gone}
 
--- the world with the row r at the stage t, and these rows listed
+-- the list with the row r at the stage t, and these rows listed
 abbrev pub with_stage : PublicationList → ℕ → Stage → List ℕ → PublicationList
 with_stage w r t rows = record { made = w.made; rows = rows; stage = changed w.stage r t }
 
@@ -43,26 +43,30 @@ stage_keeps_sound w r t not k = record {
 
 -- the mark of a row that is not listed changes
 pub mark_keeps_tied : (w : PublicationList) (r n : ℕ) (t : Stage) (words : List ℕ) → r < 32 → n ≡ mark_of t → ((m : ℕ) → t ≡ awake m → get_or words (1 + r) 0 ≡ m) → Sound w → Tied w words → Tied (with_stage w r t w.rows) (set words (33 + r) n)
-mark_keeps_tied w r n t words low word link s k = let wide = k.wide in let few = s.few in record {
-  wide = length-set words (33 + r) n ∙ wide;
-  head = get_or-set_other words (33 + r) 0 n 0 (λ e. omega arith) ∙ k.head;
-  nexts = λ i l. let h = s.low i l in get_or-set_other words (33 + r) (1 + get_or w.rows i 0) n 0 (λ e. omega arith) ∙ k.nexts i l;
-  links = λ q m l e. get_or-set_other words (33 + r) (1 + q) n 0 (λ f. omega arith) ∙ changed_all (λ p z. p < 32 → z ≡ awake m → get_or words (1 + p) 0 ≡ m) w.stage r t (λ _. link m) (λ p _ lp. k.links p m lp) q l e;
-  marks = changed_all (λ p z. p < 32 → get_or (set words (33 + r) n) (33 + p) 0 ≡ mark_of z) w.stage r t
-      (λ _. get_or-set_same words (33 + r) n 0 (omega arith) ∙ word) (λ p other l. get_or-set_other words (33 + r) (33 + p) n 0 (λ e. other (omega arith)) ∙ k.marks p l);
-}
+mark_keeps_tied w r n t words low word link s k =
+    let wide = k.wide in
+    let few = s.few in record {
+      wide = length-set words (33 + r) n ∙ wide;
+      head = get_or-set_other words (33 + r) 0 n 0 (λ e. omega arith) ∙ k.head;
+      nexts = λ i l. let h = s.low i l in get_or-set_other words (33 + r) (1 + get_or w.rows i 0) n 0 (λ e. omega arith) ∙ k.nexts i l;
+      links = λ q m l e. get_or-set_other words (33 + r) (1 + q) n 0 (λ f. omega arith) ∙ changed_all (λ p z. p < 32 → z ≡ awake m → get_or words (1 + p) 0 ≡ m) w.stage r t (λ _. link m) (λ p _ lp. k.links p m lp) q l e;
+      marks = changed_all (λ p z. p < 32 → get_or (set words (33 + r) n) (33 + p) 0 ≡ mark_of z) w.stage r t
+          (λ _. get_or-set_same words (33 + r) n 0 (omega arith) ∙ word) (λ p other l. get_or-set_other words (33 + r) (33 + p) n 0 (λ e. other (omega arith)) ∙ k.marks p l);
+    }
 
 -- the next word of a row that is awake changes
 pub link_keeps_tied : (w : PublicationList) (r n m : ℕ) (words : List ℕ) → r < 32 → w.stage r ≡ awake m → Sound w → Tied w words → Tied (with_stage w r (awake n) w.rows) (set words (1 + r) n)
-link_keeps_tied w r n m words low was s k = let wide = k.wide in let few = s.few in record {
-  wide = length-set words (1 + r) n ∙ wide;
-  head = get_or-set_other words (1 + r) 0 n 0 (λ e. omega arith) ∙ k.head;
-  nexts = λ i l. get_or-set_other words (1 + r) (1 + get_or w.rows i 0) n 0 (λ e. let same : get_or w.rows i 0 ≡ r = omega arith in let g = sym was ∙ (ap w.stage (sym same) ∙ s.listed i l) in absurd (cc)) ∙ k.nexts i l;
-  links = λ q p l. changed_all (λ q z. q < 32 → z ≡ awake p → get_or (set words (1 + r) n) (1 + q) 0 ≡ p) w.stage r (awake n)
-      (λ _ e. get_or-set_same words (1 + r) n 0 (omega arith) ∙ (cc)) (λ q other lq e. get_or-set_other words (1 + r) (1 + q) n 0 (λ f. other (omega arith)) ∙ k.links q p lq e) q l;
-  marks = changed_all (λ q z. q < 32 → get_or (set words (1 + r) n) (33 + q) 0 ≡ mark_of z) w.stage r (awake n)
-      (λ l. get_or-set_other words (1 + r) (33 + r) n 0 (λ e. omega arith) ∙ (k.marks r l ∙ ap mark_of was)) (λ q other l. get_or-set_other words (1 + r) (33 + q) n 0 (λ e. omega arith) ∙ k.marks q l);
-}
+link_keeps_tied w r n m words low was s k =
+    let wide = k.wide in
+    let few = s.few in record {
+      wide = length-set words (1 + r) n ∙ wide;
+      head = get_or-set_other words (1 + r) 0 n 0 (λ e. omega arith) ∙ k.head;
+      nexts = λ i l. get_or-set_other words (1 + r) (1 + get_or w.rows i 0) n 0 (λ e. let same : get_or w.rows i 0 ≡ r = omega arith in let g = sym was ∙ (ap w.stage (sym same) ∙ s.listed i l) in absurd (cc)) ∙ k.nexts i l;
+      links = λ q p l. changed_all (λ q z. q < 32 → z ≡ awake p → get_or (set words (1 + r) n) (1 + q) 0 ≡ p) w.stage r (awake n)
+          (λ _ e. get_or-set_same words (1 + r) n 0 (omega arith) ∙ (cc)) (λ q other lq e. get_or-set_other words (1 + r) (1 + q) n 0 (λ f. other (omega arith)) ∙ k.links q p lq e) q l;
+      marks = changed_all (λ q z. q < 32 → get_or (set words (1 + r) n) (33 + q) 0 ≡ mark_of z) w.stage r (awake n)
+          (λ l. get_or-set_other words (1 + r) (33 + r) n 0 (λ e. omega arith) ∙ (k.marks r l ∙ ap mark_of was)) (λ q other l. get_or-set_other words (1 + r) (33 + q) n 0 (λ e. omega arith) ∙ k.marks q l);
+    }
 
 -- a row that is awake is put in front
 pub enlist_keeps_sound : (w : PublicationList) (r n : ℕ) → r < w.made → w.stage r ≡ awake n → Sound w → Sound (with_stage w r listed (r ∷ w.rows))
@@ -111,16 +115,19 @@ unlink_keeps_sound w p inside k = record {
 
 pub unlink_keeps_tied : (w : PublicationList) (p n : ℕ) (words : List ℕ) → suc p < length w.rows → n ≡ word_at w.rows (suc (suc p)) → Sound w → Tied w words
     → Tied (with_stage w (get_or w.rows (suc p) 0) unlinked (remove w.rows (suc p))) (set words (1 + get_or w.rows p 0) n)
-unlink_keeps_tied w p n words inside word s k = let wide = k.wide in let few = s.few in let low = s.low p (omega arith) in record {
-  wide = length-set words (1 + get_or w.rows p 0) n ∙ wide;
-  head = get_or-set_other words (1 + get_or w.rows p 0) 0 n 0 (λ e. omega arith) ∙ (k.head ∙ sym (word_at-remove_below w.rows (suc p) 0 inside (omega arith)));
-  nexts = λ i l. next_there i l (was_at w.rows (suc p) i inside l);
-  links = λ q m l. changed_all (λ q z. q < 32 → z ≡ awake m → get_or (set words (1 + get_or w.rows p 0) n) (1 + q) 0 ≡ m) w.stage (get_or w.rows (suc p) 0) unlinked
-      (λ _ e. absurd (cc)) (λ q other lq e. get_or-set_other words (1 + get_or w.rows p 0) (1 + q) n 0 (λ f. let same : q ≡ get_or w.rows p 0 = omega arith in let g = sym e ∙ (ap w.stage same ∙ s.listed p (omega arith)) in absurd (cc)) ∙ k.links q m lq e) q l;
-  marks = changed_all (λ q z. q < 32 → get_or (set words (1 + get_or w.rows p 0) n) (33 + q) 0 ≡ mark_of z) w.stage (get_or w.rows (suc p) 0) unlinked
-      (λ l. get_or-set_other words (1 + get_or w.rows p 0) (33 + get_or w.rows (suc p) 0) n 0 (λ e. omega arith) ∙ (k.marks (get_or w.rows (suc p) 0) l ∙ ap mark_of (s.listed (suc p) inside)))
-      (λ q other l. get_or-set_other words (1 + get_or w.rows p 0) (33 + q) n 0 (λ e. omega arith) ∙ k.marks q l);
-}
+unlink_keeps_tied w p n words inside word s k =
+    let wide = k.wide in
+    let few = s.few in
+    let low = s.low p (omega arith) in record {
+      wide = length-set words (1 + get_or w.rows p 0) n ∙ wide;
+      head = get_or-set_other words (1 + get_or w.rows p 0) 0 n 0 (λ e. omega arith) ∙ (k.head ∙ sym (word_at-remove_below w.rows (suc p) 0 inside (omega arith)));
+      nexts = λ i l. next_there i l (was_at w.rows (suc p) i inside l);
+      links = λ q m l. changed_all (λ q z. q < 32 → z ≡ awake m → get_or (set words (1 + get_or w.rows p 0) n) (1 + q) 0 ≡ m) w.stage (get_or w.rows (suc p) 0) unlinked
+          (λ _ e. absurd (cc)) (λ q other lq e. get_or-set_other words (1 + get_or w.rows p 0) (1 + q) n 0 (λ f. let same : q ≡ get_or w.rows p 0 = omega arith in let g = sym e ∙ (ap w.stage same ∙ s.listed p (omega arith)) in absurd (cc)) ∙ k.links q m lq e) q l;
+      marks = changed_all (λ q z. q < 32 → get_or (set words (1 + get_or w.rows p 0) n) (33 + q) 0 ≡ mark_of z) w.stage (get_or w.rows (suc p) 0) unlinked
+          (λ l. get_or-set_other words (1 + get_or w.rows p 0) (33 + get_or w.rows (suc p) 0) n 0 (λ e. omega arith) ∙ (k.marks (get_or w.rows (suc p) 0) l ∙ ap mark_of (s.listed (suc p) inside)))
+          (λ q other l. get_or-set_other words (1 + get_or w.rows p 0) (33 + q) n 0 (λ e. omega arith) ∙ k.marks q l);
+    }
   where
     -- of another row than that at p, the next word is as it was
     next_else : (j : ℕ) → j < length w.rows → j ≢ p → get_or (set words (1 + get_or w.rows p 0) n) (1 + get_or w.rows j 0) 0 ≡ word_at w.rows (suc j)
@@ -137,13 +144,13 @@ unlink_keeps_tied w p n words inside word s k = let wide = k.wide in let few = s
 abbrev pub St : Type 0
 St = State ℕ View
 
--- after a step of the seat id to the world w', each view is true
+-- after a step of the seat id to the list w', each view is true
 seats_after : (w w' : PublicationList) (vs : List View) (id : ℕ) (v' : View) → ((j : ℕ) (u : View) → get_elem? vs j ≡ some u → ViewOk w j u) → ((j : ℕ) (u : View) → j ≢ id → ViewOk w j u → ViewOk w' j u) → ViewOk w' id v'
     → (j : ℕ) (u : View) → get_elem? (set vs id v') j ≡ some u → ViewOk w' j u
 seats_after w w' vs id v' before others ok j u e = ⊎_elim (λ (t : (j ≡ id) × (v' ≡ u)). subst (λ (z : ℕ × View). ViewOk w' z.0 z.1) (λ i. (sym t.0 i, t.1 i)) ok)
     (λ (t : (j ≢ id) × (get_elem? vs j ≡ some u)). others j u t.0 (before j u t.1)) (at_set vs id j v' u e)
 
--- the world after a step of the seat id, with what the rule asks of it
+-- the list after a step of the seat id, with what the rule asks of it
 pub record After (s : St) (k : Kept s) (id : ℕ) (v' : View) (words : List ℕ) : Type 0 where
   pub list : PublicationList
   pub same : list.made ≡ k.list.made

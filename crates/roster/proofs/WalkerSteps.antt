@@ -37,7 +37,9 @@ known s k id made left out walks at = k.seats id (view.Walker made left out walk
 -- the list as it is now begins with newcomers, and goes on with what the walker has met
 pub meet_keeps_rule : (slots id made : ℕ) (left : List ℕ) (out : Option ℕ) (walks : List (List ℕ)) (cs : List (ℕ × ℕ)) → Allows Holds slots id (view.Walker made left out walks, cs) 0 (λ f. f) (play.meets (step slots 0 0 0 maybe.none) (view.Walker made left out walks, cs))
 meet_keeps_rule slots id made left out walks cs s k deep at small =
-    let w : PublicationList = k.list in let ok = known s k id made left out walks at in let pre : List ℕ = ok.2.0 in (
+    let w : PublicationList = k.list in
+    let ok = known s k id made left out walks at in
+    let pre : List ℕ = ok.2.0 in (
       view.Walker made w.rows out (walks ++ w.rows ∷ []),
       keeps,
       tt,
@@ -57,7 +59,9 @@ placed : (rows pre left : List ℕ) (i : ℕ) → rows ≡ pre ++ left → get_o
 placed rows pre left i e = ap (λ z. get_or z (length pre + i) 0) e ∙ get_or-append-add pre left i 0
 
 placed_low : (rows pre left : List ℕ) (i : ℕ) → rows ≡ pre ++ left → i < length left → length pre + i < length rows
-placed_low rows pre left i e low = let long : length rows ≡ length (pre ++ left) = ap length e in let both = length-append pre left in omega arith
+placed_low rows pre left i e low =
+    let long : length rows ≡ length (pre ++ left) = ap length e in
+    let both = length-append pre left in omega arith
 
 -- the next word of a row that the walker has met leads to the place behind it
 next_of : (w : PublicationList) (words pre left : List ℕ) (i : ℕ) → w.rows ≡ pre ++ left → i < length left → Tied w words → get_or words (1 + get_or left i 0) 0 ≡ word_at left (suc i)
@@ -66,7 +70,9 @@ next_of w words pre left i e low k = ap (λ z. get_or words (1 + z) 0) (sym (pla
 
 pub follow_keeps_rule : (slots id i made : ℕ) (left : List ℕ) (out : Option ℕ) (walks : List (List ℕ)) (cs : List (ℕ × ℕ)) → Allows Holds slots id (view.Walker made left out walks, cs) i (λ f. f) (play.follows (step slots i 0 0 maybe.none) (view.Walker made left out walks, cs))
 follow_keeps_rule slots id i made left out walks cs s k deep at small =
-    let w : PublicationList = k.list in let ok = known s k id made left out walks at in let pre : List ℕ = ok.2.0 in (
+    let w : PublicationList = k.list in
+    let ok = known s k id made left out walks at in
+    let pre : List ℕ = ok.2.0 in (
       view.Walker made left out walks,
       keeps,
       tt,
@@ -91,13 +97,22 @@ put_to_sleep t is (own.Awake n) ok = let g = sym is ∙ ok in absurd (cc)
 pub unlink_keeps_rule : (slots id i n p made : ℕ) (left : List ℕ) (out : Option ℕ) (walks : List (List ℕ)) (cs : List (ℕ × ℕ)) → suc p < length left → i ≡ 1 + get_or left p 0 → n ≡ word_at left (suc (suc p))
     → Allows Holds slots id (view.Walker made left out walks, cs) i (λ _. n) (λ _. play.unlinks (step slots i n 0 maybe.none) (view.Walker made left out walks, cs) n)
 unlink_keeps_rule slots id i n p made left out walks cs low word next s k deep at small =
-    let w : PublicationList = k.list in let ok = known s k id made left out walks at in let pre : List ℕ = ok.2.0 in let e = ok.2.1 in let P : ℕ = length pre + p in let Q : ℕ = suc P in
-    let at_p : get_or w.rows P 0 ≡ get_or left p 0 = placed w.rows pre left p e in let Q_is : Q ≡ length pre + suc p = omega arith in
+    let w : PublicationList = k.list in
+    let ok = known s k id made left out walks at in
+    let pre : List ℕ = ok.2.0 in
+    let e = ok.2.1 in
+    let P : ℕ = length pre + p in
+    let Q : ℕ = suc P in
+    let at_p : get_or w.rows P 0 ≡ get_or left p 0 = placed w.rows pre left p e in
+    let Q_is : Q ≡ length pre + suc p = omega arith in
     let at_q : get_or w.rows Q 0 ≡ get_or left (suc p) 0 = ap (λ z. get_or w.rows z 0) Q_is ∙ placed w.rows pre left (suc p) e in
     let inside : Q < length w.rows = subst (λ z. z < length w.rows) (sym Q_is) (placed_low w.rows pre left (suc p) e low) in
     let leads : n ≡ word_at w.rows (suc Q) = next ∙ sym (ap (λ z. word_at z (suc Q)) e ∙ word_at_append pre left (suc (suc p)) (suc Q) (omega arith)) in
-    let was = k.sound.listed Q inside in let v' : View = view.Walker made (remove left (suc p)) (Some (get_or left (suc p) 0)) walks in let r : ℕ = get_or w.rows Q 0 in
-    let w' : PublicationList = with_stage w r unlinked (remove w.rows Q) in let r_low = k.sound.low Q inside in (
+    let was = k.sound.listed Q inside in
+    let v' : View = view.Walker made (remove left (suc p)) (Some (get_or left (suc p) 0)) walks in
+    let r : ℕ = get_or w.rows Q 0 in
+    let w' : PublicationList = with_stage w r unlinked (remove w.rows Q) in
+    let r_low = k.sound.low Q inside in (
       v',
       keeps,
       tt,
@@ -124,8 +139,13 @@ unlink_keeps_rule slots id i n p made left out walks cs low word next s k deep a
 
 pub sleep_keeps_rule : (slots id r made : ℕ) (left : List ℕ) (walks : List (List ℕ)) (cs : List (ℕ × ℕ)) → Allows Holds slots id (view.Walker made left (Some r) walks, cs) (33 + r) (λ _. 0) (λ _. play.sleeps (step slots (33 + r) 0 0 maybe.none) (view.Walker made left (Some r) walks, cs) 0)
 sleep_keeps_rule slots id r made left walks cs s k deep at small =
-    let w : PublicationList = k.list in let ok = known s k id made left (Some r) walks at in let low : r < w.made = ok.3.0 in let was : w.stage r ≡ unlinked = ok.3.1 in let few = k.sound.few in
-    let not_listed : w.stage r ≢ listed = λ e. let g = sym was ∙ e in absurd (cc) in let v' : View = view.Walker made left None walks in (
+    let w : PublicationList = k.list in
+    let ok = known s k id made left (Some r) walks at in
+    let low : r < w.made = ok.3.0 in
+    let was : w.stage r ≡ unlinked = ok.3.1 in
+    let few = k.sound.few in
+    let not_listed : w.stage r ≢ listed = λ e. let g = sym was ∙ e in absurd (cc) in
+    let v' : View = view.Walker made left None walks in (
       v',
       keeps,
       tt,

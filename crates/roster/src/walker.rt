@@ -32,7 +32,8 @@ impl Walker {
     pub fn rows(&self) -> &[u32]
         ensures rows { result.now ≡ self.now.rows }
         ensures places { (k : ℕ) → k < length self.now.rows → slice_index self.now.rows k < self.now.places }
-        ensures few { length self.now.rows ≤ 32 }
+        ensures few { length self.now.rows ≤ self.now.places }
+        ensures limit { self.now.places ≤ 32 }
     {
         self.rows.as_slice()
     }

@@ -7,7 +7,9 @@ pub load-first-requires : goal.load-first-requires
 load-first-requires c = let t = c.requires.table in (t.0, omega arith, see_allowed _ _ _ _ _ c.requires.seat)
 
 pub store-requires : goal.store-requires
-store-requires c = let t = c.requires.table in let low = c.requires.seat.0 in (c.load-first.ensures.0 ∙ t.0, omega arith, link_allowed _ _ _ _ (tries_of c.args.seat.now.me.0) _ (subst (IsPlace c.args.row true (tries_of c.args.seat.now.me.0)) (sym c.load-first.ensures.2) c.requires.seat))
+store-requires c =
+    let t = c.requires.table in
+    let low = c.requires.seat.0 in (c.load-first.ensures.0 ∙ t.0, omega arith, link_allowed _ _ _ _ (tries_of c.args.seat.now.me.0) _ (subst (IsPlace c.args.row true (tries_of c.args.seat.now.me.0)) (sym c.load-first.ensures.2) c.requires.seat))
 
 pub compare_exchange-requires : goal.compare_exchange-requires
 compare_exchange-requires c = let t = c.requires.table in (

@@ -3,10 +3,14 @@ use Rattle.roster.proofs.PlaceSteps.{look_allowed, look_found_asleep, wake_allow
 use Rattle.roster.proofs.place.wake.Goals as goal
 
 pub load-requires : goal.load-requires
-load-requires c = let t = c.requires.table in let low = c.requires.seat.0 in (t.0, omega arith, look_allowed _ _ _ _ _ c.requires.seat)
+load-requires c =
+    let t = c.requires.table in
+    let low = c.requires.seat.0 in (t.0, omega arith, look_allowed _ _ _ _ _ c.requires.seat)
 
 pub store-requires : goal.store-requires
-store-requires c = let t = c.requires.table in let low = c.requires.seat.0 in (c.load.ensures.0 ∙ t.0, omega arith, wake_allowed _ _ _ _ _ (look_found_asleep _ _ _ _ _ c.requires.seat c.load.ensures.2 c.if-load-ne0.false))
+store-requires c =
+    let t = c.requires.table in
+    let low = c.requires.seat.0 in (c.load.ensures.0 ∙ t.0, omega arith, wake_allowed _ _ _ _ _ (look_found_asleep _ _ _ _ _ c.requires.seat c.load.ensures.2 c.if-load-ne0.false))
 
 pub returns-clause-seat : goal.returns-clause-seat
 returns-clause-seat c = wake_leaves_awake _ _ _ _ c.requires.seat.0 (look_found_asleep _ _ _ _ _ c.requires.seat c.load.ensures.2 c.if-load-ne0.false) c.store.ensures.2

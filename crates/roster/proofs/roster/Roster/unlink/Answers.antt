@@ -1,4 +1,4 @@
-use Rattle.std.proofs.Common.{arith, ℕ, List, ◌≡◌, ◌+◌, ◌-◌, ◌<◌, ◌≤◌, [], None, Some, length, get_or, remove, sym, ap, ◌∙◌, subst}
+use Rattle.std.proofs.Common.{arith, ℕ, ◌≡◌, ◌+◌, ◌-◌, ◌<◌, ◌≤◌, [], None, Some, length, get_or, remove, sym, ap, ◌∙◌, subst}
 use Rattle.std.proofs.lemmas.Grind.{get_or_default_zero}
 use Rattle.roster.specs.PublicationList.{word_at}
 use Rattle.roster.specs.Inside.{walks_of}
@@ -35,8 +35,7 @@ store-requires c =
     let low = w.low (c.args.at - 1) (let at_low = inside d in omega arith) in
     let few = w.few in
     let wide = c.self.invariant.0 in
-    let row = row_before d in
-    (
+    let row = row_before d in (
       ap (λ z. z.roster) c.walker.view_is ∙ (c.requires.roster ∙ sym (ap (λ z. z.id) c.self.view_is)),
       omega arith,
       unlink_allowed _ _ c.args.at _ _ _ _ w.met c.requires.at.0 (inside d) row _ _ (c.word_to-next.ensures ∙ ap (λ z. word_at z (c.args.at + 1)) c.as_slice.ensures.value),
@@ -49,8 +48,7 @@ store-requires-2 c =
     let low = w.low c.args.at (inside d) in
     let row = row_out d in
     let few = w.few in
-    let wide = c.self.invariant.0 in
-    (
+    let wide = c.self.invariant.0 in (
       c.store.ensures.0 ∙ (ap (λ z. z.roster) c.walker.view_is ∙ (c.requires.roster ∙ sym (ap (λ z. z.id) c.self.view_is))),
       omega arith,
       sleep_allowed _ _ _ _ _ (taken_out c (inside d) (row_before d) (row_out d)) _ _,
