@@ -12,7 +12,7 @@ use Rattle.edn.specs.View.{view, views}
 use Rattle.edn.specs.declared.form.Form.{Form}
 use Rattle.fields.specs.Fields.{value_at, natural_in, object_in}
 use Rattle.certificate.specs.Denotes.{Reading, integers_in, order_in, reading_with, certificate_of, reading_of, AreDistinct, Denotes}
-use Rattle.certificate.specs.Faults.{IsFault, IsFaultless, IsFirstFault}
+use Rattle.certificate.specs.Faults.{IsFault, IsFaultless, IsFirstFault, IsSoundAt}
 use Rattle.certificate.specs.Inside.{IsFaultAmong, AreRead}
 use Rattle.certificate.specs.declared.Certificate.{Certificate}
 use Rattle.certificate.specs.declared.fault.CertFault.{CertFault}
@@ -157,6 +157,9 @@ fault_here ds cs among d NoMemory h fault other = absurd (other refl)
 pub not_denoted : (ds : List Datum) (e : CertFault) → IsFirstFault ds e → (cs : List Certificate) → Denotes ds cs → ⊥
 not_denoted ds e f cs h = no_fault ds cs h f.earlier f.later f.form e.kind f.split f.stands
 
+parts_at : (fs : List Form) (i : ℕ) (f : Form) → i < length fs → f ≡ get_or fs i f → views fs ≡ views (take i fs) ++ view f ∷ views (drop (i + 1) fs)
+parts_at fs i f lt is = ap views (sym (take-append-drop i fs) ∙ ap (λ (xs : List Form). take i fs ++ xs) (at_place fs i f lt is)) ∙ map-append view (take i fs) (f ∷ drop (i + 1) fs)
+
 -- the first fault, behind forms that were read
 pub first_fault : (fs : List Form) (i : ℕ) (f : Form) (cs : List Certificate) (among : ℕ → Bool) (kind : CertFaultKind) → i < length fs → f ≡ get_or fs i f → AreRead (views (take i fs)) cs among → IsFaultAmong among (view f) kind
     → kind ≢ NoMemory → IsFirstFault (views fs) (record { kind = kind; form = i })
@@ -164,10 +167,32 @@ first_fault fs i f cs among kind lt is h fault other = record {
   earlier = views (take i fs);
   form = view f;
   later = views (drop (i + 1) fs);
-  split = ap views (sym (take-append-drop i fs) ∙ ap (λ (xs : List Form). take i fs ++ xs) (at_place fs i f lt is)) ∙ map-append view (take i fs) (f ∷ drop (i + 1) fs);
+  split = parts_at fs i f lt is;
   place = length-map (take i fs) view ∙ length-take-le i fs (omega arith);
   stands = fault_here (views (take i fs)) cs among (view f) kind h fault other;
   least = no_fault (views (take i fs)) cs h.denoted;
+}
+
+-- a certificate of an object that no earlier form has
+nothing_here : (ds : List Datum) (cs : List Certificate) (among : ℕ → Bool) (d : Datum) (r : Reading) → AreRead ds cs among → certificate_of d ≡ Some r → among r.object ≡ false → (kind : CertFaultKind) → IsFault ds d kind → ⊥
+nothing_here ds cs among d r h own new NotACertificate fault = cc
+nothing_here ds cs among d r h own new TwoForOneObject fault =
+    let f = read_from ds cs fault.first fault.stands.0 h.denoted.each fault.stands.1 fault.stands.2 in
+    let x = r.object in
+    let same : f.0.object ≡ x = same_objects _ _ _ _ (sym f.2 ∙ fault.is_first_own) (sym own ∙ fault.is_own) fault.same_object in
+    let none = list_any-none (λ b. b.object == x) cs f.1.0 f.0 (sym (h.objects x) ∙ new) f.1.1 in
+    both_ways ((get_or cs f.1.0 f.0).object == x) none (eq-eqb (get_or cs f.1.0 f.0).object x (ap (λ (b : Certificate). b.object) f.1.2 ∙ same))
+nothing_here ds cs among d r h own new NoMemory fault = fault
+
+pub sound_at : (fs : List Form) (i : ℕ) (f : Form) (cs : List Certificate) (among : ℕ → Bool) (r : Reading) → i < length fs → f ≡ get_or fs i f → AreRead (views (take i fs)) cs among → certificate_of (view f) ≡ Some r → among r.object ≡ false → IsSoundAt (views fs) i
+sound_at fs i f cs among r lt is h own new = record {
+  earlier = views (take i fs);
+  form = view f;
+  later = views (drop (i + 1) fs);
+  split = parts_at fs i f lt is;
+  stands_at = length-map (take i fs) view ∙ length-take-le i fs (omega arith);
+  least = no_fault (views (take i fs)) cs h.denoted;
+  none = nothing_here (views (take i fs)) cs among (view f) r h own new;
 }
 
 pub taken_one_more : (fs : List Form) (i : ℕ) (f : Form) → i < length fs → f ≡ get_or fs i f → views (take (i + 1) fs) ≡ views (take i fs) ++ view f ∷ []

@@ -1,5 +1,5 @@
 -- What can be wrong with the forms of a text of certificates, and which fault of it is the first.
-use Rattle.std.specs.Prelude.{◌≡◌, List, ◌∷◌, ◌++◌, length, Some, None, Contains}
+use Rattle.std.specs.Prelude.{◌≡◌, ℕ, List, ◌∷◌, ◌++◌, length, Some, None, Contains}
 use Rattle.edn.specs.Datum.{Datum}
 use Rattle.certificate.specs.Denotes.{Reading, certificate_of}
 use Rattle.certificate.specs.declared.fault.CertFaultKind.{CertFaultKind}
@@ -35,3 +35,13 @@ pub record IsFirstFault (ds : List Datum) (fault : CertFault) : Type 0 where
   pub place : length earlier ≡ fault.form
   pub stands : IsFault earlier form fault.kind
   pub least : IsFaultless earlier
+
+-- nothing is wrong up to the form at this place, nor with it
+pub record IsSoundAt (ds : List Datum) (place : ℕ) : Type 0 where
+  pub earlier : List Datum
+  pub form : Datum
+  pub later : List Datum
+  pub split : ds ≡ earlier ++ form ∷ later
+  pub stands_at : length earlier ≡ place
+  pub least : IsFaultless earlier
+  pub none : (kind : CertFaultKind) → IsFault earlier form kind → ⊥

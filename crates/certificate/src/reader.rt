@@ -1,6 +1,6 @@
 //! From forms to certificates.
 
-ghost use Rattle.std.specs.Prelude.{◌≡◌, ◌≢◌, ◌==◌, if◌then◌else◌, ℕ, List, Some, true, false, IfOk, IfErr, All, option_map};
+ghost use Rattle.std.specs.Prelude.{◌≡◌, ◌≢◌, ◌==◌, if◌then◌else◌, ℕ, List, Some, None, true, false, is_some, IfOk, IfErr, IfSome, IfNone, All, option_map};
 ghost use Rattle.std.specs.Ordering.{nat_cmp};
 ghost use Rattle.std.specs.BTreeSet.{contains};
 ghost use Rattle.edn.specs.Datum.{Fits, max_open, items_of};
@@ -8,7 +8,7 @@ ghost use Rattle.edn.specs.View.{view, views};
 ghost use Rattle.certificate.specs.declared.Certificate.{Certificate};
 ghost use Rattle.certificate.specs.Denotes as spec;
 ghost use Rattle.certificate.specs.Denotes.{Denotes, AreDistinct};
-ghost use Rattle.certificate.specs.Faults.{IsFirstFault};
+ghost use Rattle.certificate.specs.Faults.{IsFirstFault, IsSoundAt};
 ghost use Rattle.certificate.specs.Inside.{IsFaultAmong};
 
 use crate::Certificate;
@@ -26,47 +26,66 @@ fn integer_in(form: &Form) -> Option<i64>
     }
 }
 
-/// The integers that the forms are, where all are integers.
-fn integers_in(alloc: Global, forms: &[Form]) -> Result<Option<Vec<i64>>, AllocError>
-    ensures { IfOk result (λ v. option_map (λ w. w.items) v ≡ spec.integers_in (items_of (views forms.now))) }
+/// Whether all the forms are integers.
+fn are_integers(forms: &[Form]) -> bool
+    ensures { result ≡ is_some (spec.integers_in (items_of (views forms.now))) }
+{
+    for form in forms {
+        if integer_in(form).is_none() {
+            return false;
+        }
+    }
+    true
+}
+
+/// The integers that the forms are, of which each is one.
+fn integers_of(alloc: Global, forms: &[Form]) -> Result<Vec<i64>, AllocError>
+    requires { is_some (spec.integers_in (items_of (views forms.now))) ≡ true }
+    ensures { IfOk result (λ v. spec.integers_in (items_of (views forms.now)) ≡ Some v.items) }
 {
     let mut integers = Vec::new(alloc);
     for form in forms {
-        match integer_in(form) {
-            Some(n) => integers.push(n)?,
-            None => return Ok(None),
+        if let Some(n) = integer_in(form) {
+            integers.push(n)?;
         }
     }
-    Ok(Some(integers))
+    Ok(integers)
 }
 
-fn order_in(alloc: Global, value: Option<&Form>) -> Result<Option<Vec<i64>>, AllocError>
-    ensures { IfOk result (λ v. option_map (λ w. w.items) v ≡ spec.order_in (option_map (λ f. view f.now) value.entry)) }
+/// The elements of an order, where the value is a vector of integers.
+fn order_in(value: Option<&Form>) -> Option<&[Form]>
+    ensures none { IfNone result (spec.order_in (option_map (λ f. view f.now) value.entry) ≡ None) }
+    ensures some { IfSome result (λ fs. spec.order_in (option_map (λ f. view f.now) value.entry)
+        ≡ spec.integers_in (items_of (views fs.now))) }
+    ensures integers { IfSome result (λ fs. is_some (spec.integers_in (items_of (views fs.now))) ≡ true) }
 {
     match value {
-        Some(Form::Vector(forms)) => integers_in(alloc, forms),
-        _ => Ok(None),
+        Some(Form::Vector(forms)) if are_integers(forms) => Some(forms.as_slice()),
+        _ => None,
     }
 }
 
-/// The certificate that a form is, if it is one.
-fn certificate_in(alloc: Global, form: &Form) -> Result<Option<Certificate>, AllocError>
-    ensures { IfOk result (λ c. option_map spec.reading_of c ≡ spec.certificate_of (view form.now)) }
+/// The object and the elements of the order, where the form is a certificate.
+fn parts_in(form: &Form) -> Option<(u32, &[Form])>
+    ensures none { IfNone result (spec.certificate_of (view form.now) ≡ None) }
+    ensures some { IfSome result (λ p. spec.certificate_of (view form.now)
+        ≡ spec.reading_with (Some p.0) (spec.integers_in (items_of (views p.1.now)))) }
+    ensures integers { IfSome result (λ p. is_some (spec.integers_in (items_of (views p.1.now))) ≡ true) }
 {
     let Form::Map(entries) = form else {
-        return Ok(None);
+        return None;
     };
     let number = fields::natural(fields::value_at(entries, b"object"));
     let Some(object) = fields::object(number) else {
-        return Ok(None);
+        return None;
     };
-    let Some(order) = order_in(alloc, fields::value_at(entries, b"order"))? else {
-        return Ok(None);
+    let Some(forms) = order_in(fields::value_at(entries, b"order")) else {
+        return None;
     };
-    Ok(Some(Certificate { object, order }))
+    Some((object, forms))
 }
 
-/// The certificate that a form is, whose object is then among the objects.
+/// The certificate that a form is, whose object is then among the objects. What is wrong with it is found without memory.
 fn next_certificate(
     alloc: Global,
     form: &Form,
@@ -77,14 +96,18 @@ fn next_certificate(
     ensures among { IfOk result (λ c. (x : ℕ) → contains nat_cmp objects.new x ≡ (if c.object == x then true else contains nat_cmp objects.old x)) }
     ensures fault { IfErr result (IsFaultAmong (contains nat_cmp objects.old) (view form.now)) }
 {
-    match certificate_in(alloc, form) {
-        Ok(Some(certificate)) => match objects.insert(certificate.object) {
-            Ok(true) => Ok(certificate),
-            Ok(false) => Err(CertFaultKind::TwoForOneObject),
-            Err(_) => Err(CertFaultKind::NoMemory),
-        },
-        Ok(None) => Err(CertFaultKind::NotACertificate),
-        Err(AllocError) => Err(CertFaultKind::NoMemory),
+    let Some((object, entries)) = parts_in(form) else {
+        return Err(CertFaultKind::NotACertificate);
+    };
+    if objects.contains(&object) {
+        return Err(CertFaultKind::TwoForOneObject);
+    }
+    let Ok(order) = integers_of(alloc, entries) else {
+        return Err(CertFaultKind::NoMemory);
+    };
+    match objects.insert(object) {
+        Ok(_) => Ok(Certificate { object, order }),
+        Err(_) => Err(CertFaultKind::NoMemory),
     }
 }
 
@@ -96,6 +119,8 @@ pub fn read_certificates(alloc: Global, forms: Vec<Form>) -> Result<Vec<Certific
     ensures distinct { IfOk result (λ v. AreDistinct v.items) }
 
     ensures fault { IfErr result (λ e. e.kind ≢ CertFaultKind.NoMemory → IsFirstFault (views forms.items) e) }
+    // Memory ran out where nothing was wrong yet, up to this form and with it.
+    ensures memory { IfErr result (λ e. e.kind ≡ CertFaultKind.NoMemory → IsSoundAt (views forms.items) e.form) }
     // Such a fault means that the forms denote no certificates.
     ensures refused { IfErr result (λ e. e.kind ≢ CertFaultKind.NoMemory → (cs : List Certificate) → Denotes (views forms.items) cs → ⊥) }
 {

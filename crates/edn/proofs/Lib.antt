@@ -11,6 +11,8 @@ pub mod Complete
 pub mod Atoms
 pub mod Next
 pub mod Kept
+pub mod Closing
+pub mod Copies
 pub mod Progress
 pub mod Fronts
 pub mod Escapes

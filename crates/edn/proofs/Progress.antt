@@ -1,6 +1,6 @@
 -- How far a text is read: what was read is spelled so, and whatever the text spells goes on from here.
-use Rattle.std.proofs.Common.{◌≡◌, ◌≢◌, ℕ, true, Result, Ok, Err, get_or, ◌<◌, Option, Some, None, List, [], ◌∷◌, ◌++◌, length, refl, sym, ap, subst, ◌∙◌, append_assoc, arith, inl, inr}
-use Rattle.std.specs.Prelude.{option_map, ◌==◌, MatchResult, IfOk, IfErr}
+use Rattle.std.proofs.Common.{◌≡◌, ◌≢◌, ℕ, ◌-◌, ◌≤◌, true, Result, Ok, Err, get_or, ◌<◌, Option, Some, None, List, [], ◌∷◌, ◌++◌, length, refl, sym, ap, subst, ◌∙◌, append_assoc, arith, inl, inr}
+use Rattle.std.specs.Prelude.{option_map, IsSome, ◌==◌, MatchResult, IfOk, IfErr}
 use Rattle.std.specs.Global.{Vec}
 use Rattle.std.proofs.lemmas.Bool.{eqb-true}
 use Rattle.std.proofs.lemmas.List.{append-nil}
@@ -18,7 +18,9 @@ use Rattle.edn.proofs.Strings.{some_is}
 use Rattle.edn.proofs.Complete.{items_list, steps_items}
 use Rattle.edn.proofs.Splits.{after_gap, after_begins}
 use Rattle.edn.proofs.Kept.{StateFits, step_fits}
-use Rattle.edn.proofs.Lexical.{with_rest, mapped_pair}
+use Rattle.edn.proofs.Closing.{IsGrounded, step_grounded, closable}
+use Rattle.edn.specs.Sound.{BeginWith, IsSoundAt}
+use Rattle.edn.proofs.Lexical.{with_rest, mapped_pair, skip_within, first_shorter, after_token_shorter}
 use Rattle.std.proofs.lemmas.Str.{IsUtf8-nil}
 use Rattle.edn.proofs.Next.{gap_of, FirstIs, first_is, IsNextOf, next_is, next_from, ending_next}
 
@@ -27,6 +29,13 @@ pub record Progress (text rest : List ℕ) (s : State) : Type 0 where
   pub only : (ts : List Token) → Lexes ts text → (us : List Token) × Lexes us rest × (steps ts opening ≡ steps us s)
   pub fits : StateFits s
   pub utf8 : IsUtf8 rest
+  pub grounded : IsGrounded s.inner s.outer
+  pub begins : BeginWith (consumed s) text rest
+  pub within : length rest ≤ length text
+
+begin_more : (ts : List Token) (text rest : List ℕ) (t : Token) (r : List ℕ) → BeginWith ts text rest → IsNext rest t r → BeginWith (ts ++ t ∷ []) text r
+begin_more [] text rest t r b n = (r, subst (λ (x : List ℕ). IsNext x t r) (sym b) n, refl)
+begin_more (u ∷ us) text rest t r (q, m, b) n = (q, m, begin_more us q rest t r b n)
 
 plain : (bytes : List ℕ) (t : Token) (rest : List ℕ) → Begins bytes t rest → IsPlain t
 plain bytes open_vector rest h = tt
@@ -50,6 +59,11 @@ goes_behind rest t r s z (u ∷ us) e f (q, n, h) =
     let g : step u s ≡ Some z = rw (← p.0) f in
     (us, rw p.1 h, rw g refl)
 
+-- what follows the next token is shorter
+next_shorter : (rest : List ℕ) (t : Token) (r : List ℕ) → next rest ≡ got t r → length r < length rest
+unfolding next
+next_shorter rest t r e = omega (arith, skip_within rest, first_shorter (skip rest) t r e)
+
 pub goes_on : (text rest : List ℕ) (t : Token) (r : List ℕ) (s z : State) → next rest ≡ got t r → step t s ≡ Some z → Progress text rest s → Progress text r z
 goes_on text rest t r s z e f p =
     let n = is_next rest t r e in
@@ -60,6 +74,9 @@ goes_on text rest t r s z e f p =
       only = λ ts h. (let a = p.only ts h in let b = goes_behind rest t r s z a.0 e f a.1 in (b.0, b.1, a.2 ∙ b.2));
       fits = step_fits t s z l p.fits f;
       utf8 = after_begins n.1 t r n.3 (after_gap rest n.0 n.1 n.2 n.4 p.utf8);
+      grounded = step_grounded t s z p.grounded f;
+      begins = subst (λ (ts : List Token). BeginWith ts text r) (sym c) (begin_more (consumed s) text rest t r p.begins n);
+      within = omega (arith, p.within, next_shorter rest t r e);
     }
 
 list_of : (ds : List Datum) → items_list (items_of ds) ≡ ds
@@ -138,6 +155,20 @@ stops text rest here s h some e p ds k = by_first (first here) refl e
     by_first end f e = let z : here ≡ [] = subst (FirstIs here) f (first_is here) in let l : length here ≡ 0 = ap length z in omega arith
     by_first bad f e = no_token text rest s (next_at rest here h ∙ f) p ds k
     by_first (got t r) f e = no_step text rest t r s (next_at rest here h ∙ f) (unmapped_pair (step t s) r e) p ds k
+
+-- nothing is wrong up to a token that can be taken
+sound_by : (text here : List ℕ) (o : Option (State × List ℕ)) → IsUtf8 text → length here ≤ length text → ((z : State) (r : List ℕ) → o ≡ Some (z, r) → Progress text r z × (length r < length here))
+    → IsSome o → IsSoundAt (length text - length here) text
+sound_by text here None u w h k = absurd cc
+sound_by text here (Some x) u w h k =
+    let p = h x.0 x.1 refl in
+    let f = closable x.0.inner x.0.outer p.0.grounded p.0.fits.inner p.0.fits.outer p.0.fits.room in
+    record { utf8 = u; forms = f.forms; fit = f.fit; tokens = consumed x.0; more = f.more; are_first = f.parts; rest = x.1; begins = p.0.begins; ends_behind = omega (arith, w, p.1) }
+
+pub sound : (text rest here : List ℕ) (s : State) → here ≡ skip rest → IsUtf8 text → Progress text rest s → IsSome (after_token s (first here)) → IsSoundAt (length text - length here) text
+sound text rest here s h u p k =
+    let w : length here ≤ length text = omega (arith, ap length h, skip_within rest, p.within) in
+    sound_by text here (after_token s (first here)) u w (λ z r e. (turns text rest here s z r h e p, after_token_shorter here s z r e)) k
 
 -- ---- a string is no key
 

@@ -2,6 +2,7 @@ pub mod Datum
 pub mod Bytes
 pub mod Token
 pub mod Spells
+pub mod Sound
 pub mod Faults
 pub mod NameTexts
 pub mod Names

@@ -71,6 +71,11 @@ abbrev mutual
   escaped_at [] = None
   escaped_at (c ∷ cs) = option_and_then (λ e. with_byte e (string_at cs)) (escape_of c)
 
+-- where a byte stands next and then this text, or this text behind the last quote
+abbrev pub with_next : Option ℕ → List ℕ → Option (List ℕ × List ℕ)
+with_next None rest = Some ([], rest)
+with_next (Some b) rest = with_byte b (string_at rest)
+
 abbrev pub got_string : Option (List ℕ × List ℕ) → Next
 got_string None = bad
 got_string (Some p) = got (leaf (atom (string p.0))) p.1
@@ -106,6 +111,18 @@ pub record State : Type 0 where
 abbrev pub has_key : List ℕ → List (List ℕ × Datum) → Bool
 has_key k [] = false
 has_key k (e ∷ es) = bytes_eq k e.0 || has_key k es
+
+-- a map that waits for a key, and has this one
+abbrev pub repeats : List ℕ → Frame → Bool
+repeats k (in_text ds) = false
+repeats k (in_vector ds) = false
+repeats k (in_map es) = has_key k es
+repeats k (in_pair es l) = false
+
+-- the same of a word, of which the colon is no part of the key
+abbrev pub repeats_word : List ℕ → Frame → Bool
+repeats_word [] f = false
+repeats_word (b ∷ bs) f = if b == 58 then repeats bs f else false
 
 abbrev pub put_key : List (List ℕ × Datum) → Atom → Option Frame
 put_key es nil = None

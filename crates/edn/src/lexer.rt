@@ -1,11 +1,11 @@
 //! Tokens from the front of a text.
-ghost use Rattle.std.specs.Prelude.{◌≡◌, ◌<◌, length};
+ghost use Rattle.std.specs.Prelude.{◌≡◌, ◌<◌, length, IfErr};
 ghost use Rattle.std.specs.Str.{IsUtf8};
 ghost use Rattle.edn.specs.Reading as spec;
-ghost use Rattle.edn.specs.Results.{GivesToken};
+ghost use Rattle.edn.specs.Results.{GivesToken, IsCopied};
 
 use crate::bytes::{is_separator, is_token_byte};
-use crate::fault::Stop;
+use crate::fault::{Cause, Stop};
 use crate::form::Form;
 use crate::string::string_of;
 use crate::word::form_of;
@@ -56,7 +56,7 @@ fn after_word(text: &[u8]) -> &[u8]
 
 /// A word, and what follows it.
 #[tactic(auto, using(crate::proofs::Words::word_is_front, crate::proofs::Words::after_word_within))]
-fn split_word(text: &[u8]) -> (&[u8], &[u8])
+pub fn split_word(text: &[u8]) -> (&[u8], &[u8])
     ensures word { result.0.now ≡ spec.word text.now }
     ensures rest { result.1.now ≡ spec.after_word text.now }
 {
@@ -70,7 +70,9 @@ fn split_word(text: &[u8]) -> (&[u8], &[u8])
 pub fn first_token(alloc: Global, text: &[u8]) -> Result<(Token, &[u8]), Stop>
     requires some { 0 < length text.now }
     requires utf8 { IsUtf8 text.now }
-    ensures { GivesToken result (spec.first text.now) }
+    ensures token { GivesToken result (spec.first text.now) }
+    // Memory is taken for strings and keywords alone.
+    ensures copied { IfErr result (λ e. e.cause ≡ Cause.NoMemory → IsCopied text.now) }
 {
     match text {
         [b'[', rest @ ..] => Ok((Token::OpenVector, rest)),

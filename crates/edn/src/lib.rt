@@ -26,7 +26,7 @@ pub use form::{Form, Name};
 pub use laws::{joined_spell, lines_spell, one_reading, text_spells};
 pub use limits::fits;
 pub use reader::{MAX_LENGTH, read_forms};
-pub use sink::{Failed, Out, Sink};
+pub use sink::{Device, Failed, Out, Sink};
 pub use writer::{WriteFault, write_bytes, write_form, write_integer};
 
 #[cfg(test)]

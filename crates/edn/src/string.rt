@@ -1,9 +1,9 @@
 //! Strings, behind their first quote.
-ghost use Rattle.std.specs.Prelude.{◌≡◌};
+ghost use Rattle.std.specs.Prelude.{◌≡◌, ◌≢◌, ◌<◌, length, None, IfOk, IfErr};
 ghost use Rattle.std.specs.Str.{IsUtf8};
 ghost use Rattle.edn.specs.Spells as spec;
-ghost use Rattle.edn.specs.Reading.{string_at, got_string};
-ghost use Rattle.edn.specs.Results.{GivesAt, GivesToken};
+ghost use Rattle.edn.specs.Reading.{string_at, with_next, got_string};
+ghost use Rattle.edn.specs.Results.{Denies, GivesAt, GivesToken};
 
 use crate::fault::{Cause, Stop};
 use crate::form::Form;
@@ -23,34 +23,53 @@ fn escape_of(c: u8) -> Option<u8>
     }
 }
 
+/// The next byte of a string, if it has not ended, and what follows it or the quote that ends it.
+fn next_byte(text: &[u8]) -> Result<(Option<u8>, &[u8]), Stop>
+    ensures next { IfOk result (λ x. string_at text.now ≡ with_next x.0 x.1.now) }
+    ensures shorter { IfOk result (λ x. length x.1.now < length text.now) }
+    ensures fault { IfErr result (λ e. (string_at text.now ≡ None) × (e.cause ≢ Cause.NoMemory)) }
+{
+    match text {
+        [b'"', rest @ ..] => Ok((None, rest)),
+        [b'\\', c, rest @ ..] => match escape_of(*c) {
+            Some(byte) => Ok((Some(byte), rest)),
+            None => Err(Stop::at(Cause::BadToken, text)),
+        },
+        [] | [b'\\'] => Err(Stop::at_end()),
+        [byte, rest @ ..] => Ok((Some(*byte), rest)),
+    }
+}
+
+/// Why a string is not read for which memory was refused: what is wrong with it, if anything is.
+fn stop_in(text: &[u8]) -> Stop
+    ensures { Denies result.cause (string_at text.now) }
+{
+    let mut rest = text;
+    'bytes: loop {
+        match next_byte(rest) {
+            Ok((None, _)) => return Stop::at(Cause::NoMemory, text),
+            Ok((Some(_), behind)) => rest = behind,
+            Err(stop) => return stop,
+        }
+    }
+}
+
 /// The bytes of a string, and what follows the quote that ends it.
 fn bytes_of(alloc: Global, text: &[u8]) -> Result<(Vec<u8>, &[u8]), Stop>
     ensures { GivesAt (λ x. (x.0.items, x.1.now)) result (string_at text.now) }
 {
     let mut bytes = Vec::new(alloc);
     let mut rest = text;
-    'bytes: while let [b, tail @ ..] = rest {
-        let mut byte = *b;
-        let mut after = tail;
-        if byte == b'"' {
-            return Ok((bytes, tail));
-        }
-        if byte == b'\\' {
-            let [c, more @ ..] = tail else {
-                return Err(Stop::at_end());
-            };
-            let Some(e) = escape_of(*c) else {
-                return Err(Stop::at(Cause::BadToken, rest));
-            };
-            byte = e;
-            after = more;
-        }
+    'bytes: loop {
+        let (next, behind) = next_byte(rest)?;
+        let Some(byte) = next else {
+            return Ok((bytes, behind));
+        };
         if bytes.push(byte).is_err() {
-            return Err(Stop::at(Cause::NoMemory, rest));
+            return Err(stop_in(rest));
         }
-        rest = after;
+        rest = behind;
     }
-    Err(Stop::at_end())
 }
 
 /// A string behind its first quote, and what follows it.

@@ -1,5 +1,5 @@
 //! What a single word stands for.
-ghost use Rattle.std.specs.Prelude.{◌≡◌, ◌≢◌, ◌<◌, ◌≤◌, ◌+◌, ◌-◌, ◌*◌, ◌^◌, option_map, IfSome, IfNone};
+ghost use Rattle.std.specs.Prelude.{◌≡◌, ◌≢◌, ◌<◌, ◌≤◌, ◌+◌, ◌-◌, ◌*◌, ◌^◌, option_map, slice_index, IfSome, IfNone, IfErr};
 ghost use Rattle.edn.specs.Spells as spec;
 ghost use Rattle.edn.specs.Reading.{integer_of, positive_of, negative_of, atom_of, literal_of, keyword_of};
 ghost use Rattle.edn.specs.Results.{Gives};
@@ -115,7 +115,8 @@ fn keyword(alloc: Global, name: &[u8]) -> Result<Form, Cause>
 
 #[tactic(auto, unfolding(crate::specs::Reading::literal_of))]
 fn literal(word: &[u8]) -> Result<Form, Cause>
-    ensures { Gives view result (option_map atom (literal_of word.now)) }
+    ensures form { Gives view result (option_map atom (literal_of word.now)) }
+    ensures no_copy { IfErr result (λ e. e ≢ Cause.NoMemory) }
 {
     if word == b"nil".as_slice() {
         return Ok(Form::Nil);
@@ -135,7 +136,9 @@ fn literal(word: &[u8]) -> Result<Form, Cause>
 /// The form that a word stands for.
 #[tactic(auto, unfolding(crate::specs::Reading::atom_of))]
 pub fn form_of(alloc: Global, word: &[u8]) -> Result<Form, Cause>
-    ensures { Gives view result (option_map atom (atom_of word.now)) }
+    ensures form { Gives view result (option_map atom (atom_of word.now)) }
+    // Memory is taken for keywords alone.
+    ensures copied { IfErr result (λ e. e ≡ Cause.NoMemory → slice_index word.now 0 ≡ 58) }
 {
     match word {
         [] => Err(Cause::NotInProfile),

@@ -1,8 +1,8 @@
 //! `fcbench`: judges histories of concurrent objects.
 #![tactic(auto)]
 
-use edn::Out;
-use judging::{FAILED, Line, LineFault, line, perform};
+use edn::{MAX_LENGTH, Out};
+use judging::{FAILED, Line, LineFault, NO_MEMORY, line, perform};
 use std::io;
 use std::io::Read;
 use std::process::ExitCode;
@@ -16,13 +16,10 @@ trait Host: Files + AllocGlobal + Print + Eprint + Threads + Wait + Sync {}
 impl<R: Files + AllocGlobal + Print + Eprint + Threads + Wait + Sync> Host for R {}
 
 /// One byte more than the longest text that is judged.
-const READ_LIMIT: u64 = 268_435_457;
+const READ_LIMIT: u64 = MAX_LENGTH as u64 + 1;
 
 /// The exit status where the command line is refused.
 const USAGE: u8 = 64;
-
-/// The exit status where memory was refused before the command began.
-const NO_MEMORY: u8 = 3;
 
 /// The bytes of a file, to its end or to the limit.
 fn bytes_of<R: Files + Alloc>(rt: &R, name: &str) -> io::Result<Vec<u8, R::A>> {

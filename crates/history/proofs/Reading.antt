@@ -48,20 +48,26 @@ faultless_push ds d h none earlier later e k q f = elim (split_push ds d earlier
   | inr s ↦ h earlier s.0 e k s.1 f
 ]
 
--- one form more
-pub one_read : (old new : Seen) (fs : List Form) (i : ℕ) (f : Form) (es more : List Event) → i < length fs → f ≡ get_or fs i f → IsSoFar old (views (take i fs)) es → IsRead old new (views (take i fs)) (view f) more → IsSoFar new (views (take (i + 1) fs)) (es ++ more)
-one_read old new fs i f es more l is h r =
-    let ds = views (take i fs) in
-    let whole : views (take (i + 1) fs) ≡ ds ++ view f ∷ [] = ap views (take_more fs i f l) ∙ (map-append view (take i fs) (get_or fs i f ∷ []) ∙ ap (λ x. ds ++ view x ∷ []) (sym is)) in
-    subst (λ xs. IsSoFar new xs (es ++ more)) (sym whole) (record {
-      kept = r.seen;
-      faultless = faultless_push ds (view f) h.faultless r.no_fault;
-      events = ap (λ x. x ++ more) h.events ∙ (ap (λ x. events_from 0 ds ++ x) r.events ∙ sym (events_push 0 ds (view f) ∙ ap (λ k. events_from 0 ds ++ event_of k (client_of (view f))) (zero-add (length ds))));
-    })
+-- the forms so far, and one more
+one_more : (fs : List Form) (i : ℕ) (f : Form) → i < length fs → f ≡ get_or fs i f → views (take (i + 1) fs) ≡ views (take i fs) ++ view f ∷ []
+one_more fs i f l is = ap views (take_more fs i f l) ∙ (map-append view (take i fs) (get_or fs i f ∷ []) ∙ ap (λ x. views (take i fs) ++ view x ∷ []) (sym is))
   where
     map-append : {X Y : Type 0} (g : X → Y) (xs ys : List X) → map g (xs ++ ys) ≡ map g xs ++ map g ys
     map-append g [] ys = refl
     map-append g (x ∷ xs) ys = ap (λ zs. g x ∷ zs) (map-append g xs ys)
+
+pub faultless_more : (seen : Seen) (fs : List Form) (i : ℕ) (f : Form) (es : List Event) → i < length fs → f ≡ get_or fs i f → IsSoFar seen (views (take i fs)) es → HasNoFault (views (take i fs)) (view f) → IsFaultless (views (take (i + 1) fs))
+faultless_more seen fs i f es l is h none = subst IsFaultless (sym (one_more fs i f l is)) (faultless_push (views (take i fs)) (view f) h.faultless none)
+
+-- one form more
+pub one_read : (old new : Seen) (fs : List Form) (i : ℕ) (f : Form) (es more : List Event) → i < length fs → f ≡ get_or fs i f → IsSoFar old (views (take i fs)) es → IsRead old new (views (take i fs)) (view f) more → IsSoFar new (views (take (i + 1) fs)) (es ++ more)
+one_read old new fs i f es more l is h r =
+    let ds = views (take i fs) in
+    subst (λ xs. IsSoFar new xs (es ++ more)) (sym (one_more fs i f l is)) (record {
+      kept = r.seen;
+      faultless = faultless_push ds (view f) h.faultless r.no_fault;
+      events = ap (λ x. x ++ more) h.events ∙ (ap (λ x. events_from 0 ds ++ x) r.events ∙ sym (events_push 0 ds (view f) ∙ ap (λ k. events_from 0 ds ++ event_of k (client_of (view f))) (zero-add (length ds))));
+    })
 
 -- the length of the forms so far is the number of the next
 pub number_is : (fs : List Form) (i : ℕ) → i < length fs → length (views (take i fs)) ≡ i

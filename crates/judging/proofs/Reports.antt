@@ -1,20 +1,16 @@
 -- What a run puts out.
-use Rattle.std.proofs.Common.{◌≡◌, ◌∙◌, ℕ, List, ◌∷◌, ◌++◌, ◌<◌, ◌+◌, length, drop, get_or, true, Option, inl, inr, refl, ap, ap₂, sym, subst, append_assoc, codes}
-use Rattle.std.specs.Io.KnownBytes.{Appends}
+use Rattle.std.proofs.Common.{◌≡◌, ◌∙◌, ℕ, List, ◌∷◌, ◌++◌, ◌<◌, ◌+◌, length, drop, get_or, true, refl, ap, ap₂, sym, subst, codes}
 use Rattle.std.proofs.lemmas.List.{drop_more}
 use Rattle.certificate.specs.declared.Certificate.{Certificate}
-use Rattle.certificate.specs.Lines.{line_of, lines_of}
-use Rattle.checker.specs.declared.refusal.Refusal.TheVariants as refusal
+use Rattle.certificate.specs.Lines.{line_of}
 use Rattle.report.specs.Lines.{verdict_text}
 use Rattle.report.specs.declared.verdict.Verdict.{Verdict}
-use Rattle.report.specs.declared.verdict.Verdict.TheVariants.{Yes, No, Malformed, NoMemory}
+use Rattle.report.specs.declared.verdict.Verdict.TheVariants.{NoMemory}
 use Rattle.judging.specs.declared.record_lines.HistoryLine.{HistoryLine}
 use Rattle.judging.specs.declared.running.Texts.{Texts}
-use Rattle.judging.specs.declared.statuses.TheConstants.{FAILED}
 use Rattle.judging.specs.RecordLines.{history_line, history_text, commented}
-use Rattle.judging.specs.Runs.{IsJudged, IsRunOutput, IsTexts}
+use Rattle.judging.specs.Runs.{IsJudged, IsTexts}
 use Rattle.judging.specs.Statuses.{status_of}
-use Rattle.judging.specs.Texts.{IsLinearizableText}
 use Rattle.judging.specs.Verdicts.{Holds}
 
 -- ---- lines one after the other
@@ -42,29 +38,3 @@ judged t w v h = record {
 -- want of memory says nothing of the texts
 pub says_nothing : (h c : List ℕ) → Holds h c NoMemory
 says_nothing h c = record { linearizable = tt; valid = tt; accepts = λ v. tt; refused = tt; malformed = tt; counts = tt }
-
-yes_holds : (h c : List ℕ) (v : Verdict) → Holds h c v → status_of v ≡ 0 → IsLinearizableText h
-yes_holds h c (Yes s) k e = k.linearizable
-yes_holds h c (No (refusal.NoCertificate x)) k e = cc
-yes_holds h c (No (refusal.StrangeObject x)) k e = cc
-yes_holds h c (No (refusal.BadOrder x f)) k e = cc
-yes_holds h c (No refusal.NoMemory) k e = cc
-yes_holds h c (Malformed f) k e = cc
-yes_holds h c NoMemory k e = cc
-
--- a run that ends with 0
-pub linearizable : (status : ℕ) (old new : Option (List ℕ)) (text : List ℕ) → status ≡ 0 → IsRunOutput status text → Appends old new text
-    → (h c : List ℕ) × IsLinearizableText h × Appends old new (h ++ c)
-linearizable status old new text z (inl j) a = (
-  history_text j.lines,
-  commented j.certificates ++ verdict_text true j.verdict,
-  yes_holds (history_text j.lines) (lines_of j.certificates) j.verdict j.holds (sym j.status_is ∙ z),
-  subst (Appends old new) (j.text_is ∙ append_assoc (history_text j.lines) (commented j.certificates) (verdict_text true j.verdict)) a,
-)
-linearizable status old new text z (inr g) a = absurd (three status g.0 z)
-  where
-    three : (n : ℕ) → n ≡ 3 → n ≡ 0 → ⊥
-    three n e f = cc
-
-pub not_failed : (n : ℕ) → n ≡ 0 → n ≡ FAILED → ⊥
-not_failed n e f = cc

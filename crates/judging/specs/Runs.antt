@@ -7,7 +7,7 @@ use Rattle.report.specs.declared.verdict.Verdict.{Verdict}
 use Rattle.judging.specs.declared.record_lines.HistoryLine.{HistoryLine}
 use Rattle.judging.specs.declared.running.Texts.{Texts}
 use Rattle.judging.specs.RecordLines.{history_text, commented}
-use Rattle.judging.specs.Statuses.{status_of}
+use Rattle.judging.specs.Statuses.{no_memory_status, status_of}
 use Rattle.judging.specs.Verdicts.{Holds}
 
 -- History lines, certificates as comments, and the verdict on both as comments: it is that of the texts which stand
@@ -22,7 +22,7 @@ pub record IsJudged (status : ℕ) (text : List ℕ) : Type 0 where
 
 -- there is nothing to judge, and one line says why
 abbrev pub IsGivenUp : ℕ → List ℕ → Type 0
-IsGivenUp status text = (status ≡ 3) × ((text ≡ codes "out of memory\n") ⊎ (text ≡ codes "no thread\n"))
+IsGivenUp status text = (status ≡ no_memory_status) × ((text ≡ codes "out of memory\n") ⊎ (text ≡ codes "no thread\n"))
 
 abbrev pub IsRunOutput : ℕ → List ℕ → Type 0
 IsRunOutput status text = IsJudged status text ⊎ IsGivenUp status text

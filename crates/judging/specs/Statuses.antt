@@ -1,12 +1,33 @@
--- The exit status of a verdict. A refusal for want of memory is never answered: `judge` says `NoMemory`.
+-- Exit statuses.
 use Rattle.std.specs.Prelude.{ℕ}
 use Rattle.checker.specs.declared.refusal.Refusal.TheVariants as refusal
 use Rattle.report.specs.declared.verdict.Verdict.{Verdict}
 use Rattle.report.specs.declared.verdict.Verdict.TheVariants.{Yes, No, Malformed, NoMemory}
 
+-- where the history is linearizable
+abbrev pub yes_status : ℕ
+yes_status = 0
+
+-- where the certificates are refused
+abbrev pub no_status : ℕ
+no_status = 1
+
+-- where a text is malformed
+abbrev pub malformed_status : ℕ
+malformed_status = 2
+
+-- where memory was refused, or a thread could not be started
+abbrev pub no_memory_status : ℕ
+no_memory_status = 3
+
+-- where the output failed, or a file could not be read
+abbrev pub failed_status : ℕ
+failed_status = 4
+
+-- The status of a verdict. A refusal for want of memory is never answered: `judge` says `NoMemory`.
 abbrev pub status_of : Verdict → ℕ
-status_of (Yes s) = 0
-status_of (No refusal.NoMemory) = 3
-status_of (No r) = 1
-status_of (Malformed f) = 2
-status_of NoMemory = 3
+status_of (Yes s) = yes_status
+status_of (No refusal.NoMemory) = no_memory_status
+status_of (No r) = no_status
+status_of (Malformed f) = malformed_status
+status_of NoMemory = no_memory_status

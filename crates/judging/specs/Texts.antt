@@ -1,13 +1,14 @@
 -- What a history's text and a certificates' text denote, and what is wrong with a text that denotes nothing.
-use Rattle.std.specs.Prelude.{◌≡◌, ◌≢◌, ℕ, ◌<◌, ◌≤◌, ⊤, List, length, map}
+use Rattle.std.specs.Prelude.{◌≡◌, ◌≢◌, ℕ, ◌<◌, ◌≤◌, ◌↔◌, ⊤, List, length, map}
 use Rattle.report.specs.declared.verdict.Summary.{Summary}
 use Rattle.report.specs.Counts.{operations_in, objects_in, kinds_in, uses, count_of}
-use Rattle.edn.specs.Datum.{Datum}
+use Rattle.edn.specs.Datum.{Datum, max_length}
 use Rattle.edn.specs.Spells.{Spells}
 use Rattle.edn.specs.declared.fault.EdnFault.{EdnFault}
 use Rattle.edn.specs.declared.fault.FaultKind.TheVariants.{TooLong}
 use Rattle.edn.specs.declared.fault.FaultKind.TheVariants as edn_kind
-use Rattle.edn.specs.declared.reader.TheConstants.{MAX_LENGTH}
+use Rattle.history.specs.declared.fault.HistoryFaultKind.TheVariants as history_kind
+use Rattle.certificate.specs.declared.fault.CertFaultKind.TheVariants as certificate_kind
 use Rattle.events.specs.declared.event.Event.{Event}
 use Rattle.history.specs.Denotes as history_meaning
 use Rattle.history.specs.Faults as history_fault
@@ -40,14 +41,32 @@ pub record DenotesCertificates (text : List ℕ) (cs : List Certificate) : Type 
   pub spelled : Spells forms text
   pub denoted : certificate_meaning.Denotes forms cs
 
--- The text is too long to be read, or spells no forms. Want of memory is no such fault.
-abbrev pub IsUnreadable : List ℕ → EdnFault → Type 0
-IsUnreadable text e = (e.kind ≢ edn_kind.NoMemory) × (e.kind ≡ TooLong → MAX_LENGTH < length text) × (e.kind ≢ TooLong → (ds : List Datum) → Spells ds text → ⊥)
+-- the text is not too long to be read
+abbrev pub IsShort : List ℕ → Type 0
+IsShort text = length text ≤ max_length
+
+-- The text is too long to be read, and E10 says so; or it is not, and spells no forms. Want of memory is no such fault.
+pub record IsUnreadable (text : List ℕ) (e : EdnFault) : Type 0 where
+  pub not_memory : e.kind ≢ edn_kind.NoMemory
+  pub too_long : (e.kind ≡ TooLong) ↔ (max_length < length text)
+  pub nothing : e.kind ≢ TooLong → (ds : List Datum) → Spells ds text → ⊥
+
+-- the fault is that memory was refused
+abbrev pub WantsMemory : Fault → Type 0
+WantsMemory (HistoryText e) = e.kind ≡ edn_kind.NoMemory
+WantsMemory (HistoryMaps f) = f.kind ≡ history_kind.NoMemory
+WantsMemory (CertificateText e) = e.kind ≡ edn_kind.NoMemory
+WantsMemory (CertificateForms f) = f.kind ≡ certificate_kind.NoMemory
+
+-- Reading stops for want of memory where that is the fault, and nowhere else.
+abbrev pub IsStopOf : Fault → Stop → Type 0
+IsStopOf fault (Stopped f) = (f ≡ fault) × ¬ (WantsMemory fault)
+IsStopOf fault NoMemory = WantsMemory fault
 
 -- what stops the reading of a history's text, or of a certificates' text
 abbrev pub IsHistoryFault : List ℕ → Stop → Type 0
 IsHistoryFault h (Stopped (HistoryText e)) = IsUnreadable h e
-IsHistoryFault h (Stopped (HistoryMaps f)) = (ds : List Datum) × Spells ds h × history_fault.IsFirstFault ds f
+IsHistoryFault h (Stopped (HistoryMaps f)) = IsShort h × (ds : List Datum) × Spells ds h × history_fault.IsFirstFault ds f
 IsHistoryFault h (Stopped (CertificateText e)) = ⊥
 IsHistoryFault h (Stopped (CertificateForms f)) = ⊥
 IsHistoryFault h NoMemory = ⊤
@@ -56,24 +75,24 @@ abbrev pub IsCertificatesFault : List ℕ → Stop → Type 0
 IsCertificatesFault c (Stopped (HistoryText e)) = ⊥
 IsCertificatesFault c (Stopped (HistoryMaps f)) = ⊥
 IsCertificatesFault c (Stopped (CertificateText e)) = IsUnreadable c e
-IsCertificatesFault c (Stopped (CertificateForms f)) = (ds : List Datum) × Spells ds c × certificate_fault.IsFirstFault ds f
+IsCertificatesFault c (Stopped (CertificateForms f)) = IsShort c × (ds : List Datum) × Spells ds c × certificate_fault.IsFirstFault ds f
 IsCertificatesFault c NoMemory = ⊤
 
 -- The fault of the first text that has one, the history being looked at first: the text is too long, spells nothing, or
 -- spells forms of which this is the first fault.
 abbrev pub IsFirstFault : List ℕ → List ℕ → Fault → Type 0
 IsFirstFault h c (HistoryText e) = IsUnreadable h e
-IsFirstFault h c (HistoryMaps f) = (ds : List Datum) × Spells ds h × history_fault.IsFirstFault ds f
-IsFirstFault h c (CertificateText e) = ((es : List Event) × DenotesHistory h es) × IsUnreadable c e
-IsFirstFault h c (CertificateForms f) = ((es : List Event) × DenotesHistory h es) × (ds : List Datum) × Spells ds c × certificate_fault.IsFirstFault ds f
+IsFirstFault h c (HistoryMaps f) = IsShort h × (ds : List Datum) × Spells ds h × history_fault.IsFirstFault ds f
+IsFirstFault h c (CertificateText e) = IsShort h × ((es : List Event) × DenotesHistory h es) × IsUnreadable c e
+IsFirstFault h c (CertificateForms f) = IsShort h × ((es : List Event) × DenotesHistory h es) × IsShort c × (ds : List Datum) × Spells ds c × certificate_fault.IsFirstFault ds f
 
 -- The texts denote a history, and certificates that are valid: one for each object that the history names, none
 -- besides. Neither is too long to be read.
 pub record AreValidTexts (h c : List ℕ) : Type 0 where
   pub client_events : List Event
   pub certificates : List Certificate
-  pub history_short : length h ≤ MAX_LENGTH
-  pub certificates_short : length c ≤ MAX_LENGTH
+  pub history_short : IsShort h
+  pub certificates_short : IsShort c
   pub history_text : DenotesHistory h client_events
   pub certificate_text : DenotesCertificates c certificates
   pub valid : AreValid client_events certificates
@@ -84,10 +103,12 @@ pub record IsLinearizableText (h : List ℕ) : Type 0 where
   pub history_text : DenotesHistory h client_events
   pub linearizable : IsLinearizable (kind_at client_events) (events (denoted client_events))
 
--- The texts denote a history and certificates, of which this is the first refusal.
+-- The texts denote a history and certificates, of which this is the first refusal. Neither is too long to be read.
 pub record IsFirstRefusalText (h c : List ℕ) (r : Refusal) : Type 0 where
   pub client_events : List Event
   pub certificates : List Certificate
+  pub history_short : IsShort h
+  pub certificates_short : IsShort c
   pub history_text : DenotesHistory h client_events
   pub certificate_text : DenotesCertificates c certificates
   pub first : IsFirstRefusal client_events certificates r

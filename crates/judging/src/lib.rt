@@ -18,7 +18,7 @@ pub use laws::{one_history, one_list_of_orders};
 pub use parsing::line;
 pub use program::perform;
 pub use report::{Fault, KindCount, Summary, Verdict};
-pub use statuses::FAILED;
+pub use statuses::{FAILED, NO_MEMORY};
 
 #[cfg(test)]
 mod tests;

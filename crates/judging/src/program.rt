@@ -1,11 +1,12 @@
 //! What the program does.
 
-ghost use Rattle.std.specs.Prelude.{◌≡◌, ◌≢◌, ◌++◌, ℕ, List, false, true};
+ghost use Rattle.std.specs.Prelude.{◌≡◌, ◌≢◌, ℕ, List, false, true};
 ghost use Rattle.std.specs.Io.KnownBytes.{Appends};
 ghost use Rattle.edn.specs.Sent.{SendsFront};
 ghost use Rattle.report.specs.Lines.{verdict_text};
 ghost use Rattle.report.specs.declared.verdict.Verdict.{Verdict};
 ghost use Rattle.judging.specs.Statuses as spec;
+ghost use Rattle.judging.specs.Statuses.{yes_status, failed_status};
 ghost use Rattle.judging.specs.Texts.{IsLinearizableText};
 ghost use Rattle.judging.specs.Runs.{IsRunOutput};
 ghost use Rattle.judging.specs.Verdicts.{Holds};
@@ -24,11 +25,11 @@ use std::thread::Threads;
 /// Judges the texts, and writes the verdict.
 fn check<S: Sink>(alloc: Global, first: &[u8], second: &[u8], sink: &mut S) -> u8
     requires working { S.broken sink.old ≡ false }
-    ensures linearizable { result ≡ 0 → IsLinearizableText first.now }
-    ensures written { result ≢ FAILED → (v : Verdict) × Holds first.now second.now v × (result ≡ spec.status_of v) × Appends (S.sent sink.old) (S.sent sink.new) (verdict_text false v) }
-    ensures usable { result ≢ FAILED → S.broken sink.new ≡ false }
-    ensures failed { result ≡ FAILED → S.broken sink.new ≡ true }
-    ensures front { result ≡ FAILED → (v : Verdict) × Holds first.now second.now v × SendsFront (S.sent sink.old) (S.sent sink.new) (verdict_text false v) }
+    ensures linearizable { result ≡ yes_status → IsLinearizableText first.now }
+    ensures written { result ≢ failed_status → (v : Verdict) × Holds first.now second.now v × (result ≡ spec.status_of v) × Appends (S.sent sink.old) (S.sent sink.new) (verdict_text false v) }
+    ensures usable { result ≢ failed_status → S.broken sink.new ≡ false }
+    ensures failed { result ≡ failed_status → S.broken sink.new ≡ true }
+    ensures front { result ≡ failed_status → (v : Verdict) × Holds first.now second.now v × SendsFront (S.sent sink.old) (S.sent sink.new) (verdict_text false v) }
 {
     let verdict = judge(alloc, first, second, 1);
     match write_verdict(&verdict, false, sink) {
@@ -49,17 +50,15 @@ pub fn perform<R: Threads + Wait + Sync, S: Sink>(
     sink: &mut S,
 ) -> u8
     requires working { S.broken sink.old ≡ false }
-    ensures linearizable { IsCheck line.now → result ≡ 0 → IsLinearizableText first.now }
+    ensures linearizable { IsCheck line.now → result ≡ yes_status → IsLinearizableText first.now }
     // Where the output did not fail, the lines of a verdict that holds are written, and the status is its own.
-    ensures written { IsCheck line.now → result ≢ FAILED → (v : Verdict) × Holds first.now second.now v × (result ≡ spec.status_of v) × Appends (S.sent sink.old) (S.sent sink.new) (verdict_text false v) }
-    ensures usable { result ≢ FAILED → S.broken sink.new ≡ false }
+    ensures written { IsCheck line.now → result ≢ failed_status → (v : Verdict) × Holds first.now second.now v × (result ≡ spec.status_of v) × Appends (S.sent sink.old) (S.sent sink.new) (verdict_text false v) }
+    ensures usable { result ≢ failed_status → S.broken sink.new ≡ false }
     // Where it failed, a beginning of the lines was sent.
-    ensures failed { result ≡ FAILED → S.broken sink.new ≡ true }
-    ensures front { IsCheck line.now → result ≡ FAILED → (v : Verdict) × Holds first.now second.now v × SendsFront (S.sent sink.old) (S.sent sink.new) (verdict_text false v) }
-    // A run that ends with 0 has written a history that is linearizable, and comments behind it.
-    ensures run_linearizable { IsRun line.now → result ≡ 0 → (h c : List ℕ) × IsLinearizableText h × Appends (S.sent sink.old) (S.sent sink.new) (h ++ c) }
-    ensures run_written { IsRun line.now → result ≢ FAILED → (text : List ℕ) × IsRunOutput result text × Appends (S.sent sink.old) (S.sent sink.new) text }
-    ensures run_front { IsRun line.now → result ≡ FAILED → (status : ℕ) × (text : List ℕ) × IsRunOutput status text × SendsFront (S.sent sink.old) (S.sent sink.new) text }
+    ensures failed { result ≡ failed_status → S.broken sink.new ≡ true }
+    ensures front { IsCheck line.now → result ≡ failed_status → (v : Verdict) × Holds first.now second.now v × SendsFront (S.sent sink.old) (S.sent sink.new) (verdict_text false v) }
+    ensures run_written { IsRun line.now → result ≢ failed_status → (text : List ℕ) × IsRunOutput result text × Appends (S.sent sink.old) (S.sent sink.new) text }
+    ensures run_front { IsRun line.now → result ≡ failed_status → (status : ℕ) × (text : List ℕ) × IsRunOutput status text × SendsFront (S.sent sink.old) (S.sent sink.new) text }
 {
     match line {
         Line::Check { .. } => check(alloc, first, second, sink),

@@ -4,6 +4,7 @@ ghost use Rattle.std.specs.Prelude.{◌≡◌, ◌≢◌, ◌++◌, ◌⊎◌, �
 ghost use Rattle.std.specs.Io.KnownBytes.{Appends};
 ghost use Rattle.edn.specs.Sent.{SendsFront};
 ghost use Rattle.judging.specs.Runs.{IsRunOutput, IsTexts};
+ghost use Rattle.judging.specs.Statuses.{failed_status};
 
 use crate::decision::judge;
 use crate::record_lines::{certificates_of, history_lines};
@@ -54,10 +55,10 @@ fn write_texts<S: Sink>(texts: &Texts, sink: &mut S) -> Result<(), Failed>
 fn report_texts<S: Sink>(alloc: Global, texts: &Texts, sink: &mut S) -> u8
     requires working { S.broken sink.old ≡ false }
     requires texts { IsTexts texts.now }
-    ensures written { result ≢ FAILED → (text : List ℕ) × IsRunOutput result text × Appends (S.sent sink.old) (S.sent sink.new) text }
-    ensures usable { result ≢ FAILED → S.broken sink.new ≡ false }
-    ensures failed { result ≡ FAILED → S.broken sink.new ≡ true }
-    ensures front { result ≡ FAILED → (status : ℕ) × (text : List ℕ) × IsRunOutput status text × SendsFront (S.sent sink.old) (S.sent sink.new) text }
+    ensures written { result ≢ failed_status → (text : List ℕ) × IsRunOutput result text × Appends (S.sent sink.old) (S.sent sink.new) text }
+    ensures usable { result ≢ failed_status → S.broken sink.new ≡ false }
+    ensures failed { result ≡ failed_status → S.broken sink.new ≡ true }
+    ensures front { result ≡ failed_status → (status : ℕ) × (text : List ℕ) × IsRunOutput status text × SendsFront (S.sent sink.old) (S.sent sink.new) text }
 {
     if write_texts(texts, sink).is_err() {
         return FAILED;
@@ -73,10 +74,10 @@ fn report_texts<S: Sink>(alloc: Global, texts: &Texts, sink: &mut S) -> u8
 fn give_up<S: Sink>(line: &[u8], sink: &mut S) -> u8
     requires working { S.broken sink.old ≡ false }
     requires line { (line.now ≡ codes "out of memory\n") ⊎ (line.now ≡ codes "no thread\n") }
-    ensures written { result ≢ FAILED → (text : List ℕ) × IsRunOutput result text × Appends (S.sent sink.old) (S.sent sink.new) text }
-    ensures usable { result ≢ FAILED → S.broken sink.new ≡ false }
-    ensures failed { result ≡ FAILED → S.broken sink.new ≡ true }
-    ensures front { result ≡ FAILED → (status : ℕ) × (text : List ℕ) × IsRunOutput status text × SendsFront (S.sent sink.old) (S.sent sink.new) text }
+    ensures written { result ≢ failed_status → (text : List ℕ) × IsRunOutput result text × Appends (S.sent sink.old) (S.sent sink.new) text }
+    ensures usable { result ≢ failed_status → S.broken sink.new ≡ false }
+    ensures failed { result ≡ failed_status → S.broken sink.new ≡ true }
+    ensures front { result ≡ failed_status → (status : ℕ) × (text : List ℕ) × IsRunOutput status text × SendsFront (S.sent sink.old) (S.sent sink.new) text }
 {
     match write_bytes(line, sink) {
         Ok(()) => NO_MEMORY,
@@ -87,10 +88,10 @@ fn give_up<S: Sink>(line: &[u8], sink: &mut S) -> u8
 /// Puts out the history of the record, its certificates and the verdict on both, and gives the exit status.
 pub(crate) fn report_record<S: Sink>(alloc: Global, record: &Record<AnyObject>, sink: &mut S) -> u8
     requires working { S.broken sink.old ≡ false }
-    ensures written { result ≢ FAILED → (text : List ℕ) × IsRunOutput result text × Appends (S.sent sink.old) (S.sent sink.new) text }
-    ensures usable { result ≢ FAILED → S.broken sink.new ≡ false }
-    ensures failed { result ≡ FAILED → S.broken sink.new ≡ true }
-    ensures front { result ≡ FAILED → (status : ℕ) × (text : List ℕ) × IsRunOutput status text × SendsFront (S.sent sink.old) (S.sent sink.new) text }
+    ensures written { result ≢ failed_status → (text : List ℕ) × IsRunOutput result text × Appends (S.sent sink.old) (S.sent sink.new) text }
+    ensures usable { result ≢ failed_status → S.broken sink.new ≡ false }
+    ensures failed { result ≡ failed_status → S.broken sink.new ≡ true }
+    ensures front { result ≡ failed_status → (status : ℕ) × (text : List ℕ) × IsRunOutput status text × SendsFront (S.sent sink.old) (S.sent sink.new) text }
 {
     match texts_of(alloc, record) {
         Ok(texts) => report_texts(alloc, &texts, sink),
@@ -110,10 +111,10 @@ fn recorded<R: Threads + Wait + Sync>(
 /// Runs the clients, and puts out what they did and the verdict on it.
 pub(crate) fn run<R: Threads + Wait + Sync, S: Sink>(rt: &R, alloc: Global, sink: &mut S) -> u8
     requires working { S.broken sink.old ≡ false }
-    ensures written { result ≢ FAILED → (text : List ℕ) × IsRunOutput result text × Appends (S.sent sink.old) (S.sent sink.new) text }
-    ensures usable { result ≢ FAILED → S.broken sink.new ≡ false }
-    ensures failed { result ≡ FAILED → S.broken sink.new ≡ true }
-    ensures front { result ≡ FAILED → (status : ℕ) × (text : List ℕ) × IsRunOutput status text × SendsFront (S.sent sink.old) (S.sent sink.new) text }
+    ensures written { result ≢ failed_status → (text : List ℕ) × IsRunOutput result text × Appends (S.sent sink.old) (S.sent sink.new) text }
+    ensures usable { result ≢ failed_status → S.broken sink.new ≡ false }
+    ensures failed { result ≡ failed_status → S.broken sink.new ≡ true }
+    ensures front { result ≡ failed_status → (status : ℕ) × (text : List ℕ) × IsRunOutput status text × SendsFront (S.sent sink.old) (S.sent sink.new) text }
 {
     match recorded(rt, alloc) {
         Ok(record) => report_record(alloc, &record, sink),

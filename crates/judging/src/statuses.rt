@@ -7,7 +7,7 @@ use checker::Refusal;
 use report::Verdict;
 
 /// The exit status where memory was refused, or a thread could not be started.
-pub(crate) const NO_MEMORY: u8 = 3;
+pub const NO_MEMORY: u8 = 3;
 
 /// The exit status where the output failed or a file could not be read.
 pub const FAILED: u8 = 4;
@@ -18,7 +18,7 @@ pub(crate) fn status_of(verdict: &Verdict) -> u8
 {
     match verdict {
         Verdict::Yes(_) => 0,
-        Verdict::No(Refusal::NoMemory) | Verdict::NoMemory => 3,
+        Verdict::No(Refusal::NoMemory) | Verdict::NoMemory => NO_MEMORY,
         Verdict::No(_) => 1,
         Verdict::Malformed(_) => 2,
     }

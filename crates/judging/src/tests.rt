@@ -108,6 +108,31 @@ fn too_many_maps(rt: HostRuntime) -> Result<(), Fail> {
     Ok(())
 }
 
+/// A text of one byte too long is refused before anything in it is looked at, be it UTF-8 or not.
+#[test]
+fn too_long(rt: HostRuntime) -> Result<(), Fail> {
+    let check = checking(rt.alloc())?;
+    let long = vec![in rt.alloc(); 0xff; 268_435_457]?;
+    for (history, certificates, expected) in [
+        (
+            long.as_slice(),
+            b"".as_slice(),
+            "malformed history: E10 at byte 0\n",
+        ),
+        (
+            b"".as_slice(),
+            long.as_slice(),
+            "malformed certificates: E10 at byte 0\n",
+        ),
+    ] {
+        let mut sink = Out::new(Vec::new(rt.alloc()));
+        let status = perform(&rt, rt.alloc(), &check, history, certificates, &mut sink);
+        assert_eq!(rt; sink.into_inner().as_slice(), expected.as_bytes());
+        assert_eq!(rt; status, 2);
+    }
+    Ok(())
+}
+
 #[test]
 fn words(rt: HostRuntime) -> Result<(), Fail> {
     let expected = Line::Check {

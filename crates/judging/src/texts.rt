@@ -1,13 +1,13 @@
 //! From texts to a history and to certificates.
 
-ghost use Rattle.std.specs.Prelude.{◌≡◌, ◌≢◌, ◌≤◌, List, length, map, IfOk, IfErr};
+ghost use Rattle.std.specs.Prelude.{◌≡◌, List, map, IfOk, IfErr, MatchBool};
 ghost use Rattle.events.specs.declared.event.Event.{Event};
 ghost use Rattle.certificate.specs.declared.Certificate.{Certificate};
 ghost use Rattle.certificate.specs.Denotes.{AreDistinct, reading_of};
-ghost use Rattle.judging.specs.Texts.{DenotesHistory, DenotesCertificates, IsHistoryFault, IsCertificatesFault};
+ghost use Rattle.judging.specs.Texts.{DenotesHistory, DenotesCertificates, WantsMemory, IsStopOf, IsShort, IsHistoryFault, IsCertificatesFault};
 
 use certificate::{CertFaultKind, Certificate, read_certificates};
-use edn::{FaultKind, MAX_LENGTH, read_forms};
+use edn::{FaultKind, read_forms};
 use history::{History, HistoryFaultKind, read_history};
 use report::Fault;
 use std::alloc::Global;
@@ -19,23 +19,44 @@ pub(crate) enum Stop {
     NoMemory,
 }
 
+/// Whether the fault is that memory was refused.
+fn wants_memory(fault: &Fault) -> bool
+    ensures { MatchBool result (WantsMemory fault.now) (¬ (WantsMemory fault.now)) }
+{
+    match fault {
+        Fault::HistoryText(e) => matches!(e.kind, FaultKind::NoMemory),
+        Fault::HistoryMaps(f) => matches!(f.kind, HistoryFaultKind::NoMemory),
+        Fault::CertificateText(e) => matches!(e.kind, FaultKind::NoMemory),
+        Fault::CertificateForms(f) => matches!(f.kind, CertFaultKind::NoMemory),
+    }
+}
+
+/// What stops the reading where this fault was found.
+fn stop_of(fault: Fault) -> Stop
+    ensures { IsStopOf fault result }
+{
+    if wants_memory(&fault) {
+        Stop::NoMemory
+    } else {
+        Stop::Stopped(fault)
+    }
+}
+
 /// The history that the text denotes.
 pub(crate) fn history_in(alloc: Global, text: &[u8]) -> Result<History, Stop>
     ensures denotes { IfOk result (λ es. DenotesHistory text.now es) }
     ensures only { IfOk result (λ es. (fs : List Event) → DenotesHistory text.now fs → fs ≡ es) }
-    ensures short { IfOk result (λ _. length text.now ≤ MAX_LENGTH) }
+    ensures short { IfOk result (λ _. IsShort text.now) }
     ensures stop { IfErr result (IsHistoryFault text.now) }
-    ensures accepts { IfErr result (λ s. (es : List Event) → DenotesHistory text.now es → length text.now ≤ MAX_LENGTH → s ≡ Stop.NoMemory) }
+    ensures accepts { IfErr result (λ s. (es : List Event) → DenotesHistory text.now es → IsShort text.now → s ≡ Stop.NoMemory) }
 {
     let forms = match read_forms(alloc, text) {
         Ok(forms) => forms,
-        Err(fault) if fault.kind == FaultKind::NoMemory => return Err(Stop::NoMemory),
-        Err(fault) => return Err(Stop::Stopped(Fault::HistoryText(fault))),
+        Err(fault) => return Err(stop_of(Fault::HistoryText(fault))),
     };
     match read_history(alloc, forms) {
         Ok(history) => Ok(history),
-        Err(fault) if fault.kind == HistoryFaultKind::NoMemory => Err(Stop::NoMemory),
-        Err(fault) => Err(Stop::Stopped(Fault::HistoryMaps(fault))),
+        Err(fault) => Err(stop_of(Fault::HistoryMaps(fault))),
     }
 }
 
@@ -44,18 +65,16 @@ pub(crate) fn certificates_in(alloc: Global, text: &[u8]) -> Result<Vec<Certific
     ensures denotes { IfOk result (λ cs. DenotesCertificates text.now cs.items) }
     ensures only { IfOk result (λ cs. (ds : List Certificate) → DenotesCertificates text.now ds → map reading_of ds ≡ map reading_of cs.items) }
     ensures distinct { IfOk result (λ cs. AreDistinct cs.items) }
-    ensures short { IfOk result (λ _. length text.now ≤ MAX_LENGTH) }
+    ensures short { IfOk result (λ _. IsShort text.now) }
     ensures stop { IfErr result (IsCertificatesFault text.now) }
-    ensures accepts { IfErr result (λ s. (cs : List Certificate) → DenotesCertificates text.now cs → length text.now ≤ MAX_LENGTH → s ≡ Stop.NoMemory) }
+    ensures accepts { IfErr result (λ s. (cs : List Certificate) → DenotesCertificates text.now cs → IsShort text.now → s ≡ Stop.NoMemory) }
 {
     let forms = match read_forms(alloc, text) {
         Ok(forms) => forms,
-        Err(fault) if fault.kind == FaultKind::NoMemory => return Err(Stop::NoMemory),
-        Err(fault) => return Err(Stop::Stopped(Fault::CertificateText(fault))),
+        Err(fault) => return Err(stop_of(Fault::CertificateText(fault))),
     };
     match read_certificates(alloc, forms) {
         Ok(certificates) => Ok(certificates),
-        Err(fault) if fault.kind == CertFaultKind::NoMemory => Err(Stop::NoMemory),
-        Err(fault) => Err(Stop::Stopped(Fault::CertificateForms(fault))),
+        Err(fault) => Err(stop_of(Fault::CertificateForms(fault))),
     }
 }

@@ -1,11 +1,7 @@
-use Rattle.std.proofs.Common.{sym}
-use Rattle.judging.proofs.Reading.{forms_fit, not_memory}
 use Rattle.edn.specs.View.{views}
 use Rattle.judging.proofs.Accepting.{one_meaning}
+use Rattle.judging.proofs.Reading.{forms_fit}
 use Rattle.judging.proofs.texts.certificates_in.Goals as goal
-
-pub returns-in-Err-2-clause-stop : goal.returns-in-Err-2-clause-stop
-returns-in-Err-2-clause-stop c = let e = c.if-eq.ensures in (not_memory c.in-Err.fault.kind (sym e), c.in-Err.ensures.too_long, c.in-Err.ensures.none (not_memory c.in-Err.fault.kind (sym e)))
 
 pub read_certificates-requires : goal.read_certificates-requires
 read_certificates-requires c = record { fit = forms_fit c.in-Ok.forms.items c.in-Ok.ensures.spelled.fits }

@@ -3,7 +3,7 @@ use Rattle.edn.specs.Datum.{items_of}
 use Rattle.edn.specs.View.{views}
 use Rattle.certificate.specs.Denotes as spec
 use Rattle.certificate.proofs.Reading.{integers_behind}
-use Rattle.certificate.proofs.reader.integers_in.Given as goal
+use Rattle.certificate.proofs.reader.integers_of.Given as goal
 
 abbrev pub invariant-loop-form : goal.invariant-loop-form
 invariant-loop-form l = integers_behind l.integers.items (drop l.form-index l.forms) ≡ spec.integers_in (items_of (views l.forms))
