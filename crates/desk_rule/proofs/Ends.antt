@@ -22,10 +22,10 @@ use Rattle.world.specs.Images.{event_in}
 use Rattle.world.proofs.Changed.{changed_here, changed_else, changed_all}
 use Rattle.world.proofs.Entries.{starts_same}
 use Rattle.world.proofs.Moved.{sound_ended}
-use Rattle.desk_rule.specs.Views.{own_request, journal, missing, ending, knowing_end}
+use Rattle.desk_rule.specs.Views.{own_request, journal, ending, knowing_end, finding_there}
 use Rattle.desk_rule.specs.Rule.{end_word, OwnOk, HeldOk, SeatOk}
 use Rattle.desk_rule.specs.Plays as play
-use Rattle.desk_rule.proofs.Seats.{Later, alike, kept_after, seat_knowing, mine, unmoved, misses, Rule}
+use Rattle.desk_rule.proofs.Seats.{Later, alike, kept_after, seat_knowing, mine, unmoved, Rule}
 use Rattle.desk_rule.proofs.Ties.{tied_end}
 
 still_ended : (w : World) (c d : ℕ) → w.ended d ≡ true → changed w.ended c true d ≡ true
@@ -102,9 +102,9 @@ module _ {S O R : Type 0} (content : S → Content) (op_in : O → AnyOp) (reply
         λ e same. let f : d ≡ e = omega arith in ((λ _. ap (λ z. (knowing_end z m.0, m.1)) f), λ miss. absurd (miss hit)),
       ))
       (λ miss. (
-        missing (48 + d) m.0,
+        finding_there d m.0,
         keeps,
         tt,
-        misses content op_in reply_in kinds clients quota s k (48 + d) id m.0 m.1 cl at,
-        λ e same. ((λ hit. absurd (miss hit)), λ _. refl),
+        unmoved content op_in reply_in kinds clients quota s k (48 + d) id m.0 (finding_there d m.0) m.1 at cl alike (seat_knowing ok.ready ok.retired ok),
+        λ e same. let f : d ≡ e = omega arith in ((λ hit. absurd (miss hit)), λ _. ap (λ z. (finding_there z m.0, m.1)) f),
       ))
