@@ -19,7 +19,7 @@ fn for_one(
     quota: u32,
 ) -> Result<(Desk<AnyObject>, Client<AnyObject>), AllocError>
     requires { quota < 10001 }
-    ensures desk { IfOk result (λ r. (r.1.desk ≡ r.0.id) × (length r.0.kinds ≡ 1)) }
+    ensures desk { IfOk result (λ r. (r.1.desk ≡ r.0.id) × (length r.0.id.kinds ≡ 1)) }
 {
     let mut objects = Vec::new(alloc);
     objects.push(AnyObject::empty(alloc, kind))?;
@@ -37,7 +37,7 @@ fn for_two(
     quota: u32,
 ) -> Result<(Desk<AnyObject>, Client<AnyObject>, Client<AnyObject>), AllocError>
     requires { quota < 10001 }
-    ensures desk { IfOk result (λ r. (r.1.desk ≡ r.0.id) × (r.2.desk ≡ r.0.id) × (length r.0.kinds ≡ 1)) }
+    ensures desk { IfOk result (λ r. (r.1.desk ≡ r.0.id) × (r.2.desk ≡ r.0.id) × (length r.0.id.kinds ≡ 1)) }
 {
     let mut objects = Vec::new(alloc);
     objects.push(AnyObject::empty(alloc, kind))?;
@@ -60,7 +60,7 @@ fn post<R: Abort>(rt: &R, desk: &Desk<AnyObject>, client: &mut Client<AnyObject>
 
 fn win<R: Abort>(rt: &R, desk: &Desk<AnyObject>, client: Client<AnyObject>) -> Pass<AnyObject>
     requires desk { client.desk ≡ desk.now.id }
-    requires object { 0 < length desk.now.kinds }
+    requires object { 0 < length desk.now.id.kinds }
     ensures { result.desk ≡ client.desk }
 {
     match desk.win(client, 0) {
@@ -211,7 +211,7 @@ fn acquired<R: Abort>(
     rt: &R,
     alloc: Global,
 ) -> Result<(Desk<AnyObject>, Client<AnyObject>, Client<AnyObject>), AllocError>
-    ensures desk { IfOk result (λ r. (r.1.desk ≡ r.0.id) × (r.2.desk ≡ r.0.id) × (length r.0.kinds ≡ 1)) }
+    ensures desk { IfOk result (λ r. (r.1.desk ≡ r.0.id) × (r.2.desk ≡ r.0.id) × (length r.0.id.kinds ≡ 1)) }
 {
     let (desk, mut zero, one) = for_two(alloc, Kind::Mutex, 2)?;
     post(rt, &desk, &mut zero, AnyOp::Acquire);

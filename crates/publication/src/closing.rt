@@ -2,7 +2,7 @@
 
 ghost use Rattle.std.specs.Prelude.{◌≡◌, ◌≢◌, ℕ, ◌+◌, ◌<◌, ◌≤◌, false, [], length, slice_index_or, vec_len, vec_capacity, IfOk, IfErr, IfSome, IfNone, if◌then◌else◌};
 ghost use Rattle.recorder.specs.Records.{items_of};
-ghost use Rattle.desk_rule.specs.Views.{is_waiting, missing, knowing_end};
+ghost use Rattle.desk_rule.specs.Views.{is_waiting, knowing_end, finding_there};
 ghost use Rattle.publication.specs.Handles.{IsRoom};
 ghost use Rattle.publication.specs.Calls.{Closed, StillThere};
 ghost use Rattle.publication.specs.Closing.{values_of, IsTakenTo, HasCore, HasJournal, IsLogOf, IsJournalOf, AreLogs, AreJournals, IsSameBelow, HaveEnded, HasLearntEnds};
@@ -63,12 +63,12 @@ impl<S: SeqObject> Desk<S> {
     }
 }
 
-// Whether the client has ended. It is a miss where it has not.
+// Whether the client has ended. The last client knows that, or has found it there.
 fn sees_end<S: SeqObject>(desk: &Desk<S>, last: &mut Client<S>, client: u32) -> bool
     requires desk { last.old.desk ≡ desk.now.id }
     requires client { client < desk.now.clients }
     ensures desk { last.new.desk ≡ last.old.desk }
-    ensures seen { last.new.knows ≡ (if result then knowing_end client last.old.knows else missing (48 + client) last.old.knows) }
+    ensures seen { last.new.knows ≡ (if result then knowing_end client last.old.knows else finding_there client last.old.knows) }
 {
     let shared = &desk.table.shared;
     shared.load::<SeesEnd>(&mut last.member.seat, ENDS + client as usize) == 1
