@@ -133,8 +133,7 @@ fn run_two<R: Threads + Wait + Sync>(
 
 // Closes the desk with its last client, once the others have retired.
 fn close<R: Wait>(rt: &R, desk: Desk<AnyObject>, last: Client<AnyObject>) -> Record<AnyObject>
-    requires desk { last.desk ≡ desk.id }
-    requires idle { last.knows.own ≡ Idle }
+    requires { last.desk ≡ desk.id }
     ensures { ClosedBy desk last result }
 {
     let mut desk = desk;

@@ -30,6 +30,7 @@ use Rattle.desk_rule.specs.declared.board.Held.TheVariants as held
 use Rattle.desk_rule.specs.declared.board.View.{View}
 use Rattle.desk_rule.specs.Views.{seen_of, own_request, journal, IsAtRest, IsAccount}
 use Rattle.desk_rule.specs.Rule.{OwnOk, HeldOk, Kept}
+use Rattle.desk_rule.proofs.Ends.{own_is}
 use Rattle.desk_rule.proofs.Seats.{mine}
 use Rattle.desk_rule.proofs.Seeing.{all_covered, accounts}
 use Rattle.publication.specs.Handles.{DeskSeen, Known, log_of}
@@ -48,15 +49,6 @@ module _ {S O R : Type 0} (op_in : O → AnyOp) (reply_in : R → AnyReply) wher
     pub own : journal v ≡ journal_in world v.number
     pub accounts : (x : ℕ) → IsAccount x v (world.log x)
     pub come : (c : ℕ) → world.stage c ≢ absent → c < clients
-
--- what a client knows of its call is what the stage says
-own_is : (o : Own) (t : Stage) → OwnOk o t → own_request o ≡ request_of t
-own_is own.Absent t is = ap request_of (sym is)
-own_is own.Idle t is = ap request_of (sym is)
-own_is (own.Drawn q) t is = ap request_of (sym is)
-own_is (own.Waiting q) t is = ⊎_elim (λ (e : t ≡ posted q). ap request_of (sym e)) (λ (f : (t ≡ picked q) ⊎ ((a : AnyAnswer) × (t ≡ answered q a))).
-    ⊎_elim (λ (e : t ≡ picked q). ap request_of (sym e)) (λ (e : (a : AnyAnswer) × (t ≡ answered q a)). ap request_of (sym e.1)) f) is
-own_is (own.Taken q a) t is = ap request_of (sym is)
 
 none_held : (h : Option ℕ) → ((c : ℕ) → h ≡ Some c → ⊥) → h ≡ None
 none_held None never = refl
