@@ -109,11 +109,7 @@ fn record_of<R: Abort>(
 }
 
 // Closes the desk with client 0, once client 1 has retired.
-fn closed<R: Abort>(
-    rt: &R,
-    desk: Desk<AnyObject>,
-    zero: Client<AnyObject>,
-) -> Record<AnyObject>
+fn closed<R: Abort>(rt: &R, desk: Desk<AnyObject>, zero: Client<AnyObject>) -> Record<AnyObject>
     requires { zero.desk ≡ desk.id }
     ensures journals { length result.journals ≡ 2 }
     ensures logs { length result.logs ≡ 1 }
