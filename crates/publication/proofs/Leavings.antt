@@ -11,7 +11,7 @@ use Rattle.model.specs.declared.Kind.{Kind}
 use Rattle.model.specs.declared.AnyOp.{AnyOp}
 use Rattle.model.specs.declared.AnyReply.{AnyReply}
 use Rattle.model.specs.Objects.{Content}
-use Rattle.world.specs.World.{AnyEntry, AnyEvent, AnyAnswer, Stage, absent, posted, picked, answered, World, kind_at, request_of, journal_of, journal_in, IsLegal, StartsWith}
+use Rattle.world.specs.World.{AnyEntry, AnyEvent, absent, World, kind_at, journal_of, journal_in, IsLegal, StartsWith}
 use Rattle.world.specs.Sound.{Sound}
 use Rattle.world.specs.Records.{IsSoundRecord}
 use Rattle.world.proofs.Entries.{starts_same}
@@ -21,15 +21,14 @@ use Rattle.world.specs.Images.{entry_in, event_in}
 use Rattle.recorder.specs.Records.{Recorded}
 use Rattle.desk_rule.specs.declared.board.Core.{Core}
 use Rattle.desk_rule.specs.declared.board.Journal.{Journal}
-use Rattle.desk_rule.specs.declared.board.Own.{Own}
 use Rattle.desk_rule.specs.declared.board.Own.TheVariants as own
 use Rattle.desk_rule.specs.declared.board.Plan.{Plan}
 use Rattle.desk_rule.specs.declared.board.Slot.{Slot}
 use Rattle.desk_rule.specs.declared.board.Slot.TheVariants as slot
 use Rattle.desk_rule.specs.declared.board.Held.TheVariants as held
 use Rattle.desk_rule.specs.declared.board.View.{View}
-use Rattle.desk_rule.specs.Views.{seen_of, own_request, journal, IsAtRest, IsAccount}
-use Rattle.desk_rule.specs.Rule.{OwnOk, HeldOk, Kept}
+use Rattle.desk_rule.specs.Views.{seen_of, journal, IsAtRest, IsAccount}
+use Rattle.desk_rule.specs.Rule.{HeldOk, Kept}
 use Rattle.desk_rule.proofs.Ends.{own_is}
 use Rattle.desk_rule.proofs.Seats.{mine}
 use Rattle.desk_rule.proofs.Seeing.{all_covered, accounts}

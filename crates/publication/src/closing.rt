@@ -1,6 +1,6 @@
 //! The end of a client, and of the desk.
 
-ghost use Rattle.std.specs.Prelude.{◌≡◌, ◌≢◌, ℕ, ◌+◌, ◌<◌, ◌≤◌, false, [], length, slice_index_or, vec_len, vec_capacity, IfOk, IfErr, IfSome, IfNone, if◌then◌else◌};
+ghost use Rattle.std.specs.Prelude.{◌≡◌, ◌≢◌, ℕ, ◌+◌, ◌<◌, ◌≤◌, [], length, slice_index_or, vec_len, vec_capacity, IfOk, IfErr, IfSome, IfNone, if◌then◌else◌};
 ghost use Rattle.recorder.specs.Records.{items_of};
 ghost use Rattle.desk_rule.specs.Views.{knowing_end, finding_there};
 ghost use Rattle.publication.specs.Handles.{IsRoom};

@@ -1,6 +1,6 @@
 //! A new desk, the end of its clients, and its own.
 
-ghost use Rattle.std.specs.Prelude.{◌≡◌, ◌+◌, ◌<◌, false, length, IfOk};
+ghost use Rattle.std.specs.Prelude.{◌≡◌, ◌+◌, ◌<◌, length, IfOk};
 ghost use Rattle.publication.specs.Handles.{AllBegun, begun};
 ghost use Rattle.publication.specs.Making.{AreEmpty};
 
