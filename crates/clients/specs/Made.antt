@@ -1,15 +1,16 @@
 -- What the journal of a client says of the calls that it was to make.
-use Rattle.std.specs.Prelude.{◌≡◌, ℕ, ◌+◌, ◌<◌, ◌≤◌, List, [], ◌∷◌, ◌++◌, length, All}
+use Rattle.std.specs.Prelude.{◌≡◌, ℕ, ◌+◌, ◌<◌, ◌≤◌, List, [], ◌∷◌, ◌++◌, length, All, None}
 use Rattle.model.specs.declared.AnyOp.{AnyOp}
 use Rattle.model.specs.declared.AnyReply.{AnyReply}
 use Rattle.world.specs.declared.JournalEvent.TheVariants.{Invoked, Returned}
-use Rattle.world.specs.World.{AnyEvent, AnyAnswer}
+use Rattle.world.specs.World.{AnyEvent, AnyAnswer, AnyDone, entries_of, served, journal_of}
+use Rattle.world.specs.Records.{IsSoundRecord}
 use Rattle.desk_rule.specs.declared.board.Own.TheVariants as own
 use Rattle.desk_rule.specs.declared.board.View.{View}
 use Rattle.desk_rule.specs.Views.{journal}
 use Rattle.publication.specs.Handles.{DeskSeen, Known}
 use Rattle.publication.specs.Calls.{Closed}
-use Rattle.recorder.specs.Records.{Recorded, journal_at}
+use Rattle.recorder.specs.Records.{Recorded, journal_at, log_at}
 use Rattle.clients.specs.Workloads.{Work, Call, calls_at, IsCall}
 
 -- the events are those of the calls, in order: the invocation of each, and its return
@@ -22,7 +23,7 @@ pub record MayWork (d : DeskSeen) (c : Known) (cs : List Call) : Type 0 where
   pub desk : c.desk ≡ d.id
   pub idle : c.knows.own ≡ own.Idle
   pub room : length c.knows.done + length cs ≤ c.desk.quota
-  pub fit : All (IsCall d.kinds) cs
+  pub fit : All (IsCall d.id.kinds) cs
 
 -- an idle client made these calls, in order, and is idle again
 pub record Worked (cs : List Call) (v w : View) : Type 0 where
@@ -36,9 +37,10 @@ pub record Worked (cs : List Call) (v w : View) : Type 0 where
 
 -- the desk was made for this workload
 pub record IsDeskFor (d : DeskSeen) (w : Work) : Type 0 where
-  pub kinds : d.kinds ≡ w.kinds
+  pub kinds : d.id.kinds ≡ w.kinds
   pub clients : d.clients ≡ length w.calls
   pub quota : (c : ℕ) → c < length w.calls → length (calls_at w c) ≤ d.id.quota
+  pub few_calls : d.id.quota < 10001
 
 -- client 0 of the desk has made all its calls
 pub record IsDone (d : DeskSeen) (w : Work) (c : Known) : Type 0 where
@@ -47,17 +49,20 @@ pub record IsDone (d : DeskSeen) (w : Work) (c : Known) : Type 0 where
   pub idle : c.knows.own ≡ own.Idle
   pub made : Made (calls_at w 0) (journal c.knows)
 
--- The record is that of a closed desk of the workload's objects and clients, whose last client was client 0. The journal
--- of client 0 has its calls, all of them, in order.
-pub record Ran (w : Work) (r : Recorded AnyOp AnyReply) : Type 0 where
-  pub own : Made (calls_at w 0) (journal_at r 0)
-  pub desk : DeskSeen
-  pub last : Known
-  pub kinds : desk.kinds ≡ w.kinds
-  pub clients : desk.clients ≡ length w.calls
-  pub number : last.knows.number ≡ 0
-  pub closed : Closed (λ (op : AnyOp). op) (λ (reply : AnyReply). reply) desk last r
+-- the client c closed the desk d, with this record
+abbrev pub ClosedBy : DeskSeen → Known → Recorded AnyOp AnyReply → Type 0
+ClosedBy d c r = Closed (λ (op : AnyOp). op) (λ (reply : AnyReply). reply) d c r
 
--- The desk d was closed with this client, whose number and journal are those of c: it only looked at end words since.
-abbrev pub ClosedAs : DeskSeen → Known → Recorded AnyOp AnyReply → Type 0
-ClosedAs d c r = (last : Known) × (last.knows.number ≡ c.knows.number) × (journal last.knows ≡ journal c.knows) × Closed (λ (op : AnyOp). op) (λ (reply : AnyReply). reply) d last r
+-- The record of a closed desk of the workload's objects and clients.
+pub record Ran (w : Work) (r : Recorded AnyOp AnyReply) : Type 0 where
+  pub journals : length r.journals ≡ length w.calls
+  pub logs : length r.logs ≡ length w.kinds
+  -- client 0 made its calls, all of them, in order
+  pub own : Made (calls_at w 0) (journal_at r 0)
+  -- These are its calls by its journal. Of them each log holds just those on its object that were answered by a reply,
+  -- each once and in order.
+  pub done : List AnyDone
+  pub says : journal_at r 0 ≡ journal_of done None
+  pub accounts : (x : ℕ) → entries_of 0 (log_at r x) ≡ served x 0 done
+  -- the journals of all clients are a well-formed history, and each log is a valid order of the calls on its object
+  pub sound : IsSoundRecord w.kinds 10000 (journal_at r) (log_at r)

@@ -4,7 +4,7 @@ ghost use Rattle.std.specs.Prelude.{◌≡◌, ◌<◌, length, map, All, IfOk, 
 ghost use Rattle.model.specs.Objects.{empty, kind_with};
 ghost use Rattle.desk_rule.specs.declared.board.Own.TheVariants.{Idle};
 ghost use Rattle.publication.specs.Handles.{AllBegun};
-ghost use Rattle.clients.specs.Made.{MayWork, Worked, IsDeskFor, IsDone, ClosedAs, Ran};
+ghost use Rattle.clients.specs.Made.{MayWork, Worked, IsDeskFor, IsDone, ClosedBy, Ran};
 
 use crate::worker::work;
 use crate::workload::Workload;
@@ -81,7 +81,7 @@ fn run_all<R: Threads + Wait + Sync>(
 ) -> Result<Client<AnyObject>, RunFault>
     requires few { (0 < length workload.now.calls) × (length workload.now.calls < 3) }
     requires desk { IsDeskFor desk.now workload.now }
-    requires clients { (length clients.items ≡ length workload.now.calls) × AllBegun desk.now.id desk.now.kinds clients.items }
+    requires clients { (length clients.items ≡ length workload.now.calls) × AllBegun desk.now.id clients.items }
     ensures done { IfOk result (IsDone desk.now workload.now) }
     ensures alone { OnErr result (1 < length workload.now.calls) }
 {
@@ -133,9 +133,8 @@ fn run_two<R: Threads + Wait + Sync>(
 
 // Closes the desk with its last client, once the others have retired.
 fn close<R: Wait>(rt: &R, desk: Desk<AnyObject>, last: Client<AnyObject>) -> Record<AnyObject>
-    requires desk { last.desk ≡ desk.id }
-    requires idle { last.knows.own ≡ Idle }
-    ensures { ClosedAs desk last result }
+    requires { last.desk ≡ desk.id }
+    ensures { ClosedBy desk last result }
 {
     let mut desk = desk;
     let mut last = last;

@@ -43,7 +43,7 @@ fn make<R: Wait>(
     requires desk { client.desk ≡ desk.now.id }
     requires idle { client.knows.own ≡ Idle }
     requires room { length client.knows.done < client.desk.quota }
-    requires fits { IsCall desk.now.kinds (object, op) }
+    requires fits { IsCall desk.now.id.kinds (object, op) }
     ensures desk { result.desk ≡ client.desk }
     ensures called { (a : AnyAnswer) × Called client.knows object op a result.knows }
 {

@@ -34,7 +34,7 @@ pub fn combine<S: SeqObject>(
     object: u32,
 ) -> (Client<S>, Combined)
     requires desk { client.desk ≡ desk.now.id }
-    requires object { object < length desk.now.kinds }
+    requires object { object < length desk.now.id.kinds }
     ensures desk { result.0.desk ≡ client.desk }
     ensures same { KeepsCalls client.knows result.0.knows }
     // A call of its own on the object that is outstanding is answered, so that the next poll is Some; or the object cannot

@@ -19,7 +19,7 @@ fn for_one(
     quota: u32,
 ) -> Result<(Desk<AnyObject>, Client<AnyObject>), AllocError>
     requires { quota < 10001 }
-    ensures desk { IfOk result (λ r. (r.1.desk ≡ r.0.id) × (length r.0.kinds ≡ 1)) }
+    ensures desk { IfOk result (λ r. (r.1.desk ≡ r.0.id) × (length r.0.id.kinds ≡ 1)) }
 {
     let mut objects = Vec::new(alloc);
     objects.push(AnyObject::empty(alloc, kind))?;
@@ -37,7 +37,7 @@ fn for_two(
     quota: u32,
 ) -> Result<(Desk<AnyObject>, Client<AnyObject>, Client<AnyObject>), AllocError>
     requires { quota < 10001 }
-    ensures desk { IfOk result (λ r. (r.1.desk ≡ r.0.id) × (r.2.desk ≡ r.0.id) × (length r.0.kinds ≡ 1)) }
+    ensures desk { IfOk result (λ r. (r.1.desk ≡ r.0.id) × (r.2.desk ≡ r.0.id) × (length r.0.id.kinds ≡ 1)) }
 {
     let mut objects = Vec::new(alloc);
     objects.push(AnyObject::empty(alloc, kind))?;
@@ -60,7 +60,7 @@ fn post<R: Abort>(rt: &R, desk: &Desk<AnyObject>, client: &mut Client<AnyObject>
 
 fn win<R: Abort>(rt: &R, desk: &Desk<AnyObject>, client: Client<AnyObject>) -> Pass<AnyObject>
     requires desk { client.desk ≡ desk.now.id }
-    requires object { 0 < length desk.now.kinds }
+    requires object { 0 < length desk.now.id.kinds }
     ensures { result.desk ≡ client.desk }
 {
     match desk.win(client, 0) {
@@ -104,8 +104,16 @@ fn record_of<R: Abort>(
     ensures journals { length result.journals ≡ 2 }
     ensures logs { length result.logs ≡ 1 }
 {
-    assert!(rt; !zero.outstanding() && !one.outstanding());
     desk.retire(one);
+    closed(rt, desk, zero)
+}
+
+// Closes the desk with client 0, once client 1 has retired.
+fn closed<R: Abort>(rt: &R, desk: Desk<AnyObject>, zero: Client<AnyObject>) -> Record<AnyObject>
+    requires { zero.desk ≡ desk.id }
+    ensures journals { length result.journals ≡ 2 }
+    ensures logs { length result.logs ≡ 1 }
+{
     match desk.close(zero) {
         Ok(record) => {
             assert!(rt; record.clients() == 2 && record.objects() == 1);
@@ -211,7 +219,7 @@ fn acquired<R: Abort>(
     rt: &R,
     alloc: Global,
 ) -> Result<(Desk<AnyObject>, Client<AnyObject>, Client<AnyObject>), AllocError>
-    ensures desk { IfOk result (λ r. (r.1.desk ≡ r.0.id) × (r.2.desk ≡ r.0.id) × (length r.0.kinds ≡ 1)) }
+    ensures desk { IfOk result (λ r. (r.1.desk ≡ r.0.id) × (r.2.desk ≡ r.0.id) × (length r.0.id.kinds ≡ 1)) }
 {
     let (desk, mut zero, one) = for_two(alloc, Kind::Mutex, 2)?;
     post(rt, &desk, &mut zero, AnyOp::Acquire);
@@ -265,6 +273,22 @@ fn the_own_row_is_tried_again(rt: HostRuntime) -> Result<(), Fail> {
     assert!(rt; desk.poll(&mut one).is_some());
     let record = record_of(&rt, desk, zero, one);
     assert!(rt; tickets_are(record.log(0), &[0, 3, 2]));
+    Ok(())
+}
+
+// What a client that retired had outstanding is served, and stays pending in its journal.
+#[test]
+fn calls_of_abandoned_clients_are_pending(rt: HostRuntime) -> Result<(), Fail> {
+    let (desk, mut zero, mut one) = for_two(rt.alloc(), Kind::Queue, 1)?;
+    post(&rt, &desk, &mut zero, AnyOp::Enqueue(1));
+    post(&rt, &desk, &mut one, AnyOp::Enqueue(2));
+    desk.retire(one);
+    let (zero, combined) = combine(&desk, zero, 0);
+    assert!(rt; combined == Combined::Served { pass: 1, count: 2 });
+    let record = closed(&rt, desk, zero);
+    assert!(rt; record.journal(0) == [invoked(0, AnyOp::Enqueue(1))].as_slice());
+    assert!(rt; record.journal(1) == [invoked(1, AnyOp::Enqueue(2))].as_slice());
+    assert!(rt; tickets_are(record.log(0), &[0, 1]));
     Ok(())
 }
 

@@ -48,7 +48,7 @@ fn wait_for<S: SeqObject, R: Wait>(
     object: u32,
 ) -> (Client<S>, Answer<S::Reply>)
     requires desk { client.desk ≡ desk.now.id }
-    requires object { object < length desk.now.kinds }
+    requires object { object < length desk.now.id.kinds }
     ensures desk { result.0.desk ≡ client.desk }
     ensures returns { Returns client.knows (answer_in S.reply_in result.1) result.0.knows }
 {

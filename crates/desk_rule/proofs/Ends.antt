@@ -1,5 +1,5 @@
 -- The end of a client, and the sight of another's.
-use Rattle.std.proofs.Common.{◌≡◌, ◌≢◌, ℕ, ◌+◌, ◌<◌, Bool, true, false, List, ◌∷◌, map, length, get_or, set, Some, refl, sym, ap, ◌∙◌, subst, arith}
+use Rattle.std.proofs.Common.{◌≡◌, ◌≢◌, ℕ, ◌+◌, ◌<◌, Bool, true, false, List, ◌∷◌, map, length, get_or, set, Some, refl, sym, ap, ◌∙◌, subst, ◌⊎◌, ⊎_elim, arith}
 use mathlib.Core.Logic.{dite}
 use mathlib.Core.Option as maybe
 use mathlib.Core.Option.{some}
@@ -13,19 +13,20 @@ use Rattle.model.specs.Objects.{Content}
 use Rattle.desk_rule.specs.declared.board.Journal.{Journal}
 use Rattle.desk_rule.specs.declared.board.Slot.{Slot}
 use Rattle.desk_rule.specs.declared.board.Slot.TheVariants as slot
+use Rattle.desk_rule.specs.declared.board.Own.{Own}
 use Rattle.desk_rule.specs.declared.board.Own.TheVariants as own
 use Rattle.desk_rule.specs.declared.board.Held.TheVariants as held
 use Rattle.desk_rule.specs.declared.board.View.{View}
-use Rattle.world.specs.World.{idle, World, request_of, journal_of}
+use Rattle.world.specs.World.{AnyAnswer, Stage, absent, posted, picked, answered, World, request_of, journal_of}
 use Rattle.world.specs.Moves.{changed, ended_by}
 use Rattle.world.specs.Images.{event_in}
 use Rattle.world.proofs.Changed.{changed_here, changed_else, changed_all}
 use Rattle.world.proofs.Entries.{starts_same}
 use Rattle.world.proofs.Moved.{sound_ended}
-use Rattle.desk_rule.specs.Views.{own_request, journal, missing, ending, knowing_end}
+use Rattle.desk_rule.specs.Views.{own_request, journal, IsAtRest, ending, knowing_end, finding_there}
 use Rattle.desk_rule.specs.Rule.{end_word, OwnOk, HeldOk, SeatOk}
 use Rattle.desk_rule.specs.Plays as play
-use Rattle.desk_rule.proofs.Seats.{Later, alike, kept_after, seat_knowing, mine, unmoved, misses, Rule}
+use Rattle.desk_rule.proofs.Seats.{Later, alike, kept_after, seat_knowing, mine, unmoved, Rule}
 use Rattle.desk_rule.proofs.Ties.{tied_end}
 
 still_ended : (w : World) (c d : ℕ) → w.ended d ≡ true → changed w.ended c true d ≡ true
@@ -49,17 +50,33 @@ is_ended : (b : Bool) → end_word b ≡ 1 → b ≡ true
 is_ended true e = refl
 is_ended false e = absurd (omega arith)
 
+-- what a client knows of its call is what the stage says
+pub own_is : (o : Own) (t : Stage) → OwnOk o t → own_request o ≡ request_of t
+own_is own.Absent t is = ap request_of (sym is)
+own_is own.Idle t is = ap request_of (sym is)
+own_is (own.Drawn q) t is = ap request_of (sym is)
+own_is (own.Waiting q) t is = ⊎_elim (λ (e : t ≡ posted q). ap request_of (sym e)) (λ (f : (t ≡ picked q) ⊎ ((a : AnyAnswer) × (t ≡ answered q a))).
+    ⊎_elim (λ (e : t ≡ picked q). ap request_of (sym e)) (λ (e : (a : AnyAnswer) × (t ≡ answered q a)). ap request_of (sym e.1)) f) is
+own_is (own.Taken q a) t is = ap request_of (sym is)
+
+-- a client at rest has come
+has_come : (o : Own) (t : Stage) → IsAtRest o → OwnOk o t → t ≢ absent
+has_come own.Absent t calm is gone = absurd calm
+has_come own.Idle t calm is gone = let e = sym is ∙ gone in absurd (cc)
+has_come (own.Drawn q) t calm is gone = absurd calm
+has_come (own.Waiting q) t calm is gone = let e : Some q ≡ request_of absent = own_is (own.Waiting q) t is ∙ ap request_of gone in absurd (cc)
+has_come (own.Taken q a) t calm is gone = absurd calm
+
 module _ {S O R : Type 0} (content : S → Content) (op_in : O → AnyOp) (reply_in : R → AnyReply) (kinds : List Kind) (clients quota : ℕ) where
   abbrev K : State (Slot S O R) View → Type 0
   K = Rule content op_in reply_in kinds clients quota
 
-  pub ends_it : (slots id c : ℕ) (m : Me (Slot S O R) View) (j : Journal O R) (tl : List (ℕ × Slot S O R)) → m.0.client ≡ true → m.0.number ≡ c → m.0.own ≡ own.Idle → m.0.held ≡ held.Free
+  pub ends_it : (slots id c : ℕ) (m : Me (Slot S O R) View) (j : Journal O R) (tl : List (ℕ × Slot S O R)) → m.0.client ≡ true → m.0.number ≡ c → IsAtRest m.0.own → m.0.held ≡ held.Free
       → map (event_in op_in reply_in) j.events.items ≡ journal m.0 → m.1 ≡ (48 + c, slot.Journal j) ∷ tl
       → Allows K slots id m (48 + c) (λ _. 1) (λ _. play.ends content op_in reply_in (step slots (48 + c) 1 0 maybe.none) m 1)
-  ends_it slots id c m j tl cl number is free says carried s k deep at small =
+  ends_it slots id c m j tl cl number calm free says carried s k deep at small =
       let w : World = k.world in let ok = subst (λ z. SeatOk kinds w z m.0) number (mine content op_in reply_in kinds clients quota s k id m.0 cl at) in let v' : View = ending m.0 in
-      let was : w.stage c ≡ idle = subst (λ o. OwnOk o (w.stage c)) is ok.own in
-      let says' : map (event_in op_in reply_in) j.events.items ≡ journal_of (w.done c) (request_of (w.stage c)) = says ∙ ((λ i. journal_of (ok.done i) (own_request (is i))) ∙ ap (λ z. journal_of (w.done c) (request_of z)) (sym was)) in (
+      let says' : map (event_in op_in reply_in) j.events.items ≡ journal_of (w.done c) (request_of (w.stage c)) = says ∙ λ i. journal_of (ok.done i) (own_is m.0.own (w.stage c) ok.own i) in (
         v',
         gives,
         tt,
@@ -68,7 +85,7 @@ module _ {S O R : Type 0} (content : S → Content) (op_in : O → AnyOp) (reply
           holders = λ x d e. let b = k.holders x d e in (b.0, changed_else w.ended c true d (λ same. subst (HeldOk (length kinds) w c) free ok.held x (e ∙ ap Some same)) ∙ b.1);
           come = k.come;
           sound = sound_ended kinds quota w c k.sound;
-          tied = tied_end content op_in reply_in kinds w c j s.words s.homes ok.small (λ e. let g = sym was ∙ e in absurd (cc)) says' k.tied;
+          tied = tied_end content op_in reply_in kinds w c j s.words s.homes ok.small (has_come m.0.own (w.stage c) calm ok.own) says' k.tied;
           others = λ d other. later_ended w c d (λ e. other (e ∙ sym number));
           own = subst (λ z. SeatOk kinds (ended_by w c) z v') (sym number) record {
             number = ok.number;
@@ -102,9 +119,9 @@ module _ {S O R : Type 0} (content : S → Content) (op_in : O → AnyOp) (reply
         λ e same. let f : d ≡ e = omega arith in ((λ _. ap (λ z. (knowing_end z m.0, m.1)) f), λ miss. absurd (miss hit)),
       ))
       (λ miss. (
-        missing (48 + d) m.0,
+        finding_there d m.0,
         keeps,
         tt,
-        misses content op_in reply_in kinds clients quota s k (48 + d) id m.0 m.1 cl at,
-        λ e same. ((λ hit. absurd (miss hit)), λ _. refl),
+        unmoved content op_in reply_in kinds clients quota s k (48 + d) id m.0 (finding_there d m.0) m.1 at cl alike (seat_knowing ok.ready ok.retired ok),
+        λ e same. let f : d ≡ e = omega arith in ((λ hit. absurd (miss hit)), λ _. ap (λ z. (finding_there z m.0, m.1)) f),
       ))

@@ -209,7 +209,7 @@ module _ {S O R : Type 0} (content : S → Content) (op_in : O → AnyOp) (reply
             λ i d l row. let z = ok.back i d l in let p = get_or m.0.back i d in let f : posted p.request ≡ posted q = sym z.0 ∙ (ap w.stage (row ∙ sym er) ∙ b.1) in let same : p.request ≡ q = cc in same ∙ sym home.2,
             λ p here mine. home.2 ∙ own_posted p q m.0.own (w.stage c) ok.own mine (ap w.stage (sym here ∙ sym er) ∙ b.1),
           )),
-          λ miss. absurd (miss hit),
+          λ miss. absurd (miss (hit ∙ ap (λ z. 1 + z) ex)),
         ),
       ))
       (λ miss. (
@@ -220,7 +220,7 @@ module _ {S O R : Type 0} (content : S → Content) (op_in : O → AnyOp) (reply
             (unmoved content op_in reply_in kinds clients quota s k (16 + r) id m.0 (noting (16 + r) x m.0) m.1 at cl alike
             (noting_ok kinds quota c x r w m.0 l pass k.sound (λ e. miss (word ∙ e)) ok)),
         λ x' r' l' pass' e. let ex = ap held_object (sym pass ∙ pass') in let er : r ≡ r' = omega arith in (
-          (λ hit. absurd (miss hit)),
+          (λ hit. absurd (miss (hit ∙ ap (λ z. 1 + z) (sym ex)))),
           λ _. (
             ap (λ z. (noting (16 + r) z m.0, m.1)) ex,
             λ i d l row. let z = ok.back i d l in let p = get_or m.0.back i d in let on : p.request.object ≡ x = h.4 p.request.object z.1 in

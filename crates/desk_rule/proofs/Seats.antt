@@ -83,14 +83,14 @@ pub record Alike (v v' : View) : Type 0 where
   pub heard : v'.heard ≡ v.heard
 
 -- a view in which none of these changed
-pub alike : {v : View} {kinds : List Kind} {done : List AnyDone} {own : Own} {ready : Bool} {seen : List (List AnyEntry)} {back : List PutBack} {missed : List ℕ} {held : Held} {ended : Bool} {retired : List ℕ}
-    → Alike v (record v { kinds = kinds; done = done; own = own; ready = ready; seen = seen; back = back; missed = missed; held = held; ended = ended; retired = retired })
+pub alike : {v : View} {kinds : List Kind} {done : List AnyDone} {own : Own} {ready : Bool} {seen : List (List AnyEntry)} {back : List PutBack} {missed : List ℕ} {held : Held} {ended : Bool} {retired still_there : List ℕ}
+    → Alike v (record v { kinds = kinds; done = done; own = own; ready = ready; seen = seen; back = back; missed = missed; held = held; ended = ended; retired = retired; still_there = still_there })
 alike = record { client = refl; number = refl; maker = refl; made = refl; heard = refl }
 
--- A client that was told more, missed more, and knows more of its row and of the ends of others. What it was told and has
--- missed does not matter.
-pub seat_knowing : {kinds : List Kind} {w : World} {c : ℕ} {v : View} {ready : Bool} {heard : List (List AnyEntry)} {missed : List ℕ} {retired : List ℕ} → (ready ≡ true → (q : AnyRequest) × (a : AnyAnswer) × (w.stage c ≡ answered q a))
-    → All (λ d. w.ended d ≡ true) retired → SeatOk kinds w c v → SeatOk kinds w c (record v { ready = ready; heard = heard; missed = missed; retired = retired })
+-- A client that was told more, missed more, and knows more of its row and of the ends of others. What it was told, has
+-- missed and has found there does not matter.
+pub seat_knowing : {kinds : List Kind} {w : World} {c : ℕ} {v : View} {ready : Bool} {heard : List (List AnyEntry)} {missed : List ℕ} {retired still_there : List ℕ} → (ready ≡ true → (q : AnyRequest) × (a : AnyAnswer) × (w.stage c ≡ answered q a))
+    → All (λ d. w.ended d ≡ true) retired → SeatOk kinds w c v → SeatOk kinds w c (record v { ready = ready; heard = heard; missed = missed; retired = retired; still_there = still_there })
 seat_knowing ready retired ok = record {
   number = ok.number;
   small = ok.small;

@@ -14,7 +14,7 @@ use Rattle.world.specs.declared.Request.{Request}
 use Rattle.world.specs.declared.Answer.{Answer}
 use Rattle.world.specs.World.{AnyEntry, AnyRequest, AnyAnswer, kind_at, logged, entries_of, served, IsLegal, StartsWith}
 use Rattle.world.specs.Images.{request_in, answer_in}
-use Rattle.desk_rule.specs.Views.{seen_of, heard_of, missing, noting, holding, handling, putting_back, answering, IsAccount, learnt, calling, taking, done_with, seeing, ending, knowing_end}
+use Rattle.desk_rule.specs.Views.{seen_of, heard_of, missing, noting, holding, handling, putting_back, answering, IsAccount, learnt, calling, taking, done_with, seeing, ending, knowing_end, finding_there}
 use Rattle.desk_rule.specs.Rule.{Fits}
 
 module _ {S O R : Type 0} (content : S → Content) (op_in : O → AnyOp) (reply_in : R → AnyReply) where
@@ -36,10 +36,10 @@ module _ {S O R : Type 0} (content : S → Content) (op_in : O → AnyOp) (reply
   -- the own one. Or there was none, a miss, and none was put back there
   abbrev pub picks : Step (Slot S O R) → Hands → ℕ → Hands → Type 0
   picks st m found m' = (x r : ℕ) (l : List AnyEntry) → m.0.held ≡ held.Pass x l → st.word ≡ 16 + r →
-      (found ≡ st.first → (p : Request O) × (p.object ≡ x) × (kind_of (op_in p.op) ≡ kind_at m.0.kinds x) × (m' ≡ (handling x l r (request_in op_in p) m.0, (st.word, slot.Request p) ∷ m.1))
+      (found ≡ 1 + x → (p : Request O) × (p.object ≡ x) × (kind_of (op_in p.op) ≡ kind_at m.0.kinds x) × (m' ≡ (handling x l r (request_in op_in p) m.0, (st.word, slot.Request p) ∷ m.1))
       × All (λ b. b.row ≡ r → b.request ≡ request_in op_in p) m.0.back
       × ((q : AnyRequest) → r ≡ m.0.number → m.0.own ≡ own.Waiting q → request_in op_in p ≡ q))
-      × (found ≢ st.first → (m' ≡ (noting st.word x m.0, m.1)) × All (λ b. b.row ≢ r) m.0.back)
+      × (found ≢ 1 + x → (m' ≡ (noting st.word x m.0, m.1)) × All (λ b. b.row ≢ r) m.0.back)
 
   -- the answer in hand went into the row, and the log has grown by what it says
   abbrev pub answers : Step (Slot S O R) → Hands → ℕ → Hands → Type 0
@@ -87,6 +87,6 @@ module _ {S O R : Type 0} (content : S → Content) (op_in : O → AnyOp) (reply
   abbrev pub ends : Step (Slot S O R) → Hands → ℕ → Hands → Type 0
   ends st m found m' = m' ≡ (ending m.0, rest m.1)
 
-  -- the client d has ended. Or it has not, a miss
+  -- the client d has ended. Or it was found there, which is no miss
   abbrev pub sees_end : Step (Slot S O R) → Hands → ℕ → Hands → Type 0
-  sees_end st m found m' = (d : ℕ) → st.word ≡ 48 + d → (found ≡ 1 → m' ≡ (knowing_end d m.0, m.1)) × (found ≢ 1 → m' ≡ (missing st.word m.0, m.1))
+  sees_end st m found m' = (d : ℕ) → st.word ≡ 48 + d → (found ≡ 1 → m' ≡ (knowing_end d m.0, m.1)) × (found ≢ 1 → m' ≡ (finding_there d m.0, m.1))

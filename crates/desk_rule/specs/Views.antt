@@ -9,7 +9,7 @@ use Rattle.world.specs.World.{AnyEntry, AnyRequest, AnyAnswer, AnyEvent, logged_
 
 -- a client that has not come yet
 abbrev pub newcomer : List Kind → ℕ → View
-newcomer kinds c = record { client = true; number = c; maker = false; made = 0; kinds = kinds; done = []; own = own.Absent; ready = false; seen = replicate 16 []; heard = []; back = []; missed = []; held = held.Free; ended = false; retired = [] }
+newcomer kinds c = record { client = true; number = c; maker = false; made = 0; kinds = kinds; done = []; own = own.Absent; ready = false; seen = replicate 16 []; heard = []; back = []; missed = []; held = held.Free; ended = false; retired = []; still_there = [] }
 
 -- the first view is no client's, and makes the clients
 abbrev pub founder_of : List Kind → ℕ → View
@@ -70,7 +70,7 @@ abbrev pub is_waiting : Own → Bool
 is_waiting (own.Waiting q) = true
 is_waiting o = false
 
--- one more miss at this word
+-- one more exchange missed at this word
 abbrev pub missing : ℕ → View → View
 missing i v = record v { missed = v.missed ++ i ∷ [] }
 
@@ -118,6 +118,10 @@ ending v = record v { ended = true }
 -- the client d is known to have ended
 abbrev pub knowing_end : ℕ → View → View
 knowing_end d v = record v { retired = v.retired ++ d ∷ [] }
+
+-- the client d was looked for, and had not ended
+abbrev pub finding_there : ℕ → View → View
+finding_there d v = record v { still_there = v.still_there ++ d ∷ [] }
 
 -- a view that only carries what v has seen
 abbrev pub letter : View → View

@@ -74,12 +74,14 @@ pub struct View {
     pub heard: LinkedList<LinkedList<LogEntry<AnyOp, AnyReply>>>,
     /// The requests that were put back into their rows while the object is held.
     pub back: LinkedList<PutBack>,
-    /// The words at which an exchange missed, or an end word was found unset.
+    /// The words at which an exchange missed.
     pub missed: LinkedList<u64>,
     pub held: Held,
     pub ended: bool,
     /// The clients that are known to have ended.
     pub retired: LinkedList<u32>,
+    /// The clients whose end word was found unset, one for each such look.
+    pub still_there: LinkedList<u32>,
 }
 
 /// What the desk is made for: objects of these kinds, this many clients, and so many calls for each of them.

@@ -22,15 +22,15 @@ module _ {S O R : Type 0} (op_in : O → AnyOp) (reply_in : R → AnyReply) (num
   met_ok x l h m d k low legal account e = subst TheClient (sym e) record { agrees = agrees_seeing x l low legal account (agrees_light k.agrees); free = k.free; in_hand = k.in_hand }
 
 -- what the meeting says: a and b before, a' and b' after
-pub met : (x : ℕ) (one other : Known) (d e : DeskId) (a b a' b' : View) (l : List AnyEntry) (h i : List (List AnyEntry)) → one.knows ≡ a → other.knows ≡ b → a' ≡ seeing x l (record a { heard = h }) → b' ≡ seeing x l (record b { heard = i })
+pub met : (x : ℕ) (one other : Known) (d e : DeskId) (a b a' b' : View) (l : List AnyEntry) (h i : List (List AnyEntry)) → one.desk.kinds ≡ a.kinds → one.knows ≡ a → other.knows ≡ b → a' ≡ seeing x l (record a { heard = h }) → b' ≡ seeing x l (record b { heard = i })
     → x < length a.seen → x < length b.seen → IsLegal (kind_at a.kinds x) l → StartsWith l (seen_of a x) → StartsWith l (seen_of b x) → Met x one other (record { desk = d; knows = a' }) (record { desk = e; knows = b' })
-met x one other d e a b a' b' l h i p q f g there there' legal first second = record {
+met x one other d e a b a' b' l h i kinds p q f g there there' legal first second = record {
   log = l;
   first = f ∙ λ k. seeing x l (record (sym p k) { heard = sym (ap (λ z. z.heard) f) k });
   second = g ∙ λ k. seeing x l (record (sym q k) { heard = sym (ap (λ z. z.heard) g) k });
   seen_first = ap (λ z. seen_of z x) f ∙ get_or-set_same a.seen x l [] there;
   seen_second = ap (λ z. seen_of z x) g ∙ get_or-set_same b.seen x l [] there';
-  legal = subst (λ z. IsLegal (kind_at z.kinds x) l) (sym p) legal;
+  legal = subst (λ z. IsLegal (kind_at z x) l) (sym kinds) legal;
   begins_first = subst (λ z. StartsWith l (seen_of z x)) (sym p) first;
   begins_second = subst (λ z. StartsWith l (seen_of z x)) (sym q) second;
 }

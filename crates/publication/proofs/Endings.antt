@@ -9,17 +9,17 @@ use Rattle.model.specs.declared.AnyReply.{AnyReply}
 use Rattle.desk_rule.specs.declared.board.Journal.{Journal}
 use Rattle.desk_rule.specs.declared.board.Slot.{Slot}
 use Rattle.desk_rule.specs.declared.board.View.{View}
-use Rattle.desk_rule.specs.Views.{missing, knowing_end}
+use Rattle.desk_rule.specs.Views.{knowing_end, finding_there}
 use Rattle.publication.specs.Handles.{DeskSeen, Known, IsClient}
 use Rattle.publication.specs.Calls.{StillThere}
-use Rattle.publication.specs.Closing.{HaveEnded, HasLearntEnds}
+use Rattle.publication.specs.Closing.{HaveEnded, HasLearntEnds, HasLookedAtEnds}
 use Rattle.publication.proofs.Holds.{agrees_light}
 
 -- one of two views, as the word was 1 or not
-pub either_view : (found d : ℕ) (v v' w : View) → v ≡ v' → (found ≡ 1 → w ≡ knowing_end d v) → (found ≢ 1 → w ≡ missing (48 + d) v) → w ≡ (if eqb found 1 then knowing_end d v' else missing (48 + d) v')
+pub either_view : (found d : ℕ) (v v' w : View) → v ≡ v' → (found ≡ 1 → w ≡ knowing_end d v) → (found ≢ 1 → w ≡ finding_there d v) → w ≡ (if eqb found 1 then knowing_end d v' else finding_there d v')
 either_view found d v v' w same hit miss = dite (ℕ_discrete found 1)
-    (λ e. hit e ∙ (ap (knowing_end d) same ∙ ap (λ (b : Bool). if b then knowing_end d v' else missing (48 + d) v') (sym (eq-eqb found 1 e))))
-    (λ n. miss n ∙ (ap (missing (48 + d)) same ∙ ap (λ (b : Bool). if b then knowing_end d v' else missing (48 + d) v') (sym (ne_eqb found 1 n))))
+    (λ e. hit e ∙ (ap (knowing_end d) same ∙ ap (λ (b : Bool). if b then knowing_end d v' else finding_there d v') (sym (eq-eqb found 1 e))))
+    (λ n. miss n ∙ (ap (finding_there d) same ∙ ap (λ (b : Bool). if b then knowing_end d v' else finding_there d v') (sym (ne_eqb found 1 n))))
 
 -- the client is the last one itself
 pub own_number : (n : ℕ) (b : Known) → n ≡ b.knows.number → HaveEnded n b → HaveEnded (n + 1) b
@@ -35,22 +35,33 @@ one_ended n a b b' e f before is = subst (λ z. HaveEnded (n + 1) z × HasLearnt
 )
 
 -- this one has not
-pub there_still : (d : DeskSeen) (n : ℕ) (a b b' : Known) → n < d.clients → n ≢ b.knows.number → b'.knows ≡ missing (48 + n) b.knows → HaveEnded n b → HasLearntEnds a b → StillThere d a n b'
+pub there_still : (d : DeskSeen) (n : ℕ) (a b b' : Known) → n < d.clients → n ≢ b.knows.number → b'.knows ≡ finding_there n b.knows → HaveEnded n b → HasLearntEnds a b → StillThere d a n b'
 there_still d n a b b' low other e before is = let same = ap (λ z. z.knows.number) is in record {
   client_low = low;
   other = λ f. other (f ∙ sym same);
   least = λ c l apart. subst (λ z. Contains z c) (sym (ap (λ v. v.retired) e)) (before c l (λ f. apart (f ∙ same)));
-  tried = (b.knows, e, ap (λ z. z.knows) is);
+  looked = (b.knows, e, ap (λ z. z.knows) is);
 }
 
+-- w is u but for what it knows of ends
+knows_but : (u w : View) (retired still_there : List ℕ) → w ≡ record u { retired = retired; still_there = still_there } → w ≡ record u { retired = w.retired; still_there = w.still_there }
+knows_but u w retired still_there e = e ∙ λ i. record u { retired = ap (λ z. z.retired) (sym e) i; still_there = ap (λ z. z.still_there) (sym e) i }
+
+-- a client that has only looked at ends, and then found one that has not ended
+pub looks_on : (d : DeskSeen) (n : ℕ) (a b b' : Known) → HasLookedAtEnds a b → b'.desk ≡ b.desk → StillThere d b n b' → HasLookedAtEnds a b'
+looks_on d n a b b' is desk k =
+    let found = k.looked in
+    let knows = knows_but b.knows b'.knows found.0.retired (b.knows.still_there ++ n ∷ []) (found.1 ∙ ap (finding_there n) found.2) in
+    subst (λ z. b' ≡ record z { knows = record z.knows { retired = b'.knows.retired; still_there = b'.knows.still_there } }) is (λ i. record { desk = desk i; knows = knows i })
+
 module _ {S O R : Type 0} (op_in : O → AnyOp) (reply_in : R → AnyReply) where
-  -- a client that has learnt only of ends and misses
-  watching : (number calls quota : ℕ) (outstanding : Bool) (j : Journal O R) (m m' : Me (Slot S O R) View) (missed retired : List ℕ) → IsClient op_in reply_in number calls quota outstanding j m
-      → m' ≡ (record m.0 { missed = missed; retired = retired }, m.1) → IsClient op_in reply_in number calls quota outstanding j m'
-  watching number calls quota outstanding j m m' missed retired k e = subst (IsClient op_in reply_in number calls quota outstanding j) (sym e) record { agrees = agrees_light k.agrees; free = k.free; in_hand = k.in_hand }
+  -- a client that has only looked at ends
+  watching : (number calls quota : ℕ) (outstanding : Bool) (j : Journal O R) (m m' : Me (Slot S O R) View) (retired still_there : List ℕ) → IsClient op_in reply_in number calls quota outstanding j m
+      → m' ≡ (record m.0 { retired = retired; still_there = still_there }, m.1) → IsClient op_in reply_in number calls quota outstanding j m'
+  watching number calls quota outstanding j m m' retired still_there k e = subst (IsClient op_in reply_in number calls quota outstanding j) (sym e) record { agrees = agrees_light k.agrees; free = k.free; in_hand = k.in_hand }
 
   pub watching_ok : (number calls quota : ℕ) (outstanding : Bool) (j : Journal O R) (found d : ℕ) (m m' : Me (Slot S O R) View) → IsClient op_in reply_in number calls quota outstanding j m
-      → (found ≡ 1 → m' ≡ (knowing_end d m.0, m.1)) → (found ≢ 1 → m' ≡ (missing (48 + d) m.0, m.1)) → IsClient op_in reply_in number calls quota outstanding j m'
+      → (found ≡ 1 → m' ≡ (knowing_end d m.0, m.1)) → (found ≢ 1 → m' ≡ (finding_there d m.0, m.1)) → IsClient op_in reply_in number calls quota outstanding j m'
   watching_ok number calls quota outstanding j found d m m' k hit miss = dite (ℕ_discrete found 1)
-      (λ e. watching number calls quota outstanding j m m' m.0.missed (knowing_end d m.0).retired k (hit e))
-      (λ n. watching number calls quota outstanding j m m' (missing (48 + d) m.0).missed m.0.retired k (miss n))
+      (λ e. watching number calls quota outstanding j m m' (knowing_end d m.0).retired m.0.still_there k (hit e))
+      (λ n. watching number calls quota outstanding j m m' m.0.retired (finding_there d m.0).still_there k (miss n))

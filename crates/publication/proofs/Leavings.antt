@@ -11,28 +11,30 @@ use Rattle.model.specs.declared.Kind.{Kind}
 use Rattle.model.specs.declared.AnyOp.{AnyOp}
 use Rattle.model.specs.declared.AnyReply.{AnyReply}
 use Rattle.model.specs.Objects.{Content}
-use Rattle.world.specs.World.{AnyEntry, AnyEvent, AnyAnswer, Stage, absent, posted, picked, answered, World, kind_at, request_of, journal_of, journal_in, IsLegal, StartsWith}
+use Rattle.world.specs.World.{AnyEntry, AnyEvent, absent, World, kind_at, journal_of, journal_in, IsLegal, StartsWith}
 use Rattle.world.specs.Sound.{Sound}
 use Rattle.world.specs.Records.{IsSoundRecord}
+use Rattle.world.proofs.Entries.{starts_same}
 use Rattle.world.proofs.RecordOrders.{sound_record}
 use Rattle.world.proofs.Beyond.{no_log_beyond, no_journal_beyond}
 use Rattle.world.specs.Images.{entry_in, event_in}
 use Rattle.recorder.specs.Records.{Recorded}
 use Rattle.desk_rule.specs.declared.board.Core.{Core}
 use Rattle.desk_rule.specs.declared.board.Journal.{Journal}
-use Rattle.desk_rule.specs.declared.board.Own.{Own}
 use Rattle.desk_rule.specs.declared.board.Own.TheVariants as own
 use Rattle.desk_rule.specs.declared.board.Plan.{Plan}
 use Rattle.desk_rule.specs.declared.board.Slot.{Slot}
 use Rattle.desk_rule.specs.declared.board.Slot.TheVariants as slot
 use Rattle.desk_rule.specs.declared.board.Held.TheVariants as held
 use Rattle.desk_rule.specs.declared.board.View.{View}
-use Rattle.desk_rule.specs.Views.{seen_of, own_request, journal}
-use Rattle.desk_rule.specs.Rule.{OwnOk, HeldOk, Kept}
+use Rattle.desk_rule.specs.Views.{seen_of, journal, IsAtRest, IsAccount}
+use Rattle.desk_rule.specs.Rule.{HeldOk, Kept}
+use Rattle.desk_rule.proofs.Ends.{own_is}
 use Rattle.desk_rule.proofs.Seats.{mine}
+use Rattle.desk_rule.proofs.Seeing.{all_covered, accounts}
 use Rattle.publication.specs.Handles.{DeskSeen, Known, log_of}
 use Rattle.publication.specs.Calls.{Closed}
-use Rattle.publication.specs.Closing.{IsJournalOf, AreLogs, HaveEnded, HasLearntEnds}
+use Rattle.publication.specs.Closing.{IsJournalOf, AreLogs, HaveEnded, HasLearntEnds, HasLookedAtEnds}
 
 module _ {S O R : Type 0} (op_in : O → AnyOp) (reply_in : R → AnyReply) where
   -- the slots are those of a sound world, in which the last client has the view v
@@ -44,25 +46,17 @@ module _ {S O R : Type 0} (op_in : O → AnyOp) (reply_in : R → AnyReply) wher
     pub seen : (x : ℕ) → StartsWith (world.log x) (seen_of v x)
     pub journals : (c : ℕ) → c < clients → c ≢ v.number → (j : Journal O R) × (get_elem? xs (48 + c) ≡ some (slot.Journal j)) × (map (event_in op_in reply_in) j.events.items ≡ journal_in world c)
     pub own : journal v ≡ journal_in world v.number
+    pub accounts : (x : ℕ) → IsAccount x v (world.log x)
     pub come : (c : ℕ) → world.stage c ≢ absent → c < clients
-
--- what a client knows of its call is what the stage says
-own_is : (o : Own) (t : Stage) → OwnOk o t → own_request o ≡ request_of t
-own_is own.Absent t is = ap request_of (sym is)
-own_is own.Idle t is = ap request_of (sym is)
-own_is (own.Drawn q) t is = ap request_of (sym is)
-own_is (own.Waiting q) t is = ⊎_elim (λ (e : t ≡ posted q). ap request_of (sym e)) (λ (f : (t ≡ picked q) ⊎ ((a : AnyAnswer) × (t ≡ answered q a))).
-    ⊎_elim (λ (e : t ≡ picked q). ap request_of (sym e)) (λ (e : (a : AnyAnswer) × (t ≡ answered q a)). ap request_of (sym e.1)) f) is
-own_is (own.Taken q a) t is = ap request_of (sym is)
 
 none_held : (h : Option ℕ) → ((c : ℕ) → h ≡ Some c → ⊥) → h ≡ None
 none_held None never = refl
 none_held (Some c) never = absurd (never c refl)
 
 module _ {S O R : Type 0} (content : S → Content) (op_in : O → AnyOp) (reply_in : R → AnyReply) (kinds : List Kind) (clients quota : ℕ) where
-  leavings : (id : ℕ) (v : View) (words : List ℕ) (xs : List (Slot S O R)) → v.client ≡ true → v.held ≡ held.Free → ((c : ℕ) → c < clients → c ≢ v.number → Contains v.retired c)
+  leavings : (id : ℕ) (v : View) (words : List ℕ) (xs : List (Slot S O R)) → v.client ≡ true → v.held ≡ held.Free → IsAtRest v.own → ((c : ℕ) → c < clients → c ≢ v.number → Contains v.retired c)
       → Final (Seen (Kept content op_in reply_in kinds clients quota) id v) words xs → Leavings op_in reply_in kinds clients quota v xs
-  leavings id v words xs cl free all f =
+  leavings id v words xs cl free rest all f =
       let s = f.0 in let k = f.1.0 in let at = f.1.1 in let home = f.4 in let w : World = k.world in let ok = mine content op_in reply_in kinds clients quota s k id v cl at in let few = k.few_clients in
       let ended : (c : ℕ) → c < clients → c ≢ v.number → w.ended c ≡ true = λ c l other. All-contains (λ d. w.ended d ≡ true) v.retired c ok.retired (all c l other) in
       let not_mine : (x : ℕ) → w.holder x ≢ Some v.number = subst (HeldOk (length kinds) w v.number) free ok.held in
@@ -76,6 +70,7 @@ module _ {S O R : Type 0} (content : S → Content) (op_in : O → AnyOp) (reply
         seen = ok.seen;
         journals = λ c l other. let b = (k.tied.journals c (omega arith)).at_last (ended c l other) in (b.0, home (48 + c) (slot.Journal b.0) b.1, b.2);
         own = λ i. journal_of (ok.done i) (own_is v.own (w.stage v.number) ok.own i);
+        accounts = λ x. accounts kinds quota w x v (w.log x) rest ok.done ok.own k.sound (starts_same (w.log x)) (all_covered kinds quota w v.number x v.done v.own ok.done ok.own k.sound);
         come = k.come;
       }
 
@@ -91,13 +86,13 @@ nothing_past [] i past = refl
 nothing_past (l ∷ ls) zero past = absurd (omega arith)
 nothing_past (l ∷ ls) (suc i) past = nothing_past ls i (omega arith)
 
-module _ {S O R : Type 0} (op_in : O → AnyOp) (reply_in : R → AnyReply) (d : DeskSeen) (quota : ℕ) (last : Known) (xs : List (Slot S O R)) (r : Recorded O R) (left : Leavings op_in reply_in d.kinds d.clients quota last.knows xs) where
+module _ {S O R : Type 0} (op_in : O → AnyOp) (reply_in : R → AnyReply) (d : DeskSeen) (last : Known) (xs : List (Slot S O R)) (r : Recorded O R) (left : Leavings op_in reply_in d.id.kinds d.clients d.id.quota last.knows xs) where
   -- the record's logs and journals are those of the world
-  same_logs : AreLogs (length d.kinds) xs r.logs → (x : ℕ) → map (entry_in op_in reply_in) (get_or r.logs x []) ≡ left.world.log x
+  same_logs : AreLogs (length d.id.kinds) xs r.logs → (x : ℕ) → map (entry_in op_in reply_in) (get_or r.logs x []) ≡ left.world.log x
   same_logs logs x = ⊎_elim
-      (λ (l : x < length d.kinds). let b = left.cores x l in let a = logs.1 x l in let same = same_core b.0 a.0 (sym b.1 ∙ a.1) in ap (map (entry_in op_in reply_in)) (sym a.2) ∙ (ap (log_of op_in reply_in) (sym same) ∙ b.2))
-      (λ (far : length d.kinds ≤ x). let count = logs.0 in ap (map (entry_in op_in reply_in)) (nothing_past r.logs x (omega arith)) ∙ sym (no_log_beyond d.kinds quota left.world left.sound x far))
-      (cases_lt x (length d.kinds))
+      (λ (l : x < length d.id.kinds). let b = left.cores x l in let a = logs.1 x l in let same = same_core b.0 a.0 (sym b.1 ∙ a.1) in ap (map (entry_in op_in reply_in)) (sym a.2) ∙ (ap (log_of op_in reply_in) (sym same) ∙ b.2))
+      (λ (far : length d.id.kinds ≤ x). let count = logs.0 in ap (map (entry_in op_in reply_in)) (nothing_past r.logs x (omega arith)) ∙ sym (no_log_beyond d.id.kinds d.id.quota left.world left.sound x far))
+      (cases_lt x (length d.id.kinds))
 
   same_journals : length r.journals ≡ d.clients → map (event_in op_in reply_in) (get_or r.journals last.knows.number []) ≡ journal last.knows
       → ((c : ℕ) → c < d.clients → c ≢ last.knows.number → IsJournalOf xs c (get_or r.journals c [])) → (c : ℕ) → map (event_in op_in reply_in) (get_or r.journals c []) ≡ journal_in left.world c
@@ -106,29 +101,35 @@ module _ {S O R : Type 0} (op_in : O → AnyOp) (reply_in : R → AnyReply) (d :
       (λ other. ⊎_elim
       (λ (l : c < d.clients). let b = left.journals c l other in let a = others c l other in let same = same_journal b.0 a.0 (sym b.1 ∙ a.1) in
       ap (map (event_in op_in reply_in)) (sym a.2) ∙ (ap (λ (j : Journal O R). map (event_in op_in reply_in) j.events.items) (sym same) ∙ b.2))
-      (λ (far : d.clients ≤ c). ap (map (event_in op_in reply_in)) (nothing_past r.journals c (omega arith)) ∙ sym (no_journal_beyond d.kinds quota left.world left.sound d.clients left.come c far))
+      (λ (far : d.clients ≤ c). ap (map (event_in op_in reply_in)) (nothing_past r.journals c (omega arith)) ∙ sym (no_journal_beyond d.id.kinds d.id.quota left.world left.sound d.clients left.come c far))
       (cases_lt c d.clients))
 
-  pub closed_ok : AreLogs (length d.kinds) xs r.logs → length r.journals ≡ d.clients → map (event_in op_in reply_in) (get_or r.journals last.knows.number []) ≡ journal last.knows
+  pub closed_ok : AreLogs (length d.id.kinds) xs r.logs → length r.journals ≡ d.clients → map (event_in op_in reply_in) (get_or r.journals last.knows.number []) ≡ journal last.knows
       → ((c : ℕ) → c < d.clients → c ≢ last.knows.number → IsJournalOf xs c (get_or r.journals c [])) → Closed op_in reply_in d last r
   closed_ok logs count own others = let same = same_logs logs in record {
     journals = count;
     logs = logs.0;
     own = own;
-    legal = λ x l. subst (IsLegal (kind_at d.kinds x)) (sym (same x)) (left.sound.legal x);
+    legal = λ x l. subst (IsLegal (kind_at d.id.kinds x)) (sym (same x)) (left.sound.legal x);
     seen = λ x l. subst (λ z. StartsWith z (seen_of last.knows x)) (sym (same x)) (left.seen x);
-    sound = subst (λ (z : (ℕ → List AnyEvent) × (ℕ → List AnyEntry)). IsSoundRecord d.kinds z.0 z.1) (λ i. (λ c. sym (same_journals count own others c) i, λ x. sym (same x) i))
-        (sound_record d.kinds quota left.world left.sound);
+    accounts = λ x. subst (IsAccount x last.knows) (sym (same x)) (left.accounts x);
+    sound = subst (λ (z : (ℕ → List AnyEvent) × (ℕ → List AnyEntry)). IsSoundRecord d.id.kinds d.id.quota z.0 z.1) (λ i. (λ c. sym (same_journals count own others c) i, λ x. sym (same x) i))
+        (sound_record d.id.kinds d.id.quota left.world left.sound);
   }
 
+-- who has learnt of ends has looked at end words
+pub learnt_looks : (a b : Known) → HasLearntEnds a b → HasLookedAtEnds a b
+learnt_looks a b is = is ∙ λ i. record a { knows = record a.knows { retired = b.knows.retired; still_there = ap (λ (z : Known). z.knows.still_there) (sym is) i } }
+
 module _ {O R : Type 0} (op_in : O → AnyOp) (reply_in : R → AnyReply) where
-  pub closed_same : (d : DeskSeen) (a b : Known) (r : Recorded O R) → HasLearntEnds a b → Closed op_in reply_in d b r → Closed op_in reply_in d a r
-  closed_same d a b r is k = let same = subst (λ z. Closed op_in reply_in d z r) is k in record { journals = same.journals; logs = same.logs; own = same.own; legal = same.legal; seen = same.seen; sound = same.sound }
+  -- the looks of the last client at end words do not matter
+  pub closed_same : (d : DeskSeen) (a b : Known) (r : Recorded O R) → HasLookedAtEnds a b → Closed op_in reply_in d b r → Closed op_in reply_in d a r
+  closed_same d a b r is k = let same = subst (λ z. Closed op_in reply_in d z r) is k in record { journals = same.journals; logs = same.logs; own = same.own; legal = same.legal; seen = same.seen; accounts = same.accounts; sound = same.sound }
 
 module _ {S O R : Type 0} (content : S → Content) (op_in : O → AnyOp) (reply_in : R → AnyReply) where
   -- the same of a desk and its last client, as they are seen
-  pub left_by : (plan : Plan) (d : DeskSeen) (last : Known) (id : ℕ) (v : View) (words : List ℕ) (xs : List (Slot S O R)) → plan.kinds.items ≡ d.kinds → plan.clients ≡ d.clients → v ≡ last.knows → v.client ≡ true → v.held ≡ held.Free
-      → HaveEnded d.clients last → Final (Seen (Kept content op_in reply_in plan.kinds.items plan.clients plan.quota) id v) words xs → Leavings op_in reply_in d.kinds d.clients plan.quota last.knows xs
-  left_by plan d last id v words xs kinds clients same cl free all f = subst (λ (t : List Kind × ℕ × View). Leavings op_in reply_in t.0 t.1 plan.quota t.2 xs) (λ i. (kinds i, clients i, same i))
-      (leavings content op_in reply_in plan.kinds.items plan.clients plan.quota id v words xs cl free
+  pub left_by : (plan : Plan) (d : DeskSeen) (last : Known) (id : ℕ) (v : View) (words : List ℕ) (xs : List (Slot S O R)) → plan.kinds.items ≡ d.id.kinds → plan.clients ≡ d.clients → plan.quota ≡ d.id.quota → v ≡ last.knows → v.client ≡ true → v.held ≡ held.Free → IsAtRest v.own
+      → HaveEnded d.clients last → Final (Seen (Kept content op_in reply_in plan.kinds.items plan.clients plan.quota) id v) words xs → Leavings op_in reply_in d.id.kinds d.clients d.id.quota last.knows xs
+  left_by plan d last id v words xs kinds clients quota same cl free rest all f = subst (λ (t : List Kind × ℕ × ℕ × View). Leavings op_in reply_in t.0 t.1 t.2 t.3 xs) (λ i. (kinds i, clients i, quota i, same i))
+      (leavings content op_in reply_in plan.kinds.items plan.clients plan.quota id v words xs cl free rest
       (subst (λ (t : ℕ × View). (c : ℕ) → c < t.0 → c ≢ t.1.number → Contains t.1.retired c) (λ i. (sym clients i, sym same i)) all) f)

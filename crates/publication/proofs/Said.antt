@@ -73,14 +73,14 @@ is_put_back h z n b d v i s tl is e f = subst (λ u. IsPutBack u (record { desk 
 
 module _ {S O R : Type 0} (content : S → Content) (op_in : O → AnyOp) (reply_in : R → AnyReply) where
   -- m before, a after the win, b with nothing in the slot
-  pub opened : (c : Known) (x : ℕ) (k core : Core S O R) (l : List AnyEntry) (m a b : Me (Slot S O R) View) (d : DeskId) (n : ℕ) → c.knows ≡ m.0 → a ≡ (holding x l m.0, (x, slot.Core k) ∷ m.1) → b ≡ (a.0, (x, slot.Nothing) ∷ rest a.1)
+  pub opened : (c : Known) (x : ℕ) (k core : Core S O R) (l : List AnyEntry) (m a b : Me (Slot S O R) View) (d : DeskId) (n : ℕ) → c.desk.kinds ≡ m.0.kinds → c.knows ≡ m.0 → a ≡ (holding x l m.0, (x, slot.Core k) ∷ m.1) → b ≡ (a.0, (x, slot.Nothing) ∷ rest a.1)
       → core ≡ k → Fits content op_in reply_in (kind_at m.0.kinds x) k l → StartsWith l (seen_of m.0 x)
       → Opened c x (record { desk = d; knows = b.0; object = x; log = log_of op_in reply_in core; passes = n })
-  opened c x k core l m a b d n is e f same fits begins =
+  opened c x k core l m a b d n kinds is e f same fits begins =
       let log : log_of op_in reply_in core ≡ l = ap (log_of op_in reply_in) same ∙ fits.0 in record {
         object = refl;
         knows = ap (λ z. z.0) f ∙ (ap (λ z. z.0) e ∙ λ i. holding x (sym log i) (sym is i));
-        legal = subst (λ z. IsLegal (kind_at z.kinds x) (log_of op_in reply_in core)) (sym is) (subst (IsLegal (kind_at m.0.kinds x)) (sym log) (content k.object, fits.1));
+        legal = subst (λ z. IsLegal (kind_at z x) (log_of op_in reply_in core)) (sym kinds) (subst (IsLegal (kind_at m.0.kinds x)) (sym log) (content k.object, fits.1));
         begins = subst (λ z. StartsWith (log_of op_in reply_in core) (seen_of z x)) (sym is) (subst (λ z. StartsWith z (seen_of m.0 x)) (sym log) begins);
       }
 

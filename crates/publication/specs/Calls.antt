@@ -8,7 +8,7 @@ use Rattle.world.specs.declared.JournalEvent.TheVariants.{Invoked, Returned}
 use Rattle.world.specs.World.{AnyEntry, AnyRequest, AnyAnswer, kind_at, logged, entries_of, served, calls_made, Replays, IsLegal, StartsWith}
 use Rattle.desk_rule.specs.declared.board.Own.TheVariants as own
 use Rattle.desk_rule.specs.declared.board.View.{View}
-use Rattle.desk_rule.specs.Views.{seen_of, own_request, journal, is_waiting, missing, noting, holding, handling, putting_back, answering, calling, taking, done_with, seeing}
+use Rattle.desk_rule.specs.Views.{seen_of, own_request, journal, is_waiting, missing, noting, holding, handling, putting_back, answering, calling, taking, done_with, seeing, finding_there, IsAccount}
 use Rattle.world.specs.Images.{entry_in, event_in}
 use Rattle.world.specs.Records.{IsSoundRecord}
 use Rattle.recorder.specs.Records.{Recorded, journal_at, log_at}
@@ -41,7 +41,7 @@ IsNotOfKind kinds x kind e = ⊥
 abbrev pub PostRefused : DeskSeen → Known → ℕ → AnyOp → Post → Type 0
 PostRefused d c x op post.Outstanding = is_waiting c.knows.own ≡ true
 PostRefused d c x op post.Spent = (is_waiting c.knows.own ≡ false) × (c.desk.quota ≤ calls_made c.knows.done (own_request c.knows.own))
-PostRefused d c x op e = MayPost c × IsNotOfKind d.kinds x (kind_of op) e
+PostRefused d c x op e = MayPost c × IsNotOfKind d.id.kinds x (kind_of op) e
 
 -- The own call is over, with this answer. The log of its object that was seen is legal, begins with all that was seen
 -- before, and holds of the client's own calls those that are over and this one. The ticket of the return is greater than
@@ -67,7 +67,7 @@ NotPolled v w = ((is_waiting v.own ≡ false) × (w ≡ v)) ⊎ ((w ≡ missing 
 pub record Opened (c : Known) (x : ℕ) (p : Holding) : Type 0 where
   pub object : p.object ≡ x
   pub knows : p.knows ≡ holding x p.log c.knows
-  pub legal : IsLegal (kind_at c.knows.kinds x) p.log
+  pub legal : IsLegal (kind_at c.desk.kinds x) p.log
   pub begins : StartsWith p.log (seen_of c.knows x)
 
 -- The request of the row is in hand. It is for the object that is held, and of its kind. It is the one that this pass had
@@ -119,7 +119,7 @@ pub record Met (x : ℕ) (one other one' other' : Known) : Type 0 where
   pub second : other'.knows ≡ seeing x log (record other.knows { heard = other'.knows.heard })
   pub seen_first : seen_of one'.knows x ≡ log
   pub seen_second : seen_of other'.knows x ≡ log
-  pub legal : IsLegal (kind_at one.knows.kinds x) log
+  pub legal : IsLegal (kind_at one.desk.kinds x) log
   pub begins_first : StartsWith log (seen_of one.knows x)
   pub begins_second : StartsWith log (seen_of other.knows x)
 
@@ -128,18 +128,21 @@ pub record StillThere (d : DeskSeen) (last : Known) (client : ℕ) (after : Know
   pub client_low : client < d.clients
   pub other : client ≢ last.knows.number
   pub least : (c : ℕ) → c < client → c ≢ last.knows.number → Contains after.knows.retired c
-  pub tried : (v : View) × (after.knows ≡ missing (48 + client) v) × (v ≡ record last.knows { retired = v.retired })
+  -- of the last client nothing else has changed: it knows who has retired, and found this one there
+  pub looked : (v : View) × (after.knows ≡ finding_there client v) × (v ≡ record last.knows { retired = v.retired })
 
 module _ {O R : Type 0} (op_in : O → AnyOp) (reply_in : R → AnyReply) where
   -- The record has a journal for each client and a log for each object, and is sound: its history is well-formed, and each
   -- log is legal and a valid order. The last client's journal is its own, and each log begins with what it had seen.
   pub record Closed (d : DeskSeen) (last : Known) (r : Recorded O R) : Type 0 where
     pub journals : length r.journals ≡ d.clients
-    pub logs : length r.logs ≡ length d.kinds
+    pub logs : length r.logs ≡ length d.id.kinds
     pub own : map (event_in op_in reply_in) (journal_at r last.knows.number) ≡ journal last.knows
-    pub legal : (x : ℕ) → x < length d.kinds → IsLegal (kind_at d.kinds x) (map (entry_in op_in reply_in) (log_at r x))
-    pub seen : (x : ℕ) → x < length d.kinds → StartsWith (map (entry_in op_in reply_in) (log_at r x)) (seen_of last.knows x)
-    pub sound : IsSoundRecord d.kinds (λ c. map (event_in op_in reply_in) (journal_at r c)) (λ x. map (entry_in op_in reply_in) (log_at r x))
+    pub legal : (x : ℕ) → x < length d.id.kinds → IsLegal (kind_at d.id.kinds x) (map (entry_in op_in reply_in) (log_at r x))
+    pub seen : (x : ℕ) → x < length d.id.kinds → StartsWith (map (entry_in op_in reply_in) (log_at r x)) (seen_of last.knows x)
+    -- of the last client's calls each log holds just those that were not refused, each once and in order
+    pub accounts : (x : ℕ) → IsAccount x last.knows (map (entry_in op_in reply_in) (log_at r x))
+    pub sound : IsSoundRecord d.id.kinds d.id.quota (λ c. map (event_in op_in reply_in) (journal_at r c)) (λ x. map (entry_in op_in reply_in) (log_at r x))
 
 module _ {S O R : Type 0} where
   -- the desk and the number of the client that comes back

@@ -24,14 +24,14 @@ use Rattle.desk_rule.specs.declared.board.View.{View}
 use Rattle.desk_rule.specs.Views.{newcomer, calling, own_request, journal, is_waiting, seen_of, IsAtRest, IsAccount}
 use Rattle.desk_rule.specs.Rule.{Fits}
 
--- which desk: its table, and the quota of each of its clients
+-- which desk: its table, the quota of each of its clients, and the kind of each of its objects
 pub record DeskId : Type 0 where
   pub table : TableId
   pub quota : ℕ
+  pub kinds : List Kind
 
 pub record DeskSeen : Type 0 where
   pub id : DeskId
-  pub kinds : List Kind
   pub clients : ℕ
 
 -- a client: its desk, and what it knows
@@ -63,7 +63,7 @@ IsRoom n v = (v.items ≡ []) × (n ≤ vec_capacity v)
 
 -- a desk over this table
 abbrev pub IsDesk : TableId → Plan → DeskSeen → Type 0
-IsDesk table plan d = (table.words ≡ 81) × (table.slots ≡ 80) × (plan.kinds.items ≡ d.kinds) × (plan.clients ≡ d.clients) × (plan.quota ≡ d.id.quota) × (length d.kinds < 17) × (d.clients < 33) × (d.id.quota < 10001)
+IsDesk table plan d = (table.words ≡ 81) × (table.slots ≡ 80) × (plan.kinds.items ≡ d.id.kinds) × (plan.clients ≡ d.clients) × (plan.quota ≡ d.id.quota) × (length d.id.kinds < 17) × (d.clients < 33) × (d.id.quota < 10001)
 
 module _ {O R : Type 0} (op_in : O → AnyOp) (reply_in : R → AnyReply) where
   -- what the client's fields say of what it knows
@@ -118,8 +118,8 @@ module _ {S O R : Type 0} (content : S → Content) (op_in : O → AnyOp) (reply
     pub of_kind : kind_of (op_in request.op) ≡ kind_at me.0.kinds object
 
 -- a client that has made no call
-abbrev pub begun : DeskId → List Kind → ℕ → Known
-begun d kinds c = record { desk = d; knows = calling own.Idle (newcomer kinds c) }
+abbrev pub begun : DeskId → ℕ → Known
+begun d c = record { desk = d; knows = calling own.Idle (newcomer d.kinds c) }
 
-abbrev pub AllBegun : DeskId → List Kind → List Known → Type 0
-AllBegun d kinds cs = (c : ℕ) → c < length cs → get_elem? cs c ≡ some (begun d kinds c)
+abbrev pub AllBegun : DeskId → List Known → Type 0
+AllBegun d cs = (c : ℕ) → c < length cs → get_elem? cs c ≡ some (begun d c)

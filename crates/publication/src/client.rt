@@ -34,7 +34,7 @@ impl<S: SeqObject> Model for Client<S> {
 
     ghost Value = { Known };
 
-    ghost view = { λ c. record { desk = record { table = c.member.seat.table_id; quota = c.member.quota }; knows = c.member.seat.me.0 } };
+    ghost view = { λ c. record { desk = record { table = c.member.seat.table_id; quota = c.member.quota; kinds = c.member.seat.me.0.kinds }; knows = c.member.seat.me.0 } };
 
     ghost invariant = { λ c. IsClient S.op_in S.reply_in c.member.number c.member.calls c.member.quota c.member.outstanding c.member.journal c.member.seat.me };
 }
@@ -51,7 +51,7 @@ impl<S: SeqObject> Model for Pass<S> {
 
     ghost Value = { Holding };
 
-    ghost view = { λ p. record { desk = record { table = p.member.seat.table_id; quota = p.member.quota }; knows = p.member.seat.me.0; object = p.object; log = log_of S.op_in S.reply_in p.core; passes = p.core.passes } };
+    ghost view = { λ p. record { desk = record { table = p.member.seat.table_id; quota = p.member.quota; kinds = p.member.seat.me.0.kinds }; knows = p.member.seat.me.0; object = p.object; log = log_of S.op_in S.reply_in p.core; passes = p.core.passes } };
 
     ghost invariant = { λ p. IsPass S.content S.op_in S.reply_in p.member.number p.member.calls p.member.quota p.member.outstanding p.member.journal p.object p.core p.member.seat.me };
 }
@@ -71,7 +71,7 @@ impl<S: SeqObject> Model for Hand<S> {
 
     ghost Value = { Handling };
 
-    ghost view = { λ p. record { desk = record { table = p.member.seat.table_id; quota = p.member.quota }; knows = p.member.seat.me.0; object = p.object; log = log_of S.op_in S.reply_in p.core; passes = p.core.passes; row = p.row; request = request_in S.op_in p.request } };
+    ghost view = { λ p. record { desk = record { table = p.member.seat.table_id; quota = p.member.quota; kinds = p.member.seat.me.0.kinds }; knows = p.member.seat.me.0; object = p.object; log = log_of S.op_in S.reply_in p.core; passes = p.core.passes; row = p.row; request = request_in S.op_in p.request } };
 
     ghost invariant = { λ p. IsHand S.content S.op_in S.reply_in p.member.number p.member.calls p.member.quota p.member.outstanding p.member.journal p.object p.core p.row p.request p.member.seat.me };
 }
@@ -81,6 +81,8 @@ impl<S: SeqObject> Client<S> {
     pub fn number(&self) -> u32
         ensures number { result ≡ self.now.knows.number }
         ensures low { result < 32 }
+        // The kinds that it knows are those of its desk.
+        ensures kinds { self.now.knows.kinds ≡ self.now.desk.kinds }
     {
         self.member.number
     }
@@ -89,10 +91,12 @@ impl<S: SeqObject> Client<S> {
     pub fn outstanding(&self) -> bool
         ensures outstanding { result ≡ is_waiting self.now.knows.own }
         // At every moment, what the client has seen of an object is a legal log.
-        ensures legal { (x : ℕ) → IsLegal (kind_at self.now.knows.kinds x) (seen_of self.now.knows x) }
+        ensures legal { (x : ℕ) → IsLegal (kind_at self.now.desk.kinds x) (seen_of self.now.knows x) }
         // And it holds of its own calls just those that are over and
         // were not refused, each once and in order, and the outstanding one at most once.
         ensures accounts { (x : ℕ) → IsAccount x self.now.knows (seen_of self.now.knows x) }
+        // The kinds that it knows are those of its desk.
+        ensures kinds { self.now.knows.kinds ≡ self.now.desk.kinds }
     {
         self.member.outstanding
     }

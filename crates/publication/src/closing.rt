@@ -1,8 +1,8 @@
 //! The end of a client, and of the desk.
 
-ghost use Rattle.std.specs.Prelude.{◌≡◌, ◌≢◌, ℕ, ◌+◌, ◌<◌, ◌≤◌, false, [], length, slice_index_or, vec_len, vec_capacity, IfOk, IfErr, IfSome, IfNone, if◌then◌else◌};
+ghost use Rattle.std.specs.Prelude.{◌≡◌, ◌≢◌, ℕ, ◌+◌, ◌<◌, ◌≤◌, [], length, slice_index_or, vec_len, vec_capacity, IfOk, IfErr, IfSome, IfNone, if◌then◌else◌};
 ghost use Rattle.recorder.specs.Records.{items_of};
-ghost use Rattle.desk_rule.specs.Views.{is_waiting, missing, knowing_end};
+ghost use Rattle.desk_rule.specs.Views.{knowing_end, finding_there};
 ghost use Rattle.publication.specs.Handles.{IsRoom};
 ghost use Rattle.publication.specs.Calls.{Closed, StillThere};
 ghost use Rattle.publication.specs.Closing.{values_of, IsTakenTo, HasCore, HasJournal, IsLogOf, IsJournalOf, AreLogs, AreJournals, IsSameBelow, HaveEnded, HasLearntEnds};
@@ -26,10 +26,10 @@ pub struct Unretired<S: SeqObject> {
 }
 
 impl<S: SeqObject> Desk<S> {
-    /// Ends a client, and leaves its journal with the desk.
+    /// Ends a client, and leaves its journal with the desk. A call that is outstanding may still be answered; the journal
+    /// has its invocation, and no return.
     pub fn retire(&self, client: Client<S>)
-        requires desk { client.desk ≡ self.now.id }
-        requires idle { is_waiting client.knows.own ≡ false }
+        requires { client.desk ≡ self.now.id }
     {
         let Client { member } = client;
         let Member {
@@ -47,8 +47,7 @@ impl<S: SeqObject> Desk<S> {
 
     /// Ends the last client and the desk. The error names the least other client that has not retired.
     pub fn close(self, mut last: Client<S>) -> Result<Record<S>, Unretired<S>>
-        requires desk { last.desk ≡ self.id }
-        requires idle { is_waiting last.knows.own ≡ false }
+        requires { last.desk ≡ self.id }
         ensures closed { IfOk result (Closed S.op_in S.reply_in self last) }
         ensures unretired { IfErr result (λ u. (u.desk ≡ self) × (u.last.desk ≡ last.desk) × StillThere self last u.client u.last) }
     {
@@ -63,12 +62,12 @@ impl<S: SeqObject> Desk<S> {
     }
 }
 
-// Whether the client has ended. It is a miss where it has not.
+// Whether the client has ended. The last client knows that, or has found it there.
 fn sees_end<S: SeqObject>(desk: &Desk<S>, last: &mut Client<S>, client: u32) -> bool
     requires desk { last.old.desk ≡ desk.now.id }
     requires client { client < desk.now.clients }
     ensures desk { last.new.desk ≡ last.old.desk }
-    ensures seen { last.new.knows ≡ (if result then knowing_end client last.old.knows else missing (48 + client) last.old.knows) }
+    ensures seen { last.new.knows ≡ (if result then knowing_end client last.old.knows else finding_there client last.old.knows) }
 {
     let shared = &desk.table.shared;
     shared.load::<SeesEnd>(&mut last.member.seat, ENDS + client as usize) == 1

@@ -55,9 +55,9 @@ impl<S: SeqObject> Model for Desk<S> {
 
     ghost Value = { DeskSeen };
 
-    ghost view = { λ d. record { id = record { table = d.table.shared.table_id; quota = d.quota }; kinds = d.kinds.items; clients = d.clients } };
+    ghost view = { λ d. record { id = record { table = d.table.shared.table_id; quota = d.quota; kinds = d.kinds.items }; clients = d.clients } };
 
-    ghost invariant = { λ d. IsDesk d.table.shared.table_id d.table.shared.key (record { id = record { table = d.table.shared.table_id; quota = d.quota }; kinds = d.kinds.items; clients = d.clients }) × IsRoom d.clients d.journals × IsRoom (length d.kinds.items) d.logs };
+    ghost invariant = { λ d. IsDesk d.table.shared.table_id d.table.shared.key (record { id = record { table = d.table.shared.table_id; quota = d.quota; kinds = d.kinds.items }; clients = d.clients }) × IsRoom d.clients d.journals × IsRoom (length d.kinds.items) d.logs };
 }
 
 /// Why a call was not posted.
@@ -88,11 +88,11 @@ pub enum Picked<S: SeqObject> {
 }
 
 impl<S: SeqObject> Desk<S> {
-    ghost use Rattle.publication.specs.Calls.{IsNotOfKind, Posted, PostRefused, Polled, NotPolled, Opened, desk_after_win, IfWon, IfHeld};
+    ghost use Rattle.publication.specs.Calls.{IsNotOfKind, MayPost, Posted, PostRefused, Polled, NotPolled, Opened, desk_after_win, IfWon, IfHeld};
 
     /// How many objects there are.
     pub fn objects(&self) -> u32
-        ensures { result ≡ length self.now.kinds }
+        ensures { result ≡ length self.now.id.kinds }
     {
         self.kinds.len() as u32
     }
@@ -107,8 +107,8 @@ impl<S: SeqObject> Desk<S> {
 
     // Whether there is such an object, of this kind.
     fn has_kind(&self, object: u32, kind: Kind) -> Result<(), Post>
-        ensures ok { OnOk result ((object < length self.now.kinds) × (kind ≡ kind_at self.now.kinds object)) }
-        ensures err { IfErr result (IsNotOfKind self.now.kinds object kind) }
+        ensures ok { OnOk result ((object < length self.now.id.kinds) × (kind ≡ kind_at self.now.id.kinds object)) }
+        ensures err { IfErr result (IsNotOfKind self.now.id.kinds object kind) }
     {
         if object as usize >= self.kinds.len() {
             return Err(Post::NoSuchObject);
@@ -123,7 +123,8 @@ impl<S: SeqObject> Desk<S> {
     pub fn post(&self, client: &mut Client<S>, object: u32, op: S::Op) -> Result<(), Post>
         requires { client.old.desk ≡ self.now.id }
         ensures desk { client.new.desk ≡ client.old.desk }
-        ensures there { OnOk result ((object < length self.now.kinds) × (kind_of (S.op_in op) ≡ kind_at self.now.kinds object)) }
+        ensures may { OnOk result (MayPost client.old) }
+        ensures there { OnOk result ((object < length self.now.id.kinds) × (kind_of (S.op_in op) ≡ kind_at self.now.id.kinds object)) }
         ensures posted { IfOk result (λ _. Posted client.old.knows object (S.op_in op) client.new.knows) }
         ensures refused { IfErr result (λ e. (client.new ≡ client.old) × PostRefused self.now client.old object (S.op_in op) e) }
     {
@@ -189,7 +190,7 @@ impl<S: SeqObject> Desk<S> {
     /// Tries the lock word of the object once.
     pub fn win(&self, client: Client<S>, object: u32) -> Win<S>
         requires desk { client.desk ≡ self.now.id }
-        requires object { object < length self.now.kinds }
+        requires object { object < length self.now.id.kinds }
         ensures desk { desk_after_win result ≡ client.desk }
         ensures won { IfWon result (Opened client object) }
         ensures held { IfHeld result (λ c. c.knows ≡ missing object client.knows) }

@@ -114,7 +114,7 @@ fn make<S: SeqObject>(
     requires founder { founder.old.me ≡ (founder_of table.now.shared.key.kinds.items number, []) }
     requires journal { HasRoom quota journal }
     ensures founder { (founder.new.table_id ≡ founder.old.table_id) × (founder.new.me ≡ (founder_of table.now.shared.key.kinds.items (number + 1), [])) }
-    ensures client { result ≡ begun (record { table = table.now.shared.table_id; quota = quota }) table.now.shared.key.kinds.items number }
+    ensures client { result ≡ begun (record { table = table.now.shared.table_id; quota = quota; kinds = table.now.shared.key.kinds.items }) number }
 {
     let shared = &table.shared;
     let mut seat = shared.split_seat::<Makes>(founder);
@@ -143,7 +143,7 @@ fn make_all<S: SeqObject>(
     requires founder { founder.me ≡ (founder_of table.now.shared.key.kinds.items 0, []) }
     requires journals { (vec_len journals ≡ table.now.shared.key.clients) × All (HasRoom quota) journals.items }
     requires made { IsRoom table.now.shared.key.clients made.old × (vec_len made.old ≡ 0) }
-    ensures { (length made.new.items ≡ table.now.shared.key.clients) × AllBegun (record { table = table.now.shared.table_id; quota = quota }) table.now.shared.key.kinds.items made.new.items }
+    ensures { (length made.new.items ≡ table.now.shared.key.clients) × AllBegun (record { table = table.now.shared.table_id; quota = quota; kinds = table.now.shared.key.kinds.items }) made.new.items }
 {
     let mut number = 0;
     while let Some(journal) = journals.pop() {
@@ -153,8 +153,8 @@ fn make_all<S: SeqObject>(
 }
 
 impl<S: SeqObject> Desk<S> {
-    /// A desk for these objects, which are empty, and its clients, each of which may make so many calls. It makes the
-    /// room that the calls of desk and clients need.
+    /// A desk for these objects, which are empty, and its clients, each of which may make so many calls. It makes room
+    /// for the journals and the record. Logs and objects grow as calls are answered, and there memory may be refused.
     pub fn new(
         alloc: Global,
         objects: Vec<S>,
@@ -164,8 +164,8 @@ impl<S: SeqObject> Desk<S> {
         requires objects { (0 < length objects.items) × (length objects.items < 17) × All (λ o. S.content o ≡ empty (kind_with (S.content o))) objects.items }
         requires clients { (0 < clients) × (clients < 33) }
         requires quota { quota < 10001 }
-        ensures desk { IfOk result (λ r. (r.0.kinds ≡ map (λ o. kind_with (S.content o)) objects.items) × (r.0.clients ≡ clients) × (r.0.id.quota ≡ quota)) }
-        ensures clients { IfOk result (λ r. (length r.1.items ≡ clients) × AllBegun r.0.id r.0.kinds r.1.items) }
+        ensures desk { IfOk result (λ r. (r.0.id.kinds ≡ map (λ o. kind_with (S.content o)) objects.items) × (r.0.clients ≡ clients) × (r.0.id.quota ≡ quota)) }
+        ensures clients { IfOk result (λ r. (length r.1.items ≡ clients) × AllBegun r.0.id r.1.items) }
     {
         let plan = Plan {
             kinds: kinds_of(alloc, &objects)?,

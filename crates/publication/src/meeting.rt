@@ -9,11 +9,11 @@ use crate::plays::{Adopts, Hears, Learns, Tells};
 use seq_objects::SeqObject;
 
 impl<S: SeqObject> Desk<S> {
-    /// Afterwards both have seen one log of the object. The lock word is loaded twice, and no word changes.
+    /// Afterwards both have seen one log of the object.
     pub fn meet(&self, one: Client<S>, other: Client<S>, object: u32) -> (Client<S>, Client<S>)
         requires one { one.desk ≡ self.now.id }
         requires other { other.desk ≡ self.now.id }
-        requires object { object < length self.now.kinds }
+        requires object { object < length self.now.id.kinds }
         ensures desk { (result.0.desk ≡ one.desk) × (result.1.desk ≡ other.desk) }
         ensures met { Met object one other result.0 result.1 }
     {

@@ -20,6 +20,7 @@ impl<S: SeqObject> Pass<S> {
     pub fn number(&self) -> u32
         ensures number { result ≡ self.now.knows.number }
         ensures low { result < 32 }
+        ensures kinds { self.now.knows.kinds ≡ self.now.desk.kinds }
     {
         self.member.number
     }

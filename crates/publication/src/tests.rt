@@ -1,7 +1,6 @@
 //! A new desk, the end of its clients, and its own.
 
-ghost use Rattle.std.specs.Prelude.{◌≡◌, ◌+◌, ◌<◌, false, length, IfOk};
-ghost use Rattle.desk_rule.specs.Views.{is_waiting};
+ghost use Rattle.std.specs.Prelude.{◌≡◌, ◌+◌, ◌<◌, length, IfOk};
 ghost use Rattle.publication.specs.Handles.{AllBegun, begun};
 ghost use Rattle.publication.specs.Making.{AreEmpty};
 
@@ -23,17 +22,17 @@ fn objects(alloc: Global) -> Result<Vec<AnyObject>, AllocError>
 
 // A desk with these and three clients.
 fn desk(alloc: Global) -> Result<(Desk<AnyObject>, Vec<Client<AnyObject>>), AllocError>
-    ensures desk { IfOk result (λ r. (length r.0.kinds ≡ 2) × (r.0.clients ≡ 3)) }
-    ensures clients { IfOk result (λ r. (length r.1.items ≡ 3) × AllBegun r.0.id r.0.kinds r.1.items) }
+    ensures desk { IfOk result (λ r. (length r.0.id.kinds ≡ 2) × (r.0.clients ≡ 3)) }
+    ensures clients { IfOk result (λ r. (length r.1.items ≡ 3) × AllBegun r.0.id r.1.items) }
 {
     Desk::new(alloc, objects(alloc)?, 3, 1)
 }
 
 // The last of the clients.
 fn next(desk: &Desk<AnyObject>, clients: &mut Vec<Client<AnyObject>>) -> Client<AnyObject>
-    requires { (0 < length clients.old.items) × AllBegun desk.now.id desk.now.kinds clients.old.items }
-    ensures client { (result.desk ≡ desk.now.id) × (is_waiting result.knows.own ≡ false) }
-    ensures others { (length clients.new.items + 1 ≡ length clients.old.items) × AllBegun desk.now.id desk.now.kinds clients.new.items }
+    requires { (0 < length clients.old.items) × AllBegun desk.now.id clients.old.items }
+    ensures client { result.desk ≡ desk.now.id }
+    ensures others { (length clients.new.items + 1 ≡ length clients.old.items) × AllBegun desk.now.id clients.new.items }
 {
     match clients.pop() {
         Some(client) => client,
@@ -47,8 +46,8 @@ fn refused(
     desk: Desk<AnyObject>,
     last: Client<AnyObject>,
 ) -> (Desk<AnyObject>, Client<AnyObject>, u32)
-    requires { (last.desk ≡ desk.id) × (is_waiting last.knows.own ≡ false) }
-    ensures { (result.0 ≡ desk) × (result.1.desk ≡ last.desk) × (is_waiting result.1.knows.own ≡ false) }
+    requires { last.desk ≡ desk.id }
+    ensures { (result.0 ≡ desk) × (result.1.desk ≡ last.desk) }
 {
     match desk.close(last) {
         Ok(_) => panic!(rt; "the desk was closed"),
@@ -58,7 +57,7 @@ fn refused(
 
 // Closes it, and finds that nothing was done.
 fn closed(rt: &impl Abort, desk: Desk<AnyObject>, last: Client<AnyObject>)
-    requires { (last.desk ≡ desk.id) × (is_waiting last.knows.own ≡ false) × (length desk.kinds ≡ 2) × (desk.clients ≡ 3) }
+    requires { (last.desk ≡ desk.id) × (length desk.id.kinds ≡ 2) × (desk.clients ≡ 3) }
 {
     match desk.close(last) {
         Ok(record) => {

@@ -12,25 +12,25 @@ use Rattle.world.proofs.Tickets.{journal_begun}
 nothing_logged : (n x c : ℕ) (q : AnyRequest) (a : AnyAnswer) → n ≤ x → q.object < n → logged_on x c q a ≡ []
 nothing_logged n x c q a far on = logged_else x c q a (λ e. omega arith)
 
-nothing_served : (n x c : ℕ) (ds : List AnyDone) (q : Option AnyRequest) → n ≤ x → All (IsAmong n) (journal_of ds q) → served x c ds ≡ []
-nothing_served n x c [] q far all = refl
-nothing_served n x c (d ∷ ds) q far all =
+nothing_served : (kinds : List Kind) (x c : ℕ) (ds : List AnyDone) (q : Option AnyRequest) → length kinds ≤ x → All (IsAmong kinds) (journal_of ds q) → served x c ds ≡ []
+nothing_served kinds x c [] q far all = refl
+nothing_served kinds x c (d ∷ ds) q far all =
     let rest : List AnyEvent = Returned d.returned d.answer ∷ journal_of ds q in
-    let on : d.request.object < n = All-head (IsAmong n) (invoked d.request) rest all in
-    let later = All-tail (IsAmong n) (Returned d.returned d.answer) (journal_of ds q) (All-tail (IsAmong n) (invoked d.request) rest all) in
-    (λ i. nothing_logged n x c d.request d.answer far on i ++ nothing_served n x c ds q far later i)
+    let on : d.request.object < length kinds = (All-head (IsAmong kinds) (invoked d.request) rest all).0 in
+    let later = All-tail (IsAmong kinds) (Returned d.returned d.answer) (journal_of ds q) (All-tail (IsAmong kinds) (invoked d.request) rest all) in
+    (λ i. nothing_logged (length kinds) x c d.request d.answer far on i ++ nothing_served kinds x c ds q far later i)
 
-asked_among : (n : ℕ) (ds : List AnyDone) (q : AnyRequest) → All (IsAmong n) (journal_of ds (Some q)) → q.object < n
-asked_among n ds q all = All-contains (IsAmong n) (journal_of ds None ++ invoked q ∷ []) (invoked q) (subst (All (IsAmong n)) (journal_begun ds q) all) (Contains-push (journal_of ds None) (invoked q))
+asked_among : (kinds : List Kind) (ds : List AnyDone) (q : AnyRequest) → All (IsAmong kinds) (journal_of ds (Some q)) → q.object < length kinds
+asked_among kinds ds q all = (All-contains (IsAmong kinds) (journal_of ds None ++ invoked q ∷ []) (invoked q) (subst (All (IsAmong kinds)) (journal_begun ds q) all) (Contains-push (journal_of ds None) (invoked q))).0
 
-nothing_now : (n x c : ℕ) (ds : List AnyDone) (t : Stage) → n ≤ x → All (IsAmong n) (journal_of ds (request_of t)) → served_now x c t ≡ []
-nothing_now n x c ds absent far all = refl
-nothing_now n x c ds idle far all = refl
-nothing_now n x c ds (drawn q) far all = refl
-nothing_now n x c ds (posted q) far all = refl
-nothing_now n x c ds (picked q) far all = refl
-nothing_now n x c ds (answered q a) far all = nothing_logged n x c q a far (asked_among n ds q all)
-nothing_now n x c ds (taken q a) far all = nothing_logged n x c q a far (asked_among n ds q all)
+nothing_now : (kinds : List Kind) (x c : ℕ) (ds : List AnyDone) (t : Stage) → length kinds ≤ x → All (IsAmong kinds) (journal_of ds (request_of t)) → served_now x c t ≡ []
+nothing_now kinds x c ds absent far all = refl
+nothing_now kinds x c ds idle far all = refl
+nothing_now kinds x c ds (drawn q) far all = refl
+nothing_now kinds x c ds (posted q) far all = refl
+nothing_now kinds x c ds (picked q) far all = refl
+nothing_now kinds x c ds (answered q a) far all = nothing_logged (length kinds) x c q a far (asked_among kinds ds q all)
+nothing_now kinds x c ds (taken q a) far all = nothing_logged (length kinds) x c q a far (asked_among kinds ds q all)
 
 no_entries : (l : List AnyEntry) → ((c : ℕ) → entries_of c l ≡ []) → l ≡ []
 no_entries [] none = refl
@@ -47,7 +47,7 @@ is_absent (taken q a) h = absurd (h (λ e. absurd (cc)))
 
 module _ (kinds : List Kind) (quota : ℕ) (w : World) (k : Sound kinds quota w) where
   pub no_log_beyond : (x : ℕ) → length kinds ≤ x → w.log x ≡ []
-  no_log_beyond x far = no_entries (w.log x) (λ c. k.counted c x ∙ (λ i. nothing_served (length kinds) x c (w.done c) (request_of (w.stage c)) far (k.journals.on_objects c) i ++ nothing_now (length kinds) x c (w.done c) (w.stage c) far (k.journals.on_objects c) i))
+  no_log_beyond x far = no_entries (w.log x) (λ c. k.counted c x ∙ (λ i. nothing_served kinds x c (w.done c) (request_of (w.stage c)) far (k.journals.on_objects c) i ++ nothing_now kinds x c (w.done c) (w.stage c) far (k.journals.on_objects c) i))
 
   -- where all that have come are below n
   pub no_journal_beyond : (n : ℕ) → ((c : ℕ) → w.stage c ≢ absent → c < n) → (c : ℕ) → n ≤ c → journal_in w c ≡ []

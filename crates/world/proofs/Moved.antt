@@ -105,7 +105,7 @@ module _ (kinds : List Kind) (quota : ℕ) where
   sound_called w c q low was few on fits ticket k =
       let tickets : tickets_drawn (w.done c) (Some q) ≡ tickets_drawn (w.done c) (request_of (w.stage c)) + 1 = (let e : tickets_drawn (w.done c) (Some q) ≡ tickets_drawn (w.done c) None + 1 = omega arith in e ∙ ap (λ z. tickets_drawn (w.done c) (request_of z) + 1) (sym was)) in
       sound_ticked w c (drawn q) (w.done c) low (λ r e. let g = sym was ∙ e in absurd (cc)) (λ r e. absurd (cc)) (λ x. ap (λ z. served x c (w.done c) ++ served_now x c z) (sym was))
-      (λ r e. let same = same_Some q r e in subst (λ (z : AnyRequest). (kind_of z.op ≡ kind_at kinds z.object) × (z.ticket ≡ w.clock)) same (fits, ticket)) tickets (omega arith) (journals_called kinds w c q was ticket on k.journals) k
+      (λ r e. let same = same_Some q r e in subst (λ (z : AnyRequest). (kind_of z.op ≡ kind_at kinds z.object) × (z.ticket ≡ w.clock)) same (fits, ticket)) tickets (omega arith) (journals_called kinds w c q was ticket on fits k.journals) k
 
   -- the client c draws the ticket n of the return of its call
   pub sound_returned : (w : World) (c n : ℕ) (q : AnyRequest) (a : AnyAnswer) → c < 32 → w.stage c ≡ taken q a → n ≡ w.clock → S w → S (ticked w c idle (w.done c ++ record { request = q; answer = a; returned = n } ∷ []))
@@ -205,8 +205,12 @@ module _ (kinds : List Kind) (quota : ℕ) where
         (changed_all (λ y l. StartsWith l (w.log y)) w.log x (w.log x ++ logged r q a) (logged r q a, refl) (λ y _. starts_same (w.log y))) k.journals;
   }
 
-  -- no client's tickets can fill the clock
-  pub clock_low : (w : World) → quota < 10001 → S w → w.clock ≤ 640000
-  clock_low w small k =
+  -- the clients have drawn two tickets for each call at most
+  pub clock_few : (w : World) → S w → w.clock ≤ 64 * quota
+  clock_few w k =
       let all : total (λ c. tickets_drawn (w.done c) (request_of (w.stage c))) 32 ≤ 32 * (quota + quota) = total_le (λ c. tickets_drawn (w.done c) (request_of (w.stage c))) 32 (quota + quota) (λ c l. let q = k.within c in omega arith) in
       let e = k.drawn in omega arith
+
+  -- no client's tickets can fill the clock
+  pub clock_low : (w : World) → quota < 10001 → S w → w.clock ≤ 640000
+  clock_low w small k = let few = clock_few w k in omega arith

@@ -1,5 +1,5 @@
 -- The opening world is sound, and stays so when a client comes.
-use Rattle.std.proofs.Common.{◌≡◌, ℕ, ◌<◌, List, length, refl, sym, ap, ◌∙◌, arith}
+use Rattle.std.proofs.Common.{◌≡◌, ℕ, ◌<◌, List, refl, sym, ap, ◌∙◌, arith}
 use Rattle.std.proofs.lemmas.List.Elements.{All-nil}
 use Rattle.model.specs.declared.Kind.{Kind}
 use Rattle.model.specs.Objects.{empty}
@@ -26,7 +26,7 @@ sound_opening kinds quota = record {
       apart = λ c d t h. let l = h.1 in absurd (omega arith);
       each = λ t l. absurd (omega arith);
     };
-    on_objects = λ c. All-nil (IsAmong (length kinds));
+    on_objects = λ c. All-nil (IsAmong kinds);
     in_time = λ c. All-nil (IsInTime opening_world c);
     not_come = λ c e. refl;
   };

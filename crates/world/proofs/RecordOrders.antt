@@ -10,6 +10,7 @@ use Rattle.world.specs.Sound.{Sound, IsInTime}
 use Rattle.world.specs.Records.{order_of, IsSoundRecord}
 use Rattle.locality.proofs.Entries.{number_of}
 use Rattle.locality.proofs.Merge.{one_number}
+use Rattle.world.proofs.Moved.{clock_few}
 use Rattle.world.proofs.Shares.{in_after}
 use Rattle.world.proofs.Sources.{put_in, served_is, IsOf, is_of, put_rises, IsOver, is_over}
 use Rattle.world.proofs.Chosen.{Along, chosen, entry_beside, call_beside, pairs_beside, SaysSame, numbers_beside, replies_beside, once_in_order, in_own_entries, tickets_once, in_front}
@@ -141,10 +142,12 @@ module _ (kinds : List Kind) (quota : ℕ) (w : World) (k : Sound kinds quota w)
       replies = let legal = k.legal x in replies_beside Beside (λ e c b. b.says) (empty (kind_at kinds x)) legal.0 log entries legal.1 pick.1;
     }
 
-pub sound_record : (kinds : List Kind) (quota : ℕ) (w : World) → Sound kinds quota w → IsSoundRecord kinds (journal_in w) w.log
+pub sound_record : (kinds : List Kind) (quota : ℕ) (w : World) → Sound kinds quota w → IsSoundRecord kinds quota (journal_in w) w.log
 sound_record kinds quota w k = record {
   count = w.clock;
   tickets = k.journals.tickets;
+  few = clock_few kinds quota w k;
+  on_objects = k.journals.on_objects;
   history = history w k.journals.tickets;
   denoted = history_denoted w k.journals.tickets;
   well_formed = history_well_formed w k.journals.tickets;

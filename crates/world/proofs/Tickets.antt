@@ -5,9 +5,10 @@ use native.Mathlib.Decide.{ℕ_discrete}
 use Rattle.std.proofs.lemmas.List.{length_push, length-append, get_or_push, get_or_append_left}
 use Rattle.std.proofs.lemmas.List.Elements.{All-nil, All-push, All-weaker, All-contains, Contains-append_left, Contains-push, Contains-push_cases}
 use Rattle.model.specs.declared.Kind.{Kind}
+use Rattle.model.specs.Objects.{kind_of}
 use Rattle.world.specs.declared.Answer.TheVariants.{Reply, Refused}
 use Rattle.world.specs.declared.JournalEvent.TheVariants.{Returned}
-use Rattle.world.specs.World.{AnyEntry, AnyRequest, AnyAnswer, AnyEvent, AnyDone, Stage, absent, idle, drawn, taken, World, logged, entries_of, served, served_now, request_of, invoked, journal_of, journal_in, ticket_of, tickets_in, StartsWith}
+use Rattle.world.specs.World.{AnyEntry, AnyRequest, AnyAnswer, AnyEvent, AnyDone, Stage, absent, idle, drawn, taken, World, kind_at, logged, entries_of, served, served_now, request_of, invoked, journal_of, journal_in, ticket_of, tickets_in, StartsWith}
 use Rattle.world.specs.Moves.{changed, ticked}
 use Rattle.world.specs.Sound.{ShareOut, IsAmong, IsInTime, SoundJournals, Sound}
 use Rattle.world.proofs.Entries.{logged_here}
@@ -66,7 +67,7 @@ module _ (kinds : List Kind) where
   journals_kept w w' clock done asked came grows k =
       let same : (c : ℕ) → journal_in w c ≡ journal_in w' c = λ c i. journal_of (sym (done c) i) (sym (asked c) i) in record {
         tickets = subst (λ (z : ℕ × (ℕ → List ℕ)). ShareOut z.0 z.1) (λ i. (sym clock i, λ c. map ticket_of (same c i))) k.tickets;
-        on_objects = λ c. subst (All (IsAmong (length kinds))) (same c) (k.on_objects c);
+        on_objects = λ c. subst (All (IsAmong kinds)) (same c) (k.on_objects c);
         in_time = λ c. subst (All (IsInTime w' c)) (sym (done c)) (All-weaker (IsInTime w c) (IsInTime w' c) (λ d. still_in_time w w' c d grows) (w.done c) (k.in_time c));
         not_come = λ c e. done c ∙ k.not_come c (came c e);
       }
@@ -117,15 +118,12 @@ module _ (n : ℕ) (f g : ℕ → List ℕ) (c : ℕ) (here : g c ≡ f c ++ n �
         (λ other. let b = k.each t (omega arith) in (b.0, either (λ d l. Contains (f d) t → Contains l t) (Contains-append_left (f c) (n ∷ []) t) (λ d _ h. h) b.0 b.1));
   }
 
-all_objects_more : (n : ℕ) (es : List AnyEvent) (e : AnyEvent) → IsAmong n e → All (IsAmong n) es → All (IsAmong n) (es ++ e ∷ [])
-all_objects_more n es e on all = All-push (IsAmong n) es e all on
-
 map_more : (es : List AnyEvent) (e : AnyEvent) → map ticket_of (es ++ e ∷ []) ≡ map ticket_of es ++ ticket_of e ∷ []
 map_more [] e = refl
 map_more (x ∷ es) e = ap (λ z. ticket_of x ∷ z) (map_more es e)
 
 module _ (kinds : List Kind) where
-  pub journals_ticked : (w : World) (c : ℕ) (t : Stage) (ds : List AnyDone) (e : AnyEvent) → ticket_of e ≡ w.clock → IsAmong (length kinds) e → journal_of ds (request_of t) ≡ journal_in w c ++ e ∷ [] → All (IsInTime w c) ds → t ≢ absent
+  pub journals_ticked : (w : World) (c : ℕ) (t : Stage) (ds : List AnyDone) (e : AnyEvent) → ticket_of e ≡ w.clock → IsAmong kinds e → journal_of ds (request_of t) ≡ journal_in w c ++ e ∷ [] → All (IsInTime w c) ds → t ≢ absent
       → SoundJournals kinds w → SoundJournals kinds (ticked w c t ds)
   journals_ticked w c t ds e ticket on more in_time came k =
       let w' : World = ticked w c t ds in
@@ -134,16 +132,17 @@ module _ (kinds : List Kind) where
         tickets = share_more w.clock (tickets_in w) (tickets_in w') c (ap (map ticket_of) here ∙ (map_more (journal_in w c) e ∙ ap (λ z. tickets_in w c ++ z ∷ []) ticket))
             (λ d other. ap (map ticket_of) (others d other)) k.tickets;
         on_objects = λ d. dite (ℕ_discrete d c)
-            (λ same. subst (λ z. All (IsAmong (length kinds)) (journal_in w' z)) (sym same) (subst (All (IsAmong (length kinds))) (sym here) (all_objects_more (length kinds) (journal_in w c) e on (k.on_objects c))))
-            (λ other. subst (All (IsAmong (length kinds))) (sym (others d other)) (k.on_objects d));
+            (λ same. subst (λ z. All (IsAmong kinds) (journal_in w' z)) (sym same) (subst (All (IsAmong kinds)) (sym here) (All-push (IsAmong kinds) (journal_in w c) e (k.on_objects c) on)))
+            (λ other. subst (All (IsAmong kinds)) (sym (others d other)) (k.on_objects d));
         in_time = changed_all (λ d l. All (IsInTime w' d) l) w.done c ds in_time (λ d _. k.in_time d);
         not_come = λ d. dite (ℕ_discrete d c)
             (λ same f. absurd (came (sym (changed_here w.stage c t) ∙ (ap (changed w.stage c t) (sym same) ∙ f))))
             (λ other f. changed_else w.done c ds d other ∙ k.not_come d (sym (changed_else w.stage c t d other) ∙ f));
       }
 
-  pub journals_called : (w : World) (c : ℕ) (q : AnyRequest) → w.stage c ≡ idle → q.ticket ≡ w.clock → q.object < length kinds → SoundJournals kinds w → SoundJournals kinds (ticked w c (drawn q) (w.done c))
-  journals_called w c q was ticket on k = journals_ticked w c (drawn q) (w.done c) (invoked q) ticket on
+  pub journals_called : (w : World) (c : ℕ) (q : AnyRequest) → w.stage c ≡ idle → q.ticket ≡ w.clock → q.object < length kinds → kind_of q.op ≡ kind_at kinds q.object
+      → SoundJournals kinds w → SoundJournals kinds (ticked w c (drawn q) (w.done c))
+  journals_called w c q was ticket on fits k = journals_ticked w c (drawn q) (w.done c) (invoked q) ticket (on, fits)
       (journal_begun (w.done c) q ∙ ap (λ z. journal_of (w.done c) (request_of z) ++ invoked q ∷ []) (sym was)) (k.in_time c) (λ e. absurd (cc)) k
 
   pub journals_returned : (quota : ℕ) (w : World) (c n : ℕ) (q : AnyRequest) (a : AnyAnswer) → w.stage c ≡ taken q a → n ≡ w.clock → Sound kinds quota w

@@ -1,13 +1,13 @@
 -- The record of a world, which is its journals and its logs, as a history with an order for each object; and when it is
 -- sound. A client is a process of the history, and a ticket the number of its event.
-use Rattle.std.specs.Prelude.{◌≡◌, ℕ, pos, ◌<◌, ◌==◌, ℤ, List, [], ◌∷◌, map, filter, All, AllPairs, Contains}
+use Rattle.std.specs.Prelude.{◌≡◌, ℕ, pos, ◌*◌, ◌<◌, ◌≤◌, ◌==◌, ℤ, List, [], ◌∷◌, map, filter, All, AllPairs, Contains}
 use Rattle.model.specs.declared.Kind.{Kind}
 use Rattle.model.specs.Histories.{Inv, Res, process_of}
 use Rattle.model.specs.Orders.{Numbered, IsHistory, IsValidOrder, calls_on}
 use Rattle.world.specs.declared.Answer.TheVariants.{Reply, Refused}
 use Rattle.world.specs.declared.JournalEvent.TheVariants.{Invoked, Returned}
 use Rattle.world.specs.World.{AnyEntry, AnyEvent, kind_at, ticket_of}
-use Rattle.world.specs.Sound.{ShareOut}
+use Rattle.world.specs.Sound.{ShareOut, IsAmong}
 
 -- The journal of the client c denotes these events: its calls in turn, the last one perhaps pending, and none of those
 -- that were refused.
@@ -27,10 +27,15 @@ pub record IsHistoryOf (journals : ℕ → List AnyEvent) (h : List Numbered) : 
 abbrev pub order_of : List AnyEntry → List ℤ
 order_of log = map (λ e. pos e.ticket) log
 
-pub record IsSoundRecord (kinds : List Kind) (journals : ℕ → List AnyEvent) (logs : ℕ → List AnyEntry) : Type 0 where
+-- the record of objects of these kinds, and of 32 clients at most, each with this quota of calls
+pub record IsSoundRecord (kinds : List Kind) (quota : ℕ) (journals : ℕ → List AnyEvent) (logs : ℕ → List AnyEntry) : Type 0 where
   -- the tickets in the journals are the numbers below some number, each once
   pub count : ℕ
   pub tickets : ShareOut count (λ c. map ticket_of (journals c))
+  -- they are no more than two for each call of each client's quota
+  pub few : count ≤ 64 * quota
+  -- each call, a refused or pending one too, is on an object that is there, and of its kind
+  pub on_objects : (c : ℕ) → All (IsAmong kinds) (journals c)
   -- the journals have a history, and it is well-formed
   pub history : List Numbered
   pub denoted : IsHistoryOf journals history

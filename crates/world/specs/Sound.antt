@@ -17,10 +17,10 @@ pub record ShareOut (n : ℕ) (lists : ℕ → List ℕ) : Type 0 where
   pub apart : (c d t : ℕ) → Contains (lists c) t → Contains (lists d) t → c ≡ d
   pub each : (t : ℕ) → t < n → (c : ℕ) × Contains (lists c) t
 
--- an invocation is on one of the first n objects
-abbrev pub IsAmong : ℕ → AnyEvent → Type 0
-IsAmong n (Invoked t x op) = x < n
-IsAmong n (Returned t a) = ⊤
+-- an invocation is on an object that is there, and of an operation of its kind
+abbrev pub IsAmong : List Kind → AnyEvent → Type 0
+IsAmong kinds (Invoked t x op) = (x < length kinds) × (kind_of op ≡ kind_at kinds x)
+IsAmong kinds (Returned t a) = ⊤
 
 -- what a call that is over has put into the log stands behind calls that were invoked before it returned
 abbrev pub IsInTime : World → ℕ → AnyDone → Type 0
@@ -30,7 +30,7 @@ IsInTime w c d = (before : List AnyEntry) × (after : List AnyEntry) × (w.log d
 pub record SoundJournals (kinds : List Kind) (w : World) : Type 0 where
   -- each ticket below the clock stands in one journal, once
   pub tickets : ShareOut w.clock (tickets_in w)
-  pub on_objects : (c : ℕ) → All (IsAmong (length kinds)) (journal_in w c)
+  pub on_objects : (c : ℕ) → All (IsAmong kinds) (journal_in w c)
   pub in_time : (c : ℕ) → All (IsInTime w c) (w.done c)
   -- a client that has not come has done nothing
   pub not_come : (c : ℕ) → w.stage c ≡ absent → w.done c ≡ []

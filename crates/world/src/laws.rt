@@ -26,10 +26,10 @@ pub fn each_move_keeps_it_sound()
 
 /// The record of a sound world is sound: its history is well-formed, and each log is a valid order. Calls may be under way.
 pub fn record_is_sound()
-    ensures { (kinds : List Kind) (quota : ℕ) (w : World) → Sound kinds quota w → IsSoundRecord kinds (journal_in w) w.log }
+    ensures { (kinds : List Kind) (quota : ℕ) (w : World) → Sound kinds quota w → IsSoundRecord kinds quota (journal_in w) w.log }
 {}
 
 /// The history of a sound record is linearizable.
 pub fn sound_record_is_linearizable()
-    ensures { (kinds : List Kind) (journals : ℕ → List AnyEvent) (logs : ℕ → List AnyEntry) (r : IsSoundRecord kinds journals logs) → IsLinearizable (kind_at kinds) (events r.history) }
+    ensures { (kinds : List Kind) (quota : ℕ) (journals : ℕ → List AnyEvent) (logs : ℕ → List AnyEntry) (r : IsSoundRecord kinds quota journals logs) → IsLinearizable (kind_at kinds) (events r.history) }
 {}

@@ -1,4 +1,4 @@
-use Rattle.std.proofs.Common.{◌≤◌, ◌∙◌, length, sym, subst}
+use Rattle.std.proofs.Common.{◌<◌, ◌≤◌, ◌∙◌, length, sym, subst}
 use Rattle.clients.specs.Workloads.{calls_at}
 use Rattle.clients.specs.Made.{IsDeskFor}
 use Rattle.clients.proofs.Ends.{ran}
@@ -10,5 +10,6 @@ returns-clause-ran g c =
       kinds = c.in_ok-desk.ensures.desk.0 ∙ (c.in_ok-objects.ensures.kinds ∙ c.kinds.ensures.kinds);
       clients = c.in_ok-desk.ensures.desk.1 ∙ c.clients.ensures.clients;
       quota = λ k low. subst (λ z. length (calls_at c.args.workload.now k) ≤ z) (sym c.in_ok-desk.ensures.desk.2) (c.quota.ensures.enough k low);
+      few_calls = subst (λ z. z < 10001) (sym c.in_ok-desk.ensures.desk.2) c.quota.ensures.few;
     } in
     ran c.in_ok-desk.desk c.args.workload.now c.in_ok-last.last c.close.result made c.in_ok-last.ensures.done c.close.ensures

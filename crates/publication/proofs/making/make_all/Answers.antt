@@ -15,6 +15,6 @@ loop-journal-preserved g c = let i = c.loop-journal.invariant in let p = c.push_
       omega arith,
       search rules,
       omega arith,
-      one_more (begun (record { table = c.args.table.now.shared.table_id; quota = c.args.quota }) c.args.table.now.shared.key.kinds.items) c.loop-journal.made.items c.push_reserved.new.self.items c.make.result p.items
-          (ap (begun (record { table = c.args.table.now.shared.table_id; quota = c.args.quota }) c.args.table.now.shared.key.kinds.items) i.6 ∙ sym c.make.ensures.client) i.7,
+      one_more (begun (record { table = c.args.table.now.shared.table_id; quota = c.args.quota; kinds = c.args.table.now.shared.key.kinds.items })) c.loop-journal.made.items c.push_reserved.new.self.items c.make.result p.items
+          (ap (begun (record { table = c.args.table.now.shared.table_id; quota = c.args.quota; kinds = c.args.table.now.shared.key.kinds.items })) i.6 ∙ sym c.make.ensures.client) i.7,
     )

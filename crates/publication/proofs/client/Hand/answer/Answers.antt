@@ -1,4 +1,4 @@
-use Rattle.std.proofs.Common.{rules, arith, sym}
+use Rattle.std.proofs.Common.{◌≡◌, rules, arith, sym, ap, ◌∙◌}
 use Rattle.desk_rule.proofs.Rows.{answers_it}
 use Rattle.publication.proofs.Holds.{answer_ready, core_grows, answered_ok}
 use Rattle.publication.proofs.Said.{may_serve, answered}
@@ -27,3 +27,9 @@ returns-clause-answered g c = let h = c.self.invariant in let e = c.serve-answer
     let r = answer_ready g.S.SeqObject.content g.S.SeqObject.op_in g.S.SeqObject.reply_in _ _ _ _ _ _ c.self.inside.core c.serve-answer.new.core _ c.self.inside.request c.serve-answer.result _ _ h c.exchange.ensures.3 e.log e.content in
     let fits = core_grows g.S.SeqObject.content g.S.SeqObject.op_in g.S.SeqObject.reply_in _ _ c.self.inside.core c.serve-answer.new.core c.self.inside.request c.serve-answer.result h.fits e.log e.content in
     answered c.args.self _ _ _ _ _ _ _ _ _ _ (sym c.self.view_is) c.exchange.ensures.3 (c.store.ensures.2 _ _ _ _ _ _ _ r.1 r.2) e.log (_, fits.1)
+
+pub returns-clause-desk : goal.returns-clause-desk
+returns-clause-desk g c = let h = c.self.invariant in let e = c.serve-answer.ensures in
+    let r = answer_ready g.S.SeqObject.content g.S.SeqObject.op_in g.S.SeqObject.reply_in _ _ _ _ _ _ c.self.inside.core c.serve-answer.new.core _ c.self.inside.request c.serve-answer.result _ _ h c.exchange.ensures.3 e.log e.content in
+    let kinds : c.store.new.seat.me.0.kinds ≡ c.self.inside.member.seat.me.0.kinds = ap (λ m. m.0.kinds) (c.store.ensures.2 _ _ _ _ _ _ _ r.1 r.2) ∙ ap (λ m. m.0.kinds) c.exchange.ensures.3 in
+    (λ i. record { table = (c.store.ensures.0 ∙ c.exchange.ensures.0) i; quota = c.self.inside.member.quota; kinds = kinds i }) ∙ ap (λ k. k.desk) c.self.view_is

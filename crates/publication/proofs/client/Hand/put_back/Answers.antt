@@ -1,4 +1,4 @@
-use Rattle.std.proofs.Common.{rules, arith, refl, sym}
+use Rattle.std.proofs.Common.{◌≡◌, rules, arith, refl, sym, ap, ◌∙◌}
 use Rattle.desk_rule.proofs.Rows.{puts_back_it}
 use Rattle.publication.proofs.Holds.{back_ready, back_ok}
 use Rattle.publication.proofs.Said.{is_put_back}
@@ -18,3 +18,8 @@ invariant_of-result g c = let h = c.self.invariant in let r = back_ready g.S.Seq
 pub returns-clause-put_back : goal.returns-clause-put_back
 returns-clause-put_back g c = let h = c.self.invariant in let r = back_ready g.S.SeqObject.content g.S.SeqObject.op_in g.S.SeqObject.reply_in _ _ _ _ _ _ c.self.inside.core _ c.self.inside.request _ _ h c.exchange.ensures.3 in
     is_put_back c.args.self _ _ _ _ _ _ _ _ (sym c.self.view_is) c.exchange.ensures.3 (c.store.ensures.2 _ _ _ _ r.1)
+
+pub returns-clause-desk : goal.returns-clause-desk
+returns-clause-desk g c = let h = c.self.invariant in let r = back_ready g.S.SeqObject.content g.S.SeqObject.op_in g.S.SeqObject.reply_in _ _ _ _ _ _ c.self.inside.core _ c.self.inside.request _ _ h c.exchange.ensures.3 in
+    let kinds : c.store.new.seat.me.0.kinds ≡ c.self.inside.member.seat.me.0.kinds = ap (λ m. m.0.kinds) (c.store.ensures.2 _ _ _ _ r.1) ∙ ap (λ m. m.0.kinds) c.exchange.ensures.3 in
+    (λ i. record { table = (c.store.ensures.0 ∙ c.exchange.ensures.0) i; quota = c.self.inside.member.quota; kinds = kinds i }) ∙ ap (λ k. k.desk) c.self.view_is

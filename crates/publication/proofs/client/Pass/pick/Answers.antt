@@ -1,4 +1,4 @@
-use Rattle.std.proofs.Common.{rules, arith, refl, sym, ap, ◌∙◌}
+use Rattle.std.proofs.Common.{◌≡◌, rules, arith, refl, sym, ap, ◌∙◌}
 use Rattle.desk_rule.proofs.Rows.{picks_up}
 use Rattle.publication.proofs.Slots.{came_out, same_request, can_exchange}
 use Rattle.publication.proofs.Holds.{noted_ok, hand_ok}
@@ -32,3 +32,13 @@ unreachable-requires g c = let t = (c.compare_exchange.ensures.2 _ c.args.row _ 
 pub returns-clause-got : goal.returns-clause-got
 returns-clause-got g c = let t = (c.compare_exchange.ensures.2 _ c.args.row _ c.self.invariant.holds refl).0 (search rules) in
     got g.S.SeqObject.op_in c.args.self _ _ c.args.row t.0 c.in-Request.request _ _ _ _ (sym c.self.view_is) t.3 c.exchange.ensures.3 (same_request _ _ (sym (came_out _ _ _ _ _ (ap (λ m. m.1) t.3) c.exchange.ensures.2) ∙ c.in-Request.is)) t.1 t.2 t.4 t.5
+
+pub returns-then-compare_exchange-posted-clause-desk : goal.returns-then-compare_exchange-posted-clause-desk
+returns-then-compare_exchange-posted-clause-desk g c = let t = (c.compare_exchange.ensures.2 _ c.args.row _ c.self.invariant.holds refl).1 (search rules) in
+    let kinds : c.compare_exchange.new.seat.me.0.kinds ≡ c.self.inside.member.seat.me.0.kinds = ap (λ m. m.0.kinds) t.0 in
+    (λ i. record { table = (c.compare_exchange.ensures.0) i; quota = c.self.inside.member.quota; kinds = kinds i }) ∙ ap (λ k. k.desk) c.self.view_is
+
+pub returns-clause-desk : goal.returns-clause-desk
+returns-clause-desk g c = let t = (c.compare_exchange.ensures.2 _ c.args.row _ c.self.invariant.holds refl).0 (search rules) in
+    let kinds : c.exchange.new.seat.me.0.kinds ≡ c.self.inside.member.seat.me.0.kinds = ap (λ m. m.0.kinds) c.exchange.ensures.3 ∙ ap (λ m. m.0.kinds) t.3 in
+    (λ i. record { table = (c.exchange.ensures.0 ∙ c.compare_exchange.ensures.0) i; quota = c.self.inside.member.quota; kinds = kinds i }) ∙ ap (λ k. k.desk) c.self.view_is

@@ -1,4 +1,4 @@
-use Rattle.std.proofs.Common.{rules, arith, sym}
+use Rattle.std.proofs.Common.{◌≡◌, rules, arith, sym, ap, ◌∙◌}
 use Rattle.desk_rule.proofs.Locks.{releases}
 use Rattle.publication.proofs.Holds.{release_ready, released_ok}
 use Rattle.publication.proofs.Said.{is_released, log_is_seen}
@@ -22,3 +22,8 @@ returns-clause-learnt g c = let p = c.self.invariant in let r = release_ready g.
 pub returns-clause-seen : goal.returns-clause-seen
 returns-clause-seen g c = let p = c.self.invariant in let r = release_ready g.S.SeqObject.content g.S.SeqObject.op_in g.S.SeqObject.reply_in _ _ _ _ _ _ c.self.inside.core _ _ p c.exchange.ensures.3 in let t = c.store.ensures.2 _ r.1 in
     log_is_seen c.args.self _ _ _ _ _ _ (sym c.self.view_is) c.exchange.ensures.3 t.0 p.low p.agrees.wide
+
+pub returns-clause-desk : goal.returns-clause-desk
+returns-clause-desk g c = let p = c.self.invariant in let r = release_ready g.S.SeqObject.content g.S.SeqObject.op_in g.S.SeqObject.reply_in _ _ _ _ _ _ c.self.inside.core _ _ p c.exchange.ensures.3 in let t = c.store.ensures.2 _ r.1 in
+    let kinds : c.store.new.seat.me.0.kinds ≡ c.self.inside.member.seat.me.0.kinds = ap (λ m. m.0.kinds) t.0 ∙ ap (λ m. m.0.kinds) c.exchange.ensures.3 in
+    (λ i. record { table = (c.store.ensures.0 ∙ c.exchange.ensures.0) i; quota = c.self.inside.member.quota; kinds = kinds i }) ∙ ap (λ k. k.desk) c.self.view_is

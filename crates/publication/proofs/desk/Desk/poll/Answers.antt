@@ -1,4 +1,4 @@
-use Rattle.std.proofs.Common.{rules, arith, ℕ, ◌+◌, ◌∷◌, ◌++◌, [], inr, sym, ap, ◌∙◌, subst}
+use Rattle.std.proofs.Common.{◌≡◌, rules, arith, ℕ, ◌+◌, ◌∷◌, ◌++◌, [], inr, sym, ap, ◌∙◌, subst}
 use Rattle.desk_rule.specs.declared.board.View.{View}
 use Rattle.desk_rule.specs.Views.{missing}
 use Rattle.desk_rule.proofs.Calls.{takes_it, returns_it}
@@ -60,3 +60,10 @@ returns-clause-polled g c = let k = outstanding_is c.if-not-member.false c.clien
     let turn = poll_turn g.S.SeqObject.op_in g.S.SeqObject.reply_in _ _ _ _ _ o.0 t.0 t.1 _ _ _ _ k o.1 t.2 c.exchange.ensures.3 f.0 in
     subst (λ a. Polled c.args.client.now.knows (answer_in g.S.SeqObject.reply_in a) c.fetch_add-ticket.new.seat.me.0) same
     (polled g.S.SeqObject.op_in g.S.SeqObject.reply_in _ _ _ _ _ o.0 t.0 t.1 _ _ _ _ k (sym (ap (λ v. v.knows) c.client.view_is)) o.1 o.2 t.3 t.4 t.5 (ap (λ z. z.0) c.exchange.ensures.3 ∙ ap (λ z. z.0) t.2) f.1 turn)
+
+pub returns-clause-desk : goal.returns-clause-desk
+returns-clause-desk g c = let k = outstanding_is c.if-not-member.false c.client.invariant in
+    let o = own_waiting _ k.agrees.at_rest (sym k.agrees.outstanding_is) in let t = (c.compare_exchange.ensures.2 o.0 o.1).0 c.if-compare_exchange-ne-ANSWERED.false in
+    let f = c.fetch_add-ticket.ensures.2 _ _ (ap (λ z. z.0.own) c.exchange.ensures.3 ∙ ap (λ z. z.0.own) t.2) in
+    let kinds : c.fetch_add-ticket.new.seat.me.0.kinds ≡ c.client.inside.member.seat.me.0.kinds = ap (λ m. m.0.kinds) f.0 ∙ (ap (λ m. m.0.kinds) c.exchange.ensures.3 ∙ ap (λ m. m.0.kinds) t.2) in
+    (λ i. record { table = (c.fetch_add-ticket.ensures.0 ∙ (c.exchange.ensures.0 ∙ c.compare_exchange.ensures.0)) i; quota = c.client.inside.member.quota; kinds = kinds i }) ∙ ap (λ k. k.desk) c.client.view_is

@@ -11,7 +11,7 @@ pub fetch_add-ticket-requires : goal.fetch_add-ticket-requires
 fetch_add-ticket-requires g c = let k = outstanding_is c.if-member.false c.client.invariant in
     let is = own_idle _ k.agrees.at_rest (sym k.agrees.outstanding_is) in
     let d = c.self.invariant.0 in let wide = d.0 in let e = c.exchange.ensures.3 in let ok = c.in_default.ensures.ok in
-    let kinds = sym (ap (λ v. v.kinds) c.self.view_is) ∙ sym d.2 in
+    let kinds = sym (ap (λ v. v.id.kinds) c.self.view_is) ∙ sym d.2 in
     let on : c.args.object < length c.self.inside.table.shared.key.kinds.items = subst (λ (ks : List Kind). c.args.object < length ks) kinds ok.0 in
     let fits = sym c.kind_of.ensures ∙ (ok.1 ∙ ap (λ (ks : List Kind). kind_at ks c.args.object) kinds) in
     let quota : c.client.inside.member.quota ≡ c.self.inside.table.shared.key.quota = ap (λ v. v.desk.quota) c.client.view_is ∙ (ap (λ z. z.quota) c.requires ∙ (sym (ap (λ v. v.id.quota) c.self.view_is) ∙ sym d.4)) in
@@ -56,3 +56,8 @@ returns-clause-posted g c = let k = outstanding_is c.if-member.false c.client.in
     let e = c.exchange.ensures.3 in let f = c.fetch_add-ticket.ensures.2 _ _ _ (ap (λ z. z.1) e) in let h = c.exchange-2.ensures.3 in
     let turn = post_turn g.S.SeqObject.op_in g.S.SeqObject.reply_in _ _ _ _ _ (record { object = c.args.object; ticket = c.fetch_add-ticket.result; op = c.args.op }) _ _ _ _ _ k e f h (c.store.ensures.2 _ (ap (λ z. z.0.own) h ∙ ap (λ z. z.0.own) f)) in
     posted g.S.SeqObject.op_in g.S.SeqObject.reply_in _ _ _ _ _ _ _ _ _ _ k (sym (ap (λ v. v.knows) c.client.view_is)) turn
+
+pub returns-clause-desk : goal.returns-clause-desk
+returns-clause-desk g c = let e = c.exchange.ensures.3 in let f = c.fetch_add-ticket.ensures.2 _ _ _ (ap (λ z. z.1) e) in let h = c.exchange-2.ensures.3 in let d = c.store.ensures.2 _ (ap (λ z. z.0.own) h ∙ ap (λ z. z.0.own) f) in
+    let kinds : c.store.new.seat.me.0.kinds ≡ c.client.inside.member.seat.me.0.kinds = ap (λ m. m.0.kinds) d ∙ (ap (λ m. m.0.kinds) h ∙ (ap (λ m. m.0.kinds) f ∙ ap (λ m. m.0.kinds) e)) in
+    (λ i. record { table = (c.store.ensures.0 ∙ (c.exchange-2.ensures.0 ∙ (c.fetch_add-ticket.ensures.0 ∙ c.exchange.ensures.0))) i; quota = c.client.inside.member.quota; kinds = kinds i }) ∙ ap (λ k. k.desk) c.client.view_is

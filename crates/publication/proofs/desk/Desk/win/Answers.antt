@@ -33,4 +33,4 @@ pub returns-clause-won : goal.returns-clause-won
 returns-clause-won g c = let t = c.compare_exchange.ensures.2.0 c.if-compare_exchange-ne0.false in let e = c.exchange.ensures in
     let same = same_core _ _ (sym c.in-Core.is ∙ came_out _ _ _ _ _ (ap (λ m. m.1) t.2) e.2) in
     opened g.S.SeqObject.content g.S.SeqObject.op_in g.S.SeqObject.reply_in c.args.client c.args.object t.0 c.in-Core.core t.1 c.client.inside.member.seat.me c.compare_exchange.new.seat.me c.exchange.new.seat.me _ _
-    (sym (ap (λ k. k.knows) c.client.view_is)) t.2 e.3 same t.3 t.4
+    (sym (ap (λ k. k.desk.kinds) c.client.view_is)) (sym (ap (λ k. k.knows) c.client.view_is)) t.2 e.3 same t.3 t.4
