@@ -1,0 +1,46 @@
+-- What is in a client's hand is there once.
+use Rattle.std.proofs.Common.{◌≡◌, ℕ, [], Some, None, IsSome, get_or, ap, sym, ◌∙◌, subst}
+use Rattle.std.proofs.lemmas.Option.{same_Some}
+use Rattle.model.specs.declared.AnyReply.{AnyReply}
+use Rattle.model.specs.Objects.{Content, empty, next}
+use Rattle.world.specs.World.{AnyRequest, picked, kind_at, Replays}
+use Rattle.world.specs.Moves.{answer, put_back}
+use Rattle.world.proofs.SameKind.{replays_once}
+use Rattle.machine.specs.Machines.{State, world_of}
+use Rattle.machine.specs.Runs.{IsImpossible}
+use Rattle.machine.specs.Steps.{CanDo, IsInHand}
+
+-- what a client is said to have in hand is what it has
+pub record IsThat (x r x' r' : ℕ) (q q' : AnyRequest) : Type 0 where
+  pub object : x' ≡ x
+  pub row : r' ≡ r
+  pub request : q' ≡ q
+
+same_picked : (q q' : AnyRequest) → picked q ≡ picked q' → q' ≡ q
+same_picked q q' e = cc
+
+pub same_hand : (s : State) (c x r : ℕ) (q : AnyRequest) → IsInHand s c x r q → (x' r' : ℕ) (q' : AnyRequest) → (world_of s).holder x' ≡ Some c → (world_of s).hand x' ≡ Some r' → (world_of s).stage r' ≡ picked q' → IsThat x r x' r' q q'
+same_hand s c x r q h x' r' q' held hand stage =
+    let o : x' ≡ x = h.only x' held in
+    let w : r' ≡ r = same_Some r' r (sym hand ∙ ap (world_of s).hand o ∙ h.hand) in
+    record { object = o; row = w; request = same_picked q q' (sym h.stage ∙ ap (world_of s).stage (sym w) ∙ stage) }
+
+pub put_back_not : (s : State) (c x r : ℕ) (q : AnyRequest) → IsInHand s c x r q → CanDo s x q.op → IsImpossible s.kinds s.quota (world_of s) (c, put_back)
+put_back_not s c x r q h can after m =
+    let t = m.3 in
+    let i = t.4 in
+    let same = same_hand s c x r q h t.0 t.1 t.2 i.0 i.1 i.2 in
+    let replays : Replays (empty (kind_at s.kinds x)) (get_or s.logs x []) t.3 = subst (λ (y : ℕ). Replays (empty (kind_at s.kinds y)) (get_or s.logs y []) t.3) same.object i.3 in
+    let once : can.0 ≡ t.3 = replays_once (empty (kind_at s.kinds x)) can.0 t.3 (get_or s.logs x []) can.1 replays in
+    let there : IsSome (next t.3 t.2.op) = subst (λ (z : Content). IsSome (next z t.2.op)) once (subst (λ (z : AnyRequest). IsSome (next can.0 z.op)) (sym same.request) can.2) in
+    let none : next t.3 t.2.op ≡ None = t.5 in
+    let no : IsSome {T = Content × AnyReply} None = subst IsSome none there in
+    absurd (cc)
+
+pub answer_not : (s : State) (c x r : ℕ) (q : AnyRequest) → IsInHand s c x r q → (CanDo s x q.op → ⊥) → IsImpossible s.kinds s.quota (world_of s) (c, answer)
+answer_not s c x r q h never after m =
+    let t = m.3 in
+    let i = t.6 in
+    let same = same_hand s c x r q h t.0 t.1 t.2 i.0 i.1 i.2 in
+    let replays : Replays (empty (kind_at s.kinds x)) (get_or s.logs x []) t.3 = subst (λ (y : ℕ). Replays (empty (kind_at s.kinds y)) (get_or s.logs y []) t.3) same.object i.3 in
+    never (t.3, replays, subst (λ (z : AnyRequest). IsSome (next t.3 z.op)) same.request t.7)

@@ -1,0 +1,12 @@
+pub mod Lists
+pub mod States
+pub mod Kept
+pub mod Rows
+pub mod Journals
+pub mod Runs
+pub mod Looks
+pub mod Hands
+pub mod Trying
+pub mod Turns
+pub mod Recording
+pub mod Starting

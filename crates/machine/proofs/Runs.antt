@@ -1,0 +1,62 @@
+-- A run keeps the world sound.
+use Rattle.std.proofs.Common.{◌≡◌, ◌≢◌, ℕ, ◌*◌, ◌<◌, ◌≤◌, Contains, Bool, true, false, List, [], ◌∷◌, nat_lt, if◌then◌else◌, Option, Some, None, All, AllPairs, map, refl, ap, sym, ◌∙◌, subst, arith}
+use Rattle.std.proofs.lemmas.List.Elements.{All-nil}
+use Rattle.model.specs.declared.Kind.{Kind}
+use Rattle.model.specs.Objects.{empty}
+use Rattle.world.specs.World.{AnyEntry, AnyRequest, Stage, absent, idle, picked, World, kind_at, request_of, served_now, journal_of, ticket_of, tickets_drawn, calls_made}
+use Rattle.world.specs.Moves.{Step}
+use Rattle.world.specs.Sound.{Sound, IsAmong, IsInTime}
+use Rattle.world.proofs.Moving.{moves_sound}
+use Rattle.world.proofs.Moved.{clock_few}
+use Rattle.world.proofs.Totals.{total_le}
+use Rattle.machine.specs.Runs.{start_of, Leads, IsRun}
+
+-- a client is idle or has not come
+begun : Bool → Stage
+begun b = if b then idle else absent
+
+no_request : (b : Bool) → request_of (if b then idle else absent) ≡ None
+no_request true = refl
+no_request false = refl
+
+nothing_served : (x c : ℕ) (b : Bool) → served_now x c (if b then idle else absent) ≡ []
+nothing_served x c true = refl
+nothing_served x c false = refl
+
+not_picked : (b : Bool) (q : AnyRequest) → (if b then idle else absent) ≢ picked q
+not_picked true q e = absurd (cc)
+not_picked false q e = absurd (cc)
+
+pub start_sound : (kinds : List Kind) (quota n : ℕ) → Sound kinds quota (start_of n)
+start_sound kinds quota n = record {
+  legal = λ x. (empty (kind_at kinds x), refl);
+  counted = λ c x. sym (nothing_served x c (nat_lt c n));
+  in_hand = λ x r e. absurd (cc);
+  picked_up = λ r q e. absurd (not_picked (nat_lt r n) q e);
+  empty_hand = λ x e. refl;
+  fitting = λ c q e. let f : None ≡ Some q = sym (no_request (nat_lt c n)) ∙ e in absurd (cc);
+  early = λ x. All-nil (λ (e : AnyEntry). e.ticket < 0);
+  drawn = let none = total_le (λ c. tickets_drawn [] (request_of ((start_of n).stage c))) 32 0 (λ c l. let e = ap (tickets_drawn []) (no_request (nat_lt c n)) in omega arith) in omega arith;
+  within = λ c. let e = ap (calls_made []) (no_request (nat_lt c n)) in omega arith;
+  journals = record {
+    tickets = record {
+      rising = λ c. subst (λ (q : Option AnyRequest). AllPairs (λ t u. t < u) (map ticket_of (journal_of [] q))) (sym (no_request (nat_lt c n))) (λ i j d l m. absurd (omega arith));
+      below = λ c. subst (λ (q : Option AnyRequest). All (λ t. t < 0) (map ticket_of (journal_of [] q))) (sym (no_request (nat_lt c n))) (All-nil (λ t. t < 0));
+      apart = λ c d t h. let h' = subst (λ (q : Option AnyRequest). Contains (map ticket_of (journal_of [] q)) t) (no_request (nat_lt c n)) h in let l = h'.1 in absurd (omega arith);
+      each = λ t l. absurd (omega arith);
+    };
+    on_objects = λ c. subst (λ (q : Option AnyRequest). All (IsAmong kinds) (journal_of [] q)) (sym (no_request (nat_lt c n))) (All-nil (IsAmong kinds));
+    in_time = λ c. All-nil (IsInTime (start_of n) c);
+    not_come = λ c e. refl;
+  };
+}
+
+leads_sound : (kinds : List Kind) (quota : ℕ) (w : World) (ms : List (ℕ × Step)) (after : World) → Leads kinds quota w ms after → Sound kinds quota w → Sound kinds quota after
+leads_sound kinds quota w [] after l k = subst (Sound kinds quota) (sym l) k
+leads_sound kinds quota w (m ∷ ms) after l k = leads_sound kinds quota l.0 ms after l.2 (moves_sound kinds quota m.1 w l.0 m.0 l.1 k)
+
+pub run_sound : (kinds : List Kind) (n quota : ℕ) (w : World) → IsRun kinds n quota w → Sound kinds quota w
+run_sound kinds n quota w r = leads_sound kinds quota (start_of n) r.0 w r.1 (start_sound kinds quota n)
+
+pub run_few : (kinds : List Kind) (n quota : ℕ) (w : World) → IsRun kinds n quota w → w.clock ≤ 64 * quota
+run_few kinds n quota w r = clock_few kinds quota w (run_sound kinds n quota w r)

@@ -1,0 +1,29 @@
+use Rattle.std.proofs.Common.{ap}
+use Rattle.world.specs.Moves as world
+use Rattle.machine.specs.Steps.{step_in}
+use Rattle.machine.proofs.Trying.{not_now}
+use Rattle.machine.proofs.machine.Machine.step.Goals as goal
+
+pub returns-in-Post-clause-not_now : goal.returns-in-Post-clause-not_now
+returns-in-Post-clause-not_now g c = not_now g.S.SeqObject.reply_in _ _ c.args.client _ world.post c.post.result (ap (step_in g.S.SeqObject.op_in) c.in-Post.is) c.post.ensures
+
+pub returns-in-Win-clause-not_now : goal.returns-in-Win-clause-not_now
+returns-in-Win-clause-not_now g c = not_now g.S.SeqObject.reply_in _ _ c.args.client _ (world.win c.in-Win.object) c.win.result (ap (step_in g.S.SeqObject.op_in) c.in-Win.is) c.win.ensures
+
+pub returns-in-Pick-clause-not_now : goal.returns-in-Pick-clause-not_now
+returns-in-Pick-clause-not_now g c = not_now g.S.SeqObject.reply_in _ _ c.args.client _ (world.pick c.in-Pick.row) c.pick.result (ap (step_in g.S.SeqObject.op_in) c.in-Pick.is) c.pick.ensures
+
+pub returns-in-Answer-clause-not_now : goal.returns-in-Answer-clause-not_now
+returns-in-Answer-clause-not_now g c = not_now g.S.SeqObject.reply_in _ _ c.args.client _ world.answer c.answer.result (ap (step_in g.S.SeqObject.op_in) c.in-Answer.is) c.answer.ensures
+
+pub returns-in-PutBack-clause-not_now : goal.returns-in-PutBack-clause-not_now
+returns-in-PutBack-clause-not_now g c = not_now g.S.SeqObject.reply_in _ _ c.args.client _ world.put_back c.put_back.result (ap (step_in g.S.SeqObject.op_in) c.in-PutBack.is) c.put_back.ensures
+
+pub returns-in-Take-clause-not_now : goal.returns-in-Take-clause-not_now
+returns-in-Take-clause-not_now g c = not_now g.S.SeqObject.reply_in _ _ c.args.client _ world.take c.take.result (ap (step_in g.S.SeqObject.op_in) c.in-Take.is) c.take.ensures
+
+pub returns-in-Release-clause-not_now : goal.returns-in-Release-clause-not_now
+returns-in-Release-clause-not_now g c = not_now g.S.SeqObject.reply_in _ _ c.args.client _ world.release c.release.result (ap (step_in g.S.SeqObject.op_in) c.in-Release.is) c.release.ensures
+
+pub returns-in-End-clause-not_now : goal.returns-in-End-clause-not_now
+returns-in-End-clause-not_now g c = not_now g.S.SeqObject.reply_in _ _ c.args.client _ world.end c.end.result (ap (step_in g.S.SeqObject.op_in) c.in-End.is) c.end.ensures

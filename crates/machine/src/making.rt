@@ -1,0 +1,72 @@
+//! A new machine.
+
+ghost use Rattle.std.specs.Prelude.{◌≡◌, ◌<◌, [], length, map, replicate, All, IfOk};
+ghost use Rattle.model.specs.Objects.{empty, kind_with};
+ghost use Rattle.recorder.specs.Records.{items_of};
+ghost use Rattle.machine.specs.Machines.{clients_of, world_of};
+ghost use Rattle.machine.specs.Runs.{start_of};
+
+use crate::machine::Machine;
+use crate::step::Stage;
+use seq_objects::SeqObject;
+use std::alloc::{AllocError, Global};
+
+// The value so many times.
+fn copies<T: Copy + Drop>(alloc: Global, count: usize, value: T) -> Result<Vec<T>, AllocError>
+    ensures { IfOk result (λ v. v.items ≡ replicate count value) }
+{
+    let mut values = Vec::new(alloc);
+    'copying: while values.len() < count {
+        values.push(value)?;
+    }
+    Ok(values)
+}
+
+// So many empty lists.
+fn lists<T: Drop>(alloc: Global, count: usize) -> Result<Vec<Vec<T>>, AllocError>
+    ensures { IfOk result (λ v. items_of v.items ≡ replicate count []) }
+{
+    let mut lists = Vec::new(alloc);
+    'listing: while lists.len() < count {
+        lists.push(Vec::new(alloc))?;
+    }
+    Ok(lists)
+}
+
+impl<S: SeqObject> Machine<S> {
+    /// A machine for these objects, which are empty, and so many clients, each of which may make so many calls. All
+    /// clients are idle, and nothing has happened.
+    pub fn new(
+        alloc: Global,
+        objects: Vec<S>,
+        clients: u32,
+        quota: u32,
+    ) -> Result<Machine<S>, AllocError>
+        requires objects { (0 < length objects.items) × (length objects.items < 17) × All (λ o. S.content o ≡ empty (kind_with (S.content o))) objects.items }
+        requires clients { (0 < clients) × (clients < 33) }
+        requires quota { quota < 10001 }
+        ensures kinds { IfOk result (λ m. m.kinds ≡ map (λ o. kind_with (S.content o)) objects.items) }
+        ensures counts { IfOk result (λ m. (clients_of m ≡ clients) × (m.quota ≡ quota)) }
+        ensures start { IfOk result (λ m. world_of m ≡ start_of clients) }
+    {
+        let count = objects.len();
+        let rows = clients as usize;
+        let logs = lists(alloc, count)?;
+        let holders = copies(alloc, count, None)?;
+        let hands = copies(alloc, count, None)?;
+        let stages = copies(alloc, rows, Stage::Idle)?;
+        let journals = lists(alloc, rows)?;
+        let ended = copies(alloc, rows, false)?;
+        Ok(Machine {
+            objects,
+            logs,
+            holders,
+            hands,
+            stages,
+            journals,
+            ended,
+            clock: 0,
+            quota,
+        })
+    }
+}
