@@ -73,6 +73,7 @@ for_more kinds q n journals logs more s = let few = s.few in record {
   history = s.history;
   denoted = s.denoted;
   well_formed = s.well_formed;
+  legal = s.legal;
   agree = s.agree;
   valid = s.valid;
 }

@@ -64,5 +64,5 @@ pub record Ran (w : Work) (r : Recorded AnyOp AnyReply) : Type 0 where
   pub done : List AnyDone
   pub says : journal_at r 0 ≡ journal_of done None
   pub accounts : (x : ℕ) → entries_of 0 (log_at r x) ≡ served x 0 done
-  -- the journals of all clients are a well-formed history, and each log is a valid order of the calls on its object
+  -- the journals of all clients are a well-formed history, and each log is legal, and a valid order of the calls on its object
   pub sound : IsSoundRecord w.kinds 10000 (journal_at r) (log_at r)

@@ -47,7 +47,7 @@ impl<S: SeqObject> Machine<S> {
     pub fn step(&mut self, client: u32, step: Step<S::Op>) -> Result<Outcome<S::Reply>, StepFault>
         ensures taken { OnOk result (IsTaken self.old client (step_in S.op_in step) self.new) }
         ensures outcome { IfOk result (IsOutcome S.reply_in self.old client (step_in S.op_in step) self.new) }
-        // With `taken`: it is refused as not possible now exactly where it is possible in no way.
+        // With `taken`, and but for want of memory at a draw: refused as not possible now exactly where it is not.
         ensures not_now { IfErr result (λ e. e ≡ StepFault.NotNow → IsImpossible self.old.kinds self.old.quota (world_of self.old) (client, step_in S.op_in step)) }
         ensures memory { IfErr result (λ e. e ≡ StepFault.NoMemory → IsDraw (step_in S.op_in step)) }
         ensures unchanged { OnErr result (self.new ≡ self.old) }

@@ -1,8 +1,8 @@
 //! A desk: sequential objects served to many threads by flat combining, with one log an object.
 //!
 //! A client posts a call in its row and polls for the answer. Whoever wins an object serves the requests of all rows
-//! for it. No call waits: each takes a few atomic steps on the words of one table, and goes on to the next whatever it
-//! found. Between `win` and `release` the client holds the object, and others who try to win it are told so.
+//! for it. No call waits: each takes at most so many atomic steps on the words of one table, whatever it finds there.
+//! Between `win` and `release` the client holds the object, and others who try to win it are told so.
 //! Hendler, Incze, Shavit, Tzafrir, "Flat Combining and the Synchronization-Parallelism Tradeoff", SPAA 2010.
 #![tactic(auto)]
 

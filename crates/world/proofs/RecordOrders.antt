@@ -151,6 +151,7 @@ sound_record kinds quota w k = record {
   history = history w k.journals.tickets;
   denoted = history_denoted w k.journals.tickets;
   well_formed = history_well_formed w k.journals.tickets;
+  legal = k.legal;
   agree = λ x. all_from_in (λ e. Contains (journal_in w e.client) (Invoked e.ticket x e.op)) (w.log x)
       (λ e i. contains_from_in (journal_in w e.client) (Invoked e.ticket x e.op) (sources kinds quota w k x e i).invocation);
   valid = valid kinds quota w k;

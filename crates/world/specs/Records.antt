@@ -6,7 +6,7 @@ use Rattle.model.specs.Histories.{Inv, Res, process_of}
 use Rattle.model.specs.Orders.{Numbered, IsHistory, IsValidOrder, calls_on}
 use Rattle.world.specs.declared.Answer.TheVariants.{Reply, Refused}
 use Rattle.world.specs.declared.JournalEvent.TheVariants.{Invoked, Returned}
-use Rattle.world.specs.World.{AnyEntry, AnyEvent, kind_at, ticket_of}
+use Rattle.world.specs.World.{AnyEntry, AnyEvent, kind_at, ticket_of, IsLegal}
 use Rattle.world.specs.Sound.{ShareOut, IsAmong}
 
 -- The journal of the client c denotes these events: its calls in turn, the last one perhaps pending, and none of those
@@ -27,12 +27,12 @@ pub record IsHistoryOf (journals : ℕ → List AnyEvent) (h : List Numbered) : 
 abbrev pub order_of : List AnyEntry → List ℤ
 order_of log = map (λ e. pos e.ticket) log
 
--- the record of objects of these kinds, and of 32 clients at most, each with this quota of calls
+-- The record of objects of these kinds, and of clients with this quota of calls.
 pub record IsSoundRecord (kinds : List Kind) (quota : ℕ) (journals : ℕ → List AnyEvent) (logs : ℕ → List AnyEntry) : Type 0 where
   -- the tickets in the journals are the numbers below some number, each once
   pub count : ℕ
   pub tickets : ShareOut count (λ c. map ticket_of (journals c))
-  -- they are no more than two for each call of each client's quota
+  -- they are no more than 64 for each call of the quota: two for each call of 32 clients
   pub few : count ≤ 64 * quota
   -- each call, a refused or pending one too, is on an object that is there, and of its kind
   pub on_objects : (c : ℕ) → All (IsAmong kinds) (journals c)
@@ -40,6 +40,8 @@ pub record IsSoundRecord (kinds : List Kind) (quota : ℕ) (journals : ℕ → L
   pub history : List Numbered
   pub denoted : IsHistoryOf journals history
   pub well_formed : IsHistory history
+  -- each log is legal: its replies are those that `next` gives
+  pub legal : (x : ℕ) → IsLegal (kind_at kinds x) (logs x)
   -- each entry of a log is of a call in its client's journal
   pub agree : (x : ℕ) → All (λ e. Contains (journals e.client) (Invoked e.ticket x e.op)) (logs x)
   -- each log is a valid order of the calls on its object
