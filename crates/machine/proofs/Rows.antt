@@ -141,6 +141,10 @@ module _ {S O R : Type 0} (content : S → Content) (op_in : O → AnyOp) (reply
       journals = sym (ap (map (map (event_in op_in reply_in))) grew ∙ seen_grown (event_in op_in reply_in) (items_of m.journals.items) c e) i;
     }
 
+    -- the journals are as they were
+    pub unticked : (js : List (List (JournalEvent O R))) → js ≡ items_of m.journals.items → record (state_in m) { journals = map (map (event_in op_in reply_in)) js } ≡ now
+    unticked js e = (λ i. record (state_in m) { journals = map (map (event_in op_in reply_in)) (e i) }) ∙ same
+
     pub call_done : (x : ℕ) (op : O) (js : List (List (JournalEvent O R))) (n : ℕ) → js ≡ set (items_of m.journals.items) c (get_or (items_of m.journals.items) c [] ++ Invoked m.clock x op ∷ []) → n ≡ m.clock + 1
         → IsGoing now c → (world_of now).stage c ≡ world.idle → calls_made ((world_of now).done c) None < now.quota → x < length now.kinds → kind_of (op_in op) ≡ kind_at now.kinds x
         → IsMachine (map content m.objects.items) (state_ticked js (Drawn (record { object = x; ticket = m.clock; op = op })) n) × IsTaken now c (draw_call x (op_in op)) (state_ticked js (Drawn (record { object = x; ticket = m.clock; op = op })) n)

@@ -3,7 +3,7 @@ use Rattle.std.specs.Prelude.{◌≡◌, ℕ, ◌<◌, true, false, List, map, l
 use Rattle.model.specs.declared.AnyOp.{AnyOp}
 use Rattle.model.specs.declared.AnyReply.{AnyReply}
 use Rattle.model.specs.Objects.{Content, empty, kind_of, next}
-use Rattle.world.specs.World.{AnyRequest, picked, answered, kind_at, Replays}
+use Rattle.world.specs.World.{World, AnyRequest, picked, answered, kind_at, Replays}
 use Rattle.world.specs.Moves as world
 use Rattle.world.specs.Moves.{Moves}
 use Rattle.world.specs.Images.{answer_in}
@@ -43,6 +43,10 @@ pub record IsInHand (s : State) (c x r : ℕ) (q : AnyRequest) : Type 0 where
 -- after the log of x, an object of its kind can do the operation
 abbrev pub CanDo : State → ℕ → AnyOp → Type 0
 CanDo s x op = (content : Content) × Replays (empty (kind_at s.kinds x)) ((world_of s).log x) content × IsSome (next content op)
+
+-- the client c can take the step
+abbrev pub IsPossible : State → ℕ → world.Step → Type 0
+IsPossible s c w = (after : World) × Moves s.kinds s.quota w (world_of s) c after
 
 -- the client c has left
 abbrev pub HasEnded : State → ℕ → Type 0
@@ -96,8 +100,8 @@ module _ {R : Type 0} (reply_in : R → AnyReply) where
   IsOutcome s c w s' outcome.Done = ⊤
   IsOutcome s c w s' o = ⊥
 
-  -- The step was taken; or it is possible in no way; or memory was refused at a draw. If it was not taken nothing has changed.
+  -- The step was taken; or it is possible in no way; or memory was refused at a draw that is possible. If it was not taken nothing has changed.
   abbrev pub Tries : State → ℕ → world.Step → Result (Outcome R) StepFault → State → Type 0
   Tries s c w (Ok o) s' = IsTaken s c w s' × IsOutcome s c w s' o
   Tries s c w (Err fault.NotNow) s' = (s' ≡ s) × IsImpossible s.kinds s.quota (world_of s) (c, w)
-  Tries s c w (Err fault.NoMemory) s' = (s' ≡ s) × IsDraw w
+  Tries s c w (Err fault.NoMemory) s' = (s' ≡ s) × IsDraw w × IsPossible s c w
