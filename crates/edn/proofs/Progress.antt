@@ -20,7 +20,7 @@ use Rattle.edn.proofs.Splits.{after_gap, after_begins}
 use Rattle.edn.proofs.Kept.{StateFits, step_fits}
 use Rattle.edn.proofs.Closing.{IsGrounded, step_grounded, closable}
 use Rattle.edn.specs.Sound.{BeginWith, IsSoundAt}
-use Rattle.edn.proofs.Lexical.{with_rest, mapped_pair, skip_within, first_shorter, after_token_shorter}
+use Rattle.edn.proofs.Lexical.{with_rest, mapped_pair, skip_within, first_shorter}
 use Rattle.std.proofs.lemmas.Str.{IsUtf8-nil}
 use Rattle.edn.proofs.Next.{gap_of, FirstIs, first_is, IsNextOf, next_is, next_from, ending_next}
 
@@ -156,19 +156,49 @@ stops text rest here s h some e p ds k = by_first (first here) refl e
     by_first bad f e = no_token text rest s (next_at rest here h ∙ f) p ds k
     by_first (got t r) f e = no_step text rest t r s (next_at rest here h ∙ f) (unmapped_pair (step t s) r e) p ds k
 
--- nothing is wrong up to a token that can be taken
-sound_by : (text here : List ℕ) (o : Option (State × List ℕ)) → IsUtf8 text → length here ≤ length text → ((z : State) (r : List ℕ) → o ≡ Some (z, r) → Progress text r z × (length r < length here))
-    → IsSome o → IsSoundAt (length text - length here) text
-sound_by text here None u w h k = absurd cc
-sound_by text here (Some x) u w h k =
-    let p = h x.0 x.1 refl in
-    let f = closable x.0.inner x.0.outer p.0.grounded p.0.fits.inner p.0.fits.outer p.0.fits.room in
-    record { utf8 = u; forms = f.forms; fit = f.fit; tokens = consumed x.0; more = f.more; are_first = f.parts; rest = x.1; begins = p.0.begins; ends_behind = omega (arith, w, p.1) }
+-- nothing is wrong up to a token that is taken, nor with it
+sound_at : (text rest : List ℕ) (b : ℕ) (bs : List ℕ) (t : Token) (r : List ℕ) (s z : State) → skip rest ≡ b ∷ bs → IsUtf8 text → Progress text rest s
+    → first (b ∷ bs) ≡ got t r → step t s ≡ Some z → IsSoundAt (length text - length (b ∷ bs)) text
+sound_at text rest b bs t r s z h u p f e =
+    let q = goes_on text rest t r s z (next_at rest (b ∷ bs) (sym h) ∙ f) e p in
+    let stands : Begins (b ∷ bs) t r = subst (FirstIs (b ∷ bs)) f (first_is (b ∷ bs)) in
+    let parts : consumed z ≡ consumed s ++ t ∷ [] = step_tokens t s z (plain (b ∷ bs) t r stands) e in
+    let g = gap_of rest b bs h in
+    let c = closable z.inner z.outer q.grounded q.fits.inner q.fits.outer q.fits.room in
+    let within : length (b ∷ bs) ≤ length text = omega (arith, ap length h, skip_within rest, p.within) in
+    record {
+      utf8 = u;
+      forms = c.forms;
+      fit = c.fit;
+      before = consumed s;
+      token = t;
+      more = c.more;
+      are_first = c.parts ∙ ap (λ (ts : List Token). ts ++ c.more) parts ∙ append_assoc (consumed s) (t ∷ []) c.more;
+      gap = g.0;
+      here = b ∷ bs;
+      rest = r;
+      begins = subst (λ (x : List ℕ). BeginWith (consumed s) text x) g.2 p.begins;
+      is_gap = g.1;
+      stands = stands;
+      stands_at = omega (arith, within);
+    }
+
+none_first : (t : Token) (r : List ℕ) → first [] ≡ got t r → ⊥
+unfolding first
+none_first t r e = cc
 
 pub sound : (text rest here : List ℕ) (s : State) → here ≡ skip rest → IsUtf8 text → Progress text rest s → IsSome (after_token s (first here)) → IsSoundAt (length text - length here) text
-sound text rest here s h u p k =
-    let w : length here ≤ length text = omega (arith, ap length h, skip_within rest, p.within) in
-    sound_by text here (after_token s (first here)) u w (λ z r e. (turns text rest here s z r h e p, after_token_shorter here s z r e)) k
+sound text rest here s h u p k = by_first here (first here) h refl k
+  where
+    by_step : (here : List ℕ) (t : Token) (r : List ℕ) (o : Option State) → here ≡ skip rest → first here ≡ got t r → step t s ≡ o → IsSome (option_map (with_rest r) o) → IsSoundAt (length text - length here) text
+    by_step here t r None h f e k = absurd cc
+    by_step [] t r (Some z) h f e k = absurd (none_first t r f)
+    by_step (b ∷ bs) t r (Some z) h f e k = sound_at text rest b bs t r s z (sym h) u p f e
+
+    by_first : (here : List ℕ) (n : Next) → here ≡ skip rest → first here ≡ n → IsSome (after_token s n) → IsSoundAt (length text - length here) text
+    by_first here end h f k = absurd cc
+    by_first here bad h f k = absurd cc
+    by_first here (got t r) h f k = by_step here t r (step t s) h f refl k
 
 -- ---- a string is no key
 

@@ -1,9 +1,9 @@
 -- A text in which nothing is wrong up to some byte.
-use Rattle.std.specs.Prelude.{◌≡◌, ℕ, ◌+◌, ◌<◌, List, [], ◌∷◌, ◌++◌, length}
+use Rattle.std.specs.Prelude.{◌≡◌, ℕ, ◌+◌, List, [], ◌∷◌, ◌++◌, length}
 use Rattle.std.specs.Str.{IsUtf8}
 use Rattle.edn.specs.Datum.{Datum, ItemsFit, items_of, max_open}
 use Rattle.edn.specs.Token.{Token, items_tokens}
-use Rattle.edn.specs.Spells.{IsNext}
+use Rattle.edn.specs.Spells.{IsGap, Begins, IsNext}
 
 -- The bytes begin with these tokens, and this rest follows them.
 abbrev pub BeginWith : List Token → List ℕ → List ℕ → Type 0
@@ -11,14 +11,19 @@ BeginWith [] bytes rest = bytes ≡ rest
 BeginWith (t ∷ ts) bytes rest = (behind : List ℕ) × IsNext bytes t behind × BeginWith ts behind rest
 
 -- The text is UTF-8, and begins with the first tokens of some forms, in which keys are distinct and
--- no bracket lies too deep. The last of these tokens ends behind the byte at this place.
+-- no bracket lies too deep. The last of these tokens stands at this place, behind separators and comments.
 pub record IsSoundAt (place : ℕ) (text : List ℕ) : Type 0 where
   pub utf8 : IsUtf8 text
   pub forms : List Datum
   pub fit : ItemsFit max_open (items_of forms)
-  pub tokens : List Token
+  pub before : List Token
+  pub token : Token
   pub more : List Token
-  pub are_first : items_tokens (items_of forms) ≡ tokens ++ more
+  pub are_first : items_tokens (items_of forms) ≡ before ++ token ∷ more
+  pub gap : List ℕ
+  pub here : List ℕ
   pub rest : List ℕ
-  pub begins : BeginWith tokens text rest
-  pub ends_behind : place + length rest < length text
+  pub begins : BeginWith before text (gap ++ here)
+  pub is_gap : IsGap gap
+  pub stands : Begins here token rest
+  pub stands_at : place + length here ≡ length text

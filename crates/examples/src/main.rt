@@ -2,7 +2,7 @@
 #![tactic(auto)]
 
 use edn::Out;
-use judging::{line, perform};
+use commands::{line, perform};
 use std::io::Write;
 use std::process::ExitCode;
 use std::rt::Files;

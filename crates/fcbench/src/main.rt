@@ -1,8 +1,8 @@
 //! `fcbench`: judges histories of concurrent objects.
 #![tactic(auto)]
 
+use commands::{FAILED, Line, LineFault, NO_MEMORY, USAGE, line, perform, status_of_fault};
 use edn::{MAX_LENGTH, Out};
-use judging::{FAILED, Line, LineFault, NO_MEMORY, line, perform};
 use std::io;
 use std::io::Read;
 use std::process::ExitCode;
@@ -17,9 +17,6 @@ impl<R: Files + AllocGlobal + Print + Eprint + Threads + Wait + Sync> Host for R
 
 /// One byte more than the longest text that is judged.
 const READ_LIMIT: u64 = MAX_LENGTH as u64 + 1;
-
-/// The exit status where the command line is refused.
-const USAGE: u8 = 64;
 
 /// The bytes of a file, to its end or to the limit.
 fn bytes_of<R: Files + Alloc>(rt: &R, name: &str) -> io::Result<Vec<u8, R::A>> {
@@ -73,16 +70,18 @@ fn run_line<R: Host>(rt: &R, line: &Line) -> io::Result<u8> {
 fn run_words<R: Host>(rt: &R, words: &[String]) -> io::Result<u8> {
     match line(rt.alloc(), words) {
         Ok(line) => run_line(rt, &line),
-        Err(LineFault::Help(text)) => {
-            rt.print(text.as_str())?;
-            Ok(0)
-        }
-        Err(LineFault::Refused(text)) => {
-            rt.eprint(text.as_str())?;
-            Ok(USAGE)
-        }
-        Err(LineFault::NoMemory) => no_memory(rt),
+        Err(fault) => explain(rt, &fault),
     }
+}
+
+/// Says why the words ask for nothing: help goes to standard output.
+fn explain<R: Print + Eprint>(rt: &R, fault: &LineFault) -> io::Result<u8> {
+    match fault {
+        LineFault::Help(text) => rt.print(text.as_str())?,
+        LineFault::Refused(text) => rt.eprint(text.as_str())?,
+        LineFault::NoMemory => rt.println("out of memory")?,
+    }
+    Ok(status_of_fault(fault))
 }
 
 /// The words of the command line, the program's name first.

@@ -1,9 +1,5 @@
 pub mod Texts
 pub mod Verdicts
-pub mod Statuses
-pub mod Words
-pub mod RecordLines
-pub mod Runs
 pub use Rattle.model.specs.Linearizable
 pub use Rattle.events.specs.Events
 pub use Rattle.checker.specs.Refusals

@@ -1,8 +1,9 @@
 -- What a history's text and a certificates' text denote, and what is wrong with a text that denotes nothing.
-use Rattle.std.specs.Prelude.{◌≡◌, ◌≢◌, ℕ, ◌<◌, ◌≤◌, ◌↔◌, ⊤, List, length, map}
+use Rattle.std.specs.Prelude.{◌≡◌, ◌≢◌, ℕ, ◌+◌, ◌<◌, ◌≤◌, ◌↔◌, ◌⊎◌, List, length, map, take}
 use Rattle.report.specs.declared.verdict.Summary.{Summary}
 use Rattle.report.specs.Counts.{operations_in, objects_in, kinds_in, uses, count_of}
 use Rattle.edn.specs.Datum.{Datum, max_length}
+use Rattle.edn.specs.Sound.{IsSoundAt}
 use Rattle.edn.specs.Spells.{Spells}
 use Rattle.edn.specs.declared.fault.EdnFault.{EdnFault}
 use Rattle.edn.specs.declared.fault.FaultKind.TheVariants.{TooLong}
@@ -63,20 +64,29 @@ abbrev pub IsStopOf : Fault → Stop → Type 0
 IsStopOf fault (Stopped f) = (f ≡ fault) × ¬ (WantsMemory fault)
 IsStopOf fault NoMemory = WantsMemory fault
 
+-- Nothing is wrong with the text of a history as far as it was looked at: up to a token and with it, or, where it spells
+-- forms, up to one of them and with it.
+abbrev pub IsHistorySound : List ℕ → Type 0
+IsHistorySound h = IsShort h × (((place : ℕ) × IsSoundAt place h) ⊎ ((ds : List Datum) × Spells ds h × (map : ℕ) × (map < length ds) × history_fault.IsFaultless (take (map + 1) ds)))
+
+-- the same of the text of certificates
+abbrev pub AreCertificatesSound : List ℕ → Type 0
+AreCertificatesSound c = IsShort c × (((place : ℕ) × IsSoundAt place c) ⊎ ((ds : List Datum) × Spells ds c × (form : ℕ) × certificate_fault.IsSoundAt ds form))
+
 -- what stops the reading of a history's text, or of a certificates' text
 abbrev pub IsHistoryFault : List ℕ → Stop → Type 0
 IsHistoryFault h (Stopped (HistoryText e)) = IsUnreadable h e
 IsHistoryFault h (Stopped (HistoryMaps f)) = IsShort h × (ds : List Datum) × Spells ds h × history_fault.IsFirstFault ds f
 IsHistoryFault h (Stopped (CertificateText e)) = ⊥
 IsHistoryFault h (Stopped (CertificateForms f)) = ⊥
-IsHistoryFault h NoMemory = ⊤
+IsHistoryFault h NoMemory = IsHistorySound h
 
 abbrev pub IsCertificatesFault : List ℕ → Stop → Type 0
 IsCertificatesFault c (Stopped (HistoryText e)) = ⊥
 IsCertificatesFault c (Stopped (HistoryMaps f)) = ⊥
 IsCertificatesFault c (Stopped (CertificateText e)) = IsUnreadable c e
 IsCertificatesFault c (Stopped (CertificateForms f)) = IsShort c × (ds : List Datum) × Spells ds c × certificate_fault.IsFirstFault ds f
-IsCertificatesFault c NoMemory = ⊤
+IsCertificatesFault c NoMemory = AreCertificatesSound c
 
 -- The fault of the first text that has one, the history being looked at first: the text is too long, spells nothing, or
 -- spells forms of which this is the first fault.
@@ -85,6 +95,11 @@ IsFirstFault h c (HistoryText e) = IsUnreadable h e
 IsFirstFault h c (HistoryMaps f) = IsShort h × (ds : List Datum) × Spells ds h × history_fault.IsFirstFault ds f
 IsFirstFault h c (CertificateText e) = IsShort h × ((es : List Event) × DenotesHistory h es) × IsUnreadable c e
 IsFirstFault h c (CertificateForms f) = IsShort h × ((es : List Event) × DenotesHistory h es) × IsShort c × (ds : List Datum) × Spells ds c × certificate_fault.IsFirstFault ds f
+
+-- Nothing is wrong with the texts as far as they were looked at, the history first: with the history's, or, where it
+-- denotes a history, with the certificates'; or both denote.
+abbrev pub AreSoundSoFar : List ℕ → List ℕ → Type 0
+AreSoundSoFar h c = IsHistorySound h ⊎ (IsShort h × ((es : List Event) × DenotesHistory h es) × (AreCertificatesSound c ⊎ (IsShort c × ((cs : List Certificate) × DenotesCertificates c cs))))
 
 -- The texts denote a history, and certificates that are valid: one for each object that the history names, none
 -- besides. Neither is too long to be read.
@@ -119,10 +134,8 @@ abbrev pub verdict_of : Stop → Verdict
 verdict_of (Stopped f) = Malformed f
 verdict_of NoMemory = verdict.NoMemory
 
--- the counts are those of the history that the text denotes
-pub record HasCounts (h : List ℕ) (s : Summary) : Type 0 where
-  pub client_events : List Event
-  pub history_text : DenotesHistory h client_events
-  pub operations : s.operations ≡ length (operations_in client_events)
-  pub objects : s.objects ≡ length (objects_in (uses client_events))
-  pub kinds : s.kinds.items ≡ map (count_of client_events) (kinds_in (uses client_events))
+-- the counts are those of these client events
+pub record AreCountsOf (es : List Event) (s : Summary) : Type 0 where
+  pub operations : s.operations ≡ length (operations_in es)
+  pub objects : s.objects ≡ length (objects_in (uses es))
+  pub kinds : s.kinds.items ≡ map (count_of es) (kinds_in (uses es))

@@ -6,8 +6,8 @@ ghost use Rattle.model.specs.Orders.{events};
 ghost use Rattle.events.specs.Events.{kind_at, denoted};
 ghost use Rattle.certificate.specs.Denotes.{AreDistinct};
 ghost use Rattle.checker.specs.Refusals.{AreValid, IsFirstRefusal};
-ghost use Rattle.judging.specs.Texts.{AreValidTexts, IsLinearizableText, IsFirstRefusalText, IsFirstFault, HasCounts, verdict_of};
-ghost use Rattle.judging.specs.Verdicts.{OnYes, IfYes, IfNo, IfMalformed, IsYesUnlessMemory};
+ghost use Rattle.judging.specs.Texts.{AreValidTexts, IsLinearizableText, verdict_of};
+ghost use Rattle.judging.specs.Verdicts.{Judges, OnYes, IsYesUnlessMemory};
 
 use crate::texts::{Stop, certificates_in, history_in};
 use certificate::Certificate;
@@ -17,11 +17,19 @@ use locality::named_objects;
 use report::{Verdict, summary};
 use std::alloc::Global;
 
-/// Checks the certificates. Where they are valid the history is linearizable.
-fn check(alloc: Global, history: &History, certificates: &[Certificate]) -> Result<(), Refusal>
+/// Checks the certificates of a history. Where they are valid the history is linearizable.
+///
+/// `Ok` exactly where each object that the history names has a valid order, and no other object has a certificate; else
+/// the first refusal. `NoMemory` says nothing.
+pub fn judge_history(
+    alloc: Global,
+    history: &History,
+    certificates: &[Certificate],
+) -> Result<(), Refusal>
+    // no object has two certificates
     requires { AreDistinct certificates.now }
-    ensures valid { OnOk result (AreValid history.now certificates.now) }
     ensures linearizable { OnOk result (IsLinearizable (kind_at history.now) (events (denoted history.now))) }
+    ensures valid { OnOk result (AreValid history.now certificates.now) }
     ensures refused { IfErr result (IsFirstRefusal history.now certificates.now) }
     ensures exact { AreValid history.now certificates.now → IfErr result (λ e. e ≡ Refusal.NoMemory) }
 {
@@ -39,16 +47,13 @@ fn check(alloc: Global, history: &History, certificates: &[Certificate]) -> Resu
 /// before a later invocation; it answers No only with the first fault that truly stands in the certificates.
 ///
 /// The history's text comes first, then what its maps say, then the certificates' text, its forms, and the check; the
-/// first fault is the answer. `NoMemory` says nothing of the texts. One thread does the work, whatever the number of
+/// first fault is the answer. `NoMemory` says that nothing was found to be wrong before. One thread does the work, whatever the number of
 /// `workers`. Linearizability is that of Herlihy and Wing, TOPLAS 1990, section 2.
 pub fn judge(alloc: Global, history: &[u8], certificates: &[u8], workers: u32) -> Verdict
     ensures linearizable { OnYes result (IsLinearizableText history.now) }
-    ensures counts { IfYes result (HasCounts history.now) }
-    ensures valid { OnYes result (AreValidTexts history.now certificates.now) }
-    // With `valid`: Yes is answered exactly where both texts denote and the certificates are valid, but for want of memory.
+    ensures judges { Judges history.now certificates.now result }
+    // With `judges`: Yes is answered exactly where both texts denote and the certificates are valid, but for want of memory.
     ensures accepts { AreValidTexts history.now certificates.now → IsYesUnlessMemory result }
-    ensures refused { IfNo result (IsFirstRefusalText history.now certificates.now) }
-    ensures malformed { IfMalformed result (IsFirstFault history.now certificates.now) }
 {
     let _ = workers;
     let client_events = match history_in(alloc, history) {
@@ -59,7 +64,7 @@ pub fn judge(alloc: Global, history: &[u8], certificates: &[u8], workers: u32) -
         Ok(orders) => orders,
         Err(stop) => return stopped(stop),
     };
-    match check(alloc, &client_events, &orders) {
+    match judge_history(alloc, &client_events, &orders) {
         Ok(()) => match summary(alloc, &client_events) {
             Ok(summary) => Verdict::Yes(summary),
             Err(_) => Verdict::NoMemory,

@@ -1,0 +1,12 @@
+use Rattle.std.proofs.Common.{rules, ◌≡◌, ◌∙◌, ap₂, codes}
+use Rattle.std.proofs.lemmas.Result.{IfOk-weaker}
+use Rattle.clap.specs.Words.{app_of, new_app, rule_of, with_rule}
+use Rattle.commands.specs.Words as spec
+use Rattle.commands.proofs.parsing.check_command.Goals as goal
+
+pub returns-clause-shape : goal.returns-clause-shape
+returns-clause-shape c =
+    let history_is : rule_of c.required-history.result ≡ spec.required (codes "HISTORY") = search rules in
+    let certs_is : rule_of c.required-certs.result ≡ spec.required (codes "CERTS") = search rules in
+    let start_is : app_of c.about.result ≡ new_app (codes "check") = search rules in
+    IfOk-weaker c.arg-2.result _ _ (λ r h. h.shape (search rules) ∙ ap₂ with_rule (c.in_ok-arg.ensures.shape (search rules) ∙ ap₂ with_rule start_is history_is) certs_is) c.arg-2.ensures

@@ -1,0 +1,172 @@
+mod runs;
+mod table;
+mod two_clients;
+
+use super::*;
+use edn::{Out, Sink};
+use std::alloc::Global;
+use std::io;
+use std::io::Write;
+use std::process::Abort;
+use std::sync::Wait;
+use std::test::Fail;
+use std::thread::Threads;
+use table::{MALFORMED, NO, Row, TWO_ORDERS, TWO_QUEUES, YES};
+
+fn checking(alloc: Global) -> Result<Line, Fail> {
+    match line(alloc, &["fcbench", "check", "h.edn", "c.edn"]) {
+        Ok(line) => Ok(line),
+        Err(_) => Err(Fail::new("the words of a check are refused")),
+    }
+}
+
+/// Checks that the texts of each row are answered as it says, with this exit status.
+fn check_rows<R: AllocGlobal + Abort + Threads + Wait + Sync>(
+    rt: &R,
+    rows: &[Row],
+    expected: u8,
+) -> Result<(), Fail> {
+    let check = checking(rt.alloc())?;
+    for row in rows {
+        let mut sink = Out::new(Vec::new(rt.alloc()));
+        let (history, certificates) = (row.history.as_bytes(), row.certificates.as_bytes());
+        let status = perform(rt, rt.alloc(), &check, history, certificates, &mut sink);
+        assert_eq!(rt;
+            sink.into_inner().as_slice(),
+            row.output.as_bytes(),
+            "{}",
+            row.name
+        );
+        assert_eq!(rt; status, expected, "{}", row.name);
+    }
+    Ok(())
+}
+
+#[test]
+fn yes(rt: HostRuntime) -> Result<(), Fail> {
+    check_rows(&rt, &YES, 0)
+}
+
+#[test]
+fn no(rt: HostRuntime) -> Result<(), Fail> {
+    check_rows(&rt, &NO, 1)
+}
+
+#[test]
+fn malformed(rt: HostRuntime) -> Result<(), Fail> {
+    check_rows(&rt, &MALFORMED, 2)
+}
+
+/// Whether a check of these texts is answered in whole lines, and not for want of memory.
+fn is_answered<R: AllocGlobal + Threads + Wait + Sync>(
+    rt: &R,
+    check: &Line,
+    history: &[u8],
+    certificates: &[u8],
+) -> bool {
+    let mut sink = Out::new(Vec::new(rt.alloc()));
+    let status = perform(rt, rt.alloc(), check, history, certificates, &mut sink);
+    status < 3 && sink.into_inner().as_slice().ends_with(b"\n")
+}
+
+#[test]
+fn beginnings_of_texts(rt: HostRuntime) -> Result<(), Fail> {
+    let check = checking(rt.alloc())?;
+    let (history, certificates) = (TWO_QUEUES.as_bytes(), TWO_ORDERS.as_bytes());
+    for k in 0..history.len() {
+        assert!(rt;
+            is_answered(&rt, &check, &history[..k], certificates),
+            "at {k}"
+        );
+    }
+    for k in 0..certificates.len() {
+        assert!(rt;
+            is_answered(&rt, &check, history, &certificates[..k]),
+            "at {k}"
+        );
+    }
+    Ok(())
+}
+
+#[test]
+fn too_many_maps(rt: HostRuntime) -> Result<(), Fail> {
+    let check = checking(rt.alloc())?;
+    let mut history = Vec::new(rt.alloc());
+    for _ in 0..500_000 {
+        history.extend_from_slice(b"{:process 0, :type :invoke, :f :enqueue, :value 1}\n")?;
+        history.extend_from_slice(b"{:process 0, :type :ok, :f :enqueue, :value 1}\n")?;
+    }
+    history.extend_from_slice(b"{:process 0, :type :invoke, :f :enqueue, :value 1}\n")?;
+    let mut sink = Out::new(Vec::new(rt.alloc()));
+    let status = perform(&rt, rt.alloc(), &check, &history, b"", &mut sink);
+    let output = sink.into_inner();
+    assert_eq!(rt;
+        output.as_slice(),
+        b"malformed history: H9 at map 1000000\n".as_slice()
+    );
+    assert_eq!(rt; status, 2);
+    Ok(())
+}
+
+/// A text of one byte too long is refused before anything in it is looked at, be it UTF-8 or not.
+#[test]
+fn too_long(rt: HostRuntime) -> Result<(), Fail> {
+    let check = checking(rt.alloc())?;
+    let long = vec![in rt.alloc(); 0xff; 268_435_457]?;
+    for (history, certificates, expected) in [
+        (
+            long.as_slice(),
+            b"".as_slice(),
+            "malformed history: E10 at byte 0\n",
+        ),
+        (
+            b"".as_slice(),
+            long.as_slice(),
+            "malformed certificates: E10 at byte 0\n",
+        ),
+    ] {
+        let mut sink = Out::new(Vec::new(rt.alloc()));
+        let status = perform(&rt, rt.alloc(), &check, history, certificates, &mut sink);
+        assert_eq!(rt; sink.into_inner().as_slice(), expected.as_bytes());
+        assert_eq!(rt; status, 2);
+    }
+    Ok(())
+}
+
+#[test]
+fn words(rt: HostRuntime) -> Result<(), Fail> {
+    let expected = Line::Check {
+        history: String::from_str(rt.alloc(), "h.edn")?,
+        certs: String::from_str(rt.alloc(), "c.edn")?,
+    };
+    assert_eq!(rt; checking(rt.alloc())?, expected);
+    let marked = match line(rt.alloc(), &["fcbench", "check", "--", "-h.edn", "c.edn"]) {
+        Ok(line) => line,
+        Err(_) => return Err(Fail::new("words after `--` are refused")),
+    };
+    let expected = Line::Check {
+        history: String::from_str(rt.alloc(), "-h.edn")?,
+        certs: String::from_str(rt.alloc(), "c.edn")?,
+    };
+    assert_eq!(rt; marked, expected);
+    for run in [&["fcbench", "run"][..], &["fcbench", "run", "--"]] {
+        assert!(rt; matches!(line(rt.alloc(), run), Ok(Line::Run)));
+    }
+    for refused in [
+        &["fcbench"][..],
+        &["fcbench", "check", "h.edn"],
+        &["fcbench", "judge"],
+        &["fcbench", "run", "h.edn"],
+        &["fcbench", "run", "--", "--"],
+        &["fcbench", "--", "run"],
+    ] {
+        assert!(rt; matches!(line(rt.alloc(), refused), Err(LineFault::Refused(_))));
+    }
+    assert!(rt;
+        matches!(
+            line(rt.alloc(), &["fcbench", "--help"]),
+            Err(LineFault::Help(_))
+        )
+    );
+    Ok(())
+}
