@@ -1,12 +1,11 @@
 -- Operations as calls.
-use Rattle.std.proofs.Common.{◌≡◌, ℕ, suc, zero, ◌+◌, ◌<◌, ◌≤◌, ◌≢◌, ◌&&◌, Bool, true, false, cond, List, [], ◌∷◌, Option, Some, None, IsSome, is_some, length, map, filter, count_by, take, get_or, add-one, inl, All, Any, refl, ap, sym, ◌∙◌, subst, arith}
+use Rattle.std.proofs.Common.{◌≡◌, ℕ, suc, zero, ◌+◌, ◌<◌, ◌≤◌, ◌≢◌, ◌&&◌, Bool, true, false, cond, List, [], ◌∷◌, Some, None, IsSome, is_some, length, map, filter, count_by, take, get_or, add-one, inl, All, Any, refl, ap, sym, ◌∙◌, subst, arith}
 use Rattle.std.specs.List.{cons_option}
 use Rattle.std.specs.List.Sorted.{IsPermutation}
 use Rattle.std.proofs.lemmas.Option.{same_Some}
 use Rattle.std.proofs.lemmas.List.Sorted.{length_permutation, All-permutation, sum_by-IsPermutation}
 use Rattle.std.proofs.lemmas.List.{length-map, take_all}
 use Rattle.std.proofs.lemmas.List.Sums.{length-filter, count_by_more_yes, count_by_more_no}
-use Rattle.model.specs.declared.Kind.{Kind}
 use Rattle.model.specs.declared.AnyOp.{AnyOp}
 use Rattle.model.specs.declared.AnyOp.TheVariants.{Dequeue}
 use Rattle.model.specs.Objects.{kind_of}
@@ -63,7 +62,7 @@ abbrev pub returns : Invocation → Bool
 returns o = is_some (return_of o.«end»)
 
 -- what `call_at` reads behind the end
-abbrev none : Invocation
+abbrev pub none : Invocation
 none = record { number = 0; op = Dequeue; «end» = Pending }
 
 by_owed : (x b : Bool) → (x && true) ≡ b → x ≡ b
@@ -98,6 +97,11 @@ count-owed ops items left p e = e ∙ sym (count_kept ops) ∙ sym (sum_by-IsPer
 pub some_returned : (ops : List Invocation) → count_by returns ops ≢ 0 → Any (λ c. IsSome c.returned) (calls_of ops)
 some_returned ops ne = go (filter returns ops) refl
   where
+    happened : (number : ℕ) (op : AnyOp) (e : End) → is_some (return_of e) ≡ true → is_some (call_with number op e) ≡ true
+    happened number op (Returned at r) q = refl
+    happened number op Pending q = refl
+    happened number op Failed q = absurd (cc q)
+
     found : (o : Invocation) → In o (filter returns ops) → Any (λ c. IsSome c.returned) (calls_of ops)
     found o i =
         let here = in_filter returns o ops i in
@@ -105,11 +109,6 @@ some_returned ops ne = go (filter returns ops) refl
         let call = subst (In (as_call o)) (sym (calls-filter ops)) (in_map_from as_call o (filter happens ops) (in_filter_from happens o ops here (happened o.number o.op o.«end» yes))) in
         let k = contains_from_in (calls_of ops) (as_call o) call in
         (k.0, as_call o, k.1, k.2, yes)
-
-    happened : (number : ℕ) (op : AnyOp) (e : End) → is_some (return_of e) ≡ true → is_some (call_with number op e) ≡ true
-    happened number op (Returned at r) q = refl
-    happened number op Pending q = refl
-    happened number op Failed q = absurd (cc q)
 
     go : (os : List Invocation) → filter returns ops ≡ os → Any (λ c. IsSome c.returned) (calls_of ops)
     go [] e = absurd (ne (sym (length-filter returns ops) ∙ ap length e))
@@ -119,8 +118,8 @@ pub none_returned : (ops : List Invocation) → count_by returns ops ≡ 0 → (
 none_returned ops e c r i q =
     let m = in_map as_call c (filter happens ops) (subst (In c) (calls-filter ops) i) in
     let yes : returns m.0 ≡ true = ap (λ (x : Call). is_some x.returned) (sym m.2) ∙ ap is_some q in
-    nothing (filter returns ops) (length-filter returns ops ∙ e) (in_filter_from returns m.0 ops (in_filter happens m.0 ops m.1) yes)
+    nothing m.0 (filter returns ops) (length-filter returns ops ∙ e) (in_filter_from returns m.0 ops (in_filter happens m.0 ops m.1) yes)
   where
-    nothing : {o : Invocation} (os : List Invocation) → length os ≡ 0 → In o os → ⊥
-    nothing [] e i = i
-    nothing (o ∷ os) e i = absurd (omega arith)
+    nothing : (o : Invocation) (os : List Invocation) → length os ≡ 0 → In o os → ⊥
+    nothing o [] e i = i
+    nothing o (x ∷ os) e i = absurd (omega arith)

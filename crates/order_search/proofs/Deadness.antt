@@ -1,13 +1,13 @@
 -- Beginnings of orders, what completes them, and beginnings that nothing completes. There are n calls, by place.
 -- A beginning is the list of its places, the last one first.
-use Rattle.std.proofs.Common.{◌≡◌, ◌≢◌, ℕ, zero, suc, ◌<◌, ◌≤◌, ◌⊎◌, inl, inr, List, [], ◌∷◌, Option, Some, None, IfSome, IsSome, refl, ap, sym, ◌∙◌, subst, arith}
+use Rattle.std.proofs.Common.{◌≡◌, ◌≢◌, ℕ, ◌<◌, inl, inr, List, [], ◌∷◌, Option, Some, None, IfSome, IsSome, refl, ap, sym, ◌∙◌, subst}
 use Rattle.std.proofs.lemmas.Option.{same_Some}
-use Rattle.std.proofs.lemmas.Bool.{cases_eq, cases_order}
+use Rattle.std.proofs.lemmas.Bool.{cases_order}
 use Rattle.model.specs.declared.AnyReply.{AnyReply}
 use Rattle.model.specs.Objects.{Content, next}
 use Rattle.model.specs.Orders.{Call, Return, ReturnsBefore, RepliesAlong}
 use Rattle.model.proofs.Lists.{In, Pairs}
-use Rattle.order_search.specs.Continuations.{IsLeft, IsCandidate, NoneReturned, Places, Continues, IsDead, IsDeadAt, IsTried, Describes, IsDeadPair}
+use Rattle.order_search.specs.Continuations.{IsLeft, IsCandidate, Places, Continues, IsDead, IsDeadAt, IsTried, Describes, IsDeadPair}
 
 pub dead_placed : (n : ℕ) (call : ℕ → Call) (done : List ℕ) (c : Content) (k : ℕ) → In k done → IsDeadAt n call done c k
 dead_placed n call done c k i rest h = h.0.1 i

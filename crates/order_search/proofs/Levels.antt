@@ -1,23 +1,23 @@
 -- Levels that come and go, as the lists of a search are written.
-use Rattle.std.proofs.Common.{◌≡◌, ℕ, suc, add-one, ◌<◌, ◌≤◌, ◌+◌, Bool, true, false, cond, List, [], ◌∷◌, ◌++◌, append_assoc, Option, Some, is_some, length, map, reverse, get_or, All, refl, ap, sym, ◌∙◌, subst, arith}
+use Rattle.std.proofs.Common.{◌≡◌, ℕ, ◌<◌, ◌≤◌, ◌+◌, Bool, true, false, cond, List, [], ◌∷◌, ◌++◌, append_assoc, Some, is_some, length, reverse, get_or, refl, ap, sym, ◌∙◌, subst, arith}
 use Rattle.std.proofs.lemmas.List.{reverse-append, reverse-reverse, map-append, append-nil}
 use Rattle.model.specs.declared.AnyReply.{AnyReply}
 use Rattle.model.specs.Objects.{Content, next, kind_with}
-use Rattle.model.specs.Orders.{Call, Return}
+use Rattle.model.specs.Orders.{Call}
 use Rattle.events.specs.declared.operations.Invocation.{Invocation}
 use Rattle.events.specs.Operations.{return_of}
 use Rattle.order_search.specs.declared.level.Level.{Level}
 use Rattle.order_search.specs.declared.trials.Trials.{Trials}
 use Rattle.order_search.specs.declared.dead.Pair.{Pair}
 use Rattle.order_search.specs.Arranged.{as_call, call_at, owes, count_below}
-use Rattle.order_search.specs.Continuations.{IsLeft, Continues}
+use Rattle.order_search.specs.Continuations.{Continues}
 use Rattle.order_search.specs.Links.{Linked, next_without, before_without}
 use Rattle.order_search.specs.Replies.{Agrees}
 use Rattle.order_search.specs.Searching.{places, IsLeast, Stack, IsWalk, AreDead}
 use Rattle.order_search.proofs.Owed.{none_owed, owes_placed, owes_pending}
 use Rattle.order_search.proofs.Stack.{onto, continued, placed, placed_frame, candidate_now, linked_now, walk_linked, walk_left}
 use Rattle.order_search.proofs.Links.{linked_without}
-use Rattle.order_search.proofs.Steps.{reverse_push, call_read}
+use Rattle.order_search.proofs.Steps.{reverse_push}
 
 -- ---- the first level
 

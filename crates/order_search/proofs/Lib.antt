@@ -6,3 +6,4 @@ pub mod Stack
 pub mod Steps
 pub mod Levels
 pub mod Measure
+pub mod Orders

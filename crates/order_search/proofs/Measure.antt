@@ -1,5 +1,5 @@
 -- The measure of a search falls.
-use Rattle.std.proofs.Common.{◌≡◌, ℕ, ◌<◌, ◌≤◌, ◌+◌, ◌-◌, ◌*◌, subst, sym, ap, arith}
+use Rattle.std.proofs.Common.{◌≡◌, ℕ, ◌<◌, ◌≤◌, ◌+◌, ◌-◌, ◌*◌, subst, sym, arith}
 use Rattle.std.proofs.Math.Nat.{mul-le-mul_left}
 
 one_step : (k n levels levels2 x x2 : ℕ) → levels2 ≤ levels + 1 → x2 ≤ n + 1 → k * (2 * (n + 2)) + levels2 * (n + 2) + x2 < (k + 1) * (2 * (n + 2)) + levels * (n + 2) + x

@@ -1,16 +1,16 @@
 -- What one step of a search keeps, and what its end says.
-use Rattle.std.proofs.Common.{◌≡◌, ◌≢◌, ℕ, zero, suc, ◌<◌, ◌≤◌, ◌⊎◌, inl, inr, List, [], ◌∷◌, Option, Some, get_or, refl, ap, sym, ◌∙◌, subst, arith}
+use Rattle.std.proofs.Common.{◌≡◌, ◌≢◌, ℕ, suc, ◌<◌, ◌≤◌, ◌⊎◌, inl, inr, List, [], ◌∷◌, Some, get_or, refl, ap, sym, ◌∙◌, subst, arith}
 use Rattle.std.proofs.lemmas.Bool.{cases_order}
-use Rattle.model.specs.Objects.{Content, next, kind_with}
+use Rattle.model.specs.Objects.{Content, kind_with}
 use Rattle.model.specs.Orders.{Call, Return}
 use Rattle.model.proofs.Lists.{In}
 use Rattle.order_search.specs.declared.level.Level.{Level}
 use Rattle.order_search.specs.Arranged.{owes, count_below}
 use Rattle.order_search.specs.Continuations.{IsLeft, IsCandidate, Places, Continues, IsDead, IsDeadAt, IsTried}
-use Rattle.order_search.specs.Links.{IsStop, Linked, AreWithin, next_without, before_without, next_with, before_with}
+use Rattle.order_search.specs.Links.{Linked, AreWithin, next_without, before_without, next_with, before_with}
 use Rattle.order_search.specs.Searching.{places, IsLeast, Frame, IsBound, Stack, IsWalk}
 use Rattle.order_search.proofs.Deadness.{dead_placed, dead_late, dead_child, dead_all, tried_more}
-use Rattle.order_search.proofs.Links.{around, Around, linked_without, next_again, before_again, within_after}
+use Rattle.order_search.proofs.Links.{around, linked_without, next_again, before_again, within_after}
 use Rattle.order_search.proofs.Owed.{count_some, owes_left}
 
 -- ---- which places can come next

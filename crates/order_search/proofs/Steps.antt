@@ -1,5 +1,5 @@
 -- Steps of a search, as its lists are written.
-use Rattle.std.proofs.Common.{◌≡◌, ◌≢◌, ℕ, zero, suc, add-one, ◌<◌, ◌≤◌, ◌+◌, Bool, true, false, cond, ◌⊎◌, inl, inr, List, [], ◌∷◌, ◌++◌, append_assoc, Option, Some, IsSome, is_some, length, map, reverse, get_or, slice_get, take, All, AllPairs, refl, ap, sym, ◌∙◌, subst, arith}
+use Rattle.std.proofs.Common.{◌≡◌, ℕ, zero, suc, add-one, ◌<◌, ◌≤◌, ◌+◌, Bool, true, false, cond, ◌⊎◌, inl, inr, List, [], ◌∷◌, ◌++◌, append_assoc, Option, Some, IsSome, is_some, length, map, reverse, get_or, slice_get, take, refl, ap, sym, ◌∙◌, subst, arith}
 use Rattle.std.proofs.lemmas.List.{reverse-append, map-append, get_or_default, append-nil, take_all}
 use Rattle.model.specs.declared.Kind.{Kind}
 use Rattle.model.specs.declared.Kind.TheVariants.{Queue, Heap, Register, Map, Mutex}
@@ -13,13 +13,13 @@ use Rattle.model.proofs.Lists.{In}
 use Rattle.events.specs.declared.operations.Invocation.{Invocation}
 use Rattle.events.specs.Operations.{return_of}
 use Rattle.order_search.specs.declared.level.Level.{Level}
-use Rattle.order_search.specs.Continuations.{IsLeft, IsDead, IsDeadAt, IsDeadPair, Describes}
+use Rattle.order_search.specs.Continuations.{IsLeft, IsDead, IsDeadAt, IsDeadPair}
 use Rattle.order_search.specs.Links.{Linked, IsSlot, IsStop, IsForth, Lists, AreWithin, next_with, before_with, next_without, before_without}
 use Rattle.order_search.specs.Searching.{places, IsBound, IsLeast, Stack, IsWalk}
 use Rattle.order_search.specs.Arranged.{as_call, call_at, owes, count_below, IsArranged}
-use Rattle.order_search.proofs.Links.{around, Around, listed, linked_without, within_before, within_after, next_again, before_again}
+use Rattle.order_search.proofs.Links.{around, listed, linked_without, within_before, within_after, next_again, before_again}
 use Rattle.std.proofs.lemmas.Option.{same_Some}
-use Rattle.order_search.proofs.Stack.{IsLeastBelow, least_more, least_of_all, dead_now, dead_after, dead_at_end, dead_behind, passed, placed, came_back, walk_linked, walk_bound, walk_left}
+use Rattle.order_search.proofs.Stack.{IsLeastBelow, least_more, least_of_all, dead_now, dead_after, dead_at_end, dead_behind, passed, came_back, walk_linked, walk_bound, walk_left}
 use Rattle.order_search.proofs.Owed.{owes_placed, owes_pending}
 
 pub reverse_push : {X : Type 0} (xs : List X) (x : X) → reverse (xs ++ x ∷ []) ≡ x ∷ reverse xs

@@ -1,5 +1,7 @@
 -- What a search answers.
-use Rattle.std.specs.Prelude.{◌≡◌, ℕ, ℤ, ⊤, List}
+use Rattle.std.specs.Prelude.{ℤ, ⊤, List}
+use Rattle.model.specs.declared.Kind.{Kind}
+use Rattle.model.specs.Orders.{Call, IsValidOrder}
 use Rattle.order_search.specs.declared.finding.Outcome.{Outcome}
 use Rattle.order_search.specs.declared.finding.Outcome.TheVariants.{Found, Impossible, OutOfSteps, TooLarge, NoMemory}
 
@@ -11,10 +13,6 @@ IfFound OutOfSteps P = ⊤
 IfFound TooLarge P = ⊤
 IfFound NoMemory P = ⊤
 
--- where nothing can be found, this holds
-abbrev pub IfImpossible : Outcome → Type 0 → Type 0
-IfImpossible (Found order) P = ⊤
-IfImpossible Impossible P = P
-IfImpossible OutOfSteps P = ⊤
-IfImpossible TooLarge P = ⊤
-IfImpossible NoMemory P = ⊤
+-- no order of the calls is valid
+abbrev pub IsNoneValid : Kind → List Call → Type 0
+IsNoneValid kind calls = (order : List ℤ) → IsValidOrder kind calls order → ⊥

@@ -1,5 +1,5 @@
 -- What holds between any two steps of a search.
-use Rattle.std.specs.Prelude.{◌≡◌, ℕ, zero, suc, ◌<◌, ◌≤◌, ◌⊎◌, List, [], ◌∷◌, Some, All, length, map, reverse}
+use Rattle.std.specs.Prelude.{◌≡◌, ℕ, ℤ, pos, ◌<◌, ◌≤◌, ◌⊎◌, List, [], ◌∷◌, Some, All, length, map, reverse}
 use Rattle.model.specs.Objects.{Content, empty, kind_with}
 use Rattle.model.specs.Orders.{Call, Return}
 use Rattle.model.proofs.Lists.{In}
@@ -8,7 +8,7 @@ use Rattle.order_search.specs.declared.trials.Trials.{Trials}
 use Rattle.order_search.specs.declared.dead.Pair.{Pair}
 use Rattle.order_search.specs.declared.walk.State.{State}
 use Rattle.order_search.specs.Arranged.{call_at, owes, count_below, IsArranged}
-use Rattle.order_search.specs.Continuations.{IsLeft, IsCandidate, Places, IsTried, IsDeadPair}
+use Rattle.order_search.specs.Continuations.{IsLeft, IsCandidate, Places, Continues, IsTried, IsDeadPair}
 use Rattle.order_search.specs.Links.{Linked, IsStop, AreWithin, next_with, before_with}
 
 abbrev pub places : List Level → List ℕ
@@ -59,3 +59,9 @@ AreDead content t pairs = All (λ p. IsDeadPair (length t.items.items) (call_at 
 pub record IsSearching {X : Type 0} (content : X → Content) (t : Trials) (s : State X) : Type 0 where
   pub walk : IsWalk (length t.items.items) (call_at t.items.items) (empty t.kind) (reverse s.levels.items) (reverse (map content s.objects.items)) (content s.object) s.undone.next.items s.undone.before.items s.high s.at s.least s.left
   pub dead : AreDead content t s.dead.pairs.items
+
+-- the numbers of an order of places that goes on from nothing
+pub record IsOrderOf (t : Trials) (order : List ℤ) : Type 0 where
+  pub rest : List ℕ
+  pub goes_on : Continues (length t.items.items) (call_at t.items.items) [] (empty t.kind) rest
+  pub numbers : order ≡ map (λ k. pos (call_at t.items.items k).number) rest

@@ -1,4 +1,4 @@
-use Rattle.std.proofs.Common.{◌≡◌, ◌<◌, ◌≤◌, ◌+◌, length, get_or, inl, inr, ap, sym, ◌∙◌, add-one, arith}
+use Rattle.std.proofs.Common.{◌<◌, ◌+◌, length, get_or, inl, inr, ap, ◌∙◌, add-one, arith}
 use Rattle.std.proofs.lemmas.List.{get_or_default}
 use Rattle.order_search.specs.Arranged.{as_call}
 use Rattle.order_search.proofs.Steps.{call_read, next_stop, least_first, least_step, least_last}

@@ -1,4 +1,4 @@
-use Rattle.std.proofs.Common.{◌≡◌, List, filter, ap, sym, ◌∙◌, subst}
+use Rattle.std.proofs.Common.{List, filter, ap, sym, ◌∙◌, subst}
 use Rattle.std.specs.List.Sorted.{IsPermutation}
 use Rattle.events.specs.declared.operations.Invocation.{Invocation}
 use Rattle.order_search.specs.Arranged.{AreFloors, IsArranged}

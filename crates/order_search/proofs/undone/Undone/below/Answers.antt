@@ -1,4 +1,4 @@
-use Rattle.std.proofs.Common.{◌≡◌, ◌<◌, ◌+◌, length, get_or, inl, inr, sym, ◌∙◌, add-one, arith}
+use Rattle.std.proofs.Common.{◌<◌, length, inl, inr, sym, ◌∙◌, arith}
 use Rattle.std.proofs.lemmas.List.{get_or_default}
 use Rattle.order_search.proofs.Steps.{listed_end, below_step}
 use Rattle.order_search.proofs.undone.Undone.below.Goals as goal

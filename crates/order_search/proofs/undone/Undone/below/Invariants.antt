@@ -1,4 +1,4 @@
-use Rattle.std.proofs.Common.{◌≡◌, ℕ, ◌-◌, ◌<◌, ◌≤◌, ◌++◌, List, length}
+use Rattle.std.proofs.Common.{ℕ, ◌-◌, ◌≤◌, ◌++◌, List, length}
 use Rattle.order_search.specs.Links.{Linked, IsSlot, Lists}
 use Rattle.order_search.proofs.undone.Undone.below.Given as goal
 

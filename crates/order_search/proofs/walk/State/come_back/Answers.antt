@@ -1,4 +1,4 @@
-use Rattle.std.proofs.Common.{◌≡◌, ◌<◌, ◌≤◌, ◌+◌, ℕ, length, map, reverse, refl, sym, ap, ◌∙◌, subst, arith}
+use Rattle.std.proofs.Common.{◌<◌, ◌+◌, length, map, reverse, sym, ap, ◌∙◌, subst, arith}
 use Rattle.std.proofs.lemmas.List.{get_or_default, length-set}
 use Rattle.std.proofs.lemmas.List.Elements.{All-push}
 use Rattle.model.specs.Objects.{empty}
@@ -39,8 +39,8 @@ returns-clause-search g c = λ e.
     let d = dead_pair (length t.items.items) (call_at t.items.items) (empty t.kind) (reverse a.levels.items) (reverse (map content a.objects.items)) (content a.object) a.undone.next.items a.undone.before.items a.high a.at a.least a.left c.in_ok-below.field-0.items c.requires.search.walk c.requires.dead_here c.in_ok-below.ensures in
     record {
       walk = back_walk t.items.items c.index.result.now (empty t.kind) a.levels.items c.pop.new.self.items c.in-Some.level (map content a.objects.items) (map content c.pop-2.new.self.items) (content c.in-Some-pop.before) (content c.replace.new.dest) (content a.object) a.undone.next.items a.undone.before.items c.put_back.new.self.next.items c.put_back.new.self.before.items a.high a.at a.least a.left c.index-2.result.now c.one_more-self.result
-      c.in-Some.ensures.items objects c.requires.search.walk c.requires.dead_here
-      (ap content c.replace.ensures.after) c.put_back.ensures.next c.put_back.ensures.before (c.index-2.ensures ∙ get_or_default c.put_back.new.self.next.items (c.in-Some.level.place + 1) _ 0 inside)
-      (ap as_call c.index.ensures ∙ call_read t.items.items c.in-Some.level.place _ p.1) c.one_more-self.ensures;
+          c.in-Some.ensures.items objects c.requires.search.walk c.requires.dead_here
+          (ap content c.replace.ensures.after) c.put_back.ensures.next c.put_back.ensures.before (c.index-2.ensures ∙ get_or_default c.put_back.new.self.next.items (c.in-Some.level.place + 1) _ 0 inside)
+          (ap as_call c.index.ensures ∙ call_read t.items.items c.in-Some.level.place _ p.1) c.one_more-self.ensures;
       dead = rw remembered (All-push (λ p. IsDeadPair (length t.items.items) (call_at t.items.items) p.high p.undone.items (content p.object)) a.dead.pairs.items _ c.requires.search.dead (subst (λ o. IsDeadPair (length t.items.items) (call_at t.items.items) a.high c.in_ok-below.field-0.items (content o)) (sym z) d));
     }

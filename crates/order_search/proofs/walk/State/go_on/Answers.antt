@@ -1,11 +1,10 @@
-use Rattle.std.proofs.Common.{◌≡◌, [], ◌∷◌, ◌++◌, ◌<◌, ◌≤◌, ◌+◌, length, map, reverse, get_or, ap, sym, refl, ◌∙◌, subst, arith}
+use Rattle.std.proofs.Common.{[], ◌∷◌, ◌++◌, length, map, reverse, ap, sym, refl, ◌∙◌, subst, arith}
 use Rattle.std.proofs.lemmas.List.{get_or_default}
 use Rattle.model.specs.Objects.{empty}
 use Rattle.order_search.specs.declared.dead.Pair.{Pair}
 use Rattle.order_search.specs.declared.level.Level.{Level}
 use Rattle.order_search.specs.Arranged.{as_call, call_at}
-use Rattle.order_search.specs.Searching.{places, IsWalk}
-use Rattle.order_search.proofs.Stack.{linked_now}
+use Rattle.order_search.specs.Searching.{IsWalk}
 use Rattle.order_search.proofs.Steps.{hit, walk_within, without_within, walk_again, call_read, map_push}
 use Rattle.order_search.proofs.Levels.{stepped, taken_out, owed_less, onward, over_now}
 use Rattle.order_search.proofs.walk.State.go_on.Goals as goal

@@ -1,4 +1,4 @@
-use Rattle.std.proofs.Common.{◌<◌, ◌+◌, length, map, reverse, ap, ◌∙◌, arith}
+use Rattle.std.proofs.Common.{◌+◌, length, map, reverse, ◌∙◌, arith}
 use Rattle.std.proofs.lemmas.List.{get_or_default}
 use Rattle.model.specs.Objects.{empty}
 use Rattle.order_search.specs.Arranged.{call_at}

@@ -1,10 +1,9 @@
-use Rattle.std.proofs.Common.{◌≡◌, ◌<◌, ◌≤◌, ◌+◌, length, map, reverse, get_or, inl, inr, refl, sym, ap, ◌∙◌, subst, arith}
+use Rattle.std.proofs.Common.{◌<◌, length, map, reverse, inl, inr, sym, ap, ◌∙◌, subst, arith}
 use Rattle.std.specs.Prelude.{IsSome}
 use Rattle.std.proofs.lemmas.List.{get_or_default}
 use Rattle.model.specs.Objects.{empty, kind_of, next}
 use Rattle.model.specs.Orders.{Call}
 use Rattle.order_search.specs.Arranged.{as_call, call_at}
-use Rattle.order_search.specs.Replies.{IsRefused}
 use Rattle.order_search.specs.Searching.{places}
 use Rattle.order_search.proofs.Measure.{step_smaller}
 use Rattle.order_search.proofs.Steps.{kind_now, kind_empty, dead_here, dead_too_late, dead_impossible, dead_refused, call_read}
