@@ -15,7 +15,7 @@ use Rattle.order_search.specs.Arranged.{as_call, call_at}
 use Rattle.order_search.specs.declared.finding.Outcome.{Outcome}
 use Rattle.order_search.specs.declared.finding.Outcome.TheVariants.{Found, Impossible, OutOfSteps, TooLarge, NoMemory}
 use Rattle.order_search.specs.declared.level.Level.{Level}
-use Rattle.order_search.specs.Answers.{IfFound}
+use Rattle.order_search.specs.Outcomes.{IfFound}
 use Rattle.order_search.specs.declared.trials.Trials.{Trials}
 use Rattle.order_search.specs.Continuations.{IsLeft, Continues, IsDead}
 use Rattle.order_search.specs.Searching.{places, IsOrderOf}

@@ -3,7 +3,7 @@ pub mod Replies
 pub mod Links
 pub mod Arranged
 pub mod Searching
-pub mod Answers
+pub mod Outcomes
 pub use Rattle.model.specs.Objects
 pub use Rattle.model.specs.Orders
 pub use Rattle.events.specs.Operations

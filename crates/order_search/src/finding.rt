@@ -7,7 +7,7 @@ ghost use Rattle.model.specs.Objects.{empty};
 ghost use Rattle.model.specs.Orders.{IsValidOrder};
 ghost use Rattle.events.specs.Operations.{calls_of, return_of};
 ghost use Rattle.order_search.specs.Arranged.{call_at, owes, count_below, max_operations};
-ghost use Rattle.order_search.specs.Answers.{IfFound, IsNoneValid};
+ghost use Rattle.order_search.specs.Outcomes.{IfFound, IsNoneValid};
 ghost use Rattle.order_search.specs.Continuations.{IsDead};
 ghost use Rattle.order_search.specs.Searching.{AreTrials, IsOrderOf};
 

@@ -5,7 +5,7 @@ use Rattle.model.specs.Orders.{IsValidOrder}
 use Rattle.events.specs.Operations.{calls_of}
 use Rattle.order_search.specs.declared.finding.Outcome.TheVariants.{Impossible}
 use Rattle.order_search.specs.Arranged.{call_at}
-use Rattle.order_search.specs.Answers.{IfFound, IsNoneValid}
+use Rattle.order_search.specs.Outcomes.{IfFound, IsNoneValid}
 use Rattle.order_search.specs.Continuations.{IsDead}
 use Rattle.order_search.specs.Searching.{IsOrderOf}
 use Rattle.order_search.proofs.Calls.{count-owed}
