@@ -1,0 +1,9 @@
+pub mod Continuations
+pub mod Replies
+pub mod Links
+pub mod Arranged
+pub mod Searching
+pub mod Outcomes
+pub use Rattle.model.specs.Objects
+pub use Rattle.model.specs.Orders
+pub use Rattle.events.specs.Operations

@@ -1,0 +1,18 @@
+-- What a search answers.
+use Rattle.std.specs.Prelude.{ℤ, ⊤, List}
+use Rattle.model.specs.declared.Kind.{Kind}
+use Rattle.model.specs.Orders.{Call, IsValidOrder}
+use Rattle.order_search.specs.declared.finding.Outcome.{Outcome}
+use Rattle.order_search.specs.declared.finding.Outcome.TheVariants.{Found, Impossible, OutOfSteps, TooLarge, NoMemory}
+
+-- where an order was found, this holds of it
+abbrev pub IfFound : Outcome → (List ℤ → Type 0) → Type 0
+IfFound (Found order) P = P order.items
+IfFound Impossible P = ⊤
+IfFound OutOfSteps P = ⊤
+IfFound TooLarge P = ⊤
+IfFound NoMemory P = ⊤
+
+-- no order of the calls is valid
+abbrev pub IsNoneValid : Kind → List Call → Type 0
+IsNoneValid kind calls = (order : List ℤ) → IsValidOrder kind calls order → ⊥

@@ -1,0 +1,67 @@
+-- What holds between any two steps of a search.
+use Rattle.std.specs.Prelude.{◌≡◌, ℕ, ℤ, pos, ◌<◌, ◌≤◌, ◌⊎◌, List, [], ◌∷◌, Some, All, length, map, reverse}
+use Rattle.model.specs.Objects.{Content, empty, kind_with}
+use Rattle.model.specs.Orders.{Call, Return}
+use Rattle.model.proofs.Lists.{In}
+use Rattle.order_search.specs.declared.level.Level.{Level}
+use Rattle.order_search.specs.declared.trials.Trials.{Trials}
+use Rattle.order_search.specs.declared.dead.Pair.{Pair}
+use Rattle.order_search.specs.declared.walk.State.{State}
+use Rattle.order_search.specs.Arranged.{call_at, owes, count_below, IsArranged}
+use Rattle.order_search.specs.Continuations.{IsLeft, IsCandidate, Places, Continues, IsTried, IsDeadPair}
+use Rattle.order_search.specs.Links.{Linked, IsStop, AreWithin, next_with, before_with}
+
+abbrev pub places : List Level → List ℕ
+places ls = map (λ l. l.place) ls
+
+-- the least return among the calls that are left, or a number that is none
+pub record IsLeast (n : ℕ) (call : ℕ → Call) (done : List ℕ) (least : ℕ) : Type 0 where
+  pub below : (j : ℕ) (r : Return) → IsLeft n done j → (call j).returned ≡ Some r → least ≤ r.at
+  pub stands : (least ≡ 4294967295) ⊎ ((j : ℕ) × (r : Return) × IsLeft n done j × ((call j).returned ≡ Some r) × (least ≡ r.at))
+
+-- one level: what was placed, from which content to which
+pub record Frame (n : ℕ) (call : ℕ → Call) (done : List ℕ) (before after : Content) (place least : ℕ) : Type 0 where
+  pub left : IsLeft n done place
+  pub candidate : IsCandidate n call done place
+  pub placed : Places call place before after
+  pub tried : IsTried n call done before place
+  pub is_least : IsLeast n call done least
+  pub of_kind : kind_with before ≡ kind_with after
+
+abbrev pub IsBound : List ℕ → ℕ → Type 0
+IsBound done high = (k : ℕ) → In k done → k < high
+
+-- the levels, the last one first, with the contents before each
+abbrev pub Stack : (n : ℕ) (call : ℕ → Call) → Content → List Level → List Content → Content → List ℕ → List ℕ → ℕ → Type 0
+Stack n call start [] [] c nx pv high = (c ≡ start) × Linked n [] nx pv
+Stack n call start [] (b ∷ bs) c nx pv high = ⊥
+Stack n call start (l ∷ ls) [] c nx pv high = ⊥
+Stack n call start (l ∷ ls) (b ∷ bs) c nx pv high = Frame n call (places ls) b c l.place l.least × Linked n (l.place ∷ places ls) nx pv × IsBound (l.place ∷ places ls) high × AreWithin nx pv l.place × Stack n call start ls bs b (next_with nx pv l.place) (before_with nx pv l.place) l.high
+
+-- ls and bs: the levels and the contents before them, the last one first
+pub record IsWalk (n : ℕ) (call : ℕ → Call) (start : Content) (ls : List Level) (bs : List Content) (c : Content) (nx pv : List ℕ) (high at least left : ℕ) : Type 0 where
+  pub stack : Stack n call start ls bs c nx pv high
+  pub tried : IsTried n call (places ls) c at
+  pub is_least : IsLeast n call (places ls) least
+  pub stop : IsStop n (places ls) at
+  pub counts : left ≡ count_below (owes call (places ls)) n
+  pub owed : 0 < left
+
+-- the operations are arranged for a search
+abbrev pub AreTrials : Trials → Type 0
+AreTrials t = IsArranged t.kind t.items.items t.floors.items
+
+-- each remembered pair is dead
+abbrev pub AreDead : {X : Type 0} → (X → Content) → Trials → List (Pair X) → Type 0
+AreDead content t pairs = All (λ p. IsDeadPair (length t.items.items) (call_at t.items.items) p.high p.undone.items (content p.object)) pairs
+
+-- a search stands between two steps
+pub record IsSearching {X : Type 0} (content : X → Content) (t : Trials) (s : State X) : Type 0 where
+  pub walk : IsWalk (length t.items.items) (call_at t.items.items) (empty t.kind) (reverse s.levels.items) (reverse (map content s.objects.items)) (content s.object) s.undone.next.items s.undone.before.items s.high s.at s.least s.left
+  pub dead : AreDead content t s.dead.pairs.items
+
+-- the numbers of an order of places that goes on from nothing
+pub record IsOrderOf (t : Trials) (order : List ℤ) : Type 0 where
+  pub rest : List ℕ
+  pub goes_on : Continues (length t.items.items) (call_at t.items.items) [] (empty t.kind) rest
+  pub numbers : order ≡ map (λ k. pos (call_at t.items.items k).number) rest

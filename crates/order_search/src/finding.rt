@@ -1,0 +1,149 @@
+//! The search for an order of the operations of one object.
+
+ghost use Rattle.std.specs.Prelude.{◌≡◌, ◌≢◌, ◌<◌, ◌≤◌, ◌↔◌, [], length, All, Any, IsSome, IfOk, map, pos, count_by, is_some};
+ghost use Rattle.model.specs.declared.AnyOp.{AnyOp};
+ghost use Rattle.model.specs.declared.AnyReply.{AnyReply};
+ghost use Rattle.model.specs.Objects.{empty};
+ghost use Rattle.model.specs.Orders.{IsValidOrder};
+ghost use Rattle.events.specs.Operations.{calls_of, return_of};
+ghost use Rattle.order_search.specs.Arranged.{call_at, owes, count_below, max_operations};
+ghost use Rattle.order_search.specs.Outcomes.{IfFound, IsNoneValid};
+ghost use Rattle.order_search.specs.Continuations.{IsDead};
+ghost use Rattle.order_search.specs.Searching.{AreTrials, IsOrderOf};
+
+use crate::level::Level;
+use crate::trials::{Trials, TryFirst, call_count, return_count};
+use crate::walk::{Ending, State};
+use events::{Invocation, ObjectHistory};
+use seq_objects::{AnyObject, AnyOp, AnyReply, SeqObject};
+use std::alloc::{AllocError, Global};
+
+/// How a search ends.
+#[derive(Debug, Drop)]
+pub enum Outcome {
+    /// An order that is valid.
+    Found(Vec<i64>),
+    /// No order is valid.
+    Impossible,
+    /// One more step was wanted.
+    OutOfSteps,
+    /// There are more than 4,096 operations that did not fail.
+    TooLarge,
+    NoMemory,
+}
+
+/// How a search ended, and how many operations it tried.
+#[derive(Debug, Drop)]
+pub struct Attempt {
+    pub outcome: Outcome,
+    pub steps: u64,
+}
+
+/// How many operations a search takes on.
+const MOST: usize = 4096;
+
+/// The numbers of the operations at the places of the levels.
+fn order_of(alloc: Global, items: &[Invocation], levels: &[Level]) -> Result<Vec<i64>, AllocError>
+    requires { All (λ l. l.place < length items.now) levels.now }
+    ensures { IfOk result (λ v. v.items ≡ map (λ l. pos (call_at items.now l.place).number) levels.now) }
+{
+    let mut order = Vec::new(alloc);
+    for level in levels {
+        order.push(i64::from(items[level.place as usize].number))?;
+    }
+    Ok(order)
+}
+
+/// Searches from an object that is empty.
+fn ordered<S: SeqObject<Op = AnyOp, Reply = AnyReply>>(
+    alloc: Global,
+    object: S,
+    trials: &Trials,
+    left: usize,
+    limit: u64,
+    steps: &mut u64,
+) -> Result<Outcome, AllocError>
+    requires own_ops { (op : AnyOp) → S.op_in op ≡ op }
+    requires own_replies { (r : AnyReply) → S.reply_in r ≡ r }
+    requires trials { AreTrials trials.now }
+    requires empty { S.content object ≡ empty trials.now.kind }
+    requires counts { left ≡ count_below (owes (call_at trials.now.items.items) []) (length trials.now.items.items) }
+    requires owed { 0 < left }
+    requires steps { steps.old ≤ limit }
+    ensures steps { steps.new ≤ limit }
+    ensures found { IfOk result (λ o. IfFound o (IsOrderOf trials.now)) }
+    ensures impossible { IfOk result (λ o. o ≡ Outcome.Impossible → IsDead (length trials.now.items.items) (call_at trials.now.items.items) [] (empty trials.now.kind)) }
+    ensures out_of_steps { IfOk result (λ o. o ≡ Outcome.OutOfSteps → steps.new ≡ limit) }
+    ensures decided { IfOk result (λ o. (o ≢ Outcome.TooLarge) × (o ≢ Outcome.NoMemory)) }
+{
+    let mut state = State::begin(alloc, object, trials, left)?;
+    match state.run(alloc, trials, limit, steps)? {
+        Ending::Done => Ok(Outcome::Found(order_of(alloc, &trials.items, &state.levels)?)),
+        Ending::Impossible => Ok(Outcome::Impossible),
+        Ending::OutOfSteps => Ok(Outcome::OutOfSteps),
+    }
+}
+
+/// Searches where some operation returned and there are not too many. Want of memory is an error.
+fn searched(
+    alloc: Global,
+    history: &ObjectHistory,
+    first: TryFirst,
+    left: usize,
+    limit: u64,
+    steps: &mut u64,
+) -> Result<Outcome, AllocError>
+    requires few { length (calls_of history.now.ops) ≤ max_operations }
+    requires counts { left ≡ count_by (λ o. is_some (return_of o.«end»)) history.now.ops }
+    requires owed { 0 < left }
+    requires steps { steps.old ≤ limit }
+    ensures steps { steps.new ≤ limit }
+    ensures found { IfOk result (λ o. IfFound o (IsValidOrder history.now.kind (calls_of history.now.ops))) }
+    ensures impossible { IfOk result (λ o. o ≡ Outcome.Impossible → IsNoneValid history.now.kind (calls_of history.now.ops)) }
+    ensures out_of_steps { IfOk result (λ o. o ≡ Outcome.OutOfSteps → steps.new ≡ limit) }
+    ensures decided { IfOk result (λ o. (o ≢ Outcome.TooLarge) × (o ≢ Outcome.NoMemory)) }
+{
+    // This does nothing. It says that the operations are those of an object's history.
+    history.ops();
+    let trials = Trials::new(alloc, history, first)?;
+    let object = AnyObject::empty(alloc, history.kind());
+    ordered(alloc, object, &trials, left, limit, steps)
+}
+
+/// Searches for an order of the operations that is valid, depth first, in at most so many steps. A step is one
+/// operation tried. Pairs of operations done and content from which nothing goes on are remembered.
+///
+/// That a limit is enough is not promised.
+pub fn find_order(alloc: Global, history: &ObjectHistory, first: TryFirst, limit: u64) -> Attempt
+    ensures found { IfFound result.outcome (IsValidOrder history.now.kind (calls_of history.now.ops)) }
+    ensures impossible { result.outcome ≡ Outcome.Impossible
+        → IsNoneValid history.now.kind (calls_of history.now.ops) }
+    ensures steps { result.steps ≤ limit }
+    ensures out_of_steps { result.outcome ≡ Outcome.OutOfSteps → result.steps ≡ limit }
+    ensures too_large { (result.outcome ≡ Outcome.TooLarge)
+        ↔ (max_operations < length (calls_of history.now.ops)) }
+    // Memory is asked for only where some operation returned.
+    ensures memory { result.outcome ≡ Outcome.NoMemory
+        → Any (λ call. IsSome call.returned) (calls_of history.now.ops) }
+{
+    let operations = history.ops();
+    if call_count(operations) > MOST {
+        return Attempt {
+            outcome: Outcome::TooLarge,
+            steps: 0,
+        };
+    }
+    let left = return_count(operations);
+    if left == 0 {
+        return Attempt {
+            outcome: Outcome::Found(Vec::new(alloc)),
+            steps: 0,
+        };
+    }
+    let mut steps = 0;
+    let outcome = match searched(alloc, history, first, left, limit, &mut steps) {
+        Ok(outcome) => outcome,
+        Err(_) => Outcome::NoMemory,
+    };
+    Attempt { outcome, steps }
+}

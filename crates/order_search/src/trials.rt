@@ -1,0 +1,128 @@
+//! The operations that a search is to order, in the order in which it tries them.
+
+ghost use Rattle.std.specs.Prelude.{◌≡◌, ◌<◌, ◌≤◌, length, IfOk, OnOk, All, AllPairs, filter, count_by, is_some};
+ghost use Rattle.std.specs.List.Sorted.{IsPermutation};
+ghost use Rattle.model.specs.Objects.{kind_of};
+ghost use Rattle.events.specs.Operations.{call_of, calls_of, return_of, IsObjectHistory};
+ghost use Rattle.order_search.specs.Arranged.{AreFloors, IsArranged, max_operations};
+
+use events::{End, Invocation, ObjectHistory};
+use seq_objects::Kind;
+use std::alloc::{AllocError, Global};
+
+/// Which of the operations that can come next in an order is tried first.
+#[derive(Clone, Copy, Debug, PartialEq, Eq)]
+pub enum TryFirst {
+    /// That with the least number.
+    LeastNumber,
+    /// That with the least return. Operations that are pending come last.
+    LeastReturn,
+}
+
+/// The operations of an object of this kind that did not fail, in the order in which they are tried.
+#[derive(Drop)]
+pub(crate) struct Trials {
+    pub kind: Kind,
+    pub items: Vec<Invocation>,
+    /// For each place the least number from there on.
+    pub floors: Vec<u32>,
+}
+
+/// Whether the operation may have happened.
+fn may_have_happened(operation: &Invocation) -> bool
+    ensures { result ≡ is_some (call_of operation.now) }
+{
+    match operation.end {
+        End::Failed => false,
+        _ => true,
+    }
+}
+
+/// Whether the operation returned.
+pub(crate) fn has_returned(end: &End) -> bool
+    ensures { result ≡ is_some (return_of end.now) }
+{
+    match end {
+        End::Returned { .. } => true,
+        _ => false,
+    }
+}
+
+/// How many operations did not fail.
+pub(crate) fn call_count(operations: &[Invocation]) -> usize
+    ensures { result ≡ count_by (λ o. is_some (call_of o)) operations.now }
+{
+    operations.iter().filter(|o| may_have_happened(o)).count()
+}
+
+/// How many operations returned.
+pub(crate) fn return_count(operations: &[Invocation]) -> usize
+    ensures { result ≡ count_by (λ o. is_some (return_of o.«end»)) operations.now }
+{
+    operations.iter().filter(|o| has_returned(&o.end)).count()
+}
+
+/// For each place the least number from there on.
+fn floors_of(alloc: Global, items: &[Invocation]) -> Result<Vec<u32>, AllocError>
+    ensures { IfOk result (λ v. AreFloors items.now v.items) }
+{
+    let mut floors = vec![in alloc; 0u32; items.len()]?;
+    let mut least = u32::MAX;
+    for k in (0..items.len()).rev() {
+        least = least.min(items[k].number);
+        floors[k] = least;
+    }
+    Ok(floors)
+}
+
+/// The number of the return, or one behind all.
+fn return_number(end: &End) -> u64 {
+    match end {
+        End::Returned { at, .. } => u64::from(*at),
+        _ => u64::MAX,
+    }
+}
+
+/// The operations that may have happened.
+fn items_of(alloc: Global, operations: &[Invocation]) -> Result<Vec<Invocation>, AllocError>
+    ensures { IfOk result (λ v. v.items ≡ filter (λ o. is_some (call_of o)) operations.now) }
+{
+    operations
+        .iter()
+        .filter(|o| may_have_happened(o))
+        .copied()
+        .collect(alloc)
+}
+
+/// Puts the operations, which stand by rising number, into the order in which they are tried.
+fn arrange(items: &mut Vec<Invocation>, first: TryFirst) -> Result<(), AllocError>
+    ensures { IsPermutation items.old.items items.new.items }
+{
+    match first {
+        TryFirst::LeastNumber => Ok(()),
+        TryFirst::LeastReturn => items.sort_by_key(|o| return_number(&o.end)),
+    }
+}
+
+impl Trials {
+    pub fn new(
+        alloc: Global,
+        history: &ObjectHistory,
+        first: TryFirst,
+    ) -> Result<Trials, AllocError>
+        requires few { length (calls_of history.now.ops) ≤ max_operations }
+        ensures kind { IfOk result (λ t. t.kind ≡ history.now.kind) }
+        ensures items { IfOk result (λ t. IsPermutation (filter (λ o. is_some (call_of o)) history.now.ops) t.items.items) }
+        ensures arranged { IfOk result (λ t. IsArranged t.kind t.items.items t.floors.items) }
+    {
+        let mut items = items_of(alloc, history.ops())?;
+        arrange(&mut items, first)?;
+        let floors = floors_of(alloc, &items)?;
+        let kind = history.kind();
+        Ok(Trials {
+            kind,
+            items,
+            floors,
+        })
+    }
+}

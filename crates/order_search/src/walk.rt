@@ -1,0 +1,295 @@
+//! The walk through the beginnings of orders.
+
+ghost use Rattle.std.specs.Prelude.{◌≡◌, ◌≢◌, ℕ, ◌+◌, ◌<◌, ◌≤◌, ◌⊎◌, List, length, [], Some, None, IsSome, IfSome, IfOk, OnOk, MatchBool, map, reverse, is_some, true, false, if◌then◌else◌};
+ghost use Rattle.model.specs.declared.AnyOp.{AnyOp};
+ghost use Rattle.model.specs.declared.AnyReply.{AnyReply};
+ghost use Rattle.model.specs.Objects.{empty, next, kind_with};
+ghost use Rattle.model.specs.Orders.{Return};
+ghost use Rattle.events.specs.Operations.{return_of};
+ghost use Rattle.order_search.specs.Arranged.{call_at, owes, count_below};
+ghost use Rattle.order_search.specs.Continuations.{Continues, IsDead, IsDeadAt};
+ghost use Rattle.order_search.specs.Links.{Linked};
+ghost use Rattle.order_search.specs.Replies.{Agrees, Differs, IsRefused};
+ghost use Rattle.order_search.specs.Searching.{places, AreTrials, AreDead, IsLeast, IsSearching};
+
+use crate::dead::{Dead, Pair};
+use crate::digest::Digest;
+use crate::level::Level;
+use crate::trials::{Trials, has_returned};
+use crate::undone::Undone;
+use events::{End, Invocation};
+use seq_objects::{AnyOp, AnyReply, SeqObject};
+use std::alloc::{AllocError, Global};
+use std::mem::replace;
+
+/// How a walk ends.
+#[derive(Clone, Copy, Debug, PartialEq, Eq)]
+pub(crate) enum Ending {
+    /// The levels are an order.
+    Done,
+    Impossible,
+    OutOfSteps,
+}
+
+/// The number at which the operation returned, if that is the least.
+fn earlier(end: &End, least: u32) -> u32
+    ensures below { result ≤ least }
+    ensures own { (r : Return) → return_of end.now ≡ Some r → result ≤ r.at }
+    ensures either { (result ≡ least) ⊎ ((r : Return) × (return_of end.now ≡ Some r) × (result ≡ r.at)) }
+{
+    match end {
+        End::Returned { at, .. } if *at < least => *at,
+        _ => least,
+    }
+}
+
+/// The least return of the operations that are not in the order.
+fn least_return(trials: &Trials, undone: &Undone) -> u32
+    requires trials { AreTrials trials.now }
+    requires linked { (done : List ℕ) × Linked (length trials.now.items.items) done undone.now.next.items undone.now.before.items }
+    ensures { (done : List ℕ) → Linked (length trials.now.items.items) done undone.now.next.items undone.now.before.items → IsLeast (length trials.now.items.items) (call_at trials.now.items.items) done result }
+{
+    let mut least = u32::MAX;
+    let mut at = undone.next[0] as usize;
+    while at < trials.items.len() && trials.floors[at] <= least {
+        least = earlier(&trials.items[at].end, least);
+        at = undone.next[at + 1] as usize;
+    }
+    least
+}
+
+fn is_same(a: AnyReply, b: AnyReply) -> bool
+    ensures { MatchBool result (a ≡ b) (a ≢ b) }
+{
+    a == b
+}
+
+/// Whether the operation returned another reply.
+fn differs(end: &End, gives: AnyReply) -> bool
+    ensures { MatchBool result (Differs (return_of end.now) gives) (Agrees (return_of end.now) gives) }
+{
+    match end {
+        End::Returned { reply, .. } => !is_same(*reply, gives),
+        _ => false,
+    }
+}
+
+/// With this operation in the order, how many are owed.
+fn one_less(left: usize, end: &End) -> usize
+    requires { 0 < left }
+    ensures { left ≡ (if is_some (return_of end.now) then result + 1 else result) }
+{
+    if has_returned(end) { left - 1 } else { left }
+}
+
+/// With this operation no longer in the order, how many are owed.
+fn one_more(left: usize, end: &End) -> usize
+    requires { left < 65536 }
+    ensures { result ≡ (if is_some (return_of end.now) then left + 1 else left) }
+{
+    if has_returned(end) { left + 1 } else { left }
+}
+
+/// The object after the operation, and the reply, where that is the one that the operation returned.
+fn tried<S: SeqObject<Op = AnyOp, Reply = AnyReply>>(
+    object: &S,
+    item: &Invocation,
+) -> Result<Option<(S, AnyReply)>, AllocError>
+    requires own_ops { (op : AnyOp) → S.op_in op ≡ op }
+    requires own_replies { (r : AnyReply) → S.reply_in r ≡ r }
+    requires possible { IsSome (next (S.content object.now) item.now.op) }
+    ensures none { IfOk result (λ o. o ≡ None → IsRefused (S.content object.now) item.now.op (return_of item.now.«end»)) }
+    ensures some { IfOk result (λ o. IfSome o (λ v. (next (S.content object.now) item.now.op ≡ Some (S.content v.0, v.1)) × Agrees (return_of item.now.«end») v.1 × (kind_with (S.content v.0) ≡ kind_with (S.content object.now)))) }
+{
+    let mut after = object.try_copy()?;
+    let gives = after.apply(&item.op)?;
+    if differs(&item.end, gives) {
+        return Ok(None);
+    }
+    Ok(Some((after, gives)))
+}
+
+/// Where a search stands: the order that has begun, and the place that is looked at next.
+#[derive(Drop)]
+pub(crate) struct State<S: SeqObject<Op = AnyOp, Reply = AnyReply>> {
+    pub levels: Vec<Level>,
+    /// The contents before each level.
+    pub objects: Vec<S>,
+    pub object: S,
+    pub undone: Undone,
+    pub dead: Dead<S>,
+    pub digest: Digest,
+    /// All places in the order lie below.
+    pub high: u16,
+    pub at: u16,
+    /// The least return of the operations that are not in the order.
+    pub least: u32,
+    /// How many operations returned and are not in the order.
+    pub left: usize,
+}
+
+impl<S: SeqObject<Op = AnyOp, Reply = AnyReply>> State<S> {
+    /// Before the first step, with an object that is empty.
+    pub fn begin(
+        alloc: Global,
+        object: S,
+        trials: &Trials,
+        left: usize,
+    ) -> Result<State<S>, AllocError>
+        requires trials { AreTrials trials.now }
+        requires empty { S.content object ≡ empty trials.now.kind }
+        requires counts { left ≡ count_below (owes (call_at trials.now.items.items) []) (length trials.now.items.items) }
+        requires owed { 0 < left }
+        ensures search { IfOk result (λ s. IsSearching S.content trials.now s) }
+        ensures levels { IfOk result (λ s. s.levels.items ≡ []) }
+    {
+        let undone = Undone::all(alloc, trials.items.len() as u16)?;
+        let least = least_return(trials, &undone);
+        let at = undone.next[0];
+        Ok(State {
+            levels: Vec::new(alloc),
+            objects: Vec::new(alloc),
+            object,
+            undone,
+            dead: Dead::new(alloc),
+            digest: Digest::new(),
+            high: 0,
+            at,
+            least,
+            left,
+        })
+    }
+
+    /// Goes on to the next place.
+    fn pass(&mut self, trials: &Trials)
+        requires trials { AreTrials trials.now }
+        requires search { IsSearching S.content trials.now self.old }
+        requires at { self.old.at < length trials.now.items.items }
+        requires dead_at { IsDeadAt (length trials.now.items.items) (call_at trials.now.items.items) (places (reverse self.old.levels.items)) (S.content self.old.object) self.old.at }
+        ensures search { IsSearching S.content trials.now self.new }
+        ensures rises { self.old.at < self.new.at }
+        ensures levels { self.new.levels ≡ self.old.levels }
+    {
+        let _ = trials;
+        self.at = self.undone.next[self.at as usize + 1];
+    }
+
+    /// Puts the operation into the order, if that leads to no pair that is dead. Whether the order is done.
+    fn go_on(&mut self, trials: &Trials, after: S, gives: AnyReply) -> Result<bool, AllocError>
+        requires trials { AreTrials trials.now }
+        requires search { IsSearching S.content trials.now self.old }
+        requires at { self.old.at < length trials.now.items.items }
+        requires in_time { (call_at trials.now.items.items self.old.at).number ≤ self.old.least }
+        requires does { next (S.content self.old.object) (call_at trials.now.items.items self.old.at).op ≡ Some (S.content after, gives) }
+        requires agrees { Agrees (call_at trials.now.items.items self.old.at).returned gives }
+        requires of_kind { kind_with (S.content after) ≡ kind_with (S.content self.old.object) }
+        ensures search { IfOk result (λ over. over ≡ false → IsSearching S.content trials.now self.new) }
+        ensures over { IfOk result (λ over. over ≡ true → Continues (length trials.now.items.items) (call_at trials.now.items.items) [] (empty trials.now.kind) (map (λ l. l.place) self.new.levels.items)) }
+        ensures deep { length self.new.levels.items ≤ length self.old.levels.items + 1 }
+    {
+        let place = self.at;
+        let item = &trials.items[place as usize];
+        let digest = self.digest.after(place, &item.op, &gives);
+        let high = self.high.max(place + 1);
+        self.undone.take_out(place);
+        if self.dead.holds(digest.hash(), high, &self.undone, &after) {
+            self.undone.put_back(place);
+            self.pass(trials);
+            return Ok(false);
+        }
+        self.levels.push(Level {
+            place,
+            least: self.least,
+            high: self.high,
+            digest: self.digest,
+        })?;
+        self.objects.push(replace(&mut self.object, after))?;
+        self.left = one_less(self.left, &item.end);
+        if self.left == 0 {
+            return Ok(true);
+        }
+        self.digest = digest;
+        self.high = high;
+        self.least = least_return(trials, &self.undone);
+        self.at = self.undone.next[0];
+        Ok(false)
+    }
+
+    /// Remembers where the search stands as dead, and goes back to the level before. Whether there is one.
+    fn come_back(&mut self, alloc: Global, trials: &Trials) -> Result<bool, AllocError>
+        requires trials { AreTrials trials.now }
+        requires search { IsSearching S.content trials.now self.old }
+        requires dead_here { IsDead (length trials.now.items.items) (call_at trials.now.items.items) (places (reverse self.old.levels.items)) (S.content self.old.object) }
+        ensures search { IfOk result (λ more. more ≡ true → IsSearching S.content trials.now self.new) }
+        ensures none { IfOk result (λ more. more ≡ false → IsDead (length trials.now.items.items) (call_at trials.now.items.items) [] (empty trials.now.kind)) }
+        ensures back { IfOk result (λ more. more ≡ true → length self.old.levels.items ≡ length self.new.levels.items + 1) }
+    {
+        let Some(level) = self.levels.pop() else {
+            return Ok(false);
+        };
+        let Some(before) = self.objects.pop() else {
+            return Ok(false);
+        };
+        let pair = Pair {
+            hash: self.digest.hash(),
+            high: self.high,
+            undone: self.undone.below(alloc, self.high)?,
+            object: replace(&mut self.object, before),
+        };
+        self.dead.remember(alloc, pair)?;
+        self.undone.put_back(level.place);
+        self.left = one_more(self.left, &trials.items[level.place as usize].end);
+        self.digest = level.digest;
+        self.high = level.high;
+        self.least = level.least;
+        self.at = self.undone.next[level.place as usize + 1];
+        Ok(true)
+    }
+
+    /// Goes on with orders, depth first, till one is done or none is left. A step is one operation tried.
+    pub fn run(
+        &mut self,
+        alloc: Global,
+        trials: &Trials,
+        limit: u64,
+        steps: &mut u64,
+    ) -> Result<Ending, AllocError>
+        requires own_ops { (op : AnyOp) → S.op_in op ≡ op }
+        requires own_replies { (r : AnyReply) → S.reply_in r ≡ r }
+        requires trials { AreTrials trials.now }
+        requires search { IsSearching S.content trials.now self.old }
+        requires none { self.old.levels.items ≡ [] }
+        requires steps { steps.old ≤ limit }
+        ensures steps { steps.new ≤ limit }
+        ensures over { IfOk result (λ e. e ≡ Ending.Done → Continues (length trials.now.items.items) (call_at trials.now.items.items) [] (empty trials.now.kind) (map (λ l. l.place) self.new.levels.items)) }
+        ensures impossible { IfOk result (λ e. e ≡ Ending.Impossible → IsDead (length trials.now.items.items) (call_at trials.now.items.items) [] (empty trials.now.kind)) }
+        ensures out { IfOk result (λ e. e ≡ Ending.OutOfSteps → steps.new ≡ limit) }
+    {
+        loop {
+            let at = self.at as usize;
+            if at >= trials.items.len() || trials.floors[at] > self.least {
+                if !self.come_back(alloc, trials)? {
+                    return Ok(Ending::Impossible);
+                }
+                continue;
+            }
+            let item = &trials.items[at];
+            if item.number > self.least || !self.object.possible(&item.op) {
+                self.pass(trials);
+                continue;
+            }
+            if *steps == limit {
+                return Ok(Ending::OutOfSteps);
+            }
+            *steps += 1;
+            match tried(&self.object, item)? {
+                None => self.pass(trials),
+                Some((after, gives)) => {
+                    if self.go_on(trials, after, gives)? {
+                        return Ok(Ending::Done);
+                    }
+                }
+            }
+        }
+    }
+}

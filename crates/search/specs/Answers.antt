@@ -1,0 +1,68 @@
+-- What a search answers of an object, and of all objects of a history.
+use Rattle.std.specs.Prelude.{◌≡◌, ℕ, ◌<◌, ◌≤◌, ◌↔◌, ⊤, List, length, Option, Some, None, IsSome, All, Any}
+use Rattle.std.specs.List.{filter_map}
+use Rattle.model.specs.declared.Kind.{Kind}
+use Rattle.model.specs.Orders.{Call, IsValidOrder, calls_on}
+use Rattle.events.specs.declared.event.Event.{Event}
+use Rattle.events.specs.Events.{kind_at, denoted}
+use Rattle.certificate.specs.declared.Certificate.{Certificate}
+use Rattle.order_search.specs.Arranged.{max_operations}
+use Rattle.order_search.specs.Outcomes.{IsNoneValid}
+use Rattle.order_search.specs.declared.finding.Outcome.{Outcome}
+use Rattle.order_search.specs.declared.finding.Outcome.TheVariants as outcome
+use Rattle.search.specs.declared.found.Search.{Search}
+use Rattle.search.specs.declared.found.Found.{Found}
+use Rattle.search.specs.declared.found.Found.TheVariants.{Impossible, OutOfSteps, TooLarge, NoMemory}
+use Rattle.search.specs.declared.found.Found.TheVariants as found
+
+-- the certificate that was found, if there is one
+abbrev pub certificate_in : Found → Option Certificate
+certificate_in (found.Found c) = Some c
+certificate_in Impossible = None
+certificate_in OutOfSteps = None
+certificate_in TooLarge = None
+certificate_in NoMemory = None
+
+-- what an outcome is for the object with this number
+abbrev pub found_in : ℕ → Outcome → Found
+found_in object (outcome.Found order) = found.Found (record { object = object; order = order })
+found_in object outcome.Impossible = Impossible
+found_in object outcome.OutOfSteps = OutOfSteps
+found_in object outcome.TooLarge = TooLarge
+found_in object outcome.NoMemory = NoMemory
+
+-- where a certificate was found, this holds of it
+abbrev pub IfFound : Found → (Certificate → Type 0) → Type 0
+IfFound (found.Found c) P = P c
+IfFound Impossible P = ⊤
+IfFound OutOfSteps P = ⊤
+IfFound TooLarge P = ⊤
+IfFound NoMemory P = ⊤
+
+abbrev pub IsFound : Search → Type 0
+IsFound s = IsSome (certificate_in s.found)
+
+-- the certificate is one of the object, and its order is valid
+abbrev pub IsFor : ℕ → Kind → List Call → Certificate → Type 0
+IsFor object kind calls c = (c.object ≡ object) × IsValidOrder kind calls c.order.items
+
+-- what a search within a limit may answer of the calls of an object
+pub record IsAnswer (object : ℕ) (kind : Kind) (calls : List Call) (limit : ℕ) (s : Search) : Type 0 where
+  -- what was found is valid
+  pub found : IfFound s.found (IsFor object kind calls)
+  -- impossible is answered only where no order is valid
+  pub impossible : s.found ≡ Impossible → IsNoneValid kind calls
+  -- at most so many operations were tried, and just so many where that was not enough
+  pub steps : s.steps ≤ limit
+  pub out_of_steps : s.found ≡ OutOfSteps → s.steps ≡ limit
+  pub too_large : (s.found ≡ TooLarge) ↔ (max_operations < length calls)
+  -- memory is asked for only where some operation returned
+  pub memory : s.found ≡ NoMemory → Any (λ call. IsSome call.returned) calls
+
+-- an answer on the object with this number, in the history that the events denote
+abbrev pub IsAnswerOn : List Event → ℕ → ℕ → Search → Type 0
+IsAnswerOn es limit x s = IsAnswer x (kind_at es x) (calls_on x (denoted es)) limit s
+
+-- the certificates among the answers
+abbrev pub certificates_in : List (ℕ × Search) → List Certificate
+certificates_in answers = filter_map (λ a. certificate_in a.1.found) answers

@@ -1,0 +1,11 @@
+//! The bounded search for certificates: an order for each object of a history, or the answer that none is valid.
+#![tactic(auto)]
+
+mod all;
+mod found;
+mod object;
+
+pub use all::{search_all, search_all_by};
+pub use found::{Found, Search};
+pub use object::{search, search_by};
+pub use order_search::TryFirst;

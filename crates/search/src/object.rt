@@ -1,0 +1,55 @@
+//! The search for a certificate of one object.
+
+ghost use Rattle.std.specs.Prelude.{◌≡◌, ◌<◌, ◌≤◌, ◌↔◌, length, Any, IsSome};
+ghost use Rattle.events.specs.Operations.{calls_of};
+ghost use Rattle.order_search.specs.Arranged.{max_operations};
+ghost use Rattle.order_search.specs.Outcomes.{IsNoneValid};
+ghost use Rattle.search.specs.Answers.{IfFound, IsFor, IsAnswer, found_in};
+
+use crate::found::{Found, Search};
+use certificate::Certificate;
+use events::ObjectHistory;
+use order_search::{Attempt, Outcome, TryFirst, find_order};
+use std::alloc::Global;
+
+/// What was found, for the object with this number.
+fn found_of(object: u32, outcome: Outcome) -> Found
+    ensures { result ≡ found_in object outcome }
+{
+    match outcome {
+        Outcome::Found(order) => Found::Found(Certificate { object, order }),
+        Outcome::Impossible => Found::Impossible,
+        Outcome::OutOfSteps => Found::OutOfSteps,
+        Outcome::TooLarge => Found::TooLarge,
+        Outcome::NoMemory => Found::NoMemory,
+    }
+}
+
+/// Searches for a certificate of an object, depth first, in at most so many steps: a step is one operation tried. Of
+/// the operations that can come next, that with the least number is tried first.
+///
+/// That a limit is enough is not promised.
+pub fn search(alloc: Global, history: &ObjectHistory, limit: u64) -> Search
+    ensures found { IfFound result.found (IsFor history.now.object history.now.kind (calls_of history.now.ops)) }
+    // No order is valid, and so the history is not linearizable.
+    ensures impossible { result.found ≡ Found.Impossible
+        → IsNoneValid history.now.kind (calls_of history.now.ops) }
+    ensures steps { result.steps ≤ limit }
+    ensures out_of_steps { result.found ≡ Found.OutOfSteps → result.steps ≡ limit }
+    ensures too_large { (result.found ≡ Found.TooLarge)
+        ↔ (max_operations < length (calls_of history.now.ops)) }
+    // Memory is asked for only where some operation returned.
+    ensures memory { result.found ≡ Found.NoMemory
+        → Any (λ call. IsSome call.returned) (calls_of history.now.ops) }
+{
+    search_by(alloc, history, TryFirst::LeastNumber, limit)
+}
+
+/// The same, with a choice of which operation is tried first.
+pub fn search_by(alloc: Global, history: &ObjectHistory, first: TryFirst, limit: u64) -> Search
+    ensures { IsAnswer history.now.object history.now.kind (calls_of history.now.ops) limit result }
+{
+    let Attempt { outcome, steps } = find_order(alloc, history, first, limit);
+    let found = found_of(history.object(), outcome);
+    Search { found, steps }
+}
