@@ -1,2 +1,4 @@
 pub mod Parse
 pub mod Reports
+pub mod Sought
+pub mod Answering

@@ -13,7 +13,7 @@ use Rattle.clap.specs.declared.parser.matches.Found.{Found}
 use Rattle.clap.proofs.WalkLemmas.{first_value-rows}
 use Rattle.std.specs.String.{string_bytes}
 use Rattle.commands.specs.declared.command_line.Line.{Line}
-use Rattle.commands.specs.declared.command_line.Line.TheVariants.{Check, Run}
+use Rattle.commands.specs.declared.command_line.Line.TheVariants.{Check, Search, Run}
 use Rattle.clap.specs.Kinds.{HasKind, IsAmong, Kinds, or_else}
 use Rattle.clap.specs.Values.{kind_of}
 use Rattle.clap.specs.declared.error.Error.{Error}
@@ -27,7 +27,7 @@ use Rattle.clap.specs.Walk.{Held, Names, Outcome, Row, Rule, Step, Text, Walk, a
 use Rattle.clap.proofs.OnLiterals.{clap_on_literals}
 use Rattle.clap.specs.declared.parser.matches.ValueSource.TheVariants.{CommandLine}
 use Rattle.clap.specs.declared.builder.value_parser.Reading.TheVariants.{AsWritten}
-use Rattle.commands.specs.Words.{AskFor, AskToCheck, AskToRun, Finds, HasFiles, IsCommand, IsFault, IsFound, IsFor, IsPlain, IsPlainCheck, IsPlainRun, IsRunFound, check, command, run, values}
+use Rattle.commands.specs.Words.{AreSteps, AskFor, AskToCheck, AskToRun, Finds, HasFiles, HasSearch, IsCommand, IsFault, IsFound, IsFor, IsLacking, IsPlain, IsPlainCheck, IsPlainRun, IsPlainSearch, IsRunFound, IsSearchFound, Lacks, check, command, default_steps, run, search_command, values}
 
 -- ---- the shapes that are built
 
@@ -152,21 +152,25 @@ unfolding clap_on_literals
 dashed [] e last = not_nil last
 dashed (v ∷ vs) e last = not_nil (both_nil (turn_fault top names (at [] None 1 true) v) (walk_fault top names (walked top.rules names (at [] None 1 true) v) vs) e).0
 
-top_words : (w : Text) (rest : List Text) → walk_fault top names (walk_from nothing_held) (w ∷ rest) ≡ [] → TopCheck w rest ≡ [] → (codes "check" ≡ w) ⊎ (codes "run" ≡ w)
+abbrev Entered : Text → Type 0
+Entered w = (codes "check" ≡ w) ⊎ (codes "search" ≡ w) ⊎ (codes "run" ≡ w)
+
+top_words : (w : Text) (rest : List Text) → walk_fault top names (walk_from nothing_held) (w ∷ rest) ≡ [] → TopCheck w rest ≡ [] → Entered w
 unfolding clap_on_literals
-top_words w rest e last = go (bytes_eq (codes "check") w) refl (bytes_eq (codes "run") w) refl (bytes_eq (codes "help") w) refl (bytes_eq w (codes "--")) refl
+top_words w rest e last = go (bytes_eq (codes "check") w) refl (bytes_eq (codes "search") w) refl (bytes_eq (codes "run") w) refl (bytes_eq (codes "help") w) refl (bytes_eq w (codes "--")) refl
   where
     first : turn_fault top names (at [] None 1 false) w ≡ []
     first = (both_nil (turn_fault top names (at [] None 1 false) w) (walk_fault top names (walked top.rules names (at [] None 1 false) w) rest) e).0
 
-    go : (a : Bool) → bytes_eq (codes "check") w ≡ a → (n : Bool) → bytes_eq (codes "run") w ≡ n → (b : Bool) → bytes_eq (codes "help") w ≡ b → (d : Bool) → bytes_eq w (codes "--") ≡ d
-        → (codes "check" ≡ w) ⊎ (codes "run" ≡ w)
-    go true p n o b q d r = inl ((bytes_eq-Decides (codes "check") w).0 p)
-    go false p true o b q d r = inr ((bytes_eq-Decides (codes "run") w).0 o)
-    go false p false o true q d r = absurd (not_nil (rw (p, o, q) at (turn_parts top names [] None 1 w first).0))
-    go false p false o false q true r = let is = (bytes_eq-Decides w (codes "--")).0 r in
+    go : (a : Bool) → bytes_eq (codes "check") w ≡ a → (f : Bool) → bytes_eq (codes "search") w ≡ f → (n : Bool) → bytes_eq (codes "run") w ≡ n → (b : Bool) → bytes_eq (codes "help") w ≡ b → (d : Bool) → bytes_eq w (codes "--") ≡ d
+        → Entered w
+    go true p f m n o b q d r = inl ((bytes_eq-Decides (codes "check") w).0 p)
+    go false p true m n o b q d r = inr (inl ((bytes_eq-Decides (codes "search") w).0 m))
+    go false p false m true o b q d r = inr (inr ((bytes_eq-Decides (codes "run") w).0 o))
+    go false p false m false o true q d r = absurd (not_nil (rw (p, m, o, q) at (turn_parts top names [] None 1 w first).0))
+    go false p false m false o false q true r = let is = (bytes_eq-Decides w (codes "--")).0 r in
         absurd (dashed rest (subst (λ x. walk_fault top names (walk_from nothing_held) (x ∷ rest) ≡ []) is e) (subst (λ x. TopCheck x rest ≡ []) is last))
-    go false p false o false q false r = absurd (not_nil (other_turn top top_help names [] None 1 w (rw (p, o, q) refl) r first).1)
+    go false p false m false o false q false r = absurd (not_nil (other_turn top top_help names [] None 1 w (rw (p, m, o, q) refl) r first).1)
 
 -- past the subcommand each word is left to it
 stopped_walk : (c : List Rule) (ns : Names) (v : Walk) (p : Text × List Text) (rest : List Text) → (fold (walked c ns) (record v { stopped = Some p }) rest).stopped ≡ Some (p.0, p.1 ++ rest)
@@ -309,6 +313,19 @@ bare_ends (v ∷ vs) e =
     let none : vs ≡ [] = bare_trails vs (subst (λ w. walk_fault bare [] w vs ≡ []) first.1 parts.1) in
     rw first.0 none
 
+-- ---- the words behind `search`
+
+abbrev sought : Shape
+sought = built_leaf (inherited (with_leaf_noted (marked_built command.top)) search_command.top)
+
+stops_search : (rest : List Text) → (walk top.rules names nothing_held (codes "search" ∷ rest)).stopped ≡ Some (codes "search", rest)
+unfolding clap_on_literals
+stops_search rest = stopped_walk top.rules names (at [] None 1 false) (codes "search", []) rest
+
+enters_search : (rest : List Text) → entered (built command) (walk top.rules names nothing_held (codes "search" ∷ rest)).stopped ≡ Some (codes "search", rows_after sought.rules [] rest)
+unfolding clap_on_literals
+enters_search rest = ap (entered (built command)) (stops_search rest)
+
 -- ---- all the words
 
 level_parts : (s : Shape) (ns : Names) (ws : List Text) (has : Bool) (below : Kinds) → level_fault s ns nothing_held ws has below ≡ []
@@ -333,8 +350,15 @@ pub record TakenRun (words : List Text) : Type 0 where
   pub said : AskToRun words
   pub found : IsRunFound (subcommand_of command words)
 
+abbrev TakenSearch : List Text → Type 0
+TakenSearch words = (rows : List Row) × (subcommand_of command words ≡ Some (codes "search", rows))
+
 abbrev Taken : List Text → Type 0
-Taken words = TakenCheck words ⊎ TakenRun words
+Taken words = TakenCheck words ⊎ TakenSearch words ⊎ TakenRun words
+
+search_taken : (program : Text) (rest : List Text) → TakenSearch (program ∷ codes "search" ∷ rest)
+unfolding clap_on_literals
+search_taken program rest = (rows_after sought.rules [] rest, enters_search rest)
 
 low_taken : (program : Text) (rest : List Text) → level_fault low [] nothing_held rest false [] ≡ [] → TakenCheck (program ∷ codes "check" ∷ rest)
 unfolding clap_on_literals
@@ -372,7 +396,7 @@ check_taken program rest e = inl (low_taken program rest (subst (λ o. entered_f
 
 run_is_taken : (program : Text) (rest : List Text) → fault_of command (program ∷ codes "run" ∷ rest) ≡ [] → Taken (program ∷ codes "run" ∷ rest)
 unfolding clap_on_literals
-run_is_taken program rest e = inr (run_taken program rest (subst (λ o. entered_fault (built command) o ≡ []) (stops_run rest) (below_fault (codes "run") rest program e)))
+run_is_taken program rest e = inr (inr (run_taken program rest (subst (λ o. entered_fault (built command) o ≡ []) (stops_run rest) (below_fault (codes "run") rest program e))))
 
 -- where clap names no kind of error, the words are those of a check, and it has the two files, or those of a run
 taken : (words : List Text) → fault_of command words ≡ [] → Taken words
@@ -384,7 +408,8 @@ taken (program ∷ w ∷ rest) e =
     let parts = level_parts top names (w ∷ rest) (is_some (entered (built command) stop)) (entered_fault (built command) stop) e in
     elim (top_words w rest parts.0 parts.2) [
       | inl is ↦ subst (λ x. Taken (program ∷ x ∷ rest)) is (check_taken program rest (subst (λ x. fault_of command (program ∷ x ∷ rest) ≡ []) (sym is) e))
-      | inr is ↦ subst (λ x. Taken (program ∷ x ∷ rest)) is (run_is_taken program rest (subst (λ x. fault_of command (program ∷ x ∷ rest) ≡ []) (sym is) e))
+      | inr (inl is) ↦ subst (λ x. Taken (program ∷ x ∷ rest)) is (inr (inl (search_taken program rest)))
+      | inr (inr is) ↦ subst (λ x. Taken (program ∷ x ∷ rest)) is (run_is_taken program rest (subst (λ x. fault_of command (program ∷ x ∷ rest) ≡ []) (sym is) e))
     ]
 
 -- ---- words that are taken
@@ -425,6 +450,33 @@ takes_run : (program : Text) → fault_of command (program ∷ codes "run" ∷ [
 unfolding clap_on_literals
 takes_run program = refl
 
+-- the walk takes the name of the file
+sought_word : (word : Text) → IsPlain word
+    → (turn_fault sought [] (at [] None 1 false) word ≡ [])
+    × (walked sought.rules [] (at [] None 1 false) word ≡ at [] (history_is word) 2 false)
+unfolding clap_on_literals
+sought_word [] h = (refl, refl)
+sought_word (b ∷ bs) h = rw (plain_differs b bs h) (rw (plain_long b bs h) (rw (plain_short b bs h) (refl, refl)))
+
+sought_takes : (h : Text) → IsPlain h → level_fault sought [] nothing_held (h ∷ []) false [] ≡ []
+unfolding clap_on_literals
+sought_takes h p =
+    let first = sought_word h p in
+    let walks : walk_fault sought [] (at [] None 1 false) (h ∷ []) ≡ [] = ap (λ a. or_else a []) first.0 in
+    ap₂ (λ f (v : Walk). or_else f (or_else (settle_fault sought.rules sought.args_override_self v.held) (or_else (defaults_fault (settled sought.rules v.held).rows sought.rules)
+    (check_fault sought (finished sought.rules v.held) false)))) walks first.1
+
+takes_search : (program h : Text) → IsPlain h → fault_of command (program ∷ codes "search" ∷ h ∷ []) ≡ []
+unfolding clap_on_literals
+takes_search program h p = ap (λ below. level_fault top names nothing_held (codes "search" ∷ h ∷ []) true below) (sought_takes h p)
+
+-- and clap finds it, and no number of steps
+sought_values : (h : Text) → IsPlain h → HasSearch (rows_after sought.rules [] (h ∷ [])) h default_steps
+unfolding clap_on_literals
+sought_values h p =
+    let last : rows_after sought.rules [] (h ∷ []) ≡ finished sought.rules (at [] (history_is h) 2 false).held = ap (λ (v : Walk). finished sought.rules v.held) (sought_word h p).1 in
+    record { history_first = ap (first_of (codes "HISTORY")) last; steps_first = subst (λ o. AreSteps o default_steps) (sym (ap (first_of (codes "steps")) last)) refl }
+
 simple : is_simple_and_free command ≡ true
 unfolding clap_on_literals
 simple = refl
@@ -433,32 +485,7 @@ simply : is_simple command ≡ true
 unfolding clap_on_literals
 simply = refl
 
--- ---- what clap answers
-
-memory_fault : (f : LineFault) → IsFor OutOfMemory f → f ≡ NoMemory
-memory_fault (Help t) h = elim h [ inl e ↦ cc | inr e ↦ cc ]
-memory_fault (Refused t) h = absurd (h.0 refl)
-memory_fault NoMemory h = refl
-
-pub refused : (a : App) (words : List Text) (e : Error) (f : LineFault) → a ≡ command → (is_simple_and_free a ≡ true → HasKind (fault_of a words) e) → IsFor (kind_of e) f → IsFault words f
-refused a words e f is h k = elim (subst (λ a. is_simple_and_free a ≡ true → HasKind (fault_of a words) e) is h simple) [
-  | inl memory ↦ inl (memory_fault f (subst (λ x. IsFor x f) memory k))
-  | inr among ↦ inr (kind_of e, among, k)
-]
-
-pub only_memory : (words : List Text) (f : LineFault) → IsPlainCheck words → IsFault words f → f ≡ NoMemory
-only_memory words f p (inl e) = e
-only_memory words f p (inr k) =
-    let none : fault_of command words ≡ [] = subst (λ ws. fault_of command ws ≡ []) (sym p.said) (takes p.program p.history p.certs p.history_plain p.certs_plain) in
-    absurd (subst (IsAmong k.0) none k.1)
-
-pub only_memory_run : (words : List Text) (f : LineFault) → IsPlainRun words → IsFault words f → f ≡ NoMemory
-only_memory_run words f p (inl e) = e
-only_memory_run words f p (inr k) =
-    let none : fault_of command words ≡ [] = subst (λ ws. fault_of command ws ≡ []) (sym p.said) (takes_run p.program) in
-    absurd (subst (IsAmong k.0) none k.1)
-
--- ---- what is found
+-- ---- one parse
 
 some_same : {X : Type 0} {x y : X} → Some x ≡ Some y → x ≡ y
 some_same e = cc
@@ -470,11 +497,63 @@ found_rows m w r s f e = some_same (ap (option_map (λ (p : Text × List Row). p
 one_name : (m : Option (Text × List Row)) (v w : Text) (r : List Row) → m ≡ Some (v, r) → option_map (λ p. p.0) m ≡ Some w → v ≡ w
 one_name m v w r f e = some_same (ap (option_map (λ (p : Text × List Row). p.0)) (sym f) ∙ e)
 
-not_run : codes "run" ≡ codes "check" → ⊥
-not_run e = cc
+-- ---- what clap answers
 
-not_both : (m : Option (Text × List Row)) (r s : List Row) → m ≡ Some (codes "check", r) → m ≡ Some (codes "run", s) → ⊥
-not_both m r s f g = not_run (sym (one_name m (codes "check") (codes "run") r f (ap (option_map (λ (p : Text × List Row). p.0)) g)))
+memory_fault : (f : LineFault) → IsFor OutOfMemory f → f ≡ NoMemory
+memory_fault (Help t) h = elim h [ inl e ↦ cc | inr e ↦ cc ]
+memory_fault (Refused t) h = absurd (h.0 refl)
+memory_fault NoMemory h = refl
+
+pub refused : (a : App) (words : List Text) (e : Error) (f : LineFault) → a ≡ command → (is_simple_and_free a ≡ true → HasKind (fault_of a words) e) → IsFor (kind_of e) f → IsFault words f
+refused a words e f is h k = elim (subst (λ a. is_simple_and_free a ≡ true → HasKind (fault_of a words) e) is h simple) [
+  | inl memory ↦ inl (memory_fault f (subst (λ x. IsFor x f) memory k))
+  | inr among ↦ inr (inl (kind_of e, among, k))
+]
+
+-- words that clap takes, and finds to be no search without values, are refused for want of memory alone
+only_memory_of : (words : List Text) (f : LineFault) → fault_of command words ≡ [] → (Lacks (subcommand_of command words) f → ⊥) → IsFault words f → f ≡ NoMemory
+only_memory_of words f none found (inl e) = e
+only_memory_of words f none found (inr (inl k)) = absurd (subst (IsAmong k.0) none k.1)
+only_memory_of words f none found (inr (inr l)) = absurd (found l)
+
+not_search : (m : Option (Text × List Row)) (w : Text) (r : List Row) (f : LineFault) → m ≡ Some (w, r) → (w ≡ codes "search" → ⊥) → Lacks m f → ⊥
+not_search m w r f e other l = other (one_name m w (codes "search") r e (ap (option_map (λ (p : Text × List Row). p.0)) l.entered))
+
+-- a search without its values is refused so, or memory was
+pub lacking : (words : List Text) (f : LineFault) → (f ≢ NoMemory → Lacks (subcommand_of command words) f) → IsFault words f
+lacking words (Help t) l = inr (inr (l (λ e. cc)))
+lacking words (Refused t) l = inr (inr (l (λ e. cc)))
+lacking words NoMemory l = inl refl
+
+pub only_memory : (words : List Text) (f : LineFault) → IsPlainCheck words → IsFault words f → f ≡ NoMemory
+unfolding clap_on_literals
+only_memory words f p =
+    only_memory_of words f (subst (λ ws. fault_of command ws ≡ []) (sym p.said) (takes p.program p.history p.certs p.history_plain p.certs_plain))
+    (not_search (subcommand_of command words) (codes "check") (rows_after low.rules [] (p.history ∷ p.certs ∷ [])) f (subst (λ ws. subcommand_of command ws ≡ Some (codes "check", rows_after low.rules [] (p.history ∷ p.certs ∷ []))) (sym p.said) (enters (p.history ∷ p.certs ∷ []))) (λ e. cc))
+
+pub only_memory_run : (words : List Text) (f : LineFault) → IsPlainRun words → IsFault words f → f ≡ NoMemory
+unfolding clap_on_literals
+only_memory_run words f p =
+    only_memory_of words f (subst (λ ws. fault_of command ws ≡ []) (sym p.said) (takes_run p.program))
+    (not_search (subcommand_of command words) (codes "run") (rows_after bare.rules [] []) f (subst (λ ws. subcommand_of command ws ≡ Some (codes "run", rows_after bare.rules [] [])) (sym p.said) (enters_run [])) (λ e. cc))
+
+lacking_none : (rows : List Row) (f : LineFault) (h : Text) (n : ℕ) → HasSearch rows h n → IsLacking rows f → ⊥
+lacking_none rows (Help t) h n v l = l
+lacking_none rows (Refused t) h n v l = l h n v
+lacking_none rows NoMemory h n v l = l
+
+pub only_memory_search : (words : List Text) (f : LineFault) → IsPlainSearch words → IsFault words f → f ≡ NoMemory
+unfolding clap_on_literals
+only_memory_search words f p =
+    let rows = rows_after sought.rules [] (p.history ∷ []) in
+    let is : subcommand_of command words ≡ Some (codes "search", rows) = subst (λ ws. subcommand_of command ws ≡ Some (codes "search", rows)) (sym p.said) (enters_search (p.history ∷ [])) in
+    only_memory_of words f (subst (λ ws. fault_of command ws ≡ []) (sym p.said) (takes_search p.program p.history p.history_plain))
+    (λ l. lacking_none rows f p.history default_steps (sought_values p.history p.history_plain) (subst (λ rs. IsLacking rs f) (sym (found_rows (subcommand_of command words) (codes "search") rows l.rows is (ap (option_map (λ (q : Text × List Row). q.1)) l.entered))) l.lacking))
+
+-- ---- what is found
+
+not_both : (m : Option (Text × List Row)) (v w : Text) (r s : List Row) → m ≡ Some (v, r) → m ≡ Some (w, s) → (v ≡ w → ⊥) → ⊥
+not_both m v w r s f g other = other (one_name m v w r f (ap (option_map (λ (p : Text × List Row). p.0)) g))
 
 same_first : (r : List Row) (s : List Row) (id x y : Text) → r ≡ s → first_of id r ≡ Some x → first_of id s ≡ Some y → x ≡ y
 same_first r s id x y e p q = some_same (sym p ∙ ap (first_of id) e ∙ q)
@@ -490,25 +569,34 @@ asked_check words m h c a f (Check history certs) g =
     let same_h : h ≡ string_bytes history = same_first f.rows g.rows (codes "HISTORY") h (string_bytes history) rows f.files.history_first g.files.history_first in
     let same_c : c ≡ string_bytes certs = same_first f.rows g.rows (codes "CERTS") c (string_bytes certs) rows f.files.certs_first g.files.certs_first in
     subst (λ x. AskToCheck words x (string_bytes certs)) same_h (subst (λ x. AskToCheck words h x) same_c a)
-asked_check words m h c a f Run g = absurd (not_both m f.rows g.rows f.entered g.entered)
+asked_check words m h c a f (Search history steps) g = absurd (not_both m (codes "check") (codes "search") f.rows g.rows f.entered g.entered (λ e. cc))
+asked_check words m h c a f Run g = absurd (not_both m (codes "check") (codes "run") f.rows g.rows f.entered g.entered (λ e. cc))
+
+asked_search : (words : List Text) (m : Option (Text × List Row)) (r : List Row) → m ≡ subcommand_of command words → m ≡ Some (codes "search", r) → Asked words m
+unfolding Asked
+asked_search words m r is f (Check history certs) g = absurd (not_both m (codes "search") (codes "check") r g.rows f g.entered (λ e. cc))
+asked_search words m r is f (Search history steps) g = subst (λ o. IsSearchFound o (string_bytes history) steps) is g
+asked_search words m r is f Run g = absurd (not_both m (codes "search") (codes "run") r g.rows f g.entered (λ e. cc))
 
 asked_run : (words : List Text) (m : Option (Text × List Row)) → AskToRun words → IsRunFound m → Asked words m
 unfolding Asked
-asked_run words m a f (Check history certs) g = absurd (not_both m g.rows f.rows g.entered f.entered)
+asked_run words m a f (Check history certs) g = absurd (not_both m (codes "run") (codes "check") f.rows g.rows f.entered g.entered (λ e. cc))
+asked_run words m a f (Search history steps) g = absurd (not_both m (codes "run") (codes "search") f.rows g.rows f.entered g.entered (λ e. cc))
 asked_run words m a f Run g = a
 
 -- a parse that ends well
 pub found : (a : App) (words : List Text) (m : ArgMatches) → a ≡ command → (is_simple_and_free a ≡ true → fault_of a words ≡ []) → HasMatchesOf a words m
-    → IsCommand (subcommand_rows_of m) × ((l : Line) → Finds (subcommand_rows_of m) l → AskFor words l)
+    → IsCommand (subcommand_rows_of m) × ((l : Line) → Finds (subcommand_rows_of m) l → AskFor words l) × (subcommand_rows_of m ≡ subcommand_of command words)
 unfolding Asked
 found a words m is k h = go (taken words (subst (λ a. is_simple_and_free a ≡ true → fault_of a words ≡ []) is k simple))
   where
     same : subcommand_rows_of m ≡ subcommand_of command words
     same = (subst (λ a. HasMatchesOf a words m) is h simply).1
 
-    go : Taken words → IsCommand (subcommand_rows_of m) × Asked words (subcommand_rows_of m)
-    go (inl t) = let f : IsFound (subcommand_rows_of m) t.history t.certs = subst (λ o. IsFound o t.history t.certs) (sym same) t.found in (inl (t.history, t.certs, f), asked_check words (subcommand_rows_of m) t.history t.certs t.said f)
-    go (inr t) = let f : IsRunFound (subcommand_rows_of m) = subst IsRunFound (sym same) t.found in (inr f, asked_run words (subcommand_rows_of m) t.said f)
+    go : Taken words → IsCommand (subcommand_rows_of m) × Asked words (subcommand_rows_of m) × (subcommand_rows_of m ≡ subcommand_of command words)
+    go (inl t) = let f : IsFound (subcommand_rows_of m) t.history t.certs = subst (λ o. IsFound o t.history t.certs) (sym same) t.found in (inl (t.history, t.certs, f), asked_check words (subcommand_rows_of m) t.history t.certs t.said f, same)
+    go (inr (inl t)) = let f : subcommand_rows_of m ≡ Some (codes "search", t.0) = same ∙ t.1 in (inr (inl (t.0, f)), asked_search words (subcommand_rows_of m) t.0 same f, same)
+    go (inr (inr t)) = let f : IsRunFound (subcommand_rows_of m) = subst IsRunFound (sym same) t.found in (inr (inr f), asked_run words (subcommand_rows_of m) t.said f, same)
 
 -- the values in the matches of `check`
 module _ (inner : Found) (h c : Text) (f : HasFiles (rows_of inner) h c) where

@@ -11,6 +11,8 @@ use thiserror::Error as ErrorText;
 pub enum Line {
     /// To judge the history in one file by the certificates in another.
     Check { history: String, certs: String },
+    /// To search for certificates of the history in a file, with at most so many steps for each object.
+    Search { history: String, steps: u32 },
     /// To run clients, and to judge what they did.
     Run,
 }

@@ -7,6 +7,7 @@ mod program;
 mod record_lines;
 mod record_text;
 mod running;
+mod searching;
 mod statuses;
 
 pub use command_line::{Line, LineFault};

@@ -6,14 +6,16 @@ ghost use Rattle.edn.specs.Sent.{SendsFront};
 ghost use Rattle.report.specs.Lines.{verdict_text};
 ghost use Rattle.report.specs.declared.verdict.Verdict.{Verdict};
 ghost use Rattle.commands.specs.Statuses as spec;
-ghost use Rattle.commands.specs.Statuses.{yes_status, failed_status};
+ghost use Rattle.commands.specs.Statuses.{yes_status, no_status, failed_status};
 ghost use Rattle.judging.specs.Texts.{IsLinearizableText};
 ghost use Rattle.commands.specs.Runs.{IsRunOutput};
+ghost use Rattle.commands.specs.Searches.{AreCertificatesFor, IsNotLinearizableText, IsSearchOutput};
 ghost use Rattle.judging.specs.Verdicts.{Holds};
-ghost use Rattle.commands.specs.Words.{IsCheck, IsRun};
+ghost use Rattle.commands.specs.Words.{IfSearch, IsCheck, IsRun};
 
 use crate::command_line::Line;
 use crate::running::run;
+use crate::searching::report_search;
 use crate::statuses::{FAILED, status_of};
 use edn::Sink;
 use judging::judge;
@@ -57,11 +59,17 @@ pub fn perform<R: Threads + Wait + Sync, S: Sink>(
     // Where it failed, a beginning of the lines was sent.
     ensures failed { result ≡ failed_status → S.broken sink.new ≡ true }
     ensures front { IsCheck line.now → result ≡ failed_status → (v : Verdict) × Holds first.now second.now v × SendsFront (S.sent sink.old) (S.sent sink.new) (verdict_text false v) }
+    // A search finds certificates that are valid for the history, or says that it is not linearizable.
+    ensures search_written { IfSearch line.now (λ steps. result ≢ failed_status → (out : List ℕ) × IsSearchOutput first.now steps result out × Appends (S.sent sink.old) (S.sent sink.new) out) }
+    ensures search_front { IfSearch line.now (λ steps. result ≡ failed_status → (status : ℕ) × (out : List ℕ) × IsSearchOutput first.now steps status out × SendsFront (S.sent sink.old) (S.sent sink.new) out) }
+    ensures certified { IfSearch line.now (λ _. result ≡ yes_status → (out : List ℕ) × AreCertificatesFor first.now out × Appends (S.sent sink.old) (S.sent sink.new) out) }
+    ensures refuted { IfSearch line.now (λ _. result ≡ no_status → IsNotLinearizableText first.now) }
     ensures run_written { IsRun line.now → result ≢ failed_status → (text : List ℕ) × IsRunOutput result text × Appends (S.sent sink.old) (S.sent sink.new) text }
     ensures run_front { IsRun line.now → result ≡ failed_status → (status : ℕ) × (text : List ℕ) × IsRunOutput status text × SendsFront (S.sent sink.old) (S.sent sink.new) text }
 {
     match line {
         Line::Check { .. } => check(alloc, first, second, sink),
+        Line::Search { history: _, steps } => report_search(alloc, first, *steps, sink),
         Line::Run => run(rt, alloc, sink),
     }
 }

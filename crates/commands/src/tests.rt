@@ -1,4 +1,5 @@
 mod runs;
+mod searches;
 mod table;
 mod two_clients;
 

@@ -60,9 +60,18 @@ fn run_check<R: Host>(rt: &R, line: &Line, history: &str, certs: &str) -> io::Re
     Ok(do_line(rt, line, &first, &second))
 }
 
+/// Reads the file of a search, and does it.
+fn run_search<R: Host>(rt: &R, line: &Line, history: &str) -> io::Result<u8> {
+    match bytes_of(rt, history) {
+        Ok(bytes) => Ok(do_line(rt, line, &bytes, b"")),
+        Err(error) => unread(rt, history, &error),
+    }
+}
+
 fn run_line<R: Host>(rt: &R, line: &Line) -> io::Result<u8> {
     match line {
         Line::Check { history, certs } => run_check(rt, line, history, certs),
+        Line::Search { history, .. } => run_search(rt, line, history),
         Line::Run => Ok(do_line(rt, line, b"", b"")),
     }
 }

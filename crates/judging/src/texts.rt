@@ -12,9 +12,9 @@ use history::{History, HistoryFaultKind, read_history};
 use report::Fault;
 use std::alloc::Global;
 
-/// What stops the reading of a text.
+/// What stops the reading of a text: a fault of it, or that memory was refused.
 #[derive(Clone, Copy, Debug, PartialEq, Eq)]
-pub(crate) enum Stop {
+pub enum Stop {
     Stopped(Fault),
     NoMemory,
 }
@@ -42,8 +42,8 @@ fn stop_of(fault: Fault) -> Stop
     }
 }
 
-/// The history that the text denotes.
-pub(crate) fn history_in(alloc: Global, text: &[u8]) -> Result<History, Stop>
+/// The history that a text denotes, or the first fault of the text.
+pub fn history_in(alloc: Global, text: &[u8]) -> Result<History, Stop>
     ensures denotes { IfOk result (λ es. DenotesHistory text.now es) }
     ensures only { IfOk result (λ es. (fs : List Event) → DenotesHistory text.now fs → fs ≡ es) }
     ensures short { IfOk result (λ _. IsShort text.now) }

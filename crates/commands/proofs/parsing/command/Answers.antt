@@ -10,5 +10,7 @@ returns c =
     let check_is : app_of c.in_ok-check.check ≡ spec.check = c.in_ok-check.ensures.shape in
     let run_is : app_of c.run_command-run.result ≡ spec.run = c.run_command-run.ensures.shape in
     let top_is : app_of c.subcommand_required.result ≡ on_top (λ s. record s { subcommand_required = true }) (new_app (codes "fcbench")) = search rules in
+    let search_is : app_of c.in_ok-search.search ≡ spec.search_command = c.in_ok-search.ensures.shape in
     let first_is = c.in_ok-subcommand.ensures.shape (search rules) ∙ ap₂ with_subcommand top_is (ap (λ (a : App). a.top) check_is) in
-    IfOk-weaker c.subcommand-2.result _ _ (λ r h. h.shape (search rules) ∙ ap₂ with_subcommand first_is (ap (λ (a : App). a.top) run_is)) c.subcommand-2.ensures
+    let second_is = c.in_ok-subcommand-2.ensures.shape (search rules) ∙ ap₂ with_subcommand first_is (ap (λ (a : App). a.top) search_is) in
+    IfOk-weaker c.subcommand-3.result _ _ (λ r h. h.shape (search rules) ∙ ap₂ with_subcommand second_is (ap (λ (a : App). a.top) run_is)) c.subcommand-3.ensures

@@ -1,0 +1,179 @@
+//! A search for certificates of a history.
+
+ghost use Rattle.std.specs.Prelude.{◌≡◌, ◌≢◌, ◌++◌, ℕ, List, false, true, codes, decimal, OnOk, IfOk, IfErr};
+ghost use Rattle.std.specs.Io.KnownBytes.{Appends};
+ghost use Rattle.std.specs.List.{list_all, list_any};
+ghost use Rattle.edn.specs.Sent.{SendsFront};
+ghost use Rattle.commands.specs.Searches.{answer_line, answers_text, search_status, is_impossible, is_found, AreSearched, IsSearched, IsUnsearched, IsSearchOutput};
+ghost use Rattle.commands.specs.Statuses.{failed_status};
+
+use crate::record_text::certificates_text;
+use crate::statuses::{FAILED, NO_MEMORY, status_of};
+use edn::{Failed, Sink, write_bytes};
+use history::History;
+use itoa::Buffer;
+use judging::{Stop, history_in};
+use report::{Verdict, write_verdict};
+use search::{Found, Search, search_all};
+use std::alloc::{AllocError, Global};
+
+/// What a search puts out, and its exit status.
+#[derive(Drop)]
+struct Output {
+    status: u8,
+    text: Vec<u8>,
+}
+
+fn push_decimal(text: &mut Vec<u8>, n: u64) -> Result<(), AllocError>
+    ensures { OnOk result (text.new.items ≡ text.old.items ++ decimal n) }
+{
+    let mut buffer = Buffer::new();
+    text.extend_from_slice(buffer.format(n).as_bytes())
+}
+
+fn push_object(text: &mut Vec<u8>, object: u32) -> Result<(), AllocError>
+    ensures { OnOk result (text.new.items ≡ text.old.items ++ (codes "; object " ++ decimal object)) }
+{
+    text.extend_from_slice(b"; object ")?;
+    push_decimal(text, u64::from(object))
+}
+
+/// The line that says why an object has no certificate.
+fn push_note(text: &mut Vec<u8>, object: u32, note: &[u8]) -> Result<(), AllocError>
+    ensures { OnOk result (text.new.items ≡ text.old.items ++ ((codes "; object " ++ decimal object) ++ note.now)) }
+{
+    push_object(text, object)?;
+    text.extend_from_slice(note)
+}
+
+/// The line that says after how many steps a search was given up.
+fn push_steps(text: &mut Vec<u8>, object: u32, steps: u64) -> Result<(), AllocError>
+    ensures { OnOk result (text.new.items ≡ text.old.items ++ ((codes "; object " ++ decimal object) ++ (codes ": out of steps after " ++ (decimal steps ++ codes "\n")))) }
+{
+    push_object(text, object)?;
+    text.extend_from_slice(b": out of steps after ")?;
+    push_decimal(text, steps)?;
+    text.extend_from_slice(b"\n")
+}
+
+/// The line of one answer.
+fn push_answer(
+    alloc: Global,
+    text: &mut Vec<u8>,
+    object: u32,
+    answer: &Search,
+) -> Result<(), AllocError>
+    ensures { OnOk result (text.new.items ≡ text.old.items ++ answer_line object answer.now.steps answer.now.found) }
+{
+    match &answer.found {
+        Found::Found(certificate) => {
+            let line = certificates_text(alloc, std::slice::from_ref(certificate))?;
+            text.extend_from_slice(&line)
+        }
+        Found::Impossible => push_note(text, object, b": impossible\n"),
+        Found::OutOfSteps => push_steps(text, object, answer.steps),
+        Found::TooLarge => push_note(text, object, b": too large\n"),
+        Found::NoMemory => push_note(text, object, b": out of memory\n"),
+    }
+}
+
+/// The lines of all answers.
+fn text_of(alloc: Global, answers: &[(u32, Search)]) -> Result<Vec<u8>, AllocError>
+    ensures { IfOk result (λ text. text.items ≡ answers_text answers.now) }
+{
+    let mut text = Vec::new(alloc);
+    let mut rest = answers;
+    'answers: while let [(object, answer), later @ ..] = rest {
+        push_answer(alloc, &mut text, *object, answer)?;
+        rest = later;
+    }
+    Ok(text)
+}
+
+/// Whether some object is impossible.
+fn is_one_impossible(answers: &[(u32, Search)]) -> bool
+    ensures { result ≡ list_any (λ a. is_impossible a.1.found) answers.now }
+{
+    let mut rest = answers;
+    'answers: while let [(_, answer), later @ ..] = rest {
+        if matches!(answer.found, Found::Impossible) {
+            return true;
+        }
+        rest = later;
+    }
+    false
+}
+
+/// Whether each object has a certificate.
+fn are_all_found(answers: &[(u32, Search)]) -> bool
+    ensures { result ≡ list_all (λ a. is_found a.1.found) answers.now }
+{
+    let mut rest = answers;
+    'answers: while let [(_, answer), later @ ..] = rest {
+        if !matches!(answer.found, Found::Found(_)) {
+            return false;
+        }
+        rest = later;
+    }
+    true
+}
+
+/// 1 where some object is impossible, 0 where a certificate was found for each, else 3.
+fn status_for(answers: &[(u32, Search)]) -> u8
+    ensures { result ≡ search_status answers.now }
+{
+    if is_one_impossible(answers) {
+        1
+    } else if are_all_found(answers) {
+        0
+    } else {
+        NO_MEMORY
+    }
+}
+
+/// Searches, and says what was found.
+fn search_history(alloc: Global, history: &History, steps: u32) -> Result<Output, AllocError>
+    ensures { IfOk result (λ s. AreSearched history.now steps s.status s.text.items) }
+{
+    let answers = search_all(alloc, history, u64::from(steps))?;
+    Ok(Output {
+        status: status_for(&answers),
+        text: text_of(alloc, &answers)?,
+    })
+}
+
+/// The same for the history that a text denotes, or why there is no search.
+fn search_text(alloc: Global, text: &[u8], steps: u32) -> Result<Output, Verdict>
+    ensures searched { IfOk result (λ s. IsSearched text.now steps s.status s.text.items) }
+    ensures unsearched { IfErr result (IsUnsearched text.now) }
+{
+    let history = match history_in(alloc, text) {
+        Ok(history) => history,
+        Err(Stop::Stopped(fault)) => return Err(Verdict::Malformed(fault)),
+        Err(Stop::NoMemory) => return Err(Verdict::NoMemory),
+    };
+    match search_history(alloc, &history, steps) {
+        Ok(output) => Ok(output),
+        Err(AllocError) => Err(Verdict::NoMemory),
+    }
+}
+
+/// Searches for certificates of the history in the text, puts them out, and gives the exit status.
+pub(crate) fn report_search<S: Sink>(alloc: Global, text: &[u8], steps: u32, sink: &mut S) -> u8
+    requires working { S.broken sink.old ≡ false }
+    ensures written { result ≢ failed_status → (out : List ℕ) × IsSearchOutput text.now steps result out × Appends (S.sent sink.old) (S.sent sink.new) out }
+    ensures usable { result ≢ failed_status → S.broken sink.new ≡ false }
+    ensures failed { result ≡ failed_status → S.broken sink.new ≡ true }
+    ensures front { result ≡ failed_status → (status : ℕ) × (out : List ℕ) × IsSearchOutput text.now steps status out × SendsFront (S.sent sink.old) (S.sent sink.new) out }
+{
+    match search_text(alloc, text, steps) {
+        Ok(output) => match write_bytes(&output.text, sink) {
+            Ok(()) => output.status,
+            Err(Failed) => FAILED,
+        },
+        Err(verdict) => match write_verdict(&verdict, false, sink) {
+            Ok(()) => status_of(&verdict),
+            Err(_) => FAILED,
+        },
+    }
+}
