@@ -8,9 +8,7 @@ use Rattle.order_search.specs.declared.finding.Outcome.TheVariants as outcome
 use Rattle.order_search.specs.Arranged.{max_operations}
 use Rattle.order_search.specs.Outcomes as order
 use Rattle.order_search.specs.Outcomes.{IsNoneValid}
-use Rattle.search.specs.declared.found.Search.{Search}
 use Rattle.search.specs.declared.found.Found.{Found}
-use Rattle.search.specs.declared.found.Found.TheVariants.{Impossible, OutOfSteps, TooLarge, NoMemory}
 use Rattle.search.specs.Answers.{IsAnswer, found_in}
 
 pub answer_from : (object : ℕ) (kind : Kind) (calls : List Call) (limit : ℕ) (o : Outcome) (found : Found) (steps : ℕ) → found ≡ found_in object o →
