@@ -37,7 +37,7 @@ impl<S: SeqObject> Record<S> {
         journals: Vec<Vec<JournalEvent<S::Op, S::Reply>>>,
         logs: Vec<Vec<LogEntry<S::Op, S::Reply>>>,
     ) -> Record<S>
-        requires { IsRecordOf S.op_in S.reply_in (recorded journals.items logs.items) }
+        requires kept { IsRecordOf S.op_in S.reply_in (recorded journals.items logs.items) }
         ensures { result ≡ recorded journals.items logs.items }
     {
         Record { journals, logs }
