@@ -29,7 +29,7 @@ impl<S: SeqObject> Model for Record<S> {
 }
 
 impl<S: SeqObject> Record<S> {
-    ghost use Rattle.recorder.specs.Records.{recorded};
+    ghost use Rattle.recorder.specs.Records.{items_of, recorded};
     ghost use Rattle.recorder.specs.Histories.{IsRecordOf};
 
     /// The record of these journals and logs.
@@ -43,10 +43,17 @@ impl<S: SeqObject> Record<S> {
         Record { journals, logs }
     }
 
+    /// The journals, by client.
+    pub fn journals(&self) -> &[Vec<JournalEvent<S::Op, S::Reply>>]
+        ensures journals { items_of result.now ≡ self.now.journals }
+        ensures kept { IsRecordOf S.op_in S.reply_in self.now }
+    {
+        self.journals.as_slice()
+    }
+
     /// How many clients there are.
     pub fn clients(&self) -> usize
-        ensures clients { result ≡ length self.now.journals }
-        ensures kept { IsRecordOf S.op_in S.reply_in self.now }
+        ensures { result ≡ length self.now.journals }
     {
         self.journals.len()
     }

@@ -1,0 +1,36 @@
+-- What is said of a record: its certificates, and that they are accepted.
+use Rattle.std.specs.Prelude.{◌≡◌, ℕ, ◌+◌, ◌<◌, ◌≤◌, ◌↔◌, List, [], ◌∷◌, All, AllPairs, Contains, map}
+use Rattle.model.specs.declared.AnyOp.{AnyOp}
+use Rattle.edn.specs.Datum.{Datum}
+use Rattle.edn.specs.Spells.{Spells}
+use Rattle.fields.specs.Fields.{max_object}
+use Rattle.history.specs.Denotes.{Denotes}
+use Rattle.world.specs.declared.JournalEvent.TheVariants.{Invoked}
+use Rattle.world.specs.World.{AnyEntry, AnyEvent}
+use Rattle.world.specs.Records.{order_of}
+use Rattle.events.specs.declared.event.Event.{Event}
+use Rattle.certificate.specs.declared.Certificate.{Certificate}
+
+-- some call in the journals is on the object
+pub record IsNamedIn (journals : ℕ → List AnyEvent) (x : ℕ) : Type 0 where
+  pub client : ℕ
+  pub ticket : ℕ
+  pub op : AnyOp
+  pub stands : Contains (journals client) (Invoked ticket x op)
+
+-- A certificate for each object that the journals name, in rising order of objects: the tickets of its log.
+pub record AreCertificatesOf (journals : ℕ → List AnyEvent) (logs : ℕ → List AnyEntry) (cs : List Certificate) : Type 0 where
+  pub rising : AllPairs (λ a b. a.object < b.object) cs
+  pub named : (x : ℕ) → Contains (map (λ c. c.object) cs) x ↔ IsNamedIn journals x
+  pub orders : All (λ c. c.order.items ≡ order_of (logs c.object)) cs
+
+-- the events are numbered from n on
+abbrev pub CountFrom : ℕ → List Event → Type 0
+CountFrom n [] = Unit {0}
+CountFrom n (e ∷ es) = (e.number ≡ n) × CountFrom (n + 1) es
+
+-- The text spells forms that denote these events.
+pub record DenotesEvents (text : List ℕ) (es : List Event) : Type 0 where
+  pub forms : List Datum
+  pub spelled : Spells forms text
+  pub denoted : Denotes forms es

@@ -1,0 +1,4 @@
+//! What a record says: its history, its certificates, and the text of its history.
+#![tactic(auto)]
+
+mod line;
