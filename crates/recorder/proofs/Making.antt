@@ -62,10 +62,10 @@ module _ (kinds : List Kind) (quota : ℕ) (journals : ℕ → List AnyEvent) (l
   own_event : (e : Event) → In e events_in → In e (events_of e.process (journals e.process))
   own_event e i = subst (In e) (part_in e.process) (in_filter_from (λ (f : Event). f.process == e.process) e events_in i (eq-eqb e.process e.process refl))
 
-  among : (c : ℕ) (j : AnyEvent) → In j (journals c) → IsAmong kinds j
+  pub among : (c : ℕ) (j : AnyEvent) → In j (journals c) → IsAmong kinds j
   among c j i = all_at (IsAmong kinds) (journals c) (s.on_objects c) j i
 
-  is_proper : IsProper events_in
+  pub is_proper : IsProper events_in
   is_proper = proper_from (kind_at kinds) events_in rises
       (λ p. runs_part p idle events_in (subst (Runs p idle) (sym (part_in p)) (runs_of p 0 (journals p) (turns_in p))))
       (λ e op i q. (among e.process (Invoked e.number e.object op) (invocation_of e.process 0 (journals e.process) e op (own_event e i) q)).1)

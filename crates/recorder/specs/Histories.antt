@@ -1,6 +1,6 @@
 -- The history of a record: its journals as client events, in order of tickets. And what makes journals and logs a
 -- record.
-use Rattle.std.specs.Prelude.{◌≡◌, ℕ, ◌<◌, ◌==◌, List, [], ◌∷◌, All, AllPairs, filter, map, length}
+use Rattle.std.specs.Prelude.{◌≡◌, ℕ, ◌<◌, ◌==◌, List, [], ◌∷◌, All, AllPairs, Contains, filter, map, length}
 use Rattle.model.specs.declared.AnyOp.{AnyOp}
 use Rattle.model.specs.declared.AnyReply.{AnyReply}
 use Rattle.world.specs.declared.Answer.TheVariants.{Reply, Refused}
@@ -34,6 +34,13 @@ events_of c journal = events_from c 0 journal
 pub record AreEventsOf (journals : ℕ → List AnyEvent) (es : List Event) : Type 0 where
   pub rising : AllPairs (λ a b. a.number < b.number) es
   pub each : (c : ℕ) → filter (λ e. e.process == c) es ≡ events_of c (journals c)
+
+-- some call in the journals is on the object
+pub record IsNamedIn (journals : ℕ → List AnyEvent) (x : ℕ) : Type 0 where
+  pub client : ℕ
+  pub ticket : ℕ
+  pub op : AnyOp
+  pub stands : Contains (journals client) (Invoked ticket x op)
 
 -- tickets are below this: 64 for each call of the greatest quota
 abbrev pub max_tickets : ℕ

@@ -1,3 +1,5 @@
 pub mod Journals
 pub mod Gathered
 pub mod Tickets
+pub mod Naming
+pub mod Certifying

@@ -1,22 +1,14 @@
 -- What is said of a record: its certificates, and that they are accepted.
 use Rattle.std.specs.Prelude.{◌≡◌, ℕ, ◌+◌, ◌<◌, ◌≤◌, ◌↔◌, List, [], ◌∷◌, All, AllPairs, Contains, map}
-use Rattle.model.specs.declared.AnyOp.{AnyOp}
 use Rattle.edn.specs.Datum.{Datum}
 use Rattle.edn.specs.Spells.{Spells}
 use Rattle.fields.specs.Fields.{max_object}
 use Rattle.history.specs.Denotes.{Denotes}
-use Rattle.world.specs.declared.JournalEvent.TheVariants.{Invoked}
 use Rattle.world.specs.World.{AnyEntry, AnyEvent}
 use Rattle.world.specs.Records.{order_of}
 use Rattle.events.specs.declared.event.Event.{Event}
+use Rattle.recorder.specs.Histories.{IsNamedIn}
 use Rattle.certificate.specs.declared.Certificate.{Certificate}
-
--- some call in the journals is on the object
-pub record IsNamedIn (journals : ℕ → List AnyEvent) (x : ℕ) : Type 0 where
-  pub client : ℕ
-  pub ticket : ℕ
-  pub op : AnyOp
-  pub stands : Contains (journals client) (Invoked ticket x op)
 
 -- A certificate for each object that the journals name, in rising order of objects: the tickets of its log.
 pub record AreCertificatesOf (journals : ℕ → List AnyEvent) (logs : ℕ → List AnyEntry) (cs : List Certificate) : Type 0 where

@@ -134,6 +134,7 @@ pub(crate) fn lines_of<S: SeqObject>(
     ensures lines { IfOk result (λ v. AreLinesOf (journals_in S.op_in S.reply_in account.now) v.items) }
     ensures events { IfOk result (λ v. AreEventsOf (journals_in S.op_in S.reply_in account.now) (events_in v.items)) }
     ensures proper { IfOk result (λ v. IsProper (events_in v.items)) }
+    ensures kept { IsRecordOf S.op_in S.reply_in account.now }
 {
     let mut lines = gather(alloc, account)?;
     lines.sort_unstable_by_key(|line| line.event.number);
