@@ -3,3 +3,5 @@ pub mod Gathered
 pub mod Tickets
 pub mod Naming
 pub mod Certifying
+pub mod Denoting
+pub mod Accepting

@@ -1,6 +1,6 @@
 //! The history of a record, and its certificates.
 
-ghost use Rattle.std.specs.Prelude.{◌≡◌, ◌<◌, ℕ, List, All, IfOk, IfErr, OnOk, map};
+ghost use Rattle.std.specs.Prelude.{◌≡◌, ◌≢◌, ◌<◌, ℕ, List, All, IfOk, IfErr, OnOk, map};
 ghost use Rattle.model.specs.declared.Kind.{Kind};
 ghost use Rattle.world.specs.Images.{entry_in};
 ghost use Rattle.world.specs.Records as world;
@@ -8,7 +8,7 @@ ghost use Rattle.world.specs.Records.{IsSoundRecord};
 ghost use Rattle.recorder.specs.Histories.{AreEventsOf, IsRecordOf, journals_in, logs_in, max_tickets};
 ghost use Rattle.checker.specs.declared.refusal.Refusal.{Refusal};
 ghost use Rattle.transcript.specs.Lines as spec;
-ghost use Rattle.transcript.specs.Accounts.{AreCertificatesOf};
+ghost use Rattle.transcript.specs.Accounts.{AreCertificatesOf, IsAccepted, IsRefused};
 
 use crate::line::{Line, lines_of};
 use certificate::Certificate;
@@ -67,4 +67,21 @@ pub fn certificates<S: SeqObject>(
         certificates.push(Certificate { object, order })?;
     }
     Ok(certificates)
+}
+
+/// Checks the record's history with its certificates. Where the record is sound they are accepted, but for want of memory.
+pub fn check_record<S: SeqObject>(alloc: Global, account: &Record<S>) -> Result<(), Refusal>
+    ensures accepted { (kinds : List Kind) (quota : ℕ)
+        → IsSoundRecord kinds quota (journals_in S.op_in S.reply_in account.now) (logs_in S.op_in S.reply_in account.now)
+        → IfErr result (λ e. e ≡ Refusal.NoMemory) }
+    ensures checked { IfErr result (λ e. e ≢ Refusal.NoMemory → IsRefused (journals_in S.op_in S.reply_in account.now) (logs_in S.op_in S.reply_in account.now) e) }
+    ensures valid { OnOk result (IsAccepted (journals_in S.op_in S.reply_in account.now) (logs_in S.op_in S.reply_in account.now)) }
+{
+    let Ok(history) = history(alloc, account) else {
+        return Err(Refusal::NoMemory);
+    };
+    let Ok(certificates) = certificates(alloc, account) else {
+        return Err(Refusal::NoMemory);
+    };
+    check_all(alloc, &history, &certificates)
 }

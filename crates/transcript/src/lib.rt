@@ -2,6 +2,8 @@
 #![tactic(auto)]
 
 mod accounts;
+mod laws;
 mod line;
 
-pub use accounts::{certificates, history};
+pub use accounts::{certificates, check_record, history};
+pub use laws::sound_record_is_accepted;
