@@ -5,3 +5,4 @@ pub mod Naming
 pub mod Certifying
 pub mod Denoting
 pub mod Accepting
+pub mod Texts

@@ -1,2 +1,4 @@
 pub mod Lines
 pub mod Accounts
+pub mod Pieces
+pub mod Written

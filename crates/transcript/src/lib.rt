@@ -4,6 +4,8 @@
 mod accounts;
 mod laws;
 mod line;
+mod text;
 
 pub use accounts::{certificates, check_record, history};
 pub use laws::sound_record_is_accepted;
+pub use text::write_history;
