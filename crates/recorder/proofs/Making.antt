@@ -13,7 +13,10 @@ use Rattle.world.proofs.Shares.{Shares, merged, merged_rises, merged_part}
 use Rattle.events.specs.declared.event.Event.{Event}
 use Rattle.events.specs.Events.{HasShape, IsProper}
 use Rattle.events.proofs.Runs.{idle, Runs}
-use Rattle.recorder.specs.Histories.{events_of, AreEventsOf, max_tickets, IsRecord}
+use Rattle.recorder.specs.Records.{Recorded}
+use Rattle.recorder.specs.Histories.{events_of, AreEventsOf, max_tickets, IsRecord, IsRecordOf, journals_in, logs_in}
+use Rattle.model.specs.declared.AnyOp.{AnyOp}
+use Rattle.model.specs.declared.AnyReply.{AnyReply}
 use Rattle.recorder.proofs.Running.{runs_part, proper_from}
 use Rattle.recorder.proofs.Shapes.{shape_ordered}
 use Rattle.recorder.proofs.Journals.{InTurn, in_turn, runs_of, numbers_of, process_of_each, invocation_of, object_of_each}
@@ -92,3 +95,7 @@ module _ (kinds : List Kind) (quota : ℕ) (journals : ℕ → List AnyEvent) (l
       few_logged = λ x. all_from_in (λ (e : AnyEntry). e.ticket < max_tickets) (logs x) (entry_low x);
       on_objects = all_from_in (λ (e : Event). e.object < length kinds) events_in (λ e i. object_of_each kinds e.process 0 (journals e.process) (turns_in e.process) (among e.process) e (own_event e i));
     }
+
+-- what is made of the journals and logs of a sound record
+pub record_from : {O R : Type 0} (op_in : O → AnyOp) (reply_in : R → AnyReply) (r : Recorded O R) (kinds : List Kind) (quota : ℕ) → IsSoundRecord kinds quota (journals_in op_in reply_in r) (logs_in op_in reply_in r) → length r.logs ≡ length kinds → quota < 10001 → IsRecordOf op_in reply_in r
+record_from op_in reply_in r kinds quota s long low = subst (λ (n : ℕ). IsRecord n (journals_in op_in reply_in r) (logs_in op_in reply_in r)) (sym long) (is_record kinds quota (journals_in op_in reply_in r) (logs_in op_in reply_in r) s low)
