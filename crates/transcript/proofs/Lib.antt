@@ -6,3 +6,6 @@ pub mod Certifying
 pub mod Denoting
 pub mod Accepting
 pub mod Texts
+pub mod Runs
+pub mod Forms
+pub mod ReadBack

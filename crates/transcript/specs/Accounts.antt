@@ -33,14 +33,3 @@ pub record IsRefused (journals : ℕ → List AnyEvent) (logs : ℕ → List Any
   pub are_events : AreEventsOf journals events
   pub are_certificates : AreCertificatesOf journals logs certificates
   pub first : IsFirstRefusal events certificates r
-
--- the events are numbered from n on
-abbrev pub CountFrom : ℕ → List Event → Type 0
-CountFrom n [] = Unit {0}
-CountFrom n (e ∷ es) = (e.number ≡ n) × CountFrom (n + 1) es
-
--- The text spells forms that denote these events.
-pub record DenotesEvents (text : List ℕ) (es : List Event) : Type 0 where
-  pub forms : List Datum
-  pub spelled : Spells forms text
-  pub denoted : Denotes forms es

@@ -2,3 +2,4 @@ pub mod Lines
 pub mod Accounts
 pub mod Pieces
 pub mod Written
+pub mod Reading

@@ -9,6 +9,7 @@ ghost use Rattle.certificate.specs.declared.Certificate.{Certificate};
 ghost use Rattle.checker.specs.Refusals.{AreValid};
 ghost use Rattle.recorder.specs.Histories.{AreEventsOf};
 ghost use Rattle.transcript.specs.Accounts.{AreCertificatesOf};
+ghost use Rattle.transcript.specs.Reading.{WrittenDenotes};
 
 /// The certificates of a sound record are valid: one for each object of its history, and none besides.
 pub fn sound_record_is_accepted()
@@ -17,4 +18,9 @@ pub fn sound_record_is_accepted()
         → (events : List Event) (certificates : List Certificate)
         → AreEventsOf journals events → AreCertificatesOf journals logs certificates
         → AreValid events certificates }
+{}
+
+/// The text of the lines of a sound record's history spells forms that denote it.
+pub fn written_history_denotes()
+    ensures { WrittenDenotes }
 {}

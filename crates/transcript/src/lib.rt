@@ -7,5 +7,5 @@ mod line;
 mod text;
 
 pub use accounts::{certificates, check_record, history};
-pub use laws::sound_record_is_accepted;
+pub use laws::{sound_record_is_accepted, written_history_denotes};
 pub use text::write_history;
