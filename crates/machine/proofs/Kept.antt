@@ -14,8 +14,8 @@ use Rattle.world.specs.World.{AnyRequest, AnyAnswer, AnyDone, AnyEvent, World, S
 use Rattle.world.specs.Moves.{Step, Takes, Moves, MayEnd, HoldsNothing, changed, staged, ticked, held_by, handed, ended_by, served_by, draw_call, draw_return, answer, win, release, end}
 use Rattle.world.proofs.Changed.{changed_here, changed_else, changed_all}
 use Rattle.machine.specs.declared.step.Stage.TheVariants.{Idle, Drawn, Posted, Picked, Answered, Taken}
-use Rattle.machine.specs.Machines.{State, AnyStage, IsMachine, clients_of, world_of, stage_of, done_in}
-use Rattle.machine.specs.Runs.{Leads, IsRun, IsImpossible}
+use Rattle.machine.specs.Machines.{State, AnyStage, HasRun, IsMachine, clients_of, world_of, stage_of, done_in}
+use Rattle.machine.specs.Runs.{Leads, IsWorldOfRun, IsImpossible}
 use Rattle.machine.specs.Steps.{IsGoing, IsTaken}
 use Rattle.world.proofs.Entries.{replays_more}
 use Rattle.machine.proofs.Lists.{get_or-set, slice_get-set_same, slice_get-set_other, map-set_same_at}
@@ -37,8 +37,15 @@ pub going_of : (s t : State) (c : ℕ) → s ≡ t → IsGoing t c → IsGoing s
 going_of s t c e h = subst (λ (z : State). IsGoing z c) (sym e) h
 
 -- one more transition of a run
-pub run_more : (kinds : List Kind) (n quota : ℕ) (step : Step) (w after : World) (c : ℕ) → IsRun kinds n quota w → Moves kinds quota step w c after → IsRun kinds n quota after
+pub run_more : (kinds : List Kind) (n quota : ℕ) (step : Step) (w after : World) (c : ℕ) → IsWorldOfRun kinds n quota w → Moves kinds quota step w c after → IsWorldOfRun kinds n quota after
 run_more kinds n quota step w after c r h = (r.0 ++ (c, step) ∷ [], leads_more kinds quota _ r.0 (c, step) w after r.1 h)
+
+-- a step of a machine is one
+pub run_taken : (s s' : State) (c : ℕ) (w : Step) → HasRun s → IsTaken s c w s' → HasRun s'
+run_taken s s' c w run t =
+    let same : (ks : List Kind) (n q : ℕ) → s'.kinds ≡ ks → clients_of s' ≡ n → s'.quota ≡ q → IsWorldOfRun ks n q (world_of s') → HasRun s' =
+    λ ks n q a b d h. subst (λ (k : List Kind). IsWorldOfRun k (clients_of s') s'.quota (world_of s')) (sym a) (subst (λ (k : ℕ). IsWorldOfRun ks k s'.quota (world_of s')) (sym b) (subst (λ (k : ℕ). IsWorldOfRun ks n k (world_of s')) (sym d) h)) in
+    same s.kinds (clients_of s) s.quota t.kinds t.clients t.quota (run_more s.kinds (clients_of s) s.quota w (world_of s) (world_of s') c run t.moves)
 
 -- a client that is there has come
 named : (t : AnyStage) → stage_of t ≢ world.absent
@@ -83,7 +90,7 @@ module _ (contents : List Content) (s : State) (m : IsMachine contents s) (c : �
       let ek = like.kinds in let eq = like.quota in let el = like.logs in let eh = like.holders in let ea = like.hands in let es = like.stages in let ej = like.journals in let ee = like.ended in
       let ml = m.logs in let mh = m.holders in let ma = m.hands in let mj = m.journals in let me = m.ended in let fo = m.few_objects in let fc = m.few_clients in let fq = m.few_calls in
       let same_kinds : length s'.kinds ≡ length s.kinds = ap (λ (ks : List Kind). length ks) ek in
-      let run : IsRun s.kinds (length s.stages) s.quota (world_of s') = run_more s.kinds (clients_of s) s.quota w (world_of s) (world_of s') c m.run moved in (
+      let run : IsWorldOfRun s.kinds (length s.stages) s.quota (world_of s') = run_more s.kinds (clients_of s) s.quota w (world_of s) (world_of s') c m.run moved in (
         record {
           kinds = keeps.kinds;
           logs = omega arith;
@@ -97,7 +104,7 @@ module _ (contents : List Content) (s : State) (m : IsMachine contents s) (c : �
           fits = keeps.fits;
           journals_are = keeps.journals_are;
           single = keeps.single;
-          run = subst (λ (ks : List Kind). IsRun ks (length s'.stages) s'.quota (world_of s')) (sym ek) (subst (λ (q : ℕ). IsRun s.kinds (length s'.stages) q (world_of s')) (sym eq) (subst (λ (n : ℕ). IsRun s.kinds n s.quota (world_of s')) (sym es) run));
+          run = subst (λ (ks : List Kind). IsWorldOfRun ks (length s'.stages) s'.quota (world_of s')) (sym ek) (subst (λ (q : ℕ). IsWorldOfRun s.kinds (length s'.stages) q (world_of s')) (sym eq) (subst (λ (n : ℕ). IsWorldOfRun s.kinds n s.quota (world_of s')) (sym es) run));
         },
         record { moves = moved; kinds = ek; clients = es; quota = eq },
       )

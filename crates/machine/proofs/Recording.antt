@@ -1,10 +1,13 @@
 -- The record of a machine is that of its world, and is sound.
-use Rattle.std.proofs.Common.{◌≡◌, ℕ, List, [], get_or, map, ap, sym, ◌∙◌, subst}
+use Rattle.std.proofs.Common.{◌≡◌, ℕ, List, [], length, get_or, map, ap, sym, ◌∙◌, subst}
 use Rattle.std.proofs.Math.ListN as ListN
 use Rattle.model.specs.declared.AnyOp.{AnyOp}
 use Rattle.model.specs.declared.AnyReply.{AnyReply}
 use Rattle.model.specs.Objects.{Content}
-use Rattle.recorder.specs.Records.{Recorded, items_of, journal_at, log_at}
+use Rattle.recorder.specs.Records.{Recorded, recorded, items_of, journal_at, log_at}
+use Rattle.recorder.specs.Histories.{IsRecord, IsRecordOf}
+use Rattle.recorder.proofs.Making.{is_record}
+use Rattle.std.proofs.lemmas.List.{length-map}
 use Rattle.world.specs.World.{AnyEntry, AnyEvent, journal_in}
 use Rattle.world.specs.Images.{entry_in, event_in}
 use Rattle.world.specs.Records.{IsSoundRecord}
@@ -27,6 +30,14 @@ module _ {S O R : Type 0} (content : S → Content) (op_in : O → AnyOp) (reply
       subst (λ (js : ℕ → List AnyEvent). IsSoundRecord s.kinds s.quota js (λ x. map (entry_in op_in reply_in) (get_or (items_of m.logs.items) x []))) (λ i c. sym (journals_in c) i)
       (subst (λ (ls : ℕ → List AnyEntry). IsSoundRecord s.kinds s.quota (journal_in (world_of s)) ls) (λ i x. sym (logs_in x) i)
       (sound_record s.kinds s.quota (world_of s) (run_sound s.kinds (clients_of s) s.quota (world_of s) is.run)))
+
+  pub is_record_in : IsRecordOf op_in reply_in (recorded m.journals.items m.logs.items)
+  is_record_in =
+      let s = state_in content op_in reply_in m in
+      let low = is.few_calls in
+      let long : length (items_of m.logs.items) ≡ length s.kinds = sym (length-map (items_of m.logs.items) (map (entry_in op_in reply_in))) ∙ is.logs in
+      subst (λ (n : ℕ). IsRecord n (λ c. map (event_in op_in reply_in) (get_or (items_of m.journals.items) c [])) (λ x. map (entry_in op_in reply_in) (get_or (items_of m.logs.items) x []))) (sym long)
+      (is_record s.kinds s.quota (λ c. map (event_in op_in reply_in) (get_or (items_of m.journals.items) c [])) (λ x. map (entry_in op_in reply_in) (get_or (items_of m.logs.items) x [])) sound_in low)
 
   -- the same of the state under another name, and of the record that was made
   module _ (now : State) (same : state_in content op_in reply_in m ≡ now) (r : Recorded O R) (made : r ≡ record { journals = items_of m.journals.items; logs = items_of m.logs.items }) where

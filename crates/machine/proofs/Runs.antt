@@ -9,7 +9,7 @@ use Rattle.world.specs.Sound.{Sound, IsAmong, IsInTime}
 use Rattle.world.proofs.Moving.{moves_sound}
 use Rattle.world.proofs.Moved.{clock_few}
 use Rattle.world.proofs.Totals.{total_le}
-use Rattle.machine.specs.Runs.{start_of, Leads, IsRun}
+use Rattle.machine.specs.Runs.{start_of, Leads, IsWorldOfRun}
 
 -- a client is idle or has not come
 begun : Bool → Stage
@@ -55,8 +55,8 @@ leads_sound : (kinds : List Kind) (quota : ℕ) (w : World) (ms : List (ℕ × S
 leads_sound kinds quota w [] after l k = subst (Sound kinds quota) (sym l) k
 leads_sound kinds quota w (m ∷ ms) after l k = leads_sound kinds quota l.0 ms after l.2 (moves_sound kinds quota m.1 w l.0 m.0 l.1 k)
 
-pub run_sound : (kinds : List Kind) (n quota : ℕ) (w : World) → IsRun kinds n quota w → Sound kinds quota w
+pub run_sound : (kinds : List Kind) (n quota : ℕ) (w : World) → IsWorldOfRun kinds n quota w → Sound kinds quota w
 run_sound kinds n quota w r = leads_sound kinds quota (start_of n) r.0 w r.1 (start_sound kinds quota n)
 
-pub run_few : (kinds : List Kind) (n quota : ℕ) (w : World) → IsRun kinds n quota w → w.clock ≤ 64 * quota
+pub run_few : (kinds : List Kind) (n quota : ℕ) (w : World) → IsWorldOfRun kinds n quota w → w.clock ≤ 64 * quota
 run_few kinds n quota w r = clock_few kinds quota w (run_sound kinds n quota w r)

@@ -18,7 +18,7 @@ use Rattle.world.specs.World as world
 use Rattle.world.specs.World.{AnyEntry, AnyEvent, World, request_of, journal_of, journal_in, Replays}
 use Rattle.machine.specs.declared.step.Stage.TheVariants.{Idle}
 use Rattle.machine.specs.Machines.{State, IsMachine, world_of, state_of, stage_in, stage_of, done_in}
-use Rattle.machine.specs.Runs.{start_of, IsRun}
+use Rattle.machine.specs.Runs.{start_of, IsWorldOfRun}
 
 pub get_or-copies : {A : Type 0} (n : ℕ) (v : A) (i : ℕ) → get_or (replicate n v) i v ≡ v
 get_or-copies zero v i = refl
@@ -103,7 +103,7 @@ machine_start contents m quota few_objects few_clients few_calls empties =
       fits = λ x c at. subst (λ (l : List AnyEntry). Replays (empty (kind_with c)) l c) (sym (get_or-copies n [] x)) (sym (empties x c at));
       journals_are = λ c. get_or-copies m [] c ∙ sym (ap (λ (w : World). journal_in w c) is ∙ ap (journal_of []) (no_request (nat_lt c m)));
       single = λ c x y a. let e : None ≡ Some c = sym (get_or-copies n None x) ∙ a in absurd (cc);
-      run = subst (λ (k : ℕ). IsRun (map kind_with contents) k quota (world_of s)) (sym (length-copies m Idle)) ([], is);
+      run = subst (λ (k : ℕ). IsWorldOfRun (map kind_with contents) k quota (world_of s)) (sym (length-copies m Idle)) ([], is);
     }
 
 pub items_of-more : {A Z : Type 0} (vs : List (Vec A Z)) (v : Vec A Z) → items_of (vs ++ v ∷ []) ≡ items_of vs ++ v.items ∷ []

@@ -12,7 +12,7 @@ use Rattle.world.specs.World.{AnyEntry, AnyEvent, AnyDone, World, journal_in, Re
 use Rattle.world.specs.Images.{request_in, answer_in, entry_in, event_in}
 use Rattle.machine.specs.declared.step.Stage.{Stage}
 use Rattle.machine.specs.declared.step.Stage.TheVariants.{Idle, Drawn, Posted, Picked, Answered, Taken}
-use Rattle.machine.specs.Runs.{IsRun}
+use Rattle.machine.specs.Runs.{IsWorldOfRun}
 
 -- a stage, of operations and replies of all kinds
 abbrev pub AnyStage : Type 0
@@ -84,6 +84,10 @@ world_of s = record {
   ended = λ c. slice_index_or s.ended c false;
 }
 
+-- the machine's world is that of a run
+abbrev pub HasRun : State → Type 0
+HasRun s = IsWorldOfRun s.kinds (clients_of s) s.quota (world_of s)
+
 -- what holds of a machine between any two steps, its objects containing this
 pub record IsMachine (contents : List Content) (s : State) : Type 0 where
   pub kinds : s.kinds ≡ map kind_with contents
@@ -102,4 +106,4 @@ pub record IsMachine (contents : List Content) (s : State) : Type 0 where
   -- a client holds one object at most
   pub single : (c x y : ℕ) → slice_index_or s.holders x None ≡ Some c → slice_index_or s.holders y None ≡ Some c → x ≡ y
   -- the world is that of a run
-  pub run : IsRun s.kinds (clients_of s) s.quota (world_of s)
+  pub run : HasRun s

@@ -24,6 +24,10 @@ module _ (kinds : List Kind) (quota : ℕ) where
   TakesPossible w (m ∷ ms) refused after = ((between : World) × Moves kinds quota m.1 w m.0 between × TakesPossible between ms refused after)
       ⊎ (IsImpossible w m × (others : ℕ) × (refused ≡ others + 1) × TakesPossible w ms others after)
 
+-- a run: these transitions lead from the start to the world w
+abbrev pub IsRun : List Kind → ℕ → ℕ → List (ℕ × Step) → World → Type 0
+IsRun kinds clients quota moves w = Leads kinds quota (start_of clients) moves w
+
 -- the world after some run
-abbrev pub IsRun : List Kind → ℕ → ℕ → World → Type 0
-IsRun kinds clients quota w = (moves : List (ℕ × Step)) × Leads kinds quota (start_of clients) moves w
+abbrev pub IsWorldOfRun : List Kind → ℕ → ℕ → World → Type 0
+IsWorldOfRun kinds clients quota w = (moves : List (ℕ × Step)) × IsRun kinds clients quota moves w

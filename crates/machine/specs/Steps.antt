@@ -70,6 +70,10 @@ IsDraw (world.draw_call x op) = ⊤
 IsDraw world.draw_return = ⊤
 IsDraw w = ⊥
 
+-- the transition of a client is a draw, and possible
+abbrev pub IsPossibleDraw : State → ℕ × world.Step → Type 0
+IsPossibleDraw s m = IsDraw m.1 × IsPossible s m.0 m.1
+
 module _ {O : Type 0} (op_in : O → AnyOp) where
   -- the transition that a step is
   abbrev pub step_in : Step O → world.Step

@@ -5,7 +5,7 @@ ghost use Rattle.model.specs.Objects.{kind_of};
 ghost use Rattle.world.specs.World.{AnyRequest, idle, posted, picked, kind_at, calls_made};
 ghost use Rattle.world.specs.Moves.{HoldsNothing, MayEnd};
 ghost use Rattle.world.specs.Images.{request_in};
-ghost use Rattle.machine.specs.Machines.{clients_of, stage_in, stage_of, world_of};
+ghost use Rattle.machine.specs.Machines.{HasRun, clients_of, stage_in, stage_of, world_of};
 ghost use Rattle.machine.specs.Steps.{CanDo, HasContent, HasPicked, IsInHand};
 
 use crate::machine::Machine;
@@ -31,7 +31,8 @@ impl<S: SeqObject> Machine<S> {
 
     // Whether there is such a client, and it has not ended.
     pub(crate) fn is_going(&self, client: u32) -> bool
-        ensures { IsTrue result ↔ ((client < clients_of self.now) × ((world_of self.now).ended client ≡ false)) }
+        ensures going { IsTrue result ↔ ((client < clients_of self.now) × ((world_of self.now).ended client ≡ false)) }
+        ensures run { HasRun self.now }
     {
         match self.ended.get(client as usize) {
             Some(ended) => !*ended,

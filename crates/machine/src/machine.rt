@@ -38,7 +38,7 @@ impl<S: SeqObject> Model for Machine<S> {
 
 impl<S: SeqObject> Machine<S> {
     ghost use Rattle.std.specs.Prelude.{OnOk};
-    ghost use Rattle.machine.specs.Machines.{world_of};
+    ghost use Rattle.machine.specs.Machines.{HasRun, world_of};
     ghost use Rattle.machine.specs.Runs.{IsImpossible};
     ghost use Rattle.machine.specs.Steps.{IsTaken, IsOutcome, IsDraw, IsPossible, step_in};
 
@@ -51,6 +51,8 @@ impl<S: SeqObject> Machine<S> {
         ensures not_now { IfErr result (λ e. e ≡ StepFault.NotNow → IsImpossible self.old.kinds self.old.quota (world_of self.old) (client, step_in S.op_in step)) }
         ensures memory { IfErr result (λ e. e ≡ StepFault.NoMemory → IsDraw (step_in S.op_in step) × IsPossible self.old client (step_in S.op_in step)) }
         ensures unchanged { OnErr result (self.new ≡ self.old) }
+        // The world is that of a run, before and after.
+        ensures run { HasRun self.new }
     {
         if !self.is_going(client) {
             return Err(StepFault::NotNow);

@@ -1,13 +1,14 @@
 //! Many steps, and the end.
 
-ghost use Rattle.std.specs.Prelude.{◌≡◌, ◌≢◌, ℕ, ◌<◌, ◌≤◌, true, false, length, map, take, IfOk, IfErr, IfSome, IfNone, OnErr, [], ◌∷◌};
+ghost use Rattle.std.specs.Prelude.{◌≡◌, ◌≢◌, ℕ, ◌<◌, ◌≤◌, true, false, length, map, take, slice_get, IfOk, IfErr, IfSome, IfNone, OnErr, Some, [], ◌∷◌};
 ghost use Rattle.world.specs.World.{journal_in};
 ghost use Rattle.world.specs.Records.{IsSoundRecord};
 ghost use Rattle.world.specs.Images.{entry_in, event_in};
 ghost use Rattle.recorder.specs.Records.{journal_at, log_at};
-ghost use Rattle.machine.specs.Machines.{clients_of, world_of};
-ghost use Rattle.machine.specs.Runs.{TakesPossible, IsRun};
-ghost use Rattle.machine.specs.Steps.{IsLike, step_in, steps_in, HasEnded};
+ghost use Rattle.machine.specs.Machines.{HasRun, clients_of, world_of};
+ghost use Rattle.machine.specs.Runs.{TakesPossible};
+ghost use Rattle.machine.specs.declared.step.Step.{Step};
+ghost use Rattle.machine.specs.Steps.{IsLike, IsPossibleDraw, step_in, steps_in, HasEnded};
 
 use crate::machine::Machine;
 use crate::step::{Step, StepFault};
@@ -32,8 +33,13 @@ impl<S: SeqObject> Machine<S> {
     pub fn run(&mut self, steps: &[(u32, Step<S::Op>)]) -> Result<Ran, NoMemoryAt>
         ensures ran { IfOk result (λ r. TakesPossible self.old.kinds self.old.quota (world_of self.old) (steps_in S.op_in steps.now) r.refused (world_of self.new)) }
         ensures before { IfErr result (λ e. (e.step < length steps.now) × (refused : ℕ) × TakesPossible self.old.kinds self.old.quota (world_of self.old) (steps_in S.op_in (take e.step steps.now)) refused (world_of self.new)) }
+        // The step of that number is a draw that is possible now.
+        ensures draw { IfErr result (λ e. (m : ℕ × Step S.Op) × (slice_get steps.now e.step ≡ Some m) × IsPossibleDraw self.new (m.0, step_in S.op_in m.1)) }
         ensures same { IsLike self.old self.new }
+        ensures run { HasRun self.new }
     {
+        // What holds of a machine is known once it is read.
+        let _clock = self.clock;
         let mut refused = 0;
         for (at, taken) in steps.iter().enumerate() {
             let (client, step) = *taken;
@@ -50,7 +56,8 @@ impl<S: SeqObject> Machine<S> {
         ensures ok { IfOk result (λ n. TakesPossible self.old.kinds self.old.quota (world_of self.old) ((client, step_in S.op_in step) ∷ []) n (world_of self.new)) }
         ensures few { IfOk result (λ n. n ≤ 1) }
         ensures like { IsLike self.old self.new }
-        ensures err { OnErr result (self.new ≡ self.old) }
+        ensures run { HasRun self.new }
+        ensures err { OnErr result ((self.new ≡ self.old) × IsPossibleDraw self.new (client, step_in S.op_in step)) }
     {
         match self.step(client, step) {
             Ok(_) => Ok(0),
@@ -80,7 +87,7 @@ impl<S: SeqObject> Machine<S> {
         ensures logs { IfOk result (λ r. (x : ℕ) → map (entry_in S.op_in S.reply_in) (log_at r x) ≡ (world_of self).log x) }
         ensures counts { IfOk result (λ r. (length r.journals ≡ clients_of self) × (length r.logs ≡ length self.kinds)) }
         // The world is that of a run, and so the record is sound.
-        ensures run { IsRun self.kinds (clients_of self) self.quota (world_of self) }
+        ensures run { HasRun self }
         ensures sound { IfOk result (λ r. IsSoundRecord self.kinds self.quota (λ c. map (event_in S.op_in S.reply_in) (journal_at r c)) (λ x. map (entry_in S.op_in S.reply_in) (log_at r x))) }
         ensures going { IfErr result (λ e. (e.0 ≡ self) × (e.1 < clients_of self) × ((world_of self).ended e.1 ≡ false) × ((d : ℕ) → d < e.1 → HasEnded self d)) }
     {

@@ -1,0 +1,5 @@
+pub mod Same
+pub mod Running
+pub mod Shapes
+pub mod Journals
+pub mod Making

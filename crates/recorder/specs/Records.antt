@@ -1,4 +1,4 @@
--- A record of a desk: what each client did, and the log of each object.
+-- A record: what each client did, and the log of each object.
 use Rattle.std.specs.Prelude.{ℕ, List, [], map, slice_index_or}
 use Rattle.std.specs.declared.vec.Vec.{Vec}
 use Rattle.world.specs.declared.LogEntry.{LogEntry}
@@ -11,6 +11,9 @@ pub record Recorded (O R : Type 0) : Type 0 where
 -- the elements of each
 abbrev pub items_of : {A Z : Type 0} → List (Vec A Z) → List (List A)
 items_of vs = map (λ v. v.items) vs
+
+abbrev pub recorded : {O R Y Z : Type 0} → List (Vec (JournalEvent O R) Y) → List (Vec (LogEntry O R) Z) → Recorded O R
+recorded journals logs = record { journals = items_of journals; logs = items_of logs }
 
 module _ {O R : Type 0} where
   abbrev pub journal_at : Recorded O R → ℕ → List (JournalEvent O R)

@@ -1,7 +1,9 @@
-//! What the clients of a desk did: a journal for each client, and a log for each object.
+//! What clients did: a journal for each client, and a log for each object.
 #![tactic(auto)]
 
+mod laws;
 mod record;
 
+pub use laws::{one_history, sound_record_is_a_record};
 pub use record::Record;
 pub use world::{Answer, JournalEvent, LogEntry};

@@ -1,13 +1,15 @@
-//! The record of a desk.
+//! The record of clients and objects.
 
-ghost use Rattle.std.specs.Prelude.{◌≡◌, ◌<◌, length, vec_len};
+ghost use Rattle.std.specs.Prelude.{◌≡◌, ◌<◌, length};
 ghost use Rattle.recorder.specs.Records.{journal_at, log_at};
 
 use seq_objects::SeqObject;
 use std::marker::Model;
 use world::{JournalEvent, LogEntry};
 
-/// The journals of the clients and the logs of the objects, each by number.
+/// The journals of the clients and the logs of the objects, each by number. No ticket stands twice in the journals, all
+/// tickets are below 640,000, each object that a journal names has a log, and in order of tickets the events of the
+/// journals are a proper history.
 #[derive(Drop)]
 pub struct Record<S: SeqObject> {
     journals: Vec<Vec<JournalEvent<S::Op, S::Reply>>>,
@@ -15,24 +17,38 @@ pub struct Record<S: SeqObject> {
 }
 
 impl<S: SeqObject> Model for Record<S> {
-    ghost use Rattle.recorder.specs.Records.{Recorded, items_of};
+    ghost use Rattle.std.specs.Prelude.{length};
+    ghost use Rattle.recorder.specs.Records.{Recorded, recorded};
+    ghost use Rattle.recorder.specs.Histories.{IsRecordOf};
 
     ghost Value = { Recorded S.Op S.Reply };
 
-    ghost view = { λ r. record { journals = items_of r.journals.items; logs = items_of r.logs.items } };
+    ghost view = { λ r. recorded r.journals.items r.logs.items };
+
+    ghost invariant = { λ r. IsRecordOf S.op_in S.reply_in (recorded r.journals.items r.logs.items) };
 }
 
 impl<S: SeqObject> Record<S> {
-    ghost use Rattle.recorder.specs.Records.{items_of};
+    ghost use Rattle.recorder.specs.Records.{items_of, recorded};
+    ghost use Rattle.recorder.specs.Histories.{IsRecordOf};
 
     /// The record of these journals and logs.
     pub fn new(
         journals: Vec<Vec<JournalEvent<S::Op, S::Reply>>>,
         logs: Vec<Vec<LogEntry<S::Op, S::Reply>>>,
     ) -> Record<S>
-        ensures { result ≡ record { journals = items_of journals.items; logs = items_of logs.items } }
+        requires kept { IsRecordOf S.op_in S.reply_in (recorded journals.items logs.items) }
+        ensures { result ≡ recorded journals.items logs.items }
     {
         Record { journals, logs }
+    }
+
+    /// The journals, by client.
+    pub fn journals(&self) -> &[Vec<JournalEvent<S::Op, S::Reply>>]
+        ensures journals { items_of result.now ≡ self.now.journals }
+        ensures kept { IsRecordOf S.op_in S.reply_in self.now }
+    {
+        self.journals.as_slice()
     }
 
     /// How many clients there are.

@@ -8,6 +8,7 @@ pub mod SameKind
 pub mod Opening
 pub mod Moving
 pub mod Shares
+pub mod Owners
 pub mod Denoted
 pub mod Sources
 pub mod Chosen

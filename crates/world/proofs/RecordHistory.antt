@@ -1,59 +1,52 @@
 -- The history of a world's journals: each client's events, merged by their tickets.
-use Rattle.std.proofs.Common.{◌≡◌, ℕ, ◌<◌, ◌==◌, List, filter, Contains, ap, sym, ◌∙◌, subst}
-use mathlib.Core.Logic.{dite}
-use native.Mathlib.Decide.{dec_lt}
-use Rattle.model.specs.Histories.{IsSequential}
+use Rattle.std.proofs.Common.{◌≡◌, ℕ, ◌<◌, ◌==◌, List, filter, ap, sym, ◌∙◌, subst}
+use Rattle.model.specs.Histories.{IsSequential, process_of}
 use Rattle.model.specs.Orders.{Numbered, events, ProcessCall, calls_in, IsHistory}
-use Rattle.model.proofs.Lists.{In, Pairs, all_at, all_from_pairs, pairs_from_all, contains_from_in}
+use Rattle.model.proofs.Lists.{In, Pairs, all_from_pairs, pairs_from_all}
 use Rattle.world.specs.World.{World, journal_in, tickets_in, request_of}
 use Rattle.world.specs.Sound.{ShareOut}
 use Rattle.world.specs.Records.{Denotes, IsHistoryOf}
 use Rattle.locality.proofs.Entries.{number_of}
 use Rattle.locality.proofs.ProcessHistories.{part, events-part, calls_in-part, calls_rise}
 use Rattle.world.proofs.Shares.{Shares, merged, merged_rises, merged_part}
+use Rattle.world.proofs.Owners.{owner, drawn_by}
 use Rattle.world.proofs.Denoted.{denoted, made, denotes, of_client, denoted_rises, denoted_sequential, made_in}
 
 abbrev pub events_of : World → ℕ → List Numbered
 events_of w c = denoted c (w.done c) (request_of (w.stage c))
+
+abbrev number_in : Numbered → ℕ
+number_in m = m.number
+
+abbrev process_in : Numbered → ℕ
+process_in m = process_of m.event
 
 -- the calls of a client
 abbrev pub calls_by : World → ℕ → List ProcessCall
 calls_by w c = made c (w.done c) (request_of (w.stage c))
 
 module _ (w : World) (share : ShareOut w.clock (tickets_in w)) where
-  -- the client that drew a ticket, or client 0 where none did
-  has_owner : (t : ℕ) → (c : ℕ) × (t < w.clock → Contains (tickets_in w c) t)
-  has_owner t = dite (dec_lt t w.clock) (λ l. let e = share.each t l in (e.0, λ _. e.1)) (λ n. (0, λ l. absurd (n l)))
-
-  abbrev owner : ℕ → ℕ
-  owner t = (has_owner t).0
-
-  drawn_by : (c t : ℕ) → In t (tickets_in w c) → (t < w.clock) × (owner t ≡ c)
-  drawn_by c t i =
-      let below : t < w.clock = all_at (λ t. t < w.clock) (tickets_in w c) (share.below c) t i in
-      (below, share.apart (owner t) c t ((has_owner t).1 below) (contains_from_in (tickets_in w c) t i))
-
   pub tickets_rise : (c : ℕ) → Pairs (λ t u. t < u) (tickets_in w c)
   tickets_rise c = pairs_from_all (λ t u. t < u) (tickets_in w c) (share.rising c)
 
-  shares : Shares w.clock owner (events_of w)
+  shares : Shares number_in process_in w.clock (owner share) (events_of w)
   shares = record {
     rising = λ c. denoted_rises c (w.done c) (request_of (w.stage c)) (tickets_rise c);
-    below = λ c m i. (drawn_by c m.number (of_client c (w.done c) (request_of (w.stage c)) m i).1).0;
-    owned = λ c m i. (drawn_by c m.number (of_client c (w.done c) (request_of (w.stage c)) m i).1).1;
-    process = λ c m i. (of_client c (w.done c) (request_of (w.stage c)) m i).0;
+    below = λ c m i. (drawn_by share c m.number (of_client c (w.done c) (request_of (w.stage c)) m i).1).0;
+    owned = λ c m i. (drawn_by share c m.number (of_client c (w.done c) (request_of (w.stage c)) m i).1).1;
+    own = λ c m i. (of_client c (w.done c) (request_of (w.stage c)) m i).0;
   }
 
   pub history : List Numbered
-  history = merged w.clock owner (events_of w)
+  history = merged number_in w.clock (owner share) (events_of w)
 
   history_rises : Pairs (λ a b. a.number < b.number) history
   unfolding history
-  history_rises = merged_rises w.clock owner (events_of w) shares
+  history_rises = merged_rises number_in process_in w.clock (owner share) (events_of w) shares
 
   history_part : (c : ℕ) → part c history ≡ events_of w c
   unfolding history
-  history_part c = merged_part w.clock owner (events_of w) shares c
+  history_part c = merged_part number_in process_in w.clock (owner share) (events_of w) shares c
 
   pub history_denoted : IsHistoryOf (journal_in w) history
   history_denoted = record {

@@ -1,12 +1,9 @@
--- Numbered lists of several processes, each rising, in which no number stands twice: merged into one history.
+-- Lists of several processes, each in rising order of numbers, in which no number stands twice: merged into one.
 use Rattle.std.proofs.Common.{◌≡◌, ℕ, zero, suc, ◌<◌, ◌≤◌, ◌==◌, inl, inr, List, [], ◌∷◌, ◌++◌, filter, flat_map, ap, sym, ◌∙◌, arith}
 use mathlib.Core.Logic.{dite}
 use native.Mathlib.Decide.{ℕ_discrete}
 use Rattle.std.proofs.lemmas.Bool.{eqb-true, eq-eqb, ne_eqb}
-use Rattle.model.specs.Histories.{process_of}
-use Rattle.model.specs.Orders.{Numbered}
 use Rattle.model.proofs.Lists.{In, Pairs, in_filter, in_filter_passes, in_append, pairs_filter, pairs_weaker, pairs_append, pairs_flat_map, filter_all, filter_none, filter-flat_map, flat_map_same, batches}
-use Rattle.locality.proofs.ProcessHistories.{part}
 
 -- the numbers below n
 abbrev upto : ℕ → List ℕ
@@ -40,39 +37,39 @@ upto_rises (suc n) = pairs_append (λ a b. a < b) (upto n) (n ∷ []) (upto_rise
     (λ a b i j. elim j [ inl e ↦ let l = upto_below n a i in omega (arith, e) | inr k ↦ absurd k ])
 
 -- the list of each process, and of each number the process that has it, if any
-pub record Shares (count : ℕ) (owner : ℕ → ℕ) (lists : ℕ → List Numbered) : Type 0 where
-  pub rising : (c : ℕ) → Pairs (λ a b. a.number < b.number) (lists c)
-  pub below : (c : ℕ) (m : Numbered) → In m (lists c) → m.number < count
-  pub owned : (c : ℕ) (m : Numbered) → In m (lists c) → owner m.number ≡ c
-  pub process : (c : ℕ) (m : Numbered) → In m (lists c) → process_of m.event ≡ c
+pub record Shares {X : Type 0} (number process : X → ℕ) (count : ℕ) (owner : ℕ → ℕ) (lists : ℕ → List X) : Type 0 where
+  pub rising : (c : ℕ) → Pairs (λ a b. number a < number b) (lists c)
+  pub below : (c : ℕ) (m : X) → In m (lists c) → number m < count
+  pub owned : (c : ℕ) (m : X) → In m (lists c) → owner (number m) ≡ c
+  pub own : (c : ℕ) (m : X) → In m (lists c) → process m ≡ c
 
-abbrev of_number : ℕ → List Numbered → List Numbered
-of_number t ms = filter (λ m. m.number == t) ms
+abbrev of_number : {X : Type 0} → (X → ℕ) → ℕ → List X → List X
+of_number number t ms = filter (λ m. number m == t) ms
 
-abbrev pub merged : ℕ → (ℕ → ℕ) → (ℕ → List Numbered) → List Numbered
-merged count owner lists = flat_map (λ t. of_number t (lists (owner t))) (upto count)
+abbrev pub merged : {X : Type 0} → (X → ℕ) → ℕ → (ℕ → ℕ) → (ℕ → List X) → List X
+merged number count owner lists = flat_map (λ t. of_number number t (lists (owner t))) (upto count)
 
-module _ (count : ℕ) (owner : ℕ → ℕ) (lists : ℕ → List Numbered) (s : Shares count owner lists) where
-  pub merged_rises : Pairs (λ a b. a.number < b.number) (merged count owner lists)
-  merged_rises = pairs_flat_map (λ a b. a.number < b.number) (λ a b. a < b) (λ t. of_number t (lists (owner t))) (upto count) (upto_rises count)
-      (λ t i. pairs_filter (λ a b. a.number < b.number) (λ m. m.number == t) (lists (owner t)) (s.rising (owner t)))
+module _ {X : Type 0} (number process : X → ℕ) (count : ℕ) (owner : ℕ → ℕ) (lists : ℕ → List X) (s : Shares number process count owner lists) where
+  pub merged_rises : Pairs (λ a b. number a < number b) (merged number count owner lists)
+  merged_rises = pairs_flat_map (λ a b. number a < number b) (λ a b. a < b) (λ t. of_number number t (lists (owner t))) (upto count) (upto_rises count)
+      (λ t i. pairs_filter (λ a b. number a < number b) (λ m. number m == t) (lists (owner t)) (s.rising (owner t)))
       (λ t u l a b i j.
-      let e = eqb-true a.number t (in_filter_passes (λ m. m.number == t) a (lists (owner t)) i) in
-      let f = eqb-true b.number u (in_filter_passes (λ m. m.number == u) b (lists (owner u)) j) in
+      let e = eqb-true (number a) t (in_filter_passes (λ m. number m == t) a (lists (owner t)) i) in
+      let f = eqb-true (number b) u (in_filter_passes (λ m. number m == u) b (lists (owner u)) j) in
       omega arith)
 
-  -- of the event with one number, what the process c has
-  cut : (c t : ℕ) → part c (of_number t (lists (owner t))) ≡ of_number t (lists c)
+  -- of the element with one number, what the process c has
+  cut : (c t : ℕ) → filter (λ m. process m == c) (of_number number t (lists (owner t))) ≡ of_number number t (lists c)
   cut c t = dite (ℕ_discrete (owner t) c)
-      (λ same. filter_all (λ m. process_of m.event == c) (of_number t (lists (owner t))) (λ m i. eq-eqb (process_of m.event) c (s.process (owner t) m (in_filter (λ m. m.number == t) m (lists (owner t)) i) ∙ same))
-      ∙ ap (λ k. of_number t (lists k)) same)
-      (λ other. filter_none (λ m. process_of m.event == c) (of_number t (lists (owner t))) (λ m i. ne_eqb (process_of m.event) c (λ e. other (sym (s.process (owner t) m (in_filter (λ m. m.number == t) m (lists (owner t)) i)) ∙ e)))
-      ∙ sym (filter_none (λ m. m.number == t) (lists c) (λ m i. ne_eqb m.number t (λ e. other (ap owner (sym e) ∙ s.owned c m i)))))
+      (λ same. filter_all (λ m. process m == c) (of_number number t (lists (owner t))) (λ m i. eq-eqb (process m) c (s.own (owner t) m (in_filter (λ m. number m == t) m (lists (owner t)) i) ∙ same))
+      ∙ ap (λ k. of_number number t (lists k)) same)
+      (λ other. filter_none (λ m. process m == c) (of_number number t (lists (owner t))) (λ m i. ne_eqb (process m) c (λ e. other (sym (s.own (owner t) m (in_filter (λ m. number m == t) m (lists (owner t)) i)) ∙ e)))
+      ∙ sym (filter_none (λ m. number m == t) (lists c) (λ m i. ne_eqb (number m) t (λ e. other (ap owner (sym e) ∙ s.owned c m i)))))
 
-  pub merged_part : (c : ℕ) → part c (merged count owner lists) ≡ lists c
+  pub merged_part : (c : ℕ) → filter (λ m. process m == c) (merged number count owner lists) ≡ lists c
   merged_part c =
-      filter-flat_map (λ m. process_of m.event == c) (λ t. of_number t (lists (owner t))) (upto count)
-      ∙ (flat_map_same (λ t. part c (of_number t (lists (owner t)))) (λ t. of_number t (lists c)) (upto count) (λ t i. cut c t)
-      ∙ batches (λ (m : Numbered). m.number) (upto count) (lists c) (upto_rises count)
-      (pairs_weaker (λ a b. a.number < b.number) (λ a b. a.number ≤ b.number) (lists c) (λ a b i j l. omega arith) (s.rising c))
-      (λ m i. upto_has count m.number (s.below c m i)))
+      filter-flat_map (λ m. process m == c) (λ t. of_number number t (lists (owner t))) (upto count)
+      ∙ (flat_map_same (λ t. filter (λ m. process m == c) (of_number number t (lists (owner t)))) (λ t. of_number number t (lists c)) (upto count) (λ t i. cut c t)
+      ∙ batches number (upto count) (lists c) (upto_rises count)
+      (pairs_weaker (λ a b. number a < number b) (λ a b. number a ≤ number b) (lists c) (λ a b i j l. omega arith) (s.rising c))
+      (λ m i. upto_has count (number m) (s.below c m i)))

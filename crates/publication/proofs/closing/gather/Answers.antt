@@ -1,7 +1,8 @@
 use Rattle.std.proofs.Common.{rules, arith, ◌≡◌, [], map, length, get_or, vec_len, sym, ap, subst, ◌∙◌}
 use Rattle.std.specs.Slots.{slots_items}
 use Rattle.world.specs.Images.{event_in}
-use Rattle.recorder.specs.Records.{items_of}
+use Rattle.recorder.specs.Records.{recorded, items_of}
+use Rattle.recorder.proofs.Making.{record_from}
 use Rattle.desk_rule.specs.Views.{journal}
 use Rattle.publication.specs.Closing.{values_of, HasJournal, IsJournalOf, AreLogs}
 use Rattle.publication.proofs.Leavings.{left_by, closed_ok}
@@ -48,3 +49,22 @@ returns g c = let d = c.desk.invariant.0 in let k = c.last.invariant in let e = 
     (λ n l other. subst (λ js. IsJournalOf (values_of c.close_with-left.result) n (get_or js n [])) (sym (ap (λ r. r.journals) c.new.ensures))
     (subst (λ xs. IsJournalOf xs n (get_or (items_of c.take_all_journals.new.journals.items) n [])) (c.pass_over.ensures.1 ∙ c.take_logs.ensures.slots.1)
     (c.take_all_journals.ensures.others n (omega arith) (λ f. other (f ∙ own)))))
+
+pub new-requires-clause-kept : goal.new-requires-clause-kept
+new-requires-clause-kept g c lfts within = let d = c.desk.invariant.0 in let k = c.last.invariant in let e = c.close_with-left.ensures in
+    let left = left_by g.S.SeqObject.content g.S.SeqObject.op_in g.S.SeqObject.reply_in c.desk.inside.table.shared.key c.args.desk c.args.last c.last.inside.member.seat.id c.last.inside.member.seat.me.0 (slots_items c.close_with-left.result.words) (values_of c.close_with-left.result)
+    (d.2 ∙ ap (λ s. s.id.kinds) c.desk.view_is) (d.3 ∙ ap (λ s. s.clients) c.desk.view_is) (d.4 ∙ ap (λ s. s.id.quota) c.desk.view_is) (ap (λ k. k.knows) c.last.view_is) k.agrees.client_is k.free k.agrees.at_rest c.requires.ended e.values.2 in
+    let own : c.last.inside.member.number ≡ c.args.last.knows.number = sym k.agrees.number_is ∙ ap (λ k. k.knows.number) c.last.view_is in
+    let n = c.len-objects.ensures in let count : length c.desk.inside.kinds.items ≡ vec_len c.desk.inside.kinds = search rules in let same : length c.desk.inside.kinds.items ≡ length c.args.desk.id.kinds = ap (λ s. length s.id.kinds) c.desk.view_is in
+    let all : c.len-objects.result ≡ length c.args.desk.id.kinds = omega arith in let clients : c.desk.inside.clients ≡ c.args.desk.clients = ap (λ s. s.clients) c.desk.view_is in
+    let r = recorded c.take_all_journals.new.journals.items c.take_logs.new.logs.items in
+    let closed = closed_ok g.S.SeqObject.op_in g.S.SeqObject.reply_in c.args.desk c.args.last (values_of c.close_with-left.result) r left
+    (subst (λ m. AreLogs m (values_of c.close_with-left.result) r.logs) all c.take_logs.ensures.logs)
+    (c.take_all_journals.ensures.count ∙ ap (λ s. s.clients) c.desk.view_is)
+    (ap (λ m. map (event_in g.S.SeqObject.op_in g.S.SeqObject.reply_in) (get_or (items_of c.take_all_journals.new.journals.items) m [])) (sym own)
+    ∙ (ap (map (event_in g.S.SeqObject.op_in g.S.SeqObject.reply_in)) c.take_all_journals.ensures.own ∙ (k.agrees.journal_is ∙ ap (λ k. journal k.knows) c.last.view_is)))
+    (λ n l other. subst (λ xs. IsJournalOf xs n (get_or (items_of c.take_all_journals.new.journals.items) n [])) (c.pass_over.ensures.1 ∙ c.take_logs.ensures.slots.1)
+    (c.take_all_journals.ensures.others n (omega arith) (λ f. other (f ∙ own)))) in
+    let quota : c.desk.inside.quota ≡ c.args.desk.id.quota = ap (λ s. s.id.quota) c.desk.view_is in
+    let few = d.7 in
+    record_from g.S.SeqObject.op_in g.S.SeqObject.reply_in r c.args.desk.id.kinds c.args.desk.id.quota closed.sound closed.logs (omega arith)

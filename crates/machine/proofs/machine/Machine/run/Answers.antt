@@ -20,5 +20,6 @@ loop-at-preserved g c =
           (taken_more (λ m. (m.0, step_in g.S.SeqObject.op_in m.1)) c.args.steps.now c.loop-at.at v c.loop-at-test.true c.index-steps-at.is)
           (more now.kinds now.quota (world_of now) _ c.loop-at.refused (world_of c.loop-at.self) _ c.in-Ok.passed (world_of c.turn.new.self) c.loop-at.invariant.ran one);
       like = like_both _ _ _ like c.in-Ok.ensures.like;
+      run = c.in-Ok.ensures.run;
       few = let a = c.loop-at.invariant.few in let b = c.in-Ok.ensures.few in omega arith;
     }

@@ -1,0 +1,37 @@
+-- What is wrong with the forms of a schedule, and which fault is the first.
+use Rattle.std.specs.Prelude.{◌≡◌, ◌≢◌, ℕ, ◌+◌, List, [], ◌∷◌, ◌++◌, length, Some, None, All}
+use Rattle.edn.specs.Datum.{Datum}
+use Rattle.schedule.specs.Schedules.{header_of, step_of}
+use Rattle.schedule.specs.declared.fault.ScheduleFault.{ScheduleFault}
+use Rattle.schedule.specs.declared.fault.ScheduleFaultKind.{ScheduleFaultKind}
+use Rattle.schedule.specs.declared.fault.ScheduleFaultKind.TheVariants.{NoHeader, NotAStep, NoMemory}
+
+-- the first form is no header, or there is none
+abbrev pub LacksHeader : List Datum → Type 0
+LacksHeader [] = Unit {0}
+LacksHeader (d ∷ ds) = header_of d ≡ None
+
+-- of the forms behind the header, with the numbers from 1 on, this is the first that is no step
+pub record IsNoStepAt (ds : List Datum) (place : ℕ) : Type 0 where
+  pub earlier : List Datum
+  pub form : Datum
+  pub later : List Datum
+  pub split : ds ≡ earlier ++ form ∷ later
+  pub stands_at : length earlier + 1 ≡ place
+  pub steps : All (λ d. step_of d ≢ None) earlier
+  pub none : step_of form ≡ None
+
+abbrev pub StepFaultIs : List Datum → ScheduleFaultKind → ℕ → Type 0
+StepFaultIs ds NoHeader n = ⊥
+StepFaultIs ds NotAStep n = IsNoStepAt ds n
+StepFaultIs ds NoMemory n = Unit {0}
+
+-- the fault of a kind stands at this form, and none at an earlier one
+abbrev pub FaultIs : List Datum → ScheduleFaultKind → ℕ → Type 0
+FaultIs ds NoHeader n = LacksHeader ds × (n ≡ 0)
+FaultIs ds NotAStep n = (first : Datum) × (rest : List Datum) × (ds ≡ first ∷ rest) × (header_of first ≢ None) × IsNoStepAt rest n
+FaultIs ds NoMemory n = Unit {0}
+
+-- The first fault: that of the least faulty form. Want of memory says nothing.
+abbrev pub IsFirstFault : List Datum → ScheduleFault → Type 0
+IsFirstFault ds fault = FaultIs ds fault.kind fault.form

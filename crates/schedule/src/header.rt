@@ -1,0 +1,96 @@
+//! The header of a schedule.
+
+ghost use Rattle.std.specs.Prelude.{◌≡◌, ◌<◌, Some, option_map};
+ghost use Rattle.edn.specs.Datum.{dictionary, entries_of};
+ghost use Rattle.edn.specs.View.{view, pair_views};
+ghost use Rattle.schedule.specs.Schedules as spec;
+
+use edn::{Form, Name};
+use fields::{is_same, keyword, natural, value_at};
+use model::Kind;
+
+/// The kinds of the objects.
+#[derive(Clone, Copy, Debug, PartialEq, Eq)]
+pub enum Kinds {
+    /// All are of one kind.
+    One(Kind),
+    /// Queue, stack, heap, register and map in turn.
+    Mixed,
+}
+
+/// What a machine is to be made of.
+#[derive(Clone, Copy, Debug, PartialEq, Eq)]
+pub struct Header {
+    pub kinds: Kinds,
+    /// How many objects, from 1 to 16.
+    pub objects: u32,
+    /// How many clients, from 1 to 32.
+    pub clients: u32,
+    /// How many calls each client may make, at most 10,000.
+    pub quota: u32,
+}
+
+fn kinds_named(name: &[u8]) -> Option<Kinds>
+    ensures { result ≡ spec.kinds_named name.now }
+{
+    if is_same(name, b"queue") {
+        Some(Kinds::One(Kind::Queue))
+    } else if is_same(name, b"stack") {
+        Some(Kinds::One(Kind::Stack))
+    } else if is_same(name, b"heap") {
+        Some(Kinds::One(Kind::Heap))
+    } else if is_same(name, b"register") {
+        Some(Kinds::One(Kind::Register))
+    } else if is_same(name, b"map") {
+        Some(Kinds::One(Kind::Map))
+    } else if is_same(name, b"mutex") {
+        Some(Kinds::One(Kind::Mutex))
+    } else if is_same(name, b"mixed") {
+        Some(Kinds::Mixed)
+    } else {
+        None
+    }
+}
+
+/// The number, where it is within these bounds.
+fn number_within(low: u32, high: u32, value: Option<u64>) -> Option<u32>
+    ensures { result ≡ spec.number_within low high value }
+{
+    match value {
+        Some(n) if u64::from(low) <= n && n <= u64::from(high) => Some(n as u32),
+        _ => None,
+    }
+}
+
+/// The number that the map has for the key, where it is within these bounds.
+pub(crate) fn number_at(entries: &[(Name, Form)], key: &[u8], low: u32, high: u32) -> Option<u32>
+    ensures { result ≡ spec.number_at key.now low high (entries_of (pair_views entries.now)) }
+{
+    number_within(low, high, natural(value_at(entries, key)))
+}
+
+fn header_in(entries: &[(Name, Form)]) -> Option<Header>
+    ensures { result ≡ spec.header_of (dictionary (entries_of (pair_views entries.now))) }
+{
+    let kinds = kinds_named(keyword(value_at(entries, b"kind"))?.as_bytes())?;
+    let objects = number_at(entries, b"objects", 1, 16)?;
+    let clients = number_at(entries, b"clients", 1, 32)?;
+    let quota = number_at(entries, b"quota", 0, 10_000)?;
+    Some(Header {
+        kinds,
+        objects,
+        clients,
+        quota,
+    })
+}
+
+/// The header that the form is, if it is one.
+#[tactic(auto, using(edn::proofs::Pairs::map_view))]
+pub(crate) fn header_of(form: &Form) -> Option<Header>
+    ensures { result ≡ spec.header_of (view form.now) }
+{
+    match form {
+        Form::Map(entries) => header_in(entries),
+        _ => None,
+    }
+}

@@ -1,0 +1,147 @@
+//! The steps of a schedule.
+
+ghost use Rattle.std.specs.Prelude.{◌≡◌, Some, codes, option_and_then, option_map};
+ghost use Rattle.edn.specs.Datum.{dictionary, items_of, entries_of};
+ghost use Rattle.edn.specs.View.{view, views, pair_views};
+ghost use Rattle.fields.specs.Fields.{keyword_in, value_in, value_at};
+ghost use Rattle.history.specs.Maps as maps;
+ghost use Rattle.history.specs.Names.{function_named};
+ghost use Rattle.schedule.specs.Schedules as spec;
+
+use crate::header::number_at;
+use edn::{Form, Name};
+use fields::{is_same, keyword, value_at};
+use machine::Step;
+use model::AnyOp;
+use seq_objects::{Function, Value, op_of};
+
+fn function(name: &[u8]) -> Option<Function>
+    ensures { result ≡ function_named name.now }
+{
+    Function::named(name)
+}
+
+fn integer(form: &Form) -> Option<i64>
+    ensures { result ≡ maps.integer_in (view form.now) }
+{
+    match form {
+        Form::Int(n) => Some(*n),
+        _ => None,
+    }
+}
+
+/// The pair that two integers are.
+fn pair_in(items: &[Form]) -> Option<Value>
+    ensures { result ≡ maps.pair_in (items_of (views items.now)) }
+{
+    let [first, second] = items else {
+        return None;
+    };
+    Some(Value::Pair(integer(first)?, integer(second)?))
+}
+
+/// The value in which an argument is written: an absent one is nil.
+#[tactic(auto, using(edn::proofs::Pairs::vector_view))]
+fn plain_value(value: Option<&Form>) -> Option<Value>
+    ensures { result ≡ maps.plain_value (value_in (option_map (λ f. view f.now) value.entry)) }
+{
+    match value {
+        None | Some(Form::Nil) => Some(Value::Nil),
+        Some(Form::Bool(false)) => Some(Value::False),
+        Some(Form::Int(n)) => Some(Value::Int(*n)),
+        Some(Form::Vector(items)) => pair_in(items),
+        _ => None,
+    }
+}
+
+/// The operation that the function's name and the map's value make.
+fn op_named(name: &[u8], entries: &[(Name, Form)]) -> Option<AnyOp>
+    ensures { result ≡ spec.op_named name.now (entries_of (pair_views entries.now)) }
+{
+    let function = function(name)?;
+    op_of(function, plain_value(value_at(entries, b"value"))?)
+}
+
+/// The operation that the function and the map's value make.
+fn op_in(function: &Form, entries: &[(Name, Form)]) -> Option<AnyOp>
+    ensures { result ≡ option_and_then (λ k. spec.op_named k (entries_of (pair_views entries.now))) (keyword_in (Some (view function.now))) }
+{
+    op_named(keyword(Some(function))?.as_bytes(), entries)
+}
+
+fn call_with(object: Option<u32>, op: Option<AnyOp>) -> Option<Step<AnyOp>>
+    ensures { result ≡ spec.call_with object op }
+{
+    Some(Step::Draw(Some((object?, op?))))
+}
+
+/// The draw of a call, where there is a function, or else of a return.
+fn draw_in(entries: &[(Name, Form)]) -> Option<Step<AnyOp>>
+    ensures { result ≡ spec.draw_with (value_at (codes "f") (entries_of (pair_views entries.now))) (entries_of (pair_views entries.now)) }
+{
+    match value_at(entries, b"f") {
+        None => Some(Step::Draw(None)),
+        Some(function) => call_with(
+            number_at(entries, b"object", 0, 15),
+            op_in(function, entries),
+        ),
+    }
+}
+
+fn win_in(entries: &[(Name, Form)]) -> Option<Step<AnyOp>>
+    ensures { result ≡ option_map Step.Win (spec.number_at (codes "object") 0 15 (entries_of (pair_views entries.now))) }
+{
+    Some(Step::Win(number_at(entries, b"object", 0, 15)?))
+}
+
+fn pick_in(entries: &[(Name, Form)]) -> Option<Step<AnyOp>>
+    ensures { result ≡ option_map Step.Pick (spec.number_at (codes "row") 0 31 (entries_of (pair_views entries.now))) }
+{
+    Some(Step::Pick(number_at(entries, b"row", 0, 31)?))
+}
+
+/// The step of this name.
+fn step_named(name: &[u8], entries: &[(Name, Form)]) -> Option<Step<AnyOp>>
+    ensures { result ≡ spec.step_named name.now (entries_of (pair_views entries.now)) }
+{
+    if is_same(name, b"draw") {
+        draw_in(entries)
+    } else if is_same(name, b"post") {
+        Some(Step::Post)
+    } else if is_same(name, b"win") {
+        win_in(entries)
+    } else if is_same(name, b"pick") {
+        pick_in(entries)
+    } else if is_same(name, b"answer") {
+        Some(Step::Answer)
+    } else if is_same(name, b"put-back") {
+        Some(Step::PutBack)
+    } else if is_same(name, b"take") {
+        Some(Step::Take)
+    } else if is_same(name, b"release") {
+        Some(Step::Release)
+    } else if is_same(name, b"end") {
+        Some(Step::End)
+    } else {
+        None
+    }
+}
+
+fn step_in(entries: &[(Name, Form)]) -> Option<(u32, Step<AnyOp>)>
+    ensures { result ≡ spec.step_of (dictionary (entries_of (pair_views entries.now))) }
+{
+    let client = number_at(entries, b"client", 0, 31)?;
+    let name = keyword(value_at(entries, b"step"))?;
+    Some((client, step_named(name.as_bytes(), entries)?))
+}
+
+/// The step of a client that the form is, if it is one.
+#[tactic(auto, using(edn::proofs::Pairs::map_view))]
+pub(crate) fn step_of(form: &Form) -> Option<(u32, Step<AnyOp>)>
+    ensures { result ≡ spec.step_of (view form.now) }
+{
+    match form {
+        Form::Map(entries) => step_in(entries),
+        _ => None,
+    }
+}

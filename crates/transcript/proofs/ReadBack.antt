@@ -1,0 +1,328 @@
+-- The lines of a sound record are read back as its events.
+use Rattle.std.proofs.Common.{◌≡◌, ◌≢◌, ℕ, zero, suc, ◌+◌, ◌<◌, ◌≤◌, ◌==◌, Bool, true, false, cond, inl, inr, List, [], ◌∷◌, ◌++◌, map, filter, length, find, reverse, Option, Some, None, option_map, All, Contains, lit<, refl, ap, sym, ◌∙◌, subst, eq-eqb, length-append, arith}
+use Rattle.std.specs.List.{filter_map, cons_option}
+use Rattle.std.proofs.lemmas.Option.{same_Some}
+use Rattle.std.proofs.lemmas.List.{reverse-append, map-append, length-map}
+use Rattle.model.specs.declared.Kind.{Kind}
+use Rattle.model.specs.declared.AnyOp.{AnyOp}
+use Rattle.model.specs.Objects.{kind_of}
+use Rattle.model.proofs.Lists.{In, Pairs, in_map, in_map_from, in_filter, in_filter_from, in_from_contains, in_split, in_append, in_left, in_middle, all_at, pairs_from_all}
+use Rattle.edn.specs.Datum.{Datum, Fits, max_open}
+use Rattle.edn.specs.Text.{InProfile}
+use Rattle.edn.specs.Laws.{EachSpelled}
+use Rattle.edn.proofs.Joined.{text_spells_it, lines_spell_them}
+use Rattle.seq_objects.specs.declared.value.Value.{Value}
+use Rattle.seq_objects.specs.declared.value.Value.TheVariants.{Nil, False, Int, Pair}
+use Rattle.seq_objects.specs.Functions.{kind_of_function}
+use Rattle.seq_objects.specs.Values.{function_in}
+use Rattle.events.specs.declared.event.Action.{Action}
+use Rattle.events.specs.declared.event.Action.TheVariants.{Invoke, Ok, Fail, Info}
+use Rattle.events.specs.declared.event.Event.{Event}
+use Rattle.fields.specs.Fields.{max_object}
+use Rattle.history.specs.declared.fault.HistoryFaultKind.{HistoryFaultKind}
+use Rattle.history.specs.declared.fault.HistoryFaultKind.TheVariants.{NotAnOperation, UnknownFunction, BadValue, MixedKinds, Busy, Stray, Mismatch, AfterInfo, TooMany, NoMemory}
+use Rattle.history.specs.Maps.{ClientMap, MapType, invoke, ok, fail, info, client_of, clients, op_in, reply_in}
+use Rattle.history.specs.Faults.{last_map, HasBadValue, ClientFault, IsFault, IsFaultless, IsOutstanding, IsClosed}
+use Rattle.history.specs.Denotes.{action_of, event_with, event_of, events_from}
+use Rattle.history.specs.Seen.{FaultOf}
+use Rattle.history.proofs.OneMore.{fault_of}
+use Rattle.history.proofs.Laws.{kind_of_op}
+use Rattle.world.specs.declared.JournalEvent.TheVariants.{Invoked, Returned}
+use Rattle.world.specs.World.{AnyEntry, AnyEvent, kind_at, ticket_of}
+use Rattle.world.specs.Sound.{IsAmong}
+use Rattle.world.specs.Records.{IsSoundRecord}
+use Rattle.recorder.specs.Histories.{AreEventsOf, IsRecord, events_of}
+use Rattle.recorder.proofs.Same.{same_by_parts}
+use Rattle.recorder.proofs.Journals.{InTurn, none, last, call, numbers_of}
+use Rattle.recorder.proofs.Making.{turns_in, among, is_record}
+use Rattle.transcript.specs.declared.line.Call.{Call}
+use Rattle.transcript.specs.declared.line.Line.{Line}
+use Rattle.transcript.specs.Lines.{value_of, value_form, form_of, history_text, lines_from, lines_of, AreLinesOf, events_in}
+use Rattle.transcript.specs.Reading.{DenotesEvents}
+use Rattle.transcript.proofs.Gathered.{same_events}
+use Rattle.transcript.proofs.Runs.{MayFollow, Follows, last_line, line_follows}
+use Rattle.transcript.proofs.Forms.{type_map, map_of, client_is, action_is}
+
+-- ---- numbers from 0 on
+
+abbrev CountFrom : ℕ → List Event → Type 0
+CountFrom n [] = Unit {0}
+CountFrom n (e ∷ es) = (e.number ≡ n) × CountFrom (n + 1) es
+
+counted : (n count : ℕ) (es : List Event) → Pairs (λ a b. a.number < b.number) es → ((e : Event) → In e es → (n ≤ e.number) × (e.number < count)) → ((t : ℕ) → n ≤ t → t < count → (e : Event) × In e es × (e.number ≡ t)) → CountFrom n es
+counted n count [] up within each = tt
+counted n count (e ∷ es) up within each =
+    let here = within e (inl refl) in
+    let first = each n (omega arith) (omega arith) in
+    let is : e.number ≡ n = elim first.1 [
+      | inl s ↦ ap (λ (x : Event). x.number) (sym s) ∙ first.2
+      | inr i ↦ let l = up.0 first.0 i in let q = first.2 in let h = here.0 in absurd (omega arith)
+    ] in
+    (is, counted (n + 1) count es up.1 (λ f i. let l = up.0 f i in let w = within f (inr i) in (omega arith, w.1))
+    (λ t low high.
+    let f = each t (omega arith) high in
+    (f.0, elim f.1 [ inl s ↦ (let q : e.number ≡ t = ap (λ (x : Event). x.number) (sym s) ∙ f.2 in absurd (omega arith)) | inr i ↦ i ], f.2)))
+
+count_few : (n m : ℕ) (es : List Event) → CountFrom n es → ((e : Event) → In e es → e.number < m) → n ≤ m → n + length es ≤ m
+count_few n m [] c low le = omega arith
+count_few n m (e ∷ es) c low le = let l = low e (inl refl) in let q = c.0 in let r = count_few (n + 1) m es c.1 (λ f i. low f (inr i)) (omega arith) in omega arith
+
+-- ---- the forms of lines
+
+split_forms : (ls : List Line) (earlier later : List Datum) (d : Datum) → map form_of ls ≡ earlier ++ d ∷ later → (before after : List Line) × (l : Line) × (ls ≡ before ++ l ∷ after) × (earlier ≡ map form_of before) × (d ≡ form_of l)
+split_forms [] [] later d e = absurd (cc)
+split_forms [] (x ∷ earlier) later d e = absurd (cc)
+split_forms (l ∷ ls) [] later d e = ([], ls, l, refl, refl, sym (cc (e)))
+split_forms (l ∷ ls) (x ∷ earlier) later d e =
+    let first : form_of l ≡ x = cc (e) in
+    let rest : map form_of ls ≡ earlier ++ d ∷ later = cc (e) in
+    let r = split_forms ls earlier later d rest in
+    (l ∷ r.0, r.1, r.2, ap (λ ms. l ∷ ms) r.3, ap (λ z. z ∷ earlier) (sym first) ∙ ap (λ ms. form_of l ∷ ms) r.4, r.5)
+
+clients_are : (ls : List Line) → ((l : Line) → In l ls → l.event.object ≤ max_object) → clients (map form_of ls) ≡ map map_of ls
+clients_are [] low = refl
+clients_are (l ∷ ls) low = ap (λ o. cons_option o (clients (map form_of ls))) (client_is l (low l (inl refl))) ∙ ap (λ ms. map_of l ∷ ms) (clients_are ls (λ k i. low k (inr i)))
+
+last_is : (p : ℕ) (ls : List Line) → last_map p (map map_of ls) ≡ option_map map_of (last_line p ls)
+last_is p ls = ap (find (λ (m : ClientMap). m.process == p)) (sym (map-reverse ls)) ∙ found (reverse ls)
+  where
+    map-reverse : (ks : List Line) → map map_of (reverse ks) ≡ reverse (map map_of ks)
+    map-reverse [] = refl
+    map-reverse (k ∷ ks) = ap (map map_of) (reverse-append (k ∷ []) ks) ∙ (map-append map_of (reverse ks) (k ∷ []) ∙ (ap (λ ms. ms ++ map_of k ∷ []) (map-reverse ks) ∙ sym (reverse-append (map_of k ∷ []) (map map_of ks))))
+
+    found : (ks : List Line) → find (λ (m : ClientMap). m.process == p) (map map_of ks) ≡ option_map map_of (find (λ (l : Line). l.event.process == p) ks)
+    found [] = refl
+    found (k ∷ ks) = go (k.event.process == p) (found ks)
+      where
+        go : (b : Bool) → find (λ (m : ClientMap). m.process == p) (map map_of ks) ≡ option_map map_of (find (λ (l : Line). l.event.process == p) ks) → cond b (Some (map_of k)) (find (λ (m : ClientMap). m.process == p) (map map_of ks)) ≡ option_map map_of (cond b (Some k) (find (λ (l : Line). l.event.process == p) ks))
+        go true h = refl
+        go false h = h
+
+-- ---- no line is faulty
+
+-- what is known of a line behind others
+record IsFine (kinds : List Kind) (before : List Line) (l : Line) : Type 0 where
+  follows : Follows (last_line l.event.process before) l
+  of_kind : kind_of l.op ≡ kind_at kinds l.event.object
+  others : (k : Line) → In k before → (kind_of k.op ≡ kind_at kinds k.event.object) × (k.event.action ≢ Info)
+
+-- the line that is outstanding, where some map is
+outstanding : (before : List Line) (p : ℕ) (o : ClientMap) → IsOutstanding (map map_of before) p o → (k : Line) × (last_line p before ≡ Some k) × (o ≡ map_of k) × (op : AnyOp) × (k.event.action ≡ Invoke op)
+outstanding before p o h = go (last_line p before) refl (sym (last_is p before) ∙ h.last)
+  where
+    invoked : (a : Action) → type_map a ≡ invoke → (op : AnyOp) × (a ≡ Invoke op)
+    invoked (Invoke op) e = (op, refl)
+    invoked (Ok r) e = absurd (cc)
+    invoked Fail e = absurd (cc)
+    invoked Info e = absurd (cc)
+
+    go : (q : Option Line) → last_line p before ≡ q → option_map map_of q ≡ Some o → (k : Line) × (last_line p before ≡ Some k) × (o ≡ map_of k) × (op : AnyOp) × (k.event.action ≡ Invoke op)
+    go None is e = absurd (cc)
+    go (Some k) is e =
+        let same : o ≡ map_of k = sym (same_Some (map_of k) o e) in
+        let i = invoked k.event.action (ap (λ (m : ClientMap). m.type) (sym same) ∙ h.invoked) in
+        (k, is, same, i.0, i.1)
+
+no_bad : (m : ClientMap) (a : Action) → action_of m.type m ≡ Some a → HasBadValue m.type m → ⊥
+no_bad m a is h = go m.type is h
+  where
+    go : (t : MapType) → action_of t m ≡ Some a → HasBadValue t m → ⊥
+    go invoke q b = let none : option_map Invoke (op_in m) ≡ None = ap (option_map Invoke) b in absurd (cc (q, none))
+    go ok q b = let none : option_map Ok (reply_in m) ≡ None = ap (option_map Ok) b in absurd (cc (q, none))
+    go fail q b = b
+    go info q b = b
+
+module _ (kinds : List Kind) (before : List Line) (l : Line) (fine : IsFine kinds before l) where
+  busy : (a : Action) → l.event.action ≡ a → type_map a ≡ invoke → (o : ClientMap) → IsOutstanding (map map_of before) l.event.process o → ⊥
+  busy (Invoke op) is t o h =
+      let k = outstanding before l.event.process o h in
+      let f : MayFollow (last_line l.event.process before) l.event.object l.op (Invoke op) = subst (MayFollow (last_line l.event.process before) l.event.object l.op) is fine.follows in
+      f.1 k.0 k.3 k.1 k.4
+  busy (Ok r) is t o h = absurd (cc)
+  busy Fail is t o h = absurd (cc)
+  busy Info is t o h = absurd (cc)
+
+  -- a completion's process has its call outstanding
+  pending : (a : Action) → l.event.action ≡ a → (type_map a ≢ invoke) → (k : Line) × (last_line l.event.process before ≡ Some k) × (op : AnyOp) × (k.event.action ≡ Invoke op) × (k.op ≡ l.op) × (k.event.object ≡ l.event.object)
+  pending (Invoke op) is t = absurd (t refl)
+  pending (Ok r) is t = let f : MayFollow (last_line l.event.process before) l.event.object l.op (Ok r) = subst (MayFollow (last_line l.event.process before) l.event.object l.op) is fine.follows in (f.0.0, f.0.1, l.op, f.0.2, f.0.3, f.0.4)
+  pending Fail is t = let f : MayFollow (last_line l.event.process before) l.event.object l.op Fail = subst (MayFollow (last_line l.event.process before) l.event.object l.op) is fine.follows in (f.0, f.1, l.op, f.2, f.3, f.4)
+  pending Info is t = let f : MayFollow (last_line l.event.process before) l.event.object l.op Info = subst (MayFollow (last_line l.event.process before) l.event.object l.op) is fine.follows in absurd f
+
+  closed_not : IsClosed (map map_of before) l.event.process → ⊥
+  closed_not h =
+      let k = in_map map_of h.map before (in_from_contains (map map_of before) h.map h.stands) in
+      let t : type_map k.0.event.action ≡ info = ap (λ (m : ClientMap). m.type) (sym k.2) ∙ h.unknown in
+      (fine.others k.0 k.1).1 (go k.0.event.action t)
+    where
+      go : (a : Action) → type_map a ≡ info → a ≡ Info
+      go (Invoke op) e = absurd (cc)
+      go (Ok r) e = absurd (cc)
+      go Fail e = absurd (cc)
+      go Info e = refl
+
+  no_fault : (kind : HistoryFaultKind) → ClientFault (map map_of before) (map_of l) kind → ⊥
+  no_fault NotAnOperation h = h
+  no_fault UnknownFunction h = absurd (cc (h))
+  no_fault BadValue h = no_bad (map_of l) l.event.action (action_is l (last_line l.event.process before) fine.follows) h
+  no_fault MixedKinds h =
+      let k = in_map map_of h.other before (in_from_contains (map map_of before) h.other h.stands) in
+      let object : k.0.event.object ≡ l.event.object = ap (λ (m : ClientMap). m.object) (sym k.2) ∙ h.same_object in
+      let own : function_in l.op ≡ h.known = same_Some (function_in l.op) h.known h.is_known in
+      let other : function_in k.0.op ≡ h.other_known = same_Some (function_in k.0.op) h.other_known (ap (λ (m : ClientMap). m.function) (sym k.2) ∙ h.other_is_known) in
+      h.apart (ap kind_of_function (sym other) ∙ (sym (kind_of_op k.0.op) ∙ ((fine.others k.0 k.1).0 ∙ (ap (kind_at kinds) object ∙ (sym fine.of_kind ∙ (kind_of_op l.op ∙ ap kind_of_function own))))))
+  no_fault Busy h = busy l.event.action refl h.0 h.1 h.2
+  no_fault Stray h =
+      let k = pending l.event.action refl h.0 in
+      h.2 (map_of k.0) (record { last = last_is l.event.process before ∙ ap (option_map map_of) k.1; invoked = ap type_map k.3 })
+  no_fault Mismatch h =
+      let k = pending l.event.action refl h.0 in
+      let o = outstanding before l.event.process h.1 h.2 in
+      let same : o.0 ≡ k.0 = same_Some o.0 k.0 (sym o.1 ∙ k.1) in
+      let is : h.1 ≡ map_of k.0 = o.2 ∙ ap map_of same in
+      elim h.3 [
+        | inl n ↦ n (ap (λ (m : ClientMap). m.function) is ∙ ap (λ p. Some (function_in p)) k.4)
+        | inr n ↦ n (ap (λ (m : ClientMap). m.object) is ∙ k.5)
+      ]
+  no_fault AfterInfo h = closed_not h
+  no_fault TooMany h = h
+  no_fault NoMemory h = h
+
+-- ---- the kinds of a journal's lines
+
+line_kinds : (kinds : List Kind) (c : ℕ) (q : Option Call) (js : List AnyEvent) → InTurn js → ((j : AnyEvent) → In j js → IsAmong kinds j) → (l : Line) → In l (lines_from c q js) → kind_of l.op ≡ kind_at kinds l.event.object
+line_kinds kinds c q js none h l i = absurd i
+line_kinds kinds c q js (last t x op) h l i = elim i [
+  | inl s ↦ subst (λ (k : Line). kind_of k.op ≡ kind_at kinds k.event.object) (sym s) (h (Invoked t x op) (inl refl)).1
+  | inr j ↦ absurd j
+]
+line_kinds kinds c q js (call t x op u a rest fits more) h l i = elim i [
+  | inl s ↦ subst (λ (k : Line). kind_of k.op ≡ kind_at kinds k.event.object) (sym s) (h (Invoked t x op) (inl refl)).1
+  | inr j ↦ elim j [
+    | inl s ↦ subst (λ (k : Line). kind_of k.op ≡ kind_at kinds k.event.object) (sym s) (h (Invoked t x op) (inl refl)).1
+    | inr k ↦ line_kinds kinds c (Some (record { object = x; op = op })) rest more (λ g m. h g (inr (inr m))) l k
+  ]
+]
+
+-- ---- what the lines spell
+
+value_fits : (n : ℕ) → 0 < n → (v : Value) → Fits n (value_form v)
+value_fits n low Nil = tt
+value_fits n low False = tt
+value_fits n low (Int z) = tt
+value_fits n low (Pair a b) = (low, (tt, (tt, tt)))
+
+form_fits : (l : Line) → Fits max_open (form_of l)
+form_fits l = (
+  lit< tt,
+  (
+    (λ h. cc, (λ h. cc, (λ h. cc, (λ h. cc, tt)))),
+    tt,
+    ((λ h. cc, (λ h. cc, (λ h. cc, tt))), tt, ((λ h. cc, (λ h. cc, tt)), tt, ((λ h. cc, tt), value_fits 15 (lit< tt) (value_of l.op l.event.action), (tt, tt, tt)))),
+  ),
+)
+
+each_spelled : (ls : List Line) → ((l : Line) → In l ls → InProfile (form_of l)) → EachSpelled (map form_of ls)
+each_spelled [] p = tt
+each_spelled (l ∷ ls) p = (text_spells_it (form_of l) (form_fits l) (p l (inl refl)), each_spelled ls (λ k i. p k (inr i)))
+
+events_are : (n : ℕ) (ls : List Line) → CountFrom n (events_in ls) → ((l : Line) → In l ls → (l.event.object ≤ max_object) × (action_of (map_of l).type (map_of l) ≡ Some l.event.action)) → events_in ls ≡ events_from n (map form_of ls)
+events_are n [] c h = refl
+events_are n (l ∷ ls) c h =
+    let here = h l (inl refl) in
+    let one : l.event ∷ [] ≡ event_with n (map_of l) (action_of (map_of l).type (map_of l)) =
+    ap (λ (k : ℕ). record { number = k; process = l.event.process; object = l.event.object; action = l.event.action } ∷ []) c.0 ∙ ap (event_with n (map_of l)) (sym here.1) in
+    ap (λ es. l.event ∷ es) (events_are (n + 1) ls c.1 (λ k i. h k (inr i)))
+    ∙ (ap (λ (es : List Event). es ++ events_from (n + 1) (map form_of ls)) one
+    ∙ ap (λ m. event_of n m ++ events_from (n + 1) (map form_of ls)) (sym (client_is l here.0)))
+
+-- ---- all together
+
+module _ (kinds : List Kind) (quota : ℕ) (journals : ℕ → List AnyEvent) (logs : ℕ → List AnyEntry) (s : IsSoundRecord kinds quota journals logs) (low : quota < 10001) (few : length kinds ≤ 65536) (ls : List Line) (are : AreLinesOf journals ls) where
+  record_is : IsRecord (length kinds) journals logs
+  record_is = is_record kinds quota journals logs s low
+
+  same : record_is.events ≡ events_in ls
+  same = same_events journals record_is.events record_is.are_events record_is.proper ls are
+
+  among_events : (l : Line) → In l ls → In l.event record_is.events
+  among_events l i = subst (In l.event) (sym same) (in_map_from (λ (k : Line). k.event) l ls i)
+
+  object_low : (l : Line) → In l ls → l.event.object ≤ max_object
+  object_low l i = let h = all_at (λ (e : Event). e.object < length kinds) record_is.events record_is.on_objects l.event (among_events l i) in omega arith
+
+  has_ticket : (t : ℕ) → t < s.count → (e : Event) × In e (events_in ls) × (e.number ≡ t)
+  has_ticket t l =
+      let c = s.tickets.each t l in
+      let drawn : In t (map (λ (e : Event). e.number) (events_of c.0 (journals c.0))) = subst (In t) (sym (numbers_of c.0 0 (journals c.0))) (in_from_contains (map ticket_of (journals c.0)) t c.1) in
+      let e = in_map (λ (e : Event). e.number) t (events_of c.0 (journals c.0)) drawn in
+      let own : In e.0 record_is.events = in_filter (λ (f : Event). f.process == c.0) e.0 record_is.events (subst (In e.0) (sym (record_is.are_events.each c.0)) e.1) in
+      (e.0, subst (In e.0) same own, sym e.2)
+
+  number_low : (e : Event) → In e (events_in ls) → e.number < s.count
+  number_low e i =
+      let own : In e (events_of e.process (journals e.process)) = subst (In e) (record_is.are_events.each e.process) (in_filter_from (λ (f : Event). f.process == e.process) e record_is.events (subst (In e) (sym same) i) (eq-eqb e.process e.process refl)) in
+      all_at (λ t. t < s.count) (map ticket_of (journals e.process)) (s.tickets.below e.process) e.number (subst (In e.number) (numbers_of e.process 0 (journals e.process)) (in_map_from (λ (f : Event). f.number) e (events_of e.process (journals e.process)) own))
+
+  numbered : CountFrom 0 (events_in ls)
+  numbered = counted 0 s.count (events_in ls) (subst (Pairs (λ (a b : Event). a.number < b.number)) same (pairs_from_all (λ (a b : Event). a.number < b.number) record_is.events record_is.are_events.rising))
+      (λ e i. (omega arith, number_low e i)) (λ t a b. has_ticket t b)
+
+  few_lines : length ls ≤ 640000
+  few_lines =
+      let l = count_few 0 s.count (events_in ls) numbered number_low (omega arith) in
+      let long = length-map ls (λ (k : Line). k.event) in
+      let most = s.few in
+      omega arith
+
+  kind_here : (l : Line) → In l ls → kind_of l.op ≡ kind_at kinds l.event.object
+  kind_here l i =
+      let c = l.event.process in
+      line_kinds kinds c None (journals c) (turns_in kinds quota journals logs s c) (among kinds quota journals logs s c) l (subst (In l) (are.each c) (in_filter_from (λ (k : Line). k.event.process == c) l ls i (eq-eqb c c refl)))
+
+  follows_at : (before after : List Line) (l : Line) → ls ≡ before ++ l ∷ after → Follows (last_line l.event.process before) l
+  follows_at before after l is = line_follows ls journals (turns_in kinds quota journals logs s) are.each before after l is
+
+  not_info : (l : Line) → In l ls → l.event.action ≢ Info
+  not_info l i e = let r = in_split l ls i in let f : MayFollow (last_line l.event.process r.0) l.event.object l.op Info = subst (MayFollow (last_line l.event.process r.0) l.event.object l.op) e (follows_at r.0 r.1 l r.2) in f
+
+  fine_at : (before after : List Line) (l : Line) → ls ≡ before ++ l ∷ after → IsFine kinds before l
+  fine_at before after l is = record {
+    follows = follows_at before after l is;
+    of_kind = kind_here l (subst (In l) (sym is) (in_middle l before after));
+    others = λ k i. let j : In k ls = subst (In k) (sym is) (in_left k before (l ∷ after) i) in (kind_here k j, not_info k j);
+  }
+
+  faultless : IsFaultless (map form_of ls)
+  faultless earlier later d kind is fault =
+      let r = split_forms ls earlier later d is in
+      let before = r.0 in
+      let l = r.2 in
+      let here : In l ls = subst (In l) (sym r.3) (in_middle l before r.1) in
+      let client : client_of d ≡ Some (map_of l) = ap client_of r.5 ∙ client_is l (object_low l here) in
+      let maps : clients earlier ≡ map map_of before = ap clients r.4 ∙ clients_are before (λ k i. object_low k (subst (In k) (sym r.3) (in_left k before (l ∷ r.1) i))) in
+      let long : length earlier ≡ length before = ap length r.4 ∙ length-map before form_of in
+      let whole = ap length r.3 ∙ length-append before (l ∷ r.1) in
+      let fewer = few_lines in
+      let short : length before < 1000000 = omega arith in
+      go kind (fault_of earlier d (map_of l) kind client fault) maps (omega arith) (fine_at before r.1 l r.3)
+    where
+      go : (kind : HistoryFaultKind) → {before : List Line} {l : Line} → FaultOf earlier (map_of l) kind → clients earlier ≡ map map_of before → length earlier < 1000000 → IsFine kinds before l → ⊥
+      go NotAnOperation h maps short fine = h
+      go UnknownFunction {before} {l} h maps short fine = absurd (cc (h))
+      go TooMany h maps short fine = absurd (omega arith)
+      go kind {before} {l} h maps short fine = no_fault kinds before l fine kind (subst (λ (ms : List ClientMap). ClientFault ms (map_of l) kind) maps h)
+
+  says_action : (l : Line) → In l ls → action_of (map_of l).type (map_of l) ≡ Some l.event.action
+  says_action l i = let r = in_split l ls i in action_is l (last_line l.event.process r.0) (follows_at r.0 r.1 l r.2)
+
+  pub read_back : All (λ l. InProfile (form_of l)) ls → (es : List Event) → AreEventsOf journals es → DenotesEvents (history_text ls) es
+  read_back profile es h = record {
+    forms = map form_of ls;
+    spelled = lines_spell_them (map form_of ls) (each_spelled ls (λ l i. all_at (λ (k : Line). InProfile (form_of k)) ls profile l i));
+    denoted = record {
+      faultless = faultless;
+      events = (same_by_parts (λ (e : Event). e.number) (λ (e : Event). e.process) es record_is.events (pairs_from_all (λ (a b : Event). a.number < b.number) es h.rising) (pairs_from_all (λ (a b : Event). a.number < b.number) record_is.events record_is.are_events.rising) (λ c. h.each c ∙ sym (record_is.are_events.each c)) ∙ same)
+      ∙ events_are 0 ls numbered (λ l i. (object_low l i, says_action l i));
+    };
+  }

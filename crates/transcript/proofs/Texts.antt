@@ -1,0 +1,36 @@
+-- The text of a line's form is that of its pieces.
+use Rattle.std.proofs.Common.{◌≡◌, ℕ, ◌+◌, ◌<◌, ◌++◌, [], ◌∷◌, List, length, drop, get_or, map, refl, ap, sym, ◌∙◌, append_assoc, codes, decimal}
+use Rattle.std.specs.Fmt.{signed_decimal}
+use Rattle.std.proofs.lemmas.List.{drop_more, append-nil}
+use Rattle.edn.specs.Text.{text_of, lines_of}
+use Rattle.seq_objects.specs.Functions.{name_of}
+use Rattle.seq_objects.specs.Values.{function_in}
+use Rattle.seq_objects.specs.declared.value.Value.{Value}
+use Rattle.seq_objects.specs.declared.value.Value.TheVariants.{Nil, False, Int, Pair}
+use Rattle.transcript.specs.declared.line.Line.{Line}
+use Rattle.transcript.specs.Lines.{type_of, value_form, value_of, form_of, history_text}
+use Rattle.transcript.specs.Pieces.{value_text, object_text, line_text, lines_text}
+
+value_is : (v : Value) → text_of (value_form v) ≡ value_text v
+value_is Nil = refl
+value_is False = refl
+value_is (Int z) = refl
+value_is (Pair a b) = simp (append_assoc, append-nil)
+
+flat : (o k p l t m f q v r x c n : List ℕ) → (o ++ (((k ++ p) ++ ((l ++ t) ++ ((m ++ f) ++ ((q ++ v) ++ ((r ++ x) ++ []))))) ++ c)) ++ n ≡ ((o ++ k) ++ (p ++ (l ++ t))) ++ ((m ++ (f ++ (q ++ v))) ++ (r ++ (x ++ (c ++ n))))
+flat o k p l t m f q v r x c n = simp (append_assoc, append-nil)
+
+line_is : (l : Line) → text_of (form_of l) ++ 10 ∷ [] ≡ line_text l
+line_is l =
+    let value = value_of l.op l.event.action in
+    let t = type_of l.event.action in
+    let f = name_of (function_in l.op) in
+    flat (codes "{") (codes ":process ") (decimal l.event.process) (codes ", :type :") t (codes ", :f :") f (codes ", :value ") (text_of (value_form value)) (codes ", :object ") (decimal l.event.object) (codes "}") (10 ∷ [])
+    ∙ ap (λ v. (codes "{:process " ++ (decimal l.event.process ++ (codes ", :type :" ++ t))) ++ ((codes ", :f :" ++ (f ++ (codes ", :value " ++ v))) ++ object_text l.event.object)) (value_is value)
+
+pub texts_are : (ls : List Line) → history_text ls ≡ lines_text ls
+texts_are [] = refl
+texts_are (l ∷ ls) = sym (append_assoc (text_of (form_of l)) (10 ∷ []) (history_text ls)) ∙ (ap (λ xs. xs ++ history_text ls) (line_is l) ∙ ap (λ xs. line_text l ++ xs) (texts_are ls))
+
+pub lines_left : (ls : List Line) (i : ℕ) (d : Line) → i < length ls → lines_text (drop i ls) ≡ line_text (get_or ls i d) ++ lines_text (drop (i + 1) ls)
+lines_left ls i d lt = ap lines_text (drop_more ls i d lt)

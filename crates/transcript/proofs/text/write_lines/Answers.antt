@@ -1,0 +1,12 @@
+use Rattle.edn.proofs.Fronts.{further}
+use Rattle.transcript.specs.Pieces.{lines_text}
+use Rattle.transcript.proofs.Texts.{lines_left}
+use Rattle.transcript.proofs.text.write_lines.Goals as goal
+
+pub loop-line-preserved : goal.loop-line-preserved
+loop-line-preserved g c =
+    let l = c.loop-line in
+    let xs = c.args.lines.now in
+    let left = lines_left xs l.line-index _ c.loop-line-test.true in
+    let f = further _ _ _ (lines_text xs) l.invariant.done _ _ _ l.invariant.parts left l.invariant.sent c.in_ok-write_line.ensures.ok in
+    record { usable = c.in_ok-write_line.ensures.usable; done = f.0; parts = f.1; sent = f.2 }

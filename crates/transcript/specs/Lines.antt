@@ -1,0 +1,90 @@
+-- The lines of a record: each client event with the operation of its call, and the text of a line.
+use Rattle.std.specs.Prelude.{◌≡◌, ℕ, ◌+◌, ◌<◌, ◌==◌, false, pos, List, [], ◌∷◌, ◌++◌, Option, Some, None, AllPairs, filter, map, codes}
+use Rattle.edn.specs.Datum.{Datum, nil, boolean, integer, keyword, atom, vector, dictionary, item, no_items, entry, no_entries}
+use Rattle.edn.specs.Text as edn
+use Rattle.model.specs.declared.AnyOp.{AnyOp}
+use Rattle.seq_objects.specs.Functions.{name_of}
+use Rattle.seq_objects.specs.Values.{function_in, op_value, reply_value}
+use Rattle.seq_objects.specs.declared.value.Value.{Value}
+use Rattle.seq_objects.specs.declared.value.Value.TheVariants.{Nil, False, Int, Pair}
+use Rattle.world.specs.declared.JournalEvent.TheVariants.{Invoked, Returned}
+use Rattle.world.specs.World.{AnyEvent}
+use Rattle.events.specs.declared.event.Action.{Action}
+use Rattle.events.specs.declared.event.Action.TheVariants.{Invoke, Ok, Fail, Info}
+use Rattle.events.specs.declared.event.Event.{Event}
+use Rattle.recorder.specs.Histories.{action_of}
+use Rattle.transcript.specs.declared.line.Call.{Call}
+use Rattle.transcript.specs.declared.line.Line.{Line}
+
+-- ---- the lines of journals
+
+-- the call that an event of a journal begins, or else the last one
+abbrev pub call_after : Option Call → AnyEvent → Option Call
+call_after last (Invoked t x op) = Some (record { object = x; op = op })
+call_after last (Returned u a) = last
+
+-- an event of the client c, whose call is on the object x
+abbrev pub event_with : ℕ → ℕ → AnyEvent → Event
+event_with c x (Invoked t y op) = record { number = t; process = c; object = y; action = Invoke op }
+event_with c x (Returned u a) = record { number = u; process = c; object = x; action = action_of a }
+
+abbrev pub line_with : ℕ → AnyEvent → Option Call → List Line
+line_with c e None = []
+line_with c e (Some q) = record { event = event_with c q.object e; op = q.op } ∷ []
+
+-- the lines of a journal of the client c, behind this call
+abbrev pub lines_from : ℕ → Option Call → List AnyEvent → List Line
+lines_from c last [] = []
+lines_from c last (e ∷ es) = line_with c e (call_after last e) ++ lines_from c (call_after last e) es
+
+abbrev pub lines_of : ℕ → List AnyEvent → List Line
+lines_of c journal = lines_from c None journal
+
+-- the lines of journals, the first of which is of the client c
+abbrev pub lines_in : ℕ → List (List AnyEvent) → List Line
+lines_in c [] = []
+lines_in c (j ∷ js) = lines_of c j ++ lines_in (c + 1) js
+
+-- The lines of the journals in order of tickets.
+pub record AreLinesOf (journals : ℕ → List AnyEvent) (ls : List Line) : Type 0 where
+  pub rising : AllPairs (λ a b. a.event.number < b.event.number) ls
+  pub each : (c : ℕ) → filter (λ l. l.event.process == c) ls ≡ lines_of c (journals c)
+
+abbrev pub events_in : List Line → List Event
+events_in ls = map (λ l. l.event) ls
+
+-- ---- the text of lines
+
+-- a value in EDN
+abbrev pub value_form : Value → Datum
+value_form Nil = atom nil
+value_form False = atom (boolean false)
+value_form (Int z) = atom (integer z)
+value_form (Pair a b) = vector (item (atom (integer a)) (item (atom (integer b)) no_items))
+
+-- what stands behind :type
+abbrev pub type_of : Action → List ℕ
+type_of (Invoke op) = codes "invoke"
+type_of (Ok r) = codes "ok"
+type_of Fail = codes "fail"
+type_of Info = codes "info"
+
+-- what stands behind :value: the reply of a call that returned one, else the argument
+abbrev pub value_of : AnyOp → Action → Value
+value_of op (Invoke o) = op_value op
+value_of op (Ok r) = reply_value r
+value_of op Fail = op_value op
+value_of op Info = op_value op
+
+-- as {:process 0, :type :invoke, :f :enqueue, :value 1, :object 0}
+abbrev pub form_of : Line → Datum
+form_of l = dictionary
+    (entry (codes "process") (atom (integer (pos l.event.process)))
+    (entry (codes "type") (atom (keyword (type_of l.event.action)))
+    (entry (codes "f") (atom (keyword (name_of (function_in l.op))))
+    (entry (codes "value") (value_form (value_of l.op l.event.action))
+    (entry (codes "object") (atom (integer (pos l.event.object))) no_entries)))))
+
+-- each line is the text of its form and a line feed
+abbrev pub history_text : List Line → List ℕ
+history_text ls = edn.lines_of (map form_of ls)

@@ -1,0 +1,26 @@
+-- What is promised of the text of a record's history when it is read.
+use Rattle.std.specs.Prelude.{ℕ, ◌<◌, ◌≤◌, List, All, length}
+use Rattle.edn.specs.Datum.{Datum}
+use Rattle.edn.specs.Spells.{Spells}
+use Rattle.edn.specs.Text.{InProfile}
+use Rattle.history.specs.Denotes.{Denotes}
+use Rattle.model.specs.declared.Kind.{Kind}
+use Rattle.world.specs.World.{AnyEntry, AnyEvent}
+use Rattle.world.specs.Records.{IsSoundRecord}
+use Rattle.events.specs.declared.event.Event.{Event}
+use Rattle.recorder.specs.Histories.{AreEventsOf}
+use Rattle.transcript.specs.declared.line.Line.{Line}
+use Rattle.transcript.specs.Lines.{AreLinesOf, form_of, history_text}
+
+-- the text spells forms that denote these events
+pub record DenotesEvents (text : List ℕ) (es : List Event) : Type 0 where
+  pub forms : List Datum
+  pub spelled : Spells forms text
+  pub denoted : Denotes forms es
+
+-- The lines of a sound record, each with integers that a text can have, are read back as its events, where there are no
+-- more objects than a text can have.
+abbrev pub WrittenDenotes : Type 0
+WrittenDenotes = (kinds : List Kind) (quota : ℕ) (journals : ℕ → List AnyEvent) (logs : ℕ → List AnyEntry)
+    → IsSoundRecord kinds quota journals logs → quota < 10001 → length kinds ≤ 65536
+    → (ls : List Line) (es : List Event) → AreLinesOf journals ls → All (λ l. InProfile (form_of l)) ls → AreEventsOf journals es → DenotesEvents (history_text ls) es

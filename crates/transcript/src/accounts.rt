@@ -1,0 +1,87 @@
+//! The history of a record, and its certificates.
+
+ghost use Rattle.std.specs.Prelude.{◌≡◌, ◌≢◌, ◌<◌, ℕ, List, All, IfOk, IfErr, OnOk, map};
+ghost use Rattle.model.specs.declared.Kind.{Kind};
+ghost use Rattle.world.specs.Images.{entry_in};
+ghost use Rattle.world.specs.Records as world;
+ghost use Rattle.world.specs.Records.{IsSoundRecord};
+ghost use Rattle.recorder.specs.Histories.{AreEventsOf, IsRecordOf, journals_in, logs_in, max_tickets};
+ghost use Rattle.checker.specs.declared.refusal.Refusal.{Refusal};
+ghost use Rattle.transcript.specs.Lines as spec;
+ghost use Rattle.transcript.specs.Accounts.{AreCertificatesOf, IsAccepted, IsRefused};
+
+use crate::line::{Line, lines_of};
+use certificate::Certificate;
+use checker::{Refusal, check_all};
+use events::{Event, History, split};
+use recorder::{LogEntry, Record};
+use seq_objects::SeqObject;
+use std::alloc::{AllocError, Global};
+
+/// The events of the lines.
+fn events_in(alloc: Global, lines: &[Line]) -> Result<Vec<Event>, AllocError>
+    ensures { IfOk result (λ v. v.items ≡ spec.events_in lines.now) }
+{
+    lines.iter().map(|line| line.event).collect(alloc)
+}
+
+/// The history of a record: the event of each ticket, in order of tickets. A client is a process, and its number that of
+/// the process; a ticket is the number of its event; and a call that was refused memory is one that did not happen.
+pub fn history<S: SeqObject>(alloc: Global, account: &Record<S>) -> Result<History, AllocError>
+    ensures history { IfOk result (AreEventsOf (journals_in S.op_in S.reply_in account.now)) }
+    ensures kept { IsRecordOf S.op_in S.reply_in account.now }
+{
+    let lines = lines_of(alloc, account)?;
+    let events = events_in(alloc, &lines)?;
+    Ok(History::new(events))
+}
+
+/// The tickets of a log.
+fn order_of<S: SeqObject>(
+    alloc: Global,
+    log: &[LogEntry<S::Op, S::Reply>],
+) -> Result<Vec<i64>, AllocError>
+    requires { All (λ e. e.ticket < max_tickets) log.now }
+    ensures { IfOk result (λ v. v.items ≡ world.order_of (map (entry_in S.op_in S.reply_in) log.now)) }
+{
+    let mut order = Vec::new(alloc);
+    for entry in log {
+        order.push(entry.ticket as i64)?;
+    }
+    Ok(order)
+}
+
+/// A certificate for each object that some call names, in rising order of objects: the tickets of its log.
+pub fn certificates<S: SeqObject>(
+    alloc: Global,
+    account: &Record<S>,
+) -> Result<Vec<Certificate>, AllocError>
+    ensures { IfOk result (λ v. AreCertificatesOf (journals_in S.op_in S.reply_in account.now) (logs_in S.op_in S.reply_in account.now) v.items) }
+{
+    let history = history(alloc, account)?;
+    let objects = split(alloc, &history)?;
+    let mut certificates = Vec::new(alloc);
+    for named in &objects {
+        let object = named.object();
+        let order = order_of::<S>(alloc, account.log(object))?;
+        certificates.push(Certificate { object, order })?;
+    }
+    Ok(certificates)
+}
+
+/// Checks the record's history with its certificates. Where the record is sound they are accepted, but for want of memory.
+pub fn check_record<S: SeqObject>(alloc: Global, account: &Record<S>) -> Result<(), Refusal>
+    ensures accepted { (kinds : List Kind) (quota : ℕ)
+        → IsSoundRecord kinds quota (journals_in S.op_in S.reply_in account.now) (logs_in S.op_in S.reply_in account.now)
+        → IfErr result (λ e. e ≡ Refusal.NoMemory) }
+    ensures checked { IfErr result (λ e. e ≢ Refusal.NoMemory → IsRefused (journals_in S.op_in S.reply_in account.now) (logs_in S.op_in S.reply_in account.now) e) }
+    ensures valid { OnOk result (IsAccepted (journals_in S.op_in S.reply_in account.now) (logs_in S.op_in S.reply_in account.now)) }
+{
+    let Ok(history) = history(alloc, account) else {
+        return Err(Refusal::NoMemory);
+    };
+    let Ok(certificates) = certificates(alloc, account) else {
+        return Err(Refusal::NoMemory);
+    };
+    check_all(alloc, &history, &certificates)
+}

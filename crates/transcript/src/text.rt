@@ -1,0 +1,166 @@
+//! The text of a record's history.
+
+ghost use Rattle.std.specs.Prelude.{◌≡◌, ◌++◌, false, true, codes, decimal, IfErr, IfOk, OnOk};
+ghost use Rattle.std.specs.Fmt.{signed_decimal};
+ghost use Rattle.std.specs.Io.KnownBytes.{Appends, Keeps};
+ghost use Rattle.edn.specs.Sent.{SendsFront};
+ghost use Rattle.recorder.specs.Histories.{journals_in};
+ghost use Rattle.transcript.specs.Lines as spec;
+ghost use Rattle.transcript.specs.Pieces as text;
+ghost use Rattle.transcript.specs.Written.{AppendsHistory, SendsFrontOfHistory};
+
+use crate::line::{Line, lines_of};
+use edn::{Failed, Out, Sink, WriteFault, write_bytes, write_integer};
+use events::Action;
+use itoa::Buffer;
+use recorder::Record;
+use seq_objects::{SeqObject, Value, function_of, value_of_op, value_of_reply};
+use std::alloc::{AllocError, Global};
+
+fn type_name(action: &Action) -> &'static [u8]
+    ensures { result.now ≡ spec.type_of action.now }
+{
+    match action {
+        Action::Invoke(_) => b"invoke",
+        Action::Ok(_) => b"ok",
+        Action::Fail => b"fail",
+        Action::Info => b"info",
+    }
+}
+
+/// The reply of a call that returned one, else the argument.
+fn value_in(line: &Line) -> Value
+    ensures { result ≡ spec.value_of line.now.op line.now.event.action }
+{
+    match &line.event.action {
+        Action::Ok(reply) => value_of_reply(reply),
+        Action::Invoke(_) | Action::Fail | Action::Info => value_of_op(&line.op),
+    }
+}
+
+fn write_natural<S: Sink>(n: u64, sink: &mut S) -> Result<(), Failed>
+    requires { S.broken sink.old ≡ false }
+    ensures ok { OnOk result (Appends (S.sent sink.old) (S.sent sink.new) (decimal n)) }
+    ensures usable { OnOk result (S.broken sink.new ≡ false) }
+{
+    let mut buffer = Buffer::new();
+    let digits = buffer.format(n);
+    write_bytes(digits.as_bytes(), sink)
+}
+
+fn write_pair<S: Sink>(a: i64, b: i64, sink: &mut S) -> Result<(), Failed>
+    requires { S.broken sink.old ≡ false }
+    ensures ok { OnOk result (Appends (S.sent sink.old) (S.sent sink.new) (codes "[" ++ (signed_decimal a ++ (codes " " ++ (signed_decimal b ++ codes "]"))))) }
+    ensures usable { OnOk result (S.broken sink.new ≡ false) }
+{
+    write_bytes(b"[", sink)?;
+    write_integer(a, sink)?;
+    write_bytes(b" ", sink)?;
+    write_integer(b, sink)?;
+    write_bytes(b"]", sink)
+}
+
+fn write_value<S: Sink>(value: Value, sink: &mut S) -> Result<(), Failed>
+    requires { S.broken sink.old ≡ false }
+    ensures ok { OnOk result (Appends (S.sent sink.old) (S.sent sink.new) (text.value_text value)) }
+    ensures usable { OnOk result (S.broken sink.new ≡ false) }
+{
+    match value {
+        Value::Nil => write_bytes(b"nil", sink),
+        Value::False => write_bytes(b"false", sink),
+        Value::Int(n) => write_integer(n, sink),
+        Value::Pair(a, b) => write_pair(a, b, sink),
+    }
+}
+
+/// The process and the type.
+fn write_process<S: Sink>(line: &Line, sink: &mut S) -> Result<(), Failed>
+    requires { S.broken sink.old ≡ false }
+    ensures ok { OnOk result (Appends (S.sent sink.old) (S.sent sink.new) (text.process_text line.now)) }
+    ensures usable { OnOk result (S.broken sink.new ≡ false) }
+{
+    write_bytes(b"{:process ", sink)?;
+    write_natural(line.event.process, sink)?;
+    write_bytes(b", :type :", sink)?;
+    write_bytes(type_name(&line.event.action), sink)
+}
+
+/// The name of the operation and the value.
+fn write_operation<S: Sink>(line: &Line, sink: &mut S) -> Result<(), Failed>
+    requires { S.broken sink.old ≡ false }
+    ensures ok { OnOk result (Appends (S.sent sink.old) (S.sent sink.new) (text.operation_text line.now)) }
+    ensures usable { OnOk result (S.broken sink.new ≡ false) }
+{
+    write_bytes(b", :f :", sink)?;
+    write_bytes(function_of(&line.op).name().as_bytes(), sink)?;
+    write_bytes(b", :value ", sink)?;
+    write_value(value_in(line), sink)
+}
+
+fn write_object<S: Sink>(object: u32, sink: &mut S) -> Result<(), Failed>
+    requires { S.broken sink.old ≡ false }
+    ensures ok { OnOk result (Appends (S.sent sink.old) (S.sent sink.new) (text.object_text object)) }
+    ensures usable { OnOk result (S.broken sink.new ≡ false) }
+{
+    write_bytes(b", :object ", sink)?;
+    write_natural(u64::from(object), sink)?;
+    write_bytes(b"}\n", sink)
+}
+
+fn write_line<S: Sink>(line: &Line, sink: &mut S) -> Result<(), Failed>
+    requires { S.broken sink.old ≡ false }
+    ensures ok { OnOk result (Appends (S.sent sink.old) (S.sent sink.new) (text.line_text line.now)) }
+    ensures usable { OnOk result (S.broken sink.new ≡ false) }
+{
+    write_process(line, sink)?;
+    write_operation(line, sink)?;
+    write_object(line.event.object, sink)
+}
+
+fn write_lines<S: Sink>(lines: &[Line], sink: &mut S) -> Result<(), Failed>
+    requires { S.broken sink.old ≡ false }
+    ensures ok { OnOk result (Appends (S.sent sink.old) (S.sent sink.new) (text.lines_text lines.now)) }
+    ensures usable { OnOk result (S.broken sink.new ≡ false) }
+{
+    for line in lines {
+        write_line(line, sink)?;
+    }
+    Ok(())
+}
+
+/// The text of these lines.
+fn history_text(alloc: Global, lines: &[Line]) -> Result<Vec<u8>, AllocError>
+    ensures { IfOk result (λ v. v.items ≡ spec.history_text lines.now) }
+{
+    let mut sink = Out::new(Vec::new(alloc));
+    match write_lines(lines, &mut sink) {
+        Ok(()) => Ok(sink.into_inner()),
+        Err(Failed) => Err(AllocError),
+    }
+}
+
+/// Sends the lines of a record's history, in order of tickets. Where memory is refused nothing goes out.
+pub fn write_history<S: SeqObject, K: Sink>(
+    alloc: Global,
+    account: &Record<S>,
+    sink: &mut K,
+) -> Result<(), WriteFault>
+    requires { K.broken sink.old ≡ false }
+    ensures ok { OnOk result (AppendsHistory (journals_in S.op_in S.reply_in account.now) (K.sent sink.old) (K.sent sink.new)) }
+    ensures usable { OnOk result (K.broken sink.new ≡ false) }
+
+    ensures front { IfErr result (λ e. e ≡ WriteFault.Device → SendsFrontOfHistory (journals_in S.op_in S.reply_in account.now) (K.sent sink.old) (K.sent sink.new)) }
+    ensures failed { IfErr result (λ e. e ≡ WriteFault.Device → K.broken sink.new ≡ true) }
+    ensures memory { IfErr result (λ e. e ≡ WriteFault.NoMemory → sink.new ≡ sink.old) }
+{
+    let Ok(lines) = lines_of(alloc, account) else {
+        return Err(WriteFault::NoMemory);
+    };
+    let Ok(text) = history_text(alloc, &lines) else {
+        return Err(WriteFault::NoMemory);
+    };
+    match write_bytes(&text, sink) {
+        Ok(()) => Ok(()),
+        Err(Failed) => Err(WriteFault::Device),
+    }
+}
