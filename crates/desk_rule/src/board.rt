@@ -52,6 +52,12 @@ pub struct PutBack {
     pub request: Request<AnyOp>,
 }
 
+/// What a client that has ended told of it.
+pub struct Leaving {
+    pub client: u32,
+    pub journal: LinkedList<JournalEvent<AnyOp, AnyReply>>,
+}
+
 /// What a client knows. No value of it is made.
 pub struct View {
     /// False of a view that only carries what was seen from one client to another, and of the one that makes the
@@ -78,7 +84,9 @@ pub struct View {
     pub missed: LinkedList<u64>,
     pub held: Held,
     pub ended: bool,
-    /// The clients that are known to have ended.
+    /// What clients that have ended told.
+    pub left: LinkedList<Leaving>,
+    /// The clients that were found to have ended.
     pub retired: LinkedList<u32>,
     /// The clients whose end word was found unset, one for each such look.
     pub still_there: LinkedList<u32>,

@@ -127,6 +127,8 @@ pub record Met (x : ℕ) (one other one' other' : Known) : Type 0 where
 pub record StillThere (d : DeskSeen) (last : Known) (client : ℕ) (after : Known) : Type 0 where
   pub client_low : client < d.clients
   pub other : client ≢ last.knows.number
+  -- and none that is known to have retired, since it told
+  pub untold : All (λ l. l.client ≢ client) last.knows.left
   pub least : (c : ℕ) → c < client → c ≢ last.knows.number → Contains after.knows.retired c
   -- of the last client nothing else has changed: it knows who has retired, and found this one there
   pub looked : (v : View) × (after.knows ≡ finding_there client v) × (v ≡ record last.knows { retired = v.retired })
@@ -140,6 +142,8 @@ module _ {O R : Type 0} (op_in : O → AnyOp) (reply_in : R → AnyReply) where
     pub own : map (event_in op_in reply_in) (journal_at r last.knows.number) ≡ journal last.knows
     pub legal : (x : ℕ) → x < length d.id.kinds → IsLegal (kind_at d.id.kinds x) (map (entry_in op_in reply_in) (log_at r x))
     pub seen : (x : ℕ) → x < length d.id.kinds → StartsWith (map (entry_in op_in reply_in) (log_at r x)) (seen_of last.knows x)
+    -- the journal of each client that told of its end is the one that it told of
+    pub left : All (λ l. map (event_in op_in reply_in) (journal_at r l.client) ≡ l.journal) last.knows.left
     -- of the last client's calls each log holds just those that were not refused, each once and in order
     pub accounts : (x : ℕ) → IsAccount x last.knows (map (entry_in op_in reply_in) (log_at r x))
     pub sound : IsSoundRecord d.id.kinds d.id.quota (λ c. map (event_in op_in reply_in) (journal_at r c)) (λ x. map (entry_in op_in reply_in) (log_at r x))

@@ -14,6 +14,7 @@ use Rattle.world.specs.World.{AnyEntry, AnyRequest, kind_at, calls_made, IsLegal
 use Rattle.world.specs.Images.{request_in, entry_in, event_in}
 use Rattle.desk_rule.specs.declared.board.Core.{Core}
 use Rattle.desk_rule.specs.declared.board.Journal.{Journal}
+use Rattle.desk_rule.specs.declared.board.Leaving.{Leaving}
 use Rattle.desk_rule.specs.declared.board.Plan.{Plan}
 use Rattle.desk_rule.specs.declared.board.Slot.{Slot}
 use Rattle.desk_rule.specs.declared.board.Slot.TheVariants as slot
@@ -56,6 +57,11 @@ pub record Handling : Type 0 where
   pub passes : ℕ
   pub row : ℕ
   pub request : AnyRequest
+
+-- that clients have retired: at which table, and what they told of their ends
+pub record Notice : Type 0 where
+  pub table : TableId
+  pub left : List Leaving
 
 -- nothing is in it yet, and n elements fit
 abbrev pub IsRoom : {A Z : Type 0} → ℕ → Vec A Z → Type 0

@@ -15,7 +15,7 @@ mod pass;
 mod plays;
 
 pub use client::{Client, Hand, Pass};
-pub use closing::Unretired;
+pub use closing::{Retired, Unretired};
 pub use desk::{Desk, Picked, Post, Win};
 pub use recorder::{Answer, JournalEvent, LogEntry, Record};
 pub use world::Request;
