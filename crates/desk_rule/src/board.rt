@@ -2,16 +2,20 @@
 
 use atomic_table::TableRule;
 use model::{AnyOp, AnyReply, Kind};
+use roster::SharedWalker;
 use seq_objects::SeqObject;
 use std::collections::LinkedList;
 use world::{Answer, DoneCall, JournalEvent, LogEntry, Request};
 
-/// An object with its log, and how many passes there were.
+/// An object with its log, how many passes there were, and its publication list.
 #[derive(Drop)]
 pub struct Core<S, O, R> {
     pub object: S,
     pub log: Vec<LogEntry<O, R>>,
     pub passes: u64,
+    pub list: SharedWalker,
+    /// Of each row, the pass that last served it or first met it.
+    pub ages: [u64; 32],
 }
 
 /// What a client did.

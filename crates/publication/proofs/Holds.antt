@@ -1,5 +1,6 @@
 -- A client that wins an object, serves rows and puts the object back: its fields go on agreeing with what it knows.
-use Rattle.std.proofs.Common.{◌≡◌, ℕ, ◌+◌, ◌<◌, Bool, true, List, [], ◌∷◌, ◌++◌, length, get_or, refl, sym, ap, subst, ◌∙◌, arith, length-set}
+use lib.ListN.{length-map}
+use Rattle.std.proofs.Common.{◌≡◌, ℕ, ◌+◌, ◌-◌, ◌<◌, ◌≤◌, Bool, true, List, [], ◌∷◌, ◌++◌, length, length-append, get_or, vec_len, vec_capacity, refl, sym, ap, subst, ◌∙◌, arith, length-set}
 use Rattle.atomic_table.specs.Table.{rest, Me}
 use Rattle.model.specs.declared.Kind.{Kind}
 use Rattle.model.specs.declared.AnyOp.{AnyOp}
@@ -8,7 +9,7 @@ use Rattle.model.specs.Objects.{Content, empty, kind_of}
 use Rattle.world.specs.declared.Request.{Request}
 use Rattle.world.specs.declared.Answer.{Answer}
 use Rattle.world.specs.World.{AnyEntry, AnyRequest, kind_at, logged, Replays, IsLegal, Serves}
-use Rattle.world.specs.Images.{request_in, answer_in}
+use Rattle.world.specs.Images.{request_in, answer_in, entry_in}
 use Rattle.world.proofs.Entries.{replays_more}
 use Rattle.desk_rule.specs.declared.board.Core.{Core}
 use Rattle.desk_rule.specs.declared.board.Journal.{Journal}
@@ -53,6 +54,18 @@ module _ {O R : Type 0} {op_in : O → AnyOp} {reply_in : R → AnyReply} {numbe
   -- the client sees the list l of x
   pub agrees_seeing : (x : ℕ) (l : List AnyEntry) → x < 16 → IsLegal (kind_at v.kinds x) l → IsAccount x v l → Agrees op_in reply_in number calls quota outstanding j v → Agrees op_in reply_in number calls quota outstanding j (seeing x l v)
   agrees_seeing x l low legal account k = let wide = k.wide in agrees_seen (length-set v.seen x l ∙ wide) (seen_all (λ y z. IsLegal (kind_at v.kinds y) z) v.seen x l (omega arith) legal (λ y _. k.legal y)) (seen_all (λ y z. IsAccount y v z) v.seen x l (omega arith) account (λ y _. k.accounts y)) k
+
+module _ {S O R : Type 0} (op_in : O → AnyOp) (reply_in : R → AnyReply) where
+  -- what an entry leaves of the room for entries
+  pub room_taken : (k k' : Core S O R) (more : List AnyEntry) → log_of op_in reply_in k' ≡ log_of op_in reply_in k ++ more → (vec_len k.log < vec_capacity k.log → vec_capacity k'.log ≡ vec_capacity k.log)
+      → 0 < vec_capacity k.log - vec_len k.log → (vec_capacity k'.log - vec_len k'.log) + length more ≡ vec_capacity k.log - vec_len k.log
+  room_taken k k' more e same room =
+      let n : vec_len k.log ≡ length (log_of op_in reply_in k) = k.log.ok.0 ∙ sym (length-map k.log.items (entry_in op_in reply_in)) in
+      let n' : vec_len k'.log ≡ length (log_of op_in reply_in k') = k'.log.ok.0 ∙ sym (length-map k'.log.items (entry_in op_in reply_in)) in
+      let long : length (log_of op_in reply_in k') ≡ length (log_of op_in reply_in k) + length more = ap length e ∙ length-append (log_of op_in reply_in k) more in
+      let capacity = same (omega arith) in
+      let within : vec_len k'.log ≤ vec_capacity k'.log = k'.log.ok.1 in
+      omega arith
 
 module _ {S O R : Type 0} (content : S → Content) (op_in : O → AnyOp) (reply_in : R → AnyReply) where
   -- the core after a request was served

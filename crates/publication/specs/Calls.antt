@@ -12,13 +12,14 @@ use Rattle.desk_rule.specs.Views.{seen_of, own_request, journal, is_waiting, mis
 use Rattle.world.specs.Images.{entry_in, event_in}
 use Rattle.world.specs.Records.{IsSoundRecord}
 use Rattle.recorder.specs.Records.{Recorded, journal_at, log_at}
+use Rattle.roster.specs.declared.board.Enlist.{Enlist}
 use Rattle.publication.specs.declared.desk.Post.{Post}
 use Rattle.publication.specs.declared.desk.Post.TheVariants as post
 use Rattle.publication.specs.declared.desk.Win.{Win}
 use Rattle.publication.specs.declared.desk.Win.TheVariants as win
 use Rattle.publication.specs.declared.desk.Picked.{Picked}
 use Rattle.publication.specs.declared.desk.Picked.TheVariants as pick
-use Rattle.publication.specs.Handles.{DeskId, DeskSeen, Known, Holding, Handling}
+use Rattle.publication.specs.Handles.{DeskId, DeskSeen, Known, PassState, Holding, Handling}
 
 -- The call was posted as the outstanding one of an idle client: its invocation is the last event of the journal.
 pub record Posted (v : View) (object : ℕ) (op : AnyOp) (w : View) : Type 0 where
@@ -166,9 +167,13 @@ module _ {S O R : Type 0} where
   desk_after_pick (pick.Got h) = h.desk
   desk_after_pick (pick.Not p) = p.desk
 
-  abbrev pub passes_after_pick : Picked S O R → ℕ
-  passes_after_pick (pick.Got h) = h.passes
-  passes_after_pick (pick.Not p) = p.passes
+  abbrev pub state_after_pick : Picked S O R → PassState
+  state_after_pick (pick.Got h) = h.state
+  state_after_pick (pick.Not p) = p.state
+
+  abbrev pub tries_after_win : Win S O R → List (List Enlist)
+  tries_after_win (win.Won p) = p.state.tries
+  tries_after_win (win.Held c) = c.tries
 
   abbrev pub IfGot : Picked S O R → (Handling → Type 0) → Type 0
   IfGot (pick.Got h) P = P h

@@ -85,7 +85,7 @@ impl<S: SeqObject> Desk<S> {
     pub fn close(self, mut last: Client<S>) -> Result<Record<S>, Unretired<S>>
         requires { last.desk ≡ self.id }
         ensures closed { IfOk result (Closed S.op_in S.reply_in self last) }
-        ensures unretired { IfErr result (λ u. (u.desk ≡ self) × (u.last.desk ≡ last.desk) × StillThere self last u.client u.last) }
+        ensures unretired { IfErr result (λ u. (u.desk ≡ self) × (u.last.desk ≡ last.desk) × (u.last.tries ≡ last.tries) × StillThere self last u.client u.last) }
     {
         match first_unretired(&self, &mut last) {
             Some(client) => Err(Unretired {
@@ -103,6 +103,7 @@ fn sees_end<S: SeqObject>(desk: &Desk<S>, last: &mut Client<S>, client: u32) -> 
     requires desk { last.old.desk ≡ desk.now.id }
     requires client { client < desk.now.clients }
     ensures desk { last.new.desk ≡ last.old.desk }
+    ensures tries { last.new.tries ≡ last.old.tries }
     ensures seen { last.new.knows ≡ (if result then knowing_end client last.old.knows else finding_there client last.old.knows) }
     ensures untold { result ≡ false → All (λ l. l.client ≢ client) last.old.knows.left }
 {
@@ -114,6 +115,7 @@ fn sees_end<S: SeqObject>(desk: &Desk<S>, last: &mut Client<S>, client: u32) -> 
 fn first_unretired<S: SeqObject>(desk: &Desk<S>, last: &mut Client<S>) -> Option<u32>
     requires { last.old.desk ≡ desk.now.id }
     ensures desk { last.new.desk ≡ last.old.desk }
+    ensures tries { last.new.tries ≡ last.old.tries }
     ensures found { IfSome result (λ c. StillThere desk.now last.old c last.new) }
     ensures all { IfNone result (HaveEnded desk.now.clients last.new × HasLearntEnds last.old last.new) }
 {
