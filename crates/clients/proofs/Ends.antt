@@ -1,6 +1,6 @@
 -- How a run begins and ends.
-use Rattle.std.proofs.Common.{◌≡◌, ℕ, ◌+◌, ◌<◌, ◌≤◌, List, [], ◌∷◌, ◌++◌, length, map, take, get_or, All, refl, sym, ap, ◌∙◌, subst, arith, append-nil, Result, Ok, Err, IfOk}
-use Rattle.std.proofs.lemmas.List.Elements.{All-push}
+use Rattle.std.proofs.Common.{◌≡◌, ◌≢◌, ℕ, ◌+◌, ◌<◌, ◌≤◌, List, [], ◌∷◌, ◌++◌, length, map, take, get_or, All, refl, sym, ap, ◌∙◌, subst, arith, append-nil, Result, Ok, Err, IfOk}
+use Rattle.std.proofs.lemmas.List.Elements.{All-push, Contains-push}
 use Rattle.std.proofs.lemmas.List.{take_more, map-append}
 use Rattle.model.specs.declared.AnyOp.{AnyOp}
 use Rattle.model.specs.declared.AnyReply.{AnyReply}
@@ -15,12 +15,13 @@ use Rattle.world.specs.Images.{entry_in, event_in}
 use Rattle.world.specs.World.{AnyEntry, AnyEvent, entries_of, served, journal_of}
 use Rattle.world.specs.Records.{IsSoundRecord}
 use Rattle.desk_rule.specs.declared.board.Own.TheVariants as own
+use Rattle.desk_rule.specs.declared.board.Leaving.{Leaving}
 use Rattle.desk_rule.specs.declared.board.View.{View}
-use Rattle.desk_rule.specs.Views.{own_request, journal, MayHold, IsAccount}
+use Rattle.desk_rule.specs.Views.{own_request, journal, told_of, MayHold, IsAccount}
 use Rattle.publication.specs.Handles.{DeskSeen, Known, begun}
 use Rattle.recorder.specs.Records.{Recorded, journal_at, log_at}
 use Rattle.clients.specs.Workloads.{Work, Call, IsCall, calls_at}
-use Rattle.clients.specs.Made.{Made, MayWork, Worked, IsDeskFor, IsDone, ClosedBy, Ran}
+use Rattle.clients.specs.Made.{Made, MayWork, Worked, IsDeskFor, IsDone, ClosedBy, Ran, WasTold}
 
 -- a new client may make its calls
 pub may_begin : (d : DeskSeen) (w : Work) (c : ℕ) (x : Known) (cs : List Call) → x ≡ begun d.id c → IsDeskFor d w → c < length w.calls → cs ≡ calls_at w c → All (IsCall w.kinds) cs → MayWork d x cs
@@ -32,17 +33,29 @@ may_begin d w c x cs is k low calls fit = record {
 }
 
 -- it is client 0, and has made them
-is_done : (d : DeskSeen) (w : Work) (x y : Known) (cs : List Call) → x ≡ begun d.id 0 → cs ≡ calls_at w 0 → y.desk ≡ x.desk → Worked cs x.knows y.knows → IsDone d w y
-is_done d w x y cs is calls desk k = record {
+is_done : (d : DeskSeen) (w : Work) (x y : Known) (cs : List Call) → x ≡ begun d.id 0 → cs ≡ calls_at w 0 → y.desk ≡ x.desk → Worked cs x.knows y.knows → ((c : ℕ) → c < d.clients → c ≢ 0 → WasTold y.knows c) → IsDone d w y
+is_done d w x y cs is calls desk k told = record {
   desk = desk ∙ ap (λ z. z.desk) is;
   number = k.number ∙ ap (λ z. z.knows.number) is;
   idle = k.idle;
+  told = λ c low other. told c low (λ e. other (e ∙ sym (k.number ∙ ap (λ z. z.knows.number) is)));
   made = subst (λ z. Made z (journal y.knows)) calls (subst (Made cs) (sym (k.journal ∙ ap (λ z. journal z.knows ++ k.events) is)) k.made);
 }
 
-pub is_done_if : {E : Type 0} (d : DeskSeen) (w : Work) (x : Known) (cs : List Call) (r : Result Known E) → x ≡ begun d.id 0 → cs ≡ calls_at w 0 → IfOk r (λ y. y.desk ≡ x.desk) → IfOk r (λ y. Worked cs x.knows y.knows) → IfOk r (IsDone d w)
-is_done_if d w x cs (Ok y) is calls desk k = is_done d w x y cs is calls desk k
-is_done_if d w x cs (Err e) is calls desk k = tt
+-- alone it has no other to be told of
+pub is_done_alone : (d : DeskSeen) (w : Work) (x y : Known) (cs : List Call) → d.clients ≡ 1 → x ≡ begun d.id 0 → cs ≡ calls_at w 0 → y.desk ≡ x.desk → Worked cs x.knows y.knows → IsDone d w y
+is_done_alone d w x y cs one is calls desk k = is_done d w x y cs is calls desk k (λ c low other. absurd (omega arith))
+
+-- the client was told that the other has retired, which it knows beside what it knew
+pub told_worked : (cs : List Call) (v w u : View) (l : Leaving) → u ≡ told_of (l ∷ []) w → Worked cs v w → Worked cs v u × WasTold u l.client
+told_worked cs v w u l e k = subst (λ z. Worked cs v z × WasTold z l.client) (sym e) (
+  record { number = k.number; kinds = k.kinds; idle = k.idle; calls = k.calls; events = k.events; journal = k.journal; made = k.made },
+  (l, Contains-push w.left l, refl),
+)
+
+pub is_done_if : {E : Type 0} (d : DeskSeen) (w : Work) (x : Known) (cs : List Call) (r : Result Known E) → x ≡ begun d.id 0 → cs ≡ calls_at w 0 → IfOk r (λ y. y.desk ≡ x.desk) → IfOk r (λ y. Worked cs x.knows y.knows) → ((c : ℕ) → c < d.clients → c ≢ 0 → IfOk r (λ y. WasTold y.knows c)) → IfOk r (IsDone d w)
+is_done_if d w x cs (Ok y) is calls desk k told = is_done d w x y cs is calls desk k told
+is_done_if d w x cs (Err e) is calls desk k told = tt
 
 as_it_is : (e : AnyEvent) → event_in (λ (op : AnyOp). op) (λ (r : AnyReply). r) e ≡ e
 as_it_is (Invoked t x op) = refl

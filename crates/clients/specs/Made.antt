@@ -1,11 +1,12 @@
 -- What the journal of a client says of the calls that it was to make.
-use Rattle.std.specs.Prelude.{◌≡◌, ℕ, ◌+◌, ◌<◌, ◌≤◌, List, [], ◌∷◌, ◌++◌, length, All, None}
+use Rattle.std.specs.Prelude.{◌≡◌, ◌≢◌, ℕ, ◌+◌, ◌<◌, ◌≤◌, List, [], ◌∷◌, ◌++◌, length, All, Contains, None}
 use Rattle.model.specs.declared.AnyOp.{AnyOp}
 use Rattle.model.specs.declared.AnyReply.{AnyReply}
 use Rattle.world.specs.declared.JournalEvent.TheVariants.{Invoked, Returned}
 use Rattle.world.specs.World.{AnyEvent, AnyAnswer, AnyDone, entries_of, served, journal_of}
 use Rattle.world.specs.Records.{IsSoundRecord}
 use Rattle.desk_rule.specs.declared.board.Own.TheVariants as own
+use Rattle.desk_rule.specs.declared.board.Leaving.{Leaving}
 use Rattle.desk_rule.specs.declared.board.View.{View}
 use Rattle.desk_rule.specs.Views.{journal}
 use Rattle.publication.specs.Handles.{DeskSeen, Known}
@@ -42,12 +43,21 @@ pub record IsDeskFor (d : DeskSeen) (w : Work) : Type 0 where
   pub quota : (c : ℕ) → c < length w.calls → length (calls_at w c) ≤ d.id.quota
   pub few_calls : d.id.quota < 10001
 
--- client 0 of the desk has made all its calls
+-- the client was told that this other has retired
+abbrev pub WasTold : View → ℕ → Type 0
+WasTold v c = (l : Leaving) × Contains v.left l × (l.client ≡ c)
+
+-- it was told that each other client of the desk has
+abbrev pub HaveTold : DeskSeen → Known → Type 0
+HaveTold d last = (c : ℕ) → c < d.clients → c ≢ last.knows.number → WasTold last.knows c
+
+-- client 0 of the desk has made all its calls, and was told that the others have retired
 pub record IsDone (d : DeskSeen) (w : Work) (c : Known) : Type 0 where
   pub desk : c.desk ≡ d.id
   pub number : c.knows.number ≡ 0
   pub idle : c.knows.own ≡ own.Idle
   pub made : Made (calls_at w 0) (journal c.knows)
+  pub told : HaveTold d c
 
 -- the client c closed the desk d, with this record
 abbrev pub ClosedBy : DeskSeen → Known → Recorded AnyOp AnyReply → Type 0

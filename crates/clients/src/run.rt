@@ -4,12 +4,12 @@ ghost use Rattle.std.specs.Prelude.{◌≡◌, ◌<◌, length, map, All, IfOk, 
 ghost use Rattle.model.specs.Objects.{empty, kind_with};
 ghost use Rattle.desk_rule.specs.declared.board.Own.TheVariants.{Idle};
 ghost use Rattle.publication.specs.Handles.{AllBegun};
-ghost use Rattle.clients.specs.Made.{MayWork, Worked, IsDeskFor, IsDone, ClosedBy, Ran};
+ghost use Rattle.clients.specs.Made.{MayWork, Worked, IsDeskFor, IsDone, ClosedBy, Ran, WasTold, HaveTold};
 
 use crate::worker::work;
 use crate::workload::Workload;
 use model::{AnyOp, Kind};
-use publication::{Client, Desk, Record, Unretired};
+use publication::{Client, Desk, Record};
 use seq_objects::{AnyObject, SeqObject};
 use std::alloc::{AllocError, Global};
 use std::sync::Wait;
@@ -44,14 +44,14 @@ impl<F: Drop> From<SpawnError<F>> for RunFault {
     }
 }
 
-// A client of this desk that has no call outstanding.
+// The client of this desk with this number, which has no call outstanding.
 #[derive(Drop)]
-struct IdleAt<'a>(&'a Desk<AnyObject>);
+struct IdleAt<'a>(&'a Desk<AnyObject>, u32);
 
 impl<'a> Promise<Client<AnyObject>> for IdleAt<'a> {
     ghost use Rattle.publication.specs.Handles.{Known};
 
-    ghost kept_by = { λ p client. (client.desk ≡ p.0.now.id) × (client.knows.own ≡ Idle) };
+    ghost kept_by = { λ p client. (client.desk ≡ p.0.now.id) × (client.knows.own ≡ Idle) × (client.knows.number ≡ p.1) };
 }
 
 /// Makes the calls of the workload on a new desk, and closes it. Client 0 runs in the calling thread, and client 1, if
@@ -69,10 +69,10 @@ pub fn run_workers<R: Threads + Wait + Sync>(
     let objects = empty_objects(alloc, workload.kinds())?;
     let (desk, clients) = Desk::new(alloc, objects, workload.clients(), workload.quota())?;
     let last = run_all(rt, &desk, clients, workload)?;
-    Ok(close(rt, desk, last))
+    Ok(close(desk, last))
 }
 
-// Runs the clients of a new desk, and hands client 0 back. The others have retired.
+// Runs the clients of a new desk, and hands client 0 back, which was told that the others have retired.
 fn run_all<R: Threads + Wait + Sync>(
     rt: &R,
     desk: &Desk<AnyObject>,
@@ -95,7 +95,7 @@ fn run_all<R: Threads + Wait + Sync>(
     }
 }
 
-// Runs both clients, the other in a thread of its own, and retires that.
+// Runs both clients, the other in a thread of its own, retires that, and tells the first.
 fn run_two<R: Threads + Wait + Sync>(
     rt: &R,
     desk: &Desk<AnyObject>,
@@ -108,52 +108,41 @@ fn run_two<R: Threads + Wait + Sync>(
     requires other { MayWork desk.now other other_calls.now }
     ensures desk { IfOk result (λ client. client.desk ≡ own.desk) }
     ensures worked { IfOk result (λ client. Worked own_calls.now own.knows client.knows) }
+    ensures told { IfOk result (λ client. WasTold client.knows other.knows.number) }
 {
-    let (own, other) = thread::scope(
+    let number = other.number();
+    let (mut own, other) = thread::scope(
         thread::scope_env(),
         rt,
         |scope| -> Result<(Client<AnyObject>, Client<AnyObject>), RunFault>
-            requires { MayWork desk.now own own_calls.now × MayWork desk.now other other_calls.now }
-            ensures { IfOk result (λ r. (r.0.desk ≡ own.desk) × Worked own_calls.entry.now own.knows r.0.knows × (r.1.desk ≡ desk.entry.now.id) × (r.1.knows.own ≡ Idle)) }
+            requires { MayWork desk.now own own_calls.now × MayWork desk.now other other_calls.now × (other.knows.number ≡ number) }
+            ensures { IfOk result (λ r. (r.0.desk ≡ own.desk) × Worked own_calls.entry.now own.knows r.0.knows × (r.1.desk ≡ desk.entry.now.id) × (r.1.knows.own ≡ Idle) × (r.1.knows.number ≡ number)) }
         {
             let started = scope.spawn_with(
-                IdleAt(desk),
+                IdleAt(desk, number),
                 || -> Client<AnyObject>
                     requires { MayWork desk.now other other_calls.now }
-                    ensures { (result.desk ≡ desk.entry.now.id) × (result.knows.own ≡ Idle) }
+                    ensures { (result.desk ≡ desk.entry.now.id) × (result.knows.own ≡ Idle) × (result.knows.number ≡ other.knows.number) }
                 { work(rt, desk, other, other_calls) },
             )?;
             let own = work(rt, desk, own, own_calls);
             Ok((own, started.join(rt)))
         },
     )?;
-    desk.retire(other);
+    desk.tell(&mut own, desk.retire(other));
     Ok(own)
 }
 
 // Closes the desk with its last client, once the others have retired.
-fn close<R: Wait>(rt: &R, desk: Desk<AnyObject>, last: Client<AnyObject>) -> Record<AnyObject>
-    requires { last.desk ≡ desk.id }
+fn close(desk: Desk<AnyObject>, last: Client<AnyObject>) -> Record<AnyObject>
+    requires desk { last.desk ≡ desk.id }
+    requires told { HaveTold desk last }
     ensures { ClosedBy desk last result }
 {
-    let mut desk = desk;
-    let mut last = last;
-    for _ in rt.forever() {
-        match desk.close(last) {
-            Ok(record) => return record,
-            Err(unretired) => {
-                let Unretired {
-                    desk: open,
-                    last: client,
-                    client: _,
-                } = unretired;
-                desk = open;
-                last = client;
-                thread::yield_now();
-            }
-        }
+    match desk.close(last) {
+        Ok(record) => record,
+        Err(_) => unreachable!(),
     }
-    unreachable!()
 }
 
 // An object of each kind that contains nothing.

@@ -17,7 +17,7 @@ use Rattle.publication.specs.Handles.{Holding, Handling}
 use Rattle.publication.specs.Calls.{NotPolled, Got, NotGot, CanDo, kind_held, Answered, IsPutBack}
 use Rattle.combiner.specs.declared.passes.Tried.{Tried}
 use Rattle.combiner.specs.declared.passes.Tried.TheVariants as tried
-use Rattle.combiner.specs.Passes.{KeepsCalls, Goes, IsTried, IsSettled, IsSettledBy, IsSettledNow}
+use Rattle.combiner.specs.Passes.{KeepsCalls, Goes, IsTried, IsSettled, IsSettledBy, IsSettledNow, IsSameBut}
 
 -- what stays where the own calls of w are written from those of v
 keeps_same : (v w u : View) → w ≡ u → KeepsCalls v u → KeepsCalls v w
@@ -40,22 +40,42 @@ pub keeps_held : (v : View) {h : Held} {back : List PutBack} {missed : List ℕ}
 keeps_held v = record { number = refl; kinds = refl; own = refl; done = refl; seen = λ x. starts_same (seen_of v x) }
 
 pub goes_nowhere : (p : Holding) → Goes p p
-goes_nowhere p = record { desk = refl; object = refl; log = starts_same p.log; seen = refl; calls = keeps_all p.knows; ready = λ e. e }
+goes_nowhere p = record { desk = refl; object = refl; tries = refl; log = starts_same p.log; seen = refl; calls = keeps_all p.knows; ready = λ e. e }
 
 pub goes_on : (p q r : Holding) → Goes p q → Goes q r → Goes p r
 goes_on p q r a b = record {
   desk = b.desk ∙ a.desk;
   object = b.object ∙ a.object;
+  tries = b.tries ∙ a.tries;
   log = starts_longer r.log q.log p.log b.log a.log;
   seen = b.seen ∙ a.seen;
   calls = keeps_on p.knows q.knows r.knows a.calls b.calls;
   ready = λ e. b.ready (a.ready e);
 }
 
-pub not_goes : (p q : Holding) (row : ℕ) → q.desk ≡ p.desk → NotGot p row q → Goes p q
-not_goes p q row d n = let k = n.knows in record {
+-- where only the list and the ages changed
+pub goes_same : (p q : Holding) → IsSameBut p q → Goes p q
+goes_same p q s = subst (Goes p) (sym s.2) record { desk = refl; object = refl; tries = refl; log = starts_same p.log; seen = refl; calls = keeps_all p.knows; ready = λ e. e }
+
+pub same_on : (p q r : Holding) → IsSameBut p q → IsSameBut q r → IsSameBut p r
+same_on p q r a b = (b.0, b.1, b.2 ∙ ap (λ (z : Holding). record z { state = record z.state { list = b.0; ages = b.1 } }) a.2)
+
+pub same_settled : (p q : Holding) → IsSameBut p q → IsSettledNow p → IsSettledNow q
+same_settled p q s k = subst IsSettledNow (sym s.2) (λ r waiting on. k r waiting on)
+
+pub same_tried : (p q : Holding) (t : Tried) → IsSameBut p q → IsTried p t → IsTried q t
+same_tried p q t s k = subst (λ z. IsTried z t) (sym s.2) (also t k)
+  where
+    also : (t : Tried) → IsTried p t → IsTried (record p { state = record p.state { list = s.0; ages = s.1 } }) t
+    also tried.Nothing k = k
+    also tried.Answered k = k
+    also tried.PutBack k = k
+
+pub not_goes : (p q : Holding) (row : ℕ) → q.desk ≡ p.desk → q.state ≡ p.state → NotGot p row q → Goes p q
+not_goes p q row d s n = let k = n.knows in record {
   desk = d;
   object = n.object;
+  tries = ap (λ z. z.tries) s;
   log = subst (λ l. StartsWith l p.log) (sym n.log) (starts_same p.log);
   seen = ap (λ z. z.seen) k;
   calls = keeps_same p.knows q.knows _ k (keeps_held p.knows);
@@ -70,10 +90,11 @@ not_tried p q row n here r waiting on =
     let k = n.knows in let waiting' : p.knows.own ≡ own.Waiting r = sym (ap (λ z. z.own) k) ∙ waiting in let on' : r.object ≡ p.object = on ∙ n.object in
     ap (λ z. z.ready) k ∙ ((λ i. p.knows.ready || (eq-eqb (16 + row) (16 + p.knows.number) (ap (λ z. 16 + z) here) i && waits p.object p.knows.own r waiting' on' i)) ∙ or-true p.knows.ready)
 
-pub answered_goes : (p : Holding) (h : Handling) (q : Holding) (row : ℕ) (a : AnyAnswer) → h.desk ≡ p.desk → q.desk ≡ h.desk → Got p row h → Answered h a q → Goes p q
-answered_goes p h q row a d d' g k = record {
+pub answered_goes : (p : Holding) (h : Handling) (q : Holding) (row : ℕ) (a : AnyAnswer) → h.desk ≡ p.desk → q.desk ≡ h.desk → h.state ≡ p.state → q.state.tries ≡ h.state.tries → Got p row h → Answered h a q → Goes p q
+answered_goes p h q row a d d' s s' g k = record {
   desk = d' ∙ d;
   object = k.object ∙ g.object;
+  tries = s' ∙ ap (λ z. z.tries) s;
   log = (logged h.row h.request a, k.log ∙ ap (λ z. z ++ logged h.row h.request a) g.log);
   seen = ap (λ z. z.seen) k.knows ∙ ap (λ z. z.seen) g.knows;
   calls = keeps_on p.knows h.knows q.knows (keeps_same p.knows h.knows _ g.knows (keeps_held p.knows)) (keeps_same h.knows q.knows _ k.knows (keeps_held h.knows));
@@ -84,10 +105,11 @@ pub answered_tried : (p : Holding) (h : Handling) (q : Holding) (row : ℕ) (a :
 answered_tried p h q row a g k here r waiting on =
     ap (λ z. z.ready) k.knows ∙ (ap (λ z. h.knows.ready || z) (eq-eqb h.row h.knows.number (g.row ∙ (here ∙ sym (ap (λ z. z.number) g.knows)))) ∙ or-true h.knows.ready)
 
-pub back_goes : (p : Holding) (h : Handling) (q : Holding) (row : ℕ) → h.desk ≡ p.desk → q.desk ≡ h.desk → Got p row h → IsPutBack h q → Goes p q
-back_goes p h q row d d' g k = record {
+pub back_goes : (p : Holding) (h : Handling) (q : Holding) (row : ℕ) → h.desk ≡ p.desk → q.desk ≡ h.desk → h.state ≡ p.state → q.state ≡ h.state → Got p row h → IsPutBack h q → Goes p q
+back_goes p h q row d d' s s' g k = record {
   desk = d' ∙ d;
   object = k.object ∙ g.object;
+  tries = ap (λ z. z.tries) (s' ∙ s);
   log = subst (λ l. StartsWith l p.log) (sym (k.log ∙ g.log)) (starts_same p.log);
   seen = ap (λ z. z.seen) k.knows ∙ ap (λ z. z.seen) g.knows;
   calls = keeps_on p.knows h.knows q.knows (keeps_same p.knows h.knows _ g.knows (keeps_held p.knows)) (keeps_same h.knows q.knows _ k.knows (keeps_held h.knows));

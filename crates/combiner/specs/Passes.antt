@@ -4,6 +4,7 @@ use Rattle.world.specs.World.{AnyEntry, AnyRequest, kind_at, StartsWith}
 use Rattle.desk_rule.specs.declared.board.Own.TheVariants as own
 use Rattle.desk_rule.specs.declared.board.View.{View}
 use Rattle.desk_rule.specs.Views.{seen_of}
+use Rattle.roster.specs.Calls.{WalkerSeen}
 use Rattle.publication.specs.Handles.{Holding}
 use Rattle.publication.specs.Calls.{CanDo}
 use Rattle.combiner.specs.declared.passes.Combined.{Combined}
@@ -32,10 +33,15 @@ IsSettled x v = IsSettledBy x (seen_of v x) v
 abbrev pub IsSettledNow : Holding → Type 0
 IsSettledNow p = IsSettledBy p.object p.log p.knows
 
+-- nothing of the pass has changed but its list and ages
+abbrev pub IsSameBut : Holding → Holding → Type 0
+IsSameBut p q = (l : WalkerSeen) × (ages : List ℕ) × (q ≡ record p { state = record p.state { list = l; ages = ages } })
+
 -- from p to q rows were tried
 pub record Goes (p q : Holding) : Type 0 where
   pub desk : q.desk ≡ p.desk
   pub object : q.object ≡ p.object
+  pub tries : q.state.tries ≡ p.state.tries
   pub log : StartsWith q.log p.log
   pub seen : q.knows.seen ≡ p.knows.seen
   pub calls : KeepsCalls p.knows q.knows

@@ -1,8 +1,8 @@
 //! One pass over the rows.
 
-ghost use Rattle.std.specs.Prelude.{◌≡◌, ◌<◌, ◌≤◌, length};
+ghost use Rattle.std.specs.Prelude.{◌≡◌, ◌<◌, ◌≤◌, length, IfSome};
 ghost use Rattle.desk_rule.specs.Views.{missing};
-ghost use Rattle.combiner.specs.Passes.{Goes, KeepsCalls, IsTried, IsSettled, IsSettledNow, IfServed, IfBusy};
+ghost use Rattle.combiner.specs.Passes.{Goes, KeepsCalls, IsTried, IsSettled, IsSettledNow, IsSameBut, IfServed, IfBusy};
 
 use publication::{Client, Desk, Pass, Picked, Win};
 use seq_objects::SeqObject;
@@ -26,8 +26,16 @@ enum Tried {
     PutBack,
 }
 
-/// Tries to win the object. If it is won, serves the client's own row, then each other row in rising order, and then
-/// the own one again if its request was put back. A request whose operation is not possible is put back.
+/// A pass whose number is a multiple of this cleans up.
+const CLEANING: u64 = 64;
+
+/// A row that was of no use for more passes than this goes out of the list.
+const IDLE: u64 = 128;
+
+/// Tries to win the object. If it is won, serves the client's own row, then each other row of the publication list, and
+/// then the own one again if its request was put back. A request whose operation is not possible is put back. In each pass
+/// whose number is a multiple of 64 it takes rows out of the list that were of no use in the last 128 passes, but never the
+/// first.
 pub fn combine<S: SeqObject>(
     desk: &Desk<S>,
     client: Client<S>,
@@ -36,6 +44,8 @@ pub fn combine<S: SeqObject>(
     requires desk { client.desk ≡ desk.now.id }
     requires object { object < length desk.now.id.kinds }
     ensures desk { result.0.desk ≡ client.desk }
+    // It does not enlist.
+    ensures tries { result.0.tries ≡ client.tries }
     ensures same { KeepsCalls client.knows result.0.knows }
     // A call of its own on the object that is outstanding is answered, so that the next poll is Some; or the object cannot
     // do it after the log that the client has then seen.
@@ -46,7 +56,8 @@ pub fn combine<S: SeqObject>(
         Win::Held(client) => (client, Combined::Busy),
         Win::Won(mut held) => {
             let pass = held.count_pass();
-            let (held, count) = serve(desk, held);
+            let (mut held, count) = serve(desk, held);
+            clean(&mut held, pass);
             (held.release(desk), Combined::Served { pass, count })
         }
     }
@@ -59,7 +70,8 @@ fn serve<S: SeqObject>(desk: &Desk<S>, pass: Pass<S>) -> (Pass<S>, u64)
     ensures own { IsSettledNow result.0 }
 {
     let own = pass.number();
-    let (pass, first) = try_row(desk, pass, own);
+    let (mut pass, first) = try_row(desk, pass, own);
+    walk(&mut pass);
     let (pass, others) = serve_others(desk, pass, own);
     if first != Tried::PutBack {
         return (pass, u64::from(first == Tried::Answered) + others);
@@ -68,7 +80,70 @@ fn serve<S: SeqObject>(desk: &Desk<S>, pass: Pass<S>) -> (Pass<S>, u64)
     (pass, u64::from(again == Tried::Answered) + others)
 }
 
-// Serves each row but the own one, in rising order.
+// Walks the list, and makes the rows that were enlisted since the last walk as old as this pass.
+fn walk<S: SeqObject>(pass: &mut Pass<S>)
+    ensures { IsSameBut pass.old pass.new }
+{
+    let left = pass.rows().len();
+    pass.walk();
+    let newcomers = pass.rows().len().saturating_sub(left);
+    for at in 0..newcomers {
+        make_current(pass, at);
+    }
+}
+
+// The row at this place of the list, if there is one.
+fn row_at<S: SeqObject>(pass: &Pass<S>, at: usize) -> Option<u32>
+    ensures { IfSome result (λ row. row < 32) }
+{
+    let rows = pass.rows();
+    if at < rows.len() {
+        Some(rows[at])
+    } else {
+        None
+    }
+}
+
+// Makes the row at this place as old as this pass.
+fn make_current<S: SeqObject>(pass: &mut Pass<S>, at: usize)
+    ensures { IsSameBut pass.old pass.new }
+{
+    let Some(row) = row_at(pass, at) else {
+        return;
+    };
+    pass.set_age(row);
+}
+
+// Where it is this pass's turn, takes out the rows that were of no use for long, but not the first.
+fn clean<S: SeqObject>(pass: &mut Pass<S>, number: u64)
+    ensures { IsSameBut pass.old pass.new }
+{
+    if number % CLEANING != 0 {
+        return;
+    }
+    let mut at = pass.rows().len();
+    while at > 1 {
+        at -= 1;
+        clean_at(pass, at, number);
+    }
+}
+
+// Takes out the row at this place, where it was of no use for long.
+fn clean_at<S: SeqObject>(pass: &mut Pass<S>, at: usize, number: u64)
+    requires { (1 ≤ at) × (at < length pass.old.state.list.rows) }
+    ensures same { IsSameBut pass.old pass.new }
+    ensures rows { at ≤ length pass.new.state.list.rows }
+{
+    let Some(row) = row_at(pass, at) else {
+        return;
+    };
+    if number.saturating_sub(pass.age(row)) <= IDLE {
+        return;
+    }
+    pass.unlink(at);
+}
+
+// Serves each listed row but the own one, in the order of the list.
 fn serve_others<S: SeqObject>(desk: &Desk<S>, pass: Pass<S>, own: u32) -> (Pass<S>, u64)
     requires { pass.desk ≡ desk.now.id }
     ensures goes { Goes pass result.0 }
@@ -76,7 +151,10 @@ fn serve_others<S: SeqObject>(desk: &Desk<S>, pass: Pass<S>, own: u32) -> (Pass<
 {
     let mut pass = pass;
     let mut count = 0;
-    for row in 0..desk.clients() {
+    for at in 0..32 {
+        let Some(row) = row_at(&pass, at) else {
+            break;
+        };
         if row != own {
             let (after, tried) = try_row(desk, pass, row);
             pass = after;
@@ -88,7 +166,7 @@ fn serve_others<S: SeqObject>(desk: &Desk<S>, pass: Pass<S>, own: u32) -> (Pass<
     (pass, count)
 }
 
-// Tries a row once. A request that is there is answered, or put back.
+// Tries a row once. A request that is there is answered, and the row is as old as this pass; or it is put back.
 fn try_row<S: SeqObject>(desk: &Desk<S>, pass: Pass<S>, row: u32) -> (Pass<S>, Tried)
     requires desk { pass.desk ≡ desk.now.id }
     requires row { row < 32 }
@@ -99,7 +177,9 @@ fn try_row<S: SeqObject>(desk: &Desk<S>, pass: Pass<S>, row: u32) -> (Pass<S>, T
         Picked::Not(pass) => (pass, Tried::Nothing),
         Picked::Got(hand) => {
             if hand.possible() {
-                (hand.answer(desk).0, Tried::Answered)
+                let (mut pass, _) = hand.answer(desk);
+                pass.set_age(row);
+                (pass, Tried::Answered)
             } else {
                 (hand.put_back(desk), Tried::PutBack)
             }

@@ -1,9 +1,13 @@
 ghost use Rattle.std.specs.Prelude.{◌≡◌, ◌<◌, length, IfOk};
 ghost use Rattle.desk_rule.specs.declared.board.Own.TheVariants.{Idle};
 
+mod abandoned;
+mod listing;
+
 use crate::{Combined, call, combine};
 use publication::{
-    Answer, Client, Desk, JournalEvent, LogEntry, Pass, Picked, Post, Record, Unretired, Win,
+    Answer, Client, Desk, Enlist, JournalEvent, LogEntry, Pass, Picked, Post, Record, Unretired,
+    Win,
 };
 use seq_objects::{AnyObject, AnyOp, AnyReply, Kind};
 use std::alloc::{AllocError, Global};
@@ -90,6 +94,51 @@ fn answer<R: Abort>(
             panic!(rt; "row {row} has no request")
         }
     }
+}
+
+fn enlist<R: Abort>(rt: &R, desk: &Desk<AnyObject>, client: &mut Client<AnyObject>, wanted: Enlist)
+    requires client { client.old.desk ≡ desk.now.id }
+    requires object { 0 < length desk.now.id.kinds }
+    ensures { client.new.desk ≡ client.old.desk }
+{
+    assert_eq!(rt; desk.enlist(client, 0), wanted);
+}
+
+// One pass, of this number, which answers so many requests.
+fn passes<R: Abort>(
+    rt: &R,
+    desk: &Desk<AnyObject>,
+    client: Client<AnyObject>,
+    pass: u64,
+    count: u64,
+) -> Client<AnyObject>
+    requires client { client.desk ≡ desk.now.id }
+    requires object { 0 < length desk.now.id.kinds }
+    ensures { result.desk ≡ client.desk }
+{
+    let (client, combined) = combine(desk, client, 0);
+    assert!(rt; combined == Combined::Served { pass, count });
+    client
+}
+
+// The passes behind the first so many, up to this one, none of which answers a request.
+fn combines_to<R: Abort>(
+    rt: &R,
+    desk: &Desk<AnyObject>,
+    client: Client<AnyObject>,
+    done: u64,
+    last: u64,
+) -> Client<AnyObject>
+    requires client { client.desk ≡ desk.now.id }
+    requires object { 0 < length desk.now.id.kinds }
+    requires last { last < 1_000 }
+    ensures { result.desk ≡ client.desk }
+{
+    let mut client = client;
+    for pass in done..last {
+        client = passes(rt, desk, client, pass + 1, 0);
+    }
+    client
 }
 
 // Retires client 1, and closes the desk with client 0.
@@ -203,6 +252,7 @@ fn one_client_and_one_call(rt: HostRuntime) -> Result<(), Fail> {
 fn a_held_object_is_busy(rt: HostRuntime) -> Result<(), Fail> {
     let (desk, zero, mut one) = for_two(rt.alloc(), Kind::Queue, 1)?;
     post(&rt, &desk, &mut one, AnyOp::Enqueue(4));
+    enlist(&rt, &desk, &mut one, Enlist::Listed);
     let pass = win(&rt, &desk, zero);
     let (one, tried) = combine(&desk, one, 0);
     let zero = pass.release(&desk);
@@ -249,12 +299,11 @@ fn is_mutex_row(kept: &Record<AnyObject>) -> bool
 fn what_was_put_back_is_served_later(rt: HostRuntime) -> Result<(), Fail> {
     let (desk, mut zero, mut one) = acquired(&rt, rt.alloc())?;
     post(&rt, &desk, &mut one, AnyOp::Acquire);
-    let (mut one, combined) = combine(&desk, one, 0);
-    assert!(rt; combined == Combined::Served { pass: 2, count: 0 });
+    enlist(&rt, &desk, &mut one, Enlist::Listed);
+    let mut one = passes(&rt, &desk, one, 2, 0);
     assert!(rt; desk.poll(&mut one).is_none());
     post(&rt, &desk, &mut zero, AnyOp::Release);
-    let (mut zero, combined) = combine(&desk, zero, 0);
-    assert!(rt; combined == Combined::Served { pass: 3, count: 2 });
+    let mut zero = passes(&rt, &desk, zero, 3, 2);
     assert!(rt; desk.poll(&mut zero).is_some());
     assert!(rt; desk.poll(&mut one).is_some());
     let record = record_of(&rt, desk, zero, one);
@@ -267,28 +316,12 @@ fn the_own_row_is_tried_again(rt: HostRuntime) -> Result<(), Fail> {
     let (desk, mut zero, mut one) = acquired(&rt, rt.alloc())?;
     post(&rt, &desk, &mut one, AnyOp::Acquire);
     post(&rt, &desk, &mut zero, AnyOp::Release);
-    let (mut one, combined) = combine(&desk, one, 0);
-    assert!(rt; combined == Combined::Served { pass: 2, count: 2 });
+    enlist(&rt, &desk, &mut zero, Enlist::Listed);
+    let mut one = passes(&rt, &desk, one, 2, 2);
     assert!(rt; desk.poll(&mut zero).is_some());
     assert!(rt; desk.poll(&mut one).is_some());
     let record = record_of(&rt, desk, zero, one);
     assert!(rt; tickets_are(record.log(0), &[0, 3, 2]));
-    Ok(())
-}
-
-// What a client that retired had outstanding is served, and stays pending in its journal.
-#[test]
-fn calls_of_abandoned_clients_are_pending(rt: HostRuntime) -> Result<(), Fail> {
-    let (desk, mut zero, mut one) = for_two(rt.alloc(), Kind::Queue, 1)?;
-    post(&rt, &desk, &mut zero, AnyOp::Enqueue(1));
-    post(&rt, &desk, &mut one, AnyOp::Enqueue(2));
-    desk.retire(one);
-    let (zero, combined) = combine(&desk, zero, 0);
-    assert!(rt; combined == Combined::Served { pass: 1, count: 2 });
-    let record = closed(&rt, desk, zero);
-    assert!(rt; record.journal(0) == [invoked(0, AnyOp::Enqueue(1))].as_slice());
-    assert!(rt; record.journal(1) == [invoked(1, AnyOp::Enqueue(2))].as_slice());
-    assert!(rt; tickets_are(record.log(0), &[0, 1]));
     Ok(())
 }
 

@@ -18,7 +18,7 @@ pub enum CallFault {
     Post(Post),
 }
 
-/// Posts a call, and then polls and combines until it is answered.
+/// Posts a call, and then polls, enlists the row and combines until it is answered.
 pub fn call<S: SeqObject, R: Wait>(
     rt: &R,
     desk: &Desk<S>,
@@ -40,7 +40,7 @@ pub fn call<S: SeqObject, R: Wait>(
     (client, Ok(answer))
 }
 
-// Polls and combines until the outstanding call is answered.
+// Polls, enlists and combines until the outstanding call is answered.
 fn wait_for<S: SeqObject, R: Wait>(
     rt: &R,
     desk: &Desk<S>,
@@ -58,6 +58,7 @@ fn wait_for<S: SeqObject, R: Wait>(
         if let Some(answer) = desk.poll(&mut client) {
             return (client, answer);
         }
+        desk.enlist(&mut client, object);
         client = combine(desk, client, object).0;
         backoff.snooze();
     }

@@ -17,14 +17,14 @@ use Rattle.desk_rule.specs.declared.board.Own.TheVariants as own
 use Rattle.desk_rule.specs.declared.board.Held.TheVariants as held
 use Rattle.desk_rule.specs.declared.board.PutBack.{PutBack}
 use Rattle.desk_rule.specs.declared.board.View.{View}
-use Rattle.world.specs.World.{AnyRequest, absent, idle, posted, picked, World, opening_world, kind_at, entries_of}
+use Rattle.world.specs.World.{AnyRequest, absent, idle, posted, picked, World, opening_world, kind_at, entries_of, request_of}
 use Rattle.world.specs.Moves.{changed, staged}
 use Rattle.world.proofs.Changed.{changed_here, changed_else}
 use Rattle.world.proofs.Opening.{sound_opening, sound_come}
 use Rattle.desk_rule.specs.Views.{newcomer, founder, one_made, seen_of, calling}
-use Rattle.desk_rule.specs.Rule.{row_word, OwnOk, SeatOk, ViewOk, Fits, MessageAt}
+use Rattle.desk_rule.specs.Rule.{row_word, OwnOk, SeatOk, HasLeft, ViewOk, Fits, MessageAt}
 use Rattle.desk_rule.specs.Plays as play
-use Rattle.desk_rule.proofs.Seats.{alike, kept_after, come_after, mine, Rule}
+use Rattle.desk_rule.proofs.Seats.{row_leaves, alike, kept_after, come_after, mine, Rule}
 use Rattle.desk_rule.proofs.Ties.{tied_coming}
 use Rattle.desk_rule.proofs.Calls.{later_gone, seat_unanswered, covers_own}
 
@@ -72,6 +72,7 @@ module _ {S O R : Type 0} (content : S → Content) (op_in : O → AnyOp) (reply
     seats = λ j v e. ⊎_elim (λ (t : get_elem? [] j ≡ some v). absurd (some-ne-none v (sym t))) (λ (t : founder kinds ≡ v). subst (λ z. ViewOk kinds opening_world (λ _. 0) j z) t record {
       told = λ x. ([], ap (λ z. z ++ []) (sym (get_or-replicate_same [] 16 x)));
       heard = λ x. ([], refl);
+      left = All-nil (HasLeft opening_world);
       client = λ is. absurd (cc);
       unmade = λ is c l. (refl, refl, refl, λ x f. cc);
       maker_kinds = λ is. refl;
@@ -103,6 +104,7 @@ module _ {S O R : Type 0} (content : S → Content) (op_in : O → AnyOp) (reply
             (λ (h : (j ≡ id) × (l ≡ u)). subst (λ z. ViewOk kinds w so' j z) h.1 record {
               told = old.told;
               heard = old.heard;
+              left = old.left;
               client = λ f. absurd (cc);
               unmade = λ _ d g. old.unmade is d (omega arith);
               maker_kinds = λ _. old.maker_kinds is;
@@ -110,6 +112,7 @@ module _ {S O R : Type 0} (content : S → Content) (op_in : O → AnyOp) (reply
             (λ (h : (j ≢ id) × (get_elem? s.views j ≡ some u)). let b = k.seats j u h.1 in record {
               told = b.told;
               heard = b.heard;
+              left = b.left;
               client = λ f. let low' = (k.makers.made id v at is j u h.1).0 f in let g = b.client f in (changed_else k.seat_of c here u.number (λ x. omega arith) ∙ g.0, g.1);
               unmade = b.unmade;
               maker_kinds = b.maker_kinds;
@@ -118,6 +121,7 @@ module _ {S O R : Type 0} (content : S → Content) (op_in : O → AnyOp) (reply
             (λ (t : (j ≡ here) × (new ≡ u)). subst (λ z. ViewOk kinds w so' j z) t.1 record {
               told = λ x. (w.log x, ap (λ z. z ++ w.log x) (sym (unseen v.kinds c x)));
               heard = λ x. (w.log x, refl);
+              left = All-nil (HasLeft w);
               client = λ _. (
                 changed_here k.seat_of c here ∙ sym t.0,
                 record {
@@ -175,6 +179,7 @@ module _ {S O R : Type 0} (content : S → Content) (op_in : O → AnyOp) (reply
           come = come_after clients w c idle (subst (λ z. z < clients) number (k.makers.numbers id m.0 at cl)) k.come;
           sound = sound_come kinds quota w c was k.sound;
           tied = tied_coming content op_in reply_in kinds w c (get_or s.words (16 + c) 0) idle s.words s.homes low (λ e. absurd (cc)) (ok.ended ∙ going) (word ∙ ap row_word was) (λ home. tt) k.tied;
+          leave = row_leaves w c idle (ap request_of was);
           others = λ d other. later_gone w w.clock c d idle w.done before (λ p e. let g = sym was ∙ e in absurd (cc)) refl (λ e. other (e ∙ sym number));
           own = subst (λ z. SeatOk kinds (staged w c idle) z v') (sym number)
               (seat_unanswered kinds w w.clock c idle w.done m.0 own.Idle m.0.done (λ p a e. let g = sym was ∙ e in absurd (cc)) refl ok.done free (covers_own kinds w c m.0 own.Absent is ok) ok);

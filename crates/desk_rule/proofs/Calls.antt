@@ -21,7 +21,7 @@ use Rattle.desk_rule.specs.declared.board.Held.TheVariants as held
 use Rattle.desk_rule.specs.declared.board.View.{View}
 use Rattle.world.specs.declared.Request.{Request}
 use Rattle.world.specs.declared.Answer.{Answer}
-use Rattle.world.specs.World.{AnyEntry, AnyRequest, AnyAnswer, AnyDone, Stage, idle, drawn, posted, picked, answered, taken, World, kind_at, logged, logged_on, entries_of, served, served_now, request_of, calls_made, IsLegal, StartsWith}
+use Rattle.world.specs.World.{AnyEntry, AnyRequest, AnyAnswer, AnyDone, Stage, idle, drawn, posted, picked, answered, taken, World, kind_at, logged, logged_on, entries_of, served, served_now, request_of, calls_made, journal_of, IsLegal, StartsWith}
 use Rattle.world.specs.Moves.{changed, staged, ticked}
 use Rattle.world.specs.Images.{request_in, answer_in}
 use Rattle.world.proofs.Changed.{changed_here, changed_else}
@@ -30,7 +30,7 @@ use Rattle.world.proofs.Moved.{sound_staged, sound_called, sound_returned, clock
 use Rattle.desk_rule.specs.Views.{seen_of, owed, missing, calling, taking, done_with, seeing}
 use Rattle.desk_rule.specs.Rule.{row_word, OwnOk, HeldOk, SeatOk, MessageAt}
 use Rattle.desk_rule.specs.Plays as play
-use Rattle.desk_rule.proofs.Seats.{Later, alike, kept_after, come_after, mine, misses, Rule}
+use Rattle.desk_rule.proofs.Seats.{Later, Leaves, row_leaves, alike, kept_after, come_after, mine, misses, Rule}
 use Rattle.desk_rule.proofs.Seeing.{all_covered, saw, seen_all}
 use Rattle.desk_rule.proofs.Ties.{tied_row, tied_clock}
 
@@ -50,8 +50,13 @@ later_gone w n c d t dones before apart same other = record {
   picked = λ y j p g h e. changed_else w.stage c t j (λ same. before p (ap w.stage (sym same) ∙ e)) ∙ e;
   posted = λ j p g e. changed_else w.stage c t j (λ same. apart p (ap w.stage (sym same) ∙ e)) ∙ e;
   ended = refl;
-  all_ended = λ e g. g;
 }
+
+-- the client c has not ended
+gone_leaves : (w : World) (n c : ℕ) (t : Stage) (dones : ℕ → List AnyDone) → w.ended c ≡ false → ((d : ℕ) → d ≢ c → dones d ≡ w.done d) → Leaves w (gone w n c t dones)
+gone_leaves w n c t dones going same d e =
+    let other : d ≢ c = λ f. let g = sym going ∙ (ap w.ended (sym f) ∙ e) in absurd (cc) in
+    (e, λ i. journal_of (same d other i) (request_of (changed_else w.stage c t d other i)))
 
 -- the client itself, which holds nothing
 seat_gone : (kinds : List Kind) (w : World) (n c : ℕ) (t : Stage) (dones : ℕ → List AnyDone) (v : View) (o : Own) (ds : List AnyDone) → OwnOk o t → ds ≡ dones c → v.held ≡ held.Free
@@ -116,6 +121,7 @@ module _ {S O R : Type 0} (content : S → Content) (op_in : O → AnyOp) (reply
           come = come_after clients w c t (k.makers.numbers id m.0 at cl) k.come;
           sound = sound_called kinds quota w c q ok.small was few' on fits ticket k.sound;
           tied = tied_clock content op_in reply_in kinds w c ((found + 1) % 2 ^ 64) t (w.done c) s.words s.homes (λ e. absurd (cc)) (ok.ended ∙ going) (ap row_word was) (λ home. tt) (more_by_one s k) k.tied;
+          leave = gone_leaves w (w.clock + 1) c t (changed w.done c (w.done c)) (ok.ended ∙ going) (changed_else w.done c (w.done c));
           others = λ d other. later_gone w (w.clock + 1) c d t (changed w.done c (w.done c)) before (λ r e. let g = sym was ∙ e in absurd (cc)) (changed_else w.done c (w.done c) d other) other;
           own = seat_unanswered kinds w (w.clock + 1) c t (changed w.done c (w.done c)) m.0 (own.Drawn q) m.0.done never refl (over ∙ sym (changed_here w.done c (w.done c))) free (covers_own kinds w c m.0 own.Idle is ok) ok;
         },
@@ -145,6 +151,7 @@ module _ {S O R : Type 0} (content : S → Content) (op_in : O → AnyOp) (reply
           come = come_after clients w c t (subst (λ z. z < clients) number (k.makers.numbers id m.0 at cl)) k.come;
           sound = sound_staged kinds quota w c t before (λ r e. absurd (cc)) (ap request_of (sym was)) (λ e. absurd (cc)) (λ y. ap (served_now y c) (sym was)) k.sound;
           tied = tied_row content op_in reply_in kinds w c n t w.hand w.log s.words s.homes (some (slot.Request p)) ok.small (λ y _. refl) (λ e. absurd (cc)) (ap request_of (sym was)) word (p, refl, same) k.tied;
+          leave = row_leaves w c t (ap request_of was);
           others = λ d other. later_gone w w.clock c d t w.done before (λ r e. let g = sym was ∙ e in absurd (cc)) refl (λ e. other (e ∙ sym number));
           own = subst (λ z. SeatOk kinds (staged w c t) z v') (sym number)
               (seat_unanswered kinds w w.clock c t w.done m.0 (own.Waiting q) m.0.done never (inl refl) ok.done free (covers_own kinds w c m.0 (own.Drawn q) is ok) ok);
@@ -186,6 +193,7 @@ module _ {S O R : Type 0} (content : S → Content) (op_in : O → AnyOp) (reply
           come = come_after clients w c t (subst (λ z. z < clients) number (k.makers.numbers id m.0 at cl)) k.come;
           sound = sound_staged kinds quota w c t before (λ p e. absurd (cc)) (ap request_of (sym was)) (λ e. absurd (cc)) (λ y. ap (served_now y c) (sym was)) k.sound;
           tied = tied_row content op_in reply_in kinds w c 0 t w.hand w.log s.words s.homes maybe.none few (λ y _. refl) (λ e. absurd (cc)) (ap request_of (sym was)) refl tt k.tied;
+          leave = row_leaves w c t (ap request_of was);
           others = λ d other. later_gone w w.clock c d t w.done before (λ r e. let g = sym was ∙ e in absurd (cc)) refl (λ e. other (e ∙ sym number));
           own = subst (λ z. SeatOk kinds (staged w c t) z v') (sym number) (subst (λ z. SeatOk kinds (staged w c t) c (taking q z l m.0)) (sym image)
               (seat_gone kinds w w.clock c t w.done (seeing x l m.0) (own.Taken q a) m.0.done refl ok.done free (covers_taken kinds w c m.0 q a l is (omega arith) calls ok) begins));
@@ -232,6 +240,7 @@ module _ {S O R : Type 0} (content : S → Content) (op_in : O → AnyOp) (reply
           come = come_after clients w c idle (k.makers.numbers id m.0 at cl) k.come;
           sound = sound_returned kinds quota w c found q a ok.small was k.tied.clock k.sound;
           tied = tied_clock content op_in reply_in kinds w c ((found + 1) % 2 ^ 64) idle ds s.words s.homes (λ e. absurd (cc)) (ok.ended ∙ going) (ap row_word was) (λ home. tt) (more_by_one s k) k.tied;
+          leave = gone_leaves w (w.clock + 1) c idle (changed w.done c ds) (ok.ended ∙ going) (changed_else w.done c ds);
           others = λ e other. later_gone w (w.clock + 1) c e idle (changed w.done c ds) before (λ r f. let g = sym was ∙ f in absurd (cc)) (changed_else w.done c ds e other) other;
           own = seat_unanswered kinds w (w.clock + 1) c idle (changed w.done c ds) m.0 own.Idle (m.0.done ++ d ∷ []) never refl (ap (λ z. z ++ d ∷ []) ok.done ∙ sym (changed_here w.done c ds)) free
               (λ y. subst (StartsWith (entries_of c (seen_of m.0 y))) (sym (append-nil (served y c (m.0.done ++ d ∷ [])) ∙ served_more y c found m.0.done q a)) (covers_own kinds w c m.0 (own.Taken q a) is ok y)) ok;

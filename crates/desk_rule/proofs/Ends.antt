@@ -43,7 +43,6 @@ later_ended w c d other = record {
   picked = λ y j p g h e. e;
   posted = λ j p g e. e;
   ended = changed_else w.ended c true d other;
-  all_ended = still_ended w c;
 }
 
 is_ended : (b : Bool) → end_word b ≡ 1 → b ≡ true
@@ -86,6 +85,7 @@ module _ {S O R : Type 0} (content : S → Content) (op_in : O → AnyOp) (reply
           come = k.come;
           sound = sound_ended kinds quota w c k.sound;
           tied = tied_end content op_in reply_in kinds w c j s.words s.homes ok.small (has_come m.0.own (w.stage c) calm ok.own) says' k.tied;
+          leave = λ d e. (still_ended w c d e, refl);
           others = λ d other. later_ended w c d (λ e. other (e ∙ sym number));
           own = subst (λ z. SeatOk kinds (ended_by w c) z v') (sym number) record {
             number = ok.number;
@@ -123,5 +123,8 @@ module _ {S O R : Type 0} (content : S → Content) (op_in : O → AnyOp) (reply
         keeps,
         tt,
         unmoved content op_in reply_in kinds clients quota s k (48 + d) id m.0 (finding_there d m.0) m.1 at cl alike (seat_knowing ok.ready ok.retired ok),
-        λ e same. let f : d ≡ e = omega arith in ((λ hit. absurd (miss hit)), λ _. ap (λ z. (finding_there z m.0, m.1)) f),
+        λ e same. let f : d ≡ e = omega arith in (
+          (λ hit. absurd (miss hit)),
+          λ _. (ap (λ z. (finding_there z m.0, m.1)) f, λ i z l g. miss (word ∙ ap end_word (ap w.ended (f ∙ sym g) ∙ ((k.seats id m.0 at).left i z l).0))),
+        ),
       ))

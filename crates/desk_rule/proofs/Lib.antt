@@ -7,3 +7,4 @@ pub mod Calls
 pub mod Beginnings
 pub mod Ends
 pub mod Meets
+pub mod Farewells

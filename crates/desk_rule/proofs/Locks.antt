@@ -47,7 +47,6 @@ later_held w x d h other away = record {
   picked = λ y r q _ _ g. g;
   posted = λ r q _ g. g;
   ended = refl;
-  all_ended = λ e g. g;
 }
 
 abbrev pub held_log : Held → List AnyEntry
@@ -96,6 +95,7 @@ module _ {S O R : Type 0} (content : S → Content) (op_in : O → AnyOp) (reply
           come = k.come;
           sound = sound_held kinds quota w x (Some c) (λ e. absurd (cc)) k.sound;
           tied = tied_lock content op_in reply_in kinds w x n (Some c) s.words s.homes maybe.none inside is (λ e. absurd (cc)) k.tied;
+          leave = λ d e. (e, refl);
           others = λ d other. later_held w x d (Some c) (λ e. absurd (cc)) (λ e. other (sym (same_Some c d e)));
           own = seat_held kinds w c x (Some c) m.0 (held.Pass x (w.log x)) m.0.back
               (λ i d l. let b = ok.back i d l in (b.0, changed_all (λ y h. w.holder y ≡ Some c → h ≡ Some c) w.holder x (Some c) (λ _. refl) (λ y _ e. e) (get_or m.0.back i d).request.object b.1)) ok (
@@ -132,6 +132,7 @@ module _ {S O R : Type 0} (content : S → Content) (op_in : O → AnyOp) (reply
           come = k.come;
           sound = sound_held kinds quota w x None (λ _. h.2) k.sound;
           tied = tied_lock content op_in reply_in kinds w x 0 None s.words s.homes (some (slot.Core core)) inside refl (λ _. (core, refl, fits')) k.tied;
+          leave = λ d e. (e, refl);
           others = λ d other. later_held w x d None (λ e. other (sym (same_Some c d (sym h.1 ∙ e)))) (λ e. absurd (cc));
           own = subst (λ z. SeatOk kinds (held_by w x None) c (learnt x z m.0)) h.3 (seat_held kinds w c x None (seeing x (w.log x) m.0) held.Free [] (All-nil (λ (b : PutBack). (w.stage b.row ≡ posted b.request) × (changed w.holder x None b.request.object ≡ Some c))) seat
               (changed_all (λ y h'. h' ≢ Some c) w.holder x None (λ e. absurd (cc)) (λ y other e. other (h.4 y e))));

@@ -3,6 +3,7 @@ use Rattle.std.proofs.Common.{◌≡◌, ◌≢◌, ℕ, ◌<◌, true, false, L
 use mathlib.Core.Option as maybe
 use mathlib.Core.Option.{some}
 use lib.ListN.{get_elem?}
+use Rattle.std.proofs.lemmas.List.Elements.{All-nil}
 use Rattle.atomic_table.specs.Table.{State, Me, step, keeps, Allows, Splits, Joins}
 use Rattle.atomic_table.proofs.Lists.{at_set, set_again, set_else}
 use Rattle.model.specs.declared.Kind.{Kind}
@@ -14,7 +15,7 @@ use Rattle.desk_rule.specs.declared.board.View.{View}
 use Rattle.world.specs.World.{AnyEntry, World, kind_at, entries_of, IsLegal, StartsWith}
 use Rattle.world.proofs.Entries.{legal_front, starts_same, starts_longer}
 use Rattle.desk_rule.specs.Views.{seen_of, heard_of, seeing, letter, hearing, silent, IsAtRest}
-use Rattle.desk_rule.specs.Rule.{ViewOk, Makers}
+use Rattle.desk_rule.specs.Rule.{HasLeft, ViewOk, Makers}
 use Rattle.desk_rule.specs.Plays as play
 use Rattle.desk_rule.proofs.Seats.{alike, makers_stay, seat_knowing, mine, unmoved, Rule}
 use Rattle.desk_rule.proofs.Seeing.{all_covered, entries_start, saw, accounts}
@@ -29,11 +30,11 @@ makers_with clients vs us b idle_client idle_maker old k = record {
   numbers = λ j v e is. ⊎_elim (λ (p : get_elem? vs j ≡ some v). k.numbers j v p is) (λ (p : b ≡ v). let h = sym idle_client ∙ (ap (λ z. z.client) p ∙ is) in absurd (cc)) (old j v e);
 }
 
-makers_more : (clients : ℕ) (vs : List View) (b : View) → b.client ≡ false → b.maker ≡ false → Makers clients vs → Makers clients (vs ++ b ∷ [])
+pub makers_more : (clients : ℕ) (vs : List View) (b : View) → b.client ≡ false → b.maker ≡ false → Makers clients vs → Makers clients (vs ++ b ∷ [])
 makers_more clients vs b idle_client idle_maker = makers_with clients vs (vs ++ b ∷ []) b idle_client idle_maker
     (λ a z q. ⊎_elim (λ t. inl t) (λ (t : (a ≡ length vs) × (b ≡ z)). inr t.1) (at_end vs b z a q))
 
-makers_drop : (clients : ℕ) (vs : List View) (id : ℕ) (b : View) → b.client ≡ false → b.maker ≡ false → Makers clients vs → Makers clients (set vs id b)
+pub makers_drop : (clients : ℕ) (vs : List View) (id : ℕ) (b : View) → b.client ≡ false → b.maker ≡ false → Makers clients vs → Makers clients (set vs id b)
 makers_drop clients vs id b idle_client idle_maker = makers_with clients vs (set vs id b) b idle_client idle_maker
     (λ a z q. ⊎_elim (λ (t : (a ≡ id) × (b ≡ z)). inr t.1) (λ (t : (a ≢ id) × (get_elem? vs a ≡ some z)). inl t.1) (at_set vs id a b z q))
 
@@ -54,6 +55,7 @@ module _ {S O R : Type 0} (content : S → Content) (op_in : O → AnyOp) (reply
     seats = λ j u e. ⊎_elim (k.seats j u) (λ (t : (j ≡ length s.views) × (letter v ≡ u)). subst (λ z. ViewOk kinds k.world k.seat_of j z) t.1 record {
       told = (k.seats id v at).told;
       heard = λ x. (k.world.log x, refl);
+      left = All-nil (HasLeft k.world);
       client = λ f. absurd (cc);
       unmade = λ f. absurd (cc);
       maker_kinds = λ f. absurd (cc);
@@ -77,6 +79,7 @@ module _ {S O R : Type 0} (content : S → Content) (op_in : O → AnyOp) (reply
             (λ (h : (j ≡ other) × (silent ≡ u)). subst (λ z. ViewOk kinds k.world k.seat_of j z) h.1 record {
               told = λ x. (k.world.log x, ap (λ z. z ++ k.world.log x) (sym (get_or-replicate_same [] 16 x)));
               heard = λ x. (k.world.log x, refl);
+              left = All-nil (HasLeft k.world);
               client = λ f. absurd (cc);
               unmade = λ f. absurd (cc);
               maker_kinds = λ f. absurd (cc);
@@ -85,6 +88,7 @@ module _ {S O R : Type 0} (content : S → Content) (op_in : O → AnyOp) (reply
             (λ (g : (j ≡ id) × (v' ≡ u)). subst (λ (z : ℕ × View). ViewOk kinds k.world k.seat_of z.0 z.1) (λ i. (sym g.0 i, g.1 i)) record {
               told = old.told;
               heard = told;
+              left = old.left;
               client = λ f. let c = old.client f in let ok = c.1 in (c.0, seat_knowing ok.ready ok.retired ok);
               unmade = old.unmade;
               maker_kinds = old.maker_kinds;

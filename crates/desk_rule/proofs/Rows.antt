@@ -34,7 +34,7 @@ use Rattle.world.proofs.Moved.{sound_picked, sound_put_back, sound_served}
 use Rattle.desk_rule.specs.Views.{seen_of, waits_on, noting, handling, putting_back, answering}
 use Rattle.desk_rule.specs.Rule.{row_word, OwnOk, HeldOk, SeatOk, MessageAt}
 use Rattle.desk_rule.specs.Plays as play
-use Rattle.desk_rule.proofs.Seats.{Later, alike, kept_after, come_after, seat_knowing, mine, unmoved, Rule}
+use Rattle.desk_rule.proofs.Seats.{Later, row_leaves, alike, kept_after, come_after, seat_knowing, mine, unmoved, Rule}
 use Rattle.desk_rule.proofs.Ties.{tied_row}
 use Rattle.desk_rule.proofs.Locks.{held_log}
 
@@ -96,7 +96,6 @@ later_row w x r c d q t h logs from to never grow keep apart unposted holds othe
   picked = λ y j p g e f. changed_else w.stage r t j (λ same. apart y p g (e ∙ ap Some same) (ap w.stage (sym same) ∙ f)) ∙ f;
   posted = λ j p g e. changed_else w.stage r t j (λ same. unposted p g (ap w.stage (sym same) ∙ e)) ∙ e;
   ended = refl;
-  all_ended = λ e g. g;
 }
 
 -- the request that was put back stands in its row, and its object is held
@@ -195,6 +194,7 @@ module _ {S O R : Type 0} (content : S → Content) (op_in : O → AnyOp) (reply
           come = come_after clients w r t (k.come r (λ e. let f = sym b.1 ∙ e in absurd (cc))) k.come;
           sound = sound_picked kinds quota w x r c q b.1 b.2 h.1 h.2 k.sound;
           tied = tied_row content op_in reply_in kinds w r (17 + x) t (changed w.hand x (Some r)) w.log s.words s.homes maybe.none inside (λ y _. refl) (λ e. absurd (cc)) (ap request_of (sym b.1)) (ap (λ z. 17 + z) (sym b.2)) tt k.tied;
+          leave = row_leaves w r t (ap request_of b.1);
           others = λ d other. later_row w x r c d q t (Some r) w.log from to never (λ y. starts_same (w.log y)) (λ y _. refl) (λ y p _ _ e. let f = sym b.1 ∙ e in absurd (cc))
               (λ p e f. let g : posted q ≡ posted p = sym b.1 ∙ f in let same : q ≡ p = cc in other (sym (same_Some c d (sym h.1 ∙ (ap w.holder (sym b.2 ∙ ap (λ z. z.object) same) ∙ e))))) h.1 other;
           own = seat_row kinds w c r q t (changed w.hand x (Some r)) w.log m.0 (held.Hand x l r q) bs (other_rows w c r t m.0.back ok.back) from to never (λ y. starts_same (w.log y)) ok
@@ -252,6 +252,7 @@ module _ {S O R : Type 0} (content : S → Content) (op_in : O → AnyOp) (reply
           come = come_after clients w r t (k.come r (λ e. let f = sym h.6 ∙ e in absurd (cc))) k.come;
           sound = sound_put_back kinds quota w x r c q h.6 on h.1 h.2 k.sound;
           tied = tied_row content op_in reply_in kinds w r n t (changed w.hand x None) w.log s.words s.homes (some (slot.Request p)) h.5 (λ y _. refl) (λ e. absurd (cc)) (ap request_of (sym h.6)) (word ∙ ap (λ z. 1 + z) (sym on)) (p, refl, is) k.tied;
+          leave = row_leaves w r t (ap request_of h.6);
           others = λ d other. later_row w x r c d q t None w.log from to never (λ y. starts_same (w.log y)) (λ y _. refl) (apart w x r c d q h.6 on h.1 other k.sound) (λ p _. unposted p) h.1 other;
           own = seat_row kinds w c r q t (changed w.hand x None) w.log m.0 (held.Pass x l) bs
               (All-push (InRow (changed w.stage r t) w.holder c) m.0.back (record { row = r; request = q }) (rows_stay w c r t m.0.back unposted ok.back) (changed_here w.stage r t, ap w.holder on ∙ h.1)) from to never (λ y. starts_same (w.log y)) ok (h.0, h.1, changed_here w.hand x None, h.3, h.4);
@@ -298,6 +299,7 @@ module _ {S O R : Type 0} (content : S → Content) (op_in : O → AnyOp) (reply
           sound = sound_served kinds quota w x r c q a h.6 on h.1 h.2 legal' k.sound;
           tied = tied_row content op_in reply_in kinds w r 33 t (changed w.hand x None) (changed w.log x (w.log x ++ more)) s.words s.homes (some (slot.Answer b)) h.5
               (λ y e. changed_else w.log x (w.log x ++ more) y (λ same. let f = sym h.1 ∙ (ap w.holder (sym same) ∙ e) in absurd (cc))) (λ e. absurd (cc)) (ap request_of (sym h.6)) refl (b, refl, refl) k.tied;
+          leave = row_leaves w r t (ap request_of h.6);
           others = λ d other. later_row w x r c d q t None (changed w.log x (w.log x ++ more)) from to never (grows w x more) (λ y away. changed_else w.log x (w.log x ++ more) y away) (apart w x r c d q h.6 on h.1 other k.sound) (λ p _ e. let f = sym h.6 ∙ e in absurd (cc)) h.1 other;
           own = seat_answered w c x r q a m.0 (held.Pass x (l ++ more)) h.6 ok (h.0, h.1, changed_here w.hand x None, changed_here w.log x (w.log x ++ more) ∙ ap (λ z. z ++ more) h.3, h.4);
         }),

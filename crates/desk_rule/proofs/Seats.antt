@@ -15,15 +15,16 @@ use Rattle.desk_rule.specs.declared.board.Own.{Own}
 use Rattle.desk_rule.specs.declared.board.Own.TheVariants as own
 use Rattle.desk_rule.specs.declared.board.Held.{Held}
 use Rattle.desk_rule.specs.declared.board.Held.TheVariants as held
+use Rattle.desk_rule.specs.declared.board.Leaving.{Leaving}
 use Rattle.desk_rule.specs.declared.board.PutBack.{PutBack}
 use Rattle.desk_rule.specs.declared.board.View.{View}
-use Rattle.world.specs.World.{AnyEntry, AnyRequest, AnyAnswer, AnyDone, Stage, absent, posted, picked, answered, World, StartsWith}
+use Rattle.world.specs.World.{AnyEntry, AnyRequest, AnyAnswer, AnyDone, Stage, absent, posted, picked, answered, World, request_of, journal_of, journal_in, StartsWith}
 use Rattle.world.specs.Moves.{changed}
 use Rattle.world.specs.Sound.{Sound}
 use Rattle.world.proofs.Changed.{changed_all}
 use Rattle.world.proofs.Entries.{starts_longer, starts_same}
 use Rattle.desk_rule.specs.Views.{seen_of, heard_of, missing}
-use Rattle.desk_rule.specs.Rule.{OwnOk, HeldOk, SeatOk, ViewOk, Makers, Tied, Kept}
+use Rattle.desk_rule.specs.Rule.{OwnOk, HeldOk, SeatOk, HasLeft, ViewOk, Makers, Tied, Kept}
 
 -- what the client c, which knows what it knows in w, needs of a step of another to w'
 pub record Later (w w' : World) (c : ℕ) : Type 0 where
@@ -36,7 +37,17 @@ pub record Later (w w' : World) (c : ℕ) : Type 0 where
   pub picked : (x r : ℕ) (q : AnyRequest) → w.holder x ≡ Some c → w.hand x ≡ Some r → w.stage r ≡ picked q → w'.stage r ≡ picked q
   pub posted : (r : ℕ) (q : AnyRequest) → w.holder q.object ≡ Some c → w.stage r ≡ posted q → w'.stage r ≡ posted q
   pub ended : w'.ended c ≡ w.ended c
-  pub all_ended : (d : ℕ) → w.ended d ≡ true → w'.ended d ≡ true
+
+-- who has ended stays so at a step to w', and its journal with it
+abbrev pub Leaves : World → World → Type 0
+Leaves w w' = (d : ℕ) → w.ended d ≡ true → (w'.ended d ≡ true) × (journal_in w' d ≡ journal_in w d)
+
+left_stays : (w w' : World) (ls : List Leaving) → Leaves w w' → All (HasLeft w) ls → All (HasLeft w') ls
+left_stays w w' ls leave all i d l = let b = all i d l in let e = leave (get_or ls i d).client b.0 in (e.0, e.1 ∙ b.1)
+
+-- the row r goes on with its call
+pub row_leaves : (w : World) (r : ℕ) (t : Stage) → request_of (w.stage r) ≡ request_of t → (d : ℕ) → w.ended d ≡ true → (w.ended d ≡ true) × (journal_of (w.done d) (request_of (changed w.stage r t d)) ≡ journal_in w d)
+row_leaves w r t same d e = (e, ap (journal_of (w.done d)) (changed_all (λ p s. request_of s ≡ request_of (w.stage p)) w.stage r t (sym same) (λ p _. refl) d))
 
 same_later : (w : World) (c : ℕ) → Later w w c
 same_later w c = record {
@@ -49,7 +60,6 @@ same_later w c = record {
   picked = λ x r q e f g. g;
   posted = λ r q e g. g;
   ended = refl;
-  all_ended = λ d e. e;
 }
 
 held_stays : (n : ℕ) (w w' : World) (c : ℕ) → Later w w' c → (h : Held) → HeldOk n w c h → HeldOk n w' c h
@@ -57,8 +67,8 @@ held_stays n w w' c t held.Free k = λ x e. k x (t.holds x e)
 held_stays n w w' c t (held.Pass x l) k = let e = t.held x k.1 in (k.0, e.0 ∙ k.1, e.1 ∙ k.2, e.2 ∙ k.3, λ y f. k.4 y (t.holds y f))
 held_stays n w w' c t (held.Hand x l r q) k = let e = t.held x k.1 in (k.0, e.0 ∙ k.1, e.1 ∙ k.2, e.2 ∙ k.3, (λ y f. k.4 y (t.holds y f)), k.5, t.picked x r q k.1 k.2 k.6)
 
-seat_stays : (kinds : List Kind) (w w' : World) (c : ℕ) (v : View) → Later w w' c → SeatOk kinds w c v → SeatOk kinds w' c v
-seat_stays kinds w w' c v t k = record {
+seat_stays : (kinds : List Kind) (w w' : World) (c : ℕ) (v : View) → Leaves w w' → Later w w' c → SeatOk kinds w c v → SeatOk kinds w' c v
+seat_stays kinds w w' c v leave t k = record {
   number = k.number;
   small = k.small;
   kinds_are = k.kinds_are;
@@ -70,7 +80,7 @@ seat_stays kinds w w' c v t k = record {
   covers = k.covers;
   held = held_stays (length kinds) w w' c t v.held k.held;
   ended = t.ended ∙ k.ended;
-  retired = λ i d l. t.all_ended (get_or v.retired i d) (k.retired i d l);
+  retired = λ i d l. (leave (get_or v.retired i d) (k.retired i d l)).0;
   back = λ i d l. let b = k.back i d l in let p = get_or v.back i d in (t.posted p.row p.request b.1 b.0, (t.held p.request.object b.1).0 ∙ b.1);
 }
 
@@ -81,11 +91,12 @@ pub record Alike (v v' : View) : Type 0 where
   pub maker : v'.maker ≡ v.maker
   pub made : v'.made ≡ v.made
   pub heard : v'.heard ≡ v.heard
+  pub left : v'.left ≡ v.left
 
 -- a view in which none of these changed
 pub alike : {v : View} {kinds : List Kind} {done : List AnyDone} {own : Own} {ready : Bool} {seen : List (List AnyEntry)} {back : List PutBack} {missed : List ℕ} {held : Held} {ended : Bool} {retired still_there : List ℕ}
     → Alike v (record v { kinds = kinds; done = done; own = own; ready = ready; seen = seen; back = back; missed = missed; held = held; ended = ended; retired = retired; still_there = still_there })
-alike = record { client = refl; number = refl; maker = refl; made = refl; heard = refl }
+alike = record { client = refl; number = refl; maker = refl; made = refl; heard = refl; left = refl }
 
 -- A client that was told more, missed more, and knows more of its row and of the ends of others. What it was told, has
 -- missed and has found there does not matter.
@@ -109,9 +120,9 @@ seat_knowing ready retired ok = record {
 
 -- after a step to w', in which the client's view v becomes v', each view is true
 seats_after : (kinds : List Kind) (clients : ℕ) (w w' : World) (so : ℕ → ℕ) (vs : List View) (id : ℕ) (v v' : View) → get_elem? vs id ≡ some v → v.client ≡ true → Alike v v' → Makers clients vs
-    → ((j : ℕ) (u : View) → get_elem? vs j ≡ some u → ViewOk kinds w so j u) → ((c : ℕ) → c ≢ v.number → Later w w' c) → SeatOk kinds w' v.number v'
+    → ((j : ℕ) (u : View) → get_elem? vs j ≡ some u → ViewOk kinds w so j u) → Leaves w w' → ((c : ℕ) → c ≢ v.number → Later w w' c) → SeatOk kinds w' v.number v'
     → (j : ℕ) (u : View) → get_elem? (set vs id v') j ≡ some u → ViewOk kinds w' so j u
-seats_after kinds clients w w' so vs id v v' at cl alike makers before others ok j u e =
+seats_after kinds clients w w' so vs id v v' at cl alike makers before leave others ok j u e =
     let here = (before id v at).client cl in let next : 1 + v.number ≢ v.number = λ h. omega arith in let logs = (others (1 + v.number) next).logs in
     let is_made : (c : ℕ) (z : View) (i : ℕ) → get_elem? vs i ≡ some z → z.maker ≡ true → z.made ≤ c → c ≢ v.number = λ c z i g is l same. let low = (makers.made i z g is id v at).0 cl in omega arith in
     let unmade : (c : ℕ) → c ≢ v.number → (w.stage c ≡ absent) × (w.done c ≡ []) × (w.ended c ≡ false) × ((x : ℕ) → w.holder x ≢ Some c) → (w'.stage c ≡ absent) × (w'.done c ≡ []) × (w'.ended c ≡ false) × ((x : ℕ) → w'.holder x ≢ Some c) =
@@ -119,6 +130,7 @@ seats_after kinds clients w w' so vs id v v' at cl alike makers before others ok
     ⊎_elim (λ (t : (j ≡ id) × (v' ≡ u)). subst (λ (z : ℕ × View). ViewOk kinds w' so z.0 z.1) (λ i. (sym t.0 i, t.1 i)) record {
       told = ok.seen;
       heard = λ x. subst (λ z. StartsWith (w'.log x) (get_or z x [])) (sym alike.heard) (starts_longer (w'.log x) (w.log x) (heard_of v x) (logs x) ((before id v at).heard x));
+      left = subst (All (HasLeft w')) (sym alike.left) (left_stays w w' v.left leave (before id v at).left);
       client = λ _. (ap so alike.number ∙ here.0, subst (λ z. SeatOk kinds w' z v') (sym alike.number) ok);
       unmade = λ is c l. let is' : v.maker ≡ true = sym alike.maker ∙ is in let l' : v.made ≤ c = subst (λ z. z ≤ c) alike.made l in unmade c (is_made c v id at is' l') ((before id v at).unmade is' c l');
       maker_kinds = λ is. ok.kinds_are;
@@ -126,7 +138,8 @@ seats_after kinds clients w w' so vs id v v' at cl alike makers before others ok
     (λ (t : (j ≢ id) × (get_elem? vs j ≡ some u)). let b = before j u t.1 in record {
       told = λ x. starts_longer (w'.log x) (w.log x) (seen_of u x) (logs x) (b.told x);
       heard = λ x. starts_longer (w'.log x) (w.log x) (heard_of u x) (logs x) (b.heard x);
-      client = λ is. let c = b.client is in (c.0, seat_stays kinds w w' u.number u (others u.number (λ g. t.0 (sym c.0 ∙ (ap so g ∙ here.0)))) c.1);
+      left = left_stays w w' u.left leave b.left;
+      client = λ is. let c = b.client is in (c.0, seat_stays kinds w w' u.number u leave (others u.number (λ g. t.0 (sym c.0 ∙ (ap so g ∙ here.0)))) c.1);
       unmade = λ is c l. unmade c (is_made c u j t.1 is l) (b.unmade is c l);
       maker_kinds = b.maker_kinds;
     }) (at_set vs id j v' u e)
@@ -166,6 +179,7 @@ module _ {S O R : Type 0} (content : S → Content) (op_in : O → AnyOp) (reply
     pub come : (d : ℕ) → world.stage d ≢ absent → d < clients
     pub sound : Sound kinds quota world
     pub tied : Tied content op_in reply_in kinds world words homes
+    pub leave : Leaves k.world world
     pub others : (d : ℕ) → d ≢ v.number → Later k.world world d
     pub own : SeatOk kinds world v.number v'
 
@@ -178,7 +192,7 @@ module _ {S O R : Type 0} (content : S → Content) (op_in : O → AnyOp) (reply
     few_clients = k.few_clients;
     sound = a.sound;
     tied = a.tied;
-    seats = seats_after kinds clients k.world a.world k.seat_of s.views id v v' at cl alike k.makers k.seats a.others a.own;
+    seats = seats_after kinds clients k.world a.world k.seat_of s.views id v v' at cl alike k.makers k.seats a.leave a.others a.own;
     makers = makers_after clients s.views id v v' at alike k.makers;
     holders = a.holders;
     come = a.come;
@@ -188,7 +202,7 @@ module _ {S O R : Type 0} (content : S → Content) (op_in : O → AnyOp) (reply
   pub unmoved : (s : St) (k : Rule s) (i id : ℕ) (v v' : View) (cs : List (ℕ × Slot S O R)) → get_elem? s.views id ≡ some v → v.client ≡ true → Alike v v' → SeatOk kinds k.world v.number v'
       → Rule (stepped s i (get_or s.words i 0) id cs v' keeps)
   unmoved s k i id v v' cs at cl alike ok = subst (λ (ws : List ℕ). Rule record { words = ws; homes = s.homes; views = set s.views id v' }) (sym (set-get_or s.words i 0))
-      (kept_after s k id v v' at cl alike record { world = k.world; holders = k.holders; come = k.come; sound = k.sound; tied = k.tied; others = λ c _. same_later k.world c; own = ok })
+      (kept_after s k id v v' at cl alike record { world = k.world; holders = k.holders; come = k.come; sound = k.sound; tied = k.tied; leave = λ d e. (e, refl); others = λ c _. same_later k.world c; own = ok })
 
   pub misses : (s : St) (k : Rule s) (i id : ℕ) (v : View) (cs : List (ℕ × Slot S O R)) → v.client ≡ true → get_elem? s.views id ≡ some v → Rule (stepped s i (get_or s.words i 0) id cs (missing i v) keeps)
   misses s k i id v cs cl at = let ok = mine s k id v cl at in unmoved s k i id v (missing i v) cs at cl alike (seat_knowing ok.ready ok.retired ok)

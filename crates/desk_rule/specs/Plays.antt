@@ -87,6 +87,6 @@ module _ {S O R : Type 0} (content : S → Content) (op_in : O → AnyOp) (reply
   abbrev pub ends : Step (Slot S O R) → Hands → ℕ → Hands → Type 0
   ends st m found m' = m' ≡ (ending m.0, rest m.1)
 
-  -- the client d has ended. Or it was found there, which is no miss
+  -- The client d has ended. Or it was found there, which is no miss, and is none that was told to have ended
   abbrev pub sees_end : Step (Slot S O R) → Hands → ℕ → Hands → Type 0
-  sees_end st m found m' = (d : ℕ) → st.word ≡ 48 + d → (found ≡ 1 → m' ≡ (knowing_end d m.0, m.1)) × (found ≢ 1 → m' ≡ (finding_there d m.0, m.1))
+  sees_end st m found m' = (d : ℕ) → st.word ≡ 48 + d → (found ≡ 1 → m' ≡ (knowing_end d m.0, m.1)) × (found ≢ 1 → (m' ≡ (finding_there d m.0, m.1)) × All (λ l. l.client ≢ d) m.0.left)

@@ -17,10 +17,11 @@ use Rattle.desk_rule.specs.declared.board.Own.{Own}
 use Rattle.desk_rule.specs.declared.board.Own.TheVariants as own
 use Rattle.desk_rule.specs.declared.board.Held.{Held}
 use Rattle.desk_rule.specs.declared.board.Held.TheVariants as held
+use Rattle.desk_rule.specs.declared.board.Leaving.{Leaving}
 use Rattle.desk_rule.specs.declared.board.View.{View}
 use Rattle.world.specs.declared.Request.{Request}
 use Rattle.world.specs.declared.Answer.{Answer}
-use Rattle.world.specs.World.{AnyEntry, AnyRequest, AnyAnswer, AnyDone, Stage, absent, idle, drawn, posted, picked, answered, taken, World, kind_at, entries_of, served, request_of, journal_of, Replays, StartsWith}
+use Rattle.world.specs.World.{AnyEntry, AnyRequest, AnyAnswer, AnyDone, Stage, absent, idle, drawn, posted, picked, answered, taken, World, kind_at, entries_of, served, request_of, journal_of, journal_in, Replays, StartsWith}
 use Rattle.world.specs.Sound.{Sound}
 use Rattle.world.specs.Images.{request_in, answer_in, entry_in, event_in}
 use Rattle.desk_rule.specs.Views.{seen_of, heard_of, owed}
@@ -79,10 +80,15 @@ pub record SeatOk (kinds : List Kind) (w : World) (c : ℕ) (v : View) : Type 0 
   -- what was put back stands in its row, and its object is held
   pub back : All (λ b. (w.stage b.row ≡ posted b.request) × (w.holder b.request.object ≡ Some c)) v.back
 
+-- the client has ended, and this is its journal
+abbrev pub HasLeft : World → Leaving → Type 0
+HasLeft w l = (w.ended l.client ≡ true) × (journal_in w l.client ≡ l.journal)
+
 -- any view: a client's, the maker's, or a letter
 pub record ViewOk (kinds : List Kind) (w : World) (seat_of : ℕ → ℕ) (j : ℕ) (v : View) : Type 0 where
   pub told : (x : ℕ) → StartsWith (w.log x) (seen_of v x)
   pub heard : (x : ℕ) → StartsWith (w.log x) (heard_of v x)
+  pub left : All (HasLeft w) v.left
   pub client : v.client ≡ true → (seat_of v.number ≡ j) × SeatOk kinds w v.number v
   pub unmade : v.maker ≡ true → (c : ℕ) → v.made ≤ c → (w.stage c ≡ absent) × (w.done c ≡ []) × (w.ended c ≡ false) × ((x : ℕ) → w.holder x ≢ Some c)
   pub maker_kinds : v.maker ≡ true → v.kinds ≡ kinds

@@ -4,12 +4,13 @@ use Rattle.model.specs.declared.Kind.{Kind}
 use Rattle.desk_rule.specs.declared.board.Own.{Own}
 use Rattle.desk_rule.specs.declared.board.Own.TheVariants as own
 use Rattle.desk_rule.specs.declared.board.Held.TheVariants as held
+use Rattle.desk_rule.specs.declared.board.Leaving.{Leaving}
 use Rattle.desk_rule.specs.declared.board.View.{View}
 use Rattle.world.specs.World.{AnyEntry, AnyRequest, AnyAnswer, AnyEvent, logged_on, entries_of, served, journal_of}
 
 -- a client that has not come yet
 abbrev pub newcomer : List Kind → ℕ → View
-newcomer kinds c = record { client = true; number = c; maker = false; made = 0; kinds = kinds; done = []; own = own.Absent; ready = false; seen = replicate 16 []; heard = []; back = []; missed = []; held = held.Free; ended = false; retired = []; still_there = [] }
+newcomer kinds c = record { client = true; number = c; maker = false; made = 0; kinds = kinds; done = []; own = own.Absent; ready = false; seen = replicate 16 []; heard = []; back = []; missed = []; held = held.Free; ended = false; left = []; retired = []; still_there = [] }
 
 -- the first view is no client's, and makes the clients
 abbrev pub founder_of : List Kind → ℕ → View
@@ -115,7 +116,15 @@ seeing x l v = record v { seen = slice_set v.seen x l }
 abbrev pub ending : View → View
 ending v = record v { ended = true }
 
--- the client d is known to have ended
+-- what the client says of its own end
+abbrev pub leaving : View → Leaving
+leaving v = record { client = v.number; journal = journal v }
+
+-- clients that have ended told of it
+abbrev pub told_of : List Leaving → View → View
+told_of ls v = record v { left = v.left ++ ls }
+
+-- the client d was found to have ended
 abbrev pub knowing_end : ℕ → View → View
 knowing_end d v = record v { retired = v.retired ++ d ∷ [] }
 
@@ -132,3 +141,7 @@ hearing v t = record v { heard = t.seen }
 
 abbrev pub silent : View
 silent = record (newcomer [] 0) { client = false }
+
+-- a view that only carries the end of v
+abbrev pub farewell : View → View
+farewell v = record silent { left = leaving v ∷ [] }

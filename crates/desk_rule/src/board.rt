@@ -2,16 +2,20 @@
 
 use atomic_table::TableRule;
 use model::{AnyOp, AnyReply, Kind};
+use roster::SharedWalker;
 use seq_objects::SeqObject;
 use std::collections::LinkedList;
 use world::{Answer, DoneCall, JournalEvent, LogEntry, Request};
 
-/// An object with its log, and how many passes there were.
+/// An object with its log, how many passes there were, and its publication list.
 #[derive(Drop)]
 pub struct Core<S, O, R> {
     pub object: S,
     pub log: Vec<LogEntry<O, R>>,
     pub passes: u64,
+    pub list: SharedWalker,
+    /// Of each row, the pass that last served it or first met it.
+    pub ages: [u64; 32],
 }
 
 /// What a client did.
@@ -52,6 +56,12 @@ pub struct PutBack {
     pub request: Request<AnyOp>,
 }
 
+/// What a client that has ended told of it.
+pub struct Leaving {
+    pub client: u32,
+    pub journal: LinkedList<JournalEvent<AnyOp, AnyReply>>,
+}
+
 /// What a client knows. No value of it is made.
 pub struct View {
     /// False of a view that only carries what was seen from one client to another, and of the one that makes the
@@ -78,7 +88,9 @@ pub struct View {
     pub missed: LinkedList<u64>,
     pub held: Held,
     pub ended: bool,
-    /// The clients that are known to have ended.
+    /// What clients that have ended told.
+    pub left: LinkedList<Leaving>,
+    /// The clients that were found to have ended.
     pub retired: LinkedList<u32>,
     /// The clients whose end word was found unset, one for each such look.
     pub still_there: LinkedList<u32>,

@@ -4,4 +4,4 @@
 
 mod board;
 
-pub use board::{Core, DeskRule, Held, Journal, Own, Plan, PutBack, Slot, View};
+pub use board::{Core, DeskRule, Held, Journal, Leaving, Own, Plan, PutBack, Slot, View};

@@ -1,5 +1,5 @@
 -- The end of a client, and the sight of another's.
-use Rattle.std.proofs.Common.{◌≡◌, ◌≢◌, ℕ, ◌+◌, ◌<◌, Bool, List, [], ◌∷◌, ◌++◌, Contains, eqb, eq-eqb, ne_eqb, if◌then◌else◌, sym, ap, subst, ◌∙◌, arith}
+use Rattle.std.proofs.Common.{◌≡◌, ◌≢◌, ℕ, ◌+◌, ◌<◌, Bool, List, [], ◌∷◌, ◌++◌, Contains, All, eqb, eq-eqb, ne_eqb, if◌then◌else◌, sym, ap, subst, ◌∙◌, arith}
 use mathlib.Core.Logic.{dite}
 use native.Mathlib.Decide.{ℕ_discrete}
 use Rattle.std.proofs.lemmas.List.Elements.{Contains-push, Contains-append_left}
@@ -7,12 +7,13 @@ use Rattle.atomic_table.specs.Table.{Me}
 use Rattle.model.specs.declared.AnyOp.{AnyOp}
 use Rattle.model.specs.declared.AnyReply.{AnyReply}
 use Rattle.desk_rule.specs.declared.board.Journal.{Journal}
+use Rattle.desk_rule.specs.declared.board.Leaving.{Leaving}
 use Rattle.desk_rule.specs.declared.board.Slot.{Slot}
 use Rattle.desk_rule.specs.declared.board.View.{View}
 use Rattle.desk_rule.specs.Views.{knowing_end, finding_there}
 use Rattle.publication.specs.Handles.{DeskSeen, Known, IsClient}
 use Rattle.publication.specs.Calls.{StillThere}
-use Rattle.publication.specs.Closing.{HaveEnded, HasLearntEnds, HasLookedAtEnds}
+use Rattle.publication.specs.Closing.{HaveEnded, HasLearntEnds}
 use Rattle.publication.proofs.Holds.{agrees_light}
 
 -- one of two views, as the word was 1 or not
@@ -26,8 +27,8 @@ pub own_number : (n : ℕ) (b : Known) → n ≡ b.knows.number → HaveEnded n 
 own_number n b e before c l other = before c (let d : c ≢ n = λ f. other (f ∙ e) in omega arith) other
 
 -- one more has ended
-pub one_ended : (n : ℕ) (a b b' : Known) → b'.desk ≡ b.desk → b'.knows ≡ knowing_end n b.knows → HaveEnded n b → HasLearntEnds a b → HaveEnded (n + 1) b' × HasLearntEnds a b'
-one_ended n a b b' e f before is = subst (λ z. HaveEnded (n + 1) z × HasLearntEnds a z) (λ i. record { desk = sym e i; knows = sym f i }) (
+pub one_ended : (n : ℕ) (a b b' : Known) → b'.desk ≡ b.desk → b'.tries ≡ b.tries → b'.knows ≡ knowing_end n b.knows → HaveEnded n b → HasLearntEnds a b → HaveEnded (n + 1) b' × HasLearntEnds a b'
+one_ended n a b b' e t f before is = subst (λ z. HaveEnded (n + 1) z × HasLearntEnds a z) (λ i. record { desk = sym e i; knows = sym f i; tries = sym t i }) (
   (λ c l other. dite (ℕ_discrete c n)
       (λ same. subst (Contains (b.knows.retired ++ n ∷ [])) (sym same) (Contains-push b.knows.retired n))
       (λ apart. Contains-append_left b.knows.retired (n ∷ []) c (before c (omega arith) other))),
@@ -35,24 +36,14 @@ one_ended n a b b' e f before is = subst (λ z. HaveEnded (n + 1) z × HasLearnt
 )
 
 -- this one has not
-pub there_still : (d : DeskSeen) (n : ℕ) (a b b' : Known) → n < d.clients → n ≢ b.knows.number → b'.knows ≡ finding_there n b.knows → HaveEnded n b → HasLearntEnds a b → StillThere d a n b'
-there_still d n a b b' low other e before is = let same = ap (λ z. z.knows.number) is in record {
+pub there_still : (d : DeskSeen) (n : ℕ) (a b b' : Known) → n < d.clients → n ≢ b.knows.number → b'.knows ≡ finding_there n b.knows → HaveEnded n b → HasLearntEnds a b → All (λ l. l.client ≢ n) b.knows.left → StillThere d a n b'
+there_still d n a b b' low other e before is untold = let same = ap (λ z. z.knows.number) is in record {
   client_low = low;
   other = λ f. other (f ∙ sym same);
+  untold = subst (All (λ (l : Leaving). l.client ≢ n)) (ap (λ z. z.knows.left) is) untold;
   least = λ c l apart. subst (λ z. Contains z c) (sym (ap (λ v. v.retired) e)) (before c l (λ f. apart (f ∙ same)));
   looked = (b.knows, e, ap (λ z. z.knows) is);
 }
-
--- w is u but for what it knows of ends
-knows_but : (u w : View) (retired still_there : List ℕ) → w ≡ record u { retired = retired; still_there = still_there } → w ≡ record u { retired = w.retired; still_there = w.still_there }
-knows_but u w retired still_there e = e ∙ λ i. record u { retired = ap (λ z. z.retired) (sym e) i; still_there = ap (λ z. z.still_there) (sym e) i }
-
--- a client that has only looked at ends, and then found one that has not ended
-pub looks_on : (d : DeskSeen) (n : ℕ) (a b b' : Known) → HasLookedAtEnds a b → b'.desk ≡ b.desk → StillThere d b n b' → HasLookedAtEnds a b'
-looks_on d n a b b' is desk k =
-    let found = k.looked in
-    let knows = knows_but b.knows b'.knows found.0.retired (b.knows.still_there ++ n ∷ []) (found.1 ∙ ap (finding_there n) found.2) in
-    subst (λ z. b' ≡ record z { knows = record z.knows { retired = b'.knows.retired; still_there = b'.knows.still_there } }) is (λ i. record { desk = desk i; knows = knows i })
 
 module _ {S O R : Type 0} (op_in : O → AnyOp) (reply_in : R → AnyReply) where
   -- a client that has only looked at ends

@@ -1,5 +1,6 @@
 -- A client that wins an object, serves rows and puts the object back: its fields go on agreeing with what it knows.
-use Rattle.std.proofs.Common.{◌≡◌, ℕ, ◌+◌, ◌<◌, Bool, true, List, [], ◌∷◌, ◌++◌, length, get_or, refl, sym, ap, subst, ◌∙◌, arith, length-set}
+use lib.ListN.{length-map}
+use Rattle.std.proofs.Common.{◌≡◌, ℕ, ◌+◌, ◌-◌, ◌<◌, ◌≤◌, Bool, true, List, [], ◌∷◌, ◌++◌, length, length-append, get_or, vec_len, vec_capacity, refl, sym, ap, subst, ◌∙◌, arith, length-set}
 use Rattle.atomic_table.specs.Table.{rest, Me}
 use Rattle.model.specs.declared.Kind.{Kind}
 use Rattle.model.specs.declared.AnyOp.{AnyOp}
@@ -8,10 +9,11 @@ use Rattle.model.specs.Objects.{Content, empty, kind_of}
 use Rattle.world.specs.declared.Request.{Request}
 use Rattle.world.specs.declared.Answer.{Answer}
 use Rattle.world.specs.World.{AnyEntry, AnyRequest, kind_at, logged, Replays, IsLegal, Serves}
-use Rattle.world.specs.Images.{request_in, answer_in}
+use Rattle.world.specs.Images.{request_in, answer_in, entry_in}
 use Rattle.world.proofs.Entries.{replays_more}
 use Rattle.desk_rule.specs.declared.board.Core.{Core}
 use Rattle.desk_rule.specs.declared.board.Journal.{Journal}
+use Rattle.desk_rule.specs.declared.board.Leaving.{Leaving}
 use Rattle.desk_rule.specs.declared.board.PutBack.{PutBack}
 use Rattle.desk_rule.specs.declared.board.Slot.{Slot}
 use Rattle.desk_rule.specs.declared.board.Slot.TheVariants as slot
@@ -25,8 +27,8 @@ use Rattle.publication.specs.Handles.{Agrees, log_of, IsClient, IsPass, IsHand}
 
 module _ {O R : Type 0} {op_in : O → AnyOp} {reply_in : R → AnyReply} {number calls quota : ℕ} {outstanding : Bool} {j : Journal O R} {v : View} where
   -- the client has seen other lists
-  agrees_seen : {seen heard : List (List AnyEntry)} {h : Held} {back : List PutBack} {missed retired still_there : List ℕ} {ready : Bool} → length seen ≡ 16 → ((x : ℕ) → IsLegal (kind_at v.kinds x) (get_or seen x [])) → ((x : ℕ) → IsAccount x v (get_or seen x [])) → Agrees op_in reply_in number calls quota outstanding j v
-      → Agrees op_in reply_in number calls quota outstanding j (record v { seen = seen; heard = heard; held = h; back = back; missed = missed; retired = retired; still_there = still_there; ready = ready })
+  agrees_seen : {seen heard : List (List AnyEntry)} {h : Held} {back : List PutBack} {left : List Leaving} {missed retired still_there : List ℕ} {ready : Bool} → length seen ≡ 16 → ((x : ℕ) → IsLegal (kind_at v.kinds x) (get_or seen x [])) → ((x : ℕ) → IsAccount x v (get_or seen x [])) → Agrees op_in reply_in number calls quota outstanding j v
+      → Agrees op_in reply_in number calls quota outstanding j (record v { seen = seen; heard = heard; held = h; back = back; left = left; missed = missed; retired = retired; still_there = still_there; ready = ready })
   agrees_seen wide legal accounts k = record {
     client_is = k.client_is;
     number_is = k.number_is;
@@ -45,13 +47,25 @@ module _ {O R : Type 0} {op_in : O → AnyOp} {reply_in : R → AnyReply} {numbe
   }
 
   -- what a client was told, holds, has put back, has missed, and knows of ends and of its row does not matter
-  pub agrees_light : {heard : List (List AnyEntry)} {h : Held} {back : List PutBack} {missed retired still_there : List ℕ} {ready : Bool} → Agrees op_in reply_in number calls quota outstanding j v
-      → Agrees op_in reply_in number calls quota outstanding j (record v { heard = heard; held = h; back = back; missed = missed; retired = retired; still_there = still_there; ready = ready })
+  pub agrees_light : {heard : List (List AnyEntry)} {h : Held} {back : List PutBack} {left : List Leaving} {missed retired still_there : List ℕ} {ready : Bool} → Agrees op_in reply_in number calls quota outstanding j v
+      → Agrees op_in reply_in number calls quota outstanding j (record v { heard = heard; held = h; back = back; left = left; missed = missed; retired = retired; still_there = still_there; ready = ready })
   agrees_light k = agrees_seen k.wide k.legal k.accounts k
 
   -- the client sees the list l of x
   pub agrees_seeing : (x : ℕ) (l : List AnyEntry) → x < 16 → IsLegal (kind_at v.kinds x) l → IsAccount x v l → Agrees op_in reply_in number calls quota outstanding j v → Agrees op_in reply_in number calls quota outstanding j (seeing x l v)
   agrees_seeing x l low legal account k = let wide = k.wide in agrees_seen (length-set v.seen x l ∙ wide) (seen_all (λ y z. IsLegal (kind_at v.kinds y) z) v.seen x l (omega arith) legal (λ y _. k.legal y)) (seen_all (λ y z. IsAccount y v z) v.seen x l (omega arith) account (λ y _. k.accounts y)) k
+
+module _ {S O R : Type 0} (op_in : O → AnyOp) (reply_in : R → AnyReply) where
+  -- what an entry leaves of the room for entries
+  pub room_taken : (k k' : Core S O R) (more : List AnyEntry) → log_of op_in reply_in k' ≡ log_of op_in reply_in k ++ more → (vec_len k.log < vec_capacity k.log → vec_capacity k'.log ≡ vec_capacity k.log)
+      → 0 < vec_capacity k.log - vec_len k.log → (vec_capacity k'.log - vec_len k'.log) + length more ≡ vec_capacity k.log - vec_len k.log
+  room_taken k k' more e same room =
+      let n : vec_len k.log ≡ length (log_of op_in reply_in k) = k.log.ok.0 ∙ sym (length-map k.log.items (entry_in op_in reply_in)) in
+      let n' : vec_len k'.log ≡ length (log_of op_in reply_in k') = k'.log.ok.0 ∙ sym (length-map k'.log.items (entry_in op_in reply_in)) in
+      let long : length (log_of op_in reply_in k') ≡ length (log_of op_in reply_in k) + length more = ap length e ∙ length-append (log_of op_in reply_in k) more in
+      let capacity = same (omega arith) in
+      let within : vec_len k'.log ≤ vec_capacity k'.log = k'.log.ok.1 in
+      omega arith
 
 module _ {S O R : Type 0} (content : S → Content) (op_in : O → AnyOp) (reply_in : R → AnyReply) where
   -- the core after a request was served

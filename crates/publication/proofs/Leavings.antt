@@ -1,5 +1,5 @@
 -- What stands in the slots of a desk when all clients but one have ended, and that one holds nothing.
-use Rattle.std.proofs.Common.{◌≡◌, ◌≢◌, ◌⊎◌, ℕ, zero, suc, ◌+◌, ◌<◌, ◌≤◌, true, List, [], ◌∷◌, map, length, get_or, Option, Some, None, Contains, refl, sym, ap, subst, ◌∙◌, ⊎_elim, arith}
+use Rattle.std.proofs.Common.{◌≡◌, ◌≢◌, ◌⊎◌, ℕ, zero, suc, ◌+◌, ◌<◌, ◌≤◌, true, List, [], ◌∷◌, map, length, get_or, Option, Some, None, Contains, All, refl, sym, ap, subst, ◌∙◌, ⊎_elim, arith}
 use mathlib.Core.Logic.{dite}
 use mathlib.Core.Option.{some}
 use native.Mathlib.Decide.{ℕ_discrete}
@@ -34,7 +34,7 @@ use Rattle.desk_rule.proofs.Seats.{mine}
 use Rattle.desk_rule.proofs.Seeing.{all_covered, accounts}
 use Rattle.publication.specs.Handles.{DeskSeen, Known, log_of}
 use Rattle.publication.specs.Calls.{Closed}
-use Rattle.publication.specs.Closing.{IsJournalOf, AreLogs, HaveEnded, HasLearntEnds, HasLookedAtEnds}
+use Rattle.publication.specs.Closing.{IsJournalOf, AreLogs, HaveEnded, HasLearntEnds}
 
 module _ {S O R : Type 0} (op_in : O → AnyOp) (reply_in : R → AnyReply) where
   -- the slots are those of a sound world, in which the last client has the view v
@@ -46,6 +46,7 @@ module _ {S O R : Type 0} (op_in : O → AnyOp) (reply_in : R → AnyReply) wher
     pub seen : (x : ℕ) → StartsWith (world.log x) (seen_of v x)
     pub journals : (c : ℕ) → c < clients → c ≢ v.number → (j : Journal O R) × (get_elem? xs (48 + c) ≡ some (slot.Journal j)) × (map (event_in op_in reply_in) j.events.items ≡ journal_in world c)
     pub own : journal v ≡ journal_in world v.number
+    pub left : All (λ l. journal_in world l.client ≡ l.journal) v.left
     pub accounts : (x : ℕ) → IsAccount x v (world.log x)
     pub come : (c : ℕ) → world.stage c ≢ absent → c < clients
 
@@ -69,6 +70,7 @@ module _ {S O R : Type 0} (content : S → Content) (op_in : O → AnyOp) (reply
         cores = λ x l. let b = k.tied.cores x l (free_all x) in (b.0, home x (slot.Core b.0) b.1, b.2.0);
         seen = ok.seen;
         journals = λ c l other. let b = (k.tied.journals c (omega arith)).at_last (ended c l other) in (b.0, home (48 + c) (slot.Journal b.0) b.1, b.2);
+        left = λ i d l. ((k.seats id v at).left i d l).1;
         own = λ i. journal_of (ok.done i) (own_is v.own (w.stage v.number) ok.own i);
         accounts = λ x. accounts kinds quota w x v (w.log x) rest ok.done ok.own k.sound (starts_same (w.log x)) (all_covered kinds quota w v.number x v.done v.own ok.done ok.own k.sound);
         come = k.come;
@@ -107,6 +109,7 @@ module _ {S O R : Type 0} (op_in : O → AnyOp) (reply_in : R → AnyReply) (d :
   pub closed_ok : AreLogs (length d.id.kinds) xs r.logs → length r.journals ≡ d.clients → map (event_in op_in reply_in) (get_or r.journals last.knows.number []) ≡ journal last.knows
       → ((c : ℕ) → c < d.clients → c ≢ last.knows.number → IsJournalOf xs c (get_or r.journals c [])) → Closed op_in reply_in d last r
   closed_ok logs count own others = let same = same_logs logs in record {
+    left = λ i d l. same_journals count own others (get_or last.knows.left i d).client ∙ left.left i d l;
     journals = count;
     logs = logs.0;
     own = own;
@@ -117,14 +120,10 @@ module _ {S O R : Type 0} (op_in : O → AnyOp) (reply_in : R → AnyReply) (d :
         (sound_record d.id.kinds d.id.quota left.world left.sound);
   }
 
--- who has learnt of ends has looked at end words
-pub learnt_looks : (a b : Known) → HasLearntEnds a b → HasLookedAtEnds a b
-learnt_looks a b is = is ∙ λ i. record a { knows = record a.knows { retired = b.knows.retired; still_there = ap (λ (z : Known). z.knows.still_there) (sym is) i } }
-
 module _ {O R : Type 0} (op_in : O → AnyOp) (reply_in : R → AnyReply) where
-  -- the looks of the last client at end words do not matter
-  pub closed_same : (d : DeskSeen) (a b : Known) (r : Recorded O R) → HasLookedAtEnds a b → Closed op_in reply_in d b r → Closed op_in reply_in d a r
-  closed_same d a b r is k = let same = subst (λ z. Closed op_in reply_in d z r) is k in record { journals = same.journals; logs = same.logs; own = same.own; legal = same.legal; seen = same.seen; accounts = same.accounts; sound = same.sound }
+  -- what the last client has learnt of end words does not matter
+  pub closed_same : (d : DeskSeen) (a b : Known) (r : Recorded O R) → HasLearntEnds a b → Closed op_in reply_in d b r → Closed op_in reply_in d a r
+  closed_same d a b r is k = let same = subst (λ z. Closed op_in reply_in d z r) is k in record { journals = same.journals; logs = same.logs; own = same.own; left = same.left; legal = same.legal; seen = same.seen; accounts = same.accounts; sound = same.sound }
 
 module _ {S O R : Type 0} (content : S → Content) (op_in : O → AnyOp) (reply_in : R → AnyReply) where
   -- the same of a desk and its last client, as they are seen

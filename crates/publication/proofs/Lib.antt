@@ -8,3 +8,4 @@ pub mod Newcomers
 pub mod Endings
 pub mod Gathering
 pub mod Leavings
+pub mod Dealing

@@ -17,12 +17,12 @@ use Rattle.desk_rule.specs.declared.board.Own.TheVariants as own
 use Rattle.desk_rule.specs.declared.board.View.{View}
 use Rattle.desk_rule.specs.Views.{seen_of, holding, noting, handling, putting_back, answering, learnt}
 use Rattle.desk_rule.specs.Rule.{Fits}
-use Rattle.publication.specs.Handles.{DeskId, Known, Holding, Handling, log_of}
+use Rattle.publication.specs.Handles.{DeskId, Known, PassState, Holding, Handling, log_of}
 use Rattle.publication.specs.Calls.{Opened, Got, NotGot, CanDo, kind_held, Answered, IsPutBack}
 
 -- w after a miss at the row r
-pub not_got : (p : Holding) (d : DeskId) (n r : ℕ) (w : View) (v : Holding) → p ≡ v → w ≡ noting (16 + r) v.object v.knows → All (λ b. b.row ≢ r) v.knows.back → NotGot p r (record { desk = d; knows = w; object = v.object; log = v.log; passes = n })
-not_got p d n r w v is e none_back = subst (λ z. NotGot z r (record { desk = d; knows = w; object = v.object; log = v.log; passes = n })) (sym is) record { object = refl; log = refl; knows = e; none_back = none_back }
+pub not_got : (p : Holding) (d : DeskId) (n : PassState) (r : ℕ) (w : View) (v : Holding) → p ≡ v → w ≡ noting (16 + r) v.object v.knows → All (λ b. b.row ≢ r) v.knows.back → NotGot p r (record { desk = d; knows = w; object = v.object; log = v.log; state = n })
+not_got p d n r w v is e none_back = subst (λ z. NotGot z r (record { desk = d; knows = w; object = v.object; log = v.log; state = n })) (sym is) record { object = refl; log = refl; knows = e; none_back = none_back }
 
 -- b with the core in its slot, d after the step
 pub is_released : {S O R : Type 0} (p : Holding) (b d : Me (Slot S O R) View) (v : Holding) (i : ℕ) (s : Slot S O R) (tl : List (ℕ × Slot S O R)) → p ≡ v → b ≡ (v.knows, (i, s) ∷ tl) → d ≡ (learnt v.object v.log b.0, rest b.1)
@@ -37,10 +37,10 @@ log_is_seen p b d v i s tl is e f low wide =
     ∙ get_or-set_same p.knows.seen p.object p.log [] (subst (λ (z : Holding). z.object < length z.knows.seen) (sym is) (subst (λ z. v.object < z) (sym wide) low))
 
 -- b with the answer in its slot, d after the step
-pub answered : {S O R : Type 0} (h : Handling) (z : DeskId) (n : ℕ) (a : AnyAnswer) (b d : Me (Slot S O R) View) (v : Handling) (log : List AnyEntry) (i : ℕ) (s : Slot S O R) (tl : List (ℕ × Slot S O R)) → h ≡ v → b ≡ (v.knows, (i, s) ∷ tl)
+pub answered : {S O R : Type 0} (h : Handling) (z : DeskId) (n : PassState) (a : AnyAnswer) (b d : Me (Slot S O R) View) (v : Handling) (log : List AnyEntry) (i : ℕ) (s : Slot S O R) (tl : List (ℕ × Slot S O R)) → h ≡ v → b ≡ (v.knows, (i, s) ∷ tl)
     → d ≡ (answering v.row v.object (v.log ++ logged v.row v.request a) b.0, tl) → log ≡ v.log ++ logged v.row v.request a → IsLegal (kind_at v.knows.kinds v.object) log
-    → Answered h a (record { desk = z; knows = d.0; object = v.object; log = log; passes = n })
-answered h z n a b d v log i s tl is e f grown legal = subst (λ u. Answered u a (record { desk = z; knows = d.0; object = v.object; log = log; passes = n })) (sym is) record {
+    → Answered h a (record { desk = z; knows = d.0; object = v.object; log = log; state = n })
+answered h z n a b d v log i s tl is e f grown legal = subst (λ u. Answered u a (record { desk = z; knows = d.0; object = v.object; log = log; state = n })) (sym is) record {
   object = refl;
   log = grown;
   legal = legal;
@@ -63,9 +63,9 @@ pub may_serve : (h v : Handling) (content : Content) → h ≡ v → Replays (em
 may_serve h v content is replays can = does (kind_held v) v.log v.request.op content replays (subst (λ u. CanDo (kind_held u) u.log u.request.op) is can)
 
 -- m before, b with the request in its slot, d after the step
-pub is_put_back : {S O R : Type 0} (h : Handling) (z : DeskId) (n : ℕ) (b d : Me (Slot S O R) View) (v : Handling) (i : ℕ) (s : Slot S O R) (tl : List (ℕ × Slot S O R)) → h ≡ v → b ≡ (v.knows, (i, s) ∷ tl)
-    → d ≡ (putting_back v.object v.log v.row v.request b.0, rest b.1) → IsPutBack h (record { desk = z; knows = d.0; object = v.object; log = v.log; passes = n })
-is_put_back h z n b d v i s tl is e f = subst (λ u. IsPutBack u (record { desk = z; knows = d.0; object = v.object; log = v.log; passes = n })) (sym is) record {
+pub is_put_back : {S O R : Type 0} (h : Handling) (z : DeskId) (n : PassState) (b d : Me (Slot S O R) View) (v : Handling) (i : ℕ) (s : Slot S O R) (tl : List (ℕ × Slot S O R)) → h ≡ v → b ≡ (v.knows, (i, s) ∷ tl)
+    → d ≡ (putting_back v.object v.log v.row v.request b.0, rest b.1) → IsPutBack h (record { desk = z; knows = d.0; object = v.object; log = v.log; state = n })
+is_put_back h z n b d v i s tl is e f = subst (λ u. IsPutBack u (record { desk = z; knows = d.0; object = v.object; log = v.log; state = n })) (sym is) record {
   object = refl;
   log = refl;
   knows = ap (λ z. z.0) f ∙ ap (λ z. putting_back v.object v.log v.row v.request z.0) e;
@@ -73,9 +73,9 @@ is_put_back h z n b d v i s tl is e f = subst (λ u. IsPutBack u (record { desk 
 
 module _ {S O R : Type 0} (content : S → Content) (op_in : O → AnyOp) (reply_in : R → AnyReply) where
   -- m before, a after the win, b with nothing in the slot
-  pub opened : (c : Known) (x : ℕ) (k core : Core S O R) (l : List AnyEntry) (m a b : Me (Slot S O R) View) (d : DeskId) (n : ℕ) → c.desk.kinds ≡ m.0.kinds → c.knows ≡ m.0 → a ≡ (holding x l m.0, (x, slot.Core k) ∷ m.1) → b ≡ (a.0, (x, slot.Nothing) ∷ rest a.1)
+  pub opened : (c : Known) (x : ℕ) (k core : Core S O R) (l : List AnyEntry) (m a b : Me (Slot S O R) View) (d : DeskId) (n : PassState) → c.desk.kinds ≡ m.0.kinds → c.knows ≡ m.0 → a ≡ (holding x l m.0, (x, slot.Core k) ∷ m.1) → b ≡ (a.0, (x, slot.Nothing) ∷ rest a.1)
       → core ≡ k → Fits content op_in reply_in (kind_at m.0.kinds x) k l → StartsWith l (seen_of m.0 x)
-      → Opened c x (record { desk = d; knows = b.0; object = x; log = log_of op_in reply_in core; passes = n })
+      → Opened c x (record { desk = d; knows = b.0; object = x; log = log_of op_in reply_in core; state = n })
   opened c x k core l m a b d n kinds is e f same fits begins =
       let log : log_of op_in reply_in core ≡ l = ap (log_of op_in reply_in) same ∙ fits.0 in record {
         object = refl;
@@ -86,11 +86,11 @@ module _ {S O R : Type 0} (content : S → Content) (op_in : O → AnyOp) (reply
 
 module _ {S O R : Type 0} (op_in : O → AnyOp) where
   -- m before, a after the pick, b with nothing in the slot
-  pub got : (p : Holding) (d : DeskId) (n r : ℕ) (q q' : Request O) (tl : List (ℕ × Slot S O R)) (a b : Me (Slot S O R) View) (v : Holding) → p ≡ v → a ≡ (handling v.object v.log r (request_in op_in q) v.knows, (16 + r, slot.Request q) ∷ tl)
+  pub got : (p : Holding) (d : DeskId) (n : PassState) (r : ℕ) (q q' : Request O) (tl : List (ℕ × Slot S O R)) (a b : Me (Slot S O R) View) (v : Holding) → p ≡ v → a ≡ (handling v.object v.log r (request_in op_in q) v.knows, (16 + r, slot.Request q) ∷ tl)
       → b ≡ (a.0, (16 + r, slot.Nothing) ∷ rest a.1) → q ≡ q' → q.object ≡ v.object → kind_of (op_in q.op) ≡ kind_at v.knows.kinds v.object → All (λ b. b.row ≡ r → b.request ≡ request_in op_in q) v.knows.back
       → ((p : AnyRequest) → r ≡ v.knows.number → v.knows.own ≡ own.Waiting p → request_in op_in q ≡ p)
-      → Got p r (record { desk = d; knows = b.0; object = v.object; log = v.log; passes = n; row = r; request = request_in op_in q' })
-  got p d n r q q' tl a b v is e f same on of_kind again is_own = subst (λ z. Got z r (record { desk = d; knows = b.0; object = v.object; log = v.log; passes = n; row = r; request = request_in op_in q' })) (sym is) record {
+      → Got p r (record { desk = d; knows = b.0; object = v.object; log = v.log; state = n; row = r; request = request_in op_in q' })
+  got p d n r q q' tl a b v is e f same on of_kind again is_own = subst (λ z. Got z r (record { desk = d; knows = b.0; object = v.object; log = v.log; state = n; row = r; request = request_in op_in q' })) (sym is) record {
     object = refl;
     log = refl;
     row = refl;

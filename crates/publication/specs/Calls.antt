@@ -12,13 +12,14 @@ use Rattle.desk_rule.specs.Views.{seen_of, own_request, journal, is_waiting, mis
 use Rattle.world.specs.Images.{entry_in, event_in}
 use Rattle.world.specs.Records.{IsSoundRecord}
 use Rattle.recorder.specs.Records.{Recorded, journal_at, log_at}
+use Rattle.roster.specs.declared.board.Enlist.{Enlist}
 use Rattle.publication.specs.declared.desk.Post.{Post}
 use Rattle.publication.specs.declared.desk.Post.TheVariants as post
 use Rattle.publication.specs.declared.desk.Win.{Win}
 use Rattle.publication.specs.declared.desk.Win.TheVariants as win
 use Rattle.publication.specs.declared.desk.Picked.{Picked}
 use Rattle.publication.specs.declared.desk.Picked.TheVariants as pick
-use Rattle.publication.specs.Handles.{DeskId, DeskSeen, Known, Holding, Handling}
+use Rattle.publication.specs.Handles.{DeskId, DeskSeen, Known, PassState, Holding, Handling}
 
 -- The call was posted as the outstanding one of an idle client: its invocation is the last event of the journal.
 pub record Posted (v : View) (object : ℕ) (op : AnyOp) (w : View) : Type 0 where
@@ -127,6 +128,8 @@ pub record Met (x : ℕ) (one other one' other' : Known) : Type 0 where
 pub record StillThere (d : DeskSeen) (last : Known) (client : ℕ) (after : Known) : Type 0 where
   pub client_low : client < d.clients
   pub other : client ≢ last.knows.number
+  -- and none that is known to have retired, since it told
+  pub untold : All (λ l. l.client ≢ client) last.knows.left
   pub least : (c : ℕ) → c < client → c ≢ last.knows.number → Contains after.knows.retired c
   -- of the last client nothing else has changed: it knows who has retired, and found this one there
   pub looked : (v : View) × (after.knows ≡ finding_there client v) × (v ≡ record last.knows { retired = v.retired })
@@ -140,6 +143,8 @@ module _ {O R : Type 0} (op_in : O → AnyOp) (reply_in : R → AnyReply) where
     pub own : map (event_in op_in reply_in) (journal_at r last.knows.number) ≡ journal last.knows
     pub legal : (x : ℕ) → x < length d.id.kinds → IsLegal (kind_at d.id.kinds x) (map (entry_in op_in reply_in) (log_at r x))
     pub seen : (x : ℕ) → x < length d.id.kinds → StartsWith (map (entry_in op_in reply_in) (log_at r x)) (seen_of last.knows x)
+    -- the journal of each client that told of its end is the one that it told of
+    pub left : All (λ l. map (event_in op_in reply_in) (journal_at r l.client) ≡ l.journal) last.knows.left
     -- of the last client's calls each log holds just those that were not refused, each once and in order
     pub accounts : (x : ℕ) → IsAccount x last.knows (map (entry_in op_in reply_in) (log_at r x))
     pub sound : IsSoundRecord d.id.kinds d.id.quota (λ c. map (event_in op_in reply_in) (journal_at r c)) (λ x. map (entry_in op_in reply_in) (log_at r x))
@@ -162,9 +167,13 @@ module _ {S O R : Type 0} where
   desk_after_pick (pick.Got h) = h.desk
   desk_after_pick (pick.Not p) = p.desk
 
-  abbrev pub passes_after_pick : Picked S O R → ℕ
-  passes_after_pick (pick.Got h) = h.passes
-  passes_after_pick (pick.Not p) = p.passes
+  abbrev pub state_after_pick : Picked S O R → PassState
+  state_after_pick (pick.Got h) = h.state
+  state_after_pick (pick.Not p) = p.state
+
+  abbrev pub tries_after_win : Win S O R → List (List Enlist)
+  tries_after_win (win.Won p) = p.state.tries
+  tries_after_win (win.Held c) = c.tries
 
   abbrev pub IfGot : Picked S O R → (Handling → Type 0) → Type 0
   IfGot (pick.Got h) P = P h

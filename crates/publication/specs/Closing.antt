@@ -53,7 +53,3 @@ HaveEnded n last = (c : ℕ) → c < n → c ≢ last.knows.number → Contains 
 -- it has learnt of such, and of nothing else
 abbrev pub HasLearntEnds : Known → Known → Type 0
 HasLearntEnds before after = after ≡ record before { knows = record before.knows { retired = after.knows.retired } }
-
--- it has looked at end words, set or not, and done nothing else
-abbrev pub HasLookedAtEnds : Known → Known → Type 0
-HasLookedAtEnds before after = after ≡ record before { knows = record before.knows { retired = after.knows.retired; still_there = after.knows.still_there } }

@@ -1,5 +1,5 @@
 -- What contracts see of a desk, of a client, and of a client that holds an object.
-use Rattle.std.specs.Prelude.{◌≡◌, ℕ, ◌+◌, ◌<◌, ◌≤◌, Bool, true, false, List, [], ◌∷◌, map, length, vec_capacity}
+use Rattle.std.specs.Prelude.{◌≡◌, ℕ, ◌+◌, ◌-◌, ◌<◌, ◌≤◌, Bool, true, false, List, [], ◌∷◌, ◌++◌, map, length, replicate, slice_set, slice_index_or, vec_len, vec_capacity}
 use Rattle.std.specs.declared.vec.Vec.{Vec}
 use mathlib.Core.Option.{some}
 use lib.ListN.{get_elem?}
@@ -12,8 +12,11 @@ use Rattle.model.specs.Objects.{Content, kind_of}
 use Rattle.world.specs.declared.Request.{Request}
 use Rattle.world.specs.World.{AnyEntry, AnyRequest, kind_at, calls_made, IsLegal}
 use Rattle.world.specs.Images.{request_in, entry_in, event_in}
+use Rattle.roster.specs.declared.board.Enlist.{Enlist}
+use Rattle.roster.specs.Calls.{WalkerSeen}
 use Rattle.desk_rule.specs.declared.board.Core.{Core}
 use Rattle.desk_rule.specs.declared.board.Journal.{Journal}
+use Rattle.desk_rule.specs.declared.board.Leaving.{Leaving}
 use Rattle.desk_rule.specs.declared.board.Plan.{Plan}
 use Rattle.desk_rule.specs.declared.board.Slot.{Slot}
 use Rattle.desk_rule.specs.declared.board.Slot.TheVariants as slot
@@ -34,18 +37,32 @@ pub record DeskSeen : Type 0 where
   pub id : DeskId
   pub clients : ℕ
 
--- a client: its desk, and what it knows
+-- a client: its desk, what it knows, and of each object what its tries to enlist its row came to
 pub record Known : Type 0 where
   pub desk : DeskId
   pub knows : View
+  pub tries : List (List Enlist)
 
--- a client that holds an object: also the object's number, its log, and how many passes there were over it
+-- one try more at the list of x
+abbrev pub trying : ℕ → Enlist → List (List Enlist) → List (List Enlist)
+trying x came_to tries = slice_set tries x (slice_index_or tries x [] ++ came_to ∷ [])
+
+-- What else there is in a client's hands while it holds an object: how many passes there were over the object, for how
+-- many entries more its log has room, its publication list, the age of each row, and the client's tries.
+pub record PassState : Type 0 where
+  pub passes : ℕ
+  pub room : ℕ
+  pub list : WalkerSeen
+  pub ages : List ℕ
+  pub tries : List (List Enlist)
+
+-- a client that holds an object: also the object's number and its log
 pub record Holding : Type 0 where
   pub desk : DeskId
   pub knows : View
   pub object : ℕ
   pub log : List AnyEntry
-  pub passes : ℕ
+  pub state : PassState
 
 -- a client that holds an object and a request: also the row that the request is of
 pub record Handling : Type 0 where
@@ -53,9 +70,14 @@ pub record Handling : Type 0 where
   pub knows : View
   pub object : ℕ
   pub log : List AnyEntry
-  pub passes : ℕ
+  pub state : PassState
   pub row : ℕ
   pub request : AnyRequest
+
+-- that clients have retired: at which table, and what they told of their ends
+pub record Notice : Type 0 where
+  pub table : TableId
+  pub left : List Leaving
 
 -- nothing is in it yet, and n elements fit
 abbrev pub IsRoom : {A Z : Type 0} → ℕ → Vec A Z → Type 0
@@ -99,6 +121,10 @@ module _ {S O R : Type 0} (op_in : O → AnyOp) (reply_in : R → AnyReply) wher
   abbrev pub log_of : Core S O R → List AnyEntry
   log_of core = map (entry_in op_in reply_in) core.log.items
 
+module _ {S O R : Type 0} where
+  abbrev pub state_of : Core S O R → List (List Enlist) → PassState
+  state_of core tries = record { passes = core.passes; room = vec_capacity core.log - vec_len core.log; list = core.list; ages = core.ages; tries = tries }
+
 module _ {S O R : Type 0} (content : S → Content) (op_in : O → AnyOp) (reply_in : R → AnyReply) where
   pub record IsPass (number calls quota : ℕ) (outstanding : Bool) (j : Journal O R) (object : ℕ) (core : Core S O R) (me : Me (Slot S O R) View) : Type 0 where
     pub agrees : Agrees op_in reply_in number calls quota outstanding j me.0
@@ -117,9 +143,9 @@ module _ {S O R : Type 0} (content : S → Content) (op_in : O → AnyOp) (reply
     pub on : request.object ≡ object
     pub of_kind : kind_of (op_in request.op) ≡ kind_at me.0.kinds object
 
--- a client that has made no call
+-- a client that has made no call, and has not tried to enlist its row
 abbrev pub begun : DeskId → ℕ → Known
-begun d c = record { desk = d; knows = calling own.Idle (newcomer d.kinds c) }
+begun d c = record { desk = d; knows = calling own.Idle (newcomer d.kinds c); tries = replicate 16 [] }
 
 abbrev pub AllBegun : DeskId → List Known → Type 0
 AllBegun d cs = (c : ℕ) → c < length cs → get_elem? cs c ≡ some (begun d c)

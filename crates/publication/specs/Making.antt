@@ -1,5 +1,7 @@
 -- What a new desk is made of.
-use Rattle.std.specs.Prelude.{◌≡◌, ℕ, ◌+◌, ◌<◌, ◌≤◌, List, [], map, length, All}
+use Rattle.std.specs.Prelude.{◌≡◌, ℕ, ◌+◌, ◌<◌, ◌≤◌, List, [], map, length, replicate, All, vec_len, vec_capacity}
+use Rattle.std.specs.declared.vec.Vec.{Vec}
+use Rattle.roster.specs.Calls.{PlaceSeen}
 use mathlib.Core.Option.{some}
 use lib.ListN.{get_elem?}
 use Rattle.model.specs.declared.Kind.{Kind}
@@ -36,3 +38,11 @@ HasRoom quota j = IsRoom (quota + quota) j.events
 -- no more than there may be
 abbrev pub IsSmall : Plan → Type 0
 IsSmall plan = (length plan.kinds.items < 17) × (plan.clients < 33) × (plan.quota < 10001)
+
+-- an owner of rows has k places, at which nothing was tried, and room for 16
+abbrev pub HasPlaces : {Z : Type 0} → ℕ → Vec PlaceSeen Z → Type 0
+HasPlaces k v = (map (λ (p : PlaceSeen). p.tries) v.items ≡ replicate k []) × (vec_len v ≡ k) × (vec_capacity v ≡ 16)
+
+-- each of n owners has
+abbrev pub AreDealt : {Z : Type 0} → ℕ → ℕ → List (Vec PlaceSeen Z) → Type 0
+AreDealt n k owners = (length owners ≡ n) × All (HasPlaces k) owners

@@ -3,14 +3,43 @@
 ghost use Rattle.std.specs.Prelude.{◌≡◌, ◌<◌, ℕ};
 ghost use Rattle.world.specs.World.{kind_at, IsLegal};
 ghost use Rattle.desk_rule.specs.Views.{is_waiting, seen_of, IsAccount};
+ghost use Rattle.publication.specs.Handles.{trying};
 
 use atomic_table::Seat;
 use desk_rule::{Core, Journal, Slot, View};
+use roster::{Enlist, SharedPlace};
 use seq_objects::SeqObject;
 use std::marker::Model;
 use world::Request;
 
 pub(crate) type Place<S, O, R> = Seat<Slot<S, O, R>, View>;
+
+/// A client's place in the publication list of each object. Contracts see what each of its tries to enlist came to.
+#[derive(Drop)]
+pub(crate) struct Places {
+    pub all: Vec<SharedPlace>,
+}
+
+impl Model for Places {
+    ghost use Rattle.std.specs.Prelude.{◌≡◌, List, length, map};
+    ghost use Rattle.roster.specs.declared.board.Enlist.{Enlist};
+
+    ghost Value = { List (List Enlist) };
+
+    ghost view = { λ p. map (λ q. q.tries) p.all.items };
+
+    ghost invariant = { λ p. length p.all.items ≡ 16 };
+}
+
+impl Places {
+    // Tries once to put the client's row in front of the list of the object.
+    pub fn enlist(&mut self, object: usize) -> Enlist
+        requires { object < 16 }
+        ensures { self.new ≡ trying object result self.old }
+    {
+        self.all[object].enlist()
+    }
+}
 
 /// A client's seat at the table, with what it keeps itself.
 #[derive(Drop)]
@@ -21,6 +50,7 @@ pub(crate) struct Member<S: SeqObject> {
     pub quota: u32,
     pub outstanding: bool,
     pub journal: Journal<S::Op, S::Reply>,
+    pub places: Places,
 }
 
 /// A client that holds no object.
@@ -34,7 +64,7 @@ impl<S: SeqObject> Model for Client<S> {
 
     ghost Value = { Known };
 
-    ghost view = { λ c. record { desk = record { table = c.member.seat.table_id; quota = c.member.quota; kinds = c.member.seat.me.0.kinds }; knows = c.member.seat.me.0 } };
+    ghost view = { λ c. record { desk = record { table = c.member.seat.table_id; quota = c.member.quota; kinds = c.member.seat.me.0.kinds }; knows = c.member.seat.me.0; tries = c.member.places } };
 
     ghost invariant = { λ c. IsClient S.op_in S.reply_in c.member.number c.member.calls c.member.quota c.member.outstanding c.member.journal c.member.seat.me };
 }
@@ -47,11 +77,11 @@ pub struct Pass<S: SeqObject> {
 }
 
 impl<S: SeqObject> Model for Pass<S> {
-    ghost use Rattle.publication.specs.Handles.{Holding, IsPass, log_of};
+    ghost use Rattle.publication.specs.Handles.{Holding, IsPass, log_of, state_of};
 
     ghost Value = { Holding };
 
-    ghost view = { λ p. record { desk = record { table = p.member.seat.table_id; quota = p.member.quota; kinds = p.member.seat.me.0.kinds }; knows = p.member.seat.me.0; object = p.object; log = log_of S.op_in S.reply_in p.core; passes = p.core.passes } };
+    ghost view = { λ p. record { desk = record { table = p.member.seat.table_id; quota = p.member.quota; kinds = p.member.seat.me.0.kinds }; knows = p.member.seat.me.0; object = p.object; log = log_of S.op_in S.reply_in p.core; state = state_of p.core p.member.places } };
 
     ghost invariant = { λ p. IsPass S.content S.op_in S.reply_in p.member.number p.member.calls p.member.quota p.member.outstanding p.member.journal p.object p.core p.member.seat.me };
 }
@@ -67,11 +97,11 @@ pub struct Hand<S: SeqObject> {
 
 impl<S: SeqObject> Model for Hand<S> {
     ghost use Rattle.world.specs.Images.{request_in};
-    ghost use Rattle.publication.specs.Handles.{Handling, IsHand, log_of};
+    ghost use Rattle.publication.specs.Handles.{Handling, IsHand, log_of, state_of};
 
     ghost Value = { Handling };
 
-    ghost view = { λ p. record { desk = record { table = p.member.seat.table_id; quota = p.member.quota; kinds = p.member.seat.me.0.kinds }; knows = p.member.seat.me.0; object = p.object; log = log_of S.op_in S.reply_in p.core; passes = p.core.passes; row = p.row; request = request_in S.op_in p.request } };
+    ghost view = { λ p. record { desk = record { table = p.member.seat.table_id; quota = p.member.quota; kinds = p.member.seat.me.0.kinds }; knows = p.member.seat.me.0; object = p.object; log = log_of S.op_in S.reply_in p.core; state = state_of p.core p.member.places; row = p.row; request = request_in S.op_in p.request } };
 
     ghost invariant = { λ p. IsHand S.content S.op_in S.reply_in p.member.number p.member.calls p.member.quota p.member.outstanding p.member.journal p.object p.core p.row p.request p.member.seat.me };
 }

@@ -1,24 +1,43 @@
 //! The end of a client, and of the desk.
 
-ghost use Rattle.std.specs.Prelude.{◌≡◌, ◌≢◌, ℕ, ◌+◌, ◌<◌, ◌≤◌, [], length, slice_index_or, vec_len, vec_capacity, IfOk, IfErr, IfSome, IfNone, if◌then◌else◌};
+ghost use Rattle.std.specs.Prelude.{◌≡◌, ◌≢◌, ℕ, ◌+◌, ◌<◌, ◌≤◌, ◌∷◌, [], All, false, length, slice_index_or, vec_len, vec_capacity, IfOk, IfErr, IfSome, IfNone, if◌then◌else◌};
 ghost use Rattle.recorder.specs.Records.{items_of};
-ghost use Rattle.desk_rule.specs.Views.{knowing_end, finding_there};
+ghost use Rattle.desk_rule.specs.Views.{knowing_end, finding_there, leaving, told_of};
 ghost use Rattle.publication.specs.Handles.{IsRoom};
 ghost use Rattle.publication.specs.Calls.{Closed, StillThere};
 ghost use Rattle.publication.specs.Closing.{values_of, IsTakenTo, HasCore, HasJournal, IsLogOf, IsJournalOf, AreLogs, AreJournals, IsSameBelow, HaveEnded, HasLearntEnds};
 
-use crate::client::{Client, Member};
+use crate::client::{Client, Member, Place};
 use crate::desk::{Desk, ENDS};
 use crate::making::SLOTS;
-use crate::plays::{Ends, SeesEnd};
+use crate::plays::{BidsFarewell, Ends, IsTold, SeesEnd};
 use desk_rule::{Core, Journal, Slot};
 use recorder::{JournalEvent, LogEntry, Record};
 use seq_objects::SeqObject;
 use std::alloc::Global;
+use std::marker::Model;
 
 type Left<S, O, R> = atomic_table::Closed<Slot<S, O, R>, Global>;
 
+/// That a client has retired. Who is to close the desk may be told of it.
+#[derive(Drop)]
+pub struct Retired<S: SeqObject> {
+    seat: Place<S, S::Op, S::Reply>,
+}
+
+impl<S: SeqObject> Model for Retired<S> {
+    ghost use Rattle.std.specs.Prelude.{◌≡◌, []};
+    ghost use Rattle.publication.specs.Handles.{Notice};
+
+    ghost Value = { Notice };
+
+    ghost view = { λ r. record { table = r.seat.table_id; left = r.seat.me.0.left } };
+
+    ghost invariant = { λ r. r.seat.me.1 ≡ [] };
+}
+
 /// A client has not retired: the desk and the last client come back, with its number.
+#[derive(Drop)]
 pub struct Unretired<S: SeqObject> {
     pub desk: Desk<S>,
     pub last: Client<S>,
@@ -27,9 +46,11 @@ pub struct Unretired<S: SeqObject> {
 
 impl<S: SeqObject> Desk<S> {
     /// Ends a client, and leaves its journal with the desk. A call that is outstanding may still be answered; the journal
-    /// has its invocation, and no return.
-    pub fn retire(&self, client: Client<S>)
+    /// has its invocation, and no return. `close` names no client of whose end the last one was told, and its record has
+    /// the journal that was told of.
+    pub fn retire(&self, client: Client<S>) -> Retired<S>
         requires { client.desk ≡ self.now.id }
+        ensures { result ≡ record { table = client.desk.table; left = leaving client.knows ∷ [] } }
     {
         let Client { member } = client;
         let Member {
@@ -43,13 +64,28 @@ impl<S: SeqObject> Desk<S> {
         seat.turn();
         let _ = shared.exchange(&mut seat, slot, Slot::Journal(journal));
         shared.store::<Ends>(&mut seat, slot, 1);
+        Retired {
+            seat: shared.split_seat::<BidsFarewell>(&mut seat),
+        }
+    }
+
+    /// Tells a client that another has retired.
+    pub fn tell(&self, client: &mut Client<S>, retired: Retired<S>)
+        requires client { client.old.desk ≡ self.now.id }
+        requires retired { retired.table ≡ self.now.id.table }
+        ensures { client.new ≡ record client.old { knows = told_of retired.left client.old.knows } }
+    {
+        let Retired { seat } = retired;
+        self.table
+            .shared
+            .join_seat::<IsTold>(&mut client.member.seat, seat);
     }
 
     /// Ends the last client and the desk. The error names the least other client that has not retired.
     pub fn close(self, mut last: Client<S>) -> Result<Record<S>, Unretired<S>>
         requires { last.desk ≡ self.id }
         ensures closed { IfOk result (Closed S.op_in S.reply_in self last) }
-        ensures unretired { IfErr result (λ u. (u.desk ≡ self) × (u.last.desk ≡ last.desk) × StillThere self last u.client u.last) }
+        ensures unretired { IfErr result (λ u. (u.desk ≡ self) × (u.last.desk ≡ last.desk) × (u.last.tries ≡ last.tries) × StillThere self last u.client u.last) }
     {
         match first_unretired(&self, &mut last) {
             Some(client) => Err(Unretired {
@@ -67,7 +103,9 @@ fn sees_end<S: SeqObject>(desk: &Desk<S>, last: &mut Client<S>, client: u32) -> 
     requires desk { last.old.desk ≡ desk.now.id }
     requires client { client < desk.now.clients }
     ensures desk { last.new.desk ≡ last.old.desk }
+    ensures tries { last.new.tries ≡ last.old.tries }
     ensures seen { last.new.knows ≡ (if result then knowing_end client last.old.knows else finding_there client last.old.knows) }
+    ensures untold { result ≡ false → All (λ l. l.client ≢ client) last.old.knows.left }
 {
     let shared = &desk.table.shared;
     shared.load::<SeesEnd>(&mut last.member.seat, ENDS + client as usize) == 1
@@ -77,6 +115,7 @@ fn sees_end<S: SeqObject>(desk: &Desk<S>, last: &mut Client<S>, client: u32) -> 
 fn first_unretired<S: SeqObject>(desk: &Desk<S>, last: &mut Client<S>) -> Option<u32>
     requires { last.old.desk ≡ desk.now.id }
     ensures desk { last.new.desk ≡ last.old.desk }
+    ensures tries { last.new.tries ≡ last.old.tries }
     ensures found { IfSome result (λ c. StillThere desk.now last.old c last.new) }
     ensures all { IfNone result (HaveEnded desk.now.clients last.new × HasLearntEnds last.old last.new) }
 {

@@ -88,7 +88,7 @@ pub enum Picked<S: SeqObject> {
 }
 
 impl<S: SeqObject> Desk<S> {
-    ghost use Rattle.publication.specs.Calls.{IsNotOfKind, MayPost, Posted, PostRefused, Polled, NotPolled, Opened, desk_after_win, IfWon, IfHeld};
+    ghost use Rattle.publication.specs.Calls.{IsNotOfKind, MayPost, Posted, PostRefused, Polled, NotPolled, Opened, desk_after_win, tries_after_win, IfWon, IfHeld};
 
     /// How many objects there are.
     pub fn objects(&self) -> u32
@@ -123,6 +123,7 @@ impl<S: SeqObject> Desk<S> {
     pub fn post(&self, client: &mut Client<S>, object: u32, op: S::Op) -> Result<(), Post>
         requires { client.old.desk ≡ self.now.id }
         ensures desk { client.new.desk ≡ client.old.desk }
+        ensures tries { client.new.tries ≡ client.old.tries }
         ensures may { OnOk result (MayPost client.old) }
         ensures there { OnOk result ((object < length self.now.id.kinds) × (kind_of (S.op_in op) ≡ kind_at self.now.id.kinds object)) }
         ensures posted { IfOk result (λ _. Posted client.old.knows object (S.op_in op) client.new.knows) }
@@ -162,6 +163,7 @@ impl<S: SeqObject> Desk<S> {
     pub fn poll(&self, client: &mut Client<S>) -> Option<Answer<S::Reply>>
         requires { client.old.desk ≡ self.now.id }
         ensures desk { client.new.desk ≡ client.old.desk }
+        ensures tries { client.new.tries ≡ client.old.tries }
         ensures polled { IfSome result (λ a. Polled client.old.knows (answer_in S.reply_in a) client.new.knows) }
         ensures missed { IfNone result (NotPolled client.old.knows client.new.knows) }
     {
@@ -192,6 +194,7 @@ impl<S: SeqObject> Desk<S> {
         requires desk { client.desk ≡ self.now.id }
         requires object { object < length self.now.id.kinds }
         ensures desk { desk_after_win result ≡ client.desk }
+        ensures tries { tries_after_win result ≡ client.tries }
         ensures won { IfWon result (Opened client object) }
         ensures held { IfHeld result (λ c. c.knows ≡ missing object client.knows) }
     {

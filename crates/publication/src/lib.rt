@@ -13,11 +13,13 @@ mod making;
 mod meeting;
 mod pass;
 mod plays;
+mod walking;
 
 pub use client::{Client, Hand, Pass};
-pub use closing::Unretired;
+pub use closing::{Retired, Unretired};
 pub use desk::{Desk, Picked, Post, Win};
 pub use recorder::{Answer, JournalEvent, LogEntry, Record};
+pub use roster::Enlist;
 pub use world::Request;
 
 #[cfg(test)]

@@ -1,19 +1,23 @@
 //! A new desk, and its clients.
 
-ghost use Rattle.std.specs.Prelude.{◌≡◌, ◌+◌, ◌<◌, ◌≤◌, [], length, map, All, IfOk, vec_len, vec_capacity};
+ghost use Rattle.std.specs.Prelude.{◌≡◌, ◌+◌, ◌<◌, ◌≤◌, [], length, replicate, map, All, IfOk, OnOk, vec_len, vec_capacity};
 ghost use Rattle.model.specs.Objects.{empty, kind_with};
 ghost use Rattle.desk_rule.specs.Views.{founder_of};
 ghost use Rattle.publication.specs.Handles.{AllBegun, IsRoom, begun};
-ghost use Rattle.publication.specs.Making.{AreCores, IsLaid, AreEmpty, kinds_with, HasRoom, IsSmall};
+ghost use Rattle.publication.specs.Making.{AreCores, IsLaid, AreEmpty, kinds_with, HasRoom, IsSmall, AreDealt};
 
-use crate::client::{Client, Member, Place};
+use crate::client::{Client, Member, Place, Places};
 use crate::desk::{Board, Desk, ROWS};
 use crate::plays::{Begins, Makes};
 use atomic_table::Table;
 use desk_rule::{Core, Journal, Plan, Slot};
 use model::Kind;
+use roster::{Roster, SharedPlace, SharedWalker};
 use seq_objects::SeqObject;
 use std::alloc::{AllocError, Global};
+
+/// How many objects there may be.
+const OBJECTS: usize = 16;
 
 /// How many slots the table has.
 pub(crate) const SLOTS: usize = 80;
@@ -29,12 +33,38 @@ fn kinds_of<S: SeqObject>(alloc: Global, objects: &[S]) -> Result<Vec<Kind>, All
     Ok(kinds)
 }
 
-// A slot for each object, with an empty log.
+// For each client no place yet, and room for one in the list of each object that there may be.
+fn no_places(alloc: Global, clients: u32) -> Result<Vec<Vec<SharedPlace>>, AllocError>
+    ensures { IfOk result (λ v. AreDealt clients 0 v.items) }
+{
+    let mut owners = Vec::with_capacity(alloc, clients as usize)?;
+    for _ in 0..clients {
+        owners.push_reserved(Vec::with_capacity(alloc, OBJECTS)?);
+    }
+    Ok(owners)
+}
+
+// A publication list for each object that there may be, in which each client has a place.
+fn lists(alloc: Global, owners: &mut Vec<Vec<SharedPlace>>) -> Result<Vec<SharedWalker>, AllocError>
+    requires few { (0 < length owners.old.items) × (length owners.old.items < 33) }
+    requires owners { AreDealt (length owners.old.items) 0 owners.old.items }
+    ensures lists { IfOk result (λ v. vec_len v ≡ 16) }
+    ensures owners { OnOk result (AreDealt (length owners.old.items) 16 owners.new.items) }
+{
+    let mut lists = Vec::with_capacity(alloc, OBJECTS)?;
+    while lists.len() < OBJECTS {
+        lists.push_reserved(Roster::deal(alloc, owners)?);
+    }
+    Ok(lists)
+}
+
+// A slot for each object, with an empty log, and its publication list.
 fn cores<S: SeqObject>(
     alloc: Global,
     objects: Vec<S>,
+    mut lists: Vec<SharedWalker>,
 ) -> Result<Vec<Slot<S, S::Op, S::Reply>>, AllocError>
-    requires { length objects.items < 17 }
+    requires { (length objects.items < 17) × (vec_len lists ≡ 16) }
     ensures { IfOk result (λ v. (vec_len v ≡ length objects.items) × (vec_capacity v ≡ 80) × AreCores objects.items v.items) }
 {
     let mut slots = Vec::with_capacity(alloc, SLOTS)?;
@@ -44,6 +74,8 @@ fn cores<S: SeqObject>(
             object,
             log,
             passes: 0,
+            list: lists.remove(0),
+            ages: [0; 32],
         }));
     }
     Ok(slots)
@@ -53,11 +85,12 @@ fn cores<S: SeqObject>(
 fn lay<S: SeqObject>(
     alloc: Global,
     objects: Vec<S>,
+    lists: Vec<SharedWalker>,
 ) -> Result<Vec<Slot<S, S::Op, S::Reply>>, AllocError>
-    requires { length objects.items < 17 }
+    requires { (length objects.items < 17) × (vec_len lists ≡ 16) }
     ensures { IfOk result (λ v. IsLaid objects.items v.items) }
 {
-    let mut slots = cores(alloc, objects)?;
+    let mut slots = cores(alloc, objects, lists)?;
     while slots.len() < SLOTS {
         slots.push_reserved(Slot::Nothing);
     }
@@ -70,13 +103,15 @@ type Opened<S, O, R> = (Board<S, O, R>, Place<S, O, R>);
 fn open<S: SeqObject>(
     alloc: Global,
     objects: Vec<S>,
+    lists: Vec<SharedWalker>,
     plan: &Plan,
 ) -> Result<Opened<S, S::Op, S::Reply>, AllocError>
     requires objects { AreEmpty S.content objects.items }
+    requires lists { vec_len lists ≡ 16 }
     requires plan { (plan.now.kinds.items ≡ kinds_with S.content objects.items) × IsSmall plan.now }
     ensures { IfOk result (λ r. (r.1.table_id ≡ r.0.shared.table_id) × (r.0.shared.table_id.words ≡ 81) × (r.0.shared.table_id.slots ≡ 80) × (r.0.shared.key ≡ plan.now) × (r.1.me ≡ (founder_of plan.now.kinds.items 0, []))) }
 {
-    let slots = lay(alloc, objects)?;
+    let slots = lay(alloc, objects, lists)?;
     let words = [0; 81];
     match Table::new(alloc, &words, slots, plan) {
         Ok(opened) => Ok(opened),
@@ -106,6 +141,7 @@ fn make<S: SeqObject>(
     table: &Board<S, S::Op, S::Reply>,
     founder: &mut Place<S, S::Op, S::Reply>,
     journal: Journal<S::Op, S::Reply>,
+    places: Places,
     number: u32,
     quota: u32,
 ) -> Client<S>
@@ -113,6 +149,7 @@ fn make<S: SeqObject>(
     requires plan { IsSmall table.now.shared.key × (number < table.now.shared.key.clients) × (quota ≡ table.now.shared.key.quota) }
     requires founder { founder.old.me ≡ (founder_of table.now.shared.key.kinds.items number, []) }
     requires journal { HasRoom quota journal }
+    requires places { places ≡ replicate 16 [] }
     ensures founder { (founder.new.table_id ≡ founder.old.table_id) × (founder.new.me ≡ (founder_of table.now.shared.key.kinds.items (number + 1), [])) }
     ensures client { result ≡ begun (record { table = table.now.shared.table_id; quota = quota; kinds = table.now.shared.key.kinds.items }) number }
 {
@@ -126,15 +163,17 @@ fn make<S: SeqObject>(
         quota,
         outstanding: false,
         journal,
+        places,
     };
     Client { member }
 }
 
-// The clients, each with a journal.
+// The clients, each with a journal and its places.
 fn make_all<S: SeqObject>(
     table: &Board<S, S::Op, S::Reply>,
     mut founder: Place<S, S::Op, S::Reply>,
     mut journals: Vec<Journal<S::Op, S::Reply>>,
+    mut owners: Vec<Vec<SharedPlace>>,
     made: &mut Vec<Client<S>>,
     quota: u32,
 )
@@ -142,12 +181,23 @@ fn make_all<S: SeqObject>(
     requires plan { IsSmall table.now.shared.key × (quota ≡ table.now.shared.key.quota) }
     requires founder { founder.me ≡ (founder_of table.now.shared.key.kinds.items 0, []) }
     requires journals { (vec_len journals ≡ table.now.shared.key.clients) × All (HasRoom quota) journals.items }
+    requires owners { AreDealt table.now.shared.key.clients 16 owners.items }
     requires made { IsRoom table.now.shared.key.clients made.old × (vec_len made.old ≡ 0) }
     ensures { (length made.new.items ≡ table.now.shared.key.clients) × AllBegun (record { table = table.now.shared.table_id; quota = quota; kinds = table.now.shared.key.kinds.items }) made.new.items }
 {
     let mut number = 0;
     while let Some(journal) = journals.pop() {
-        made.push_reserved(make(table, &mut founder, journal, number, quota));
+        let places = Places {
+            all: owners.remove(0),
+        };
+        made.push_reserved(make(
+            table,
+            &mut founder,
+            journal,
+            places,
+            number,
+            quota,
+        ));
         number += 1;
     }
 }
@@ -176,8 +226,10 @@ impl<S: SeqObject> Desk<S> {
         let mut made = Vec::with_capacity(alloc, clients as usize)?;
         let journals = Vec::with_capacity(alloc, clients as usize)?;
         let logs = Vec::with_capacity(alloc, objects.len())?;
-        let (table, founder) = open(alloc, objects, &plan)?;
-        make_all(&table, founder, room, &mut made, quota);
+        let mut owners = no_places(alloc, clients)?;
+        let lists = lists(alloc, &mut owners)?;
+        let (table, founder) = open(alloc, objects, lists, &plan)?;
+        make_all(&table, founder, room, owners, &mut made, quota);
         let Plan { kinds, .. } = plan;
         let desk = Desk {
             table,

@@ -1,11 +1,11 @@
 //! Serving the rows of an object that is held.
 
-ghost use Rattle.std.specs.Prelude.{◌≡◌, ◌+◌, ◌-◌, ◌^◌, ◌<◌, ◌++◌, ◌↔◌, min, map, IsTrue, IsSome};
+ghost use Rattle.std.specs.Prelude.{◌≡◌, ◌+◌, ◌-◌, ◌^◌, ◌<◌, ◌++◌, ◌↔◌, length, min, map, vec_len, vec_capacity, IsTrue, IsSome};
 ghost use Rattle.model.specs.Objects.{next};
 ghost use Rattle.world.specs.World.{logged, Serves};
 ghost use Rattle.world.specs.Images.{request_in, answer_in, entry_in};
 ghost use Rattle.desk_rule.specs.Views.{learnt, seen_of};
-ghost use Rattle.publication.specs.Calls.{Got, NotGot, CanDo, kind_held, Answered, IsPutBack, desk_after_pick, passes_after_pick, IfGot, IfNot};
+ghost use Rattle.publication.specs.Calls.{Got, NotGot, CanDo, kind_held, Answered, IsPutBack, desk_after_pick, state_after_pick, IfGot, IfNot};
 
 use crate::client::{Client, Hand, Pass};
 use crate::desk::{ANSWERED, Desk, PICKED, POSTED, Picked, ROWS};
@@ -30,7 +30,7 @@ impl<S: SeqObject> Pass<S> {
         requires desk { self.desk ≡ desk.now.id }
         requires row { row < 32 }
         ensures desk { desk_after_pick result ≡ self.desk }
-        ensures passes { passes_after_pick result ≡ self.passes }
+        ensures state { state_after_pick result ≡ self.state }
         ensures got { IfGot result (Got self row) }
         ensures missed { IfNot result (NotGot self row) }
     {
@@ -64,8 +64,8 @@ impl<S: SeqObject> Pass<S> {
 
     /// One more pass over the object: its number, which stays at the greatest once it is there.
     pub fn count_pass(&mut self) -> u64
-        ensures counted { self.new ≡ record self.old { passes = result } }
-        ensures raised { result ≡ min (self.old.passes + 1) (2 ^ 64 - 1) }
+        ensures counted { self.new ≡ record self.old { state = record self.old.state { passes = result } } }
+        ensures raised { result ≡ min (self.old.state.passes + 1) (2 ^ 64 - 1) }
     {
         self.core.passes = self.core.passes.saturating_add(1);
         self.core.passes
@@ -75,6 +75,7 @@ impl<S: SeqObject> Pass<S> {
     pub fn release(self, desk: &Desk<S>) -> Client<S>
         requires { self.desk ≡ desk.now.id }
         ensures desk { result.desk ≡ self.desk }
+        ensures tries { result.tries ≡ self.state.tries }
         // The client has seen the log.
         ensures learnt { result.knows ≡ learnt self.object self.log self.knows }
         ensures seen { seen_of result.knows self.object ≡ self.log }
@@ -113,7 +114,9 @@ impl<S: SeqObject> Hand<S> {
         requires desk { self.desk ≡ desk.now.id }
         requires possible { CanDo (kind_held self) self.log self.request.op }
         ensures desk { result.0.desk ≡ self.desk }
-        ensures passes { result.0.passes ≡ self.passes }
+        ensures state { result.0.state ≡ record self.state { room = result.0.state.room } }
+        // An entry takes room for one, where there was room.
+        ensures room { 0 < self.state.room → result.0.state.room + length (logged self.row self.request (answer_in S.reply_in result.1)) ≡ self.state.room }
         ensures answered { Answered self (answer_in S.reply_in result.1) result.0 }
     {
         let Hand {
@@ -143,7 +146,7 @@ impl<S: SeqObject> Hand<S> {
         requires desk { self.desk ≡ desk.now.id }
         requires impossible { CanDo (kind_held self) self.log self.request.op → ⊥ }
         ensures desk { result.desk ≡ self.desk }
-        ensures passes { result.passes ≡ self.passes }
+        ensures state { result.state ≡ self.state }
         ensures put_back { IsPutBack self result }
     {
         let Hand {
@@ -173,15 +176,12 @@ fn serve<S: SeqObject>(
 ) -> Answer<S::Reply>
     requires { IsSome (next (S.content core.old.object) (S.op_in request.now.op)) }
     ensures log { map (entry_in S.op_in S.reply_in) core.new.log.items ≡ map (entry_in S.op_in S.reply_in) core.old.log.items ++ logged row (request_in S.op_in request.now) (answer_in S.reply_in result) }
-    ensures passes { core.new.passes ≡ core.old.passes }
+    ensures state { (core.new.passes ≡ core.old.passes) × (core.new.list ≡ core.old.list) × (core.new.ages ≡ core.old.ages) }
+    ensures room { vec_len core.old.log < vec_capacity core.old.log → vec_capacity core.new.log ≡ vec_capacity core.old.log }
     ensures content { Serves (S.content core.old.object) (S.op_in request.now.op) (answer_in S.reply_in result) (S.content core.new.object) }
 {
-    let Core {
-        object,
-        log,
-        passes: _,
-    } = core;
-    if log.reserve(1).is_err() {
+    let Core { object, log, .. } = core;
+    if log.len() == log.capacity() && log.reserve(1).is_err() {
         return Answer::Refused;
     }
     match object.apply(&request.op) {

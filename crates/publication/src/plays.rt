@@ -116,6 +116,27 @@ impl<S: SeqObject> Play<Slot<S, S::Op, S::Reply>, View> for SeesEnd {
     ghost then = { sees_end S.content S.op_in S.reply_in };
 }
 
+/// The end of a client, for another.
+pub(crate) struct BidsFarewell;
+
+impl Split<View> for BidsFarewell {
+    ghost use Rattle.desk_rule.specs.Views.{farewell};
+
+    ghost left = { λ v. v };
+
+    ghost right = { farewell };
+}
+
+pub(crate) struct IsTold;
+
+impl Join<View> for IsTold {
+    ghost use Rattle.desk_rule.specs.Views.{told_of, silent};
+
+    ghost both = { λ v t. told_of t.left v };
+
+    ghost spent = { silent };
+}
+
 /// A client more.
 pub(crate) struct Makes;
 

@@ -3,3 +3,4 @@ pub mod RuleKept
 pub mod PlaceSteps
 pub mod WalkerSteps
 pub mod RosterMaking
+pub mod Dealt

@@ -59,9 +59,9 @@ look_keeps_rule slots id c t cs s k deep at small =
       keeps,
       tt,
       same_words_keep_rule s k (33 + c) id (view.Place c own.Asleep t) cs (ok.0, ok.1, asleep'),
-      λ d p ts is. ((λ _. ap (λ (z : View). (view.Place (number_of z) own.Asleep (tries_of z), cs)) is), λ ne. absurd (ne zero)),
+      λ d p ts is _. ((λ _. ap (λ (z : View). (view.Place (number_of z) own.Asleep (tries_of z), cs)) is), λ ne. absurd (ne zero)),
     ))
-    (λ ne. (over Already me, keeps, tt, same_words_keep_rule s k (33 + c) id (over Already me) cs ok, λ d p ts is. ((λ e. absurd (ne e)), λ _. ap (λ (z : View). (over Already z, cs)) is)))
+    (λ ne. (over Already me, keeps, tt, same_words_keep_rule s k (33 + c) id (over Already me) cs ok, λ d p ts is _. ((λ e. absurd (ne e)), λ _. ap (λ (z : View). (over Already z, cs)) is)))
 
 pub wake_keeps_rule : (slots id c : ℕ) (t : List Enlist) (cs : List (ℕ × ℕ)) → Allows Holds slots id (view.Place c own.Asleep t, cs) (33 + c) (λ _. 1) (λ _. play.wakes (step slots (33 + c) 1 0 maybe.none) (view.Place c own.Asleep t, cs) 1)
 wake_keeps_rule slots id c t cs s k deep at small =
@@ -79,13 +79,13 @@ wake_keeps_rule slots id c t cs s k deep at small =
       kept_after s k id (view.Place c (own.Awake n) t) record {
         list = with_stage w c (awake n) w.rows;
         same = refl;
-        sound = stage_keeps_sound w c (awake n) not_listed k.sound;
+        sound = stage_keeps_sound w c (awake n) not_listed (λ e. absurd (cc)) k.sound;
         tied = mark_keeps_tied w c 1 (awake n) s.words (omega arith) refl (λ m e. cc) k.sound k.tied;
         unmade = unmade_stay_asleep w c (awake n) low k.unmade;
-        others = λ j u other. place_step_keeps_others w c (awake n) w.rows [] not_unlinked refl j u (λ e. other (e ∙ sym ok.0));
+        others = λ j u other. place_step_keeps_others w c (awake n) w.rows [] not_unlinked (λ e. absurd (cc)) refl j u (λ e. other (e ∙ sym ok.0));
         own = (ok.0, ok.1, changed_here w.stage c (awake n));
       },
-      λ d p ts is. (n, ap (λ (z : View). (view.Place (number_of z) (own.Awake n) (tries_of z), cs)) is),
+      λ d p ts is _. (n, ap (λ (z : View). (view.Place (number_of z) (own.Awake n) (tries_of z), cs)) is),
     )
 
 pub link_keeps_rule : (slots id c m n : ℕ) (t : List Enlist) (cs : List (ℕ × ℕ)) → Allows Holds slots id (view.Place c (own.Awake m) t, cs) (1 + c) (λ _. n) (λ _. play.links (step slots (1 + c) n 0 maybe.none) (view.Place c (own.Awake m) t, cs) n)
@@ -103,13 +103,13 @@ link_keeps_rule slots id c m n t cs s k deep at small =
       kept_after s k id (view.Place c (own.Awake n) t) record {
         list = with_stage w c (awake n) w.rows;
         same = refl;
-        sound = stage_keeps_sound w c (awake n) not_listed k.sound;
+        sound = stage_keeps_sound w c (awake n) not_listed (λ e. absurd (cc)) k.sound;
         tied = link_keeps_tied w c n m s.words (omega arith) was k.sound k.tied;
         unmade = unmade_stay_asleep w c (awake n) low k.unmade;
-        others = λ j u other. place_step_keeps_others w c (awake n) w.rows [] not_unlinked refl j u (λ e. other (e ∙ sym ok.0));
+        others = λ j u other. place_step_keeps_others w c (awake n) w.rows [] not_unlinked (λ e. absurd (cc)) refl j u (λ e. other (e ∙ sym ok.0));
         own = (ok.0, ok.1, changed_here w.stage c (awake n));
       },
-      λ d p ts is. ap (λ (z : View). (view.Place (number_of z) (own.Awake n) (tries_of z), cs)) is,
+      λ d p ts is _. ap (λ (z : View). (view.Place (number_of z) (own.Awake n) (tries_of z), cs)) is,
     )
 
 pub enlist_keeps_rule : (slots id c m : ℕ) (t : List Enlist) (cs : List (ℕ × ℕ)) → Allows Holds slots id (view.Place c (own.Awake m) t, cs) 0 (λ f. either (eqb f m) (1 + c) f) (play.enlists (step slots 0 m (1 + c) maybe.none) (view.Place c (own.Awake m) t, cs))
@@ -133,17 +133,17 @@ enlist_keeps_rule slots id c m t cs s k deep at small =
         sound = enlist_keeps_sound w c m low was k.sound;
         tied = enlist_keeps_tied w c m s.words (omega arith) was hit k.sound k.tied;
         unmade = unmade_stay_asleep w c listed low k.unmade;
-        others = λ j u other. place_step_keeps_others w c listed (c ∷ w.rows) (c ∷ []) not_unlinked refl j u (λ e. other (e ∙ sym ok.0));
+        others = λ j u other. place_step_keeps_others w c listed (c ∷ w.rows) (c ∷ []) not_unlinked (λ e. absurd (cc)) refl j u (λ e. other (e ∙ sym ok.0));
         own = (ok.0, ok.1, inr (inl (changed_here w.stage c listed)));
       }),
-      λ d p ts is. ((λ _. ap (λ (z : View). (view.Place (number_of z) own.Unknown (tries_of z ++ Listed ∷ []), cs)) is), λ ne. absurd (ne hit)),
+      λ d p ts is _. ((λ _. ap (λ (z : View). (view.Place (number_of z) own.Unknown (tries_of z ++ Listed ∷ []), cs)) is), λ ne. absurd (ne hit)),
     ))
     (λ miss. (
       over Missed me,
       keeps,
       tt,
       subst (λ z. Kept (stepped s 0 (either z (1 + c) found) id cs (over Missed me) keeps)) (sym (ne_eqb found m miss)) (same_words_keep_rule s k 0 id (over Missed me) cs ok),
-      λ d p ts is. ((λ e. absurd (miss e)), λ _. ap (λ (z : View). (over Missed z, cs)) is),
+      λ d p ts is _. ((λ e. absurd (miss e)), λ _. ap (λ (z : View). (over Missed z, cs)) is),
     ))
 
 -- ---- the same, of what a place has in its hands
@@ -162,13 +162,13 @@ look_allowed slots id c t m p = subst (λ z. Allows Holds slots id z (33 + c) (�
 
 -- the mark was not set
 pub look_found_asleep : (c found : ℕ) (t : List Enlist) (m m' : Hands) → IsPlace c false t m → play.looks (step 0 (33 + c) 0 0 maybe.none) m found m' → found ≡ 0 → m' ≡ on c own.Asleep t
-look_found_asleep c found t m m' p h e = let is = at_rest c t m p in (h c own.Unknown t (ap (λ z. z.0) is)).0 e ∙ ap (λ z. (view.Place c own.Asleep t, z.1)) is
+look_found_asleep c found t m m' p h e = let is = at_rest c t m p in (h c own.Unknown t (ap (λ z. z.0) is) refl).0 e ∙ ap (λ z. (view.Place c own.Asleep t, z.1)) is
 
 pub wake_allowed : (slots id c : ℕ) (t : List Enlist) (m : Hands) → m ≡ on c own.Asleep t → Allows Holds slots id m (33 + c) (λ _. 1) (λ _. play.wakes (step slots (33 + c) 1 0 maybe.none) m 1)
 wake_allowed slots id c t m e = subst (λ z. Allows Holds slots id z (33 + c) (λ _. 1) (λ _. play.wakes (step slots (33 + c) 1 0 maybe.none) z 1)) (sym e) (wake_keeps_rule slots id c t [])
 
 pub wake_leaves_awake : (c : ℕ) (t : List Enlist) (m m' : Hands) → c < 32 → m ≡ on c own.Asleep t → play.wakes (step 0 (33 + c) 1 0 maybe.none) m 1 m' → IsPlace c true t m'
-wake_leaves_awake c t m m' low is h = let a = h c own.Asleep t (ap (λ z. z.0) is) in (low, (own.Awake a.0, a.1 ∙ ap (λ z. (view.Place c (own.Awake a.0) t, z.1)) is, (a.0, refl)))
+wake_leaves_awake c t m m' low is h = let a = h c own.Asleep t (ap (λ z. z.0) is) refl in (low, (own.Awake a.0, a.1 ∙ ap (λ z. (view.Place c (own.Awake a.0) t, z.1)) is, (a.0, refl)))
 
 pub see_allowed : (slots id c : ℕ) (t : List Enlist) (m : Hands) → IsPlace c true t m → Allows Holds slots id m 0 (λ f. f) (play.sees (step slots 0 0 0 maybe.none) m)
 see_allowed slots id c t m p = let a = trying c t m p in subst (λ z. Allows Holds slots id z 0 (λ f. f) (play.sees (step slots 0 0 0 maybe.none) z)) (sym a.1) (see_keeps_rule slots id 0 c (own.Awake a.0) t [])
@@ -177,10 +177,10 @@ pub link_allowed : (slots id c n : ℕ) (t : List Enlist) (m : Hands) → IsPlac
 link_allowed slots id c n t m p = let a = trying c t m p in subst (λ z. Allows Holds slots id z (1 + c) (λ _. n) (λ _. play.links (step slots (1 + c) n 0 maybe.none) z n)) (sym a.1) (link_keeps_rule slots id c a.0 n t [])
 
 pub link_leaves_linked : (c n : ℕ) (t : List Enlist) (m m' : Hands) → IsPlace c true t m → play.links (step 0 (1 + c) n 0 maybe.none) m n m' → m' ≡ on c (own.Awake n) t
-link_leaves_linked c n t m m' p h = let a = trying c t m p in h c (own.Awake a.0) t (ap (λ z. z.0) a.1) ∙ ap (λ z. (view.Place c (own.Awake n) t, z.1)) a.1
+link_leaves_linked c n t m m' p h = let a = trying c t m p in h c (own.Awake a.0) t (ap (λ z. z.0) a.1) refl ∙ ap (λ z. (view.Place c (own.Awake n) t, z.1)) a.1
 
 pub enlist_allowed : (slots id c n : ℕ) (t : List Enlist) (m : Hands) → m ≡ on c (own.Awake n) t → Allows Holds slots id m 0 (λ f. either (eqb f n) (1 + c) f) (play.enlists (step slots 0 n (1 + c) maybe.none) m)
 enlist_allowed slots id c n t m e = subst (λ z. Allows Holds slots id z 0 (λ f. either (eqb f n) (1 + c) f) (play.enlists (step slots 0 n (1 + c) maybe.none) z)) (sym e) (enlist_keeps_rule slots id c n t [])
 
 pub enlist_leaves_missed : (c n found : ℕ) (t : List Enlist) (m m' : Hands) → c < 32 → m ≡ on c (own.Awake n) t → play.enlists (step 0 0 n (1 + c) maybe.none) m found m' → found ≢ n → IsPlace c true (t ++ Missed ∷ []) m'
-enlist_leaves_missed c n found t m m' low is h e = (low, (own.Awake n, (h c (own.Awake n) t (ap (λ z. z.0) is)).1 e ∙ ap (λ z. (view.Place c (own.Awake n) (t ++ Missed ∷ []), z.1)) is, (n, refl)))
+enlist_leaves_missed c n found t m m' low is h e = (low, (own.Awake n, (h c (own.Awake n) t (ap (λ z. z.0) is) refl).1 e ∙ ap (λ z. (view.Place c (own.Awake n) (t ++ Missed ∷ []), z.1)) is, (n, refl)))

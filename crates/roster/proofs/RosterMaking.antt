@@ -34,17 +34,17 @@ founder = view.Walker 0 [] None []
 pub opening_keeps_rule : (words : List ℕ) → length words ≡ 65 → ((i : ℕ) → get_or words i 0 ≡ 0) → Holds (opening words [] founder)
 opening_keeps_rule words wide zeros = record {
   list = empty_list;
-  sound = record { few = omega arith; low = λ k l. absurd (omega arith); distinct = λ i j l m e. absurd (omega arith); listed = λ k l. absurd (omega arith) };
+  sound = record { few = omega arith; low = λ k l. absurd (omega arith); distinct = λ i j l m e. absurd (omega arith); listed = λ k l. absurd (omega arith); stands = λ r e. absurd (cc) };
   tied = record { wide = wide; head = zeros 0; nexts = λ k l. absurd (omega arith); links = λ r n l e. absurd (cc); marks = λ r l. zeros (33 + r) };
   count = refl;
   unmade = λ r l. refl;
   seats = λ j v e. ⊎_elim (λ (t : get_elem? [] j ≡ some v). absurd (some-ne-none v (sym t)))
-      (λ (t : (j ≡ 0) × (founder ≡ v)). subst (λ z. ViewOk empty_list j z) t.1 (t.0, refl, ([], refl), tt)) (at_end [] founder v j e);
+      (λ (t : (j ≡ 0) × (founder ≡ v)). subst (λ z. ViewOk empty_list j z) t.1 (t.0, refl, ([], refl), λ q e. absurd (cc))) (at_end [] founder v j e);
 }
 
 out_later : (w : PublicationList) (o : Option ℕ) → TakenOutOk w o → TakenOutOk (record w { made = w.made + 1 }) o
 out_later w None ok = ok
-out_later w (Some r) ok = let low = ok.0 in (omega arith, ok.1)
+out_later w (Some r) ok = let low = ok.0 in (omega arith, ok.1, ok.2)
 
 -- what is known stays true where a place more was made
 later : (w : PublicationList) (j : ℕ) (u : View) → j ≢ 0 → ViewOk w j u → ViewOk (record w { made = w.made + 1 }) j u
@@ -62,7 +62,7 @@ split_keeps_rule id made left out walks low s k at =
     let count = k.count in
     let long = length-set s.views id l in record {
       list = w';
-      sound = record { few = omega arith; low = λ i h. let z = k.sound.low i h in omega arith; distinct = k.sound.distinct; listed = k.sound.listed };
+      sound = record { few = omega arith; low = λ i h. let z = k.sound.low i h in omega arith; distinct = k.sound.distinct; listed = k.sound.listed; stands = k.sound.stands };
       tied = record { wide = k.tied.wide; head = k.tied.head; nexts = k.tied.nexts; links = k.tied.links; marks = k.tied.marks };
       count = let both = length-append (set s.views id l) (new ∷ []) in omega arith;
       unmade = λ r h. k.unmade r (omega arith);

@@ -1,5 +1,5 @@
 -- Lists of rows: the words that lead from place to place, and a place taken out.
-use Rattle.std.proofs.Common.{◌≡◌, ◌≢◌, ◌⊎◌, ℕ, zero, suc, ◌+◌, ◌<◌, ◌≤◌, List, [], ◌∷◌, ◌++◌, length, get_or, remove, length-append, refl, sym, ap, ◌∙◌, subst, inl, inr, ⊎_elim, eq-eqb, ne_eqb, cond, lt_of_not-le, arith}
+use Rattle.std.proofs.Common.{◌≡◌, ◌≢◌, ◌⊎◌, ℕ, zero, suc, ◌+◌, ◌-◌, ◌<◌, ◌≤◌, List, [], ◌∷◌, ◌++◌, length, get_or, remove, length-append, refl, sym, ap, ◌∙◌, subst, inl, inr, ⊎_elim, eq-eqb, ne_eqb, cond, lt_of_not-le, arith}
 use mathlib.Core.Logic.{dite}
 use native.Mathlib.Decide.{dec_le, ℕ_discrete}
 use Rattle.std.proofs.lemmas.List.{get_or-append-add}
@@ -46,6 +46,12 @@ pub was_at : (l : List ℕ) (i k : ℕ) → i < length l → k < length (remove 
 was_at l i k inside low = let long = length-remove l i inside in dite (dec_le i k)
     (λ above. (k + 1, omega arith, get_or-remove_above l i 0 k above inside, inr (above, refl)))
     (λ n. let below = lt_of_not-le n in (k, omega arith, get_or-remove_below l i 0 k below inside, inl (below, refl)))
+
+-- where a place of the longer list is then
+pub is_at : (l : List ℕ) (i j : ℕ) → i < length l → j < length l → j ≢ i → (k : ℕ) × (k < length (remove l i)) × (get_or (remove l i) k 0 ≡ get_or l j 0)
+is_at l i j inside low other = let long = length-remove l i inside in dite (dec_le i j)
+    (λ above. (j - 1, omega arith, get_or-remove_above l i 0 (j - 1) (omega arith) inside ∙ ap (λ z. get_or l z 0) (omega arith)))
+    (λ n. let below = lt_of_not-le n in (j, omega arith, get_or-remove_below l i 0 j below inside))
 
 pub word_at-remove_below : (l : List ℕ) (i k : ℕ) → i < length l → k < i → word_at (remove l i) k ≡ word_at l k
 word_at-remove_below l i k inside low = let long = length-remove l i inside in

@@ -12,33 +12,43 @@ use Rattle.roster.specs.declared.board.View.{View}
 use Rattle.roster.specs.declared.board.View.TheVariants as view
 use Rattle.roster.specs.PublicationList.{Stage, asleep, awake, listed, unlinked, PublicationList, changed, word_at, mark_of}
 use Rattle.roster.specs.Rule.{OwnOk, TakenOutOk, ViewOk, Sound, Tied, Kept}
-use Rattle.roster.proofs.Rows.{changed_here, changed_else, changed_all, was_at, word_at-remove_below, word_at-remove_above, distinct_remove, distinct_more, gone}
+use Rattle.roster.proofs.Rows.{changed_here, changed_else, changed_all, was_at, is_at, word_at-remove_below, word_at-remove_above, distinct_remove, distinct_more, gone}
+
+-- the row r stands in the list
+abbrev Stands : List ℕ → ℕ → Type 0
+Stands rows r = (k : ℕ) × (k < length rows) × (get_or rows k 0 ≡ r)
 
 -- the list with the row r at the stage t, and these rows listed
 abbrev pub with_stage : PublicationList → ℕ → Stage → List ℕ → PublicationList
 with_stage w r t rows = record { made = w.made; rows = rows; stage = changed w.stage r t }
 
-out_stays : (w : PublicationList) (r : ℕ) (t : Stage) (rows : List ℕ) (o : Option ℕ) → w.stage r ≢ unlinked → TakenOutOk w o → TakenOutOk (with_stage w r t rows) o
-out_stays w r t rows None not ok = ok
-out_stays w r t rows (Some q) not ok = (ok.0, changed_else w.stage r t q (λ e. not (ap w.stage (sym e) ∙ ok.1)) ∙ ok.1)
+-- what was taken out, where another row goes to a stage that is not that
+out_stays : (w : PublicationList) (r : ℕ) (t : Stage) (rows : List ℕ) (o : Option ℕ) → w.stage r ≢ unlinked → t ≢ unlinked → TakenOutOk w o → TakenOutOk (with_stage w r t rows) o
+out_stays w r t rows None not new ok = changed_all (λ q z. z ≢ unlinked) w.stage r t new (λ q _. ok q)
+out_stays w r t rows (Some p) not new ok = (
+  ok.0,
+  changed_else w.stage r t p (λ e. not (ap w.stage (sym e) ∙ ok.1)) ∙ ok.1,
+  changed_all (λ q z. z ≡ unlinked → q ≡ p) w.stage r t (λ e. absurd (new e)) (λ q _. ok.2 q),
+)
 
 -- what the others know stays true after a step of the owner of c, by which the list may have grown in front
-pub place_step_keeps_others : (w : PublicationList) (c : ℕ) (t : Stage) (rows pre : List ℕ) → w.stage c ≢ unlinked → rows ≡ pre ++ w.rows → (j : ℕ) (u : View) → j ≢ 1 + c → ViewOk w j u → ViewOk (with_stage w c t rows) j u
-place_step_keeps_others w c t rows pre not grown j (view.Walker made left out walks) other ok = (ok.0, ok.1, (pre ++ ok.2.0, grown ∙ (ap (λ z. pre ++ z) ok.2.1 ∙ sym (append_assoc pre ok.2.0 left))), out_stays w c t rows out not ok.3)
-place_step_keeps_others w c t rows pre not grown j (view.Place d o ts) other ok = (ok.0, ok.1, subst (OwnOk o) (sym (changed_else w.stage c t d (λ e. other (ok.0 ∙ ap (λ z. 1 + z) e)))) ok.2)
+pub place_step_keeps_others : (w : PublicationList) (c : ℕ) (t : Stage) (rows pre : List ℕ) → w.stage c ≢ unlinked → t ≢ unlinked → rows ≡ pre ++ w.rows → (j : ℕ) (u : View) → j ≢ 1 + c → ViewOk w j u → ViewOk (with_stage w c t rows) j u
+place_step_keeps_others w c t rows pre not new grown j (view.Walker made left out walks) other ok = (ok.0, ok.1, (pre ++ ok.2.0, grown ∙ (ap (λ z. pre ++ z) ok.2.1 ∙ sym (append_assoc pre ok.2.0 left))), out_stays w c t rows out not new ok.3)
+place_step_keeps_others w c t rows pre not new grown j (view.Place d o ts) other ok = (ok.0, ok.1, subst (OwnOk o) (sym (changed_else w.stage c t d (λ e. other (ok.0 ∙ ap (λ z. 1 + z) e)))) ok.2)
 
 -- what the owners know stays true after a step of the walker
 pub walker_step_keeps_others : (w : PublicationList) (r : ℕ) (t : Stage) (rows : List ℕ) → ((o : Own) → OwnOk o (w.stage r) → OwnOk o t) → (j : ℕ) (u : View) → j ≢ 0 → ViewOk w j u → ViewOk (with_stage w r t rows) j u
 walker_step_keeps_others w r t rows follows j (view.Walker made left out walks) other ok = absurd (other ok.0)
 walker_step_keeps_others w r t rows follows j (view.Place d o ts) other ok = (ok.0, ok.1, changed_all (λ q s. OwnOk o (w.stage q) → OwnOk o s) w.stage r t (follows o) (λ q _ k. k) d ok.2)
 
--- a row that is not listed goes to another stage
-pub stage_keeps_sound : (w : PublicationList) (r : ℕ) (t : Stage) → w.stage r ≢ listed → Sound w → Sound (with_stage w r t w.rows)
-stage_keeps_sound w r t not k = record {
+-- a row that is not listed goes to another such stage
+pub stage_keeps_sound : (w : PublicationList) (r : ℕ) (t : Stage) → w.stage r ≢ listed → t ≢ listed → Sound w → Sound (with_stage w r t w.rows)
+stage_keeps_sound w r t not new k = record {
   few = k.few;
   low = k.low;
   distinct = k.distinct;
   listed = λ i l. changed_else w.stage r t (get_or w.rows i 0) (λ e. not (ap w.stage (sym e) ∙ k.listed i l)) ∙ k.listed i l;
+  stands = changed_all (λ q z. z ≡ listed → Stands w.rows q) w.stage r t (λ e. absurd (new e)) (λ q _. k.stands q);
 }
 
 -- the mark of a row that is not listed changes
@@ -75,6 +85,8 @@ enlist_keeps_sound w r n low was k = record {
   low = λ i l. low_there i l;
   distinct = distinct_more r w.rows apart k.distinct;
   listed = λ i l. listed_there i l;
+  stands = changed_all (λ q z. z ≡ listed → Stands (r ∷ w.rows) q) w.stage r listed
+      (λ _. (0, omega arith, refl)) (λ q _ e. let a = k.stands q e in let l = a.1 in (suc a.0, omega arith, a.2));
 }
   where
     apart : (i : ℕ) → i < length w.rows → get_or w.rows i 0 ≢ r
@@ -111,6 +123,8 @@ unlink_keeps_sound w p inside k = record {
   distinct = distinct_remove w.rows p inside k.distinct;
   listed = λ i l. let a = was_at w.rows p i inside l in
       changed_else w.stage (get_or w.rows p 0) unlinked (get_or (remove w.rows p) i 0) (gone w.rows p i inside k.distinct l) ∙ (ap w.stage a.2 ∙ k.listed a.0 a.1);
+  stands = changed_all (λ q z. z ≡ listed → Stands (remove w.rows p) q) w.stage (get_or w.rows p 0) unlinked
+      (λ e. absurd (cc)) (λ q other e. let a = k.stands q e in let b = is_at w.rows p a.0 inside a.1 (λ same. other (sym a.2 ∙ ap (λ z. get_or w.rows z 0) same)) in (b.0, b.1, b.2 ∙ a.2));
 }
 
 pub unlink_keeps_tied : (w : PublicationList) (p n : ℕ) (words : List ℕ) → suc p < length w.rows → n ≡ word_at w.rows (suc (suc p)) → Sound w → Tied w words

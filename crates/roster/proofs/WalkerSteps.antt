@@ -16,7 +16,7 @@ use Rattle.roster.specs.PublicationList.{Stage, asleep, listed, unlinked, Public
 use Rattle.roster.specs.Rule.{OwnOk, TakenOutOk, Tied, Kept}
 use Rattle.roster.specs.Inside.{left_of, made_of, walks_of, HasMet, Meeting}
 use Rattle.roster.specs.Plays as play
-use Rattle.roster.proofs.Rows.{changed_here, word_at_in, word_at_past, word_at_append, remove_append, was_at, distinct_right, few_below}
+use Rattle.roster.proofs.Rows.{changed_here, changed_all, word_at_in, word_at_past, word_at_append, remove_append, was_at, distinct_right, few_below}
 use Rattle.roster.proofs.RuleKept.{with_stage, walker_step_keeps_others, stage_keeps_sound, mark_keeps_tied, unlink_keeps_sound, unlink_keeps_tied, St, kept_after, same_words_keep_rule, unmade_stay_asleep}
 
 abbrev Holds : St → Type 0
@@ -44,7 +44,7 @@ meet_keeps_rule slots id made left out walks cs s k deep at small =
       keeps,
       tt,
       same_words_keep_rule s k 0 id (view.Walker made w.rows out (walks ++ w.rows ∷ [])) cs (ok.0, ok.1, ([], refl), ok.3),
-      λ made' left' out' walks' is. let m : made ≡ made' = ap made_of is in let m' : made ≡ w.made = ok.1 in (
+      λ made' left' out' walks' is _. let m : made ≡ made' = ap made_of is in let m' : made ≡ w.made = ok.1 in (
         w.rows,
         ap (λ (z : View). (view.Walker (made_of z) w.rows (out_of z) (walks_of z ++ w.rows ∷ []), cs)) is,
         k.tied.head,
@@ -94,11 +94,11 @@ put_to_sleep t is own.Unknown ok = inl refl
 put_to_sleep t is own.Asleep ok = refl
 put_to_sleep t is (own.Awake n) ok = let g = sym is ∙ ok in absurd (cc)
 
-pub unlink_keeps_rule : (slots id i n p made : ℕ) (left : List ℕ) (out : Option ℕ) (walks : List (List ℕ)) (cs : List (ℕ × ℕ)) → suc p < length left → i ≡ 1 + get_or left p 0 → n ≡ word_at left (suc (suc p))
-    → Allows Holds slots id (view.Walker made left out walks, cs) i (λ _. n) (λ _. play.unlinks (step slots i n 0 maybe.none) (view.Walker made left out walks, cs) n)
-unlink_keeps_rule slots id i n p made left out walks cs low word next s k deep at small =
+pub unlink_keeps_rule : (slots id i n p made : ℕ) (left : List ℕ) (walks : List (List ℕ)) (cs : List (ℕ × ℕ)) → suc p < length left → i ≡ 1 + get_or left p 0 → n ≡ word_at left (suc (suc p))
+    → Allows Holds slots id (view.Walker made left None walks, cs) i (λ _. n) (λ _. play.unlinks (step slots i n 0 maybe.none) (view.Walker made left None walks, cs) n)
+unlink_keeps_rule slots id i n p made left walks cs low word next s k deep at small =
     let w : PublicationList = k.list in
-    let ok = known s k id made left out walks at in
+    let ok = known s k id made left None walks at in
     let pre : List ℕ = ok.2.0 in
     let e = ok.2.1 in
     let P : ℕ = length pre + p in
@@ -127,7 +127,8 @@ unlink_keeps_rule slots id i n p made left out walks cs low word next s k deep a
           ok.0,
           ok.1,
           (pre, ap (λ z. remove z Q) e ∙ remove_append pre left (suc p) Q Q_is),
-          subst (λ z. (z < w.made) × (w'.stage z ≡ unlinked)) at_q (r_low, changed_here w.stage r unlinked),
+          subst (λ z. (z < w.made) × (w'.stage z ≡ unlinked) × ((q : ℕ) → w'.stage q ≡ unlinked → q ≡ z)) at_q
+              (r_low, changed_here w.stage r unlinked, changed_all (λ q z. z ≡ unlinked → q ≡ r) w.stage r unlinked (λ _. refl) (λ q _ e. absurd (ok.3 q e))),
         );
       },
       λ made' left' out' walks' q is q_low q_word. let same : left ≡ left' = ap left_of is in let q_low' : suc q < length left = subst (λ z. suc q < length z) (sym same) q_low in
@@ -152,13 +153,13 @@ sleep_keeps_rule slots id r made left walks cs s k deep at small =
       kept_after s k id v' record {
         list = with_stage w r asleep w.rows;
         same = refl;
-        sound = stage_keeps_sound w r asleep not_listed k.sound;
+        sound = stage_keeps_sound w r asleep not_listed (λ e. absurd (cc)) k.sound;
         tied = mark_keeps_tied w r 0 asleep s.words (omega arith) refl (λ m e. absurd (cc)) k.sound k.tied;
         unmade = unmade_stay_asleep w r asleep low k.unmade;
         others = λ j u other. walker_step_keeps_others w r asleep w.rows (put_to_sleep (w.stage r) was) j u (λ f. other (f ∙ sym ok.0));
-        own = (ok.0, ok.1, ok.2, tt);
+        own = (ok.0, ok.1, ok.2, changed_all (λ q z. z ≢ unlinked) w.stage r asleep (λ e. absurd (cc)) (λ q other e. other (ok.3.2 q e)));
       },
-      λ made' left' out' walks' is. ap (λ (z : View). (view.Walker (made_of z) (left_of z) None (walks_of z), cs)) is,
+      λ made' left' r' walks' is _. ap (λ (z : View). (view.Walker (made_of z) (left_of z) None (walks_of z), cs)) is,
     )
 
 -- ---- the same, of what a walker has in its hands
@@ -188,7 +189,7 @@ take_all (x ∷ xs) (suc n) h = ap (λ z. x ∷ z) (take_all xs n (omega arith))
 -- the walk begins at the head
 pub walk_begins : (found : ℕ) (left : List ℕ) (walks : List (List ℕ)) (m m' : Hands) → HasMet left walks m → play.meets (step 0 0 0 0 maybe.none) m found m' → Meeting left walks (made_of m.0) [] found m'
 walk_begins found left walks m m' p t =
-    let a = t (made_of m.0) left None walks (ap (λ z. z.0) p) in
+    let a = t (made_of m.0) left None walks (ap (λ z. z.0) p) refl in
     let is : m' ≡ (view.Walker (made_of m.0) a.0 None (walks ++ a.0 ∷ []), []) = a.1 ∙ ap (λ z. (view.Walker (made_of m.0) a.0 None (walks ++ a.0 ∷ []), z.1)) p in
     let rows : left_of m'.0 ≡ a.0 = ap (λ z. left_of z.0) is in record {
       met = is ∙ (λ i. (view.Walker (made_of (sym is i).0) (left_of (sym is i).0) None (walks ++ left_of (sym is i).0 ∷ []), []));
@@ -265,7 +266,7 @@ module _ (i n at made : ℕ) (left : List ℕ) (walks : List (List ℕ)) (m : Ha
       let e' : at - 1 ≡ p = omega arith in
       let e'' : at + 1 ≡ suc (suc p) = omega arith in
       subst (λ z. Allows Holds slots id z i (λ _. n) (λ _. play.unlinks (step slots i n 0 maybe.none) z n)) (sym is)
-      (unlink_keeps_rule slots id i n p made left None walks [] (omega arith) (word ∙ ap (λ z. 1 + get_or left z 0) e') (next ∙ ap (word_at left) e''))
+      (unlink_keeps_rule slots id i n p made left walks [] (omega arith) (word ∙ ap (λ z. 1 + get_or left z 0) e') (next ∙ ap (word_at left) e''))
 
   pub unlink_leaves : (m' : Hands) → play.unlinks (step 0 i n 0 maybe.none) m n m' → m' ≡ (view.Walker made (remove left at) (Some (get_or left at 0)) walks, [])
   unlink_leaves m' t =
@@ -285,7 +286,7 @@ module _ (r made : ℕ) (left : List ℕ) (walks : List (List ℕ)) (m : Hands) 
       (sleep_keeps_rule slots id r made left walks [])
 
   pub sleep_leaves : (m' : Hands) → play.sleeps (step 0 (33 + r) 0 0 maybe.none) m 0 m' → m' ≡ (view.Walker made left None walks, [])
-  sleep_leaves m' t = t made left (Some r) walks (ap (λ z. z.0) is) ∙ ap (λ z. (view.Walker made left None walks, z.1)) is
+  sleep_leaves m' t = t made left r walks (ap (λ z. z.0) is) refl ∙ ap (λ z. (view.Walker made left None walks, z.1)) is
 
 -- what stays where a row was taken out
 pub less_one : (n : ℕ) (l : List ℕ) (i : ℕ) → i < length l → length l ≤ n → ((k : ℕ) → k < length l → get_or l k 0 < n) → (length (remove l i) ≤ n) × ((k : ℕ) → k < length (remove l i) → get_or (remove l i) k 0 < n)

@@ -28,29 +28,29 @@ sees st m found m' = m' ≡ m
 
 -- The own mark was found: the row is asleep where it is 0, and else the try is over
 abbrev pub looks : Step ℕ → Hands → ℕ → Hands → Type 0
-looks st m found m' = (c : ℕ) (o : Own) (tries : List Enlist) → m.0 ≡ view.Place c o tries →
+looks st m found m' = (c : ℕ) (o : Own) (tries : List Enlist) → m.0 ≡ view.Place c o tries → st.word ≡ 33 + c →
     (found ≡ 0 → m' ≡ (view.Place c own.Asleep tries, m.1))
     × (found ≢ 0 → m' ≡ (view.Place c o (tries ++ Already ∷ []), m.1))
 
--- the row is awake, with some next word
+-- the own mark was set: the row is awake, with some next word
 abbrev pub wakes : Step ℕ → Hands → ℕ → Hands → Type 0
-wakes st m found m' = (c : ℕ) (o : Own) (tries : List Enlist) → m.0 ≡ view.Place c o tries →
+wakes st m found m' = (c : ℕ) (o : Own) (tries : List Enlist) → m.0 ≡ view.Place c o tries → st.word ≡ 33 + c →
     (n : ℕ) × (m' ≡ (view.Place c (own.Awake n) tries, m.1))
 
--- the row is awake, with this next word
+-- the own next word was set: the row is awake, with this next word
 abbrev pub links : Step ℕ → Hands → ℕ → Hands → Type 0
-links st m found m' = (c : ℕ) (o : Own) (tries : List Enlist) → m.0 ≡ view.Place c o tries →
+links st m found m' = (c : ℕ) (o : Own) (tries : List Enlist) → m.0 ≡ view.Place c o tries → st.word ≡ 1 + c →
     m' ≡ (view.Place c (own.Awake st.first) tries, m.1)
 
 -- the row is listed where the head was as expected, and else the try has missed
 abbrev pub enlists : Step ℕ → Hands → ℕ → Hands → Type 0
-enlists st m found m' = (c : ℕ) (o : Own) (tries : List Enlist) → m.0 ≡ view.Place c o tries →
+enlists st m found m' = (c : ℕ) (o : Own) (tries : List Enlist) → m.0 ≡ view.Place c o tries → st.word ≡ 0 →
     (found ≡ st.first → m' ≡ (view.Place c own.Unknown (tries ++ Listed ∷ []), m.1))
     × (found ≢ st.first → m' ≡ (view.Place c o (tries ++ Missed ∷ []), m.1))
 
 -- A walk begins, and this is the whole list as it is now: its head word was found
 abbrev pub meets : Step ℕ → Hands → ℕ → Hands → Type 0
-meets st m found m' = (made : ℕ) (left : List ℕ) (out : Option ℕ) (walks : List (List ℕ)) → m.0 ≡ view.Walker made left out walks →
+meets st m found m' = (made : ℕ) (left : List ℕ) (out : Option ℕ) (walks : List (List ℕ)) → m.0 ≡ view.Walker made left out walks → st.word ≡ 0 →
     (met : List ℕ) × (m' ≡ (view.Walker made met out (walks ++ met ∷ []), m.1)) × (found ≡ word_at met 0)
     × WalkMeets left met × ((k : ℕ) → k < length met → slice_index met k < made) × (length met ≤ made)
 
@@ -67,5 +67,5 @@ unlinks st m found m' = (made : ℕ) (left : List ℕ) (out : Option ℕ) (walks
 
 -- what was taken out is marked inactive
 abbrev pub sleeps : Step ℕ → Hands → ℕ → Hands → Type 0
-sleeps st m found m' = (made : ℕ) (left : List ℕ) (out : Option ℕ) (walks : List (List ℕ)) → m.0 ≡ view.Walker made left out walks →
+sleeps st m found m' = (made : ℕ) (left : List ℕ) (r : ℕ) (walks : List (List ℕ)) → m.0 ≡ view.Walker made left (Some r) walks → st.word ≡ 33 + r →
     m' ≡ (view.Walker made left None walks, m.1)

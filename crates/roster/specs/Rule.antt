@@ -1,6 +1,6 @@
 -- The rule of a roster's table: its words, and what each seat knows, are those of a sound publication list.
 -- Word 0 is the head; word 1 + r is the next word of row r, and word 33 + r its mark.
-use Rattle.std.specs.Prelude.{◌≡◌, ◌⊎◌, ℕ, suc, ◌+◌, ◌<◌, ◌≤◌, List, ◌++◌, length, slice_index, Option, Some, None}
+use Rattle.std.specs.Prelude.{◌≡◌, ◌≢◌, ◌⊎◌, ℕ, suc, ◌+◌, ◌<◌, ◌≤◌, List, ◌++◌, length, slice_index, Option, Some, None}
 use mathlib.Core.Option.{some}
 use lib.ListN.{get_elem?}
 use Rattle.atomic_table.specs.Table.{State}
@@ -16,10 +16,10 @@ OwnOk own.Unknown t = (t ≡ asleep) ⊎ ((t ≡ listed) ⊎ (t ≡ unlinked))
 OwnOk own.Asleep t = t ≡ asleep
 OwnOk (own.Awake n) t = t ≡ awake n
 
--- the row that the walker has taken out, and has not marked inactive yet
+-- the one row that the walker has taken out and has not marked inactive yet, or there is none
 abbrev pub TakenOutOk : PublicationList → Option ℕ → Type 0
-TakenOutOk l None = Unit {0}
-TakenOutOk l (Some r) = (r < l.made) × (l.stage r ≡ unlinked)
+TakenOutOk l None = (q : ℕ) → l.stage q ≢ unlinked
+TakenOutOk l (Some r) = (r < l.made) × (l.stage r ≡ unlinked) × ((q : ℕ) → l.stage q ≡ unlinked → q ≡ r)
 
 -- What the seat with this number knows: the walker's is the first, and that of row c the one after c others. The list
 -- ends with what the walker has left. Of tries and walks nothing is said.
@@ -33,6 +33,8 @@ pub record Sound (l : PublicationList) : Type 0 where
   pub few : l.made ≤ 32
   pub low : (k : ℕ) → k < length l.rows → slice_index l.rows k < l.made
   pub distinct : IsDistinct l.rows
+  -- a row stands in the list where its stage says so, and no other does
+  pub stands : (r : ℕ) → l.stage r ≡ listed → (k : ℕ) × (k < length l.rows) × (slice_index l.rows k ≡ r)
   pub listed : (k : ℕ) → k < length l.rows → l.stage (slice_index l.rows k) ≡ listed
 
 -- what the words have to do with the list

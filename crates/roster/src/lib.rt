@@ -8,11 +8,13 @@ mod board;
 mod place;
 mod plays;
 mod roster;
+mod shared;
 mod walker;
 
 pub use board::Enlist;
 pub use place::Place;
 pub use roster::Roster;
+pub use shared::{SharedPlace, SharedWalker};
 pub use walker::Walker;
 
 #[cfg(test)]

@@ -1,17 +1,9 @@
-use Rattle.std.proofs.Common.{subst, ◌∙◌}
-use Rattle.publication.specs.Calls.{Closed}
-use Rattle.publication.proofs.Leavings.{closed_same}
-use Rattle.publication.proofs.Endings.{looks_on}
+use Rattle.std.proofs.Common.{◌≢◌}
+use Rattle.std.proofs.lemmas.List.Elements.{All-contains}
+use Rattle.desk_rule.specs.declared.board.Leaving.{Leaving}
 use Rattle.clients.proofs.run.close.Goals as goal
 
-pub loop-preserved : goal.loop-preserved
-loop-preserved g c = let i = c.loop.invariant in let u = c.in-Err.ensures.unretired in (
-  tt,
-  tt,
-  u.0 ∙ i.2,
-  u.1 ∙ i.3,
-  looks_on c.loop.desk c.in-Err.unretired.client c.args.last c.loop.last c.in-Err.unretired.last i.4 u.1 u.2,
-)
-
-pub returns-in-Ok : goal.returns-in-Ok
-returns-in-Ok g c = let i = c.loop.invariant in closed_same (λ op. op) (λ reply. reply) c.args.desk c.args.last c.loop.last c.in-Ok.record i.4 (subst (λ d. Closed (λ op. op) (λ reply. reply) d c.loop.last c.in-Ok.record) i.2 c.in-Ok.ensures.closed)
+-- who is still there was not told of, and each other client was
+pub unreachable-requires : goal.unreachable-requires
+unreachable-requires c = let k = c.in-Err.ensures.unretired.3 in let t = c.requires.told c.in-Err.field-0.client k.client_low k.other in
+    All-contains (λ (l : Leaving). l.client ≢ c.in-Err.field-0.client) c.args.last.knows.left t.0 k.untold t.1 t.2

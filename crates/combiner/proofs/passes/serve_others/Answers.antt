@@ -5,15 +5,15 @@ use Rattle.combiner.proofs.Served.{goes_nowhere, goes_on}
 use Rattle.combiner.proofs.passes.serve_others.Goals as goal
 use Rattle.combiner.proofs.passes.serve_others.Goals.{then-row-own+then-eq, then-row-own+else-eq, else-row-own}
 
-pub loop-row-init : goal.loop-row-init
-loop-row-init g c = (goes_nowhere c.args.pass, omega arith)
+pub loop-at-init : goal.loop-at-init
+loop-at-init g c = (goes_nowhere c.args.pass, omega arith)
 
 goes_tried : (a p q r : Holding) → Goes a p → Goes p q → r ≡ q → Goes a r
 goes_tried a p q r before step is = subst (λ z. Goes a z) (sym is) (goes_on a p q before step)
 
-pub loop-row-preserved : goal.loop-row-preserved
-loop-row-preserved g c = let n = c.loop-row.invariant.1 in elim c.if-row-own.branch [
-  | then-row-own+then-eq w ↦ (goes_tried c.args.pass c.loop-row.pass w.try_row-after.result.0 c.if-row-own.pass c.loop-row.invariant.0 w.try_row-after.ensures.goes w.pass-is, (let i = w.count-is in omega arith))
-  | then-row-own+else-eq w ↦ (goes_tried c.args.pass c.loop-row.pass w.try_row-after.result.0 c.if-row-own.pass c.loop-row.invariant.0 w.try_row-after.ensures.goes w.pass-is, (let i = w.count-is in omega arith))
-  | else-row-own w ↦ (subst (λ z. Goes c.args.pass z) (sym w.pass-is) c.loop-row.invariant.0, (let i = w.count-is in omega arith))
+pub loop-at-preserved : goal.loop-at-preserved
+loop-at-preserved g c = let n = c.loop-at.invariant.1 in elim c.if-row-own.branch [
+  | then-row-own+then-eq w ↦ (goes_tried c.args.pass c.loop-at.pass w.try_row-after.result.0 c.if-row-own.pass c.loop-at.invariant.0 w.try_row-after.ensures.goes w.pass-is, (let i = w.count-is in omega arith))
+  | then-row-own+else-eq w ↦ (goes_tried c.args.pass c.loop-at.pass w.try_row-after.result.0 c.if-row-own.pass c.loop-at.invariant.0 w.try_row-after.ensures.goes w.pass-is, (let i = w.count-is in omega arith))
+  | else-row-own w ↦ (subst (λ z. Goes c.args.pass z) (sym w.pass-is) c.loop-at.invariant.0, (let i = w.count-is in omega arith))
 ]

@@ -1,4 +1,5 @@
-use Rattle.std.proofs.Common.{◌≡◌, arith, refl, sym, ap, ◌∙◌}
+use Rattle.std.proofs.Common.{◌≡◌, ◌≢◌, All, arith, refl, sym, ap, subst, eq-eqb, ◌∙◌}
+use Rattle.publication.specs.Handles.{Known}
 use mathlib.Core.Logic.{dite}
 use native.Mathlib.Decide.{ℕ_discrete}
 use Rattle.desk_rule.proofs.Ends.{sees_it}
@@ -13,13 +14,17 @@ load-requires g c = let d = c.desk.invariant.0 in let wide = d.0 in let few = d.
 )
 
 pub invariant_of-last : goal.invariant_of-last
-invariant_of-last g c = let t = c.load.ensures.2 c.args.client refl in watching_ok _ _ _ _ _ _ _ c.load.result c.args.client _ _ c.last.invariant t.0 t.1
+invariant_of-last g c = let t = c.load.ensures.2 c.args.client refl in watching_ok _ _ _ _ _ _ _ c.load.result c.args.client _ _ c.last.invariant t.0 (λ n. (t.1 n).0)
 
 pub returns-clause-seen : goal.returns-clause-seen
 returns-clause-seen g c = let t = c.load.ensures.2 c.args.client refl in
-    either_view c.load.result c.args.client c.last.inside.member.seat.me.0 c.args.last.now.knows c.load.new.seat.me.0 (ap (λ k. k.knows) c.last.view_is) (λ e. ap (λ m. m.0) (t.0 e)) (λ n. ap (λ m. m.0) (t.1 n))
+    either_view c.load.result c.args.client c.last.inside.member.seat.me.0 c.args.last.now.knows c.load.new.seat.me.0 (ap (λ k. k.knows) c.last.view_is) (λ e. ap (λ m. m.0) (t.0 e)) (λ n. ap (λ m. m.0) (t.1 n).0)
 
 pub returns-clause-desk : goal.returns-clause-desk
 returns-clause-desk g c = let t = c.load.ensures.2 c.args.client refl in
-    let kinds : c.load.new.seat.me.0.kinds ≡ c.last.inside.member.seat.me.0.kinds = dite (ℕ_discrete c.load.result 1) (λ e. ap (λ m. m.0.kinds) (t.0 e)) (λ n. ap (λ m. m.0.kinds) (t.1 n)) in
+    let kinds : c.load.new.seat.me.0.kinds ≡ c.last.inside.member.seat.me.0.kinds = dite (ℕ_discrete c.load.result 1) (λ e. ap (λ m. m.0.kinds) (t.0 e)) (λ n. ap (λ m. m.0.kinds) (t.1 n).0) in
     (λ i. record { table = (c.load.ensures.0) i; quota = c.last.inside.member.quota; kinds = kinds i }) ∙ ap (λ k. k.desk) c.last.view_is
+
+pub returns-clause-untold : goal.returns-clause-untold
+returns-clause-untold g c = let t = c.load.ensures.2 c.args.client refl in
+    λ f. subst (λ (k : Known). All (λ l. l.client ≢ c.args.client) k.knows.left) c.last.view_is (t.1 (λ e. let z = sym f ∙ eq-eqb c.load.result 1 e in absurd (cc))).1

@@ -4,7 +4,7 @@ use Rattle.publication.proofs.Growing.{cores_longer, nothing_more}
 use Rattle.publication.proofs.making.lay.Goals as goal
 
 pub loop-slots-init : goal.loop-slots-init
-loop-slots-init g c = let e = c.in_ok-slots.ensures in let n = e.0 in let few = c.requires in
+loop-slots-init g c = let e = c.in_ok-slots.ensures in let n = e.0 in let few = c.requires.0 in
     (omega arith, e.1, search rules, omega arith, e.2, λ i l h. absurd (omega arith))
 
 pub loop-slots-preserved : goal.loop-slots-preserved

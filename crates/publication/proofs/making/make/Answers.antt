@@ -19,4 +19,4 @@ invariant_of-result g c = let few = c.requires.plan.0.1 in let low = c.requires.
 pub returns-clause-client : goal.returns-clause-client
 returns-clause-client g c = let table = c.load.ensures.0 ∙ (c.split_seat-seat.ensures.3 ∙ c.requires.table.0) in
     let me = entered c.args.table.now.shared.key.kinds.items c.args.number c.args.founder.now.me c.split_seat-seat.result.me c.load.new.seat.me c.requires.founder c.split_seat-seat.ensures.4 (c.load.ensures.2 c.args.number refl) in
-    λ i. record { desk = record { table = table i; quota = c.args.quota; kinds = (me i).0.kinds }; knows = (me i).0 }
+    λ i. record { desk = record { table = table i; quota = c.args.quota; kinds = (me i).0.kinds }; knows = (me i).0; tries = c.requires.places i }

@@ -1,6 +1,9 @@
-use Rattle.std.proofs.Common.{◌≡◌, rules, arith, sym, ap, ◌∙◌}
+use Rattle.std.proofs.Common.{◌≡◌, ◌+◌, ◌-◌, ◌<◌, length, vec_len, vec_capacity, rules, arith, sym, ap, subst, ◌∙◌}
+use Rattle.world.specs.World.{logged}
+use Rattle.world.specs.Images.{answer_in}
+use Rattle.publication.specs.Handles.{Handling}
 use Rattle.desk_rule.proofs.Rows.{answers_it}
-use Rattle.publication.proofs.Holds.{answer_ready, core_grows, answered_ok}
+use Rattle.publication.proofs.Holds.{answer_ready, room_taken, core_grows, answered_ok}
 use Rattle.publication.proofs.Said.{may_serve, answered}
 use Rattle.publication.proofs.client.Hand.answer.Goals as goal
 
@@ -33,3 +36,8 @@ returns-clause-desk g c = let h = c.self.invariant in let e = c.serve-answer.ens
     let r = answer_ready g.S.SeqObject.content g.S.SeqObject.op_in g.S.SeqObject.reply_in _ _ _ _ _ _ c.self.inside.core c.serve-answer.new.core _ c.self.inside.request c.serve-answer.result _ _ h c.exchange.ensures.3 e.log e.content in
     let kinds : c.store.new.seat.me.0.kinds ≡ c.self.inside.member.seat.me.0.kinds = ap (λ m. m.0.kinds) (c.store.ensures.2 _ _ _ _ _ _ _ r.1 r.2) ∙ ap (λ m. m.0.kinds) c.exchange.ensures.3 in
     (λ i. record { table = (c.store.ensures.0 ∙ c.exchange.ensures.0) i; quota = c.self.inside.member.quota; kinds = kinds i }) ∙ ap (λ k. k.desk) c.self.view_is
+
+pub returns-clause-room : goal.returns-clause-room
+returns-clause-room g c = let e = c.serve-answer.ensures in
+    subst (λ (h : Handling). 0 < h.state.room → (vec_capacity c.serve-answer.new.core.log - vec_len c.serve-answer.new.core.log) + length (logged h.row h.request (answer_in g.S.SeqObject.reply_in c.serve-answer.result)) ≡ h.state.room) c.self.view_is
+    (room_taken g.S.SeqObject.op_in g.S.SeqObject.reply_in c.self.inside.core c.serve-answer.new.core _ e.log e.room)

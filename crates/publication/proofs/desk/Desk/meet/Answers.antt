@@ -67,7 +67,7 @@ returns-clause-met g c = let wide = c.one.invariant.agrees.wide in let wide' = c
     let whole = c.join_seat-2.ensures.2 ∙ ap (λ z. (hearing z.0 c.split_seat-letter-2.result.me.0, z.1)) c.split_seat-letter.ensures.2 in
     let u = c.load-2.ensures.2 in let second = u.0 ∙ (λ i. (seeing x (is i) (whole i).0, (whole i).1)) in
     let there = begins_there x c.one.inside.member.seat.me.0 c.other.inside.member.seat.me.0 c.join_seat.new.seat.me.0 c.join_seat-2.new.seat.me.0 t.0 heard (ap (λ z. z.seen) back) t.4 in
-    met x c.args.one c.args.other _ _ c.one.inside.member.seat.me.0 c.other.inside.member.seat.me.0 _ _ t.0 c.split_seat-letter.result.me.0.seen c.split_seat-letter-2.result.me.0.seen
+    met x c.args.one c.args.other _ _ _ _ c.one.inside.member.seat.me.0 c.other.inside.member.seat.me.0 _ _ t.0 c.split_seat-letter.result.me.0.seen c.split_seat-letter-2.result.me.0.seen
     (sym (ap (λ k. k.desk.kinds) c.one.view_is)) (sym (ap (λ k. k.knows) c.one.view_is)) (sym (ap (λ k. k.knows) c.other.view_is)) (ap (λ z. z.0) first) (ap (λ z. z.0) second) (omega arith) (omega arith)
     (subst (λ (v : View). IsLegal (kind_at v.kinds x) t.0) (ap (λ z. z.0) c.join_seat.ensures.2) t.2)
     (subst (λ (v : View). StartsWith t.0 (seen_of v x)) (ap (λ z. z.0) c.join_seat.ensures.2) t.3)

@@ -1,7 +1,8 @@
-use Rattle.std.proofs.Common.{arith, sym, ap, subst, ◌∙◌}
+use Rattle.std.proofs.Common.{rules, arith, ◌≡◌, ◌∷◌, [], true, refl, sym, ap, subst, ◌∙◌}
 use Rattle.desk_rule.specs.declared.board.View.{View}
-use Rattle.desk_rule.specs.Views.{journal, IsAtRest}
+use Rattle.desk_rule.specs.Views.{journal, leaving, ending, IsAtRest}
 use Rattle.desk_rule.proofs.Ends.{ends_it}
+use Rattle.desk_rule.proofs.Farewells.{bids_farewell}
 use Rattle.publication.proofs.desk.Desk.retire.Goals as goal
 
 pub store-requires : goal.store-requires
@@ -13,3 +14,18 @@ store-requires g c = let d = c.self.invariant.0 in let wide = d.0 in let k = c.c
       ends_it _ _ _ _ _ _ _ _ _ _ c.client.inside.member.journal _ (ap (λ v. v.client) same ∙ k.agrees.client_is) (ap (λ v. v.number) same ∙ k.agrees.number_is) calm (ap (λ v. v.held) same ∙ k.free)
           (k.agrees.journal_is ∙ sym (ap journal same)) (ap (λ m. m.1) e.3),
     )
+
+pub split_seat-requires : goal.split_seat-requires
+split_seat-requires g c = let d = c.self.invariant.0 in let wide = d.0 in let k = c.client.invariant in
+    let same = ap (λ m. m.0) c.store.ensures.2 ∙ ap (λ m. ending m.0) c.exchange.ensures.3 ∙ ap (λ m. ending m.0) c.turn.ensures.2 in (
+      search rules,
+      omega arith,
+      bids_farewell _ _ _ _ _ _ _ _ (ap (λ v. v.client) same ∙ k.agrees.client_is) (ap (λ v. v.ended) same),
+    )
+
+pub returns : goal.returns
+returns g c = let k = c.client.invariant in let s = c.split_seat.ensures in
+    let same = ap (λ m. m.0) c.store.ensures.2 ∙ ap (λ m. ending m.0) c.exchange.ensures.3 ∙ ap (λ m. ending m.0) c.turn.ensures.2 in
+    let table = s.3 ∙ (c.store.ensures.0 ∙ (c.exchange.ensures.0 ∙ (c.turn.ensures.0 ∙ ap (λ k. k.desk.table) c.client.view_is))) in
+    let left = ap (λ m. m.0.left) s.4 ∙ (ap (λ v. leaving v ∷ []) same ∙ ap (λ k. leaving k.knows ∷ []) c.client.view_is) in
+    λ i. record { table = table i; left = left i }

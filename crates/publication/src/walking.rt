@@ -1,0 +1,85 @@
+//! The publication list of an object: a client puts its row in front, and who holds the object walks it.
+
+ghost use Rattle.std.specs.Prelude.{◌≡◌, ◌<◌, ◌≤◌, ◌∷◌, ◌++◌, All, [], length, remove, slice_index, slice_set, OnOk};
+ghost use Rattle.roster.specs.PublicationList.{WalkMeets};
+ghost use Rattle.publication.specs.Handles.{trying};
+
+use crate::client::{Client, Pass};
+use crate::desk::Desk;
+use roster::Enlist;
+use seq_objects::SeqObject;
+use std::alloc::AllocError;
+
+impl<S: SeqObject> Desk<S> {
+    /// Tries once to put the client's row in front of the publication list of the object. Only a step on the list adds a try.
+    pub fn enlist(&self, client: &mut Client<S>, object: u32) -> Enlist
+        requires client { client.old.desk ≡ self.now.id }
+        requires object { object < length self.now.id.kinds }
+        ensures { client.new ≡ record client.old { tries = trying object result client.old.tries } }
+    {
+        // There are 16 objects at most, and a place for each.
+        let _ = &self.kinds;
+        client.member.places.enlist(object as usize)
+    }
+}
+
+impl<S: SeqObject> Pass<S> {
+    /// Walks the object's publication list: it meets newcomers, and then the rows that the last combiner left, in their
+    /// order. They are the whole list, as a load of its head found it.
+    pub fn walk(&mut self)
+        ensures same { self.new ≡ record self.old { state = record self.old.state { list = self.new.state.list } } }
+        ensures met { WalkMeets self.old.state.list.rows self.new.state.list.rows }
+        ensures looked { self.new.state.list.walks ≡ self.old.state.list.walks ++ self.new.state.list.rows ∷ [] }
+    {
+        self.core.list.walk();
+    }
+
+    /// The rows that the last walk met, less those unlinked since.
+    pub fn rows(&self) -> &[u32]
+        ensures rows { result.now ≡ self.now.state.list.rows }
+        ensures low { All (λ row. row < 32) self.now.state.list.rows }
+        ensures few { length self.now.state.list.rows ≤ 32 }
+    {
+        self.core.list.rows()
+    }
+
+    /// Takes a row out of the list, which is not the first that was met, and marks it inactive.
+    pub fn unlink(&mut self, at: usize)
+        requires { (1 ≤ at) × (at < length self.old.state.list.rows) }
+        ensures { self.new ≡ record self.old { state = record self.old.state { list = record self.old.state.list { rows = remove self.old.state.list.rows at } } } }
+    {
+        self.core.list.unlink(at);
+    }
+
+    /// The age of a row: 0 at first.
+    pub fn age(&self, row: u32) -> u64
+        requires { row < 32 }
+        ensures { result ≡ slice_index self.now.state.ages row }
+    {
+        self.core.ages[row as usize]
+    }
+
+    /// Makes the row as old as this pass.
+    pub fn set_age(&mut self, row: u32)
+        requires { row < 32 }
+        ensures { self.new ≡ record self.old { state = record self.old.state { ages = slice_set self.old.state.ages row self.old.state.passes } } }
+    {
+        let row = row as usize;
+        self.core.ages[row] = self.core.passes;
+    }
+
+    /// Makes room in the log for so many entries.
+    pub fn reserve(&mut self, entries: usize) -> Result<(), AllocError>
+        ensures same { self.new ≡ record self.old { state = record self.old.state { room = self.new.state.room } } }
+        ensures room { OnOk result (entries ≤ self.new.state.room) }
+    {
+        self.core.log.reserve(entries)
+    }
+
+    /// For how many entries the log has room.
+    pub fn room(&self) -> usize
+        ensures { result ≡ self.now.state.room }
+    {
+        self.core.log.capacity() - self.core.log.len()
+    }
+}
