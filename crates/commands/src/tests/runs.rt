@@ -1,57 +1,51 @@
-//! What is put out of records that are made by hand.
+//! What is put out of the records of machines.
 
 use super::*;
 use crate::running::report_record;
-use recorder::{Answer, JournalEvent, LogEntry, Record};
-use seq_objects::{AnyObject, AnyOp, AnyReply};
+use machine::Step;
+use recorder::Record;
+use schedule::{Header, Kinds, Schedule};
+use seq_objects::{AnyObject, AnyOp, Kind};
+use simulation::play;
 
-type Event = JournalEvent<AnyOp, AnyReply>;
+type Steps = [(u32, Step<AnyOp>)];
 
-type Entry = LogEntry<AnyOp, AnyReply>;
+/// The record of these steps of two clients, at one queue.
+const QUEUE: Header = Header {
+    kinds: Kinds::One(Kind::Queue),
+    objects: 1,
+    clients: 2,
+    quota: 4,
+};
 
-fn invoked(ticket: u64, object: u32, op: AnyOp) -> Event {
-    JournalEvent::Invoked { ticket, object, op }
-}
+/// The same, at objects of five kinds.
+const MIXED: Header = Header {
+    kinds: Kinds::Mixed,
+    objects: 5,
+    clients: 2,
+    quota: 4,
+};
 
-fn returned(ticket: u64, reply: AnyReply) -> Event {
-    let answer = Answer::Reply(reply);
-    JournalEvent::Returned { ticket, answer }
-}
-
-fn entry(client: u32, ticket: u64, op: AnyOp, reply: AnyReply) -> Entry {
-    LogEntry {
-        client,
-        ticket,
-        op,
-        reply,
+fn record_of(alloc: Global, mixed: bool, steps: &Steps) -> Result<Record<AnyObject>, Fail> {
+    let header = if mixed { MIXED } else { QUEUE };
+    let steps = Vec::from_slice(alloc, steps)?;
+    match play(alloc, &Schedule { header, steps }) {
+        Ok(played) if played.refused == 0 => Ok(played.record),
+        Ok(_) => Err(Fail::new("a step was not possible")),
+        Err(_) => Err(Fail::new("a client has not ended")),
     }
 }
 
-fn int(n: i64) -> AnyReply {
-    AnyReply::Value(Some(n))
-}
-
-/// Lists of their own.
-fn lists<T: Copy>(alloc: Global, all: &[&[T]]) -> Result<Vec<Vec<T>>, Fail> {
-    let mut lists = Vec::new(alloc);
-    for list in all {
-        lists.push(Vec::from_slice(alloc, list)?)?;
-    }
-    Ok(lists)
-}
-
-/// Checks what is put out of the record of these journals and logs.
+/// Checks what is put out of the record of these steps.
 fn check_record<R: AllocGlobal + Abort>(
     rt: &R,
-    journals: &[&[Event]],
-    logs: &[&[Entry]],
+    mixed: bool,
+    steps: &Steps,
     expected: &str,
-    status: u8,
 ) -> Result<(), Fail> {
-    let alloc = rt.alloc();
-    let record: Record<AnyObject> = Record::new(lists(alloc, journals)?, lists(alloc, logs)?);
-    let mut sink = Out::new(Vec::new(alloc));
-    assert_eq!(rt; report_record(alloc, &record, &mut sink), status);
+    let record = record_of(rt.alloc(), mixed, steps)?;
+    let mut sink = Out::new(Vec::new(rt.alloc()));
+    assert_eq!(rt; report_record(rt.alloc(), &record, &mut sink), 0);
     assert_eq!(rt; sink.into_inner().as_slice(), expected.as_bytes());
     Ok(())
 }
@@ -67,89 +61,56 @@ const TWO_CLIENTS: &str = "{:process 0, :type :invoke, :f :enqueue, :value 1, :o
     ; yes: 3 operations, 1 objects\n\
     ; queue: 1 objects, 3 operations\n";
 
-const FIRST: [Event; 4] = [
-    JournalEvent::Invoked {
-        ticket: 0,
-        object: 0,
-        op: AnyOp::Enqueue(1),
-    },
-    JournalEvent::Returned {
-        ticket: 2,
-        answer: Answer::Reply(AnyReply::Value(Some(1))),
-    },
-    JournalEvent::Invoked {
-        ticket: 4,
-        object: 0,
-        op: AnyOp::Dequeue,
-    },
-    JournalEvent::Returned {
-        ticket: 5,
-        answer: Answer::Reply(AnyReply::Value(Some(2))),
-    },
-];
-
-const SECOND: [Event; 2] = [
-    JournalEvent::Invoked {
-        ticket: 1,
-        object: 0,
-        op: AnyOp::Enqueue(2),
-    },
-    JournalEvent::Returned {
-        ticket: 3,
-        answer: Answer::Reply(AnyReply::Value(Some(2))),
-    },
+const OVERLAPPING_STEPS: [(u32, Step<AnyOp>); 24] = [
+    (0, Step::Draw(Some((0, AnyOp::Enqueue(1))))),
+    (1, Step::Draw(Some((0, AnyOp::Enqueue(2))))),
+    (0, Step::Post),
+    (1, Step::Post),
+    (1, Step::Win(0)),
+    (1, Step::Pick(1)),
+    (1, Step::Answer),
+    (1, Step::Pick(0)),
+    (1, Step::Answer),
+    (1, Step::Release),
+    (0, Step::Take),
+    (0, Step::Draw(None)),
+    (1, Step::Take),
+    (1, Step::Draw(None)),
+    (0, Step::Draw(Some((0, AnyOp::Dequeue)))),
+    (0, Step::Post),
+    (0, Step::Win(0)),
+    (0, Step::Pick(0)),
+    (0, Step::Answer),
+    (0, Step::Release),
+    (0, Step::Take),
+    (0, Step::Draw(None)),
+    (0, Step::End),
+    (1, Step::End),
 ];
 
 #[test]
 fn overlapping_clients(rt: HostRuntime) -> Result<(), Fail> {
-    let log = [
-        entry(1, 1, AnyOp::Enqueue(2), int(2)),
-        entry(0, 0, AnyOp::Enqueue(1), int(1)),
-        entry(0, 4, AnyOp::Dequeue, int(2)),
-    ];
-    check_record(&rt, &[&FIRST, &SECOND], &[&log], TWO_CLIENTS, 0)
+    check_record(&rt, false, &OVERLAPPING_STEPS, TWO_CLIENTS)
 }
 
-#[test]
-fn another_order(rt: HostRuntime) -> Result<(), Fail> {
-    let log = [
-        entry(0, 0, AnyOp::Enqueue(1), int(1)),
-        entry(1, 1, AnyOp::Enqueue(2), int(2)),
-        entry(0, 4, AnyOp::Dequeue, int(2)),
-    ];
-    let expected = "{:process 0, :type :invoke, :f :enqueue, :value 1, :object 0}\n\
-        {:process 1, :type :invoke, :f :enqueue, :value 2, :object 0}\n\
-        {:process 0, :type :ok, :f :enqueue, :value 1, :object 0}\n\
-        {:process 1, :type :ok, :f :enqueue, :value 2, :object 0}\n\
-        {:process 0, :type :invoke, :f :dequeue, :value nil, :object 0}\n\
-        {:process 0, :type :ok, :f :dequeue, :value 2, :object 0}\n\
-        ; {:object 0, :order [0 1 4]}\n\
-        ; no: C6 object 0: 4 gives 1\n";
-    check_record(&rt, &[&FIRST, &SECOND], &[&log], expected, 1)
-}
-
-#[test]
-fn refused_call(rt: HostRuntime) -> Result<(), Fail> {
-    let refused = JournalEvent::Returned {
-        ticket: 1,
-        answer: Answer::Refused,
-    };
-    let journal = [invoked(0, 0, AnyOp::Enqueue(5)), refused];
-    let expected = "{:process 0, :type :invoke, :f :enqueue, :value 5, :object 0}\n\
-        {:process 0, :type :fail, :f :enqueue, :value 5, :object 0}\n\
-        ; {:object 0, :order []}\n\
-        ; yes: 0 operations, 1 objects\n\
-        ; queue: 1 objects, 0 operations\n";
-    check_record(&rt, &[&journal], &[&[]], expected, 0)
-}
-
+/// A client ends before it takes its answer.
 #[test]
 fn outstanding_call(rt: HostRuntime) -> Result<(), Fail> {
-    let first = [invoked(0, 0, AnyOp::Enqueue(9))];
-    let second = [invoked(1, 0, AnyOp::Dequeue), returned(2, int(9))];
-    let log = [
-        entry(0, 0, AnyOp::Enqueue(9), int(9)),
-        entry(1, 1, AnyOp::Dequeue, int(9)),
+    let steps = [
+        (0, Step::Draw(Some((0, AnyOp::Enqueue(9))))),
+        (0, Step::Post),
+        (0, Step::End),
+        (1, Step::Draw(Some((0, AnyOp::Dequeue)))),
+        (1, Step::Post),
+        (1, Step::Win(0)),
+        (1, Step::Pick(0)),
+        (1, Step::Answer),
+        (1, Step::Pick(1)),
+        (1, Step::Answer),
+        (1, Step::Release),
+        (1, Step::Take),
+        (1, Step::Draw(None)),
+        (1, Step::End),
     ];
     let expected = "{:process 0, :type :invoke, :f :enqueue, :value 9, :object 0}\n\
         {:process 1, :type :invoke, :f :dequeue, :value nil, :object 0}\n\
@@ -157,15 +118,31 @@ fn outstanding_call(rt: HostRuntime) -> Result<(), Fail> {
         ; {:object 0, :order [0 1]}\n\
         ; yes: 2 operations, 1 objects\n\
         ; queue: 1 objects, 2 operations\n";
-    check_record(&rt, &[&first, &second], &[&log], expected, 0)
+    check_record(&rt, false, &steps, expected)
 }
 
 #[test]
 fn two_kinds(rt: HostRuntime) -> Result<(), Fail> {
-    let first = [invoked(0, 0, AnyOp::Enqueue(1)), returned(3, int(1))];
-    let second = [invoked(1, 1, AnyOp::Push(2)), returned(2, int(2))];
-    let queue = [entry(0, 0, AnyOp::Enqueue(1), int(1))];
-    let stack = [entry(1, 1, AnyOp::Push(2), int(2))];
+    let steps = [
+        (0, Step::Draw(Some((0, AnyOp::Enqueue(1))))),
+        (1, Step::Draw(Some((1, AnyOp::Push(2))))),
+        (0, Step::Post),
+        (1, Step::Post),
+        (1, Step::Win(1)),
+        (1, Step::Pick(1)),
+        (1, Step::Answer),
+        (1, Step::Release),
+        (1, Step::Take),
+        (1, Step::Draw(None)),
+        (0, Step::Win(0)),
+        (0, Step::Pick(0)),
+        (0, Step::Answer),
+        (0, Step::Release),
+        (0, Step::Take),
+        (0, Step::Draw(None)),
+        (0, Step::End),
+        (1, Step::End),
+    ];
     let expected = "{:process 0, :type :invoke, :f :enqueue, :value 1, :object 0}\n\
         {:process 1, :type :invoke, :f :push, :value 2, :object 1}\n\
         {:process 1, :type :ok, :f :push, :value 2, :object 1}\n\
@@ -175,68 +152,64 @@ fn two_kinds(rt: HostRuntime) -> Result<(), Fail> {
         ; yes: 2 operations, 2 objects\n\
         ; queue: 1 objects, 1 operations\n\
         ; stack: 1 objects, 1 operations\n";
-    check_record(&rt, &[&first, &second], &[&queue, &stack], expected, 0)
+    check_record(&rt, true, &steps, expected)
+}
+
+/// Puts the steps of one call of client 0 behind the others, which serves itself.
+fn push_call(steps: &mut Vec<(u32, Step<AnyOp>)>, object: u32, op: AnyOp) -> Result<(), Fail> {
+    for step in [
+        Step::Draw(Some((object, op))),
+        Step::Post,
+        Step::Win(object),
+        Step::Pick(0),
+        Step::Answer,
+        Step::Release,
+        Step::Take,
+        Step::Draw(None),
+    ] {
+        steps.push((0, step))?;
+    }
+    Ok(())
 }
 
 /// The objects that no journal names have no certificate.
 #[test]
 fn values_of_a_register(rt: HostRuntime) -> Result<(), Fail> {
-    let journal = [
-        invoked(0, 2, AnyOp::Cas(1, 2)),
-        returned(1, AnyReply::NotSwapped),
-        invoked(2, 2, AnyOp::Write(1)),
-        returned(3, int(1)),
-        invoked(4, 2, AnyOp::Cas(1, 2)),
-        returned(5, AnyReply::Swapped(1, 2)),
-        invoked(6, 2, AnyOp::Read),
-        returned(7, int(2)),
-    ];
-    let log = [
-        entry(0, 0, AnyOp::Cas(1, 2), AnyReply::NotSwapped),
-        entry(0, 2, AnyOp::Write(1), int(1)),
-        entry(0, 4, AnyOp::Cas(1, 2), AnyReply::Swapped(1, 2)),
-        entry(0, 6, AnyOp::Read, int(2)),
-    ];
-    let expected = "{:process 0, :type :invoke, :f :cas, :value [1 2], :object 2}\n\
-        {:process 0, :type :ok, :f :cas, :value false, :object 2}\n\
-        {:process 0, :type :invoke, :f :write, :value 1, :object 2}\n\
-        {:process 0, :type :ok, :f :write, :value 1, :object 2}\n\
-        {:process 0, :type :invoke, :f :cas, :value [1 2], :object 2}\n\
-        {:process 0, :type :ok, :f :cas, :value [1 2], :object 2}\n\
-        {:process 0, :type :invoke, :f :read, :value nil, :object 2}\n\
-        {:process 0, :type :ok, :f :read, :value 2, :object 2}\n\
-        ; {:object 2, :order [0 2 4 6]}\n\
+    let mut steps = Vec::new(rt.alloc());
+    push_call(&mut steps, 3, AnyOp::Cas(1, 2))?;
+    push_call(&mut steps, 3, AnyOp::Write(1))?;
+    push_call(&mut steps, 3, AnyOp::Cas(1, 2))?;
+    push_call(&mut steps, 3, AnyOp::Read)?;
+    steps.push((0, Step::End))?;
+    steps.push((1, Step::End))?;
+    let expected = "{:process 0, :type :invoke, :f :cas, :value [1 2], :object 3}\n\
+        {:process 0, :type :ok, :f :cas, :value false, :object 3}\n\
+        {:process 0, :type :invoke, :f :write, :value 1, :object 3}\n\
+        {:process 0, :type :ok, :f :write, :value 1, :object 3}\n\
+        {:process 0, :type :invoke, :f :cas, :value [1 2], :object 3}\n\
+        {:process 0, :type :ok, :f :cas, :value [1 2], :object 3}\n\
+        {:process 0, :type :invoke, :f :read, :value nil, :object 3}\n\
+        {:process 0, :type :ok, :f :read, :value 2, :object 3}\n\
+        ; {:object 3, :order [0 2 4 6]}\n\
         ; yes: 4 operations, 1 objects\n\
         ; register: 1 objects, 4 operations\n";
-    check_record(&rt, &[&journal], &[&[], &[], &log, &[]], expected, 0)
+    check_record(&rt, true, &steps, expected)
 }
 
 #[test]
 fn nothing_done(rt: HostRuntime) -> Result<(), Fail> {
-    check_record(
-        &rt,
-        &[&[], &[]],
-        &[&[]],
-        "; yes: 0 operations, 0 objects\n",
-        0,
-    )
+    let steps = [(0, Step::End), (1, Step::End)];
+    check_record(&rt, false, &steps, "; yes: 0 operations, 0 objects\n")
 }
 
 /// An output that fails after any number of bytes has a beginning of the lines.
 #[test]
 fn failing_output(rt: HostRuntime) -> Result<(), Fail> {
-    let alloc = rt.alloc();
-    let log = [
-        entry(1, 1, AnyOp::Enqueue(2), int(2)),
-        entry(0, 0, AnyOp::Enqueue(1), int(1)),
-        entry(0, 4, AnyOp::Dequeue, int(2)),
-    ];
-    let journals = lists(alloc, &[&FIRST, &SECOND])?;
-    let record: Record<AnyObject> = Record::new(journals, lists(alloc, &[&log])?);
+    let record = record_of(rt.alloc(), false, &OVERLAPPING_STEPS)?;
     for room in 0..TWO_CLIENTS.len() {
         let mut bytes = [0; 600];
         let mut sink = Out::new(&mut bytes[..room]);
-        assert_eq!(rt; report_record(alloc, &record, &mut sink), FAILED);
+        assert_eq!(rt; report_record(rt.alloc(), &record, &mut sink), FAILED);
         assert_eq!(rt; &bytes[..room], &TWO_CLIENTS.as_bytes()[..room]);
     }
     Ok(())
