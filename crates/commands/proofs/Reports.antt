@@ -1,35 +1,43 @@
--- What a run puts out.
-use Rattle.std.proofs.Common.{◌≡◌, ◌∙◌, ℕ, List, ◌∷◌, ◌++◌, ◌<◌, ◌+◌, length, drop, get_or, true, refl, ap, ap₂, sym, subst, codes}
+-- What is put out of a record.
+use Rattle.std.proofs.Common.{◌≡◌, ◌∙◌, ℕ, List, [], ◌∷◌, ◌++◌, ◌<◌, ◌+◌, length, drop, get_or, map, true, refl, ap, sym, subst, codes, Option}
 use Rattle.std.proofs.lemmas.List.{drop_more}
+use Rattle.std.specs.Io.KnownBytes.{Appends}
+use Rattle.model.specs.declared.AnyOp.{AnyOp}
+use Rattle.model.specs.declared.AnyReply.{AnyReply}
+use Rattle.world.specs.declared.Answer.TheVariants.{Reply, Refused}
+use Rattle.world.specs.declared.JournalEvent.TheVariants.{Invoked, Returned}
+use Rattle.world.specs.World.{AnyEntry, AnyEvent}
+use Rattle.world.specs.Images.{entry_in, event_in}
+use Rattle.world.specs.Records.{IsSoundRecord}
 use Rattle.certificate.specs.declared.Certificate.{Certificate}
 use Rattle.certificate.specs.Lines.{line_of}
-use Rattle.report.specs.Lines.{verdict_text}
-use Rattle.report.specs.declared.verdict.Verdict.{Verdict}
-use Rattle.commands.specs.declared.record_lines.HistoryLine.{HistoryLine}
-use Rattle.commands.specs.declared.running.Texts.{Texts}
-use Rattle.commands.specs.RecordLines.{history_line, history_text, commented}
-use Rattle.commands.specs.Runs.{IsJudged, IsTexts}
-use Rattle.commands.specs.Statuses.{status_of}
-use Rattle.judging.specs.Verdicts.{Holds}
+use Rattle.recorder.specs.Records.{Recorded, journal_at, log_at}
+use Rattle.commands.specs.Runs.{commented, IsSound, journals_of, logs_of}
 
 -- ---- lines one after the other
-
-pub lines_left : (ls : List HistoryLine) (i : ℕ) (d : HistoryLine) → i < length ls → history_text (drop i ls) ≡ history_line (get_or ls i d) ++ history_text (drop (i + 1) ls)
-lines_left ls i d lt = ap history_text (drop_more ls i d lt)
 
 pub comments_left : (cs : List Certificate) (i : ℕ) (c : Certificate) → i < length cs → c ≡ get_or cs i c → commented (drop i cs) ≡ (codes "; " ++ line_of c) ++ commented (drop (i + 1) cs)
 comments_left cs i c lt e =
     let here : drop i cs ≡ c ∷ drop (i + 1) cs = drop_more cs i c lt ∙ ap (λ (y : Certificate). y ∷ drop (i + 1) cs) (sym e) in
     rw here refl
 
--- ---- the verdict
+-- ---- journals and logs of operations of all kinds are what they stand for
 
-pub judged : (t : Texts) → IsTexts t → (v : Verdict) → Holds t.history.items t.orders.items v → IsJudged (status_of v) ((t.history.items ++ t.comments.items) ++ verdict_text true v)
-judged t w v h = record {
-  lines = w.lines;
-  certificates = w.certificates;
-  verdict = v;
-  holds = subst (λ o. Holds (history_text w.lines) o v) w.orders (subst (λ x. Holds x t.orders.items v) w.history h);
-  status_is = refl;
-  text_is = ap (λ x. x ++ verdict_text true v) (ap₂ (λ x y. x ++ y) w.history w.comments);
-}
+event_is : (e : AnyEvent) → event_in (λ (op : AnyOp). op) (λ (r : AnyReply). r) e ≡ e
+event_is (Invoked t x op) = refl
+event_is (Returned t (Reply r)) = refl
+event_is (Returned t Refused) = refl
+
+events_are : (es : List AnyEvent) → map (event_in (λ (op : AnyOp). op) (λ (r : AnyReply). r)) es ≡ es
+events_are [] = refl
+events_are (e ∷ es) = λ i. event_is e i ∷ events_are es i
+
+entries_are : (es : List AnyEntry) → map (entry_in (λ (op : AnyOp). op) (λ (r : AnyReply). r)) es ≡ es
+entries_are [] = refl
+entries_are (e ∷ es) = λ i. e ∷ entries_are es i
+
+pub sound_as_it_is : (r : Recorded AnyOp AnyReply) (kinds : _) (quota : ℕ) → IsSoundRecord kinds quota (journal_at r) (log_at r) → IsSound r
+sound_as_it_is r kinds quota s =
+    let journals : journal_at r ≡ journals_of r = λ i c. sym (events_are (journal_at r c)) i in
+    let logs : log_at r ≡ logs_of r = λ i x. sym (entries_are (log_at r x)) i in
+    (kinds, quota, subst (λ (js : ℕ → List AnyEvent). IsSoundRecord kinds quota js (logs_of r)) journals (subst (λ (ls : ℕ → List AnyEntry). IsSoundRecord kinds quota (journal_at r) ls) logs s))

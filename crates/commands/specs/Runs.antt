@@ -1,36 +1,80 @@
 -- What a run puts out, and its exit status.
-use Rattle.std.specs.Prelude.{◌≡◌, ◌⊎◌, ℕ, List, true, ◌++◌, codes}
+use Rattle.std.specs.Prelude.{◌≡◌, ◌⊎◌, ⊤, ℕ, List, [], ◌∷◌, true, ◌++◌, codes}
+use Rattle.model.specs.declared.Kind.{Kind}
+use Rattle.world.specs.World.{AnyEntry, AnyEvent}
+use Rattle.world.specs.Records.{IsSoundRecord}
+use Rattle.events.specs.declared.event.Event.{Event}
+use Rattle.model.specs.declared.AnyOp.{AnyOp}
+use Rattle.model.specs.declared.AnyReply.{AnyReply}
+use Rattle.recorder.specs.Histories.{AreEventsOf, journals_in, logs_in}
+use Rattle.recorder.specs.Records.{Recorded}
+use Rattle.report.specs.declared.verdict.Summary.{Summary}
 use Rattle.certificate.specs.declared.Certificate.{Certificate}
-use Rattle.certificate.specs.Lines.{lines_of}
+use Rattle.certificate.specs.Lines.{line_of}
+use Rattle.transcript.specs.declared.line.Line.{Line}
+use Rattle.transcript.specs.Lines.{AreLinesOf, history_text}
+use Rattle.transcript.specs.Accounts.{AreCertificatesOf, IsAccepted, IsRefused}
 use Rattle.report.specs.Lines.{verdict_text}
 use Rattle.report.specs.declared.verdict.Verdict.{Verdict}
-use Rattle.commands.specs.declared.record_lines.HistoryLine.{HistoryLine}
-use Rattle.commands.specs.declared.running.Texts.{Texts}
-use Rattle.commands.specs.RecordLines.{history_text, commented}
+use Rattle.report.specs.declared.verdict.Verdict.TheVariants.{Yes, No, Malformed, NoMemory}
+use Rattle.judging.specs.Texts.{AreCountsOf}
+use Rattle.judging.specs.Verdicts.{IsYesUnlessMemory}
 use Rattle.commands.specs.Statuses.{no_memory_status, status_of}
-use Rattle.judging.specs.Verdicts.{Holds}
 
--- History lines, certificates as comments, and the verdict on both as comments: it is that of the texts which stand
--- there.
-pub record IsJudged (status : ℕ) (text : List ℕ) : Type 0 where
-  pub lines : List HistoryLine
+-- the lines of certificates, each as a comment
+abbrev pub commented : List Certificate → List ℕ
+commented [] = []
+commented (c ∷ cs) = (codes "; " ++ line_of c) ++ commented cs
+
+-- a record's journals and logs, as they are
+abbrev pub journals_of : Recorded AnyOp AnyReply → ℕ → List AnyEvent
+journals_of r = journals_in (λ (op : AnyOp). op) (λ (reply : AnyReply). reply) r
+
+abbrev pub logs_of : Recorded AnyOp AnyReply → ℕ → List AnyEntry
+logs_of r = logs_in (λ (op : AnyOp). op) (λ (reply : AnyReply). reply) r
+
+-- the record is sound, for objects of some kinds and some quota
+abbrev pub IsSound : Recorded AnyOp AnyReply → Type 0
+IsSound r = (kinds : List Kind) × (quota : ℕ) × IsSoundRecord kinds quota (journals_of r) (logs_of r)
+
+-- the counts are those of the journals' history
+abbrev pub HaveCounts : (ℕ → List AnyEvent) → Summary → Type 0
+HaveCounts journals s = (es : List Event) × AreEventsOf journals es × AreCountsOf es s
+
+-- What a verdict says of a record's journals and logs: its certificates are accepted, and the counts are those of its
+-- history; or this is their first refusal.
+abbrev pub Says : (ℕ → List AnyEvent) → (ℕ → List AnyEntry) → Verdict → Type 0
+Says journals logs (Yes s) = IsAccepted journals logs × HaveCounts journals s
+Says journals logs (No r) = IsRefused journals logs r
+Says journals logs (Malformed f) = ⊥
+Says journals logs NoMemory = ⊤
+
+-- the lines of the record's history, and its certificates as comments
+pub record IsTextOf (journals : ℕ → List AnyEvent) (logs : ℕ → List AnyEntry) (text : List ℕ) : Type 0 where
+  pub lines : List Line
   pub certificates : List Certificate
+  pub are_lines : AreLinesOf journals lines
+  pub are_certificates : AreCertificatesOf journals logs certificates
+  pub text_is : text ≡ history_text lines ++ commented certificates
+
+-- The same, and the verdict on the record as comments. That of a sound record is yes, but for want of memory.
+pub record IsReported (journals : ℕ → List AnyEvent) (logs : ℕ → List AnyEntry) (status : ℕ) (text : List ℕ) : Type 0 where
+  pub own : List ℕ
   pub verdict : Verdict
-  pub holds : Holds (history_text lines) (lines_of certificates) verdict
+  pub is_text : IsTextOf journals logs own
+  pub says : Says journals logs verdict
+  pub accepted : (kinds : List Kind) (quota : ℕ) → IsSoundRecord kinds quota journals logs → IsYesUnlessMemory verdict
   pub status_is : status ≡ status_of verdict
-  pub text_is : text ≡ (history_text lines ++ commented certificates) ++ verdict_text true verdict
+  pub text_is : text ≡ own ++ verdict_text true verdict
 
 -- there is nothing to judge, and one line says why
 abbrev pub IsGivenUp : ℕ → List ℕ → Type 0
 IsGivenUp status text = (status ≡ no_memory_status) × ((text ≡ codes "out of memory\n") ⊎ (text ≡ codes "no thread\n"))
 
-abbrev pub IsRunOutput : ℕ → List ℕ → Type 0
-IsRunOutput status text = IsJudged status text ⊎ IsGivenUp status text
+-- what is put out of a record
+abbrev pub IsRecordOutput : (ℕ → List AnyEvent) → (ℕ → List AnyEntry) → ℕ → List ℕ → Type 0
+IsRecordOutput journals logs status text = IsReported journals logs status text ⊎ IsGivenUp status text
 
--- the text of some history lines, that of the certificates, and that of the same as comments
-pub record IsTexts (t : Texts) : Type 0 where
-  pub lines : List HistoryLine
-  pub certificates : List Certificate
-  pub history : t.history.items ≡ history_text lines
-  pub orders : t.orders.items ≡ lines_of certificates
-  pub comments : t.comments.items ≡ commented certificates
+-- what is put out of a record that is sound
+abbrev pub IsRunOutput : ℕ → List ℕ → Type 0
+IsRunOutput status text = ((r : Recorded AnyOp AnyReply) × IsSound r × IsRecordOutput (journals_of r) (logs_of r) status text) ⊎ IsGivenUp status text

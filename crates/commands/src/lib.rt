@@ -2,10 +2,9 @@
 #![tactic(auto)]
 
 mod command_line;
+mod comments;
 mod parsing;
 mod program;
-mod record_lines;
-mod record_text;
 mod running;
 mod searching;
 mod statuses;

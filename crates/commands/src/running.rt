@@ -1,71 +1,80 @@
 //! A run: two clients use one queue, and what they did is judged.
 
-ghost use Rattle.std.specs.Prelude.{◌≡◌, ◌≢◌, ◌++◌, ◌⊎◌, ℕ, List, false, true, codes, OnOk, OnErr, IfOk};
+ghost use Rattle.std.specs.Prelude.{◌≡◌, ◌≢◌, ◌++◌, ◌⊎◌, ℕ, List, false, true, codes, IfOk};
 ghost use Rattle.std.specs.Io.KnownBytes.{Appends};
+ghost use Rattle.model.specs.declared.Kind.{Kind};
+ghost use Rattle.world.specs.Records.{IsSoundRecord};
 ghost use Rattle.edn.specs.Sent.{SendsFront};
-ghost use Rattle.commands.specs.Runs.{IsRunOutput, IsTexts};
+ghost use Rattle.judging.specs.Verdicts.{IsYesUnlessMemory};
+ghost use Rattle.commands.specs.Runs.{HaveCounts, IsGivenUp, IsRecordOutput, IsRunOutput, IsSound, IsTextOf, Says, journals_of, logs_of};
+ghost use Rattle.report.specs.Lines.{verdict_text};
+ghost use Rattle.commands.specs.Statuses as spec;
 ghost use Rattle.commands.specs.Statuses.{failed_status};
 
-use crate::record_lines::{certificates_of, history_lines};
-use crate::record_text::{certificates_text, comments_text, history_text};
+use crate::comments::comments_text;
 use crate::statuses::{FAILED, NO_MEMORY, status_of};
+use checker::Refusal;
 use clients::{RunFault, run_workers, two_calls};
-use edn::{Failed, Sink, write_bytes};
-use judging::judge;
+use edn::{Failed, Out, Sink, write_bytes};
 use recorder::Record;
-use report::write_verdict;
+use report::{Summary, Verdict, summary, write_verdict};
 use seq_objects::AnyObject;
 use std::alloc::{AllocError, Global};
 use std::sync::Wait;
 use std::thread::Threads;
+use transcript::{certificates, check_record, history, write_history};
 
-/// The texts of a record: its history, its certificates, and these once more as comments.
-#[derive(Drop)]
-struct Texts {
-    history: Vec<u8>,
-    orders: Vec<u8>,
-    comments: Vec<u8>,
-}
-
-fn texts_of(alloc: Global, record: &Record<AnyObject>) -> Result<Texts, AllocError>
-    ensures { IfOk result IsTexts }
+/// The lines of the record's history, and its certificates as comments.
+fn text_of(alloc: Global, record: &Record<AnyObject>) -> Result<Vec<u8>, AllocError>
+    ensures { IfOk result (λ text. IsTextOf (journals_of record.now) (logs_of record.now) text.items) }
 {
-    let lines = history_lines(alloc, record)?;
-    let certificates = certificates_of(alloc, record, &lines)?;
-    Ok(Texts {
-        history: history_text(alloc, &lines)?,
-        orders: certificates_text(alloc, &certificates)?,
-        comments: comments_text(alloc, &certificates)?,
-    })
+    let mut sink = Out::new(Vec::new(alloc));
+    if write_history(alloc, record, &mut sink).is_err() {
+        return Err(AllocError);
+    }
+    let mut text = sink.into_inner();
+    let certificates = certificates(alloc, record)?;
+    let comments = comments_text(alloc, &certificates)?;
+    text.extend_from_slice(&comments)?;
+    Ok(text)
 }
 
-/// Sends the history, and the certificates as comments.
-fn write_texts<S: Sink>(texts: &Texts, sink: &mut S) -> Result<(), Failed>
+/// The counts of the record's history.
+fn counts_of(alloc: Global, record: &Record<AnyObject>) -> Result<Summary, AllocError>
+    ensures { IfOk result (HaveCounts (journals_of record.now)) }
+{
+    let history = history(alloc, record)?;
+    summary(alloc, &history)
+}
+
+/// The verdict of the check on the record in memory.
+fn verdict_on(alloc: Global, record: &Record<AnyObject>) -> Verdict
+    ensures says { Says (journals_of record.now) (logs_of record.now) result }
+    ensures accepted { (kinds : List Kind) (quota : ℕ) → IsSoundRecord kinds quota (journals_of record.now) (logs_of record.now) → IsYesUnlessMemory result }
+{
+    match check_record(alloc, record) {
+        Ok(()) => match counts_of(alloc, record) {
+            Ok(counts) => Verdict::Yes(counts),
+            Err(AllocError) => Verdict::NoMemory,
+        },
+        Err(Refusal::NoMemory) => Verdict::NoMemory,
+        Err(refusal) => Verdict::No(refusal),
+    }
+}
+
+/// Sends the text, and then the verdict.
+fn put_out<S: Sink>(text: &[u8], verdict: &Verdict, sink: &mut S) -> u8
     requires { S.broken sink.old ≡ false }
-    ensures ok { OnOk result (Appends (S.sent sink.old) (S.sent sink.new) (texts.now.history.items ++ texts.now.comments.items)) }
-    ensures usable { OnOk result (S.broken sink.new ≡ false) }
-    ensures front { OnErr result (SendsFront (S.sent sink.old) (S.sent sink.new) (texts.now.history.items ++ texts.now.comments.items)) }
-    ensures failed { OnErr result (S.broken sink.new ≡ true) }
-{
-    write_bytes(&texts.history, sink)?;
-    write_bytes(&texts.comments, sink)
-}
-
-/// Judges the texts, sends them, and then the verdict.
-fn report_texts<S: Sink>(alloc: Global, texts: &Texts, sink: &mut S) -> u8
-    requires working { S.broken sink.old ≡ false }
-    requires texts { IsTexts texts.now }
-    ensures written { result ≢ failed_status → (text : List ℕ) × IsRunOutput result text × Appends (S.sent sink.old) (S.sent sink.new) text }
+    ensures written { result ≢ failed_status → (result ≡ spec.status_of verdict.now) × Appends (S.sent sink.old) (S.sent sink.new) (text.now ++ verdict_text true verdict.now) }
     ensures usable { result ≢ failed_status → S.broken sink.new ≡ false }
     ensures failed { result ≡ failed_status → S.broken sink.new ≡ true }
-    ensures front { result ≡ failed_status → (status : ℕ) × (text : List ℕ) × IsRunOutput status text × SendsFront (S.sent sink.old) (S.sent sink.new) text }
+    ensures front { result ≡ failed_status → SendsFront (S.sent sink.old) (S.sent sink.new) (text.now ++ verdict_text true verdict.now) }
 {
-    let verdict = judge(alloc, &texts.history, &texts.orders, 1);
-    if write_texts(texts, sink).is_err() {
+    if write_bytes(text, sink).is_err() {
         return FAILED;
     }
-    match write_verdict(&verdict, true, sink) {
-        Ok(()) => status_of(&verdict),
+    match write_verdict(verdict, true, sink) {
+        Ok(()) => status_of(verdict),
         Err(_) => FAILED,
     }
 }
@@ -74,10 +83,10 @@ fn report_texts<S: Sink>(alloc: Global, texts: &Texts, sink: &mut S) -> u8
 fn give_up<S: Sink>(line: &[u8], sink: &mut S) -> u8
     requires working { S.broken sink.old ≡ false }
     requires line { (line.now ≡ codes "out of memory\n") ⊎ (line.now ≡ codes "no thread\n") }
-    ensures written { result ≢ failed_status → (text : List ℕ) × IsRunOutput result text × Appends (S.sent sink.old) (S.sent sink.new) text }
+    ensures written { result ≢ failed_status → (text : List ℕ) × IsGivenUp result text × Appends (S.sent sink.old) (S.sent sink.new) text }
     ensures usable { result ≢ failed_status → S.broken sink.new ≡ false }
     ensures failed { result ≡ failed_status → S.broken sink.new ≡ true }
-    ensures front { result ≡ failed_status → (status : ℕ) × (text : List ℕ) × IsRunOutput status text × SendsFront (S.sent sink.old) (S.sent sink.new) text }
+    ensures front { result ≡ failed_status → (status : ℕ) × (text : List ℕ) × IsGivenUp status text × SendsFront (S.sent sink.old) (S.sent sink.new) text }
 {
     match write_bytes(line, sink) {
         Ok(()) => NO_MEMORY,
@@ -85,25 +94,28 @@ fn give_up<S: Sink>(line: &[u8], sink: &mut S) -> u8
     }
 }
 
-/// Puts out the history of the record, its certificates and the verdict on both, and gives the exit status.
+/// Puts out the history of the record, its certificates and the verdict on it, and gives the exit status.
 pub(crate) fn report_record<S: Sink>(alloc: Global, record: &Record<AnyObject>, sink: &mut S) -> u8
     requires working { S.broken sink.old ≡ false }
-    ensures written { result ≢ failed_status → (text : List ℕ) × IsRunOutput result text × Appends (S.sent sink.old) (S.sent sink.new) text }
+    ensures written { result ≢ failed_status → (text : List ℕ) × IsRecordOutput (journals_of record.now) (logs_of record.now) result text × Appends (S.sent sink.old) (S.sent sink.new) text }
     ensures usable { result ≢ failed_status → S.broken sink.new ≡ false }
     ensures failed { result ≡ failed_status → S.broken sink.new ≡ true }
-    ensures front { result ≡ failed_status → (status : ℕ) × (text : List ℕ) × IsRunOutput status text × SendsFront (S.sent sink.old) (S.sent sink.new) text }
+    ensures front { result ≡ failed_status → (status : ℕ) × (text : List ℕ) × IsRecordOutput (journals_of record.now) (logs_of record.now) status text × SendsFront (S.sent sink.old) (S.sent sink.new) text }
 {
-    match texts_of(alloc, record) {
-        Ok(texts) => report_texts(alloc, &texts, sink),
-        Err(AllocError) => give_up(b"out of memory\n", sink),
-    }
+    let Ok(text) = text_of(alloc, record) else {
+        return give_up(b"out of memory\n", sink);
+    };
+    let verdict = verdict_on(alloc, record);
+    put_out(&text, &verdict, sink)
 }
 
 /// What two clients did at one queue, each in a thread of its own.
 fn recorded<R: Threads + Wait + Sync>(
     rt: &R,
     alloc: Global,
-) -> Result<Record<AnyObject>, RunFault> {
+) -> Result<Record<AnyObject>, RunFault>
+    ensures { IfOk result IsSound }
+{
     let workload = two_calls(alloc)?;
     run_workers(rt, alloc, &workload)
 }

@@ -7,7 +7,7 @@ ghost use Rattle.edn.specs.Sent.{SendsFront};
 ghost use Rattle.commands.specs.Searches.{answer_line, answers_text, search_status, is_impossible, is_found, AreSearched, IsSearched, IsUnsearched, IsSearchOutput};
 ghost use Rattle.commands.specs.Statuses.{failed_status};
 
-use crate::record_text::certificates_text;
+use crate::comments::certificates_text;
 use crate::statuses::{FAILED, NO_MEMORY, status_of};
 use edn::{Failed, Sink, write_bytes};
 use history::History;

@@ -1,7 +1,7 @@
 use Rattle.std.proofs.Common.{◌≡◌, ℕ, List, ◌++◌, drop, false}
 use Rattle.std.specs.Io.KnownBytes.{Appends}
-use Rattle.commands.specs.RecordLines.{commented}
-use Rattle.commands.proofs.record_text.write_comments.Given as goal
+use Rattle.commands.specs.Runs.{commented}
+use Rattle.commands.proofs.comments.write_comments.Given as goal
 
 abbrev pub invariant-loop-certificate : goal.invariant-loop-certificate
 invariant-loop-certificate g l = record {

@@ -1,7 +1,7 @@
 use Rattle.edn.proofs.Fronts.{further}
-use Rattle.commands.specs.RecordLines.{commented}
+use Rattle.commands.specs.Runs.{commented}
 use Rattle.commands.proofs.Reports.{comments_left}
-use Rattle.commands.proofs.record_text.write_comments.Goals as goal
+use Rattle.commands.proofs.comments.write_comments.Goals as goal
 
 pub loop-certificate-preserved : goal.loop-certificate-preserved
 loop-certificate-preserved g c =
