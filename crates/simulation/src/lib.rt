@@ -2,8 +2,10 @@
 #![tactic(auto)]
 
 mod playing;
+mod simulating;
 
 pub use playing::{PlayFault, Played, play};
+pub use simulating::simulate;
 
 #[cfg(test)]
 mod tests;
