@@ -15,8 +15,7 @@ use Rattle.report.specs.declared.verdict.Verdict.{Verdict}
 use Rattle.report.specs.declared.verdict.Verdict.TheVariants.{Yes, No, Malformed, NoMemory}
 use Rattle.recorder.specs.Records.{Recorded}
 use Rattle.recorder.specs.Histories.{AreEventsOf, journals_in, logs_in}
-use Rattle.transcript.specs.declared.line.Line.{Line}
-use Rattle.transcript.specs.Lines.{AreLinesOf, history_text}
+use Rattle.transcript.specs.Written.{IsHistoryText}
 use Rattle.transcript.specs.Accounts.{AreCertificatesOf}
 use Rattle.schedule.specs.Schedules.{AnyStep, Denotes}
 use Rattle.schedule.specs.declared.header.Header.{Header}
@@ -44,17 +43,17 @@ pub record IsAccount (journals : ℕ → List AnyEvent) (logs : ℕ → List Any
   pub are_certificates : AreCertificatesOf journals logs cs
   pub valid : IfYes v events cs
 
--- a record, how many steps were refused, its certificates and the verdict
-abbrev pub account_text : List Line → ℕ → List Certificate → Verdict → List ℕ
-account_text ls refused cs v = history_text ls ++ (refused_line refused ++ (commented cs ++ verdict_text true v))
+-- how many steps were refused, the certificates and the verdict
+abbrev pub account_text : ℕ → List Certificate → Verdict → List ℕ
+account_text refused cs v = refused_line refused ++ (commented cs ++ verdict_text true v)
 
 -- The lines of the record went out, and behind them what is said of it.
 pub record IsPutOut (r : Recorded AnyOp AnyReply) (refused : ℕ) (v : Verdict) (old new : Option (List ℕ)) : Type 0 where
-  pub lines : List Line
-  pub are_lines : AreLinesOf (journals_in (λ op. op) (λ reply. reply) r) lines
+  pub history : List ℕ
+  pub of_record : IsHistoryText (journals_in (λ op. op) (λ reply. reply) r) history
   pub certificates : List Certificate
   pub account : IsAccount (journals_in (λ op. op) (λ reply. reply) r) (logs_in (λ op. op) (λ reply. reply) r) certificates v
-  pub sent : Appends old new (account_text lines refused certificates v)
+  pub sent : Appends old new (history ++ account_text refused certificates v)
 
 abbrev pub IsYes : Verdict → Type 0
 IsYes (Yes s) = Unit {0}

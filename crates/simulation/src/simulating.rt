@@ -98,7 +98,7 @@ fn write_account<K: Sink>(
     sink: &mut K,
 ) -> Result<(), Failed>
     requires { K.broken sink.old ≡ false }
-    ensures { OnOk result (Appends (K.sent sink.old) (K.sent sink.new) (spec.refused_line refused ++ (spec.commented account.now.certificates.items ++ verdict_text true account.now.verdict))) }
+    ensures { OnOk result (Appends (K.sent sink.old) (K.sent sink.new) (spec.account_text refused account.now.certificates.items account.now.verdict)) }
 {
     write_line(b"; refused steps: ", refused, b"\n", sink)?;
     write_comments(&account.certificates, sink)?;
