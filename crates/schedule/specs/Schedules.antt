@@ -1,5 +1,5 @@
 -- What the text of a schedule says: a header, and then a step of a client for each further form.
-use Rattle.std.specs.Prelude.{◌≡◌, ℕ, nat_le, ◌&&◌, List, ◌∷◌, Option, Some, None, codes, map, option_map, option_and_then, if◌then◌else◌}
+use Rattle.std.specs.Prelude.{◌≡◌, ℕ, ◌<◌, ◌≤◌, nat_le, ◌&&◌, List, ◌∷◌, Option, Some, None, codes, map, option_map, option_and_then, if◌then◌else◌}
 use Rattle.edn.specs.Datum.{Datum, atom, vector, dictionary, Entries}
 use Rattle.model.specs.declared.AnyOp.{AnyOp}
 use Rattle.model.specs.declared.Kind.{Kind}
@@ -39,6 +39,12 @@ kinds_named k =
 abbrev pub header_with : Option Kinds → Option ℕ → Option ℕ → Option ℕ → Option Header
 header_with (Some k) (Some n) (Some c) (Some q) = Some (record { kinds = k; objects = n; clients = c; quota = q })
 header_with k n c q = None
+
+-- what a machine can be made of
+pub record IsWithin (h : Header) : Type 0 where
+  pub objects : (0 < h.objects) × (h.objects ≤ 16)
+  pub clients : (0 < h.clients) × (h.clients ≤ 32)
+  pub quota : h.quota ≤ 10000
 
 -- The header that a form is, if it is one: kinds, and how many objects, clients and calls of each client there are. Other
 -- keys are ignored.

@@ -1,9 +1,10 @@
 //! The header of a schedule.
 
-ghost use Rattle.std.specs.Prelude.{◌≡◌, ◌<◌, Some, option_map};
+ghost use Rattle.std.specs.Prelude.{◌≡◌, ◌<◌, ◌≤◌, IfSome, Some, option_map};
 ghost use Rattle.edn.specs.Datum.{dictionary, entries_of};
 ghost use Rattle.edn.specs.View.{view, pair_views};
 ghost use Rattle.schedule.specs.Schedules as spec;
+ghost use Rattle.schedule.specs.Schedules.{IsWithin};
 
 use edn::{Form, Name};
 use fields::{is_same, keyword, natural, value_at};
@@ -54,7 +55,8 @@ fn kinds_named(name: &[u8]) -> Option<Kinds>
 
 /// The number, where it is within these bounds.
 fn number_within(low: u32, high: u32, value: Option<u64>) -> Option<u32>
-    ensures { result ≡ spec.number_within low high value }
+    ensures number { result ≡ spec.number_within low high value }
+    ensures within { IfSome result (λ n. (low ≤ n) × (n ≤ high)) }
 {
     match value {
         Some(n) if u64::from(low) <= n && n <= u64::from(high) => Some(n as u32),
@@ -64,13 +66,15 @@ fn number_within(low: u32, high: u32, value: Option<u64>) -> Option<u32>
 
 /// The number that the map has for the key, where it is within these bounds.
 pub(crate) fn number_at(entries: &[(Name, Form)], key: &[u8], low: u32, high: u32) -> Option<u32>
-    ensures { result ≡ spec.number_at key.now low high (entries_of (pair_views entries.now)) }
+    ensures number { result ≡ spec.number_at key.now low high (entries_of (pair_views entries.now)) }
+    ensures within { IfSome result (λ n. (low ≤ n) × (n ≤ high)) }
 {
     number_within(low, high, natural(value_at(entries, key)))
 }
 
 fn header_in(entries: &[(Name, Form)]) -> Option<Header>
-    ensures { result ≡ spec.header_of (dictionary (entries_of (pair_views entries.now))) }
+    ensures header { result ≡ spec.header_of (dictionary (entries_of (pair_views entries.now))) }
+    ensures within { IfSome result IsWithin }
 {
     let kinds = kinds_named(keyword(value_at(entries, b"kind"))?.as_bytes())?;
     let objects = number_at(entries, b"objects", 1, 16)?;
@@ -87,7 +91,8 @@ fn header_in(entries: &[(Name, Form)]) -> Option<Header>
 /// The header that the form is, if it is one.
 #[tactic(auto, using(edn::proofs::Pairs::map_view))]
 pub(crate) fn header_of(form: &Form) -> Option<Header>
-    ensures { result ≡ spec.header_of (view form.now) }
+    ensures header { result ≡ spec.header_of (view form.now) }
+    ensures within { IfSome result IsWithin }
 {
     match form {
         Form::Map(entries) => header_in(entries),

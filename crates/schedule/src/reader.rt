@@ -3,7 +3,7 @@
 ghost use Rattle.std.specs.Prelude.{◌≡◌, ◌≢◌, ℕ, List, Some, None, IfOk, IfErr, map};
 ghost use Rattle.edn.specs.View.{views};
 ghost use Rattle.schedule.specs.Schedules as spec;
-ghost use Rattle.schedule.specs.Schedules.{Denotes, AnyStep};
+ghost use Rattle.schedule.specs.Schedules.{Denotes, AnyStep, IsWithin};
 ghost use Rattle.schedule.specs.Faults.{IsFirstFault, StepFaultIs};
 ghost use Rattle.schedule.specs.declared.header.Header.{Header};
 
@@ -52,6 +52,9 @@ fn read_steps(
 /// form, but for want of memory.
 pub fn read_schedule(alloc: Global, forms: &[Form]) -> Result<Schedule, ScheduleFault>
     ensures denotes { IfOk result (λ s. Denotes (views forms.now) s.header s.steps.items) }
+    // What the header asks for is within the bounds of a machine.
+    ensures within { IfOk result (λ s. IsWithin s.header) }
+
     ensures fault { IfErr result (IsFirstFault (views forms.now)) }
     // A fault means that the forms denote no schedule, but for want of memory.
     ensures refused { IfErr result (λ e. e.kind ≢ ScheduleFaultKind.NoMemory → (h : Header) (steps : List (ℕ × AnyStep)) → Denotes (views forms.now) h steps → ⊥) }

@@ -32,12 +32,6 @@ kinds_upto ks (suc n) = kinds_upto ks n ++ kind_of_object ks n ∷ []
 abbrev pub kinds_of : Header → List Kind
 kinds_of h = kinds_upto h.kinds h.objects
 
--- what a machine can be made of
-pub record IsWithin (h : Header) : Type 0 where
-  pub objects : (0 < h.objects) × (h.objects ≤ 16)
-  pub clients : (0 < h.clients) × (h.clients ≤ 32)
-  pub quota : h.quota ≤ 10000
-
 -- the world after the steps that are possible at their turn, with how many are not
 abbrev pub Takes : Header → List (ℕ × AnyStep) → ℕ → World → Type 0
 Takes h steps refused w = TakesPossible (kinds_of h) h.quota (start_of h.clients) (steps_in (λ op. op) steps) refused w

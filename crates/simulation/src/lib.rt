@@ -1,9 +1,11 @@
 //! What comes of a schedule: the machine that it asks for takes its steps, and the record is checked.
 #![tactic(auto)]
 
-mod play;
+mod playing;
+mod simulating;
 
-pub use play::{PlayFault, Played, play};
+pub use playing::{PlayFault, Played, play};
+pub use simulating::simulate;
 
 #[cfg(test)]
 mod tests;

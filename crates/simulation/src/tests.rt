@@ -1,7 +1,7 @@
 ghost use Rattle.std.specs.Prelude.{◌≡◌, ◌<◌, ◌≤◌, IfOk};
-ghost use Rattle.simulation.specs.Plays.{IsWithin};
 
-use crate::{PlayFault, Played, play};
+use crate::{PlayFault, Played, play, simulate};
+use edn::Out;
 use machine::Step;
 use model::{AnyOp, Kind};
 use schedule::{Header, Kinds, Schedule};
@@ -176,5 +176,90 @@ fn a_client_has_not_ended(rt: HostRuntime) -> Result<(), Fail> {
         return Err(Fail::new("two clients have not ended"));
     };
     assert_eq!(rt; fault, PlayFault::NotEnded(1));
+    Ok(())
+}
+
+// The text of a schedule, what is put out, and the status.
+fn simulated(alloc: Global, text: &str) -> Result<(Vec<u8>, u8), Fail> {
+    let mut sink = Out::new(Vec::new(alloc));
+    let status = simulate(alloc, text.as_bytes(), &mut sink);
+    Ok((sink.into_inner(), status))
+}
+
+const SERVED: &str = "{:kind :queue, :objects 1, :clients 2, :quota 1}
+{:client 0, :step :draw, :f :enqueue, :value 1, :object 0}
+{:client 1, :step :draw, :f :enqueue, :value 2, :object 0}
+{:client 0, :step :post} {:client 1, :step :post}
+{:client 1, :step :win, :object 0}
+{:client 1, :step :pick, :row 0} {:client 1, :step :answer}
+{:client 1, :step :pick, :row 1} {:client 1, :step :answer}
+{:client 1, :step :release} {:client 1, :step :take} {:client 1, :step :draw}
+{:client 0, :step :end} {:client 1, :step :end}";
+
+const SERVED_OUT: &str = "{:process 0, :type :invoke, :f :enqueue, :value 1, :object 0}
+{:process 1, :type :invoke, :f :enqueue, :value 2, :object 0}
+{:process 1, :type :ok, :f :enqueue, :value 2, :object 0}
+; refused steps: 0
+; {:object 0, :order [0 1]}
+; yes: 2 operations, 1 objects
+; queue: 1 objects, 2 operations
+";
+
+const ONE_HEADER: &str = "{:kind :queue, :objects 1, :clients 1, :quota 1}";
+
+#[test]
+fn schedules_are_played(rt: HostRuntime) -> Result<(), Fail> {
+    let rows = [
+        (SERVED, SERVED_OUT, 0),
+        (
+            "{:kind :queue, :objects 1, :clients 1, :quota 1} {:client 0, :step :post} {:client 0, :step :end}",
+            "; refused steps: 1\n; yes: 0 operations, 0 objects\n",
+            0,
+        ),
+        (
+            "{:kind :queue, :objects 1, :clients 1, :quota 1} {:client 3, :step :post} {:client 0, :step :win, :object 9} {:client 0, :step :pick, :row 31} {:client 0, :step :end}",
+            "; refused steps: 3\n; yes: 0 operations, 0 objects\n",
+            0,
+        ),
+        (ONE_HEADER, "client 0 has not ended\n", 2),
+        ("", "malformed schedule: S1 at form 0\n", 2),
+        ("nil", "malformed schedule: S1 at form 0\n", 2),
+        (
+            "{:kind :queue, :objects 17, :clients 1, :quota 1}",
+            "malformed schedule: S1 at form 0\n",
+            2,
+        ),
+        (
+            "{:kind :queue, :objects 1, :clients 1, :quota 1} {:client 0, :step :jump}",
+            "malformed schedule: S2 at form 1\n",
+            2,
+        ),
+        (
+            "{:kind :queue, :objects 1, :clients 1, :quota 1} {:client 0, :step :draw, :f :jump, :object 0}",
+            "malformed schedule: S2 at form 1\n",
+            2,
+        ),
+        (
+            "{:kind :queue, :objects 1, :clients 1, :quota 1} {:client 0, :step :draw, :f :enqueue, :value nil, :object 0}",
+            "malformed schedule: S2 at form 1\n",
+            2,
+        ),
+        (
+            "{:kind :queue, :objects 1, :clients 1, :quota 1} {:client 0, :step :draw, :f :enqueue, :value 1}",
+            "malformed schedule: S2 at form 1\n",
+            2,
+        ),
+        (
+            "{:kind :queue, :objects 1, :clients 1, :quota 1} {:client 0, :step :draw, :f nil}",
+            "malformed schedule: S2 at form 1\n",
+            2,
+        ),
+        ("{:kind :queue 007", "malformed schedule: E3 at byte 14\n", 2),
+    ];
+    for (text, out, status) in rows {
+        let (written, answered) = simulated(rt.alloc(), text)?;
+        assert_eq!(rt; written.as_slice(), out.as_bytes(), "at {text:?}");
+        assert_eq!(rt; answered, status, "at {text:?}");
+    }
     Ok(())
 }

@@ -1,5 +1,5 @@
 -- What is promised of the text of a record's history when it is read.
-use Rattle.std.specs.Prelude.{ℕ, ◌<◌, ◌≤◌, List, All, length}
+use Rattle.std.specs.Prelude.{◌≡◌, ℕ, ◌<◌, ◌≤◌, List, All, length}
 use Rattle.edn.specs.Datum.{Datum}
 use Rattle.edn.specs.Spells.{Spells}
 use Rattle.edn.specs.Text.{InProfile}
@@ -18,9 +18,15 @@ pub record DenotesEvents (text : List ℕ) (es : List Event) : Type 0 where
   pub spelled : Spells forms text
   pub denoted : Denotes forms es
 
--- The lines of a sound record, each with integers that a text can have, are read back as its events, where there are no
--- more objects than a text can have.
+-- the text of the journals' lines, each of which has integers and names that a text can have
+pub record IsReadableText (journals : ℕ → List AnyEvent) (text : List ℕ) : Type 0 where
+  pub lines : List Line
+  pub are_lines : AreLinesOf journals lines
+  pub text_is : text ≡ history_text lines
+  pub in_profile : All (λ l. InProfile (form_of l)) lines
+
+-- Such a text of a sound record is read back as its events, where there are no more objects than a text can have.
 abbrev pub WrittenDenotes : Type 0
 WrittenDenotes = (kinds : List Kind) (quota : ℕ) (journals : ℕ → List AnyEvent) (logs : ℕ → List AnyEntry)
     → IsSoundRecord kinds quota journals logs → quota < 10001 → length kinds ≤ 65536
-    → (ls : List Line) (es : List Event) → AreLinesOf journals ls → All (λ l. InProfile (form_of l)) ls → AreEventsOf journals es → DenotesEvents (history_text ls) es
+    → (text : List ℕ) (es : List Event) → IsReadableText journals text → AreEventsOf journals es → DenotesEvents text es

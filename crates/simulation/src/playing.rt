@@ -5,7 +5,8 @@ ghost use Rattle.model.specs.Objects.{empty, kind_with};
 ghost use Rattle.seq_objects.specs.AnyContent.{content_of};
 ghost use Rattle.world.specs.World.{World};
 ghost use Rattle.simulation.specs.Plays as spec;
-ghost use Rattle.simulation.specs.Plays.{IsWithin, IsPlayed, Takes, kinds_of};
+ghost use Rattle.simulation.specs.Plays.{IsPlayed, kinds_of};
+ghost use Rattle.schedule.specs.Schedules.{IsWithin};
 
 use machine::{Machine, Ran};
 use model::Kind;
