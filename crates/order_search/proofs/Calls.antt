@@ -15,7 +15,8 @@ use Rattle.events.specs.declared.operations.End.{End}
 use Rattle.events.specs.declared.operations.End.TheVariants.{Returned, Pending, Failed}
 use Rattle.events.specs.declared.operations.Invocation.{Invocation}
 use Rattle.events.specs.Operations.{call_with, call_of, calls_of, return_of, EndsAfter, IsObjectHistory, ObjectCalls}
-use Rattle.order_search.specs.Arranged.{as_call, call_at, owes, count_below, max_operations, AreFloors, IsArranged}
+use Rattle.order_search.specs.Arranged.{as_call, call_at, owes, count_below, AreFloors, IsArranged}
+use Rattle.order_search.specs.Outcomes.{max_operations}
 
 -- whether an operation may have happened
 abbrev pub happens : Invocation → Bool

@@ -8,10 +8,7 @@ use Rattle.model.specs.Orders.{Call, Return}
 use Rattle.events.specs.declared.operations.Invocation.{Invocation}
 use Rattle.events.specs.declared.operations.End.TheVariants.{Pending}
 use Rattle.events.specs.Operations.{return_of}
-
--- the most operations that a search takes on, those that failed apart
-abbrev pub max_operations : ℕ
-max_operations = 4096
+use Rattle.order_search.specs.Outcomes.{max_operations}
 
 -- an operation that did not fail, as a call
 abbrev pub as_call : Invocation → Call

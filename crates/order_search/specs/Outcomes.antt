@@ -1,9 +1,13 @@
 -- What a search answers.
-use Rattle.std.specs.Prelude.{ℤ, ⊤, List}
+use Rattle.std.specs.Prelude.{ℕ, ℤ, ⊤, List}
 use Rattle.model.specs.declared.Kind.{Kind}
 use Rattle.model.specs.Orders.{Call, IsValidOrder}
 use Rattle.order_search.specs.declared.finding.Outcome.{Outcome}
 use Rattle.order_search.specs.declared.finding.Outcome.TheVariants.{Found, Impossible, OutOfSteps, TooLarge, NoMemory}
+
+-- the most operations that a search takes on, those that failed apart
+abbrev pub max_operations : ℕ
+max_operations = 4096
 
 -- where an order was found, this holds of it
 abbrev pub IfFound : Outcome → (List ℤ → Type 0) → Type 0

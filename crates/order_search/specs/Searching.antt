@@ -8,7 +8,7 @@ use Rattle.order_search.specs.declared.trials.Trials.{Trials}
 use Rattle.order_search.specs.declared.dead.Pair.{Pair}
 use Rattle.order_search.specs.declared.walk.State.{State}
 use Rattle.order_search.specs.Arranged.{call_at, owes, count_below, IsArranged}
-use Rattle.order_search.specs.Continuations.{IsLeft, IsCandidate, Places, Continues, IsTried, IsDeadPair}
+use Rattle.order_search.specs.Continuations.{IsLeft, IsCandidate, Places, Continues, IsDead, IsDeadAt, IsTried, IsDeadPair}
 use Rattle.order_search.specs.Links.{Linked, IsStop, AreWithin, next_with, before_with}
 
 abbrev pub places : List Level → List ℕ
@@ -51,6 +51,25 @@ pub record IsWalk (n : ℕ) (call : ℕ → Call) (start : Content) (ls : List L
 abbrev pub AreTrials : Trials → Type 0
 AreTrials t = IsArranged t.kind t.items.items t.floors.items
 
+-- the places make an order of all calls that returned, from the empty content
+abbrev pub IsOrder : Trials → List ℕ → Type 0
+IsOrder t rest = Continues (length t.items.items) (call_at t.items.items) [] (empty t.kind) rest
+
+-- and none do
+abbrev pub IsNoOrder : Trials → Type 0
+IsNoOrder t = IsDead (length t.items.items) (call_at t.items.items) [] (empty t.kind)
+
+-- where the search stands nothing goes on, or nothing that begins with this place
+abbrev pub IsDeadHere : {X : Type 0} → (X → Content) → Trials → State X → Type 0
+IsDeadHere content t s = IsDead (length t.items.items) (call_at t.items.items) (places (reverse s.levels.items)) (content s.object)
+
+abbrev pub IsDeadAtPlace : {X : Type 0} → (X → Content) → Trials → State X → ℕ → Type 0
+IsDeadAtPlace content t s k = IsDeadAt (length t.items.items) (call_at t.items.items) (places (reverse s.levels.items)) (content s.object) k
+
+-- so many calls returned
+abbrev pub AreOwed : Trials → ℕ → Type 0
+AreOwed t left = left ≡ count_below (owes (call_at t.items.items) []) (length t.items.items)
+
 -- each remembered pair is dead
 abbrev pub AreDead : {X : Type 0} → (X → Content) → Trials → List (Pair X) → Type 0
 AreDead content t pairs = All (λ p. IsDeadPair (length t.items.items) (call_at t.items.items) p.high p.undone.items (content p.object)) pairs
@@ -63,5 +82,5 @@ pub record IsSearching {X : Type 0} (content : X → Content) (t : Trials) (s : 
 -- the numbers of an order of places that goes on from nothing
 pub record IsOrderOf (t : Trials) (order : List ℤ) : Type 0 where
   pub rest : List ℕ
-  pub goes_on : Continues (length t.items.items) (call_at t.items.items) [] (empty t.kind) rest
+  pub goes_on : IsOrder t rest
   pub numbers : order ≡ map (λ k. pos (call_at t.items.items k).number) rest

@@ -6,10 +6,9 @@ ghost use Rattle.model.specs.declared.AnyReply.{AnyReply};
 ghost use Rattle.model.specs.Objects.{empty};
 ghost use Rattle.model.specs.Orders.{IsValidOrder};
 ghost use Rattle.events.specs.Operations.{calls_of, return_of};
-ghost use Rattle.order_search.specs.Arranged.{call_at, owes, count_below, max_operations};
-ghost use Rattle.order_search.specs.Outcomes.{IfFound, IsNoneValid};
-ghost use Rattle.order_search.specs.Continuations.{IsDead};
-ghost use Rattle.order_search.specs.Searching.{AreTrials, IsOrderOf};
+ghost use Rattle.order_search.specs.Arranged.{call_at};
+ghost use Rattle.order_search.specs.Outcomes.{IfFound, IsNoneValid, max_operations};
+ghost use Rattle.order_search.specs.Searching.{AreTrials, AreOwed, IsNoOrder, IsOrderOf};
 
 use crate::level::Level;
 use crate::trials::{Trials, TryFirst, call_count, return_count};
@@ -67,12 +66,12 @@ fn ordered<S: SeqObject<Op = AnyOp, Reply = AnyReply>>(
     requires own_replies { (r : AnyReply) → S.reply_in r ≡ r }
     requires trials { AreTrials trials.now }
     requires empty { S.content object ≡ empty trials.now.kind }
-    requires counts { left ≡ count_below (owes (call_at trials.now.items.items) []) (length trials.now.items.items) }
+    requires counts { AreOwed trials.now left }
     requires owed { 0 < left }
     requires steps { steps.old ≤ limit }
     ensures steps { steps.new ≤ limit }
     ensures found { IfOk result (λ o. IfFound o (IsOrderOf trials.now)) }
-    ensures impossible { IfOk result (λ o. o ≡ Outcome.Impossible → IsDead (length trials.now.items.items) (call_at trials.now.items.items) [] (empty trials.now.kind)) }
+    ensures impossible { IfOk result (λ o. o ≡ Outcome.Impossible → IsNoOrder trials.now) }
     ensures out_of_steps { IfOk result (λ o. o ≡ Outcome.OutOfSteps → steps.new ≡ limit) }
     ensures decided { IfOk result (λ o. (o ≢ Outcome.TooLarge) × (o ≢ Outcome.NoMemory)) }
 {
@@ -115,7 +114,8 @@ fn searched(
 ///
 /// That a limit is enough is not promised.
 pub fn find_order(alloc: Global, history: &ObjectHistory, first: TryFirst, limit: u64) -> Attempt
-    ensures found { IfFound result.outcome (IsValidOrder history.now.kind (calls_of history.now.ops)) }
+    ensures found { IfFound result.outcome
+        (IsValidOrder history.now.kind (calls_of history.now.ops)) }
     ensures impossible { result.outcome ≡ Outcome.Impossible
         → IsNoneValid history.now.kind (calls_of history.now.ops) }
     ensures steps { result.steps ≤ limit }

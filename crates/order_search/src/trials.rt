@@ -4,7 +4,8 @@ ghost use Rattle.std.specs.Prelude.{◌≡◌, ◌<◌, ◌≤◌, length, IfOk,
 ghost use Rattle.std.specs.List.Sorted.{IsPermutation};
 ghost use Rattle.model.specs.Objects.{kind_of};
 ghost use Rattle.events.specs.Operations.{call_of, calls_of, return_of, IsObjectHistory};
-ghost use Rattle.order_search.specs.Arranged.{AreFloors, IsArranged, max_operations};
+ghost use Rattle.order_search.specs.Arranged.{AreFloors, IsArranged};
+ghost use Rattle.order_search.specs.Outcomes.{max_operations};
 
 use events::{End, Invocation, ObjectHistory};
 use seq_objects::Kind;

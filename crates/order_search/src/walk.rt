@@ -6,11 +6,10 @@ ghost use Rattle.model.specs.declared.AnyReply.{AnyReply};
 ghost use Rattle.model.specs.Objects.{empty, next, kind_with};
 ghost use Rattle.model.specs.Orders.{Return};
 ghost use Rattle.events.specs.Operations.{return_of};
-ghost use Rattle.order_search.specs.Arranged.{call_at, owes, count_below};
-ghost use Rattle.order_search.specs.Continuations.{Continues, IsDead, IsDeadAt};
+ghost use Rattle.order_search.specs.Arranged.{call_at};
 ghost use Rattle.order_search.specs.Links.{Linked};
 ghost use Rattle.order_search.specs.Replies.{Agrees, Differs, IsRefused};
-ghost use Rattle.order_search.specs.Searching.{places, AreTrials, AreDead, IsLeast, IsSearching};
+ghost use Rattle.order_search.specs.Searching.{places, AreTrials, AreOwed, IsLeast, IsOrder, IsNoOrder, IsDeadHere, IsDeadAtPlace, IsSearching};
 
 use crate::dead::{Dead, Pair};
 use crate::digest::Digest;
@@ -138,7 +137,7 @@ impl<S: SeqObject<Op = AnyOp, Reply = AnyReply>> State<S> {
     ) -> Result<State<S>, AllocError>
         requires trials { AreTrials trials.now }
         requires empty { S.content object ≡ empty trials.now.kind }
-        requires counts { left ≡ count_below (owes (call_at trials.now.items.items) []) (length trials.now.items.items) }
+        requires counts { AreOwed trials.now left }
         requires owed { 0 < left }
         ensures search { IfOk result (λ s. IsSearching S.content trials.now s) }
         ensures levels { IfOk result (λ s. s.levels.items ≡ []) }
@@ -165,11 +164,12 @@ impl<S: SeqObject<Op = AnyOp, Reply = AnyReply>> State<S> {
         requires trials { AreTrials trials.now }
         requires search { IsSearching S.content trials.now self.old }
         requires at { self.old.at < length trials.now.items.items }
-        requires dead_at { IsDeadAt (length trials.now.items.items) (call_at trials.now.items.items) (places (reverse self.old.levels.items)) (S.content self.old.object) self.old.at }
+        requires dead_at { IsDeadAtPlace S.content trials.now self.old self.old.at }
         ensures search { IsSearching S.content trials.now self.new }
         ensures rises { self.old.at < self.new.at }
         ensures levels { self.new.levels ≡ self.old.levels }
     {
+        // The trials are there for the contract alone.
         let _ = trials;
         self.at = self.undone.next[self.at as usize + 1];
     }
@@ -184,7 +184,7 @@ impl<S: SeqObject<Op = AnyOp, Reply = AnyReply>> State<S> {
         requires agrees { Agrees (call_at trials.now.items.items self.old.at).returned gives }
         requires of_kind { kind_with (S.content after) ≡ kind_with (S.content self.old.object) }
         ensures search { IfOk result (λ over. over ≡ false → IsSearching S.content trials.now self.new) }
-        ensures over { IfOk result (λ over. over ≡ true → Continues (length trials.now.items.items) (call_at trials.now.items.items) [] (empty trials.now.kind) (map (λ l. l.place) self.new.levels.items)) }
+        ensures over { IfOk result (λ over. over ≡ true → IsOrder trials.now (places self.new.levels.items)) }
         ensures deep { length self.new.levels.items ≤ length self.old.levels.items + 1 }
     {
         let place = self.at;
@@ -219,9 +219,9 @@ impl<S: SeqObject<Op = AnyOp, Reply = AnyReply>> State<S> {
     fn come_back(&mut self, alloc: Global, trials: &Trials) -> Result<bool, AllocError>
         requires trials { AreTrials trials.now }
         requires search { IsSearching S.content trials.now self.old }
-        requires dead_here { IsDead (length trials.now.items.items) (call_at trials.now.items.items) (places (reverse self.old.levels.items)) (S.content self.old.object) }
+        requires dead_here { IsDeadHere S.content trials.now self.old }
         ensures search { IfOk result (λ more. more ≡ true → IsSearching S.content trials.now self.new) }
-        ensures none { IfOk result (λ more. more ≡ false → IsDead (length trials.now.items.items) (call_at trials.now.items.items) [] (empty trials.now.kind)) }
+        ensures none { IfOk result (λ more. more ≡ false → IsNoOrder trials.now) }
         ensures back { IfOk result (λ more. more ≡ true → length self.old.levels.items ≡ length self.new.levels.items + 1) }
     {
         let Some(level) = self.levels.pop() else {
@@ -261,8 +261,8 @@ impl<S: SeqObject<Op = AnyOp, Reply = AnyReply>> State<S> {
         requires none { self.old.levels.items ≡ [] }
         requires steps { steps.old ≤ limit }
         ensures steps { steps.new ≤ limit }
-        ensures over { IfOk result (λ e. e ≡ Ending.Done → Continues (length trials.now.items.items) (call_at trials.now.items.items) [] (empty trials.now.kind) (map (λ l. l.place) self.new.levels.items)) }
-        ensures impossible { IfOk result (λ e. e ≡ Ending.Impossible → IsDead (length trials.now.items.items) (call_at trials.now.items.items) [] (empty trials.now.kind)) }
+        ensures over { IfOk result (λ e. e ≡ Ending.Done → IsOrder trials.now (places self.new.levels.items)) }
+        ensures impossible { IfOk result (λ e. e ≡ Ending.Impossible → IsNoOrder trials.now) }
         ensures out { IfOk result (λ e. e ≡ Ending.OutOfSteps → steps.new ≡ limit) }
     {
         loop {

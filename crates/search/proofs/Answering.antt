@@ -5,7 +5,7 @@ use Rattle.model.specs.declared.Kind.{Kind}
 use Rattle.model.specs.Orders.{Call, IsValidOrder}
 use Rattle.order_search.specs.declared.finding.Outcome.{Outcome}
 use Rattle.order_search.specs.declared.finding.Outcome.TheVariants as outcome
-use Rattle.order_search.specs.Arranged.{max_operations}
+use Rattle.order_search.specs.Outcomes.{max_operations}
 use Rattle.order_search.specs.Outcomes as order
 use Rattle.order_search.specs.Outcomes.{IsNoneValid}
 use Rattle.search.specs.declared.found.Found.{Found}

@@ -6,7 +6,7 @@ use Rattle.model.specs.Orders.{Call, IsValidOrder, calls_on}
 use Rattle.events.specs.declared.event.Event.{Event}
 use Rattle.events.specs.Events.{kind_at, denoted}
 use Rattle.certificate.specs.declared.Certificate.{Certificate}
-use Rattle.order_search.specs.Arranged.{max_operations}
+use Rattle.order_search.specs.Outcomes.{max_operations}
 use Rattle.order_search.specs.Outcomes.{IsNoneValid}
 use Rattle.order_search.specs.declared.finding.Outcome.{Outcome}
 use Rattle.order_search.specs.declared.finding.Outcome.TheVariants as outcome

@@ -25,7 +25,9 @@ pub fn search_all(
     limit: u64,
 ) -> Result<Vec<(u32, Search)>, AllocError>
     ensures rising { IfOk result (λ v. AllPairs (λ a b. a.0 < b.0) v.items) }
-    ensures named { IfOk result (λ v. (x : ℕ) → Contains (map (λ a. a.0) v.items) x ↔ IsNamed history.now x) }
+    // the objects that some invocation names, and no others
+    ensures named { IfOk result (λ v. (x : ℕ)
+        → Contains (map (λ a. a.0) v.items) x ↔ IsNamed history.now x) }
     ensures answers { IfOk result (λ v. All (λ a. IsAnswerOn history.now limit a.0 a.1) v.items) }
     // Where one is impossible the history is not linearizable.
     ensures impossible { IfOk result (λ v. Any (λ a. a.1.found ≡ Found.Impossible) v.items
@@ -46,7 +48,9 @@ pub fn search_all_by(
     limit: u64,
 ) -> Result<Vec<(u32, Search)>, AllocError>
     ensures rising { IfOk result (λ v. AllPairs (λ a b. a.0 < b.0) v.items) }
-    ensures named { IfOk result (λ v. (x : ℕ) → Contains (map (λ a. a.0) v.items) x ↔ IsNamed history.now x) }
+    // the objects that some invocation names, and no others
+    ensures named { IfOk result (λ v. (x : ℕ)
+        → Contains (map (λ a. a.0) v.items) x ↔ IsNamed history.now x) }
     ensures answers { IfOk result (λ v. All (λ a. IsAnswerOn history.now limit a.0 a.1) v.items) }
     ensures impossible { IfOk result (λ v. Any (λ a. a.1.found ≡ Found.Impossible) v.items
         → IsLinearizable (kind_at history.now) (events (denoted history.now)) → ⊥) }

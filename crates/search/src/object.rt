@@ -2,8 +2,7 @@
 
 ghost use Rattle.std.specs.Prelude.{◌≡◌, ◌<◌, ◌≤◌, ◌↔◌, length, Any, IsSome};
 ghost use Rattle.events.specs.Operations.{calls_of};
-ghost use Rattle.order_search.specs.Arranged.{max_operations};
-ghost use Rattle.order_search.specs.Outcomes.{IsNoneValid};
+ghost use Rattle.order_search.specs.Outcomes.{IsNoneValid, max_operations};
 ghost use Rattle.search.specs.Answers.{IfFound, IsFor, IsAnswer, found_in};
 
 use crate::found::{Found, Search};
@@ -30,7 +29,8 @@ fn found_of(object: u32, outcome: Outcome) -> Found
 ///
 /// That a limit is enough is not promised.
 pub fn search(alloc: Global, history: &ObjectHistory, limit: u64) -> Search
-    ensures found { IfFound result.found (IsFor history.now.object history.now.kind (calls_of history.now.ops)) }
+    ensures found { IfFound result.found
+        (IsFor history.now.object history.now.kind (calls_of history.now.ops)) }
     // No order is valid, and so the history is not linearizable.
     ensures impossible { result.found ≡ Found.Impossible
         → IsNoneValid history.now.kind (calls_of history.now.ops) }
