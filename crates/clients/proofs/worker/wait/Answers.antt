@@ -1,6 +1,4 @@
-use Rattle.std.proofs.Common.{true, false, sym, ◌∙◌}
-use Rattle.combiner.specs.Passes.{KeepsCalls}
-use Rattle.combiner.specs.Waits.{Returns}
+use Rattle.std.proofs.Common.{sym, ◌∙◌}
 use Rattle.combiner.proofs.Served.{keeps_on}
 use Rattle.combiner.proofs.Waited.{returns_on}
 use Rattle.clients.proofs.Works.{where_ok, where_err}
