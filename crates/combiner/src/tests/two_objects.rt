@@ -3,9 +3,7 @@
 ghost use Rattle.std.specs.Prelude.{◌≡◌, ◌<◌, length, IfOk};
 
 use super::{tickets_are, value};
-use publication::{
-    Client, Desk, JournalEvent, Pass, Picked, Post, Record, Unretired, Win,
-};
+use publication::{Client, Desk, JournalEvent, Pass, Picked, Post, Record, Unretired, Win};
 use seq_objects::{AnyObject, AnyOp, AnyReply, Kind};
 use std::alloc::{AllocError, Global};
 use std::process::Abort;
@@ -80,11 +78,13 @@ fn close<R: Abort>(
     ensures journals { length result.journals ≡ 2 }
     ensures logs { length result.logs ≡ 2 }
 {
-    let Err(Unretired {
-        desk,
-        mut last,
-        client,
-    }) = desk.close(zero)
+    let Err(
+        Unretired {
+            desk,
+            mut last,
+            client,
+        },
+    ) = desk.close(zero)
     else {
         panic!(rt; "the desk was closed")
     };
