@@ -17,7 +17,7 @@ use Rattle.publication.specs.Handles.{Holding, Handling}
 use Rattle.publication.specs.Calls.{NotPolled, Got, NotGot, CanDo, kind_held, Answered, IsPutBack}
 use Rattle.combiner.specs.declared.passes.Tried.{Tried}
 use Rattle.combiner.specs.declared.passes.Tried.TheVariants as tried
-use Rattle.combiner.specs.Passes.{KeepsCalls, Goes, IsTried, IsSettled, IsSettledBy, IsSettledNow, IsSameBut}
+use Rattle.combiner.specs.Passes.{KeepsCalls, Goes, IsTried, IsSettled, IsSettledBy, IsSettledNow, IsSameBut, HasLearnt}
 
 -- what stays where the own calls of w are written from those of v
 keeps_same : (v w u : View) → w ≡ u → KeepsCalls v u → KeepsCalls v w
@@ -56,6 +56,18 @@ goes_on p q r a b = record {
 -- where only the list and the ages changed
 pub goes_same : (p q : Holding) → IsSameBut p q → Goes p q
 goes_same p q s = subst (Goes p) (sym s.2) record { desk = refl; object = refl; tries = refl; log = starts_same p.log; seen = refl; calls = keeps_all p.knows; ready = λ e. e }
+
+-- where only the room for entries changed
+pub goes_room : (p q : Holding) (n : ℕ) → q ≡ record p { state = record p.state { room = n } } → Goes p q
+goes_room p q n is = subst (Goes p) (sym is) record { desk = refl; object = refl; tries = refl; log = starts_same p.log; seen = refl; calls = keeps_all p.knows; ready = λ e. e }
+
+-- the client after its pass, which served nothing, was put back
+pub only_learnt : (c : View) (x : ℕ) (p q : Holding) (v : View) (n : ℕ) → p.knows ≡ holding x p.log c → p.object ≡ x → q ≡ record p { state = record p.state { room = n } } → v ≡ learnt q.object q.log q.knows → seen_of v q.object ≡ q.log → HasLearnt x c v
+only_learnt c x p q v n opened on is knows seen =
+    let at : q.object ≡ x = ap (λ z. z.object) is ∙ on in
+    let log : seen_of v x ≡ q.log = subst (λ y. seen_of v y ≡ q.log) at seen in
+    let held : q.knows ≡ holding x p.log c = ap (λ z. z.knows) is ∙ opened in
+    knows ∙ λ i. learnt (at i) (sym log i) (held i)
 
 pub same_on : (p q r : Holding) → IsSameBut p q → IsSameBut q r → IsSameBut p r
 same_on p q r a b = (b.0, b.1, b.2 ∙ ap (λ (z : Holding). record z { state = record z.state { list = b.0; ages = b.1 } }) a.2)

@@ -46,3 +46,22 @@ called v u w object op a p r = record {
       let is : r.request ≡ q = (let e : own.Waiting r.request ≡ own.Waiting q = sym r.waited ∙ ap (λ z. z.own) p.knows in cc) in
       let l = subst (λ (z : View). IsLogged z q a r.ticket w) p.knows (subst (λ z. IsLogged u z a r.ticket w) is r.logged) in record { legal = l.legal; counted = l.counted; later = l.later };
 }
+
+-- the call was outstanding for some time before
+pub returns_on : (v u w : View) (a : AnyAnswer) → KeepsCalls v u → Returns u a w → Returns v a w
+returns_on v u w a k r = let x : ℕ = r.request.object in record {
+  ticket = r.ticket;
+  number = r.number ∙ k.number;
+  kinds = r.kinds ∙ k.kinds;
+  idle = r.idle;
+  calls = r.calls ∙ ap (λ z. length z + 1) k.done;
+  journal = r.journal ∙ (λ i. journal_of (k.done i) (own_request (k.own i)) ++ Returned r.ticket a ∷ []);
+  request = r.request;
+  waited = sym k.own ∙ r.waited;
+  seen = λ y. starts_longer (seen_of w y) (seen_of u y) (seen_of v y) (r.seen y) (k.seen y);
+  logged = record {
+    legal = subst (λ z. IsLegal (kind_at z x) (seen_of w x)) k.kinds r.logged.legal;
+    counted = (λ i. entries_of (sym k.number i) (seen_of w x)) ∙ (r.logged.counted ∙ λ i. served x (k.number i) (k.done i) ++ logged (k.number i) r.request a);
+    later = r.logged.later;
+  };
+}

@@ -3,7 +3,7 @@ use Rattle.std.specs.Prelude.{◌≡◌, ◌⊎◌, ℕ, true, List, ⊤}
 use Rattle.world.specs.World.{AnyEntry, AnyRequest, kind_at, StartsWith}
 use Rattle.desk_rule.specs.declared.board.Own.TheVariants as own
 use Rattle.desk_rule.specs.declared.board.View.{View}
-use Rattle.desk_rule.specs.Views.{seen_of}
+use Rattle.desk_rule.specs.Views.{seen_of, learnt}
 use Rattle.roster.specs.Calls.{WalkerSeen}
 use Rattle.publication.specs.Handles.{Holding}
 use Rattle.publication.specs.Calls.{CanDo}
@@ -53,10 +53,18 @@ abbrev pub IsTried : Holding → Tried → Type 0
 IsTried p tried.PutBack = (q : AnyRequest) → p.knows.own ≡ own.Waiting q → CanDo (kind_at p.knows.kinds p.object) p.log q.op → ⊥
 IsTried p t = (q : AnyRequest) → p.knows.own ≡ own.Waiting q → q.object ≡ p.object → p.knows.ready ≡ true
 
+-- the client has seen a log of the object x, and nothing else of it has changed
+abbrev pub HasLearnt : ℕ → View → View → Type 0
+HasLearnt x v w = w ≡ learnt x (seen_of w x) v
+
 abbrev pub IfServed : Combined → Type 0 → Type 0
 IfServed (combined.Served pass count) P = P
-IfServed combined.Busy P = ⊤
+IfServed c P = ⊤
 
 abbrev pub IfBusy : Combined → Type 0 → Type 0
-IfBusy (combined.Served pass count) P = ⊤
 IfBusy combined.Busy P = P
+IfBusy c P = ⊤
+
+abbrev pub IfNoMemory : Combined → Type 0 → Type 0
+IfNoMemory combined.NoMemory P = P
+IfNoMemory c P = ⊤

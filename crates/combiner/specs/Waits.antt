@@ -6,13 +6,11 @@ use Rattle.world.specs.declared.JournalEvent.TheVariants.{Invoked, Returned}
 use Rattle.desk_rule.specs.declared.board.Own.TheVariants as own
 use Rattle.desk_rule.specs.declared.board.View.{View}
 use Rattle.desk_rule.specs.Views.{journal, seen_of}
-use Rattle.publication.specs.declared.desk.Post.{Post}
+use Rattle.publication.specs.Handles.{DeskSeen, Known}
+use Rattle.publication.specs.Calls.{Posted, PostRefused}
+use Rattle.combiner.specs.Passes.{KeepsCalls}
 use Rattle.combiner.specs.declared.waiting.CallFault.{CallFault}
 use Rattle.combiner.specs.declared.waiting.CallFault.TheVariants as fault
-
--- why the call was not posted
-abbrev pub post_of : CallFault → Post
-post_of (fault.Post e) = e
 
 -- What the client has seen of the request's object after its call is over: a legal log, which holds of its own calls those
 -- before and this one, and in which all were invoked before this one returned.
@@ -47,3 +45,12 @@ pub record Called (v : View) (object : ℕ) (op : AnyOp) (a : AnyAnswer) (w : Vi
   pub journal : journal w ≡ journal v ++ Invoked invoked object op ∷ Returned returned a ∷ []
   pub seen : (x : ℕ) → StartsWith (seen_of w x) (seen_of v x)
   pub logged : IsLogged v (record { object = object; ticket = invoked; op = op }) a returned w
+
+-- the call was posted, and is outstanding still
+abbrev pub IsOutstanding : View → ℕ → AnyOp → View → Type 0
+IsOutstanding v object op w = (u : View) × Posted v object op u × KeepsCalls u w
+
+-- why the call on the object x was not answered: it was not posted, and the client is as it was; or memory was refused
+abbrev pub Faulted : DeskSeen → Known → ℕ → AnyOp → CallFault → Known → Type 0
+Faulted d c x op (fault.Post e) k = (k ≡ c) × PostRefused d c x op e
+Faulted d c x op fault.NoMemory k = IsOutstanding c.knows x op k.knows

@@ -8,7 +8,7 @@ mod passes;
 mod waiting;
 
 pub use passes::{Combined, combine};
-pub use waiting::{CallFault, call};
+pub use waiting::{CallFault, call, wait_for};
 
 #[cfg(test)]
 mod tests;

@@ -2,7 +2,7 @@
 
 ghost use Rattle.std.specs.Prelude.{◌≡◌, ◌<◌, ◌≤◌, length, IfSome};
 ghost use Rattle.desk_rule.specs.Views.{missing};
-ghost use Rattle.combiner.specs.Passes.{Goes, KeepsCalls, IsTried, IsSettled, IsSettledNow, IsSameBut, IfServed, IfBusy};
+ghost use Rattle.combiner.specs.Passes.{Goes, KeepsCalls, IsTried, IsSettled, IsSettledNow, IsSameBut, HasLearnt, IfServed, IfBusy, IfNoMemory};
 
 use publication::{Client, Desk, Pass, Picked, Win};
 use seq_objects::SeqObject;
@@ -14,6 +14,8 @@ pub enum Combined {
     Served { pass: u64, count: u64 },
     /// The object was held.
     Busy,
+    /// Memory for the log was refused, and nothing was served.
+    NoMemory,
 }
 
 /// What the try of a row did.
@@ -32,7 +34,7 @@ const CLEANING: u64 = 64;
 /// A row that was of no use for more passes than this goes out of the list.
 const IDLE: u64 = 128;
 
-/// Tries to win the object. If it is won, serves the client's own row, then each other row of the publication list, and
+/// Tries to win the object. If it is won, and the log has room for a call of each client, serves the client's own row, then each other row of the publication list, and
 /// then the own one again if its request was put back. A request whose operation is not possible is put back. In each pass
 /// whose number is a multiple of 64 it takes rows out of the list that were of no use in the last 128 passes, but never the
 /// first.
@@ -51,11 +53,16 @@ pub fn combine<S: SeqObject>(
     // do it after the log that the client has then seen.
     ensures served { IfServed result.1 (IsSettled object result.0.knows) }
     ensures busy { IfBusy result.1 (result.0.knows ≡ missing object client.knows) }
+    // Nothing was served: the client has seen the log, and knows nothing else.
+    ensures memory { IfNoMemory result.1 (HasLearnt object client.knows result.0.knows) }
 {
     match desk.win(client, object) {
         Win::Held(client) => (client, Combined::Busy),
         Win::Won(mut held) => {
             let pass = held.count_pass();
+            if held.reserve(desk.clients() as usize).is_err() {
+                return (held.release(desk), Combined::NoMemory);
+            }
             let (mut held, count) = serve(desk, held);
             clean(&mut held, pass);
             (held.release(desk), Combined::Served { pass, count })

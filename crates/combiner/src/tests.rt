@@ -3,6 +3,7 @@ ghost use Rattle.desk_rule.specs.declared.board.Own.TheVariants.{Idle};
 
 mod abandoned;
 mod listing;
+mod two_objects;
 
 use crate::{Combined, call, combine};
 use publication::{

@@ -2,20 +2,23 @@
 
 ghost use Rattle.std.specs.Prelude.{◌≡◌, ◌<◌, length, IfOk, IfErr};
 ghost use Rattle.world.specs.Images.{answer_in};
-ghost use Rattle.publication.specs.Calls.{PostRefused};
-ghost use Rattle.combiner.specs.Waits.{Called, Returns, post_of};
+ghost use Rattle.combiner.specs.Passes.{KeepsCalls};
+ghost use Rattle.combiner.specs.Waits.{Called, Returns, Faulted};
 
-use crate::passes::combine;
+use crate::passes::{Combined, combine};
 use crossbeam_utils::Backoff;
 use publication::{Answer, Client, Desk, Post};
 use seq_objects::SeqObject;
+use std::alloc::AllocError;
 use std::sync::Wait;
 
-/// Why a call was not made.
+/// Why a call was not answered.
 #[derive(Clone, Copy, Debug, PartialEq, Eq)]
 pub enum CallFault {
-    /// P1 to P4.
+    /// P1 to P4: it was not posted.
     Post(Post),
+    /// Memory was refused to a pass of its own. The call is outstanding, and `wait_for` goes on with it.
+    NoMemory,
 }
 
 /// Posts a call, and then polls, enlists the row and combines until it is answered.
@@ -30,36 +33,45 @@ pub fn call<S: SeqObject, R: Wait>(
     ensures desk { result.0.desk ≡ client.desk }
     // The call is over, and what `poll` answered is its answer.
     ensures answered { IfOk result.1 (λ a. Called client.knows object (S.op_in op) (answer_in S.reply_in a) result.0.knows) }
-    ensures fault { IfErr result.1 (λ e. (result.0 ≡ client) × PostRefused desk.now client object (S.op_in op) (post_of e)) }
+    ensures fault { IfErr result.1 (λ e. Faulted desk.now client object (S.op_in op) e result.0) }
 {
     let mut client = client;
     if let Err(fault) = desk.post(&mut client, object, op) {
         return (client, Err(CallFault::Post(fault)));
     }
-    let (client, answer) = wait_for(rt, desk, client, object);
-    (client, Ok(answer))
+    let (client, answered) = wait_for(rt, desk, client, object);
+    match answered {
+        Ok(answer) => (client, Ok(answer)),
+        Err(_) => (client, Err(CallFault::NoMemory)),
+    }
 }
 
-// Polls, enlists and combines until the outstanding call is answered.
-fn wait_for<S: SeqObject, R: Wait>(
+/// Polls, enlists the row and combines until the outstanding call is answered, or memory is refused to a pass of its own.
+pub fn wait_for<S: SeqObject, R: Wait>(
     rt: &R,
     desk: &Desk<S>,
     client: Client<S>,
     object: u32,
-) -> (Client<S>, Answer<S::Reply>)
+) -> (Client<S>, Result<Answer<S::Reply>, AllocError>)
     requires desk { client.desk ≡ desk.now.id }
     requires object { object < length desk.now.id.kinds }
     ensures desk { result.0.desk ≡ client.desk }
-    ensures returns { Returns client.knows (answer_in S.reply_in result.1) result.0.knows }
+    ensures returns { IfOk result.1 (λ a. Returns client.knows (answer_in S.reply_in a) result.0.knows) }
+    // The call stays outstanding.
+    ensures stays { IfErr result.1 (λ _. KeepsCalls client.knows result.0.knows) }
 {
     let mut client = client;
     let backoff = Backoff::new();
     for _ in rt.forever() {
         if let Some(answer) = desk.poll(&mut client) {
-            return (client, answer);
+            return (client, Ok(answer));
         }
         desk.enlist(&mut client, object);
-        client = combine(desk, client, object).0;
+        let (after, combined) = combine(desk, client, object);
+        client = after;
+        if combined == Combined::NoMemory {
+            return (client, Err(AllocError));
+        }
         backoff.snooze();
     }
     unreachable!()

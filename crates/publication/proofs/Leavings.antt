@@ -1,5 +1,5 @@
 -- What stands in the slots of a desk when all clients but one have ended, and that one holds nothing.
-use Rattle.std.proofs.Common.{◌≡◌, ◌≢◌, ◌⊎◌, ℕ, zero, suc, ◌+◌, ◌<◌, ◌≤◌, true, List, [], ◌∷◌, map, length, get_or, Option, Some, None, Contains, All, refl, sym, ap, subst, ◌∙◌, ⊎_elim, arith}
+use Rattle.std.proofs.Common.{◌≡◌, ◌≢◌, ℕ, zero, suc, ◌+◌, ◌<◌, ◌≤◌, true, List, [], ◌∷◌, map, length, get_or, Option, Some, None, Contains, All, refl, sym, ap, subst, ◌∙◌, ⊎_elim, arith}
 use mathlib.Core.Logic.{dite}
 use mathlib.Core.Option.{some}
 use native.Mathlib.Decide.{ℕ_discrete}
@@ -21,7 +21,6 @@ use Rattle.world.specs.Images.{entry_in, event_in}
 use Rattle.recorder.specs.Records.{Recorded}
 use Rattle.desk_rule.specs.declared.board.Core.{Core}
 use Rattle.desk_rule.specs.declared.board.Journal.{Journal}
-use Rattle.desk_rule.specs.declared.board.Own.TheVariants as own
 use Rattle.desk_rule.specs.declared.board.Plan.{Plan}
 use Rattle.desk_rule.specs.declared.board.Slot.{Slot}
 use Rattle.desk_rule.specs.declared.board.Slot.TheVariants as slot

@@ -190,14 +190,7 @@ fn make_all<S: SeqObject>(
         let places = Places {
             all: owners.remove(0),
         };
-        made.push_reserved(make(
-            table,
-            &mut founder,
-            journal,
-            places,
-            number,
-            quota,
-        ));
+        made.push_reserved(make(table, &mut founder, journal, places, number, quota));
         number += 1;
     }
 }

@@ -1,4 +1,4 @@
-use Rattle.std.proofs.Common.{rules, arith, ◌≡◌, ◌∷◌, [], true, refl, sym, ap, subst, ◌∙◌}
+use Rattle.std.proofs.Common.{rules, arith, ◌∷◌, [], sym, ap, subst, ◌∙◌}
 use Rattle.desk_rule.specs.declared.board.View.{View}
 use Rattle.desk_rule.specs.Views.{journal, leaving, ending, IsAtRest}
 use Rattle.desk_rule.proofs.Ends.{ends_it}
