@@ -173,6 +173,16 @@ fn say_form_fault<K: Sink>(fault: ScheduleFault, sink: &mut K) -> u8
     }
 }
 
+/// The status that says whether the certificates are valid.
+fn status_of(verdict: &Verdict) -> u8
+    ensures { result ≡ 0 → IsYes verdict.now }
+{
+    match verdict {
+        Verdict::Yes(_) => YES,
+        _ => NO,
+    }
+}
+
 /// Puts out the record and what is said of it, and answers the status of the verdict.
 fn put_out<K: Sink>(alloc: Global, played: &Played, sink: &mut K) -> u8
     requires { K.broken sink.old ≡ false }
@@ -186,12 +196,9 @@ fn put_out<K: Sink>(alloc: Global, played: &Played, sink: &mut K) -> u8
         Err(WriteFault::NoMemory) => return say(b"out of memory\n", NO_MEMORY, sink),
         Err(WriteFault::Device) => return FAILED,
     }
-    if write_account(played.refused, &account, sink).is_err() {
-        return FAILED;
-    }
-    match account.verdict {
-        Verdict::Yes(_) => YES,
-        _ => NO,
+    match write_account(played.refused, &account, sink) {
+        Ok(()) => status_of(&account.verdict),
+        Err(Failed) => FAILED,
     }
 }
 

@@ -5,8 +5,8 @@ use Rattle.simulation.proofs.simulating.write_comments.Given as goal
 
 abbrev pub invariant-loop-certificate : goal.invariant-loop-certificate
 invariant-loop-certificate g l = record {
-  usable : g.S.Sink.broken l.sink ≡ false;
+  usable : g.K.Sink.broken l.sink ≡ false;
   done : List ℕ;
   parts : commented l.certificates ≡ done ++ commented (drop l.certificate-index l.certificates);
-  sent : Appends (g.S.Sink.sent l.initial.sink) (g.S.Sink.sent l.sink) done;
+  sent : Appends (g.K.Sink.sent l.initial.sink) (g.K.Sink.sent l.sink) done;
 }
