@@ -1,5 +1,5 @@
 -- What is wrong with the forms of a schedule, and which fault is the first.
-use Rattle.std.specs.Prelude.{◌≡◌, ◌≢◌, ℕ, ◌+◌, List, [], ◌∷◌, ◌++◌, length, Some, None, All}
+use Rattle.std.specs.Prelude.{◌≡◌, ◌≢◌, ℕ, ◌+◌, List, [], ◌∷◌, ◌++◌, length, None, All}
 use Rattle.edn.specs.Datum.{Datum}
 use Rattle.schedule.specs.Schedules.{header_of, step_of}
 use Rattle.schedule.specs.declared.fault.ScheduleFault.{ScheduleFault}

@@ -2,7 +2,6 @@
 use Rattle.std.specs.Prelude.{◌≡◌, ℕ, ◌<◌, ◌≤◌, nat_le, ◌&&◌, List, ◌∷◌, Option, Some, None, codes, map, option_map, option_and_then, if◌then◌else◌}
 use Rattle.edn.specs.Datum.{Datum, atom, vector, dictionary, Entries}
 use Rattle.model.specs.declared.AnyOp.{AnyOp}
-use Rattle.model.specs.declared.Kind.{Kind}
 use Rattle.model.specs.declared.Kind.TheVariants.{Queue, Stack, Heap, Register, Map, Mutex}
 use Rattle.seq_objects.specs.Values.{op_with}
 use Rattle.fields.specs.Fields.{same_bytes, value_at, natural_in, keyword_in, value_in}

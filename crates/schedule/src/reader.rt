@@ -23,10 +23,7 @@ pub struct Schedule {
 }
 
 /// The steps that the forms are, which stand behind a header.
-fn read_steps(
-    alloc: Global,
-    forms: &[Form],
-) -> Result<Vec<(u32, Step<AnyOp>)>, ScheduleFault>
+fn read_steps(alloc: Global, forms: &[Form]) -> Result<Vec<(u32, Step<AnyOp>)>, ScheduleFault>
     ensures steps { IfOk result (λ v. map spec.step_of (views forms.now) ≡ map (λ s. Some s) v.items) }
     ensures fault { IfErr result (λ e. StepFaultIs (views forms.now) e.kind e.form) }
 {

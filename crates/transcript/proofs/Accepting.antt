@@ -1,5 +1,5 @@
 -- The certificates of a sound record are valid.
-use Rattle.std.proofs.Common.{◌≡◌, ℕ, ◌<◌, ◌==◌, Bool, true, false, cond, inl, inr, List, [], ◌∷◌, filter, map, All, AllPairs, Contains, refl, ap, sym, ◌∙◌, subst, arith}
+use Rattle.std.proofs.Common.{◌≡◌, ℕ, ◌<◌, ◌==◌, Bool, true, false, cond, inl, inr, List, [], ◌∷◌, map, refl, ap, sym, ◌∙◌, subst}
 use Rattle.std.proofs.lemmas.Bool.{eqb-true, eq-eqb}
 use Rattle.model.specs.declared.Kind.{Kind}
 use Rattle.model.specs.declared.AnyOp.{AnyOp}
@@ -16,12 +16,12 @@ use Rattle.events.specs.declared.event.Action.TheVariants.{Invoke, Ok, Fail, Inf
 use Rattle.events.specs.declared.event.Event.{Event}
 use Rattle.events.specs.Events.{IsProper, IsNamed, kind_at, kind_in, denoted}
 use Rattle.events.proofs.WellFormed.{denoted_is_history}
-use Rattle.recorder.specs.Histories.{AreEventsOf, events_of}
+use Rattle.recorder.specs.Histories.{AreEventsOf}
 use Rattle.recorder.proofs.Same.{same_by_parts}
 use Rattle.recorder.proofs.Journals.{invocation_of}
 use Rattle.recorder.proofs.Making.{turns_in, events_in, are_events, is_proper, among}
 use Rattle.certificate.specs.declared.Certificate.{Certificate}
-use Rattle.checker.specs.Refusals.{HasCertificate, AreValid}
+use Rattle.checker.specs.Refusals.{AreValid}
 use Rattle.transcript.specs.Accounts.{AreCertificatesOf}
 use Rattle.transcript.proofs.Naming.{own_event, named_in, named_by}
 use Rattle.transcript.proofs.Denoting.{part_denotes, denotes_once}

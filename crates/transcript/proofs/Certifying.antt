@@ -1,7 +1,7 @@
 -- The certificates of a record.
-use Rattle.std.proofs.Common.{◌≡◌, ◌≢◌, ◌↔◌, ℕ, ℤ, pos, ◌+◌, ◌<◌, inl, inr, List, [], ◌∷◌, ◌++◌, length, map, take, get_or, All, AllPairs, Contains, refl, ap, sym, ◌∙◌, subst, arith}
+use Rattle.std.proofs.Common.{◌≡◌, ◌↔◌, ℕ, ℤ, pos, ◌+◌, ◌<◌, List, [], ◌∷◌, ◌++◌, length, map, take, get_or, All, AllPairs, Contains, refl, ap, sym, ◌∙◌, subst}
 use Rattle.std.proofs.lemmas.List.{map-append, take_more}
-use Rattle.model.proofs.Lists.{In, in_from_get, in_map, in_map_from, in_from_contains, contains_from_in, all_at, all_from_in, pairs_from_all, all_from_pairs, pairs_map, pairs_from_map}
+use Rattle.model.proofs.Lists.{In, in_from_get, in_map_from, in_from_contains, contains_from_in, all_at, all_from_in, pairs_from_all, all_from_pairs, pairs_map, pairs_from_map}
 use Rattle.model.specs.declared.AnyOp.{AnyOp}
 use Rattle.model.specs.declared.AnyReply.{AnyReply}
 use Rattle.world.specs.declared.LogEntry.{LogEntry}
@@ -13,7 +13,7 @@ use Rattle.events.specs.Events.{IsNamed}
 use Rattle.events.specs.Operations.{ObjectCalls}
 use Rattle.certificate.specs.declared.Certificate.{Certificate}
 use Rattle.recorder.specs.Records.{Recorded, log_at}
-use Rattle.recorder.specs.Histories.{AreEventsOf, IsNamedIn, IsRecord, IsRecordOf, journals_in, logs_in, max_tickets}
+use Rattle.recorder.specs.Histories.{AreEventsOf, IsNamedIn, IsRecord, IsRecordOf, logs_in, max_tickets}
 use Rattle.recorder.proofs.Same.{same_by_parts}
 use Rattle.transcript.specs.Accounts.{AreCertificatesOf}
 use Rattle.transcript.proofs.Naming.{named_in, named_by}

@@ -1,5 +1,5 @@
 -- What the events of journals denote is the history of the journals.
-use Rattle.std.proofs.Common.{◌≡◌, ℕ, ◌<◌, ◌==◌, Bool, true, false, cond, inl, inr, List, [], ◌∷◌, ◌++◌, filter, find, Option, Some, None, refl, ap, sym, ◌∙◌, subst}
+use Rattle.std.proofs.Common.{◌≡◌, ℕ, ◌==◌, Bool, true, false, cond, inl, inr, List, [], ◌∷◌, ◌++◌, filter, find, Some, refl, ap, sym, ◌∙◌, subst}
 use Rattle.std.proofs.lemmas.List.Elements.{filter-append}
 use Rattle.std.proofs.lemmas.Bool.{eqb-true, eq-eqb}
 use Rattle.model.specs.Histories.{Inv, Res, process_of}
@@ -14,7 +14,7 @@ use Rattle.events.specs.declared.event.Action.{Action}
 use Rattle.events.specs.declared.event.Action.TheVariants.{Invoke, Ok, Fail, Info}
 use Rattle.events.specs.declared.event.Event.{Event}
 use Rattle.events.specs.Events.{next_event, is_fail, fails, denoted_by, denoted}
-use Rattle.recorder.specs.Histories.{action_of, events_from}
+use Rattle.recorder.specs.Histories.{events_from}
 use Rattle.recorder.proofs.Journals.{InTurn, none, last, call}
 
 -- the next event of a process is its own part's first

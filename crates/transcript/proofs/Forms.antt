@@ -1,24 +1,17 @@
 -- The forms of lines are a history's maps, and none of them is faulty.
-use Rattle.std.proofs.Common.{◌≡◌, ◌≢◌, ℕ, zero, suc, ◌+◌, ◌<◌, ◌≤◌, ◌==◌, nat_le, Bool, true, false, cond, inl, inr, List, [], ◌∷◌, ◌++◌, map, length, find, reverse, Option, Some, None, IfNone, option_map, All, Contains, refl, ap, sym, ◌∙◌, subst, arith}
+use Rattle.std.proofs.Common.{◌≡◌, ℕ, ◌≤◌, cond, Option, Some, None, option_map, refl, ap, sym, ◌∙◌}
 use Rattle.std.specs.Prelude.{option_and_then}
-use Rattle.std.proofs.lemmas.Option.{same_Some}
-use Rattle.std.proofs.lemmas.List.{reverse-append}
-use Rattle.std.proofs.lemmas.Bool.{leb-true, le-leb}
+use Rattle.std.proofs.lemmas.Bool.{le-leb}
 use Rattle.model.specs.declared.AnyOp.{AnyOp}
 use Rattle.model.specs.declared.AnyOp.TheVariants as op
-use Rattle.model.specs.declared.AnyReply.{AnyReply}
-use Rattle.model.proofs.Lists.{In}
-use Rattle.edn.specs.Datum.{Datum}
-use Rattle.seq_objects.specs.declared.function.Function.{Function}
 use Rattle.seq_objects.specs.declared.value.Value.{Value}
 use Rattle.seq_objects.specs.declared.value.Value.TheVariants.{Nil, False, Int, Pair}
 use Rattle.seq_objects.specs.Functions.{name_of}
 use Rattle.seq_objects.specs.Values.{function_in, op_with, op_value, reply_value, reply_with}
 use Rattle.events.specs.declared.event.Action.{Action}
 use Rattle.events.specs.declared.event.Action.TheVariants.{Invoke, Ok, Fail, Info}
-use Rattle.events.specs.Events.{HasShape}
 use Rattle.fields.specs.Fields.{max_object, object_in}
-use Rattle.history.specs.Maps.{ClientMap, MapType, invoke, ok, fail, info, client_of, client_with, type_named, plain_value, op_in, reply_in}
+use Rattle.history.specs.Maps.{ClientMap, MapType, invoke, ok, fail, info, client_of, client_with, type_named, plain_value}
 use Rattle.history.specs.Names.{function_named}
 use Rattle.history.specs.Denotes.{action_of}
 use Rattle.history.proofs.Naming.{named_is}

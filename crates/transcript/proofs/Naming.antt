@@ -1,5 +1,5 @@
 -- The objects that journals name are those that their events name.
-use Rattle.std.proofs.Common.{◌≡◌, ℕ, ◌==◌, inl, inr, List, [], ◌∷◌, filter, Contains, refl, ap, sym, ◌∙◌, subst}
+use Rattle.std.proofs.Common.{◌≡◌, ℕ, ◌==◌, inl, inr, List, [], ◌∷◌, Contains, refl, sym, subst}
 use Rattle.std.proofs.lemmas.Bool.{eq-eqb}
 use Rattle.model.specs.declared.AnyOp.{AnyOp}
 use Rattle.model.proofs.Lists.{In, in_filter, in_filter_from, in_from_contains, contains_from_in}
@@ -16,10 +16,10 @@ event_of : (c x : ℕ) (js : List AnyEvent) (t y : ℕ) (op : AnyOp) → In (Inv
 event_of c x [] t y op i = absurd i
 event_of c x (Invoked u z o ∷ js) t y op i = elim i [
   | inl e ↦
-    let number : t ≡ u = cc (e) in
-    let object : y ≡ z = cc (e) in
-    let same : op ≡ o = cc (e) in
-    inl (λ k. record { number = number k; process = c; object = object k; action = Invoke (same k) })
+      let number : t ≡ u = cc (e) in
+      let object : y ≡ z = cc (e) in
+      let same : op ≡ o = cc (e) in
+      inl (λ k. record { number = number k; process = c; object = object k; action = Invoke (same k) })
   | inr j ↦ inr (event_of c z js t y op j)
 ]
 event_of c x (Returned u a ∷ js) t y op i = elim i [ inl e ↦ absurd (cc (e)) | inr j ↦ inr (event_of c x js t y op j) ]

@@ -1,12 +1,12 @@
 -- The lines of a sound record are read back as its events.
-use Rattle.std.proofs.Common.{◌≡◌, ◌≢◌, ℕ, zero, suc, ◌+◌, ◌<◌, ◌≤◌, ◌==◌, Bool, true, false, cond, inl, inr, List, [], ◌∷◌, ◌++◌, map, filter, length, find, reverse, Option, Some, None, option_map, All, Contains, lit<, refl, ap, sym, ◌∙◌, subst, eq-eqb, length-append, arith}
-use Rattle.std.specs.List.{filter_map, cons_option}
+use Rattle.std.proofs.Common.{◌≡◌, ◌≢◌, ℕ, ◌+◌, ◌<◌, ◌≤◌, ◌==◌, Bool, true, false, cond, inl, inr, List, [], ◌∷◌, ◌++◌, map, length, find, reverse, Option, Some, None, option_map, All, lit<, refl, ap, sym, ◌∙◌, subst, eq-eqb, length-append, arith}
+use Rattle.std.specs.List.{cons_option}
 use Rattle.std.proofs.lemmas.Option.{same_Some}
 use Rattle.std.proofs.lemmas.List.{reverse-append, map-append, length-map}
 use Rattle.model.specs.declared.Kind.{Kind}
 use Rattle.model.specs.declared.AnyOp.{AnyOp}
 use Rattle.model.specs.Objects.{kind_of}
-use Rattle.model.proofs.Lists.{In, Pairs, in_map, in_map_from, in_filter, in_filter_from, in_from_contains, in_split, in_append, in_left, in_middle, all_at, pairs_from_all}
+use Rattle.model.proofs.Lists.{In, Pairs, in_map, in_map_from, in_filter, in_filter_from, in_from_contains, in_split, in_left, in_middle, all_at, pairs_from_all}
 use Rattle.edn.specs.Datum.{Datum, Fits, max_open}
 use Rattle.edn.specs.Text.{InProfile}
 use Rattle.edn.specs.Laws.{EachSpelled}
@@ -22,12 +22,12 @@ use Rattle.fields.specs.Fields.{max_object}
 use Rattle.history.specs.declared.fault.HistoryFaultKind.{HistoryFaultKind}
 use Rattle.history.specs.declared.fault.HistoryFaultKind.TheVariants.{NotAnOperation, UnknownFunction, BadValue, MixedKinds, Busy, Stray, Mismatch, AfterInfo, TooMany, NoMemory}
 use Rattle.history.specs.Maps.{ClientMap, MapType, invoke, ok, fail, info, client_of, clients, op_in, reply_in}
-use Rattle.history.specs.Faults.{last_map, HasBadValue, ClientFault, IsFault, IsFaultless, IsOutstanding, IsClosed}
+use Rattle.history.specs.Faults.{last_map, HasBadValue, ClientFault, IsFaultless, IsOutstanding, IsClosed}
 use Rattle.history.specs.Denotes.{action_of, event_with, event_of, events_from}
 use Rattle.history.specs.Seen.{FaultOf}
 use Rattle.history.proofs.OneMore.{fault_of}
 use Rattle.history.proofs.Laws.{kind_of_op}
-use Rattle.world.specs.declared.JournalEvent.TheVariants.{Invoked, Returned}
+use Rattle.world.specs.declared.JournalEvent.TheVariants.{Invoked}
 use Rattle.world.specs.World.{AnyEntry, AnyEvent, kind_at, ticket_of}
 use Rattle.world.specs.Sound.{IsAmong}
 use Rattle.world.specs.Records.{IsSoundRecord}
@@ -37,7 +37,7 @@ use Rattle.recorder.proofs.Journals.{InTurn, none, last, call, numbers_of}
 use Rattle.recorder.proofs.Making.{turns_in, among, is_record}
 use Rattle.transcript.specs.declared.line.Call.{Call}
 use Rattle.transcript.specs.declared.line.Line.{Line}
-use Rattle.transcript.specs.Lines.{value_of, value_form, form_of, history_text, lines_from, lines_of, AreLinesOf, events_in}
+use Rattle.transcript.specs.Lines.{value_of, value_form, form_of, history_text, lines_from, AreLinesOf, events_in}
 use Rattle.transcript.specs.Reading.{DenotesEvents}
 use Rattle.transcript.proofs.Gathered.{same_events}
 use Rattle.transcript.proofs.Runs.{MayFollow, Follows, last_line, line_follows}
@@ -57,11 +57,13 @@ counted n count (e ∷ es) up within each =
     let is : e.number ≡ n = elim first.1 [
       | inl s ↦ ap (λ (x : Event). x.number) (sym s) ∙ first.2
       | inr i ↦ let l = up.0 first.0 i in let q = first.2 in let h = here.0 in absurd (omega arith)
-    ] in
-    (is, counted (n + 1) count es up.1 (λ f i. let l = up.0 f i in let w = within f (inr i) in (omega arith, w.1))
-    (λ t low high.
-    let f = each t (omega arith) high in
-    (f.0, elim f.1 [ inl s ↦ (let q : e.number ≡ t = ap (λ (x : Event). x.number) (sym s) ∙ f.2 in absurd (omega arith)) | inr i ↦ i ], f.2)))
+    ] in (
+      is,
+      counted (n + 1) count es up.1 (λ f i. let l = up.0 f i in let w = within f (inr i) in (omega arith, w.1))
+          (λ t low high.
+          let f = each t (omega arith) high in
+          (f.0, elim f.1 [ inl s ↦ (let q : e.number ≡ t = ap (λ (x : Event). x.number) (sym s) ∙ f.2 in absurd (omega arith)) | inr i ↦ i ], f.2)),
+    )
 
 count_few : (n m : ℕ) (es : List Event) → CountFrom n es → ((e : Event) → In e es → e.number < m) → n ≤ m → n + length es ≤ m
 count_few n m [] c low le = omega arith
@@ -323,6 +325,6 @@ module _ (kinds : List Kind) (quota : ℕ) (journals : ℕ → List AnyEvent) (l
     denoted = record {
       faultless = faultless;
       events = (same_by_parts (λ (e : Event). e.number) (λ (e : Event). e.process) es record_is.events (pairs_from_all (λ (a b : Event). a.number < b.number) es h.rising) (pairs_from_all (λ (a b : Event). a.number < b.number) record_is.events record_is.are_events.rising) (λ c. h.each c ∙ sym (record_is.are_events.each c)) ∙ same)
-      ∙ events_are 0 ls numbered (λ l i. (object_low l i, says_action l i));
+          ∙ events_are 0 ls numbered (λ l i. (object_low l i, says_action l i));
     };
   }

@@ -1,22 +1,18 @@
 -- The lines of a client: a call, what came of it, the next call, and so on.
-use Rattle.std.proofs.Common.{◌≡◌, ℕ, ◌+◌, ◌<◌, ◌==◌, Bool, true, false, cond, inl, inr, List, [], ◌∷◌, ◌++◌, filter, map, find, reverse, Option, Some, None, refl, ap, sym, ◌∙◌, subst, append_assoc}
+use Rattle.std.proofs.Common.{◌≡◌, ℕ, ◌==◌, Bool, true, false, cond, List, [], ◌∷◌, ◌++◌, filter, find, reverse, Option, Some, None, refl, ap, sym, ◌∙◌, subst, append_assoc}
 use Rattle.std.proofs.lemmas.List.{reverse-append}
-use Rattle.std.proofs.lemmas.Bool.{eqb-true, eq-eqb}
+use Rattle.std.proofs.lemmas.Bool.{eq-eqb}
 use Rattle.model.specs.declared.AnyOp.{AnyOp}
-use Rattle.model.specs.declared.AnyReply.{AnyReply}
-use Rattle.model.proofs.Lists.{In}
 use Rattle.world.specs.declared.Answer.TheVariants.{Reply, Refused}
 use Rattle.world.specs.declared.JournalEvent.TheVariants.{Invoked, Returned}
 use Rattle.world.specs.World.{AnyAnswer, AnyEvent}
 use Rattle.events.specs.declared.event.Action.{Action}
 use Rattle.events.specs.declared.event.Action.TheVariants.{Invoke, Ok, Fail, Info}
-use Rattle.events.specs.declared.event.Event.{Event}
 use Rattle.events.specs.Events.{HasShape}
-use Rattle.recorder.specs.Histories.{action_of}
 use Rattle.recorder.proofs.Journals.{InTurn, none, last, call, Fits}
 use Rattle.transcript.specs.declared.line.Call.{Call}
 use Rattle.transcript.specs.declared.line.Line.{Line}
-use Rattle.transcript.specs.Lines.{call_after, event_with, lines_from, lines_of}
+use Rattle.transcript.specs.Lines.{event_with, lines_from, lines_of}
 
 -- the line of a call that is under way
 abbrev pub Pending : Option Line → ℕ → AnyOp → Type 0

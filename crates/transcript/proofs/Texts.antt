@@ -1,8 +1,7 @@
 -- The text of a line's form is that of its pieces.
-use Rattle.std.proofs.Common.{◌≡◌, ℕ, ◌+◌, ◌<◌, ◌++◌, [], ◌∷◌, List, length, drop, get_or, map, refl, ap, sym, ◌∙◌, append_assoc, codes, decimal}
-use Rattle.std.specs.Fmt.{signed_decimal}
+use Rattle.std.proofs.Common.{◌≡◌, ℕ, ◌+◌, ◌<◌, ◌++◌, [], ◌∷◌, List, length, drop, get_or, refl, ap, sym, ◌∙◌, append_assoc, codes, decimal}
 use Rattle.std.proofs.lemmas.List.{drop_more, append-nil}
-use Rattle.edn.specs.Text.{text_of, lines_of}
+use Rattle.edn.specs.Text.{text_of}
 use Rattle.seq_objects.specs.Functions.{name_of}
 use Rattle.seq_objects.specs.Values.{function_in}
 use Rattle.seq_objects.specs.declared.value.Value.{Value}

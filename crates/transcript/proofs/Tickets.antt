@@ -1,5 +1,5 @@
 -- The journals of a record, as they lie in memory.
-use Rattle.std.proofs.Common.{◌≡◌, ℕ, ◌<◌, ◌≤◌, ◌==◌, List, [], ◌∷◌, ◌++◌, length, drop, map, filter, get_or, All, refl, ap, sym, ◌∙◌, subst}
+use Rattle.std.proofs.Common.{◌≡◌, ℕ, ◌<◌, ◌≤◌, ◌==◌, List, [], ◌∷◌, ◌++◌, length, drop, map, filter, get_or, refl, ap, sym, ◌∙◌, subst}
 use Rattle.std.specs.declared.vec.Vec.{Vec}
 use Rattle.std.proofs.Math.ListN as ListN
 use Rattle.std.proofs.lemmas.List.{get_or-map, append-nil, at_drop_all}

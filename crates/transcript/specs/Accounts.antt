@@ -1,9 +1,5 @@
 -- What is said of a record: its certificates, and that they are accepted.
-use Rattle.std.specs.Prelude.{◌≡◌, ℕ, ◌+◌, ◌<◌, ◌≤◌, ◌↔◌, List, [], ◌∷◌, All, AllPairs, Contains, map}
-use Rattle.edn.specs.Datum.{Datum}
-use Rattle.edn.specs.Spells.{Spells}
-use Rattle.fields.specs.Fields.{max_object}
-use Rattle.history.specs.Denotes.{Denotes}
+use Rattle.std.specs.Prelude.{◌≡◌, ℕ, ◌<◌, ◌↔◌, List, All, AllPairs, Contains, map}
 use Rattle.world.specs.World.{AnyEntry, AnyEvent}
 use Rattle.world.specs.Records.{order_of}
 use Rattle.events.specs.declared.event.Event.{Event}

@@ -2,7 +2,7 @@
 use Rattle.std.proofs.Common.{◌≡◌, ℕ, ◌<◌, ◌==◌, List, filter, ap, sym, ◌∙◌, subst}
 use Rattle.model.specs.Histories.{IsSequential, process_of}
 use Rattle.model.specs.Orders.{Numbered, events, ProcessCall, calls_in, IsHistory}
-use Rattle.model.proofs.Lists.{In, Pairs, all_from_pairs, pairs_from_all}
+use Rattle.model.proofs.Lists.{Pairs, all_from_pairs, pairs_from_all}
 use Rattle.world.specs.World.{World, journal_in, tickets_in, request_of}
 use Rattle.world.specs.Sound.{ShareOut}
 use Rattle.world.specs.Records.{Denotes, IsHistoryOf}

@@ -1,4 +1,4 @@
-use Rattle.std.proofs.Common.{ℤ, pos, map, ap, ◌∙◌}
+use Rattle.std.proofs.Common.{pos, map, ap, ◌∙◌}
 use Rattle.std.proofs.lemmas.List.{take_all}
 use Rattle.transcript.proofs.Certifying.{tickets_of}
 use Rattle.transcript.proofs.accounts.order_of.Goals as goal

@@ -1,6 +1,6 @@
-use Rattle.std.proofs.Common.{◌≡◌, ◌++◌, ◌≤◌, [], length, map, drop, ap, sym, ◌∙◌}
+use Rattle.std.proofs.Common.{◌++◌, map, ap, ◌∙◌}
 use Rattle.world.specs.Images.{event_in}
-use Rattle.transcript.specs.Lines.{lines_in, lines_of}
+use Rattle.transcript.specs.Lines.{lines_of}
 use Rattle.transcript.proofs.Journals.{journal_more}
 use Rattle.transcript.proofs.Tickets.{all_lines, low_in}
 use Rattle.transcript.proofs.line.gather.Goals as goal

@@ -1,4 +1,4 @@
-use Rattle.std.proofs.Common.{rules, map, subst, sym}
+use Rattle.std.proofs.Common.{rules, map, subst}
 use Rattle.std.specs.List.Sorted.{IsPermutation}
 use Rattle.std.proofs.lemmas.List.Sorted.{IsNonDecreasingBy-from_sort_by_key}
 use Rattle.world.specs.Images.{event_in}
