@@ -1,7 +1,6 @@
 -- What is put out of a record.
-use Rattle.std.proofs.Common.{◌≡◌, ◌∙◌, ℕ, List, [], ◌∷◌, ◌++◌, ◌<◌, ◌+◌, length, drop, get_or, map, true, refl, ap, sym, subst, codes, Option}
+use Rattle.std.proofs.Common.{◌≡◌, ◌∙◌, ℕ, List, [], ◌∷◌, ◌++◌, ◌<◌, ◌+◌, length, drop, get_or, map, refl, ap, sym, subst, codes}
 use Rattle.std.proofs.lemmas.List.{drop_more}
-use Rattle.std.specs.Io.KnownBytes.{Appends}
 use Rattle.model.specs.declared.AnyOp.{AnyOp}
 use Rattle.model.specs.declared.AnyReply.{AnyReply}
 use Rattle.world.specs.declared.Answer.TheVariants.{Reply, Refused}

@@ -11,8 +11,7 @@ use Rattle.recorder.specs.Records.{Recorded}
 use Rattle.report.specs.declared.verdict.Summary.{Summary}
 use Rattle.certificate.specs.declared.Certificate.{Certificate}
 use Rattle.certificate.specs.Lines.{line_of}
-use Rattle.transcript.specs.declared.line.Line.{Line}
-use Rattle.transcript.specs.Lines.{AreLinesOf, history_text}
+use Rattle.transcript.specs.Written.{IsHistoryText}
 use Rattle.transcript.specs.Accounts.{AreCertificatesOf, IsAccepted, IsRefused}
 use Rattle.report.specs.Lines.{verdict_text}
 use Rattle.report.specs.declared.verdict.Verdict.{Verdict}
@@ -51,11 +50,11 @@ Says journals logs NoMemory = ⊤
 
 -- the lines of the record's history, and its certificates as comments
 pub record IsTextOf (journals : ℕ → List AnyEvent) (logs : ℕ → List AnyEntry) (text : List ℕ) : Type 0 where
-  pub lines : List Line
+  pub history : List ℕ
   pub certificates : List Certificate
-  pub are_lines : AreLinesOf journals lines
+  pub is_history : IsHistoryText journals history
   pub are_certificates : AreCertificatesOf journals logs certificates
-  pub text_is : text ≡ history_text lines ++ commented certificates
+  pub text_is : text ≡ history ++ commented certificates
 
 -- The same, and the verdict on the record as comments. That of a sound record is yes, but for want of memory.
 pub record IsReported (journals : ℕ → List AnyEvent) (logs : ℕ → List AnyEntry) (status : ℕ) (text : List ℕ) : Type 0 where

@@ -110,10 +110,7 @@ pub(crate) fn report_record<S: Sink>(alloc: Global, record: &Record<AnyObject>, 
 }
 
 /// What two clients did at one queue, each in a thread of its own.
-fn recorded<R: Threads + Wait + Sync>(
-    rt: &R,
-    alloc: Global,
-) -> Result<Record<AnyObject>, RunFault>
+fn recorded<R: Threads + Wait + Sync>(rt: &R, alloc: Global) -> Result<Record<AnyObject>, RunFault>
     ensures { IfOk result IsSound }
 {
     let workload = two_calls(alloc)?;

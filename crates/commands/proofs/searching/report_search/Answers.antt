@@ -1,4 +1,4 @@
-use Rattle.std.proofs.Common.{rules, ◌≡◌, inl, inr, refl, false}
+use Rattle.std.proofs.Common.{rules, inl, inr, refl, false}
 use Rattle.edn.specs.Sent.{SendsFront}
 use Rattle.report.specs.Lines.{verdict_text}
 use Rattle.commands.specs.Statuses.{status_of}
