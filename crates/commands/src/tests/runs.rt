@@ -8,7 +8,7 @@ use schedule::{Header, Kinds, Schedule};
 use seq_objects::{AnyObject, AnyOp, Kind};
 use simulation::play;
 
-type Steps = [(u32, Step<AnyOp>)];
+type Turn = (u32, Step<AnyOp>);
 
 /// The record of these steps of two clients, at one queue.
 const QUEUE: Header = Header {
@@ -26,7 +26,7 @@ const MIXED: Header = Header {
     quota: 4,
 };
 
-fn record_of(alloc: Global, mixed: bool, steps: &Steps) -> Result<Record<AnyObject>, Fail> {
+fn record_of(alloc: Global, mixed: bool, steps: &[Turn]) -> Result<Record<AnyObject>, Fail> {
     let header = if mixed { MIXED } else { QUEUE };
     let steps = Vec::from_slice(alloc, steps)?;
     match play(alloc, &Schedule { header, steps }) {
@@ -40,7 +40,7 @@ fn record_of(alloc: Global, mixed: bool, steps: &Steps) -> Result<Record<AnyObje
 fn check_record<R: AllocGlobal + Abort>(
     rt: &R,
     mixed: bool,
-    steps: &Steps,
+    steps: &[Turn],
     expected: &str,
 ) -> Result<(), Fail> {
     let record = record_of(rt.alloc(), mixed, steps)?;
@@ -61,7 +61,7 @@ const TWO_CLIENTS: &str = "{:process 0, :type :invoke, :f :enqueue, :value 1, :o
     ; yes: 3 operations, 1 objects\n\
     ; queue: 1 objects, 3 operations\n";
 
-const OVERLAPPING_STEPS: [(u32, Step<AnyOp>); 24] = [
+const OVERLAPPING_STEPS: [Turn; 24] = [
     (0, Step::Draw(Some((0, AnyOp::Enqueue(1))))),
     (1, Step::Draw(Some((0, AnyOp::Enqueue(2))))),
     (0, Step::Post),
@@ -156,7 +156,7 @@ fn two_kinds(rt: HostRuntime) -> Result<(), Fail> {
 }
 
 /// Puts the steps of one call of client 0 behind the others, which serves itself.
-fn push_call(steps: &mut Vec<(u32, Step<AnyOp>)>, object: u32, op: AnyOp) -> Result<(), Fail> {
+fn push_call(steps: &mut Vec<Turn>, object: u32, op: AnyOp) -> Result<(), Fail> {
     for step in [
         Step::Draw(Some((object, op))),
         Step::Post,
