@@ -1,14 +1,14 @@
-//! A fingerprint of the operations done and the content.
+//! A digest of the operations done and the content.
 
 use seq_objects::{AnyOp, AnyReply};
 
-/// Of two ways to do the same operations that leave the same content the fingerprints are equal. That is why pairs
-/// are found again; that a pair is the same one is always compared.
+/// Two ways to do the same operations that leave the same content have one digest, so that a pair is found again by its
+/// hash. Whether it is the same pair is always compared: nothing is promised of a digest.
 #[derive(Clone, Copy, Debug)]
 pub(crate) struct Digest {
     done: u64,
     content: u64,
-    // How many values have gone in, and how many out at the other end.
+    /// How many values have gone in at the back, those that came out there again taken off, and how many out in front.
     back: u64,
     front: u64,
 }
