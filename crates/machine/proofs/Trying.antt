@@ -7,7 +7,7 @@ use Rattle.machine.specs.declared.step.StepFault.{StepFault}
 use Rattle.machine.specs.declared.step.StepFault.TheVariants.{NotNow, NoMemory}
 use Rattle.machine.specs.Machines.{State, HasRun, world_of}
 use Rattle.machine.specs.Runs.{IsImpossible}
-use Rattle.machine.specs.Steps.{IsDraw, IsPossible, IsTaken, Tries}
+use Rattle.machine.specs.Steps.{IsDraw, IsPossible, Tries}
 use Rattle.machine.proofs.Kept.{run_taken}
 
 pub not_now : {R : Type 0} (reply_in : R → AnyReply) (s s' : State) (c : ℕ) (w v : Step) (r : Result (Outcome R) StepFault) → w ≡ v → Tries reply_in s c v r s' → IfErr r (λ e. e ≡ NotNow → IsImpossible s.kinds s.quota (world_of s) (c, w))

@@ -1,15 +1,14 @@
 -- A machine that has taken the steps of a schedule.
-use Rattle.std.proofs.Common.{◌≡◌, ℕ, zero, suc, ◌+◌, ◌<◌, true, List, [], ◌∷◌, ◌++◌, length, map, All, add-one, length-append, refl, ap, sym, ◌∙◌, subst, arith}
+use Rattle.std.proofs.Common.{◌≡◌, ℕ, zero, suc, ◌+◌, ◌<◌, List, [], ◌∷◌, ◌++◌, length, map, All, add-one, length-append, refl, ap, sym, ◌∙◌, subst, arith}
 use Rattle.std.proofs.lemmas.List.{map-append, length-map}
 use Rattle.std.proofs.lemmas.List.Elements.{All-push}
 use Rattle.model.specs.declared.AnyOp.{AnyOp}
 use Rattle.model.specs.declared.AnyReply.{AnyReply}
 use Rattle.model.specs.declared.Kind.{Kind}
-use Rattle.model.specs.Objects.{Content, empty, kind_with}
+use Rattle.model.specs.Objects.{empty, kind_with}
 use Rattle.seq_objects.specs.declared.any_object.AnyObject.{AnyObject}
 use Rattle.seq_objects.specs.AnyContent.{content_of}
 use Rattle.world.specs.World.{World, journal_in}
-use Rattle.world.specs.Moves as world
 use Rattle.world.specs.Records.{IsSoundRecord}
 use Rattle.world.proofs.SameKind.{kind_replayed}
 use Rattle.recorder.specs.Records.{Recorded}

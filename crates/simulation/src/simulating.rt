@@ -52,12 +52,7 @@ fn write_natural<K: Sink>(n: usize, sink: &mut K) -> Result<(), Failed>
 }
 
 /// A text, a number, and the rest of the line.
-fn write_line<K: Sink>(
-    before: &[u8],
-    n: usize,
-    after: &[u8],
-    sink: &mut K,
-) -> Result<(), Failed>
+fn write_line<K: Sink>(before: &[u8], n: usize, after: &[u8], sink: &mut K) -> Result<(), Failed>
     requires { K.broken sink.old ≡ false }
     ensures ok { OnOk result (Appends (K.sent sink.old) (K.sent sink.new) (before.now ++ (decimal n ++ after.now))) }
     ensures usable { OnOk result (K.broken sink.new ≡ false) }
@@ -92,11 +87,7 @@ fn write_comments<K: Sink>(certificates: &[Certificate], sink: &mut K) -> Result
 }
 
 /// What stands behind the history: the refused steps, the certificates and the verdict.
-fn write_account<K: Sink>(
-    refused: usize,
-    account: &Account,
-    sink: &mut K,
-) -> Result<(), Failed>
+fn write_account<K: Sink>(refused: usize, account: &Account, sink: &mut K) -> Result<(), Failed>
     requires { K.broken sink.old ≡ false }
     ensures { OnOk result (Appends (K.sent sink.old) (K.sent sink.new) (spec.account_text refused account.now.certificates.items account.now.verdict)) }
 {
@@ -167,8 +158,18 @@ fn say_form_fault<K: Sink>(fault: ScheduleFault, sink: &mut K) -> u8
     ensures { result ≢ 0 }
 {
     match fault.kind {
-        ScheduleFaultKind::NoHeader => say_number(b"malformed schedule: S1 at form ", fault.form, b"\n", sink),
-        ScheduleFaultKind::NotAStep => say_number(b"malformed schedule: S2 at form ", fault.form, b"\n", sink),
+        ScheduleFaultKind::NoHeader => say_number(
+            b"malformed schedule: S1 at form ",
+            fault.form,
+            b"\n",
+            sink,
+        ),
+        ScheduleFaultKind::NotAStep => say_number(
+            b"malformed schedule: S2 at form ",
+            fault.form,
+            b"\n",
+            sink,
+        ),
         ScheduleFaultKind::NoMemory => say(b"out of memory\n", NO_MEMORY, sink),
     }
 }
@@ -218,7 +219,12 @@ pub fn simulate<K: Sink>(alloc: Global, text: &[u8], sink: &mut K) -> u8
     };
     match play(alloc, &schedule) {
         Ok(played) => put_out(alloc, &played, sink),
-        Err(PlayFault::NotEnded(client)) => say_number(b"client ", client as usize, b" has not ended\n", sink),
+        Err(PlayFault::NotEnded(client)) => say_number(
+            b"client ",
+            client as usize,
+            b" has not ended\n",
+            sink,
+        ),
         Err(PlayFault::NoMemory) => say(b"out of memory\n", NO_MEMORY, sink),
     }
 }

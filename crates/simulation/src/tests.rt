@@ -254,7 +254,11 @@ fn schedules_are_played(rt: HostRuntime) -> Result<(), Fail> {
             "malformed schedule: S2 at form 1\n",
             2,
         ),
-        ("{:kind :queue 007", "malformed schedule: E3 at byte 14\n", 2),
+        (
+            "{:kind :queue 007",
+            "malformed schedule: E3 at byte 14\n",
+            2,
+        ),
     ];
     for (text, out, status) in rows {
         let (written, answered) = simulated(rt.alloc(), text)?;

@@ -1,4 +1,4 @@
-use Rattle.std.proofs.Common.{ap, ◌∙◌, arith, subst, sym}
+use Rattle.std.proofs.Common.{◌∙◌, arith, subst}
 use Rattle.std.proofs.Common.{List, ℕ}
 use Rattle.schedule.specs.Schedules.{AnyStep}
 use Rattle.machine.specs.Machines.{world_of}
