@@ -1,8 +1,8 @@
 //! Judges each example in the folder where it runs, and says of each whether lines and exit status are as expected.
 #![tactic(auto)]
 
-use edn::Out;
 use commands::{line, perform};
+use edn::Out;
 use std::io::Write;
 use std::process::ExitCode;
 use std::rt::Files;
