@@ -174,7 +174,7 @@ first_fault fs i f cs among kind lt is h fault other = record {
 }
 
 -- a certificate of an object that no earlier form has
-nothing_here : (ds : List Datum) (cs : List Certificate) (among : ℕ → Bool) (d : Datum) (r : Reading) → AreRead ds cs among → certificate_of d ≡ Some r → among r.object ≡ false → (kind : CertFaultKind) → IsFault ds d kind → ⊥
+pub nothing_here : (ds : List Datum) (cs : List Certificate) (among : ℕ → Bool) (d : Datum) (r : Reading) → AreRead ds cs among → certificate_of d ≡ Some r → among r.object ≡ false → (kind : CertFaultKind) → IsFault ds d kind → ⊥
 nothing_here ds cs among d r h own new NotACertificate fault = cc
 nothing_here ds cs among d r h own new TwoForOneObject fault =
     let f = read_from ds cs fault.first fault.stands.0 h.denoted.each fault.stands.1 fault.stands.2 in

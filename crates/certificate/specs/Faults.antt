@@ -6,6 +6,12 @@ use Rattle.certificate.specs.declared.fault.CertFaultKind.{CertFaultKind}
 use Rattle.certificate.specs.declared.fault.CertFaultKind.TheVariants.{NotACertificate, TwoForOneObject, NoMemory}
 use Rattle.certificate.specs.declared.fault.CertFault.{CertFault}
 
+-- the number that is printed behind the letter K
+abbrev pub number_of : CertFaultKind → ℕ
+number_of NotACertificate = 1
+number_of TwoForOneObject = 2
+number_of NoMemory = 3
+
 -- one of the earlier forms is a certificate of the same object
 pub record IsSecond (earlier : List Datum) (d : Datum) : Type 0 where
   pub own : Reading

@@ -1,5 +1,9 @@
 //! What is wrong with a text of certificates.
 
+ghost use Rattle.std.specs.Prelude.{◌≡◌};
+
+use edn::EdnFault;
+
 /// What is wrong with a form.
 #[derive(Clone, Copy, Debug, PartialEq, Eq)]
 pub enum CertFaultKind {
@@ -11,9 +15,31 @@ pub enum CertFaultKind {
     NoMemory,
 }
 
+impl CertFaultKind {
+    ghost use Rattle.certificate.specs.Faults.{number_of};
+
+    /// The number behind the letter K.
+    pub fn number(self) -> u8
+        ensures { result ≡ number_of self }
+    {
+        match self {
+            CertFaultKind::NotACertificate => 1,
+            CertFaultKind::TwoForOneObject => 2,
+            CertFaultKind::NoMemory => 3,
+        }
+    }
+}
+
 /// A fault, and the number of its form, from 0.
 #[derive(Clone, Copy, Debug, PartialEq, Eq)]
 pub struct CertFault {
     pub kind: CertFaultKind,
     pub form: usize,
+}
+
+/// What is wrong with a text of certificates: with the text itself, or with an element of it.
+#[derive(Clone, Copy, Debug, PartialEq, Eq)]
+pub enum CertTextFault {
+    Text(EdnFault),
+    Forms(CertFault),
 }

@@ -3,10 +3,12 @@
 
 mod fault;
 mod reader;
+mod text_reader;
 mod writer;
 
-pub use fault::{CertFault, CertFaultKind};
+pub use fault::{CertFault, CertFaultKind, CertTextFault};
 pub use reader::read_certificates;
+pub use text_reader::read_certificates_text;
 pub use writer::write_certificates;
 
 /// An order of an object's operations, by the numbers of their invocations. Nothing is promised of the numbers.

@@ -93,7 +93,8 @@ fn next_certificate(
 ) -> Result<Certificate, CertFaultKind>
     ensures own { IfOk result (λ c. spec.certificate_of (view form.now) ≡ Some (spec.reading_of c)) }
     ensures new { IfOk result (λ c. contains nat_cmp objects.old c.object ≡ false) }
-    ensures among { IfOk result (λ c. (x : ℕ) → contains nat_cmp objects.new x ≡ (if c.object == x then true else contains nat_cmp objects.old x)) }
+    ensures among { IfOk result (λ c. (x : ℕ) →
+        contains nat_cmp objects.new x ≡ (if c.object == x then true else contains nat_cmp objects.old x)) }
     ensures fault { IfErr result (IsFaultAmong (contains nat_cmp objects.old) (view form.now)) }
 {
     let Some((object, entries)) = parts_in(form) else {
@@ -120,9 +121,11 @@ pub fn read_certificates(alloc: Global, forms: Vec<Form>) -> Result<Vec<Certific
 
     ensures fault { IfErr result (λ e. e.kind ≢ CertFaultKind.NoMemory → IsFirstFault (views forms.items) e) }
     // Memory ran out where nothing was wrong yet, up to this form and with it.
-    ensures memory { IfErr result (λ e. e.kind ≡ CertFaultKind.NoMemory → IsSoundAt (views forms.items) e.form) }
+    ensures memory { IfErr result (λ e. e.kind ≡ CertFaultKind.NoMemory →
+        IsSoundAt (views forms.items) e.form) }
     // Such a fault means that the forms denote no certificates.
-    ensures refused { IfErr result (λ e. e.kind ≢ CertFaultKind.NoMemory → (cs : List Certificate) → Denotes (views forms.items) cs → ⊥) }
+    ensures refused { IfErr result (λ e. e.kind ≢ CertFaultKind.NoMemory → (cs : List Certificate) →
+        Denotes (views forms.items) cs → ⊥) }
 {
     let mut certificates = Vec::new(alloc);
     let mut objects = BTreeSet::new(alloc);

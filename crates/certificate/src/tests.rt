@@ -3,7 +3,7 @@ ghost use Rattle.edn.specs.Datum.{Fits, max_open};
 ghost use Rattle.edn.specs.View.{view};
 
 use super::*;
-use edn::{Form, Out, WriteFault, fits, read_forms};
+use edn::{EdnFault, FaultKind, Form, Out, WriteFault, fits, read_forms};
 use std::alloc::Global;
 use std::test::Fail;
 
@@ -14,7 +14,7 @@ fn all_fit(forms: &[Form]) -> bool
     forms.iter().all(|f| fits(f))
 }
 
-/// What the text reads as.
+/// What the text reads as, by way of forms and without them.
 fn read(alloc: Global, text: &[u8]) -> Result<Result<Vec<Certificate>, CertFault>, Fail> {
     let Ok(forms) = read_forms(alloc, text) else {
         return Err(Fail::new("a text of forms is refused"));
@@ -22,7 +22,16 @@ fn read(alloc: Global, text: &[u8]) -> Result<Result<Vec<Certificate>, CertFault
     if !all_fit(forms.as_slice()) {
         return Err(Fail::new("a form that was read does not fit"));
     }
-    Ok(read_certificates(alloc, forms))
+    let answer = read_certificates(alloc, forms);
+    let same = match (&answer, read_certificates_text(alloc, text)) {
+        (Ok(certificates), Ok(other)) => certificates.as_slice() == other.as_slice(),
+        (Err(fault), Err(CertTextFault::Forms(other))) => *fault == other,
+        _ => false,
+    };
+    if !same {
+        return Err(Fail::new("the two readers differ"));
+    }
+    Ok(answer)
 }
 
 #[test]
@@ -88,6 +97,35 @@ fn first_faults(rt: HostRuntime) -> Result<(), Fail> {
     Ok(())
 }
 
+/// What is wrong with the text comes first, wherever it stands.
+#[test]
+fn faults_of_a_text(rt: HostRuntime) -> Result<(), Fail> {
+    let rows: [(&str, FaultKind, usize); 5] = [
+        ("{:object 0, :order [0 2}", FaultKind::BadToken, 23),
+        ("{:object 0, :order [0 2", FaultKind::Unfinished, 23),
+        ("5 {:object 0, :order [007]}", FaultKind::BadToken, 22),
+        (
+            "{:object 0, :order []} {:object 0, :order []} (",
+            FaultKind::NotInProfile,
+            46,
+        ),
+        (
+            "{:object 65536, :order []} {:order 1, :order []}",
+            FaultKind::DuplicateKey,
+            38,
+        ),
+    ];
+    for (text, kind, place) in rows {
+        let answer = read_certificates_text(rt.alloc(), text.as_bytes());
+        assert_eq!(rt;
+            answer,
+            Err(CertTextFault::Text(EdnFault { kind, place })),
+            "at {text:?}"
+        );
+    }
+    Ok(())
+}
+
 #[test]
 fn other_keys_are_ignored(rt: HostRuntime) -> Result<(), Fail> {
     let Ok(certificates) = read(rt.alloc(), b"{:by \"x\", :order [2], :f 1, :object 4}, ; x")?
@@ -133,6 +171,11 @@ fn refused_memory(rt: HostRuntime) -> Result<(), Fail> {
     match read_certificates(rt.alloc(), forms) {
         Ok(certificates) => assert_eq!(rt; certificates.len(), 3),
         Err(fault) => assert_eq!(rt; fault.kind, CertFaultKind::NoMemory),
+    }
+    match read_certificates_text(rt.alloc(), text) {
+        Ok(certificates) => assert_eq!(rt; certificates.len(), 3),
+        Err(CertTextFault::Text(fault)) => assert_eq!(rt; fault.kind, FaultKind::NoMemory),
+        Err(CertTextFault::Forms(fault)) => assert_eq!(rt; fault.kind, CertFaultKind::NoMemory),
     }
     Ok(())
 }

@@ -18,7 +18,8 @@ fn write_between<S: Sink>(first: bool, sink: &mut S) -> Result<(), Failed>
     requires { S.broken sink.old ≡ false }
     ensures ok { OnOk result (Appends (S.sent sink.old) (S.sent sink.new) (between first (codes " "))) }
     ensures usable { OnOk result (S.broken sink.new ≡ false) }
-    ensures front { OnErr result (SendsFront (S.sent sink.old) (S.sent sink.new) (between first (codes " "))) }
+    ensures front { OnErr result
+        (SendsFront (S.sent sink.old) (S.sent sink.new) (between first (codes " "))) }
     ensures failed { OnErr result (S.broken sink.new ≡ true) }
 {
     write_bytes(if first { b"" } else { b" " }, sink)
@@ -27,10 +28,12 @@ fn write_between<S: Sink>(first: bool, sink: &mut S) -> Result<(), Failed>
 /// An integer, behind the space that stands before each that is not the first.
 fn write_next<S: Sink>(first: bool, n: i64, sink: &mut S) -> Result<(), Failed>
     requires { S.broken sink.old ≡ false }
-    ensures ok { OnOk result (Appends (S.sent sink.old) (S.sent sink.new) (between first (codes " ") ++ signed_decimal n)) }
+    ensures ok { OnOk result (Appends (S.sent sink.old) (S.sent sink.new) (between first (codes " ")
+        ++ signed_decimal n)) }
     ensures in_range { IsInt64 n }
     ensures usable { OnOk result (S.broken sink.new ≡ false) }
-    ensures front { OnErr result (SendsFront (S.sent sink.old) (S.sent sink.new) (between first (codes " ") ++ signed_decimal n)) }
+    ensures front { OnErr result (SendsFront (S.sent sink.old) (S.sent sink.new) (between first (codes " ")
+        ++ signed_decimal n)) }
     ensures failed { OnErr result (S.broken sink.new ≡ true) }
 {
     write_between(first, sink)?;
@@ -40,10 +43,12 @@ fn write_next<S: Sink>(first: bool, n: i64, sink: &mut S) -> Result<(), Failed>
 /// The integers with a space between them.
 fn write_numbers<S: Sink>(numbers: &[i64], sink: &mut S) -> Result<(), Failed>
     requires { S.broken sink.old ≡ false }
-    ensures ok { OnOk result (Appends (S.sent sink.old) (S.sent sink.new) (text.numbers_text true numbers.now)) }
+    ensures ok { OnOk result
+        (Appends (S.sent sink.old) (S.sent sink.new) (text.numbers_text true numbers.now)) }
     ensures in_range { OnOk result (AllByRecursion IsInt64 numbers.now) }
     ensures usable { OnOk result (S.broken sink.new ≡ false) }
-    ensures front { OnErr result (SendsFront (S.sent sink.old) (S.sent sink.new) (text.numbers_text true numbers.now)) }
+    ensures front { OnErr result
+        (SendsFront (S.sent sink.old) (S.sent sink.new) (text.numbers_text true numbers.now)) }
     ensures failed { OnErr result (S.broken sink.new ≡ true) }
 {
     let mut first = true;
@@ -60,7 +65,8 @@ fn write_line<S: Sink>(certificate: &Certificate, sink: &mut S) -> Result<(), Fa
     ensures ok { OnOk result (Appends (S.sent sink.old) (S.sent sink.new) (text.line_of certificate.now)) }
     ensures in_range { OnOk result (AllByRecursion IsInt64 certificate.now.order.items) }
     ensures usable { OnOk result (S.broken sink.new ≡ false) }
-    ensures front { OnErr result (SendsFront (S.sent sink.old) (S.sent sink.new) (text.line_of certificate.now)) }
+    ensures front { OnErr result
+        (SendsFront (S.sent sink.old) (S.sent sink.new) (text.line_of certificate.now)) }
     ensures failed { OnErr result (S.broken sink.new ≡ true) }
 {
     write_bytes(b"{:object ", sink)?;
@@ -78,11 +84,13 @@ pub fn write_certificates<S: Sink>(
     requires working { S.broken sink.old ≡ false }
     ensures ok { OnOk result (Appends (S.sent sink.old) (S.sent sink.new) (text.lines_of certificates.now)) }
     // What went out reads back as these certificates.
-    ensures spelled { OnOk result (AreDistinct certificates.now → AreInRange certificates.now → SpellsCertificates certificates.now (text.lines_of certificates.now)) }
+    ensures spelled { OnOk result (AreDistinct certificates.now → AreInRange certificates.now →
+        SpellsCertificates certificates.now (text.lines_of certificates.now)) }
     ensures usable { OnOk result (S.broken sink.new ≡ false) }
 
     ensures device { IfErr result (λ e. e ≡ WriteFault.Device) }
-    ensures front { OnErr result (SendsFront (S.sent sink.old) (S.sent sink.new) (text.lines_of certificates.now)) }
+    ensures front { OnErr result
+        (SendsFront (S.sent sink.old) (S.sent sink.new) (text.lines_of certificates.now)) }
     ensures failed { OnErr result (S.broken sink.new ≡ true) }
 {
     for certificate in certificates {

@@ -21,7 +21,7 @@ use Rattle.checker.specs.declared.refusal.Refusal.{Refusal}
 use Rattle.checker.specs.declared.refusal.Refusal.TheVariants.{NoCertificate, StrangeObject, BadOrder, NoMemory}
 use Rattle.checker.specs.Faults.{IsFirstFault}
 use Rattle.checker.specs.Refusals.{RefusesOrder, HasCertificate, AreValid, IsRefusalAt, IsLeastStrange, IsFirstRefusal}
-use Rattle.checker.specs.Checking.{IsPlace, ArePlaces, IsFine, IsRefusedNext}
+use Rattle.checker.specs.Checking.{IsPlace, ArePlaces, AreAllPlaces, IsFine, IsRefused, AreForThese, IsLeastBesides}
 
 apart_or_same : (x y : ℕ) → (x ≡ y) ⊎ (x ≢ y)
 apart_or_same x y = elim (cases_order x y) [
@@ -68,9 +68,12 @@ pub record AreObjects (es : List Event) (os : List ObjectCalls) : Type 0 where
 abbrev pub IsFineAt : List Event → List Certificate → ℕ → Type 0
 IsFineAt es certificates x = IsFine (kind_at es x) (calls_on x (denoted es)) certificates x
 
--- these objects are checked, and those are left whose certificates are not used up
-pub record IsChecked (es : List Event) (certificates : List Certificate) (os : List ObjectCalls) (left : BTreeMap ℕ ℕ) : Type 0 where
-  pub fine : (o : ObjectCalls) → In o os → IsFineAt es certificates o.object
+-- each of these objects has a valid order
+abbrev pub AreFine : List Event → List Certificate → List ObjectCalls → Type 0
+AreFine es certificates os = (o : ObjectCalls) → In o os → IsFineAt es certificates o.object
+
+-- the places that are left once those of these objects are taken out
+pub record AreLeft (certificates : List Certificate) (os : List ObjectCalls) (left : BTreeMap ℕ ℕ) : Type 0 where
   pub places : ArePlaces left certificates
   pub apart : (o : ObjectCalls) → In o os → get nat_cmp left o.object ≡ None
   pub gone : (c : Certificate) → In c certificates → get nat_cmp left c.object ≡ None → (o : ObjectCalls) × In o os × (o.object ≡ c.object)
@@ -89,38 +92,45 @@ pub fine_here : (kind : Kind) (calls : List Call) (certificates : List Certifica
 fine_here kind calls certificates x k d (Ok u) p is v h = record { certificate = has_here certificates x k d p is; valid = v; faultless = h }
 fine_here kind calls certificates x k d (Err e) p is v h = tt
 
-pub refused_here : (kind : Kind) (calls : List Call) (left : BTreeMap ℕ ℕ) (certificates : List Certificate) (x k : ℕ) (d : Certificate) (r : Result (Unit {0}) Refusal) → IsPlace certificates x k → d ≡ get_or certificates k d
-    → IfErr r (RefusesOrder x kind calls d.order.items) → (IsValidOrder kind calls d.order.items → IfErr r (λ e. e ≡ NoMemory)) → IfErr r (IsRefusedNext kind calls left certificates x)
-refused_here kind calls left certificates x k d (Ok u) p is h exact = tt
-refused_here kind calls left certificates x k d (Err (BadOrder y f)) p is h exact = (h.0, has_here certificates x k d p is, h.1, λ v. let e = exact v in cc e)
-refused_here kind calls left certificates x k d (Err (NoCertificate y)) p is h exact = absurd h
-refused_here kind calls left certificates x k d (Err (StrangeObject y)) p is h exact = absurd h
-refused_here kind calls left certificates x k d (Err NoMemory) p is h exact = tt
+pub refused_here : (kind : Kind) (calls : List Call) (certificates : List Certificate) (x k : ℕ) (d : Certificate) (r : Result (Unit {0}) Refusal) → IsPlace certificates x k → d ≡ get_or certificates k d
+    → IfErr r (RefusesOrder x kind calls d.order.items) → (IsValidOrder kind calls d.order.items → IfErr r (λ e. e ≡ NoMemory)) → IfErr r (IsRefused kind calls certificates x)
+refused_here kind calls certificates x k d (Ok u) p is h exact = tt
+refused_here kind calls certificates x k d (Err (BadOrder y f)) p is h exact = (h.0, has_here certificates x k d p is, h.1, λ v. let e = exact v in cc e)
+refused_here kind calls certificates x k d (Err (NoCertificate y)) p is h exact = absurd h
+refused_here kind calls certificates x k d (Err (StrangeObject y)) p is h exact = absurd h
+refused_here kind calls certificates x k d (Err NoMemory) p is h exact = tt
+
+has_some : (o : Option ℕ) → o ≡ None → IsSome o → ⊥
+has_some None q s = cc s
+has_some (Some k) q s = cc q
+
+-- an object that has no place has no certificate
+pub no_certificate : (certificates : List Certificate) (m : BTreeMap ℕ ℕ) (x : ℕ) → AreAllPlaces m certificates → get nat_cmp m x ≡ None → HasCertificate certificates x → ⊥
+no_certificate certificates m x h none c =
+    let some = all_at (λ (c : Certificate). IsSome (get nat_cmp m c.object)) certificates h.all c.certificate (in_from_contains certificates c.certificate c.stands) in
+    has_some (get nat_cmp m c.certificate.object) (ap (get nat_cmp m) c.for_object ∙ none) some
 
 -- ---- one after the other
 
-pub none_checked : (es : List Event) (certificates : List Certificate) (left : BTreeMap ℕ ℕ) → ArePlaces left certificates → All (λ c. IsSome (get nat_cmp left c.object)) certificates → IsChecked es certificates [] left
-none_checked es certificates left places all = record {
-  fine = λ o i. absurd i;
-  places = places;
-  apart = λ o i. absurd i;
-  gone = λ c i q. absurd (has_some (get nat_cmp left c.object) q (all_at (λ c. IsSome (get nat_cmp left c.object)) certificates all c i));
-}
-  where
-    has_some : (o : Option ℕ) → o ≡ None → IsSome o → ⊥
-    has_some None q s = cc s
-    has_some (Some k) q s = cc q
+pub one_more_fine : (es : List Event) (certificates : List Certificate) (os : List ObjectCalls) (o : ObjectCalls) → AreFine es certificates os → IsFineAt es certificates o.object → AreFine es certificates (os ++ o ∷ [])
+one_more_fine es certificates os o h fine = λ p i. elim (in_append p os (o ∷ []) i) [
+  | inl j ↦ h p j
+  | inr j ↦ elim j [
+    | inl e ↦ subst (λ (q : ObjectCalls). IsFineAt es certificates q.object) (sym e) fine
+    | inr n ↦ absurd n
+  ]
+]
 
-pub one_checked : (es : List Event) (certificates : List Certificate) (os : List ObjectCalls) (o : ObjectCalls) (left new : BTreeMap ℕ ℕ) → IsChecked es certificates os left
-    → get nat_cmp new o.object ≡ None → ((x : ℕ) → x ≢ o.object → get nat_cmp new x ≡ get nat_cmp left x) → IsFineAt es certificates o.object → IsChecked es certificates (os ++ o ∷ []) new
-one_checked es certificates os o left new h own others fine = record {
-  fine = λ p i. elim (in_append p os (o ∷ []) i) [
-    | inl j ↦ h.fine p j
-    | inr j ↦ elim j [
-      | inl e ↦ subst (λ (q : ObjectCalls). IsFineAt es certificates q.object) (sym e) fine
-      | inr n ↦ absurd n
-    ]
-  ];
+pub all_left : (certificates : List Certificate) (m : BTreeMap ℕ ℕ) → AreAllPlaces m certificates → AreLeft certificates [] m
+all_left certificates m h = record {
+  places = h.places;
+  apart = λ o i. absurd i;
+  gone = λ c i q. absurd (has_some (get nat_cmp m c.object) q (all_at (λ c. IsSome (get nat_cmp m c.object)) certificates h.all c i));
+}
+
+pub one_taken : (certificates : List Certificate) (os : List ObjectCalls) (o : ObjectCalls) (left new : BTreeMap ℕ ℕ) → AreLeft certificates os left
+    → get nat_cmp new o.object ≡ None → ((x : ℕ) → x ≢ o.object → get nat_cmp new x ≡ get nat_cmp left x) → AreLeft certificates (os ++ o ∷ []) new
+one_taken certificates os o left new h own others = record {
   places = λ x k q. elim (apart_or_same x o.object) [
     | inl e ↦ (let n : None ≡ Some k = sym own ∙ (ap (get nat_cmp new) (sym e) ∙ q) in cc n)
     | inr ne ↦ h.places x k (sym (others x ne) ∙ q)
@@ -152,6 +162,40 @@ one_checked es certificates os o left new h own others fine = record {
       | inr j ↦ inr (in_front q os j)
     ]
 
+-- an object in the list stands among their numbers
+number_stands : (os : List ObjectCalls) (o : ObjectCalls) → In o os → Contains (map (λ o. o.object) os) o.object
+number_stands os o i = contains_from_in (map (λ (o : ObjectCalls). o.object) os) o.object (in_map_from (λ (o : ObjectCalls). o.object) o os i)
+
+-- where no place is left, each certificate is for one of these
+pub none_besides : (certificates : List Certificate) (os : List ObjectCalls) (left : BTreeMap ℕ ℕ) → AreLeft certificates os left → ((x : ℕ) → get nat_cmp left x ≡ None) → AreForThese (map (λ o. o.object) os) certificates
+none_besides certificates os left h empty = all_from_in (λ (c : Certificate). Contains (map (λ o. o.object) os) c.object) certificates
+    (λ c i. let g = h.gone c i (empty c.object) in subst (Contains (map (λ o. o.object) os)) g.2 (number_stands os g.0 g.1))
+
+element : (certificates : List Certificate) (k : ℕ) → k < length certificates → (d : Certificate) × (d ≡ get_or certificates k d)
+element [] k l = absurd (omega arith)
+element (c ∷ cs) k l = let d = get_or (c ∷ cs) k c in (d, get_or_default (c ∷ cs) k c d l)
+
+-- the least place that is left is that of the least object besides
+pub least_besides : (certificates : List Certificate) (os : List ObjectCalls) (left : BTreeMap ℕ ℕ) (x k : ℕ) → AreLeft certificates os left
+    → get nat_cmp left x ≡ Some k → ((q : ℕ) → IsSome (get nat_cmp left q) → is_gt (nat_cmp x q) ≡ false) → IsLeastBesides (map (λ o. o.object) os) certificates x
+least_besides certificates os left x k h there lower = record {
+  certified = let p = h.places x k there in let e = element certificates k p.inside in has_here certificates x k e.0 p e.1;
+  besides = λ stands. let o = in_map (λ (o : ObjectCalls). o.object) x os (in_from_contains (map (λ (o : ObjectCalls). o.object) os) x stands) in let n : None ≡ Some k = sym (h.apart o.0 o.1) ∙ (ap (get nat_cmp left) (sym o.2) ∙ there) in cc n;
+  least = all_from_in (λ (c : Certificate). c.object < x → Contains (map (λ o. o.object) os) c.object) certificates (λ c i l. below c i l (get nat_cmp left c.object) refl);
+}
+  where
+    greater : (a b : ℕ) → b < a → is_gt (nat_cmp a b) ≡ false → ⊥
+    greater a b l q = go (nat_cmp a b) (ranked a b _ refl) q
+      where
+        go : (r : Ordering) → MatchOrdering r (a < b) (a ≡ b) (b < a) → is_gt r ≡ false → ⊥
+        go Less m q = omega arith
+        go Equal m q = let m' : a ≡ b = m in omega arith
+        go Greater m q = cc q
+
+    below : (c : Certificate) → In c certificates → c.object < x → (o : Option ℕ) → get nat_cmp left c.object ≡ o → Contains (map (λ o. o.object) os) c.object
+    below c i l None q = let g = h.gone c i q in subst (Contains (map (λ o. o.object) os)) g.2 (number_stands os g.0 g.1)
+    below c i l (Some j) q = absurd (greater x c.object l (lower c.object (subst IsSome (sym q) refl)))
+
 -- ---- what has been checked
 
 object_named : (es : List Event) (os : List ObjectCalls) → AreObjects es os → (x : ℕ) → IsNamed es x → (o : ObjectCalls) × In o os × (x ≡ o.object)
@@ -160,8 +204,8 @@ object_named es os h x named = in_map (λ (o : ObjectCalls). o.object) x os (in_
 is_named : (es : List Event) (os : List ObjectCalls) → AreObjects es os → (o : ObjectCalls) → In o os → IsNamed es o.object
 is_named es os h o i = (h.named o.object).0 (contains_from_in (map (λ (o : ObjectCalls). o.object) os) o.object (in_map_from (λ (o : ObjectCalls). o.object) o os i))
 
-fine_at : (es : List Event) (certificates : List Certificate) (os : List ObjectCalls) (left : BTreeMap ℕ ℕ) → AreObjects es os → IsChecked es certificates os left → (x : ℕ) → IsNamed es x → IsFineAt es certificates x
-fine_at es certificates os left objects h x named = let o = object_named es os objects x named in subst (IsFineAt es certificates) (sym o.2) (h.fine o.0 o.1)
+fine_at : (es : List Event) (certificates : List Certificate) (os : List ObjectCalls) → AreObjects es os → AreFine es certificates os → (x : ℕ) → IsNamed es x → IsFineAt es certificates x
+fine_at es certificates os objects h x named = let o = object_named es os objects x named in subst (IsFineAt es certificates) (sym o.2) (h o.0 o.1)
 
 same_certificate : (certificates : List Certificate) → Pairs (λ a b. a.object ≢ b.object) certificates → (a b : Certificate) → In a certificates → In b certificates → a.object ≡ b.object → a ≡ b
 same_certificate [] d a b i j q = absurd i
@@ -185,49 +229,22 @@ no_refusal es certificates d x h (StrangeObject y) s = s
 no_refusal es certificates d x h (BadOrder y f) s = h.faultless f (subst (λ (c : Certificate). IsFirstFault (kind_at es x) (calls_on x (denoted es)) c.order.items f) (same_orders certificates d x s.1 h.certificate) s.2)
 no_refusal es certificates d x h NoMemory s = s
 
-pub all_valid : (es : List Event) (certificates : List Certificate) (os : List ObjectCalls) (left : BTreeMap ℕ ℕ) → AreObjects es os → IsChecked es certificates os left → ((x : ℕ) → get nat_cmp left x ≡ None) → AreValid es certificates
-all_valid es certificates os left objects h empty = record {
-  each = λ x named. let f = fine_at es certificates os left objects h x named in (f.certificate, f.valid);
-  none_besides = all_from_in (λ (c : Certificate). IsNamed es c.object) certificates (λ c i. let g = h.gone c i (empty c.object) in subst (IsNamed es) g.2 (is_named es os objects g.0 g.1));
+pub all_valid : (es : List Event) (certificates : List Certificate) (os : List ObjectCalls) → AreObjects es os → AreFine es certificates os → AreForThese (map (λ o. o.object) os) certificates → AreValid es certificates
+all_valid es certificates os objects h besides = record {
+  each = λ x named. let f = fine_at es certificates os objects h x named in (f.certificate, f.valid);
+  none_besides = all_from_in (λ (c : Certificate). IsNamed es c.object) certificates (λ c i. (objects.named c.object).0 (all_at (λ (c : Certificate). Contains (map (λ o. o.object) os) c.object) certificates besides c i));
 }
 
-element : (certificates : List Certificate) (k : ℕ) → k < length certificates → (d : Certificate) × (d ≡ get_or certificates k d)
-element [] k l = absurd (omega arith)
-element (c ∷ cs) k l = let d = get_or (c ∷ cs) k c in (d, get_or_default (c ∷ cs) k c d l)
-
-pub least_strange : (es : List Event) (certificates : List Certificate) (os : List ObjectCalls) (left : BTreeMap ℕ ℕ) (x k : ℕ) → AllPairs (λ a b. a.object ≢ b.object) certificates → AreObjects es os → IsChecked es certificates os left
-    → get nat_cmp left x ≡ Some k → ((q : ℕ) → IsSome (get nat_cmp left q) → is_gt (nat_cmp x q) ≡ false) → IsLeastStrange es certificates x
-least_strange es certificates os left x k d objects h there lower = record {
-  certified = let p = h.places x k there in let e = element certificates k p.inside in has_here certificates x k e.0 p e.1;
-  not_named = λ named. let o = object_named es os objects x named in let n : None ≡ Some k = sym (h.apart o.0 o.1) ∙ (ap (get nat_cmp left) (sym o.2) ∙ there) in cc n;
-  least = all_from_in (λ (c : Certificate). c.object < x → IsNamed es c.object) certificates (λ c i l. below c i l (get nat_cmp left c.object) refl);
-  none = λ y r named s. no_refusal es certificates d y (fine_at es certificates os left objects h y named) r s;
+pub least_strange : (es : List Event) (certificates : List Certificate) (os : List ObjectCalls) (x : ℕ) → AllPairs (λ a b. a.object ≢ b.object) certificates → AreObjects es os → AreFine es certificates os
+    → IsLeastBesides (map (λ o. o.object) os) certificates x → IsLeastStrange es certificates x
+least_strange es certificates os x d objects h s = record {
+  certified = s.certified;
+  not_named = λ named. s.besides ((objects.named x).1 named);
+  least = all_from_in (λ (c : Certificate). c.object < x → IsNamed es c.object) certificates (λ c i l. (objects.named c.object).0 (all_at (λ (c : Certificate). c.object < x → Contains (map (λ o. o.object) os) c.object) certificates s.least c i l));
+  none = λ y r named t. no_refusal es certificates d y (fine_at es certificates os objects h y named) r t;
 }
-  where
-    greater : (a b : ℕ) → b < a → is_gt (nat_cmp a b) ≡ false → ⊥
-    greater a b l q = go (nat_cmp a b) (ranked a b _ refl) q
-      where
-        go : (r : Ordering) → MatchOrdering r (a < b) (a ≡ b) (b < a) → is_gt r ≡ false → ⊥
-        go Less m q = omega arith
-        go Equal m q = let m' : a ≡ b = m in omega arith
-        go Greater m q = cc q
-
-    below : (c : Certificate) → In c certificates → c.object < x → (o : Option ℕ) → get nat_cmp left c.object ≡ o → IsNamed es c.object
-    below c i l None q = let g = h.gone c i q in subst (IsNamed es) g.2 (is_named es os objects g.0 g.1)
-    below c i l (Some j) q = absurd (greater x c.object l (lower c.object (subst IsSome (sym q) refl)))
 
 -- ---- where the next object is refused
-
-before_next : (os : List ObjectCalls) (o : ObjectCalls) (later : List ObjectCalls) → Pairs (λ a b. a.object < b.object) (os ++ o ∷ later) → (p : ObjectCalls) → In p os → p.object < o.object
-before_next [] o later r p i = absurd i
-before_next (q ∷ os) o later r p i = elim i [
-  | inl e ↦ subst (λ (z : ObjectCalls). z.object < o.object) (sym e) (r.0 o (middle os))
-  | inr j ↦ before_next os o later r.1 p j
-]
-  where
-    middle : (os : List ObjectCalls) → In o (os ++ o ∷ later)
-    middle [] = inl refl
-    middle (q ∷ os) = inr (middle os)
 
 already : (os : List ObjectCalls) (o : ObjectCalls) (later : List ObjectCalls) → Pairs (λ a b. a.object < b.object) (os ++ o ∷ later) → (p : ObjectCalls) → In p (os ++ o ∷ later) → p.object < o.object → In p os
 already [] o later r p i l = elim i [
@@ -239,9 +256,9 @@ already (q ∷ os) o later r p i l = elim i [
   | inr j ↦ inr (already os o later r.1 p j l)
 ]
 
-pub first_refusal : (es : List Event) (certificates : List Certificate) (all os : List ObjectCalls) (o : ObjectCalls) (later : List ObjectCalls) (left : BTreeMap ℕ ℕ) (r : Refusal) → AllPairs (λ a b. a.object ≢ b.object) certificates → AreObjects es all
-    → all ≡ os ++ o ∷ later → IsChecked es certificates os left → IsRefusedNext (kind_at es o.object) (calls_on o.object (denoted es)) left certificates o.object r → IsFirstRefusal es certificates r
-first_refusal es certificates all os o later left r d objects split h refused = go r refused
+pub first_refusal : (es : List Event) (certificates : List Certificate) (all os : List ObjectCalls) (o : ObjectCalls) (later : List ObjectCalls) (r : Refusal) → AllPairs (λ a b. a.object ≢ b.object) certificates → AreObjects es all
+    → all ≡ os ++ o ∷ later → AreFine es certificates os → IsRefused (kind_at es o.object) (calls_on o.object (denoted es)) certificates o.object r → IsFirstRefusal es certificates r
+first_refusal es certificates all os o later r d objects split h refused = go r refused
   where
     up : Pairs (λ a b. a.object < b.object) (os ++ o ∷ later)
     up = subst (Pairs (λ a b. a.object < b.object)) split (pairs_from_all (λ a b. a.object < b.object) all objects.rising)
@@ -258,32 +275,20 @@ first_refusal es certificates all os o later left r d objects split h refused = 
         let p = object_named es all objects y named in
         let l' : p.0.object < o.object = subst (λ z. z < o.object) p.2 l in
         let i = already os o later up p.0 (subst (In p.0) split p.1) l' in
-        no_refusal es certificates d y (subst (IsFineAt es certificates) (sym p.2) (h.fine p.0 i)) s stands
+        no_refusal es certificates d y (subst (IsFineAt es certificates) (sym p.2) (h p.0 i)) s stands
 
-    go : (r : Refusal) → IsRefusedNext (kind_at es o.object) (calls_on o.object (denoted es)) left certificates o.object r → IsFirstRefusal es certificates r
-    go (NoCertificate y) s = record {
-      object = o.object;
-      named = named;
-      stands = (
-        s.0,
-        λ c.
-            let g = h.gone c.certificate (in_from_contains certificates c.certificate c.stands) (ap (get nat_cmp left) c.for_object ∙ s.1) in
-            let b = before_next os o later up g.0 g.1 in
-            let e : g.0.object ≡ o.object = g.2 ∙ c.for_object in
-            omega arith,
-      );
-      least = least;
-    }
+    go : (r : Refusal) → IsRefused (kind_at es o.object) (calls_on o.object (denoted es)) certificates o.object r → IsFirstRefusal es certificates r
+    go (NoCertificate y) s = record { object = o.object; named = named; stands = (s.0, s.1); least = least }
     go (StrangeObject y) s = absurd s
     go (BadOrder y f) s = record { object = o.object; named = named; stands = (s.0, s.1, s.2); least = least }
     go NoMemory s = tt
 
 -- certificates that are valid are refused by want of memory alone
-pub refused_are_not_valid : (es : List Event) (certificates : List Certificate) (all os : List ObjectCalls) (o : ObjectCalls) (later : List ObjectCalls) (left : BTreeMap ℕ ℕ) (r : Refusal) → AllPairs (λ a b. a.object ≢ b.object) certificates → AreObjects es all
-    → all ≡ os ++ o ∷ later → IsChecked es certificates os left → IsRefusedNext (kind_at es o.object) (calls_on o.object (denoted es)) left certificates o.object r → AreValid es certificates → r ≡ NoMemory
-refused_are_not_valid es certificates all os o later left r d objects split h refused valid = go r (first_refusal es certificates all os o later left r d objects split h refused) refused
+pub refused_are_not_valid : (es : List Event) (certificates : List Certificate) (all os : List ObjectCalls) (o : ObjectCalls) (later : List ObjectCalls) (r : Refusal) → AllPairs (λ a b. a.object ≢ b.object) certificates → AreObjects es all
+    → all ≡ os ++ o ∷ later → AreFine es certificates os → IsRefused (kind_at es o.object) (calls_on o.object (denoted es)) certificates o.object r → AreValid es certificates → r ≡ NoMemory
+refused_are_not_valid es certificates all os o later r d objects split h refused valid = go r (first_refusal es certificates all os o later r d objects split h refused) refused
   where
-    go : (r : Refusal) → IsFirstRefusal es certificates r → IsRefusedNext (kind_at es o.object) (calls_on o.object (denoted es)) left certificates o.object r → r ≡ NoMemory
+    go : (r : Refusal) → IsFirstRefusal es certificates r → IsRefused (kind_at es o.object) (calls_on o.object (denoted es)) certificates o.object r → r ≡ NoMemory
     go (NoCertificate y) f s = absurd (f.stands.1 (valid.each f.object f.named).0)
     go (StrangeObject y) f s = absurd s
     go (BadOrder y g) f s =
@@ -317,12 +322,12 @@ next_fine es certificates fs i o h l is fine =
     let its_kind = subst (λ k. IsFine k (calls_of o.ops) certificates o.object) (all_at (λ (o : ObjectCalls). o.kind ≡ kind_at es o.object) fs h.kinds o j) fine in
     subst (λ cs. IsFine (kind_at es o.object) cs certificates o.object) (all_at (λ (o : ObjectCalls). calls_of o.ops ≡ calls_on o.object (denoted es)) fs h.calls o j) its_kind
 
-pub next_refused : (es : List Event) (certificates : List Certificate) (fs : List ObjectCalls) (i : ℕ) (o : ObjectCalls) (left : BTreeMap ℕ ℕ) (r : Refusal) → AreObjects es fs → i < length fs → o ≡ get_or fs i o
-    → IsRefusedNext o.kind (calls_of o.ops) left certificates o.object r → IsRefusedNext (kind_at es o.object) (calls_on o.object (denoted es)) left certificates o.object r
-next_refused es certificates fs i o left r h l is refused =
+pub next_refused : (es : List Event) (certificates : List Certificate) (fs : List ObjectCalls) (i : ℕ) (o : ObjectCalls) (r : Refusal) → AreObjects es fs → i < length fs → o ≡ get_or fs i o
+    → IsRefused o.kind (calls_of o.ops) certificates o.object r → IsRefused (kind_at es o.object) (calls_on o.object (denoted es)) certificates o.object r
+next_refused es certificates fs i o r h l is refused =
     let j = in_objects fs i o l is in
-    let its_kind = subst (λ k. IsRefusedNext k (calls_of o.ops) left certificates o.object r) (all_at (λ (o : ObjectCalls). o.kind ≡ kind_at es o.object) fs h.kinds o j) refused in
-    subst (λ cs. IsRefusedNext (kind_at es o.object) cs left certificates o.object r) (all_at (λ (o : ObjectCalls). calls_of o.ops ≡ calls_on o.object (denoted es)) fs h.calls o j) its_kind
+    let its_kind = subst (λ k. IsRefused k (calls_of o.ops) certificates o.object r) (all_at (λ (o : ObjectCalls). o.kind ≡ kind_at es o.object) fs h.kinds o j) refused in
+    subst (λ cs. IsRefused (kind_at es o.object) cs certificates o.object r) (all_at (λ (o : ObjectCalls). calls_of o.ops ≡ calls_on o.object (denoted es)) fs h.calls o j) its_kind
 
 pub none_left : (left : BTreeMap ℕ ℕ) → (0 < btree_map_len left → ⊥) → (x : ℕ) → get nat_cmp left x ≡ None
 none_left left h x = go left.entries h

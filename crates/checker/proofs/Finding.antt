@@ -88,14 +88,16 @@ not_named ops z d h = go (call_named (calls_of ops) z) refl
         absurd (h p.0 c p.1 n (p.2 d))
 
 -- what the search found names the call
-pub found_here : (ops : List Invocation) (z : ℤ) (k : ℕ) (d : Invocation) → AllPairs (λ a b. a.number < b.number) ops → k < length ops → int_cmp (pos (get_or ops k d).number) z ≡ Equal → (get_or ops k d).«end» ≢ Failed → (c : Call) × AtHand ops z k c
-found_here ops z k d up l eq ne =
+pub found_by_number : (ops : List Invocation) (z : ℤ) (k : ℕ) (d : Invocation) → AllPairs (λ a b. a.number < b.number) ops → k < length ops → pos (get_or ops k d).number ≡ z → (get_or ops k d).«end» ≢ Failed → (c : Call) × AtHand ops z k c
+found_by_number ops z k d up l n ne =
     let o : Invocation = get_or ops k d in
     let c = call_from o ne in
-    let n : pos o.number ≡ z = int_ranked (pos o.number) z Equal (sym eq) in
     let m : pos c.0.number ≡ z = ap pos (sym (call_parts o c.0 c.1).0) ∙ n in
     let own = names_itself (calls_of ops) c.0 (rising_calls ops (pairs_from_all (λ a b. a.number < b.number) ops up)) (call_at_place ops k d c.0 l c.1) in
     (c.0, record { within = l; found = ap (call_named (calls_of ops)) (sym m) ∙ own; is = λ e. ap call_of (get_or_default ops k e d l) ∙ c.1 })
+
+pub found_here : (ops : List Invocation) (z : ℤ) (k : ℕ) (d : Invocation) → AllPairs (λ a b. a.number < b.number) ops → k < length ops → int_cmp (pos (get_or ops k d).number) z ≡ Equal → (get_or ops k d).«end» ≢ Failed → (c : Call) × AtHand ops z k c
+found_here ops z k d up l eq ne = found_by_number ops z k d up l (int_ranked (pos (get_or ops k d).number) z Equal (sym eq)) ne
 
 -- what failed names no call
 pub failed_here : (ops : List Invocation) (z : ℤ) (k : ℕ) (d : Invocation) → AllPairs (λ a b. a.number < b.number) ops → k < length ops → int_cmp (pos (get_or ops k d).number) z ≡ Equal → call_of (get_or ops k d) ≡ None → call_named (calls_of ops) z ≡ None

@@ -1,5 +1,5 @@
 -- What holds while a list of certificates is checked.
-use Rattle.std.specs.Prelude.{◌≡◌, ℕ, ◌<◌, ⊤, List, Some, None, length, get_or}
+use Rattle.std.specs.Prelude.{◌≡◌, ℕ, ◌<◌, ⊤, List, Some, IsSome, All, Contains, length, get_or}
 use Rattle.std.specs.BTreeMap.{BTreeMap, get}
 use Rattle.std.specs.Ordering.{nat_cmp}
 use Rattle.model.specs.declared.Kind.{Kind}
@@ -26,9 +26,24 @@ pub record IsFine (kind : Kind) (calls : List Call) (certificates : List Certifi
   pub valid : IsValidOrder kind calls certificate.certificate.order.items
   pub faultless : (f : OrderFault) → IsFirstFault kind calls certificate.certificate.order.items f → ⊥
 
--- why the next object is refused: it has no place, or its order has a first fault and is not valid
-abbrev pub IsRefusedNext : Kind → List Call → BTreeMap ℕ ℕ → List Certificate → ℕ → Refusal → Type 0
-IsRefusedNext kind calls left certificates x (NoCertificate y) = (y ≡ x) × (get nat_cmp left x ≡ None)
-IsRefusedNext kind calls left certificates x (StrangeObject y) = ⊥
-IsRefusedNext kind calls left certificates x (BadOrder y fault) = (y ≡ x) × (c : HasCertificate certificates x) × IsFirstFault kind calls c.certificate.order.items fault × (IsValidOrder kind calls c.certificate.order.items → ⊥)
-IsRefusedNext kind calls left certificates x NoMemory = ⊤
+-- each certificate of the list has a place
+pub record AreAllPlaces (m : BTreeMap ℕ ℕ) (certificates : List Certificate) : Type 0 where
+  pub places : ArePlaces m certificates
+  pub all : All (λ c. IsSome (get nat_cmp m c.object)) certificates
+
+-- why an object is refused: it has no certificate, or its order has a first fault and is not valid
+abbrev pub IsRefused : Kind → List Call → List Certificate → ℕ → Refusal → Type 0
+IsRefused kind calls certificates x (NoCertificate y) = (y ≡ x) × (HasCertificate certificates x → ⊥)
+IsRefused kind calls certificates x (StrangeObject y) = ⊥
+IsRefused kind calls certificates x (BadOrder y fault) = (y ≡ x) × (c : HasCertificate certificates x) × IsFirstFault kind calls c.certificate.order.items fault × (IsValidOrder kind calls c.certificate.order.items → ⊥)
+IsRefused kind calls certificates x NoMemory = ⊤
+
+-- each certificate is for one of these objects
+abbrev pub AreForThese : List ℕ → List Certificate → Type 0
+AreForThese xs certificates = All (λ c. Contains xs c.object) certificates
+
+-- x is the least object that has a certificate and is none of these
+pub record IsLeastBesides (xs : List ℕ) (certificates : List Certificate) (x : ℕ) : Type 0 where
+  pub certified : HasCertificate certificates x
+  pub besides : Contains xs x → ⊥
+  pub least : All (λ c. c.object < x → Contains xs c.object) certificates

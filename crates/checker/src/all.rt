@@ -1,12 +1,10 @@
 //! The check of all certificates.
 
-ghost use Rattle.std.specs.Prelude.{◌≡◌, ◌≢◌, ◌<◌, ℕ, Some, None, IsSome, OnOk, IfOk, IfErr, All};
-ghost use Rattle.std.specs.Ordering.{nat_cmp};
-ghost use Rattle.std.specs.BTreeMap.{get};
+ghost use Rattle.std.specs.Prelude.{◌≡◌, OnOk, IfOk, IfErr, IfSome, IfNone, map};
 ghost use Rattle.events.specs.Operations.{calls_of};
 ghost use Rattle.certificate.specs.Denotes.{AreDistinct};
 ghost use Rattle.checker.specs.Refusals.{AreValid, IsFirstRefusal};
-ghost use Rattle.checker.specs.Checking.{ArePlaces, IsFine, IsRefusedNext};
+ghost use Rattle.checker.specs.Checking.{AreAllPlaces, IsFine, IsRefused, AreForThese, IsLeastBesides};
 
 use crate::object::check_object;
 use crate::refusal::Refusal;
@@ -16,9 +14,11 @@ use std::alloc::{AllocError, Global};
 use std::collections::BTreeMap;
 
 /// Where the certificate of each object stands.
-fn places(alloc: Global, certificates: &[Certificate]) -> Result<BTreeMap<u32, usize>, AllocError>
-    ensures found { IfOk result (λ m. ArePlaces m certificates.now) }
-    ensures all { IfOk result (λ m. All (λ c. IsSome (get nat_cmp m c.object)) certificates.now) }
+pub fn places(
+    alloc: Global,
+    certificates: &[Certificate],
+) -> Result<BTreeMap<u32, usize>, AllocError>
+    ensures { IfOk result (λ m. AreAllPlaces m certificates.now) }
 {
     let mut places = BTreeMap::new(alloc);
     for k in 0..certificates.len() {
@@ -27,24 +27,41 @@ fn places(alloc: Global, certificates: &[Certificate]) -> Result<BTreeMap<u32, u
     Ok(places)
 }
 
-/// Takes the object from those that are left, and checks its certificate.
-fn check_next(
+/// Checks the certificate of one object, which stands at the object's place.
+pub fn check_piece(
     alloc: Global,
     object: &ObjectHistory,
-    left: &mut BTreeMap<u32, usize>,
+    places: &BTreeMap<u32, usize>,
     certificates: &[Certificate],
 ) -> Result<(), Refusal>
-    requires { ArePlaces left.old certificates.now }
-    ensures own { OnOk result (get nat_cmp left.new object.now.object ≡ None) }
-    ensures others { (x : ℕ) → x ≢ object.now.object → get nat_cmp left.new x ≡ get nat_cmp left.old x }
-    ensures fine { OnOk result (IsFine object.now.kind (calls_of object.now.ops) certificates.now object.now.object) }
-    ensures refused { IfErr result (IsRefusedNext object.now.kind (calls_of object.now.ops) left.old certificates.now object.now.object) }
+    requires { AreAllPlaces places.now certificates.now }
+    ensures fine { OnOk result
+        (IsFine object.now.kind (calls_of object.now.ops) certificates.now object.now.object) }
+    ensures refused { IfErr result
+        (IsRefused object.now.kind (calls_of object.now.ops) certificates.now object.now.object) }
 {
-    let Some(place) = left.remove(&object.object()) else {
+    let Some(place) = places.get(&object.object()).copied() else {
         let object = object.object();
         return Err(Refusal::NoCertificate { object });
     };
     check_object(alloc, object, &certificates[place])
+}
+
+/// The least object that has a certificate and is none of these, if there is one.
+pub fn strange_object(
+    objects: &[ObjectHistory],
+    mut places: BTreeMap<u32, usize>,
+    certificates: &[Certificate],
+) -> Option<u32>
+    requires { AreAllPlaces places certificates.now }
+    ensures none { IfNone result (AreForThese (map (λ o. o.object) objects.now) certificates.now) }
+    ensures least { IfSome result (IsLeastBesides (map (λ o. o.object) objects.now) certificates.now) }
+{
+    for object in objects {
+        places.remove(&object.object());
+    }
+    let (object, _) = places.first_key_value()?;
+    Some(*object)
 }
 
 /// Checks the certificates of a history's objects. `Ok` exactly where each named object has a valid order and no other
@@ -64,14 +81,14 @@ pub fn check_all(
     let Ok(objects) = split(alloc, history) else {
         return Err(Refusal::NoMemory);
     };
-    let Ok(mut left) = places(alloc, certificates) else {
+    let Ok(places) = places(alloc, certificates) else {
         return Err(Refusal::NoMemory);
     };
     for object in &objects {
-        check_next(alloc, object, &mut left, certificates)?;
+        check_piece(alloc, object, &places, certificates)?;
     }
-    match left.first_key_value() {
-        Some((object, _)) => Err(Refusal::StrangeObject { object: *object }),
+    match strange_object(&objects, places, certificates) {
+        Some(object) => Err(Refusal::StrangeObject { object }),
         None => Ok(()),
     }
 }

@@ -7,7 +7,7 @@ mod place;
 mod refusal;
 mod walk;
 
-pub use all::check_all;
+pub use all::{check_all, check_piece, places, strange_object};
 pub use object::check_object;
 pub use refusal::{OrderFault, Refusal};
 pub use walk::check_order;

@@ -21,11 +21,16 @@ pub fn check_object(
     certificate: &Certificate,
 ) -> Result<(), Refusal>
     requires { history.now.object ≡ certificate.now.object }
-    ensures valid { OnOk result (IsValidOrder history.now.kind (calls_of history.now.ops) certificate.now.order.items) }
-    ensures refused { IfErr result (RefusesOrder history.now.object history.now.kind (calls_of history.now.ops) certificate.now.order.items) }
-    ensures faultless { OnOk result ((fault : OrderFault) → IsFirstFault history.now.kind (calls_of history.now.ops) certificate.now.order.items fault → ⊥) }
+    ensures valid { OnOk result
+        (IsValidOrder history.now.kind (calls_of history.now.ops) certificate.now.order.items) }
+    ensures refused { IfErr result
+        (RefusesOrder history.now.object history.now.kind
+        (calls_of history.now.ops) certificate.now.order.items) }
+    ensures faultless { OnOk result ((fault : OrderFault) →
+        IsFirstFault history.now.kind (calls_of history.now.ops) certificate.now.order.items fault → ⊥) }
     // An order that is refused, but for want of memory, is not valid.
-    ensures exact { IsValidOrder history.now.kind (calls_of history.now.ops) certificate.now.order.items → IfErr result (λ e. e ≡ Refusal.NoMemory) }
+    ensures exact { IsValidOrder history.now.kind (calls_of history.now.ops) certificate.now.order.items →
+        IfErr result (λ e. e ≡ Refusal.NoMemory) }
 {
     let object = AnyObject::empty(alloc, history.kind());
     check_order(

@@ -106,9 +106,11 @@ fn check_entries<S: SeqObject<Op = AnyOp, Reply = AnyReply>>(
         return Err(Refusal::NoMemory);
     };
     let mut greatest: Option<u32> = None;
+    // Most entries stand near the one before.
+    let mut near = 0;
     for entry in order {
         let op = *entry;
-        let Some(k) = place_of(ops, op) else {
+        let Some(k) = place_of(ops, op, near) else {
             return refused(number, OrderFault::UnknownOperation { op });
         };
         if seen[k] {
@@ -128,6 +130,7 @@ fn check_entries<S: SeqObject<Op = AnyOp, Reply = AnyReply>>(
             return refused(number, OrderFault::WrongReply { op, gives });
         }
         seen[k] = true;
+        near = k;
         greatest = Some(raised(greatest, call.number));
     }
     match omitted(ops, &seen) {
@@ -153,9 +156,11 @@ pub fn check_order<S: SeqObject<Op = AnyOp, Reply = AnyReply>>(
     requires of_kind { All (λ o. kind_of o.op ≡ kind) ops.now }
     ensures valid { OnOk result (IsValidOrder kind (calls_of ops.now) order.now) }
     ensures refused { IfErr result (RefusesOrder number kind (calls_of ops.now) order.now) }
-    ensures faultless { OnOk result ((fault : OrderFault) → IsFirstFault kind (calls_of ops.now) order.now fault → ⊥) }
+    ensures faultless { OnOk result ((fault : OrderFault) →
+        IsFirstFault kind (calls_of ops.now) order.now fault → ⊥) }
     // An order that is refused, but for want of memory, is not valid.
-    ensures exact { IsValidOrder kind (calls_of ops.now) order.now → IfErr result (λ e. e ≡ Refusal.NoMemory) }
+    ensures exact { IsValidOrder kind (calls_of ops.now) order.now →
+        IfErr result (λ e. e ≡ Refusal.NoMemory) }
 {
     check_entries(alloc, number, kind, object, ops, order)
 }

@@ -1,3 +1,4 @@
 pub mod Works
-pub mod Loads
+pub mod Meetings
 pub mod Ends
+pub mod Workers

@@ -1,22 +1,31 @@
 -- What a client's calls leave in its journal.
-use Rattle.std.proofs.Common.{◌≡◌, ℕ, true, false, List, [], ◌∷◌, ◌++◌, Result, Ok, Err, IfOk, IfErr, is_ok, refl, ap, ◌∙◌, arith, length-append, append_assoc}
-use Rattle.model.specs.declared.AnyOp.{AnyOp}
+use Rattle.std.proofs.Common.{◌≡◌, ℕ, zero, suc, ◌+◌, ◌<◌, inr, List, [], ◌∷◌, ◌++◌, length, take, drop, get_or, refl, ap, ◌∙◌, arith, length-append, append_assoc}
 use Rattle.world.specs.declared.JournalEvent.TheVariants.{Invoked, Returned}
-use Rattle.world.specs.World.{AnyEvent, AnyAnswer}
+use Rattle.world.specs.World.{AnyEvent, AnyAnswer, journal_of}
+use Rattle.desk_rule.specs.declared.board.Own.TheVariants as own
 use Rattle.desk_rule.specs.declared.board.View.{View}
-use Rattle.desk_rule.specs.Views.{journal}
-use Rattle.combiner.specs.Waits.{Called, Returns, IsOutstanding}
-use Rattle.combiner.proofs.Waited.{called, returns_on}
-use Rattle.clients.specs.Workloads.{Call}
+use Rattle.desk_rule.specs.Views.{own_request, journal}
+use Rattle.combiner.specs.Waits.{Called, IsOutstanding}
+use Rattle.workload.specs.Workloads.{Call}
 use Rattle.clients.specs.Made.{Made, Worked}
+
+-- an idle client made these calls, in order, and is idle again
+pub record HasMade (cs : List Call) (v w : View) : Type 0 where
+  pub number : w.number ≡ v.number
+  pub kinds : w.kinds ≡ v.kinds
+  pub idle : w.own ≡ own.Idle
+  pub calls : length w.done ≡ length v.done + length cs
+  pub events : List AnyEvent
+  pub journal : journal w ≡ journal v ++ events
+  pub made : Made cs events
 
 -- one call more
 made_more : (cs : List Call) (c : Call) (es : List AnyEvent) (t u : ℕ) (a : AnyAnswer) → Made cs es → Made (cs ++ c ∷ []) (es ++ Invoked t c.0 c.1 ∷ Returned u a ∷ [])
 made_more [] c es t u a made = (t, u, a, [], ap (λ z. z ++ Invoked t c.0 c.1 ∷ Returned u a ∷ []) made, refl)
 made_more (d ∷ cs) c es t u a (t', u', b, rest, is, made) = (t', u', b, rest ++ Invoked t c.0 c.1 ∷ Returned u a ∷ [], ap (λ z. z ++ Invoked t c.0 c.1 ∷ Returned u a ∷ []) is, made_more cs c rest t u a made)
 
-pub worked_more : (cs : List Call) (c : Call) (v w x : View) (a : AnyAnswer) → Worked cs v w → Called w c.0 c.1 a x → Worked (cs ++ c ∷ []) v x
-worked_more cs c v w x a k d = let n = k.calls in let m = d.calls in record {
+pub one_made : (cs : List Call) (c : Call) (v w x : View) (a : AnyAnswer) → HasMade cs v w → Called w c.0 c.1 a x → HasMade (cs ++ c ∷ []) v x
+one_made cs c v w x a k d = let n = k.calls in let m = d.calls in record {
   number = d.number ∙ k.number;
   kinds = d.kinds ∙ k.kinds;
   idle = d.idle;
@@ -26,15 +35,17 @@ worked_more cs c v w x a k d = let n = k.calls in let m = d.calls in record {
   made = made_more cs c k.events d.invoked d.returned a k.made;
 }
 
--- what a result says where it is known which it is
-pub where_ok : {A E : Type 0} (P : A → Type 0) (r : Result A E) → is_ok r ≡ true → IfOk r P → (a : A) × P a
-where_ok P (Ok a) e h = (a, h)
-where_ok P (Err x) e h = absurd (cc)
+parts : {A : Type 0} (l : List A) (i : ℕ) (d : A) → i < length l → l ≡ take i l ++ get_or l i d ∷ drop (suc i) l
+parts [] i d h = absurd (omega arith)
+parts (x ∷ xs) zero d h = refl
+parts (x ∷ xs) (suc i) d h = ap (λ z. x ∷ z) (parts xs i d (omega arith))
 
-pub where_err : {A E : Type 0} (P : Type 0) (r : Result A E) → is_ok r ≡ false → IfErr r (λ _. P) → P
-where_err P (Ok a) e h = absurd (cc)
-where_err P (Err x) e h = h
-
--- a call that was posted, and then waited for
-pub called_later : (v w z : View) (object : ℕ) (op : AnyOp) (a : AnyAnswer) → IsOutstanding v object op w → Returns w a z → Called v object op a z
-called_later v w z object op a o r = called v o.0 z object op a o.1 (returns_on o.0 w z a o.2 r)
+-- the call i is outstanding, behind those that were made
+pub stopped : (cs : List Call) (i : ℕ) (none : Call) (v w x : View) → i < length cs → HasMade (take i cs) v w → IsOutstanding w (get_or cs i none).0 (get_or cs i none).1 x → Worked cs v x
+stopped cs i none v w x low k o = let u : View = o.0 in let p = o.1 in let c : Call = get_or cs i none in record {
+  number = o.2.number ∙ (ap (λ z. z.number) p.knows ∙ k.number);
+  kinds = o.2.kinds ∙ (ap (λ z. z.kinds) p.knows ∙ k.kinds);
+  events = k.events ++ Invoked p.ticket c.0 c.1 ∷ [];
+  journal = (λ j. journal_of (o.2.done j) (own_request (o.2.own j))) ∙ (p.journal ∙ (ap (λ z. z ++ Invoked p.ticket c.0 c.1 ∷ []) k.journal ∙ append_assoc (journal v) k.events (Invoked p.ticket c.0 c.1 ∷ [])));
+  made = inr record { front = take i cs; call = c; behind = drop (suc i) cs; calls = parts cs i none low; events = k.events; made = k.made; ticket = p.ticket; last = refl };
+}

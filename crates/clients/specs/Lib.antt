@@ -1,2 +1,1 @@
-pub mod Workloads
 pub mod Made

@@ -1,40 +1,56 @@
--- What the journal of a client says of the calls that it was to make.
-use Rattle.std.specs.Prelude.{◌≡◌, ◌≢◌, ℕ, ◌+◌, ◌<◌, ◌≤◌, List, [], ◌∷◌, ◌++◌, length, All, Contains, None}
+-- What a record says of the calls that the clients of a desk were to make.
+use Rattle.std.specs.Prelude.{◌≡◌, ◌≢◌, ◌⊎◌, ℕ, ◌+◌, ◌<◌, ◌≤◌, List, [], ◌∷◌, ◌++◌, length, All, Contains}
 use Rattle.model.specs.declared.AnyOp.{AnyOp}
 use Rattle.model.specs.declared.AnyReply.{AnyReply}
 use Rattle.world.specs.declared.JournalEvent.TheVariants.{Invoked, Returned}
-use Rattle.world.specs.World.{AnyEvent, AnyAnswer, AnyDone, entries_of, served, journal_of}
+use Rattle.world.specs.World.{AnyEntry, AnyEvent, AnyAnswer, StartsWith}
 use Rattle.world.specs.Records.{IsSoundRecord}
 use Rattle.desk_rule.specs.declared.board.Own.TheVariants as own
 use Rattle.desk_rule.specs.declared.board.Leaving.{Leaving}
 use Rattle.desk_rule.specs.declared.board.View.{View}
-use Rattle.desk_rule.specs.Views.{journal}
-use Rattle.publication.specs.Handles.{DeskSeen, Known}
+use Rattle.desk_rule.specs.Views.{journal, leaving, seen_of, IsAccount}
+use Rattle.combiner.specs.Passes.{KeepsCalls}
+use Rattle.publication.specs.Handles.{DeskSeen, Known, begun}
 use Rattle.publication.specs.Calls.{Closed}
 use Rattle.recorder.specs.Records.{Recorded, journal_at, log_at}
-use Rattle.clients.specs.Workloads.{Work, Call, calls_at, IsCall}
+use Rattle.workload.specs.Workloads.{Work, Call, calls_at, IsCall}
 
 -- the events are those of the calls, in order: the invocation of each, and its return
 abbrev pub Made : List Call → List AnyEvent → Type 0
 Made [] es = es ≡ []
 Made (c ∷ cs) es = (t u : ℕ) × (a : AnyAnswer) × (rest : List AnyEvent) × (es ≡ Invoked t c.0 c.1 ∷ Returned u a ∷ rest) × Made cs rest
 
+-- These events are of the calls up to one, in order: those in front of it were made; of this one, to which memory was
+-- refused, there is the invocation alone, and of those behind it nothing.
+pub record IsStopped (cs : List Call) (es : List AnyEvent) : Type 0 where
+  pub front : List Call
+  pub call : Call
+  pub behind : List Call
+  pub calls : cs ≡ front ++ call ∷ behind
+  pub events : List AnyEvent
+  pub made : Made front events
+  pub ticket : ℕ
+  pub last : es ≡ events ++ Invoked ticket call.0 call.1 ∷ []
+
+-- of all calls, or up to one to which memory was refused
+abbrev pub MadeOrStopped : List Call → List AnyEvent → Type 0
+MadeOrStopped cs es = Made cs es ⊎ IsStopped cs es
+
 -- the client of this desk is idle, and may make these calls, which fit the desk
 pub record MayWork (d : DeskSeen) (c : Known) (cs : List Call) : Type 0 where
   pub desk : c.desk ≡ d.id
   pub idle : c.knows.own ≡ own.Idle
   pub room : length c.knows.done + length cs ≤ c.desk.quota
+  pub few : length cs < 10001
   pub fit : All (IsCall d.id.kinds) cs
 
--- an idle client made these calls, in order, and is idle again
+-- a client made these calls, in order, or stopped at one to which memory was refused
 pub record Worked (cs : List Call) (v w : View) : Type 0 where
   pub number : w.number ≡ v.number
   pub kinds : w.kinds ≡ v.kinds
-  pub idle : w.own ≡ own.Idle
-  pub calls : length w.done ≡ length v.done + length cs
   pub events : List AnyEvent
   pub journal : journal w ≡ journal v ++ events
-  pub made : Made cs events
+  pub made : MadeOrStopped cs events
 
 -- the desk was made for this workload
 pub record IsDeskFor (d : DeskSeen) (w : Work) : Type 0 where
@@ -42,6 +58,43 @@ pub record IsDeskFor (d : DeskSeen) (w : Work) : Type 0 where
   pub clients : d.clients ≡ length w.calls
   pub quota : (c : ℕ) → c < length w.calls → length (calls_at w c) ≤ d.id.quota
   pub few_calls : d.id.quota < 10001
+
+-- a client of the desk of this workload that has made no call
+pub record IsNew (d : DeskSeen) (w : Work) (k : Known) : Type 0 where
+  pub desk : IsDeskFor d w
+  pub low : k.knows.number < length w.calls
+  pub begun : k ≡ begun d.id k.knows.number
+
+-- the client c has made its calls, in order, or stopped at one to which memory was refused
+pub record HasWorked (d : DeskSeen) (w : Work) (c : ℕ) (k : Known) : Type 0 where
+  pub desk : k.desk ≡ d.id
+  pub number : k.knows.number ≡ c
+  pub made : MadeOrStopped (calls_at w c) (journal k.knows)
+
+-- the client's calls stay, what it has seen goes on, and it still knows whose end it was told of
+pub record Keeps (v w : View) : Type 0 where
+  pub calls : KeepsCalls v w
+  pub left : (l : Leaving) → Contains v.left l → Contains w.left l
+
+-- both have seen the same of each of the first n objects
+abbrev pub HaveSeenAlike : ℕ → View → View → Type 0
+HaveSeenAlike n v w = (x : ℕ) → x < n → seen_of v x ≡ seen_of w x
+
+-- The log of x begins with a list that both clients have seen. Of each one's calls on x it holds just those that were answered
+-- by a reply, each once and in order, and perhaps the one that is pending.
+pub record HaveMet (x : ℕ) (v w : View) (log : List AnyEntry) : Type 0 where
+  pub seen : List AnyEntry
+  pub begins : StartsWith log seen
+  pub first : IsAccount x v seen
+  pub second : IsAccount x w seen
+
+-- The client met c, which had made its calls of the workload, on each object, and was told of its end.
+pub record HasMet (w : Work) (v : View) (c : ℕ) : Type 0 where
+  pub other : View
+  pub number : other.number ≡ c
+  pub made : MadeOrStopped (calls_at w c) (journal other)
+  pub told : Contains v.left (leaving other)
+  pub met : (x : ℕ) → x < length w.kinds → HaveMet x v other (seen_of v x)
 
 -- the client was told that this other has retired
 abbrev pub WasTold : View → ℕ → Type 0
@@ -51,28 +104,42 @@ WasTold v c = (l : Leaving) × Contains v.left l × (l.client ≡ c)
 abbrev pub HaveTold : DeskSeen → Known → Type 0
 HaveTold d last = (c : ℕ) → c < d.clients → c ≢ last.knows.number → WasTold last.knows c
 
--- client 0 of the desk has made all its calls, and was told that the others have retired
-pub record IsDone (d : DeskSeen) (w : Work) (c : Known) : Type 0 where
-  pub desk : c.desk ≡ d.id
-  pub number : c.knows.number ≡ 0
-  pub idle : c.knows.own ≡ own.Idle
-  pub made : Made (calls_at w 0) (journal c.knows)
-  pub told : HaveTold d c
+-- the client has met each of the others below n
+abbrev pub HasMetBelow : Work → Known → ℕ → Type 0
+HasMetBelow w k n = (c : ℕ) → 0 < c → c < n → HasMet w k.knows c
+
+-- client 0 of the desk has made its calls, or stopped, and has met the others
+pub record IsDone (d : DeskSeen) (w : Work) (k : Known) : Type 0 where
+  pub worked : HasWorked d w 0 k
+  pub met : HasMetBelow w k d.clients
 
 -- the client c closed the desk d, with this record
 abbrev pub ClosedBy : DeskSeen → Known → Recorded AnyOp AnyReply → Type 0
 ClosedBy d c r = Closed (λ (op : AnyOp). op) (λ (reply : AnyReply). reply) d c r
 
+-- What is recorded of the client c, which client 0 met at the end. `first` is what client 0 knew.
+pub record HasRun (w : Work) (r : Recorded AnyOp AnyReply) (first : View) (c : ℕ) : Type 0 where
+  -- it made its calls, all of them, in order; or those up to one to which memory was refused, and which is pending
+  pub made : MadeOrStopped (calls_at w c) (journal_at r c)
+  -- what it knew of its calls at the end
+  pub knew : View
+  pub number : knew.number ≡ c
+  pub says : journal_at r c ≡ journal knew
+  -- Each log begins with a list that has just those calls of both on its object that were answered by a reply, each client's
+  -- once and in order, and perhaps one that is pending.
+  pub met : (x : ℕ) → x < length w.kinds → HaveMet x first knew (log_at r x)
+
 -- The record of a closed desk of the workload's objects and clients.
 pub record Ran (w : Work) (r : Recorded AnyOp AnyReply) : Type 0 where
   pub journals : length r.journals ≡ length w.calls
   pub logs : length r.logs ≡ length w.kinds
-  -- client 0 made its calls, all of them, in order
-  pub own : Made (calls_at w 0) (journal_at r 0)
-  -- These are its calls by its journal. Of them each log holds just those on its object that were answered by a reply,
-  -- each once and in order.
-  pub done : List AnyDone
-  pub says : journal_at r 0 ≡ journal_of done None
-  pub accounts : (x : ℕ) → entries_of 0 (log_at r x) ≡ served x 0 done
+  -- what client 0 knew of its calls at the end
+  pub knew : View
+  pub number : knew.number ≡ 0
+  pub says : journal_at r 0 ≡ journal knew
+  -- Of client 0's calls each log holds just those on its object that were answered by a reply, each once and in order, and
+  -- perhaps the one that is pending.
+  pub accounts : (x : ℕ) → IsAccount x knew (log_at r x)
+  pub each : (c : ℕ) → c < length w.calls → HasRun w r knew c
   -- the journals of all clients are a well-formed history, and each log is legal, and a valid order of the calls on its object
   pub sound : IsSoundRecord w.kinds 10000 (journal_at r) (log_at r)

@@ -1,19 +1,19 @@
 //! A desk whose clients make the calls of a workload.
 
-ghost use Rattle.std.specs.Prelude.{◌≡◌, ◌<◌, length, map, All, IfOk, IfErr, OnErr};
+ghost use Rattle.std.specs.Prelude.{◌≡◌, ◌<◌, ◌≤◌, [], length, map, All, IfOk, IfErr, OnErr, vec_capacity};
 ghost use Rattle.model.specs.Objects.{empty, kind_with};
-ghost use Rattle.desk_rule.specs.declared.board.Own.TheVariants.{Idle};
 ghost use Rattle.publication.specs.Handles.{AllBegun};
-ghost use Rattle.clients.specs.Made.{MayWork, Worked, IsDeskFor, IsDone, ClosedBy, Ran, WasTold, HaveTold};
+ghost use Rattle.clients.specs.Made.{HasWorked, IsNew, IsDeskFor, IsDone, ClosedBy, Ran, HaveTold};
 
+use crate::meeting::part;
 use crate::worker::work;
-use crate::workload::Workload;
-use model::{AnyOp, Kind};
+use model::Kind;
 use publication::{Client, Desk, Record};
-use seq_objects::{AnyObject, SeqObject};
+use seq_objects::{AnyObject, Gate, SeqObject};
 use std::alloc::{AllocError, Global};
 use std::sync::Wait;
-use std::thread::{self, Promise, SpawnError, Threads};
+use std::thread::{self, Promise, PromisedHandle, SpawnError, Threads};
+use workload::Workload;
 
 /// Why there is no record.
 #[derive(Clone, Copy, Debug, PartialEq, Eq)]
@@ -44,93 +44,91 @@ impl<F: Drop> From<SpawnError<F>> for RunFault {
     }
 }
 
-// The client of this desk with this number, which has no call outstanding.
+// The client of this desk with this number has made its calls of the workload.
 #[derive(Drop)]
-struct IdleAt<'a>(&'a Desk<AnyObject>, u32);
+struct WorkerOf<'a>(&'a Desk<AnyObject>, &'a Workload, u32);
 
-impl<'a> Promise<Client<AnyObject>> for IdleAt<'a> {
-    ghost use Rattle.publication.specs.Handles.{Known};
+impl<'a> Promise<Client<AnyObject>> for WorkerOf<'a> {
+    ghost use Rattle.clients.specs.Made.{HasWorked};
 
-    ghost kept_by = { λ p client. (client.desk ≡ p.0.now.id) × (client.knows.own ≡ Idle) × (client.knows.number ≡ p.1) };
+    ghost kept_by = { λ p client. HasWorked p.0.now p.1.now p.2 client };
 }
 
-/// Makes the calls of the workload on a new desk, and closes it. Client 0 runs in the calling thread, and client 1, if
-/// there is one, in a thread of its own. More clients are not run yet.
-pub fn run_workers<R: Threads + Wait + Sync>(
+/// Makes the calls of the workload on a new desk, and closes it. Client 0 runs in the calling thread, and each other in a
+/// thread of its own; then client 0 meets each other on each object. A client to whose call memory is refused makes no more,
+/// and that call is pending in the record. The gate is called around each call.
+pub fn run_workers<R: Threads + Wait + Sync, G: Gate>(
     rt: &R,
     alloc: Global,
     workload: &Workload,
+    gate: &G,
 ) -> Result<Record<AnyObject>, RunFault>
-    requires { length workload.now.calls < 3 }
     ensures ran { IfOk result (Ran workload.now) }
     // No thread is started for a client alone.
     ensures alone { IfErr result (λ e. e ≡ RunFault.NoThread → 1 < length workload.now.calls) }
 {
     let objects = empty_objects(alloc, workload.kinds())?;
     let (desk, clients) = Desk::new(alloc, objects, workload.clients(), workload.quota())?;
-    let last = run_all(rt, &desk, clients, workload)?;
+    let room = Vec::with_capacity(alloc, clients.len())?;
+    let last = run_all(rt, gate, &desk, workload, clients, room)?;
     Ok(close(desk, last))
 }
 
-// Runs the clients of a new desk, and hands client 0 back, which was told that the others have retired.
-fn run_all<R: Threads + Wait + Sync>(
+type Worker<'a> = PromisedHandle<Client<AnyObject>, WorkerOf<'a>>;
+
+// Runs the clients of a new desk, and hands client 0 back, which has met the others. There is room for their threads.
+fn run_all<'a, R: Threads + Wait + Sync, G: Gate>(
     rt: &R,
-    desk: &Desk<AnyObject>,
+    gate: &G,
+    desk: &'a Desk<AnyObject>,
+    workload: &'a Workload,
     mut clients: Vec<Client<AnyObject>>,
-    workload: &Workload,
+    mut workers: Vec<Worker<'a>>,
 ) -> Result<Client<AnyObject>, RunFault>
-    requires few { (0 < length workload.now.calls) × (length workload.now.calls < 3) }
     requires desk { IsDeskFor desk.now workload.now }
-    requires clients { (length clients.items ≡ length workload.now.calls) × AllBegun desk.now.id clients.items }
+    requires clients { (length clients.items ≡ length workload.now.calls)
+        × AllBegun desk.now.id clients.items }
+    requires room { (workers.items ≡ []) × (length clients.items ≤ vec_capacity workers) }
     ensures done { IfOk result (IsDone desk.now workload.now) }
     ensures alone { OnErr result (1 < length workload.now.calls) }
 {
-    let calls = workload.calls(0);
-    let Some(last) = clients.pop() else {
-        unreachable!()
-    };
-    match clients.pop() {
-        None => Ok(work(rt, desk, last, calls)),
-        Some(own) => run_two(rt, desk, own, calls, last, workload.calls(1)),
-    }
-}
-
-// Runs both clients, the other in a thread of its own, retires that, and tells the first.
-fn run_two<R: Threads + Wait + Sync>(
-    rt: &R,
-    desk: &Desk<AnyObject>,
-    own: Client<AnyObject>,
-    own_calls: &[(u32, AnyOp)],
-    other: Client<AnyObject>,
-    other_calls: &[(u32, AnyOp)],
-) -> Result<Client<AnyObject>, RunFault>
-    requires own { MayWork desk.now own own_calls.now }
-    requires other { MayWork desk.now other other_calls.now }
-    ensures desk { IfOk result (λ client. client.desk ≡ own.desk) }
-    ensures worked { IfOk result (λ client. Worked own_calls.now own.knows client.knows) }
-    ensures told { IfOk result (λ client. WasTold client.knows other.knows.number) }
-{
-    let number = other.number();
-    let (mut own, other) = thread::scope(
+    thread::scope(
         thread::scope_env(),
         rt,
-        |scope| -> Result<(Client<AnyObject>, Client<AnyObject>), RunFault>
-            requires { MayWork desk.now own own_calls.now × MayWork desk.now other other_calls.now × (other.knows.number ≡ number) }
-            ensures { IfOk result (λ r. (r.0.desk ≡ own.desk) × Worked own_calls.entry.now own.knows r.0.knows × (r.1.desk ≡ desk.entry.now.id) × (r.1.knows.own ≡ Idle) × (r.1.knows.number ≡ number)) }
+        |scope| -> Result<Client<AnyObject>, RunFault>
+            requires { IsDeskFor desk.now workload.now × (length clients.items ≡ length workload.now.calls)
+                × AllBegun desk.now.id clients.items × (workers.items ≡ [])
+                × (length clients.items ≤ vec_capacity workers) }
+            ensures { IfOk result (IsDone desk.entry.now workload.entry.now)
+                × OnErr result (1 < length workload.entry.now.calls) }
         {
-            let started = scope.spawn_with(
-                IdleAt(desk, number),
-                || -> Client<AnyObject>
-                    requires { MayWork desk.now other other_calls.now }
-                    ensures { (result.desk ≡ desk.entry.now.id) × (result.knows.own ≡ Idle) × (result.knows.number ≡ other.knows.number) }
-                { work(rt, desk, other, other_calls) },
-            )?;
-            let own = work(rt, desk, own, own_calls);
-            Ok((own, started.join(rt)))
+            for _ in 1..workload.clients() {
+                let Some(client) = clients.pop() else {
+                    unreachable!()
+                };
+                let number = client.number();
+                let worker = scope.spawn_with(
+                    WorkerOf(desk, workload, number),
+                    || -> Client<AnyObject>
+                        requires { IsNew desk.now workload.now client }
+                        ensures { HasWorked desk.entry.now workload.entry.now client.knows.number result }
+                    { work(rt, gate, desk, workload, client) },
+                )?;
+                workers.push_reserved(worker);
+            }
+            let Some(own) = clients.pop() else {
+                unreachable!()
+            };
+            let mut own = work(rt, gate, desk, workload, own);
+            for _ in 1..workload.clients() {
+                let Some(worker) = workers.pop() else {
+                    unreachable!()
+                };
+                own = part(desk, own, worker.join(rt));
+            }
+            Ok(own)
         },
-    )?;
-    desk.tell(&mut own, desk.retire(other));
-    Ok(own)
+    )
 }
 
 // Closes the desk with its last client, once the others have retired.
@@ -147,8 +145,11 @@ fn close(desk: Desk<AnyObject>, last: Client<AnyObject>) -> Record<AnyObject>
 
 // An object of each kind that contains nothing.
 fn empty_objects(alloc: Global, kinds: &[Kind]) -> Result<Vec<AnyObject>, AllocError>
-    ensures kinds { IfOk result (λ v. map (λ o. kind_with (⟦<AnyObject as SeqObject>⟧.content o)) v.items ≡ kinds.now) }
-    ensures empty { IfOk result (λ v. All (λ o. ⟦<AnyObject as SeqObject>⟧.content o ≡ empty (kind_with (⟦<AnyObject as SeqObject>⟧.content o))) v.items) }
+    ensures kinds { IfOk result (λ v.
+        map (λ o. kind_with (⟦<AnyObject as SeqObject>⟧.content o)) v.items ≡ kinds.now) }
+    ensures empty { IfOk result (λ v.
+        All (λ o. ⟦<AnyObject as SeqObject>⟧.content o
+        ≡ empty (kind_with (⟦<AnyObject as SeqObject>⟧.content o))) v.items) }
 {
     let mut objects = Vec::new(alloc);
     for kind in kinds {

@@ -1,22 +1,39 @@
 //! A client that makes its calls.
 
-ghost use Rattle.std.specs.Prelude.{◌≡◌, ◌<◌, length};
+ghost use Rattle.std.specs.Prelude.{◌≡◌, ◌<◌, true, false, length};
 ghost use Rattle.world.specs.World.{AnyAnswer};
 ghost use Rattle.desk_rule.specs.declared.board.Own.TheVariants.{Idle};
-ghost use Rattle.combiner.specs.Waits.{Called, Returns};
-ghost use Rattle.clients.specs.Workloads.{IsCall};
-ghost use Rattle.clients.specs.Made.{MayWork, Worked};
+ghost use Rattle.combiner.specs.Waits.{Called, IsOutstanding};
+ghost use Rattle.workload.specs.Workloads.{IsCall};
+ghost use Rattle.clients.specs.Made.{MayWork, Worked, IsNew, HasWorked};
 
-use combiner::{CallFault, call, wait_for};
+use combiner::{CallFault, call};
 use model::AnyOp;
 use publication::{Client, Desk};
-use seq_objects::AnyObject;
+use seq_objects::{AnyObject, Gate};
 use std::sync::Wait;
-use std::thread;
+use workload::Workload;
 
-/// Makes the calls, one after another, and hands the client back.
-pub(crate) fn work<R: Wait>(
+/// Makes the client's calls of the workload, one after another, and hands the client back. Where memory is refused to a
+/// call it makes no more, and that one is outstanding.
+pub(crate) fn work<R: Wait, G: Gate>(
     rt: &R,
+    gate: &G,
+    desk: &Desk<AnyObject>,
+    workload: &Workload,
+    client: Client<AnyObject>,
+) -> Client<AnyObject>
+    requires { IsNew desk.now workload.now client }
+    ensures { HasWorked desk.now workload.now client.knows.number result }
+{
+    let calls = workload.calls(client.number());
+    make_all(rt, gate, desk, client, calls)
+}
+
+// Makes these calls, one after another, up to the first to which memory is refused.
+fn make_all<R: Wait, G: Gate>(
+    rt: &R,
+    gate: &G,
     desk: &Desk<AnyObject>,
     client: Client<AnyObject>,
     calls: &[(u32, AnyOp)],
@@ -25,59 +42,41 @@ pub(crate) fn work<R: Wait>(
     ensures desk { result.desk ≡ client.desk }
     ensures worked { Worked calls.now client.knows result.knows }
 {
+    let number = client.number();
     let mut client = client;
-    for called in calls {
-        let (object, op) = *called;
-        client = make(rt, desk, client, object, op);
+    for place in 0..calls.len() as u32 {
+        let (object, op) = calls[place as usize];
+        gate.before(number, place);
+        let (after, over) = make(rt, desk, client, object, op);
+        gate.after(number, place);
+        client = after;
+        if !over {
+            return client;
+        }
     }
     client
 }
 
-// Makes one call. It cannot be refused.
+// Makes one call, which cannot be refused. Whether it is over: if not, memory was refused, and it is outstanding.
 fn make<R: Wait>(
     rt: &R,
     desk: &Desk<AnyObject>,
     client: Client<AnyObject>,
     object: u32,
     op: AnyOp,
-) -> Client<AnyObject>
+) -> (Client<AnyObject>, bool)
     requires desk { client.desk ≡ desk.now.id }
     requires idle { client.knows.own ≡ Idle }
     requires room { length client.knows.done < client.desk.quota }
     requires fits { IsCall desk.now.id.kinds (object, op) }
-    ensures desk { result.desk ≡ client.desk }
-    ensures called { (a : AnyAnswer) × Called client.knows object op a result.knows }
+    ensures desk { result.0.desk ≡ client.desk }
+    ensures called { result.1 ≡ true → (a : AnyAnswer) × Called client.knows object op a result.0.knows }
+    ensures outstanding { result.1 ≡ false → IsOutstanding client.knows object op result.0.knows }
 {
     let (client, answered) = call(rt, desk, client, object, op);
-    let Err(fault) = answered else {
-        return client;
-    };
-    match fault {
-        CallFault::NoMemory => wait(rt, desk, client, object),
-        CallFault::Post(_) => unreachable!(),
+    match answered {
+        Ok(_) => (client, true),
+        Err(CallFault::NoMemory) => (client, false),
+        Err(CallFault::Post(_)) => unreachable!(),
     }
-}
-
-// Waits for the outstanding call, and goes on where memory is refused.
-fn wait<R: Wait>(
-    rt: &R,
-    desk: &Desk<AnyObject>,
-    client: Client<AnyObject>,
-    object: u32,
-) -> Client<AnyObject>
-    requires desk { client.desk ≡ desk.now.id }
-    requires object { object < length desk.now.id.kinds }
-    ensures desk { result.desk ≡ client.desk }
-    ensures returns { (a : AnyAnswer) × Returns client.knows a result.knows }
-{
-    let mut client = client;
-    for _ in rt.forever() {
-        let (after, answered) = wait_for(rt, desk, client, object);
-        client = after;
-        if answered.is_ok() {
-            return client;
-        }
-        thread::yield_now();
-    }
-    unreachable!()
 }

@@ -20,7 +20,7 @@ use Rattle.combiner.specs.declared.passes.Tried.TheVariants as tried
 use Rattle.combiner.specs.Passes.{KeepsCalls, Goes, IsTried, IsSettled, IsSettledBy, IsSettledNow, IsSameBut, HasLearnt}
 
 -- what stays where the own calls of w are written from those of v
-keeps_same : (v w u : View) → w ≡ u → KeepsCalls v u → KeepsCalls v w
+pub keeps_same : (v w u : View) → w ≡ u → KeepsCalls v u → KeepsCalls v w
 keeps_same v w u e k = subst (KeepsCalls v) (sym e) k
 
 pub keeps_on : (v w u : View) → KeepsCalls v w → KeepsCalls w u → KeepsCalls v u
@@ -40,13 +40,13 @@ pub keeps_held : (v : View) {h : Held} {back : List PutBack} {missed : List ℕ}
 keeps_held v = record { number = refl; kinds = refl; own = refl; done = refl; seen = λ x. starts_same (seen_of v x) }
 
 pub goes_nowhere : (p : Holding) → Goes p p
-goes_nowhere p = record { desk = refl; object = refl; tries = refl; log = starts_same p.log; seen = refl; calls = keeps_all p.knows; ready = λ e. e }
+goes_nowhere p = record { desk = refl; object = refl; places = refl; log = starts_same p.log; seen = refl; calls = keeps_all p.knows; ready = λ e. e }
 
 pub goes_on : (p q r : Holding) → Goes p q → Goes q r → Goes p r
 goes_on p q r a b = record {
   desk = b.desk ∙ a.desk;
   object = b.object ∙ a.object;
-  tries = b.tries ∙ a.tries;
+  places = b.places ∙ a.places;
   log = starts_longer r.log q.log p.log b.log a.log;
   seen = b.seen ∙ a.seen;
   calls = keeps_on p.knows q.knows r.knows a.calls b.calls;
@@ -55,11 +55,11 @@ goes_on p q r a b = record {
 
 -- where only the list and the ages changed
 pub goes_same : (p q : Holding) → IsSameBut p q → Goes p q
-goes_same p q s = subst (Goes p) (sym s.2) record { desk = refl; object = refl; tries = refl; log = starts_same p.log; seen = refl; calls = keeps_all p.knows; ready = λ e. e }
+goes_same p q s = subst (Goes p) (sym s.2) record { desk = refl; object = refl; places = refl; log = starts_same p.log; seen = refl; calls = keeps_all p.knows; ready = λ e. e }
 
 -- where only the room for entries changed
 pub goes_room : (p q : Holding) (n : ℕ) → q ≡ record p { state = record p.state { room = n } } → Goes p q
-goes_room p q n is = subst (Goes p) (sym is) record { desk = refl; object = refl; tries = refl; log = starts_same p.log; seen = refl; calls = keeps_all p.knows; ready = λ e. e }
+goes_room p q n is = subst (Goes p) (sym is) record { desk = refl; object = refl; places = refl; log = starts_same p.log; seen = refl; calls = keeps_all p.knows; ready = λ e. e }
 
 -- the client after its pass, which served nothing, was put back
 pub only_learnt : (c : View) (x : ℕ) (p q : Holding) (v : View) (n : ℕ) → p.knows ≡ holding x p.log c → p.object ≡ x → q ≡ record p { state = record p.state { room = n } } → v ≡ learnt q.object q.log q.knows → seen_of v q.object ≡ q.log → HasLearnt x c v
@@ -87,7 +87,7 @@ pub not_goes : (p q : Holding) (row : ℕ) → q.desk ≡ p.desk → q.state ≡
 not_goes p q row d s n = let k = n.knows in record {
   desk = d;
   object = n.object;
-  tries = ap (λ z. z.tries) s;
+  places = ap (λ z. z.places) s;
   log = subst (λ l. StartsWith l p.log) (sym n.log) (starts_same p.log);
   seen = ap (λ z. z.seen) k;
   calls = keeps_same p.knows q.knows _ k (keeps_held p.knows);
@@ -102,11 +102,11 @@ not_tried p q row n here r waiting on =
     let k = n.knows in let waiting' : p.knows.own ≡ own.Waiting r = sym (ap (λ z. z.own) k) ∙ waiting in let on' : r.object ≡ p.object = on ∙ n.object in
     ap (λ z. z.ready) k ∙ ((λ i. p.knows.ready || (eq-eqb (16 + row) (16 + p.knows.number) (ap (λ z. 16 + z) here) i && waits p.object p.knows.own r waiting' on' i)) ∙ or-true p.knows.ready)
 
-pub answered_goes : (p : Holding) (h : Handling) (q : Holding) (row : ℕ) (a : AnyAnswer) → h.desk ≡ p.desk → q.desk ≡ h.desk → h.state ≡ p.state → q.state.tries ≡ h.state.tries → Got p row h → Answered h a q → Goes p q
+pub answered_goes : (p : Holding) (h : Handling) (q : Holding) (row : ℕ) (a : AnyAnswer) → h.desk ≡ p.desk → q.desk ≡ h.desk → h.state ≡ p.state → q.state.places ≡ h.state.places → Got p row h → Answered h a q → Goes p q
 answered_goes p h q row a d d' s s' g k = record {
   desk = d' ∙ d;
   object = k.object ∙ g.object;
-  tries = s' ∙ ap (λ z. z.tries) s;
+  places = s' ∙ ap (λ z. z.places) s;
   log = (logged h.row h.request a, k.log ∙ ap (λ z. z ++ logged h.row h.request a) g.log);
   seen = ap (λ z. z.seen) k.knows ∙ ap (λ z. z.seen) g.knows;
   calls = keeps_on p.knows h.knows q.knows (keeps_same p.knows h.knows _ g.knows (keeps_held p.knows)) (keeps_same h.knows q.knows _ k.knows (keeps_held h.knows));
@@ -121,7 +121,7 @@ pub back_goes : (p : Holding) (h : Handling) (q : Holding) (row : ℕ) → h.des
 back_goes p h q row d d' s s' g k = record {
   desk = d' ∙ d;
   object = k.object ∙ g.object;
-  tries = ap (λ z. z.tries) (s' ∙ s);
+  places = ap (λ z. z.places) (s' ∙ s);
   log = subst (λ l. StartsWith l p.log) (sym (k.log ∙ g.log)) (starts_same p.log);
   seen = ap (λ z. z.seen) k.knows ∙ ap (λ z. z.seen) g.knows;
   calls = keeps_on p.knows h.knows q.knows (keeps_same p.knows h.knows _ g.knows (keeps_held p.knows)) (keeps_same h.knows q.knows _ k.knows (keeps_held h.knows));

@@ -1,16 +1,18 @@
 -- What a call that waited did.
-use Rattle.std.proofs.Common.{◌≡◌, ℕ, ◌+◌, ◌<◌, [], ◌∷◌, ◌++◌, All, length, sym, ap, subst, ◌∙◌, length-append, append_assoc}
+use Rattle.std.proofs.Common.{◌≡◌, ℕ, ◌+◌, ◌<◌, List, [], ◌∷◌, ◌++◌, Some, All, length, refl, sym, ap, subst, ◌∙◌, length-append, append_assoc}
+use Rattle.model.specs.declared.Kind.{Kind}
 use Rattle.model.specs.declared.AnyOp.{AnyOp}
 use Rattle.world.specs.World.{AnyEntry, AnyRequest, AnyAnswer, kind_at, logged, entries_of, served, journal_of, IsLegal, StartsWith}
-use Rattle.world.proofs.Entries.{starts_longer}
+use Rattle.world.proofs.Entries.{starts_longer, starts_same}
 use Rattle.world.specs.declared.JournalEvent.TheVariants.{Invoked, Returned}
 use Rattle.desk_rule.specs.declared.board.View.{View}
 use Rattle.desk_rule.specs.declared.board.Own.TheVariants as own
-use Rattle.desk_rule.specs.Views.{journal, own_request, seen_of}
-use Rattle.publication.specs.Calls.{Posted, Polled}
-use Rattle.combiner.specs.Passes.{KeepsCalls}
-use Rattle.combiner.specs.Waits.{Called, Returns, IsLogged}
-use Rattle.combiner.proofs.Served.{seen_on}
+use Rattle.desk_rule.specs.Views.{journal, own_request, seen_of, calling, performing, holding, learnt}
+use Rattle.publication.specs.Handles.{Holding}
+use Rattle.publication.specs.Calls.{Posted, Performed, Polled, NotPolled}
+use Rattle.combiner.specs.Passes.{KeepsCalls, Goes}
+use Rattle.combiner.specs.Waits.{Called, Returns, IsLogged, IsOutstanding}
+use Rattle.combiner.proofs.Served.{seen_on, keeps_on, keeps_same, keeps_held, keeps_unpolled}
 
 pub returned : (v u w : View) (a : AnyAnswer) → KeepsCalls v u → Polled u a w → Returns v a w
 returned v u w a k p =
@@ -65,3 +67,70 @@ returns_on v u w a k r = let x : ℕ = r.request.object in record {
     later = r.logged.later;
   };
 }
+
+-- a round in which nothing was answered: v before the loop, u before the round, p after the poll, e after the enlisting
+pub keeps_round : (v u p e w : View) → KeepsCalls v u → NotPolled u p → e ≡ p → KeepsCalls e w → KeepsCalls v w
+keeps_round v u p e w before none same after = keeps_on v u w before (keeps_on u p w (keeps_unpolled u p none) (subst (λ z. KeepsCalls z w) same after))
+
+-- The client made the call at once: p is the pass that was opened, q the one after the other rows, r the one after the call, and w
+-- the client after it was put back.
+pub called_at_once : (v : View) (x : ℕ) (op : AnyOp) (a : AnyAnswer) (p q r : Holding) (w : View) → p.knows ≡ holding x p.log v → p.object ≡ x → StartsWith p.log (seen_of v x) → p.knows.kinds ≡ p.desk.kinds → Goes p q → Performed q op a r
+    → w ≡ learnt r.object r.log r.knows → seen_of w r.object ≡ r.log → Called v x op a w
+called_at_once v x op a p q r w opened on begins kinds goes made is seen =
+    let k : KeepsCalls v q.knows = keeps_on v p.knows q.knows (keeps_same v p.knows _ opened (keeps_held v)) goes.calls in
+    let at : q.object ≡ x = goes.object ∙ on in let at' : r.object ≡ x = made.object ∙ at in
+    let request : made.request ≡ record { object = x; ticket = made.request.ticket; op = op } = λ i. record { object = (made.asked.0 ∙ at) i; ticket = made.request.ticket; op = made.asked.1 i } in
+    let seen' : seen_of w x ≡ r.log = ap (seen_of w) (sym at') ∙ seen in
+    let knows : w ≡ learnt r.object r.log (performing made.request a r.log made.returned q.knows) = is ∙ ap (learnt r.object r.log) made.knows in record {
+      invoked = made.request.ticket;
+      returned = made.returned;
+      was_idle = sym k.own ∙ made.was_idle;
+      number = ap (λ z. z.number) knows ∙ k.number;
+      kinds = ap (λ z. z.kinds) knows ∙ k.kinds;
+      idle = ap (λ z. z.own) knows;
+      calls = ap (λ z. length z.done) knows ∙ (length-append q.knows.done _ ∙ ap (λ z. length z + 1) k.done);
+      journal = ap journal is ∙ (made.journal ∙ λ i. journal_of (k.done i) (own_request (k.own i)) ++ Invoked made.request.ticket (at i) op ∷ Returned made.returned a ∷ []);
+      seen = λ y. starts_longer (seen_of w y) (seen_of r.knows y) (seen_of v y)
+          (subst (λ z. StartsWith (seen_of z y) (seen_of r.knows y)) (sym is) (seen_on r.knows.seen r.object r.log (subst (λ z. StartsWith r.log (seen_of r.knows z)) (sym made.object) (subst (StartsWith r.log) (sym made.seen) (starts_same r.log))) y))
+          (starts_longer (seen_of r.knows y) (seen_of q.knows y) (seen_of v y)
+          (subst (λ z. StartsWith (seen_of z y) (seen_of q.knows y)) (sym made.knows) (seen_on q.knows.seen made.request.object r.log (subst (λ z. StartsWith r.log (seen_of q.knows z)) (sym made.asked.0) made.begins) y)) (k.seen y));
+      logged = record {
+        legal = subst (IsLegal (kind_at v.kinds x)) (sym seen') (subst (λ (z : List Kind × ℕ). IsLegal (kind_at z.0 z.1) r.log) (λ i. ((ap (λ z. z.kinds) goes.desk ∙ (sym kinds ∙ ap (λ z. z.kinds) opened)) i, at i)) made.legal);
+        counted = ap (entries_of v.number) seen' ∙ (ap (λ z. entries_of z r.log) (sym k.number) ∙ (made.counted ∙ λ i. served (at i) (k.number i) (k.done i) ++ logged (k.number i) (request i) a));
+        later = subst (All (λ (e : AnyEntry). e.ticket < made.returned)) (sym seen') made.later;
+      };
+    }
+
+-- the client saw more before the call
+pub called_before : (v u w : View) (object : ℕ) (op : AnyOp) (a : AnyAnswer) → KeepsCalls v u → Called u object op a w → Called v object op a w
+called_before v u w object op a k c = record {
+  invoked = c.invoked;
+  returned = c.returned;
+  was_idle = sym k.own ∙ c.was_idle;
+  number = c.number ∙ k.number;
+  kinds = c.kinds ∙ k.kinds;
+  idle = c.idle;
+  calls = c.calls ∙ ap (λ z. length z + 1) k.done;
+  journal = c.journal ∙ λ i. journal_of (k.done i) (own_request (k.own i)) ++ Invoked c.invoked object op ∷ Returned c.returned a ∷ [];
+  seen = λ y. starts_longer (seen_of w y) (seen_of u y) (seen_of v y) (c.seen y) (k.seen y);
+  logged = record {
+    legal = subst (λ z. IsLegal (kind_at z object) (seen_of w object)) k.kinds c.logged.legal;
+    counted = (λ i. entries_of (sym k.number i) (seen_of w object)) ∙ (c.logged.counted ∙ λ i. served object (k.number i) (k.done i) ++ logged (k.number i) (record { object = object; ticket = c.invoked; op = op }) a);
+    later = c.logged.later;
+  };
+}
+
+-- the same, where the call is outstanding
+pub outstanding_before : (v u p w : View) (object : ℕ) (op : AnyOp) → KeepsCalls v u → Posted u object op p → KeepsCalls p w → IsOutstanding v object op w
+outstanding_before v u p w object op k posted after =
+    let q : AnyRequest = record { object = object; ticket = posted.ticket; op = op } in let z : View = calling (own.Waiting q) v in
+    let kept : KeepsCalls z (calling (own.Waiting q) u) = record { number = k.number; kinds = k.kinds; own = refl; done = k.done; seen = k.seen } in (
+      z,
+      record {
+        ticket = posted.ticket;
+        was_idle = sym k.own ∙ posted.was_idle;
+        knows = refl;
+        journal = ap (λ y. journal_of y (Some q)) (sym k.done) ∙ (ap journal (sym posted.knows) ∙ (posted.journal ∙ λ i. journal_of (k.done i) (own_request (k.own i)) ++ Invoked posted.ticket object op ∷ []));
+      },
+      keeps_on z p w (subst (KeepsCalls z) (sym posted.knows) kept) after,
+    )

@@ -41,7 +41,7 @@ IsSameBut p q = (l : WalkerSeen) × (ages : List ℕ) × (q ≡ record p { state
 pub record Goes (p q : Holding) : Type 0 where
   pub desk : q.desk ≡ p.desk
   pub object : q.object ≡ p.object
-  pub tries : q.state.tries ≡ p.state.tries
+  pub places : q.state.places ≡ p.state.places
   pub log : StartsWith q.log p.log
   pub seen : q.knows.seen ≡ p.knows.seen
   pub calls : KeepsCalls p.knows q.knows

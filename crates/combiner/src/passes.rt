@@ -1,10 +1,15 @@
 //! One pass over the rows.
 
-ghost use Rattle.std.specs.Prelude.{◌≡◌, ◌<◌, ◌≤◌, length, IfSome};
+ghost use Rattle.std.specs.Prelude.{◌≡◌, ◌<◌, ◌≤◌, length, IfSome, IfNone};
+ghost use Rattle.model.specs.Objects.{kind_of};
+ghost use Rattle.world.specs.World.{kind_at};
+ghost use Rattle.world.specs.Images.{answer_in};
 ghost use Rattle.desk_rule.specs.Views.{missing};
+ghost use Rattle.publication.specs.Calls.{MayPost};
+ghost use Rattle.combiner.specs.Waits.{Called};
 ghost use Rattle.combiner.specs.Passes.{Goes, KeepsCalls, IsTried, IsSettled, IsSettledNow, IsSameBut, HasLearnt, IfServed, IfBusy, IfNoMemory};
 
-use publication::{Client, Desk, Pass, Picked, Win};
+use publication::{Answer, Client, Desk, Pass, Picked, Win};
 use seq_objects::SeqObject;
 
 /// What a try to combine did.
@@ -47,7 +52,7 @@ pub fn combine<S: SeqObject>(
     requires object { object < length desk.now.id.kinds }
     ensures desk { result.0.desk ≡ client.desk }
     // It does not enlist.
-    ensures tries { result.0.tries ≡ client.tries }
+    ensures places { result.0.places ≡ client.places }
     ensures same { KeepsCalls client.knows result.0.knows }
     // A call of its own on the object that is outstanding is answered, so that the next poll is Some; or the object cannot
     // do it after the log that the client has then seen.
@@ -68,6 +73,43 @@ pub fn combine<S: SeqObject>(
             (held.release(desk), Combined::Served { pass, count })
         }
     }
+}
+
+/// Tries to win the object. If it is won, and the log has room for a call of each client, serves each row of the publication
+/// list, and then makes a call of the client's own, if the object can do it: no request goes through the client's row. None:
+/// the call was not made.
+pub(crate) fn call_at_once<S: SeqObject>(
+    desk: &Desk<S>,
+    client: Client<S>,
+    object: u32,
+    op: S::Op,
+) -> (Client<S>, Option<Answer<S::Reply>>)
+    requires desk { client.desk ≡ desk.now.id }
+    requires may { MayPost client }
+    requires there { (object < length desk.now.id.kinds)
+        × (kind_of (S.op_in op) ≡ kind_at desk.now.id.kinds object) }
+    ensures desk { result.0.desk ≡ client.desk }
+    ensures made { IfSome result.1
+        (λ a. Called client.knows object (S.op_in op) (answer_in S.reply_in a) result.0.knows) }
+    ensures not { IfNone result.1 (KeepsCalls client.knows result.0.knows) }
+{
+    let mut held = match desk.win(client, object) {
+        Win::Held(client) => return (client, None),
+        Win::Won(held) => held,
+    };
+    let pass = held.count_pass();
+    if held.reserve(desk.clients() as usize).is_err() {
+        return (held.release(desk), None);
+    }
+    let own = held.number();
+    walk(&mut held);
+    let (mut held, _) = serve_others(desk, held, own);
+    clean(&mut held, pass);
+    if !held.possible(&op) {
+        return (held.release(desk), None);
+    }
+    let answer = held.perform(desk, op);
+    (held.release(desk), Some(answer))
 }
 
 // Serves the own row, the others, and the own one again if its request was put back. Answers how many were answered.
@@ -122,6 +164,7 @@ fn make_current<S: SeqObject>(pass: &mut Pass<S>, at: usize)
 }
 
 // Where it is this pass's turn, takes out the rows that were of no use for long, but not the first.
+#[inline(always)]
 fn clean<S: SeqObject>(pass: &mut Pass<S>, number: u64)
     ensures { IsSameBut pass.old pass.new }
 {
@@ -136,6 +179,7 @@ fn clean<S: SeqObject>(pass: &mut Pass<S>, number: u64)
 }
 
 // Takes out the row at this place, where it was of no use for long.
+#[inline(always)]
 fn clean_at<S: SeqObject>(pass: &mut Pass<S>, at: usize, number: u64)
     requires { (1 ≤ at) × (at < length pass.old.state.list.rows) }
     ensures same { IsSameBut pass.old pass.new }

@@ -2,7 +2,10 @@ ghost use Rattle.std.specs.Prelude.{◌≡◌, ◌<◌, length, IfOk};
 ghost use Rattle.desk_rule.specs.declared.board.Own.TheVariants.{Idle};
 
 mod abandoned;
+mod at_once;
 mod listing;
+mod many_rows;
+mod refused;
 mod two_objects;
 
 use crate::{Combined, call, combine};

@@ -5,7 +5,7 @@ ghost use Rattle.world.specs.Images.{answer_in};
 ghost use Rattle.combiner.specs.Passes.{KeepsCalls};
 ghost use Rattle.combiner.specs.Waits.{Called, Returns, Faulted};
 
-use crate::passes::{Combined, combine};
+use crate::passes::{Combined, call_at_once, combine};
 use crossbeam_utils::Backoff;
 use publication::{Answer, Client, Desk, Post};
 use seq_objects::SeqObject;
@@ -21,7 +21,8 @@ pub enum CallFault {
     NoMemory,
 }
 
-/// Posts a call, and then polls, enlists the row and combines until it is answered.
+/// Makes a call: at once, where the client wins the object. Otherwise it posts the call, and then polls, enlists the row and
+/// combines until it is answered.
 pub fn call<S: SeqObject, R: Wait>(
     rt: &R,
     desk: &Desk<S>,
@@ -32,13 +33,20 @@ pub fn call<S: SeqObject, R: Wait>(
     requires { client.desk ≡ desk.now.id }
     ensures desk { result.0.desk ≡ client.desk }
     // The call is over, and what `poll` answered is its answer.
-    ensures answered { IfOk result.1 (λ a. Called client.knows object (S.op_in op) (answer_in S.reply_in a) result.0.knows) }
+    ensures answered { IfOk result.1
+        (λ a. Called client.knows object (S.op_in op) (answer_in S.reply_in a) result.0.knows) }
     ensures fault { IfErr result.1 (λ e. Faulted desk.now client object (S.op_in op) e result.0) }
 {
-    let mut client = client;
-    if let Err(fault) = desk.post(&mut client, object, op) {
+    if let Err(fault) = desk.may_post(&client, object, &op) {
         return (client, Err(CallFault::Post(fault)));
     }
+    let (mut client, made) = call_at_once(desk, client, object, op);
+    if let Some(answer) = made {
+        return (client, Ok(answer));
+    }
+    let Ok(()) = desk.post(&mut client, object, op) else {
+        unreachable!()
+    };
     let (client, answered) = wait_for(rt, desk, client, object);
     match answered {
         Ok(answer) => (client, Ok(answer)),
@@ -69,10 +77,12 @@ pub fn wait_for<S: SeqObject, R: Wait>(
         desk.enlist(&mut client, object);
         let (after, combined) = combine(desk, client, object);
         client = after;
-        if combined == Combined::NoMemory {
-            return (client, Err(AllocError));
+        match combined {
+            Combined::NoMemory => return (client, Err(AllocError)),
+            // Something was answered, the own call too unless it was put back.
+            Combined::Served { count, .. } if count > 0 => backoff.reset(),
+            _ => backoff.snooze(),
         }
-        backoff.snooze();
     }
     unreachable!()
 }

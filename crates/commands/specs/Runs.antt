@@ -1,6 +1,11 @@
 -- What a run puts out, and its exit status.
-use Rattle.std.specs.Prelude.{◌≡◌, ◌⊎◌, ⊤, ℕ, List, [], ◌∷◌, true, ◌++◌, codes}
+use Rattle.std.specs.Prelude.{◌≡◌, ◌<◌, ◌⊎◌, ⊤, ℕ, List, [], ◌∷◌, true, ◌++◌, codes, map}
+use Rattle.std.specs.List.{range_with_len}
 use Rattle.model.specs.declared.Kind.{Kind}
+use Rattle.kinds.specs.Mixing.{kinds_of}
+use Rattle.workload.specs.Workloads.{Work}
+use Rattle.workload.specs.Drawing.{client_calls}
+use Rattle.clients.specs.Made.{Ran}
 use Rattle.world.specs.World.{AnyEntry, AnyEvent}
 use Rattle.world.specs.Records.{IsSoundRecord}
 use Rattle.events.specs.declared.event.Event.{Event}
@@ -18,6 +23,7 @@ use Rattle.report.specs.declared.verdict.Verdict.{Verdict}
 use Rattle.report.specs.declared.verdict.Verdict.TheVariants.{Yes, No, Malformed, NoMemory}
 use Rattle.judging.specs.Texts.{AreCountsOf}
 use Rattle.judging.specs.Verdicts.{IsYesUnlessMemory}
+use Rattle.commands.specs.declared.command_line.RunOptions.{RunOptions}
 use Rattle.commands.specs.Statuses.{no_memory_status, status_of}
 
 -- the lines of certificates, each as a comment
@@ -48,32 +54,58 @@ Says journals logs (No r) = IsRefused journals logs r
 Says journals logs (Malformed f) = ⊥
 Says journals logs NoMemory = ⊤
 
--- the lines of the record's history, and its certificates as comments
-pub record IsTextOf (journals : ℕ → List AnyEvent) (logs : ℕ → List AnyEntry) (text : List ℕ) : Type 0 where
+-- the lines of the record's history, then this text, and its certificates as comments
+pub record IsTextOf (journals : ℕ → List AnyEvent) (logs : ℕ → List AnyEntry) (between text : List ℕ) : Type 0 where
   pub history : List ℕ
   pub certificates : List Certificate
   pub is_history : IsHistoryText journals history
   pub are_certificates : AreCertificatesOf journals logs certificates
-  pub text_is : text ≡ history ++ commented certificates
+  pub text_is : text ≡ history ++ (between ++ commented certificates)
 
 -- The same, and the verdict on the record as comments. That of a sound record is yes, but for want of memory.
-pub record IsReported (journals : ℕ → List AnyEvent) (logs : ℕ → List AnyEntry) (status : ℕ) (text : List ℕ) : Type 0 where
+pub record IsReported (journals : ℕ → List AnyEvent) (logs : ℕ → List AnyEntry) (between : List ℕ) (status : ℕ) (text : List ℕ) : Type 0 where
   pub own : List ℕ
   pub verdict : Verdict
-  pub is_text : IsTextOf journals logs own
+  pub is_text : IsTextOf journals logs between own
   pub says : Says journals logs verdict
   pub accepted : (kinds : List Kind) (quota : ℕ) → IsSoundRecord kinds quota journals logs → IsYesUnlessMemory verdict
   pub status_is : status ≡ status_of verdict
   pub text_is : text ≡ own ++ verdict_text true verdict
 
--- there is nothing to judge, and one line says why
-abbrev pub IsGivenUp : ℕ → List ℕ → Type 0
-IsGivenUp status text = (status ≡ no_memory_status) × ((text ≡ codes "out of memory\n") ⊎ (text ≡ codes "no thread\n"))
+-- one line says that memory was refused
+abbrev pub IsOutOfMemory : ℕ → List ℕ → Type 0
+IsOutOfMemory status text = (status ≡ no_memory_status) × (text ≡ codes "out of memory\n")
+
+-- There is nothing to judge, and one line says why. A client alone wants no thread.
+abbrev pub IsGivenUp : ℕ → ℕ → List ℕ → Type 0
+IsGivenUp clients status text = IsOutOfMemory status text ⊎ ((status ≡ no_memory_status) × (text ≡ codes "no thread\n") × (1 < clients))
 
 -- what is put out of a record
-abbrev pub IsRecordOutput : (ℕ → List AnyEvent) → (ℕ → List AnyEntry) → ℕ → List ℕ → Type 0
-IsRecordOutput journals logs status text = IsReported journals logs status text ⊎ IsGivenUp status text
+abbrev pub IsRecordOutput : (ℕ → List AnyEvent) → (ℕ → List AnyEntry) → List ℕ → ℕ → List ℕ → Type 0
+IsRecordOutput journals logs between status text = IsReported journals logs between status text ⊎ IsOutOfMemory status text
 
--- what is put out of a record that is sound
-abbrev pub IsRunOutput : ℕ → List ℕ → Type 0
-IsRunOutput status text = ((r : Recorded AnyOp AnyReply) × IsSound r × IsRecordOutput (journals_of r) (logs_of r) status text) ⊎ IsGivenUp status text
+-- The certificates of the record are accepted. The lines are those of its history, then this text, its certificates as
+-- comments, and a yes with the counts of its history.
+pub record IsAcceptedOutput (journals : ℕ → List AnyEvent) (logs : ℕ → List AnyEntry) (between out : List ℕ) : Type 0 where
+  pub accepted : IsAccepted journals logs
+  pub history : List ℕ
+  pub is_history : IsHistoryText journals history
+  pub certificates : List Certificate
+  pub are_certificates : AreCertificatesOf journals logs certificates
+  pub counts : Summary
+  pub are_counts : HaveCounts journals counts
+  pub out_is : out ≡ history ++ (between ++ (commented certificates ++ verdict_text true (Yes counts)))
+
+-- the objects of a run with these options, and the calls of its clients, as they are drawn
+abbrev pub work_of : RunOptions → Work
+work_of o = record { kinds = kinds_of o.kinds o.objects; calls = map (client_calls o.kinds o.objects o.calls o.seed) (range_with_len 0 o.clients) }
+
+-- What is put out of a run: the record of clients that made these calls, or the line that says why there is none.
+abbrev pub IsRunOutput : RunOptions → ℕ → List ℕ → Type 0
+IsRunOutput o status text = ((r : Recorded AnyOp AnyReply) × Ran (work_of o) r × IsRecordOutput (journals_of r) (logs_of r) [] status text) ⊎ IsGivenUp o.clients status text
+
+-- the record of such a run, the certificates of which are accepted, and its lines
+pub record IsAcceptedRun (o : RunOptions) (out : List ℕ) : Type 0 where
+  pub recorded : Recorded AnyOp AnyReply
+  pub ran : Ran (work_of o) recorded
+  pub lines : IsAcceptedOutput (journals_of recorded) (logs_of recorded) [] out

@@ -1,20 +1,51 @@
 //! What a command line asks for.
 
-ghost use Rattle.std.specs.Prelude.{◌≡◌};
+ghost use Rattle.std.specs.Prelude.{◌≡◌, ◌<◌, ◌≤◌};
 ghost use Rattle.commands.specs.declared.command_line.LineFault.TheVariants.{NoMemory};
 
+use kinds::Kinds;
+use search::TryFirst;
 use std::alloc::{AllocError, AllocFailed};
 use thiserror::Error as ErrorText;
+
+/// What a run is to be of.
+#[derive(Clone, Copy, Debug, PartialEq, Eq)]
+pub struct RunOptions {
+    pub kinds: Kinds,
+    /// How many objects, from 1 to 16.
+    pub objects: u32,
+    /// How many clients, from 1 to 32.
+    pub clients: u32,
+    /// How many calls each client is to make, at most 10,000.
+    pub calls: u32,
+    /// What the calls are drawn from.
+    pub seed: u64,
+    ghost some_objects: { (0 < objects) × (objects ≤ 16) },
+    ghost some_clients: { (0 < clients) × (clients ≤ 32) },
+    ghost few_calls: { calls ≤ 10000 },
+}
 
 /// What the words ask for.
 #[derive(Debug, PartialEq, Eq, Drop)]
 pub enum Line {
-    /// To judge the history in one file by the certificates in another.
-    Check { history: String, certs: String },
+    /// To judge the history in one file by the certificates in another, with so many workers, from 1 to 16.
+    Check {
+        history: String,
+        certs: String,
+        workers: u32,
+    },
     /// To search for certificates of the history in a file, with at most so many steps for each object.
-    Search { history: String, steps: u32 },
+    Search {
+        history: String,
+        steps: u32,
+        first: TryFirst,
+    },
     /// To run clients, and to judge what they did.
-    Run,
+    Run(RunOptions),
+    /// To play the schedule in a file, and to judge what its clients did.
+    Simulate {
+        schedule: String,
+    },
 }
 
 /// Why the words ask for nothing.

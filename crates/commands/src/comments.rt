@@ -26,7 +26,8 @@ pub(crate) fn certificates_text(
 /// The line of a certificate, as a comment.
 fn write_comment<S: Sink>(certificate: &Certificate, sink: &mut S) -> Result<(), Failed>
     requires { S.broken sink.old ≡ false }
-    ensures ok { OnOk result (Appends (S.sent sink.old) (S.sent sink.new) (codes "; " ++ line_of certificate.now)) }
+    ensures ok { OnOk result (Appends (S.sent sink.old) (S.sent sink.new) (codes "; "
+        ++ line_of certificate.now)) }
     ensures usable { OnOk result (S.broken sink.new ≡ false) }
 {
     write_bytes(b"; ", sink)?;

@@ -14,7 +14,7 @@ use history::History;
 use itoa::Buffer;
 use judging::{Stop, history_in};
 use report::{Verdict, write_verdict};
-use search::{Found, Search, search_all};
+use search::{Found, Search, TryFirst, search_all_by};
 use std::alloc::{AllocError, Global};
 
 /// What a search puts out, and its exit status.
@@ -24,7 +24,7 @@ struct Output {
     text: Vec<u8>,
 }
 
-fn push_decimal(text: &mut Vec<u8>, n: u64) -> Result<(), AllocError>
+pub(crate) fn push_decimal(text: &mut Vec<u8>, n: u64) -> Result<(), AllocError>
     ensures { OnOk result (text.new.items ≡ text.old.items ++ decimal n) }
 {
     let mut buffer = Buffer::new();
@@ -40,7 +40,8 @@ fn push_object(text: &mut Vec<u8>, object: u32) -> Result<(), AllocError>
 
 /// The line that says why an object has no certificate.
 fn push_note(text: &mut Vec<u8>, object: u32, note: &[u8]) -> Result<(), AllocError>
-    ensures { OnOk result (text.new.items ≡ text.old.items ++ ((codes "; object " ++ decimal object) ++ note.now)) }
+    ensures { OnOk result (text.new.items ≡ text.old.items
+        ++ ((codes "; object " ++ decimal object) ++ note.now)) }
 {
     push_object(text, object)?;
     text.extend_from_slice(note)
@@ -48,7 +49,9 @@ fn push_note(text: &mut Vec<u8>, object: u32, note: &[u8]) -> Result<(), AllocEr
 
 /// The line that says after how many steps a search was given up.
 fn push_steps(text: &mut Vec<u8>, object: u32, steps: u64) -> Result<(), AllocError>
-    ensures { OnOk result (text.new.items ≡ text.old.items ++ ((codes "; object " ++ decimal object) ++ (codes ": out of steps after " ++ (decimal steps ++ codes "\n")))) }
+    ensures { OnOk result (text.new.items ≡ text.old.items
+        ++ ((codes "; object " ++ decimal object)
+        ++ (codes ": out of steps after " ++ (decimal steps ++ codes "\n")))) }
 {
     push_object(text, object)?;
     text.extend_from_slice(b": out of steps after ")?;
@@ -63,7 +66,8 @@ fn push_answer(
     object: u32,
     answer: &Search,
 ) -> Result<(), AllocError>
-    ensures { OnOk result (text.new.items ≡ text.old.items ++ answer_line object answer.now.steps answer.now.found) }
+    ensures { OnOk result (text.new.items ≡ text.old.items
+        ++ answer_line object answer.now.steps answer.now.found) }
 {
     match &answer.found {
         Found::Found(certificate) => {
@@ -132,10 +136,15 @@ fn status_for(answers: &[(u32, Search)]) -> u8
 }
 
 /// Searches, and says what was found.
-fn search_history(alloc: Global, history: &History, steps: u32) -> Result<Output, AllocError>
+fn search_history(
+    alloc: Global,
+    history: &History,
+    steps: u32,
+    first: TryFirst,
+) -> Result<Output, AllocError>
     ensures { IfOk result (λ s. AreSearched history.now steps s.status s.text.items) }
 {
-    let answers = search_all(alloc, history, u64::from(steps))?;
+    let answers = search_all_by(alloc, history, first, u64::from(steps))?;
     Ok(Output {
         status: status_for(&answers),
         text: text_of(alloc, &answers)?,
@@ -143,7 +152,7 @@ fn search_history(alloc: Global, history: &History, steps: u32) -> Result<Output
 }
 
 /// The same for the history that a text denotes, or why there is no search.
-fn search_text(alloc: Global, text: &[u8], steps: u32) -> Result<Output, Verdict>
+fn search_text(alloc: Global, text: &[u8], steps: u32, first: TryFirst) -> Result<Output, Verdict>
     ensures searched { IfOk result (λ s. IsSearched text.now steps s.status s.text.items) }
     ensures unsearched { IfErr result (IsUnsearched text.now) }
 {
@@ -152,21 +161,31 @@ fn search_text(alloc: Global, text: &[u8], steps: u32) -> Result<Output, Verdict
         Err(Stop::Stopped(fault)) => return Err(Verdict::Malformed(fault)),
         Err(Stop::NoMemory) => return Err(Verdict::NoMemory),
     };
-    match search_history(alloc, &history, steps) {
+    match search_history(alloc, &history, steps, first) {
         Ok(output) => Ok(output),
         Err(AllocError) => Err(Verdict::NoMemory),
     }
 }
 
 /// Searches for certificates of the history in the text, puts them out, and gives the exit status.
-pub(crate) fn report_search<S: Sink>(alloc: Global, text: &[u8], steps: u32, sink: &mut S) -> u8
+pub(crate) fn report_search<S: Sink>(
+    alloc: Global,
+    text: &[u8],
+    steps: u32,
+    first: TryFirst,
+    sink: &mut S,
+) -> u8
     requires working { S.broken sink.old ≡ false }
-    ensures written { result ≢ failed_status → (out : List ℕ) × IsSearchOutput text.now steps result out × Appends (S.sent sink.old) (S.sent sink.new) out }
+    ensures written { result ≢ failed_status →
+        (out : List ℕ) × IsSearchOutput text.now steps result out
+        × Appends (S.sent sink.old) (S.sent sink.new) out }
     ensures usable { result ≢ failed_status → S.broken sink.new ≡ false }
     ensures failed { result ≡ failed_status → S.broken sink.new ≡ true }
-    ensures front { result ≡ failed_status → (status : ℕ) × (out : List ℕ) × IsSearchOutput text.now steps status out × SendsFront (S.sent sink.old) (S.sent sink.new) out }
+    ensures front { result ≡ failed_status →
+        (status : ℕ) × (out : List ℕ) × IsSearchOutput text.now steps status out
+        × SendsFront (S.sent sink.old) (S.sent sink.new) out }
 {
-    match search_text(alloc, text, steps) {
+    match search_text(alloc, text, steps, first) {
         Ok(output) => match write_bytes(&output.text, sink) {
             Ok(()) => output.status,
             Err(Failed) => FAILED,

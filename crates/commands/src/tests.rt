@@ -1,11 +1,12 @@
 mod runs;
 mod searches;
+mod simulations;
 mod table;
-mod two_clients;
+mod workers;
 
 use super::*;
 use edn::{Out, Sink};
-use std::alloc::Global;
+use std::alloc::{AllocError, Global};
 use std::io;
 use std::io::Write;
 use std::process::Abort;
@@ -139,6 +140,7 @@ fn words(rt: HostRuntime) -> Result<(), Fail> {
     let expected = Line::Check {
         history: String::from_str(rt.alloc(), "h.edn")?,
         certs: String::from_str(rt.alloc(), "c.edn")?,
+        workers: 1,
     };
     assert_eq!(rt; checking(rt.alloc())?, expected);
     let marked = match line(rt.alloc(), &["fcbench", "check", "--", "-h.edn", "c.edn"]) {
@@ -148,18 +150,30 @@ fn words(rt: HostRuntime) -> Result<(), Fail> {
     let expected = Line::Check {
         history: String::from_str(rt.alloc(), "-h.edn")?,
         certs: String::from_str(rt.alloc(), "c.edn")?,
+        workers: 1,
     };
     assert_eq!(rt; marked, expected);
-    for run in [&["fcbench", "run"][..], &["fcbench", "run", "--"]] {
-        assert!(rt; matches!(line(rt.alloc(), run), Ok(Line::Run)));
-    }
     for refused in [
         &["fcbench"][..],
         &["fcbench", "check", "h.edn"],
         &["fcbench", "judge"],
-        &["fcbench", "run", "h.edn"],
-        &["fcbench", "run", "--", "--"],
         &["fcbench", "--", "run"],
+        &["fcbench", "check", "h.edn", "c.edn", "--workers", "0"],
+        &["fcbench", "check", "h.edn", "c.edn", "--workers", "17"],
+        &["fcbench", "check", "h.edn", "c.edn", "--workers", "x"],
+        &["fcbench", "check", "h.edn", "c.edn", "--workers", ""],
+        &["fcbench", "check", "h.edn", "c.edn", "--workers"],
+        &["fcbench", "check", "--workers", "2", "h.edn"],
+        &[
+            "fcbench",
+            "check",
+            "h.edn",
+            "c.edn",
+            "--workers",
+            "2",
+            "--workers",
+            "2",
+        ],
     ] {
         assert!(rt; matches!(line(rt.alloc(), refused), Err(LineFault::Refused(_))));
     }
@@ -169,5 +183,36 @@ fn words(rt: HostRuntime) -> Result<(), Fail> {
             Err(LineFault::Help(_))
         )
     );
+    Ok(())
+}
+
+/// The option may stand anywhere before `--`, and its number behind `=`.
+#[test]
+fn workers_in_words(rt: HostRuntime) -> Result<(), Fail> {
+    for (words, workers) in [
+        (
+            &["fcbench", "check", "--workers", "16", "h.edn", "c.edn"][..],
+            16,
+        ),
+        (&["fcbench", "check", "h.edn", "--workers=1", "c.edn"], 1),
+        (
+            &["fcbench", "check", "h.edn", "c.edn", "--workers", "+4"],
+            4,
+        ),
+        (
+            &["fcbench", "check", "--workers", "2", "--", "h.edn", "c.edn"],
+            2,
+        ),
+    ] {
+        let expected = Line::Check {
+            history: String::from_str(rt.alloc(), "h.edn")?,
+            certs: String::from_str(rt.alloc(), "c.edn")?,
+            workers,
+        };
+        match line(rt.alloc(), words) {
+            Ok(line) => assert_eq!(rt; line, expected),
+            Err(_) => return Err(Fail::new("the words of a check are refused")),
+        }
+    }
     Ok(())
 }

@@ -5,6 +5,7 @@ use mathlib.Core.Option.{some, some-injective, some-ne-none}
 use lib.ListN.{get_elem?, length-map}
 use Rattle.std.proofs.lemmas.List.Elements.{All-nil}
 use Rattle.atomic_table.specs.Table.{State, Me, step, takes, chain, opening, Allows, Splits}
+use Rattle.atomic_table.specs.Seated.{TableId}
 use Rattle.atomic_table.proofs.Lists.{at_set, at_map, at_snoc, set_else}
 use Rattle.model.specs.declared.Kind.{Kind}
 use Rattle.model.specs.declared.AnyOp.{AnyOp}
@@ -39,19 +40,20 @@ at_end [] a b (suc j) e = absurd (some-ne-none b (sym e))
 at_end (x ∷ xs) a b zero e = inl e
 at_end (x ∷ xs) a b (suc j) e = ⊎_elim (λ t. inl t) (λ (t : (j ≡ length xs) × (a ≡ b)). inr (ap suc t.0, t.1)) (at_end xs a b j e)
 
-unseen : (kinds : List Kind) (c x : ℕ) → seen_of (newcomer kinds c) x ≡ []
-unseen kinds c x = get_or-replicate_same [] 16 x
+unseen : (kinds : List Kind) (lists : List TableId) (c x : ℕ) → seen_of (newcomer kinds lists c) x ≡ []
+unseen kinds lists c x = get_or-replicate_same [] 16 x
 
 module _ {S O R : Type 0} (content : S → Content) (op_in : O → AnyOp) (reply_in : R → AnyReply) (kinds : List Kind) (clients quota : ℕ) where
   abbrev K : State (Slot S O R) View → Type 0
   K = Rule content op_in reply_in kinds clients quota
 
-  pub opens : (words : List ℕ) (slots : List (Slot S O R)) → length kinds < 17 → clients < 33 → quota < 10001 → length words ≡ 81 → ((i : ℕ) → get_or words i 0 ≡ 0) → length slots ≡ 80
-      → ((x : ℕ) → x < length kinds → (k : Core S O R) × (get_elem? slots x ≡ some (slot.Core k)) × Fits content op_in reply_in (kind_at kinds x) k [])
-      → ((i : ℕ) → 16 ≤ i → i < 80 → get_elem? slots i ≡ some slot.Nothing) → K (opening words slots (founder kinds))
-  opens words slots few people small wide zeros deep cores others = record {
+  pub opens : (lists : List TableId) (words : List ℕ) (slots : List (Slot S O R)) → length kinds < 17 → clients < 33 → quota < 10001 → length words ≡ 81 → ((i : ℕ) → get_or words i 0 ≡ 0) → length slots ≡ 80
+      → ((x : ℕ) → x < length kinds → (k : Core S O R) × (get_elem? slots x ≡ some (slot.Core k)) × Fits content op_in reply_in (kind_at kinds x) (get_elem? lists x) k [])
+      → ((i : ℕ) → 16 ≤ i → i < 80 → get_elem? slots i ≡ some slot.Nothing) → K (opening words slots (founder kinds lists))
+  opens lists words slots few people small wide zeros deep cores others = record {
     world = opening_world;
     seat_of = λ _. 0;
+    lists = lists;
     few_calls = small;
     few_clients = people;
     holders = λ x c e. absurd (cc);
@@ -69,30 +71,33 @@ module _ {S O R : Type 0} (content : S → Content) (op_in : O → AnyOp) (reply
       messages = λ r l. at_map some slots (16 + r) slot.Nothing (others (16 + r) (omega arith) (omega arith));
       journals = λ c l. record { at_first = λ e. at_map some slots (48 + c) slot.Nothing (others (48 + c) (omega arith) (omega arith)); at_last = λ e. absurd (cc) };
     };
-    seats = λ j v e. ⊎_elim (λ (t : get_elem? [] j ≡ some v). absurd (some-ne-none v (sym t))) (λ (t : founder kinds ≡ v). subst (λ z. ViewOk kinds opening_world (λ _. 0) j z) t record {
+    seats = λ j v e. ⊎_elim (λ (t : get_elem? [] j ≡ some v). absurd (some-ne-none v (sym t))) (λ (t : founder kinds lists ≡ v). subst (λ z. ViewOk kinds lists opening_world (λ _. 0) j z) t record {
       told = λ x. ([], ap (λ z. z ++ []) (sym (get_or-replicate_same [] 16 x)));
       heard = λ x. ([], refl);
       left = All-nil (HasLeft opening_world);
       client = λ is. absurd (cc);
       unmade = λ is c l. (refl, refl, refl, λ x f. cc);
       maker_kinds = λ is. refl;
-    }) (at_snoc [] (founder kinds) v j e);
+      lists_are = λ is. refl;
+      maker_lists = λ is. refl;
+    }) (at_snoc [] (founder kinds lists) v j e);
     makers = record {
       made = λ j v e is i u f. (
-        (λ tc. ⊎_elim (λ (t : get_elem? [] i ≡ some u). absurd (some-ne-none u (sym t))) (λ (t : founder kinds ≡ u). let g = ap (λ z. z.client) t in absurd (cc)) (at_snoc [] (founder kinds) u i f)),
-        λ tm. ⊎_elim (λ (t : get_elem? [] i ≡ some u). absurd (some-ne-none u (sym t))) (λ (t : (i ≡ 0) × (founder kinds ≡ u)).
-            ⊎_elim (λ (h : get_elem? [] j ≡ some v). absurd (some-ne-none v (sym h))) (λ (h : (j ≡ 0) × (founder kinds ≡ v)). t.0 ∙ sym h.0) (at_end [] (founder kinds) v j e)) (at_end [] (founder kinds) u i f),
+        (λ tc. ⊎_elim (λ (t : get_elem? [] i ≡ some u). absurd (some-ne-none u (sym t))) (λ (t : founder kinds lists ≡ u). let g = ap (λ z. z.client) t in absurd (cc)) (at_snoc [] (founder kinds lists) u i f)),
+        λ tm. ⊎_elim (λ (t : get_elem? [] i ≡ some u). absurd (some-ne-none u (sym t))) (λ (t : (i ≡ 0) × (founder kinds lists ≡ u)).
+            ⊎_elim (λ (h : get_elem? [] j ≡ some v). absurd (some-ne-none v (sym h))) (λ (h : (j ≡ 0) × (founder kinds lists ≡ v)). t.0 ∙ sym h.0) (at_end [] (founder kinds lists) v j e)) (at_end [] (founder kinds lists) u i f),
       );
-      numbers = λ j v e is. ⊎_elim (λ (t : get_elem? [] j ≡ some v). absurd (some-ne-none v (sym t))) (λ (t : founder kinds ≡ v). let g = ap (λ z. z.client) t in absurd (cc)) (at_snoc [] (founder kinds) v j e);
+      numbers = λ j v e is. ⊎_elim (λ (t : get_elem? [] j ≡ some v). absurd (some-ne-none v (sym t))) (λ (t : founder kinds lists ≡ v). let g = ap (λ z. z.client) t in absurd (cc)) (at_snoc [] (founder kinds lists) v j e);
     };
   }
 
-  pub makes_client : (id : ℕ) (v : View) → v.maker ≡ true → v.client ≡ false → v.made < clients → Splits K id v (one_made v) (newcomer v.kinds v.made)
+  pub makes_client : (id : ℕ) (v : View) → v.maker ≡ true → v.client ≡ false → v.made < clients → Splits K id v (one_made v) (newcomer v.kinds v.lists v.made)
   makes_client id v is un low s k at =
-      let w : World = k.world in let c : ℕ = v.made in let l : View = one_made v in let new : View = newcomer v.kinds c in let here : ℕ = length (set s.views id l) in
+      let w : World = k.world in let c : ℕ = v.made in let l : View = one_made v in let new : View = newcomer v.kinds v.lists c in let here : ℕ = length (set s.views id l) in
       let so' : ℕ → ℕ = changed k.seat_of c here in let old = k.seats id v at in let none_yet = old.unmade is c (omega arith) in let few = k.few_clients in record {
         world = w;
         seat_of = so';
+        lists = k.lists;
         few_calls = k.few_calls;
         few_clients = k.few_clients;
         holders = k.holders;
@@ -101,13 +106,15 @@ module _ {S O R : Type 0} (content : S → Content) (op_in : O → AnyOp) (reply
         tied = k.tied;
         seats = λ j u e. ⊎_elim
             (λ (t : get_elem? (set s.views id l) j ≡ some u). ⊎_elim
-            (λ (h : (j ≡ id) × (l ≡ u)). subst (λ z. ViewOk kinds w so' j z) h.1 record {
+            (λ (h : (j ≡ id) × (l ≡ u)). subst (λ z. ViewOk kinds k.lists w so' j z) h.1 record {
               told = old.told;
               heard = old.heard;
               left = old.left;
               client = λ f. absurd (cc);
               unmade = λ _ d g. old.unmade is d (omega arith);
               maker_kinds = λ _. old.maker_kinds is;
+              lists_are = λ _. old.maker_lists is;
+              maker_lists = λ _. old.maker_lists is;
             })
             (λ (h : (j ≢ id) × (get_elem? s.views j ≡ some u)). let b = k.seats j u h.1 in record {
               told = b.told;
@@ -116,10 +123,12 @@ module _ {S O R : Type 0} (content : S → Content) (op_in : O → AnyOp) (reply
               client = λ f. let low' = (k.makers.made id v at is j u h.1).0 f in let g = b.client f in (changed_else k.seat_of c here u.number (λ x. omega arith) ∙ g.0, g.1);
               unmade = b.unmade;
               maker_kinds = b.maker_kinds;
+              lists_are = b.lists_are;
+              maker_lists = b.maker_lists;
             })
             (at_set s.views id j l u t))
-            (λ (t : (j ≡ here) × (new ≡ u)). subst (λ z. ViewOk kinds w so' j z) t.1 record {
-              told = λ x. (w.log x, ap (λ z. z ++ w.log x) (sym (unseen v.kinds c x)));
+            (λ (t : (j ≡ here) × (new ≡ u)). subst (λ z. ViewOk kinds k.lists w so' j z) t.1 record {
+              told = λ x. (w.log x, ap (λ z. z ++ w.log x) (sym (unseen v.kinds v.lists c x)));
               heard = λ x. (w.log x, refl);
               left = All-nil (HasLeft w);
               client = λ _. (
@@ -132,8 +141,8 @@ module _ {S O R : Type 0} (content : S → Content) (op_in : O → AnyOp) (reply
                   own = none_yet.0;
                   ready = λ f. absurd (cc);
                   wide_seen = refl;
-                  seen = λ x. (w.log x, ap (λ z. z ++ w.log x) (sym (unseen v.kinds c x)));
-                  covers = λ x. ([], ap (entries_of c) (unseen v.kinds c x));
+                  seen = λ x. (w.log x, ap (λ z. z ++ w.log x) (sym (unseen v.kinds v.lists c x)));
+                  covers = λ x. ([], ap (entries_of c) (unseen v.kinds v.lists c x));
                   held = none_yet.3;
                   ended = none_yet.2;
                   retired = All-nil (λ d. w.ended d ≡ true);
@@ -142,6 +151,8 @@ module _ {S O R : Type 0} (content : S → Content) (op_in : O → AnyOp) (reply
               );
               unmade = λ f. absurd (cc);
               maker_kinds = λ f. absurd (cc);
+              lists_are = λ _. old.maker_lists is;
+              maker_lists = λ f. absurd (cc);
             })
             (at_end (set s.views id l) new u j e);
         makers = record {
@@ -178,11 +189,11 @@ module _ {S O R : Type 0} (content : S → Content) (op_in : O → AnyOp) (reply
           holders = k.holders;
           come = come_after clients w c idle (subst (λ z. z < clients) number (k.makers.numbers id m.0 at cl)) k.come;
           sound = sound_come kinds quota w c was k.sound;
-          tied = tied_coming content op_in reply_in kinds w c (get_or s.words (16 + c) 0) idle s.words s.homes low (λ e. absurd (cc)) (ok.ended ∙ going) (word ∙ ap row_word was) (λ home. tt) k.tied;
+          tied = tied_coming content op_in reply_in kinds k.lists w c (get_or s.words (16 + c) 0) idle s.words s.homes low (λ e. absurd (cc)) (ok.ended ∙ going) (word ∙ ap row_word was) (λ home. tt) k.tied;
           leave = row_leaves w c idle (ap request_of was);
           others = λ d other. later_gone w w.clock c d idle w.done before (λ p e. let g = sym was ∙ e in absurd (cc)) refl (λ e. other (e ∙ sym number));
           own = subst (λ z. SeatOk kinds (staged w c idle) z v') (sym number)
-              (seat_unanswered kinds w w.clock c idle w.done m.0 own.Idle m.0.done (λ p a e. let g = sym was ∙ e in absurd (cc)) refl ok.done free (covers_own kinds w c m.0 own.Absent is ok) ok);
+              (seat_unanswered kinds w w.clock c idle w.done m.0 own.Idle m.0.done (λ p e. let g = sym was ∙ e in absurd (cc)) (λ p e. let g = sym was ∙ e in absurd (cc)) (λ p a e. let g = sym was ∙ e in absurd (cc)) refl ok.done (covers_own kinds w c m.0 own.Absent is ok) ok);
         },
         λ d same. let e : c ≡ d = omega arith in ap (λ (z : ℕ). (v', (16 + z, slot.Nothing) ∷ (48 + z, slot.Nothing) ∷ m.1)) e,
       )

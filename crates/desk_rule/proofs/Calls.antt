@@ -17,6 +17,7 @@ use Rattle.desk_rule.specs.declared.board.Slot.{Slot}
 use Rattle.desk_rule.specs.declared.board.Slot.TheVariants as slot
 use Rattle.desk_rule.specs.declared.board.Own.{Own}
 use Rattle.desk_rule.specs.declared.board.Own.TheVariants as own
+use Rattle.desk_rule.specs.declared.board.Held.{Held}
 use Rattle.desk_rule.specs.declared.board.Held.TheVariants as held
 use Rattle.desk_rule.specs.declared.board.View.{View}
 use Rattle.world.specs.declared.Request.{Request}
@@ -30,7 +31,7 @@ use Rattle.world.proofs.Moved.{sound_staged, sound_called, sound_returned, clock
 use Rattle.desk_rule.specs.Views.{seen_of, owed, missing, calling, taking, done_with, seeing}
 use Rattle.desk_rule.specs.Rule.{row_word, OwnOk, HeldOk, SeatOk, MessageAt}
 use Rattle.desk_rule.specs.Plays as play
-use Rattle.desk_rule.proofs.Seats.{Later, Leaves, row_leaves, alike, kept_after, come_after, mine, misses, Rule}
+use Rattle.desk_rule.proofs.Seats.{Later, Leaves, row_leaves, alike, kept_after, come_after, looks, mine, misses, Rule}
 use Rattle.desk_rule.proofs.Seeing.{all_covered, saw, seen_all}
 use Rattle.desk_rule.proofs.Ties.{tied_row, tied_clock}
 
@@ -53,15 +54,21 @@ later_gone w n c d t dones before apart same other = record {
 }
 
 -- the client c has not ended
-gone_leaves : (w : World) (n c : ℕ) (t : Stage) (dones : ℕ → List AnyDone) → w.ended c ≡ false → ((d : ℕ) → d ≢ c → dones d ≡ w.done d) → Leaves w (gone w n c t dones)
+pub gone_leaves : (w : World) (n c : ℕ) (t : Stage) (dones : ℕ → List AnyDone) → w.ended c ≡ false → ((d : ℕ) → d ≢ c → dones d ≡ w.done d) → Leaves w (gone w n c t dones)
 gone_leaves w n c t dones going same d e =
     let other : d ≢ c = λ f. let g = sym going ∙ (ap w.ended (sym f) ∙ e) in absurd (cc) in
     (e, λ i. journal_of (same d other i) (request_of (changed_else w.stage c t d other i)))
 
--- the client itself, which holds nothing
-seat_gone : (kinds : List Kind) (w : World) (n c : ℕ) (t : Stage) (dones : ℕ → List AnyDone) (v : View) (o : Own) (ds : List AnyDone) → OwnOk o t → ds ≡ dones c → v.held ≡ held.Free
+-- what the client holds, whose call is in no hand
+held_gone : (count : ℕ) (w : World) (n c : ℕ) (t : Stage) (dones : ℕ → List AnyDone) (o : Held) → ((q : AnyRequest) → w.stage c ≢ picked q) → HeldOk count w c o → HeldOk count (gone w n c t dones) c o
+held_gone count w n c t dones held.Free before h = h
+held_gone count w n c t dones (held.Pass x l) before h = h
+held_gone count w n c t dones (held.Hand x l r q) before h = (h.0, h.1, h.2, h.3, h.4, h.5, changed_else w.stage c t r (λ same. before q (ap w.stage (sym same) ∙ h.6)) ∙ h.6)
+
+-- the client itself, whose call is neither posted nor in a hand
+seat_gone : (kinds : List Kind) (w : World) (n c : ℕ) (t : Stage) (dones : ℕ → List AnyDone) (v : View) (o : Own) (ds : List AnyDone) → ((q : AnyRequest) → w.stage c ≢ picked q) → ((q : AnyRequest) → w.stage c ≢ posted q) → OwnOk o t → ds ≡ dones c
     → ((x : ℕ) → StartsWith (entries_of c (seen_of v x)) (served x c ds ++ owed x c o)) → SeatOk kinds w c v → SeatOk kinds (gone w n c t dones) c (record v { own = o; done = ds; ready = false })
-seat_gone kinds w n c t dones v o ds is over free covers ok = record {
+seat_gone kinds w n c t dones v o ds before apart is over covers ok = record {
   number = ok.number;
   small = ok.small;
   kinds_are = ok.kinds_are;
@@ -71,18 +78,18 @@ seat_gone kinds w n c t dones v o ds is over free covers ok = record {
   wide_seen = ok.wide_seen;
   seen = ok.seen;
   covers = covers;
-  held = subst (HeldOk (length kinds) (gone w n c t dones) c) (sym free) (subst (HeldOk (length kinds) w c) free ok.held);
+  held = held_gone (length kinds) w n c t dones v.held before ok.held;
   ended = ok.ended;
   retired = ok.retired;
-  back = λ i d l. let b = ok.back i d l in absurd (subst (HeldOk (length kinds) w c) free ok.held (get_or v.back i d).request.object b.1);
+  back = λ i d l. let b = ok.back i d l in let p = get_or v.back i d in (changed_else w.stage c t p.row (λ same. apart p.request (ap w.stage (sym same) ∙ b.0)) ∙ b.0, b.1);
 }
 
 -- the same of a client whose row is not answered before either
-pub seat_unanswered : (kinds : List Kind) (w : World) (n c : ℕ) (t : Stage) (dones : ℕ → List AnyDone) (v : View) (o : Own) (ds : List AnyDone) → ((q : AnyRequest) (a : AnyAnswer) → w.stage c ≢ answered q a) → OwnOk o t → ds ≡ dones c
-    → v.held ≡ held.Free → ((x : ℕ) → StartsWith (entries_of c (seen_of v x)) (served x c ds ++ owed x c o)) → SeatOk kinds w c v → SeatOk kinds (gone w n c t dones) c (record v { own = o; done = ds })
-seat_unanswered kinds w n c t dones v o ds never is over free covers ok =
+pub seat_unanswered : (kinds : List Kind) (w : World) (n c : ℕ) (t : Stage) (dones : ℕ → List AnyDone) (v : View) (o : Own) (ds : List AnyDone) → ((q : AnyRequest) → w.stage c ≢ picked q) → ((q : AnyRequest) → w.stage c ≢ posted q)
+    → ((q : AnyRequest) (a : AnyAnswer) → w.stage c ≢ answered q a) → OwnOk o t → ds ≡ dones c → ((x : ℕ) → StartsWith (entries_of c (seen_of v x)) (served x c ds ++ owed x c o)) → SeatOk kinds w c v → SeatOk kinds (gone w n c t dones) c (record v { own = o; done = ds })
+seat_unanswered kinds w n c t dones v o ds before apart never is over covers ok =
     let not : v.ready ≡ false = false_from_ne_true v.ready (λ e. let a = ok.ready e in never a.0 a.1 a.2) in
-    subst (λ b. SeatOk kinds (gone w n c t dones) c (record v { own = o; done = ds; ready = b })) (sym not) (seat_gone kinds w n c t dones v o ds is over free covers ok)
+    subst (λ b. SeatOk kinds (gone w n c t dones) c (record v { own = o; done = ds; ready = b })) (sym not) (seat_gone kinds w n c t dones v o ds before apart is over covers ok)
 
 -- what the client has seen of each object, where its own call is this
 pub covers_own : (kinds : List Kind) (w : World) (c : ℕ) (v : View) (o : Own) → v.own ≡ o → SeatOk kinds w c v → (x : ℕ) → StartsWith (entries_of c (seen_of v x)) (served x c v.done ++ owed x c o)
@@ -100,13 +107,14 @@ module _ {S O R : Type 0} (content : S → Content) (op_in : O → AnyOp) (reply
   request_carried d ys = d
 
   -- the clock goes on by one
-  more_by_one : (s : State (Slot S O R) View) (k : K s) → (get_or s.words 80 0 + 1) % 2 ^ 64 ≡ k.world.clock + 1
+  pub more_by_one : (s : State (Slot S O R) View) (k : K s) → (get_or s.words 80 0 + 1) % 2 ^ 64 ≡ k.world.clock + 1
   more_by_one s k = let low = clock_low kinds quota k.world k.few_calls k.sound in let is = k.tied.clock in omega arith
 
-  pub draws_it : (slots id i : ℕ) (m : Me (Slot S O R) View) (p : Request O) (tl : List (ℕ × Slot S O R)) → m.0.client ≡ true → m.0.own ≡ own.Idle → m.0.held ≡ held.Free → m.0.ended ≡ false → m.1 ≡ (i, slot.Request p) ∷ tl
-      → p.object < length kinds → kind_of (op_in p.op) ≡ kind_at kinds p.object → length m.0.done < quota
+  -- where the object of the request is there in each state
+  draws_where : (slots id i : ℕ) (m : Me (Slot S O R) View) (p : Request O) (tl : List (ℕ × Slot S O R)) → m.0.client ≡ true → m.0.own ≡ own.Idle → m.0.ended ≡ false → m.1 ≡ (i, slot.Request p) ∷ tl
+      → ((s : State (Slot S O R) View) → K s → get_elem? s.views id ≡ some m.0 → p.object < length kinds) → kind_of (op_in p.op) ≡ kind_at kinds p.object → length m.0.done < quota
       → Allows K slots id m 80 (λ x. (x + 1) % 2 ^ 64) (play.draws content op_in reply_in (step slots 80 1 0 maybe.none) m)
-  draws_it slots id i m p tl cl is free going carried on fits few s k deep at small =
+  draws_where slots id i m p tl cl is going carried on fits few s k deep at small =
       let w : World = k.world in let c : ℕ = m.0.number in let ok = mine content op_in reply_in kinds clients quota s k id m.0 cl at in let found : ℕ = get_or s.words 80 0 in
       let q : AnyRequest = request_in op_in (record p { ticket = found }) in let t : Stage = drawn q in let v' : View = calling (own.Drawn q) m.0 in
       let was : w.stage c ≡ idle = subst (λ o. OwnOk o (w.stage c)) is ok.own in let before : (r : AnyRequest) → w.stage c ≢ picked r = λ r e. let g = sym was ∙ e in absurd (cc) in
@@ -119,16 +127,28 @@ module _ {S O R : Type 0} (content : S → Content) (op_in : O → AnyOp) (reply
           world = ticked w c t (w.done c);
           holders = k.holders;
           come = come_after clients w c t (k.makers.numbers id m.0 at cl) k.come;
-          sound = sound_called kinds quota w c q ok.small was few' on fits ticket k.sound;
-          tied = tied_clock content op_in reply_in kinds w c ((found + 1) % 2 ^ 64) t (w.done c) s.words s.homes (λ e. absurd (cc)) (ok.ended ∙ going) (ap row_word was) (λ home. tt) (more_by_one s k) k.tied;
+          sound = sound_called kinds quota w c q ok.small was few' (on s k at) fits ticket k.sound;
+          tied = tied_clock content op_in reply_in kinds k.lists w c ((found + 1) % 2 ^ 64) t (w.done c) s.words s.homes (λ e. absurd (cc)) (ok.ended ∙ going) (ap row_word was) (λ home. tt) (more_by_one s k) k.tied;
           leave = gone_leaves w (w.clock + 1) c t (changed w.done c (w.done c)) (ok.ended ∙ going) (changed_else w.done c (w.done c));
           others = λ d other. later_gone w (w.clock + 1) c d t (changed w.done c (w.done c)) before (λ r e. let g = sym was ∙ e in absurd (cc)) (changed_else w.done c (w.done c) d other) other;
-          own = seat_unanswered kinds w (w.clock + 1) c t (changed w.done c (w.done c)) m.0 (own.Drawn q) m.0.done never refl (over ∙ sym (changed_here w.done c (w.done c))) free (covers_own kinds w c m.0 own.Idle is ok) ok;
+          own = seat_unanswered kinds w (w.clock + 1) c t (changed w.done c (w.done c)) m.0 (own.Drawn q) m.0.done before (λ r e. let g = sym was ∙ e in absurd (cc)) never refl (over ∙ sym (changed_here w.done c (w.done c))) (covers_own kinds w c m.0 own.Idle is ok) ok;
         },
         λ i' p' tl' carried'. ap (λ (z : Request O). (calling (own.Drawn (request_in op_in (record z { ticket = found }))) m.0, m.1)) (ap (request_carried p) (sym carried ∙ carried')),
       )
 
-  abbrev request_known : AnyRequest → Own → AnyRequest
+  pub draws_it : (slots id i : ℕ) (m : Me (Slot S O R) View) (p : Request O) (tl : List (ℕ × Slot S O R)) → m.0.client ≡ true → m.0.own ≡ own.Idle → m.0.ended ≡ false → m.1 ≡ (i, slot.Request p) ∷ tl
+      → p.object < length kinds → kind_of (op_in p.op) ≡ kind_at kinds p.object → length m.0.done < quota
+      → Allows K slots id m 80 (λ x. (x + 1) % 2 ^ 64) (play.draws content op_in reply_in (step slots 80 1 0 maybe.none) m)
+  draws_it slots id i m p tl cl is going carried on fits few = draws_where slots id i m p tl cl is going carried (λ s k at. on) fits few
+
+  -- who holds an object knows that it is there
+  pub draws_holding : (slots id i : ℕ) (m : Me (Slot S O R) View) (p : Request O) (l : List AnyEntry) (tl : List (ℕ × Slot S O R)) → m.0.client ≡ true → m.0.own ≡ own.Idle → m.0.held ≡ held.Pass p.object l → m.0.ended ≡ false
+      → m.1 ≡ (i, slot.Request p) ∷ tl → kind_of (op_in p.op) ≡ kind_at kinds p.object → length m.0.done < quota
+      → Allows K slots id m 80 (λ x. (x + 1) % 2 ^ 64) (play.draws content op_in reply_in (step slots 80 1 0 maybe.none) m)
+  draws_holding slots id i m p l tl cl is pass going carried fits few = draws_where slots id i m p tl cl is going carried
+      (λ s k at. (subst (HeldOk (length kinds) k.world m.0.number) pass (mine content op_in reply_in kinds clients quota s k id m.0 cl at).held).0) fits few
+
+  abbrev pub request_known : AnyRequest → Own → AnyRequest
   request_known d (own.Drawn q) = q
   request_known d (own.Waiting q) = q
   request_known d (own.Taken q a) = q
@@ -150,11 +170,11 @@ module _ {S O R : Type 0} (content : S → Content) (op_in : O → AnyOp) (reply
           holders = k.holders;
           come = come_after clients w c t (subst (λ z. z < clients) number (k.makers.numbers id m.0 at cl)) k.come;
           sound = sound_staged kinds quota w c t before (λ r e. absurd (cc)) (ap request_of (sym was)) (λ e. absurd (cc)) (λ y. ap (served_now y c) (sym was)) k.sound;
-          tied = tied_row content op_in reply_in kinds w c n t w.hand w.log s.words s.homes (some (slot.Request p)) ok.small (λ y _. refl) (λ e. absurd (cc)) (ap request_of (sym was)) word (p, refl, same) k.tied;
+          tied = tied_row content op_in reply_in kinds k.lists w c n t w.hand w.log s.words s.homes (some (slot.Request p)) ok.small (λ y _. refl) (λ e. absurd (cc)) (ap request_of (sym was)) word (p, refl, same) k.tied;
           leave = row_leaves w c t (ap request_of was);
           others = λ d other. later_gone w w.clock c d t w.done before (λ r e. let g = sym was ∙ e in absurd (cc)) refl (λ e. other (e ∙ sym number));
           own = subst (λ z. SeatOk kinds (staged w c t) z v') (sym number)
-              (seat_unanswered kinds w w.clock c t w.done m.0 (own.Waiting q) m.0.done never (inl refl) ok.done free (covers_own kinds w c m.0 (own.Drawn q) is ok) ok);
+              (seat_unanswered kinds w w.clock c t w.done m.0 (own.Waiting q) m.0.done before (λ r e. let g = sym was ∙ e in absurd (cc)) never (inl refl) ok.done (covers_own kinds w c m.0 (own.Drawn q) is ok) ok);
         }),
         λ r is'. ap (λ (z : AnyRequest). (calling (own.Waiting z) m.0, rest m.1)) (ap (request_known q) (sym is ∙ is')),
       )
@@ -170,6 +190,21 @@ module _ {S O R : Type 0} (content : S → Content) (op_in : O → AnyOp) (reply
   covers_taken kinds w c v q a l is low e ok = seen_all (λ y z. StartsWith (entries_of c z) (served y c v.done ++ logged_on y c q a)) v.seen q.object l low
       ([], e ∙ sym (append-nil (served q.object c v.done ++ logged_on q.object c q a)))
       (λ y other. subst (λ z. StartsWith (entries_of c (seen_of v y)) (served y c v.done ++ z)) (sym (logged_else y c q a (λ f. other (sym f)))) (covers_own kinds w c v (own.Waiting q) is ok y))
+
+  pub looks_for_it : (slots id j : ℕ) (m : Me (Slot S O R) View) → m.0.client ≡ true → m.0.number ≡ j → j < 32
+      → Allows K slots id m (16 + j) (λ f. f) (play.looks_for_answer content op_in reply_in (step slots (16 + j) 0 0 maybe.none) m)
+  looks_for_it slots id c m cl number few s k deep at small =
+      let w : World = k.world in let ok = subst (λ z. SeatOk kinds w z m.0) number (mine content op_in reply_in kinds clients quota s k id m.0 cl at) in
+      let word : get_or s.words (16 + c) 0 ≡ row_word (w.stage c) = k.tied.rows c few in
+      dite (ℕ_discrete (get_or s.words (16 + c) 0) 33)
+      (λ hit. (m.0, keeps, tt, looks content op_in reply_in kinds clients quota s k (16 + c) id m.0 m.1 cl at, λ p is. ((λ _. refl), λ miss. absurd (miss hit))))
+      (λ miss. (
+        missing (16 + c) m.0,
+        keeps,
+        tt,
+        misses content op_in reply_in kinds clients quota s k (16 + c) id m.0 m.1 cl at,
+        λ p is. ((λ hit. absurd (miss hit)), λ _. (refl, false_from_ne_true m.0.ready (λ e. let a = ok.ready e in miss (word ∙ ap row_word a.2)))),
+      ))
 
   pub takes_it : (slots id j : ℕ) (m : Me (Slot S O R) View) (q : AnyRequest) → m.0.client ≡ true → m.0.number ≡ j → m.0.own ≡ own.Waiting q → m.0.held ≡ held.Free → q.object < 16 → j < 32
       → Allows K slots id m (16 + j) (λ f. either (eqb f 33) 0 f) (play.takes_answer content op_in reply_in (step slots (16 + j) 33 0 maybe.none) m)
@@ -192,11 +227,11 @@ module _ {S O R : Type 0} (content : S → Content) (op_in : O → AnyOp) (reply
           holders = k.holders;
           come = come_after clients w c t (subst (λ z. z < clients) number (k.makers.numbers id m.0 at cl)) k.come;
           sound = sound_staged kinds quota w c t before (λ p e. absurd (cc)) (ap request_of (sym was)) (λ e. absurd (cc)) (λ y. ap (served_now y c) (sym was)) k.sound;
-          tied = tied_row content op_in reply_in kinds w c 0 t w.hand w.log s.words s.homes maybe.none few (λ y _. refl) (λ e. absurd (cc)) (ap request_of (sym was)) refl tt k.tied;
+          tied = tied_row content op_in reply_in kinds k.lists w c 0 t w.hand w.log s.words s.homes maybe.none few (λ y _. refl) (λ e. absurd (cc)) (ap request_of (sym was)) refl tt k.tied;
           leave = row_leaves w c t (ap request_of was);
           others = λ d other. later_gone w w.clock c d t w.done before (λ r e. let g = sym was ∙ e in absurd (cc)) refl (λ e. other (e ∙ sym number));
           own = subst (λ z. SeatOk kinds (staged w c t) z v') (sym number) (subst (λ z. SeatOk kinds (staged w c t) c (taking q z l m.0)) (sym image)
-              (seat_gone kinds w w.clock c t w.done (seeing x l m.0) (own.Taken q a) m.0.done refl ok.done free (covers_taken kinds w c m.0 q a l is (omega arith) calls ok) begins));
+              (seat_gone kinds w w.clock c t w.done (seeing x l m.0) (own.Taken q a) m.0.done before (λ p e. let g = sym was ∙ e in absurd (cc)) refl ok.done (covers_taken kinds w c m.0 q a l is (omega arith) calls ok) begins));
         }),
         λ p is'. let same = ap (request_known q) (sym is ∙ is') in (
           (λ _. (
@@ -239,10 +274,10 @@ module _ {S O R : Type 0} (content : S → Content) (op_in : O → AnyOp) (reply
           holders = k.holders;
           come = come_after clients w c idle (k.makers.numbers id m.0 at cl) k.come;
           sound = sound_returned kinds quota w c found q a ok.small was k.tied.clock k.sound;
-          tied = tied_clock content op_in reply_in kinds w c ((found + 1) % 2 ^ 64) idle ds s.words s.homes (λ e. absurd (cc)) (ok.ended ∙ going) (ap row_word was) (λ home. tt) (more_by_one s k) k.tied;
+          tied = tied_clock content op_in reply_in kinds k.lists w c ((found + 1) % 2 ^ 64) idle ds s.words s.homes (λ e. absurd (cc)) (ok.ended ∙ going) (ap row_word was) (λ home. tt) (more_by_one s k) k.tied;
           leave = gone_leaves w (w.clock + 1) c idle (changed w.done c ds) (ok.ended ∙ going) (changed_else w.done c ds);
           others = λ e other. later_gone w (w.clock + 1) c e idle (changed w.done c ds) before (λ r f. let g = sym was ∙ f in absurd (cc)) (changed_else w.done c ds e other) other;
-          own = seat_unanswered kinds w (w.clock + 1) c idle (changed w.done c ds) m.0 own.Idle (m.0.done ++ d ∷ []) never refl (ap (λ z. z ++ d ∷ []) ok.done ∙ sym (changed_here w.done c ds)) free
+          own = seat_unanswered kinds w (w.clock + 1) c idle (changed w.done c ds) m.0 own.Idle (m.0.done ++ d ∷ []) before (λ r e. let g = sym was ∙ e in absurd (cc)) never refl (ap (λ z. z ++ d ∷ []) ok.done ∙ sym (changed_here w.done c ds))
               (λ y. subst (StartsWith (entries_of c (seen_of m.0 y))) (sym (append-nil (served y c (m.0.done ++ d ∷ [])) ∙ served_more y c found m.0.done q a)) (covers_own kinds w c m.0 (own.Taken q a) is ok y)) ok;
         },
         λ p b is'. let e = sym is ∙ is' in (

@@ -84,7 +84,7 @@ module _ {S O R : Type 0} (content : S → Content) (op_in : O → AnyOp) (reply
           holders = λ x d e. let b = k.holders x d e in (b.0, changed_else w.ended c true d (λ same. subst (HeldOk (length kinds) w c) free ok.held x (e ∙ ap Some same)) ∙ b.1);
           come = k.come;
           sound = sound_ended kinds quota w c k.sound;
-          tied = tied_end content op_in reply_in kinds w c j s.words s.homes ok.small (has_come m.0.own (w.stage c) calm ok.own) says' k.tied;
+          tied = tied_end content op_in reply_in kinds k.lists w c j s.words s.homes ok.small (has_come m.0.own (w.stage c) calm ok.own) says' k.tied;
           leave = λ d e. (still_ended w c d e, refl);
           others = λ d other. later_ended w c d (λ e. other (e ∙ sym number));
           own = subst (λ z. SeatOk kinds (ended_by w c) z v') (sym number) record {

@@ -7,6 +7,8 @@ use native.Mathlib.Decide.{ℕ_discrete}
 use prog.Atomic.{either}
 use Rattle.std.proofs.lemmas.List.Elements.{All-nil}
 use Rattle.std.proofs.lemmas.Option.{same_Some}
+use lib.ListN.{get_elem?}
+use Rattle.atomic_table.specs.Seated.{TableId}
 use Rattle.atomic_table.specs.Table.{State, Me, step, keeps, takes, gives, put_back, rest, stepped, Allows}
 use Rattle.model.specs.declared.Kind.{Kind}
 use Rattle.model.specs.declared.AnyOp.{AnyOp}
@@ -27,7 +29,7 @@ use Rattle.world.proofs.Moved.{sound_held}
 use Rattle.desk_rule.specs.Views.{missing, holding, learnt, seeing, IsAtRest, IsAccount}
 use Rattle.desk_rule.specs.Rule.{lock_word, Fits, HeldOk, SeatOk}
 use Rattle.desk_rule.specs.Plays as play
-use Rattle.desk_rule.proofs.Seats.{Later, alike, kept_after, mine, misses, Rule}
+use Rattle.desk_rule.proofs.Seats.{Later, alike, kept_after, looks, mine, misses, Rule}
 use Rattle.desk_rule.proofs.Seeing.{all_covered, saw, accounts}
 use Rattle.desk_rule.proofs.Ties.{tied_lock}
 
@@ -48,6 +50,11 @@ later_held w x d h other away = record {
   posted = λ r q _ g. g;
   ended = refl;
 }
+
+abbrev pub held_object : Held → ℕ
+held_object (held.Pass x l) = x
+held_object (held.Hand x l r q) = x
+held_object o = 0
 
 abbrev pub held_log : Held → List AnyEntry
 held_log (held.Pass x l) = l
@@ -77,6 +84,11 @@ module _ {S O R : Type 0} (content : S → Content) (op_in : O → AnyOp) (reply
   abbrev K : State (Slot S O R) View → Type 0
   K = Rule content op_in reply_in kinds clients quota
 
+  pub looks_at_lock : (slots id x : ℕ) (m : Me (Slot S O R) View) → m.0.client ≡ true → Allows K slots id m x (λ f. f) (play.looks_at_lock content op_in reply_in (step slots x 0 0 maybe.none) m)
+  looks_at_lock slots id x m cl s k deep at small = dite (ℕ_discrete (get_or s.words x 0) 0)
+      (λ hit. (m.0, keeps, tt, looks content op_in reply_in kinds clients quota s k x id m.0 m.1 cl at, ((λ _. refl), λ miss. absurd (miss hit))))
+      (λ miss. (missing x m.0, keeps, tt, misses content op_in reply_in kinds clients quota s k x id m.0 m.1 cl at, ((λ hit. absurd (miss hit)), λ _. refl)))
+
   pub wins : (slots id x n : ℕ) (m : Me (Slot S O R) View) → m.0.client ≡ true → x < length kinds → n ≡ 1 + m.0.number → m.0.held ≡ held.Free → m.0.ended ≡ false
       → Allows K slots id m x (λ f. either (eqb f 0) n f) (play.wins content op_in reply_in (step slots x 0 n maybe.none) m)
   wins slots id x n m cl inside is free going s k deep at small = dite (ℕ_discrete (get_or s.words x 0) 0)
@@ -94,7 +106,7 @@ module _ {S O R : Type 0} (content : S → Content) (op_in : O → AnyOp) (reply
               (λ e. let same = same_Some c d e in let low = k.makers.numbers id m.0 at cl in (omega arith, ap w.ended (sym same) ∙ (ok.ended ∙ going))) (λ y _. k.holders y d) y;
           come = k.come;
           sound = sound_held kinds quota w x (Some c) (λ e. absurd (cc)) k.sound;
-          tied = tied_lock content op_in reply_in kinds w x n (Some c) s.words s.homes maybe.none inside is (λ e. absurd (cc)) k.tied;
+          tied = tied_lock content op_in reply_in kinds k.lists w x n (Some c) s.words s.homes maybe.none inside is (λ e. absurd (cc)) k.tied;
           leave = λ d e. (e, refl);
           others = λ d other. later_held w x d (Some c) (λ e. absurd (cc)) (λ e. other (sym (same_Some c d e)));
           own = seat_held kinds w c x (Some c) m.0 (held.Pass x (w.log x)) m.0.back
@@ -106,7 +118,7 @@ module _ {S O R : Type 0} (content : S → Content) (op_in : O → AnyOp) (reply
                 changed_all (λ y h. h ≡ Some c → y ≡ x) w.holder x (Some c) (λ _. refl) (λ y _ e. absurd (nothing y e)),
               );
         }),
-        ((λ _. (home.0, w.log x, refl, subst (λ z. Fits content op_in reply_in (kind_at z x) home.0 (w.log x)) (sym ok.kinds_are) home.2, ok.seen x)), λ miss. absurd (miss hit)),
+        ((λ _. (home.0, w.log x, refl, subst (λ (z : List Kind × List TableId). Fits content op_in reply_in (kind_at z.0 x) (get_elem? z.1 x) home.0 (w.log x)) (λ i. (sym ok.kinds_are i, sym ((k.seats id m.0 at).lists_are cl) i)) home.2, ok.seen x)), λ miss. absurd (miss hit)),
       ))
       (λ miss. (
         missing x m.0,
@@ -117,11 +129,11 @@ module _ {S O R : Type 0} (content : S → Content) (op_in : O → AnyOp) (reply
       ))
 
   pub releases : (slots id x : ℕ) (m : Me (Slot S O R) View) (l : List AnyEntry) (k : Core S O R) (tl : List (ℕ × Slot S O R)) → m.0.client ≡ true → m.0.held ≡ held.Pass x l → m.1 ≡ (x, slot.Core k) ∷ tl
-      → Fits content op_in reply_in (kind_at m.0.kinds x) k l → IsAtRest m.0.own → Allows K slots id m x (λ _. 0) (λ _. play.releases content op_in reply_in (step slots x 0 0 maybe.none) m 0)
+      → Fits content op_in reply_in (kind_at m.0.kinds x) (get_elem? m.0.lists x) k l → IsAtRest m.0.own → Allows K slots id m x (λ _. 0) (λ _. play.releases content op_in reply_in (step slots x 0 0 maybe.none) m 0)
   releases slots id x m l core tl cl pass carried fits calm s k deep at small =
       let w : World = k.world in let c : ℕ = m.0.number in let ok = mine content op_in reply_in kinds clients quota s k id m.0 cl at in let few = k.tied.objects in
       let h = subst (HeldOk (length kinds) w c) pass ok.held in let v' : View = learnt x l m.0 in let inside : x < length kinds = h.0 in let low : x < 16 = omega arith in
-      let fits' : Fits content op_in reply_in (kind_at kinds x) core (w.log x) = subst (λ (z : List Kind × List AnyEntry). Fits content op_in reply_in (kind_at z.0 x) core z.1) (λ i. (ok.kinds_are i, sym h.3 i)) fits in
+      let fits' : Fits content op_in reply_in (kind_at kinds x) (get_elem? k.lists x) core (w.log x) = subst (λ (z : List Kind × List TableId × List AnyEntry). Fits content op_in reply_in (kind_at z.0 x) (get_elem? z.1 x) core z.2) (λ i. (ok.kinds_are i, (k.seats id m.0 at).lists_are cl i, sym h.3 i)) fits in
       let covers = all_covered kinds quota w c x m.0.done m.0.own ok.done ok.own k.sound in let seat = saw kinds w c x m.0 (w.log x) low (starts_same (w.log x)) covers ok in (
         v',
         gives,
@@ -131,7 +143,7 @@ module _ {S O R : Type 0} (content : S → Content) (op_in : O → AnyOp) (reply
           holders = λ y d. changed_all (λ y h. h ≡ Some d → (d < clients) × (w.ended d ≡ false)) w.holder x None (λ e. absurd (cc)) (λ y _. k.holders y d) y;
           come = k.come;
           sound = sound_held kinds quota w x None (λ _. h.2) k.sound;
-          tied = tied_lock content op_in reply_in kinds w x 0 None s.words s.homes (some (slot.Core core)) inside refl (λ _. (core, refl, fits')) k.tied;
+          tied = tied_lock content op_in reply_in kinds k.lists w x 0 None s.words s.homes (some (slot.Core core)) inside refl (λ _. (core, refl, fits')) k.tied;
           leave = λ d e. (e, refl);
           others = λ d other. later_held w x d None (λ e. other (sym (same_Some c d (sym h.1 ∙ e)))) (λ e. absurd (cc));
           own = subst (λ z. SeatOk kinds (held_by w x None) c (learnt x z m.0)) h.3 (seat_held kinds w c x None (seeing x (w.log x) m.0) held.Free [] (All-nil (λ (b : PutBack). (w.stage b.row ≡ posted b.request) × (changed w.holder x None b.request.object ≡ Some c))) seat

@@ -46,19 +46,22 @@ module _ {S O R : Type 0} (content : S → Content) (op_in : O → AnyOp) (reply
   tells id v s k at = subst (λ (z : List View). K record { words = s.words; homes = s.homes; views = z ++ letter v ∷ [] }) (sym (set_again s.views id v at)) record {
     world = k.world;
     seat_of = k.seat_of;
+    lists = k.lists;
     few_calls = k.few_calls;
     few_clients = k.few_clients;
     holders = k.holders;
     come = k.come;
     sound = k.sound;
     tied = k.tied;
-    seats = λ j u e. ⊎_elim (k.seats j u) (λ (t : (j ≡ length s.views) × (letter v ≡ u)). subst (λ z. ViewOk kinds k.world k.seat_of j z) t.1 record {
+    seats = λ j u e. ⊎_elim (k.seats j u) (λ (t : (j ≡ length s.views) × (letter v ≡ u)). subst (λ z. ViewOk kinds k.lists k.world k.seat_of j z) t.1 record {
       told = (k.seats id v at).told;
       heard = λ x. (k.world.log x, refl);
       left = All-nil (HasLeft k.world);
       client = λ f. absurd (cc);
       unmade = λ f. absurd (cc);
       maker_kinds = λ f. absurd (cc);
+      lists_are = λ f. absurd (cc);
+      maker_lists = λ f. absurd (cc);
     }) (at_end s.views (letter v) u j e);
     makers = makers_more clients s.views (letter v) refl refl k.makers;
   }
@@ -69,6 +72,7 @@ module _ {S O R : Type 0} (content : S → Content) (op_in : O → AnyOp) (reply
       let told = (k.seats other t (sym (set_else s.views id other v' apart) ∙ there)).told in record {
         world = k.world;
         seat_of = k.seat_of;
+        lists = k.lists;
         few_calls = k.few_calls;
         few_clients = k.few_clients;
         holders = k.holders;
@@ -76,22 +80,26 @@ module _ {S O R : Type 0} (content : S → Content) (op_in : O → AnyOp) (reply
         sound = k.sound;
         tied = k.tied;
         seats = λ j u e. ⊎_elim
-            (λ (h : (j ≡ other) × (silent ≡ u)). subst (λ z. ViewOk kinds k.world k.seat_of j z) h.1 record {
+            (λ (h : (j ≡ other) × (silent ≡ u)). subst (λ z. ViewOk kinds k.lists k.world k.seat_of j z) h.1 record {
               told = λ x. (k.world.log x, ap (λ z. z ++ k.world.log x) (sym (get_or-replicate_same [] 16 x)));
               heard = λ x. (k.world.log x, refl);
               left = All-nil (HasLeft k.world);
               client = λ f. absurd (cc);
               unmade = λ f. absurd (cc);
               maker_kinds = λ f. absurd (cc);
+              lists_are = λ f. absurd (cc);
+              maker_lists = λ f. absurd (cc);
             })
             (λ (h : (j ≢ other) × (get_elem? mid j ≡ some u)). ⊎_elim
-            (λ (g : (j ≡ id) × (v' ≡ u)). subst (λ (z : ℕ × View). ViewOk kinds k.world k.seat_of z.0 z.1) (λ i. (sym g.0 i, g.1 i)) record {
+            (λ (g : (j ≡ id) × (v' ≡ u)). subst (λ (z : ℕ × View). ViewOk kinds k.lists k.world k.seat_of z.0 z.1) (λ i. (sym g.0 i, g.1 i)) record {
               told = old.told;
               heard = told;
               left = old.left;
               client = λ f. let c = old.client f in let ok = c.1 in (c.0, seat_knowing ok.ready ok.retired ok);
               unmade = old.unmade;
               maker_kinds = old.maker_kinds;
+              lists_are = old.lists_are;
+              maker_lists = old.maker_lists;
             })
             (λ (g : (j ≢ id) × (get_elem? s.views j ≡ some u)). k.seats j u g.1)
             (at_set s.views id j v' u h.1))

@@ -34,9 +34,9 @@ use Rattle.world.proofs.Moved.{sound_picked, sound_put_back, sound_served}
 use Rattle.desk_rule.specs.Views.{seen_of, waits_on, noting, handling, putting_back, answering}
 use Rattle.desk_rule.specs.Rule.{row_word, OwnOk, HeldOk, SeatOk, MessageAt}
 use Rattle.desk_rule.specs.Plays as play
-use Rattle.desk_rule.proofs.Seats.{Later, row_leaves, alike, kept_after, come_after, seat_knowing, mine, unmoved, Rule}
+use Rattle.desk_rule.proofs.Seats.{Later, row_leaves, alike, kept_after, looks, come_after, seat_knowing, mine, unmoved, Rule}
 use Rattle.desk_rule.proofs.Ties.{tied_row}
-use Rattle.desk_rule.proofs.Locks.{held_log}
+use Rattle.desk_rule.proofs.Locks.{held_log, held_object}
 
 is_posted : (t : Stage) (x : ℕ) → x < 16 → row_word t ≡ 1 + x → (q : AnyRequest) × (t ≡ posted q) × (q.object ≡ x)
 is_posted absent x small e = absurd (omega arith)
@@ -161,11 +161,6 @@ module _ {S O R : Type 0} (content : S → Content) (op_in : O → AnyOp) (reply
   abbrev K : State (Slot S O R) View → Type 0
   K = Rule content op_in reply_in kinds clients quota
 
-  abbrev held_object : Held → ℕ
-  held_object (held.Pass x l) = x
-  held_object (held.Hand x l r q) = x
-  held_object o = 0
-
   abbrev held_row : Held → ℕ
   held_row (held.Hand x l r q) = r
   held_row o = 0
@@ -173,6 +168,38 @@ module _ {S O R : Type 0} (content : S → Content) (op_in : O → AnyOp) (reply
   abbrev held_request : AnyRequest → Held → AnyRequest
   held_request d (held.Hand x l r q) = q
   held_request d o = d
+
+  -- what a miss at the row r tells
+  row_missed : (c x x' r r' : ℕ) (w : World) (m : Me (Slot S O R) View) (l l' : List AnyEntry) → m.0.held ≡ held.Pass x l → m.0.held ≡ held.Pass x' l' → r ≡ r' → row_word (w.stage r) ≢ 1 + x → SeatOk kinds w c m.0
+      → (◌≡◌ {A = Me (Slot S O R) View} (noting (16 + r) x m.0, m.1) (noting (16 + r) x' m.0, m.1)) × All (λ b. b.row ≢ r') m.0.back
+  row_missed c x x' r r' w m l l' pass pass' er miss ok = let h = subst (HeldOk (length kinds) w c) pass ok.held in (
+    ap (λ z. (noting (16 + r) z m.0, m.1)) (ap held_object (sym pass ∙ pass')),
+    λ i d l row. let z = ok.back i d l in let p = get_or m.0.back i d in let on : p.request.object ≡ x = h.4 p.request.object z.1 in
+        miss (ap (λ j. row_word (w.stage j)) (er ∙ sym row) ∙ (ap row_word z.0 ∙ ap (λ n. 1 + n) on)),
+  )
+
+  pub looks_at_it : (slots id x r : ℕ) (m : Me (Slot S O R) View) (l : List AnyEntry) → m.0.client ≡ true → r < 32 → m.0.held ≡ held.Pass x l
+      → Allows K slots id m (16 + r) (λ f. f) (play.looks_at_row content op_in reply_in (step slots (16 + r) 0 0 maybe.none) m)
+  looks_at_it slots id x r m l cl inside pass s k deep at small =
+      let w : World = k.world in let c : ℕ = m.0.number in let ok = mine content op_in reply_in kinds clients quota s k id m.0 cl at in
+      let word : get_or s.words (16 + r) 0 ≡ row_word (w.stage r) = k.tied.rows r inside in dite (ℕ_discrete (get_or s.words (16 + r) 0) (1 + x))
+      (λ hit. (
+        m.0,
+        keeps,
+        tt,
+        looks content op_in reply_in kinds clients quota s k (16 + r) id m.0 m.1 cl at,
+        λ x' r' l' pass' e. let ex = ap held_object (sym pass ∙ pass') in ((λ _. refl), λ miss. absurd (miss (hit ∙ ap (λ z. 1 + z) ex))),
+      ))
+      (λ miss. (
+        noting (16 + r) x m.0,
+        keeps,
+        tt,
+        unmoved content op_in reply_in kinds clients quota s k (16 + r) id m.0 (noting (16 + r) x m.0) m.1 at cl alike (noting_ok kinds quota c x r w m.0 l pass k.sound (λ e. miss (word ∙ e)) ok),
+        λ x' r' l' pass' e. let ex = ap held_object (sym pass ∙ pass') in let er : r ≡ r' = omega arith in (
+          (λ hit. absurd (miss (hit ∙ ap (λ z. 1 + z) (sym ex)))),
+          λ _. row_missed c x x' r r' w m l l' pass pass' er (λ f. miss (word ∙ f)) ok,
+        ),
+      ))
 
   pub picks_up : (slots id x r : ℕ) (m : Me (Slot S O R) View) (l : List AnyEntry) → m.0.client ≡ true → r < 32 → m.0.held ≡ held.Pass x l
       → Allows K slots id m (16 + r) (λ f. either (eqb f (1 + x)) (17 + x) f) (play.picks content op_in reply_in (step slots (16 + r) (1 + x) (17 + x) maybe.none) m)
@@ -193,7 +220,7 @@ module _ {S O R : Type 0} (content : S → Content) (op_in : O → AnyOp) (reply
           holders = k.holders;
           come = come_after clients w r t (k.come r (λ e. let f = sym b.1 ∙ e in absurd (cc))) k.come;
           sound = sound_picked kinds quota w x r c q b.1 b.2 h.1 h.2 k.sound;
-          tied = tied_row content op_in reply_in kinds w r (17 + x) t (changed w.hand x (Some r)) w.log s.words s.homes maybe.none inside (λ y _. refl) (λ e. absurd (cc)) (ap request_of (sym b.1)) (ap (λ z. 17 + z) (sym b.2)) tt k.tied;
+          tied = tied_row content op_in reply_in kinds k.lists w r (17 + x) t (changed w.hand x (Some r)) w.log s.words s.homes maybe.none inside (λ y _. refl) (λ e. absurd (cc)) (ap request_of (sym b.1)) (ap (λ z. 17 + z) (sym b.2)) tt k.tied;
           leave = row_leaves w r t (ap request_of b.1);
           others = λ d other. later_row w x r c d q t (Some r) w.log from to never (λ y. starts_same (w.log y)) (λ y _. refl) (λ y p _ _ e. let f = sym b.1 ∙ e in absurd (cc))
               (λ p e f. let g : posted q ≡ posted p = sym b.1 ∙ f in let same : q ≡ p = cc in other (sym (same_Some c d (sym h.1 ∙ (ap w.holder (sym b.2 ∙ ap (λ z. z.object) same) ∙ e))))) h.1 other;
@@ -221,11 +248,7 @@ module _ {S O R : Type 0} (content : S → Content) (op_in : O → AnyOp) (reply
             (noting_ok kinds quota c x r w m.0 l pass k.sound (λ e. miss (word ∙ e)) ok)),
         λ x' r' l' pass' e. let ex = ap held_object (sym pass ∙ pass') in let er : r ≡ r' = omega arith in (
           (λ hit. absurd (miss (hit ∙ ap (λ z. 1 + z) (sym ex)))),
-          λ _. (
-            ap (λ z. (noting (16 + r) z m.0, m.1)) ex,
-            λ i d l row. let z = ok.back i d l in let p = get_or m.0.back i d in let on : p.request.object ≡ x = h.4 p.request.object z.1 in
-                miss (word ∙ (ap (λ j. row_word (w.stage j)) (er ∙ sym row) ∙ (ap row_word z.0 ∙ ap (λ n. 1 + n) on))),
-          ),
+          λ _. row_missed c x x' r r' w m l l' pass pass' er (λ f. miss (word ∙ f)) ok,
         ),
       ))
 
@@ -251,7 +274,7 @@ module _ {S O R : Type 0} (content : S → Content) (op_in : O → AnyOp) (reply
           holders = k.holders;
           come = come_after clients w r t (k.come r (λ e. let f = sym h.6 ∙ e in absurd (cc))) k.come;
           sound = sound_put_back kinds quota w x r c q h.6 on h.1 h.2 k.sound;
-          tied = tied_row content op_in reply_in kinds w r n t (changed w.hand x None) w.log s.words s.homes (some (slot.Request p)) h.5 (λ y _. refl) (λ e. absurd (cc)) (ap request_of (sym h.6)) (word ∙ ap (λ z. 1 + z) (sym on)) (p, refl, is) k.tied;
+          tied = tied_row content op_in reply_in kinds k.lists w r n t (changed w.hand x None) w.log s.words s.homes (some (slot.Request p)) h.5 (λ y _. refl) (λ e. absurd (cc)) (ap request_of (sym h.6)) (word ∙ ap (λ z. 1 + z) (sym on)) (p, refl, is) k.tied;
           leave = row_leaves w r t (ap request_of h.6);
           others = λ d other. later_row w x r c d q t None w.log from to never (λ y. starts_same (w.log y)) (λ y _. refl) (apart w x r c d q h.6 on h.1 other k.sound) (λ p _. unposted p) h.1 other;
           own = seat_row kinds w c r q t (changed w.hand x None) w.log m.0 (held.Pass x l) bs
@@ -273,11 +296,11 @@ module _ {S O R : Type 0} (content : S → Content) (op_in : O → AnyOp) (reply
       (q, a, ap (changed w.stage r (answered q a)) (sym (eqb-true r v.number b ∙ ok.number)) ∙ changed_here w.stage r (answered q a)) in
       seat_knowing (λ e. ⊎_elim base.ready now (or_cases v.ready (eqb r v.number) e)) base.retired base
 
-  abbrev answer_or : Answer R → Slot S O R → Answer R
+  abbrev pub answer_or : Answer R → Slot S O R → Answer R
   answer_or d (slot.Answer a) = a
   answer_or d o = d
 
-  abbrev answer_carried : Answer R → List (ℕ × Slot S O R) → Answer R
+  abbrev pub answer_carried : Answer R → List (ℕ × Slot S O R) → Answer R
   answer_carried d (y ∷ ys) = answer_or d y.1
   answer_carried d [] = d
 
@@ -297,7 +320,7 @@ module _ {S O R : Type 0} (content : S → Content) (op_in : O → AnyOp) (reply
           holders = k.holders;
           come = come_after clients w r t (k.come r (λ e. let f = sym h.6 ∙ e in absurd (cc))) k.come;
           sound = sound_served kinds quota w x r c q a h.6 on h.1 h.2 legal' k.sound;
-          tied = tied_row content op_in reply_in kinds w r 33 t (changed w.hand x None) (changed w.log x (w.log x ++ more)) s.words s.homes (some (slot.Answer b)) h.5
+          tied = tied_row content op_in reply_in kinds k.lists w r 33 t (changed w.hand x None) (changed w.log x (w.log x ++ more)) s.words s.homes (some (slot.Answer b)) h.5
               (λ y e. changed_else w.log x (w.log x ++ more) y (λ same. let f = sym h.1 ∙ (ap w.holder (sym same) ∙ e) in absurd (cc))) (λ e. absurd (cc)) (ap request_of (sym h.6)) refl (b, refl, refl) k.tied;
           leave = row_leaves w r t (ap request_of h.6);
           others = λ d other. later_row w x r c d q t None (changed w.log x (w.log x ++ more)) from to never (grows w x more) (λ y away. changed_else w.log x (w.log x ++ more) y away) (apart w x r c d q h.6 on h.1 other k.sound) (λ p _ e. let f = sym h.6 ∙ e in absurd (cc)) h.1 other;

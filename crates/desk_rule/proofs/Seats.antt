@@ -5,6 +5,7 @@ use mathlib.Core.Option.{some}
 use lib.ListN.{get_elem?}
 use lib.Seq.{set-get_or}
 use Rattle.atomic_table.specs.Table.{State, keeps, stepped}
+use Rattle.atomic_table.specs.Seated.{TableId}
 use Rattle.atomic_table.proofs.Lists.{at_set}
 use Rattle.model.specs.declared.Kind.{Kind}
 use Rattle.model.specs.declared.AnyOp.{AnyOp}
@@ -92,11 +93,12 @@ pub record Alike (v v' : View) : Type 0 where
   pub made : v'.made ≡ v.made
   pub heard : v'.heard ≡ v.heard
   pub left : v'.left ≡ v.left
+  pub lists : v'.lists ≡ v.lists
 
 -- a view in which none of these changed
 pub alike : {v : View} {kinds : List Kind} {done : List AnyDone} {own : Own} {ready : Bool} {seen : List (List AnyEntry)} {back : List PutBack} {missed : List ℕ} {held : Held} {ended : Bool} {retired still_there : List ℕ}
     → Alike v (record v { kinds = kinds; done = done; own = own; ready = ready; seen = seen; back = back; missed = missed; held = held; ended = ended; retired = retired; still_there = still_there })
-alike = record { client = refl; number = refl; maker = refl; made = refl; heard = refl; left = refl }
+alike = record { client = refl; number = refl; maker = refl; made = refl; heard = refl; left = refl; lists = refl }
 
 -- A client that was told more, missed more, and knows more of its row and of the ends of others. What it was told, has
 -- missed and has found there does not matter.
@@ -119,21 +121,23 @@ seat_knowing ready retired ok = record {
 }
 
 -- after a step to w', in which the client's view v becomes v', each view is true
-seats_after : (kinds : List Kind) (clients : ℕ) (w w' : World) (so : ℕ → ℕ) (vs : List View) (id : ℕ) (v v' : View) → get_elem? vs id ≡ some v → v.client ≡ true → Alike v v' → Makers clients vs
-    → ((j : ℕ) (u : View) → get_elem? vs j ≡ some u → ViewOk kinds w so j u) → Leaves w w' → ((c : ℕ) → c ≢ v.number → Later w w' c) → SeatOk kinds w' v.number v'
-    → (j : ℕ) (u : View) → get_elem? (set vs id v') j ≡ some u → ViewOk kinds w' so j u
-seats_after kinds clients w w' so vs id v v' at cl alike makers before leave others ok j u e =
+seats_after : (kinds : List Kind) (lists : List TableId) (clients : ℕ) (w w' : World) (so : ℕ → ℕ) (vs : List View) (id : ℕ) (v v' : View) → get_elem? vs id ≡ some v → v.client ≡ true → Alike v v' → Makers clients vs
+    → ((j : ℕ) (u : View) → get_elem? vs j ≡ some u → ViewOk kinds lists w so j u) → Leaves w w' → ((c : ℕ) → c ≢ v.number → Later w w' c) → SeatOk kinds w' v.number v'
+    → (j : ℕ) (u : View) → get_elem? (set vs id v') j ≡ some u → ViewOk kinds lists w' so j u
+seats_after kinds lists clients w w' so vs id v v' at cl alike makers before leave others ok j u e =
     let here = (before id v at).client cl in let next : 1 + v.number ≢ v.number = λ h. omega arith in let logs = (others (1 + v.number) next).logs in
     let is_made : (c : ℕ) (z : View) (i : ℕ) → get_elem? vs i ≡ some z → z.maker ≡ true → z.made ≤ c → c ≢ v.number = λ c z i g is l same. let low = (makers.made i z g is id v at).0 cl in omega arith in
     let unmade : (c : ℕ) → c ≢ v.number → (w.stage c ≡ absent) × (w.done c ≡ []) × (w.ended c ≡ false) × ((x : ℕ) → w.holder x ≢ Some c) → (w'.stage c ≡ absent) × (w'.done c ≡ []) × (w'.ended c ≡ false) × ((x : ℕ) → w'.holder x ≢ Some c) =
     λ c apart b. let o = others c apart in (o.own own.Absent b.0, o.done ∙ b.1, o.ended ∙ b.2, λ x f. b.3 x (o.holds x f)) in
-    ⊎_elim (λ (t : (j ≡ id) × (v' ≡ u)). subst (λ (z : ℕ × View). ViewOk kinds w' so z.0 z.1) (λ i. (sym t.0 i, t.1 i)) record {
+    ⊎_elim (λ (t : (j ≡ id) × (v' ≡ u)). subst (λ (z : ℕ × View). ViewOk kinds lists w' so z.0 z.1) (λ i. (sym t.0 i, t.1 i)) record {
       told = ok.seen;
       heard = λ x. subst (λ z. StartsWith (w'.log x) (get_or z x [])) (sym alike.heard) (starts_longer (w'.log x) (w.log x) (heard_of v x) (logs x) ((before id v at).heard x));
       left = subst (All (HasLeft w')) (sym alike.left) (left_stays w w' v.left leave (before id v at).left);
       client = λ _. (ap so alike.number ∙ here.0, subst (λ z. SeatOk kinds w' z v') (sym alike.number) ok);
       unmade = λ is c l. let is' : v.maker ≡ true = sym alike.maker ∙ is in let l' : v.made ≤ c = subst (λ z. z ≤ c) alike.made l in unmade c (is_made c v id at is' l') ((before id v at).unmade is' c l');
       maker_kinds = λ is. ok.kinds_are;
+      lists_are = λ is. alike.lists ∙ (before id v at).lists_are cl;
+      maker_lists = λ is. alike.lists ∙ (before id v at).lists_are cl;
     })
     (λ (t : (j ≢ id) × (get_elem? vs j ≡ some u)). let b = before j u t.1 in record {
       told = λ x. starts_longer (w'.log x) (w.log x) (seen_of u x) (logs x) (b.told x);
@@ -142,6 +146,8 @@ seats_after kinds clients w w' so vs id v v' at cl alike makers before leave oth
       client = λ is. let c = b.client is in (c.0, seat_stays kinds w w' u.number u leave (others u.number (λ g. t.0 (sym c.0 ∙ (ap so g ∙ here.0)))) c.1);
       unmade = λ is c l. unmade c (is_made c u j t.1 is l) (b.unmade is c l);
       maker_kinds = b.maker_kinds;
+      lists_are = b.lists_are;
+      maker_lists = b.maker_lists;
     }) (at_set vs id j v' u e)
 
 pub makers_stay : (clients : ℕ) (vs : List View) (id : ℕ) (v v' : View) → get_elem? vs id ≡ some v → v'.client ≡ v.client → v'.number ≡ v.number → v'.maker ≡ v.maker → v'.made ≡ v.made → Makers clients vs → Makers clients (set vs id v')
@@ -178,7 +184,7 @@ module _ {S O R : Type 0} (content : S → Content) (op_in : O → AnyOp) (reply
     pub holders : (x d : ℕ) → world.holder x ≡ Some d → (d < clients) × (world.ended d ≡ false)
     pub come : (d : ℕ) → world.stage d ≢ absent → d < clients
     pub sound : Sound kinds quota world
-    pub tied : Tied content op_in reply_in kinds world words homes
+    pub tied : Tied content op_in reply_in kinds k.lists world words homes
     pub leave : Leaves k.world world
     pub others : (d : ℕ) → d ≢ v.number → Later k.world world d
     pub own : SeatOk kinds world v.number v'
@@ -188,11 +194,12 @@ module _ {S O R : Type 0} (content : S → Content) (op_in : O → AnyOp) (reply
   kept_after s k id v v' at cl alike a = record {
     world = a.world;
     seat_of = k.seat_of;
+    lists = k.lists;
     few_calls = k.few_calls;
     few_clients = k.few_clients;
     sound = a.sound;
     tied = a.tied;
-    seats = seats_after kinds clients k.world a.world k.seat_of s.views id v v' at cl alike k.makers k.seats a.leave a.others a.own;
+    seats = seats_after kinds k.lists clients k.world a.world k.seat_of s.views id v v' at cl alike k.makers k.seats a.leave a.others a.own;
     makers = makers_after clients s.views id v v' at alike k.makers;
     holders = a.holders;
     come = a.come;
@@ -206,3 +213,7 @@ module _ {S O R : Type 0} (content : S → Content) (op_in : O → AnyOp) (reply
 
   pub misses : (s : St) (k : Rule s) (i id : ℕ) (v : View) (cs : List (ℕ × Slot S O R)) → v.client ≡ true → get_elem? s.views id ≡ some v → Rule (stepped s i (get_or s.words i 0) id cs (missing i v) keeps)
   misses s k i id v cs cl at = let ok = mine s k id v cl at in unmoved s k i id v (missing i v) cs at cl alike (seat_knowing ok.ready ok.retired ok)
+
+  -- a look that tells nothing
+  pub looks : (s : St) (k : Rule s) (i id : ℕ) (v : View) (cs : List (ℕ × Slot S O R)) → v.client ≡ true → get_elem? s.views id ≡ some v → Rule (stepped s i (get_or s.words i 0) id cs v keeps)
+  looks s k i id v cs cl at = unmoved s k i id v v cs at cl record { client = refl; number = refl; maker = refl; made = refl; heard = refl; left = refl; lists = refl } (mine s k id v cl at)

@@ -3,6 +3,7 @@ use Rattle.std.proofs.Common.{◌≡◌, ◌≢◌, ℕ, ◌+◌, ◌<◌, Bool,
 use mathlib.Core.Option as maybe
 use mathlib.Core.Option.{some}
 use lib.ListN.{get_elem?}
+use Rattle.atomic_table.specs.Seated.{TableId}
 use Rattle.atomic_table.proofs.Lists.{set_here, set_else}
 use Rattle.model.specs.declared.Kind.{Kind}
 use Rattle.model.specs.declared.AnyOp.{AnyOp}
@@ -17,16 +18,16 @@ use Rattle.world.specs.Images.{event_in}
 use Rattle.world.proofs.Changed.{changed_else, changed_all}
 use Rattle.desk_rule.specs.Rule.{Home, lock_word, row_word, end_word, Fits, CoreAt, MessageAt, JournalAt, Tied}
 
-module _ {S O R : Type 0} (content : S → Content) (op_in : O → AnyOp) (reply_in : R → AnyReply) (kinds : List Kind) where
+module _ {S O R : Type 0} (content : S → Content) (op_in : O → AnyOp) (reply_in : R → AnyReply) (kinds : List Kind) (lists : List TableId) where
   abbrev Ties : World → List ℕ → List (maybe.Option (Slot S O R)) → Type 0
-  Ties = Tied content op_in reply_in kinds
+  Ties = Tied content op_in reply_in kinds lists
 
   abbrev Journaled : Home S O R → Stage → List AnyDone → Bool → Type 0
   Journaled = JournalAt content op_in reply_in
 
   -- the lock x is set to h, and its slot to home
   pub tied_lock : (w : World) (x n : ℕ) (h : Option ℕ) (words : List ℕ) (homes : List (maybe.Option (Slot S O R))) (home : maybe.Option (Slot S O R)) → x < length kinds → n ≡ lock_word h
-      → (h ≡ None → CoreAt content op_in reply_in (kind_at kinds x) (some home) (w.log x)) → Ties w words homes → Ties (held_by w x h) (set words x n) (set homes x home)
+      → (h ≡ None → CoreAt content op_in reply_in (kind_at kinds x) (get_elem? lists x) (some home) (w.log x)) → Ties w words homes → Ties (held_by w x h) (set words x n) (set homes x home)
   tied_lock w x n h words homes home inside word back t = let wide = t.wide in let deep = t.deep in let few = t.objects in record {
     wide = length-set words x n ∙ wide;
     deep = length-set homes x home ∙ deep;
@@ -36,7 +37,7 @@ module _ {S O R : Type 0} (content : S → Content) (op_in : O → AnyOp) (reply
     rows = λ r l. get_or-set_other words x (16 + r) n 0 (λ e. omega arith) ∙ t.rows r l;
     ends = λ c l. get_or-set_other words x (48 + c) n 0 (λ e. omega arith) ∙ t.ends c l;
     clock = get_or-set_other words x 80 n 0 (λ e. omega arith) ∙ t.clock;
-    cores = changed_all (λ y g. y < length kinds → g ≡ None → CoreAt content op_in reply_in (kind_at kinds y) (get_elem? (set homes x home) y) (w.log y)) w.holder x h
+    cores = changed_all (λ y g. y < length kinds → g ≡ None → CoreAt content op_in reply_in (kind_at kinds y) (get_elem? lists y) (get_elem? (set homes x home) y) (w.log y)) w.holder x h
         (λ l e. let b = back e in (b.0, set_here homes x home (omega arith) ∙ b.1, b.2)) (λ y other l e. let b = t.cores y l e in (b.0, set_else homes x y home other ∙ b.1, b.2));
     messages = λ r l. subst (λ z. MessageAt content op_in reply_in z (w.stage r)) (sym (set_else homes x (16 + r) home (λ e. omega arith))) (t.messages r l);
     journals = λ c l. subst (λ z. Journaled z (w.stage c) (w.done c) (w.ended c)) (sym (set_else homes x (48 + c) home (λ e. omega arith))) (t.journals c l);
@@ -62,7 +63,7 @@ module _ {S O R : Type 0} (content : S → Content) (op_in : O → AnyOp) (reply
         (λ l. get_or-set_same words (16 + r) n 0 (omega arith) ∙ word) (λ j other l. get_or-set_other words (16 + r) (16 + j) n 0 (λ e. other (omega arith)) ∙ k.rows j l);
     ends = λ c l. get_or-set_other words (16 + r) (48 + c) n 0 (λ e. omega arith) ∙ k.ends c l;
     clock = get_or-set_other words (16 + r) 80 n 0 (λ e. omega arith) ∙ k.clock;
-    cores = λ x l e. let b = k.cores x l e in (b.0, set_else homes (16 + r) x home (λ e. omega arith) ∙ b.1, subst (Fits content op_in reply_in (kind_at kinds x) b.0) (sym (kept x e)) b.2);
+    cores = λ x l e. let b = k.cores x l e in (b.0, set_else homes (16 + r) x home (λ e. omega arith) ∙ b.1, subst (Fits content op_in reply_in (kind_at kinds x) (get_elem? lists x) b.0) (sym (kept x e)) b.2);
     messages = changed_all (λ j u. j < 32 → MessageAt content op_in reply_in (get_elem? (set homes (16 + r) home) (16 + j)) u) w.stage r t
         (λ l. subst (λ z. MessageAt content op_in reply_in z t) (sym (set_here homes (16 + r) home (omega arith))) ok)
         (λ j other l. subst (λ z. MessageAt content op_in reply_in z (w.stage j)) (sym (set_else homes (16 + r) (16 + j) home (λ e. other (omega arith)))) (k.messages j l));

@@ -1,5 +1,6 @@
 -- What each step on the table tells the client that takes it: what it knows and has in its hands then.
 use Rattle.std.specs.Prelude.{◌≡◌, ◌≢◌, ℕ, ◌+◌, ◌<◌, false, List, ◌∷◌, ◌++◌, length, All}
+use lib.ListN.{get_elem?}
 use Rattle.atomic_table.specs.Table.{Me, Step, rest}
 use Rattle.model.specs.declared.AnyOp.{AnyOp}
 use Rattle.model.specs.declared.AnyReply.{AnyReply}
@@ -14,23 +15,33 @@ use Rattle.world.specs.declared.Request.{Request}
 use Rattle.world.specs.declared.Answer.{Answer}
 use Rattle.world.specs.World.{AnyEntry, AnyRequest, AnyAnswer, kind_at, logged, entries_of, served, IsLegal, StartsWith}
 use Rattle.world.specs.Images.{request_in, answer_in}
-use Rattle.desk_rule.specs.Views.{seen_of, heard_of, missing, noting, holding, handling, putting_back, answering, IsAccount, learnt, calling, taking, done_with, seeing, ending, knowing_end, finding_there}
+use Rattle.desk_rule.specs.Views.{seen_of, heard_of, missing, noting, holding, handling, putting_back, answering, IsAccount, learnt, calling, taking, done_with, performing, seeing, ending, knowing_end, finding_there}
 use Rattle.desk_rule.specs.Rule.{Fits}
 
 module _ {S O R : Type 0} (content : S → Content) (op_in : O → AnyOp) (reply_in : R → AnyReply) where
   abbrev pub Hands : Type 0
   Hands = Me (Slot S O R) View
 
-  -- the lock was free: the object with its log came out, and the log begins with what was seen. Or it was held, a miss
+  -- A look at a lock before it is tried: it is held, a miss; or nothing is told
+  abbrev pub looks_at_lock : Step (Slot S O R) → Hands → ℕ → Hands → Type 0
+  looks_at_lock st m found m' = (found ≡ 0 → m' ≡ m) × (found ≢ 0 → m' ≡ (missing st.word m.0, m.1))
+
+  -- the lock was free: the object with its log and its publication list came out, and the log begins with what was seen.
+  -- Or it was held, a miss
   abbrev pub wins : Step (Slot S O R) → Hands → ℕ → Hands → Type 0
   wins st m found m' =
       (found ≡ 0 → (k : Core S O R) × (l : List AnyEntry) × (m' ≡ (holding st.word l m.0, (st.word, slot.Core k) ∷ m.1))
-      × Fits content op_in reply_in (kind_at m.0.kinds st.word) k l × StartsWith l (seen_of m.0 st.word))
+      × Fits content op_in reply_in (kind_at m.0.kinds st.word) (get_elem? m.0.lists st.word) k l × StartsWith l (seen_of m.0 st.word))
       × (found ≢ 0 → m' ≡ (missing st.word m.0, m.1))
 
   -- what was put back is what the client has seen of the object
   abbrev pub releases : Step (Slot S O R) → Hands → ℕ → Hands → Type 0
   releases st m found m' = (l : List AnyEntry) → m.0.held ≡ held.Pass st.word l → (m' ≡ (learnt st.word l m.0, rest m.1)) × IsAccount st.word m.0 l
+
+  -- A look at a row before it is tried: there is no request for the object in hand, a miss; or nothing is told
+  abbrev pub looks_at_row : Step (Slot S O R) → Hands → ℕ → Hands → Type 0
+  looks_at_row st m found m' = (x r : ℕ) (l : List AnyEntry) → m.0.held ≡ held.Pass x l → st.word ≡ 16 + r →
+      (found ≡ 1 + x → m' ≡ m) × (found ≢ 1 + x → (m' ≡ (noting st.word x m.0, m.1)) × All (λ b. b.row ≢ r) m.0.back)
 
   -- A request for the object in hand came out of the row, the one that was put back there, if any, and at the own row
   -- the own one. Or there was none, a miss, and none was put back there
@@ -57,6 +68,11 @@ module _ {S O R : Type 0} (content : S → Content) (op_in : O → AnyOp) (reply
   abbrev pub posts : Step (Slot S O R) → Hands → ℕ → Hands → Type 0
   posts st m found m' = (q : AnyRequest) → m.0.own ≡ own.Drawn q → m' ≡ (calling (own.Waiting q) m.0, rest m.1)
 
+  -- A look at the own row before it is tried: there is no answer, a miss; or nothing is told
+  abbrev pub looks_for_answer : Step (Slot S O R) → Hands → ℕ → Hands → Type 0
+  looks_for_answer st m found m' = (q : AnyRequest) → m.0.own ≡ own.Waiting q →
+      (found ≡ 33 → m' ≡ m) × (found ≢ 33 → (m' ≡ (missing st.word m.0, m.1)) × (m.0.ready ≡ false))
+
   -- The answer came out of the own row, and the log of its object was seen: it is legal, begins with what was seen
   -- before, and has of the own calls those that are over and this one. Or there was none, a miss
   abbrev pub takes_answer : Step (Slot S O R) → Hands → ℕ → Hands → Type 0
@@ -68,6 +84,15 @@ module _ {S O R : Type 0} (content : S → Content) (op_in : O → AnyOp) (reply
   -- the return has its ticket, which is greater than each in what was seen of the call's object
   abbrev pub returns : Step (Slot S O R) → Hands → ℕ → Hands → Type 0
   returns st m found m' = (q : AnyRequest) (a : AnyAnswer) → m.0.own ≡ own.Taken q a → (m' ≡ (done_with q a found m.0, m.1)) × All (λ e. e.ticket < found) (seen_of m.0 q.object)
+
+  -- The client that holds the object served the own request that has its ticket: in one moment it was posted, picked up,
+  -- answered and taken, and has the ticket of its return. The log has grown by what the answer in hand says; it begins with what
+  -- was seen, has of the own calls those that are over and this one, and each ticket in it is less than that of the return.
+  abbrev pub performs : Step (Slot S O R) → Hands → ℕ → Hands → Type 0
+  performs st m found m' = (i : ℕ) (l : List AnyEntry) (q : AnyRequest) (b : Answer R) (tl : List (ℕ × Slot S O R)) → m.0.held ≡ held.Pass q.object l → m.0.own ≡ own.Drawn q → m.1 ≡ (i, slot.Answer b) ∷ tl
+      → (m' ≡ (performing q (answer_in reply_in b) (l ++ logged m.0.number q (answer_in reply_in b)) found m.0, m.1)) × All (λ e. e.ticket < found) (l ++ logged m.0.number q (answer_in reply_in b))
+      × StartsWith (l ++ logged m.0.number q (answer_in reply_in b)) (seen_of m.0 q.object)
+      × (entries_of m.0.number (l ++ logged m.0.number q (answer_in reply_in b)) ≡ served q.object m.0.number m.0.done ++ logged m.0.number q (answer_in reply_in b))
 
   -- the client's own slots came out of their places
   abbrev pub begins : Step (Slot S O R) → Hands → ℕ → Hands → Type 0

@@ -5,6 +5,7 @@ use mathlib.Core.Option.{some}
 use mathlib.Core.Option as maybe
 use lib.ListN.{get_elem?}
 use Rattle.atomic_table.specs.Table.{State}
+use Rattle.atomic_table.specs.Seated.{TableId}
 use Rattle.model.specs.declared.Kind.{Kind}
 use Rattle.model.specs.declared.AnyOp.{AnyOp}
 use Rattle.model.specs.declared.AnyReply.{AnyReply}
@@ -85,13 +86,16 @@ abbrev pub HasLeft : World → Leaving → Type 0
 HasLeft w l = (w.ended l.client ≡ true) × (journal_in w l.client ≡ l.journal)
 
 -- any view: a client's, the maker's, or a letter
-pub record ViewOk (kinds : List Kind) (w : World) (seat_of : ℕ → ℕ) (j : ℕ) (v : View) : Type 0 where
+pub record ViewOk (kinds : List Kind) (lists : List TableId) (w : World) (seat_of : ℕ → ℕ) (j : ℕ) (v : View) : Type 0 where
   pub told : (x : ℕ) → StartsWith (w.log x) (seen_of v x)
   pub heard : (x : ℕ) → StartsWith (w.log x) (heard_of v x)
   pub left : All (HasLeft w) v.left
   pub client : v.client ≡ true → (seat_of v.number ≡ j) × SeatOk kinds w v.number v
   pub unmade : v.maker ≡ true → (c : ℕ) → v.made ≤ c → (w.stage c ≡ absent) × (w.done c ≡ []) × (w.ended c ≡ false) × ((x : ℕ) → w.holder x ≢ Some c)
   pub maker_kinds : v.maker ≡ true → v.kinds ≡ kinds
+  -- which roster the publication list of each object is
+  pub lists_are : v.client ≡ true → v.lists ≡ lists
+  pub maker_lists : v.maker ≡ true → v.lists ≡ lists
 
 -- the maker is one, and has made every client, and no more than there are to be
 pub record Makers (clients : ℕ) (views : List View) : Type 0 where
@@ -99,12 +103,13 @@ pub record Makers (clients : ℕ) (views : List View) : Type 0 where
   pub numbers : (j : ℕ) (v : View) → get_elem? views j ≡ some v → v.client ≡ true → v.number < clients
 
 module _ {S O R : Type 0} (content : S → Content) (op_in : O → AnyOp) (reply_in : R → AnyReply) where
-  -- the core has this log, and its object what the log leaves
-  abbrev pub Fits : Kind → Core S O R → List AnyEntry → Type 0
-  Fits kind k log = (map (entry_in op_in reply_in) k.log.items ≡ log) × Replays (empty kind) log (content k.object)
+  -- The core has this log, its object what the log leaves, and its walker walks this list: the one of the object, if the
+  -- object has one.
+  abbrev pub Fits : Kind → maybe.Option TableId → Core S O R → List AnyEntry → Type 0
+  Fits kind list k log = (map (entry_in op_in reply_in) k.log.items ≡ log) × Replays (empty kind) log (content k.object) × (list ≡ some k.list.roster)
 
-  abbrev pub CoreAt : Kind → Home S O R → List AnyEntry → Type 0
-  CoreAt kind home log = (k : Core S O R) × (home ≡ some (some (slot.Core k))) × Fits kind k log
+  abbrev pub CoreAt : Kind → maybe.Option TableId → Home S O R → List AnyEntry → Type 0
+  CoreAt kind list home log = (k : Core S O R) × (home ≡ some (some (slot.Core k))) × Fits kind list k log
 
   -- the slot of a client's request or answer
   abbrev pub MessageAt : Home S O R → Stage → Type 0
@@ -119,7 +124,7 @@ module _ {S O R : Type 0} (content : S → Content) (op_in : O → AnyOp) (reply
     pub at_last : ended ≡ true → (j : Journal O R) × (home ≡ some (some (slot.Journal j))) × (map (event_in op_in reply_in) j.events.items ≡ journal_of ds (request_of t))
 
   -- the words and the slots at home
-  pub record Tied (kinds : List Kind) (w : World) (words : List ℕ) (homes : List (maybe.Option (Slot S O R))) : Type 0 where
+  pub record Tied (kinds : List Kind) (lists : List TableId) (w : World) (words : List ℕ) (homes : List (maybe.Option (Slot S O R))) : Type 0 where
     pub wide : length words ≡ 81
     pub deep : length homes ≡ 80
     pub objects : length kinds < 17
@@ -127,7 +132,7 @@ module _ {S O R : Type 0} (content : S → Content) (op_in : O → AnyOp) (reply
     pub rows : (r : ℕ) → r < 32 → slice_index words (16 + r) ≡ row_word (w.stage r)
     pub ends : (c : ℕ) → c < 32 → slice_index words (48 + c) ≡ end_word (w.ended c)
     pub clock : slice_index words 80 ≡ w.clock
-    pub cores : (x : ℕ) → x < length kinds → w.holder x ≡ None → CoreAt (kind_at kinds x) (get_elem? homes x) (w.log x)
+    pub cores : (x : ℕ) → x < length kinds → w.holder x ≡ None → CoreAt (kind_at kinds x) (get_elem? lists x) (get_elem? homes x) (w.log x)
     pub messages : (r : ℕ) → r < 32 → MessageAt (get_elem? homes (16 + r)) (w.stage r)
     pub journals : (c : ℕ) → c < 32 → JournalAt (get_elem? homes (48 + c)) (w.stage c) (w.done c) (w.ended c)
 
@@ -135,11 +140,13 @@ module _ {S O R : Type 0} (content : S → Content) (op_in : O → AnyOp) (reply
   pub record Kept (kinds : List Kind) (clients quota : ℕ) (s : State (Slot S O R) View) : Type 0 where
     pub world : World
     pub seat_of : ℕ → ℕ
+    -- which roster the publication list of each object is
+    pub lists : List TableId
     pub few_calls : quota < 10001
     pub few_clients : clients < 33
     pub sound : Sound kinds quota world
-    pub tied : Tied kinds world s.words s.homes
-    pub seats : (j : ℕ) (v : View) → get_elem? s.views j ≡ some v → ViewOk kinds world seat_of j v
+    pub tied : Tied kinds lists world s.words s.homes
+    pub seats : (j : ℕ) (v : View) → get_elem? s.views j ≡ some v → ViewOk kinds lists world seat_of j v
     pub makers : Makers clients s.views
     -- who holds an object has not ended
     pub holders : (x c : ℕ) → world.holder x ≡ Some c → (c < clients) × (world.ended c ≡ false)

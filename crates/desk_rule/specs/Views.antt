@@ -1,5 +1,6 @@
 -- What a client knows, and how a step of its own changes that.
 use Rattle.std.specs.Prelude.{◌==◌, ◌&&◌, ◌||◌, ◌≡◌, ◌⊎◌, ℕ, ◌+◌, ◌<◌, Bool, true, false, List, [], ◌∷◌, ◌++◌, slice_index_or, slice_set, replicate, filter, not, Option, Some, None}
+use Rattle.atomic_table.specs.Seated.{TableId}
 use Rattle.model.specs.declared.Kind.{Kind}
 use Rattle.desk_rule.specs.declared.board.Own.{Own}
 use Rattle.desk_rule.specs.declared.board.Own.TheVariants as own
@@ -9,15 +10,15 @@ use Rattle.desk_rule.specs.declared.board.View.{View}
 use Rattle.world.specs.World.{AnyEntry, AnyRequest, AnyAnswer, AnyEvent, logged_on, entries_of, served, journal_of}
 
 -- a client that has not come yet
-abbrev pub newcomer : List Kind → ℕ → View
-newcomer kinds c = record { client = true; number = c; maker = false; made = 0; kinds = kinds; done = []; own = own.Absent; ready = false; seen = replicate 16 []; heard = []; back = []; missed = []; held = held.Free; ended = false; left = []; retired = []; still_there = [] }
+abbrev pub newcomer : List Kind → List TableId → ℕ → View
+newcomer kinds lists c = record { client = true; number = c; maker = false; made = 0; kinds = kinds; lists = lists; done = []; own = own.Absent; ready = false; seen = replicate 16 []; heard = []; back = []; missed = []; held = held.Free; ended = false; left = []; retired = []; still_there = [] }
 
 -- the first view is no client's, and makes the clients
-abbrev pub founder_of : List Kind → ℕ → View
-founder_of kinds n = record (newcomer kinds 0) { client = false; maker = true; made = n }
+abbrev pub founder_of : List Kind → List TableId → ℕ → View
+founder_of kinds lists n = record (newcomer kinds lists 0) { client = false; maker = true; made = n }
 
-abbrev pub founder : List Kind → View
-founder kinds = founder_of kinds 0
+abbrev pub founder : List Kind → List TableId → View
+founder kinds lists = founder_of kinds lists 0
 
 abbrev pub one_made : View → View
 one_made v = record v { made = v.made + 1 }
@@ -110,6 +111,11 @@ taking q a l v = record v { own = own.Taken q a; ready = false; seen = slice_set
 abbrev pub done_with : AnyRequest → AnyAnswer → ℕ → View → View
 done_with q a t v = record v { own = own.Idle; done = v.done ++ record { request = q; answer = a; returned = t } ∷ [] }
 
+-- The own call, which had its ticket, was served by the client itself while it held the object, whose log is this now: it is
+-- over, and its return has the ticket t.
+abbrev pub performing : AnyRequest → AnyAnswer → List AnyEntry → ℕ → View → View
+performing q a l t v = record (done_with q a t (taking q a l v)) { held = held.Pass q.object l }
+
 abbrev pub seeing : ℕ → List AnyEntry → View → View
 seeing x l v = record v { seen = slice_set v.seen x l }
 
@@ -134,13 +140,13 @@ finding_there d v = record v { still_there = v.still_there ++ d ∷ [] }
 
 -- a view that only carries what v has seen
 abbrev pub letter : View → View
-letter v = record (newcomer [] 0) { client = false; seen = v.seen }
+letter v = record (newcomer [] [] 0) { client = false; seen = v.seen }
 
 abbrev pub hearing : View → View → View
 hearing v t = record v { heard = t.seen }
 
 abbrev pub silent : View
-silent = record (newcomer [] 0) { client = false }
+silent = record (newcomer [] [] 0) { client = false }
 
 -- a view that only carries the end of v
 abbrev pub farewell : View → View

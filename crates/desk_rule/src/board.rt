@@ -2,9 +2,10 @@
 
 use atomic_table::TableRule;
 use model::{AnyOp, AnyReply, Kind};
-use roster::SharedWalker;
+use roster::{SharedRoster, SharedWalker};
 use seq_objects::SeqObject;
 use std::collections::LinkedList;
+use std::marker::Model;
 use world::{Answer, DoneCall, JournalEvent, LogEntry, Request};
 
 /// An object with its log, how many passes there were, and its publication list.
@@ -18,6 +19,20 @@ pub struct Core<S, O, R> {
     pub ages: [u64; 32],
 }
 
+/// A core in a box, so that it moves as one word. Contracts see the core.
+#[derive(Drop)]
+pub struct BoxedCore<S, O, R> {
+    pub inside: Box<Core<S, O, R>>,
+}
+
+impl<S, O, R> Model for BoxedCore<S, O, R> {
+    ghost use Rattle.desk_rule.specs.declared.board.Core.{Core};
+
+    ghost Value = { Core S O R };
+
+    ghost view = { λ b. b.inside.value };
+}
+
 /// What a client did.
 #[derive(Drop)]
 pub struct Journal<O, R> {
@@ -27,7 +42,7 @@ pub struct Journal<O, R> {
 #[derive(Drop)]
 pub enum Slot<S, O, R> {
     Nothing,
-    Core(Core<S, O, R>),
+    Core(BoxedCore<S, O, R>),
     Request(Request<O>),
     Answer(Answer<R>),
     Journal(Journal<O, R>),
@@ -73,6 +88,8 @@ pub struct View {
     pub made: u32,
     /// The kind of each object.
     pub kinds: LinkedList<Kind>,
+    /// Of each object, which roster its publication list is.
+    pub lists: LinkedList<SharedRoster>,
     /// The calls that are over.
     pub done: LinkedList<DoneCall<AnyOp, AnyReply>>,
     pub own: Own,
@@ -96,10 +113,12 @@ pub struct View {
     pub still_there: LinkedList<u32>,
 }
 
-/// What the desk is made for: objects of these kinds, this many clients, and so many calls for each of them.
+/// What the desk is made for: objects of these kinds, with these publication lists, this many clients, and so many calls for
+/// each of them.
 #[derive(Drop)]
 pub struct Plan {
     pub kinds: Vec<Kind>,
+    pub lists: Vec<SharedRoster>,
     pub clients: u32,
     pub quota: u32,
 }
@@ -112,5 +131,5 @@ impl<S: SeqObject> TableRule<Slot<S, S::Op, S::Reply>, View, Plan> for DeskRule 
 
     ghost holds = { λ k. Kept S.content S.op_in S.reply_in k.kinds.items k.clients k.quota };
 
-    ghost first = { λ k. founder k.kinds.items };
+    ghost first = { λ k. founder k.kinds.items k.lists.items };
 }

@@ -4,4 +4,6 @@
 
 mod board;
 
-pub use board::{Core, DeskRule, Held, Journal, Leaving, Own, Plan, PutBack, Slot, View};
+pub use board::{
+    BoxedCore, Core, DeskRule, Held, Journal, Leaving, Own, Plan, PutBack, Slot, View,
+};

@@ -28,7 +28,7 @@ same_self a = (bytes_eq-Decides a a).1 refl
 pub same_not : (a b : List ℕ) → (a ≡ b → ⊥) → bytes_eq a b ≡ false
 same_not a b h = elim (cases_Bool (bytes_eq a b)) [ inl e ↦ absurd (h (same_is a b e)) | inr e ↦ e ]
 
-or_last : (x y : Bool) → (x || (y || false)) ≡ (x || y)
+pub or_last : (x y : Bool) → (x || (y || false)) ≡ (x || y)
 or_last true y = refl
 or_last false true = refl
 or_last false false = refl
@@ -37,13 +37,13 @@ pub has_key-append : (k : List ℕ) (es : List (List ℕ × Datum)) (l : List �
 has_key-append k [] l d = or_last false (bytes_eq k l)
 has_key-append k (e ∷ es) l d = ap (λ (b : Bool). bytes_eq k e.0 || b) (has_key-append k es l d) ∙ sym (or_assoc (bytes_eq k e.0) (has_key k es) (bytes_eq k l))
 
-same_comm : (a b : List ℕ) → bytes_eq a b ≡ bytes_eq b a
+pub same_comm : (a b : List ℕ) → bytes_eq a b ≡ bytes_eq b a
 same_comm a b = elim (cases_Bool (bytes_eq a b)) [ inl e ↦ e ∙ sym (rw (same_is a b e) (same_self b)) | inr e ↦ (let n : bytes_eq b a ≡ false = same_not b a (λ q. true_not_false (sym (same_self a) ∙ ap (λ (x : List ℕ). bytes_eq a x) (sym q) ∙ e)) in e ∙ sym n) ]
   where
     true_not_false : true ≡ false → ⊥
     true_not_false e = cc
 
-if_or : (x y : Bool) → cond x true y ≡ (y || x)
+pub if_or : (x y : Bool) → cond x true y ≡ (y || x)
 if_or true true = refl
 if_or true false = refl
 if_or false true = refl

@@ -22,3 +22,12 @@ pub mod Utf8
 pub mod Joined
 pub mod Fitting
 pub mod Splits
+pub mod Shaped
+pub mod Known
+pub mod Nested
+pub mod Raw
+pub mod Prefixes
+pub mod Turns
+pub mod Tables
+pub mod Runs
+pub mod Following

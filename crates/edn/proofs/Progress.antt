@@ -37,7 +37,7 @@ begin_more : (ts : List Token) (text rest : List ℕ) (t : Token) (r : List ℕ)
 begin_more [] text rest t r b n = (r, subst (λ (x : List ℕ). IsNext x t r) (sym b) n, refl)
 begin_more (u ∷ us) text rest t r (q, m, b) n = (q, m, begin_more us q rest t r b n)
 
-plain : (bytes : List ℕ) (t : Token) (rest : List ℕ) → Begins bytes t rest → IsPlain t
+pub plain : (bytes : List ℕ) (t : Token) (rest : List ℕ) → Begins bytes t rest → IsPlain t
 plain bytes open_vector rest h = tt
 plain bytes close_vector rest h = tt
 plain bytes open_map rest h = tt
@@ -45,7 +45,7 @@ plain bytes close_map rest h = tt
 plain bytes (leaf d) rest (inl (a, own, q, w, e, p)) = (a, q)
 plain bytes (leaf d) rest (inr (s, own, q, k, p)) = (string s, q)
 
-is_next : (rest : List ℕ) (t : Token) (r : List ℕ) → next rest ≡ got t r → IsNext rest t r
+pub is_next : (rest : List ℕ) (t : Token) (r : List ℕ) → next rest ≡ got t r → IsNext rest t r
 is_next rest t r e = subst (IsNextOf rest) e (next_is rest)
 
 same_got : (t u : Token) (r q : List ℕ) → got t r ≡ got u q → (t ≡ u) × (r ≡ q)
@@ -88,7 +88,7 @@ leads : (ds : List Datum) (text : List ℕ) → Spells ds text → steps (list_t
 leads ds text h = steps_items (items_of ds) 16 in_text (λ xs d. refl) [] [] h.fits refl ∙ ap (λ (xs : List Datum). Some (closed xs)) (list_of ds)
 
 -- what is left of the text leads there from here
-left : (text rest : List ℕ) (s : State) (ds : List Datum) → Progress text rest s → Spells ds text → (us : List Token) × Lexes us rest × (steps us s ≡ Some (closed ds))
+pub left : (text rest : List ℕ) (s : State) (ds : List Datum) → Progress text rest s → Spells ds text → (us : List Token) × Lexes us rest × (steps us s ≡ Some (closed ds))
 left text rest s ds p h = let a = p.only (list_tokens ds) h.tokens in (a.0, a.1, sym a.2 ∙ leads ds text h)
 
 pub no_token : (text rest : List ℕ) (s : State) → next rest ≡ bad → Progress text rest s → (ds : List Datum) → Spells ds text → ⊥
@@ -220,7 +220,7 @@ no_string_key (b ∷ bs) s e q = let h : b ≡ 34 = q in rw h (quote_not_taken s
 
 -- ---- the end of the text
 
-at_end : (rest here : List ℕ) → here ≡ skip rest → true ≡ (length here == 0) → next rest ≡ end
+pub at_end : (rest here : List ℕ) → here ≡ skip rest → true ≡ (length here == 0) → next rest ≡ end
 at_end rest here h e = next_at_end rest here h (eqb-true (length here) 0 (sym e))
 
 pub end_spelled : (r : Result (Vec Form) Stop) (text rest here : List ℕ) (s : State) → here ≡ skip rest → true ≡ (length here == 0) → Progress text rest s → IsUtf8 text

@@ -7,6 +7,8 @@ pub mod Faults
 pub mod NameTexts
 pub mod Names
 pub mod Outs
+pub mod Given
+pub mod Ins
 pub mod Text
 pub mod Laws
 pub mod Sent
@@ -15,3 +17,10 @@ pub mod View
 pub mod Reading
 pub mod Inside
 pub mod Results
+pub mod Shapes
+pub mod NameSets
+pub mod Pieces
+pub mod Levels
+pub mod Elements
+pub mod Tapes
+pub mod Left

@@ -2,7 +2,7 @@
 use Rattle.std.specs.Prelude.{ℕ, ◌^◌, ℤ, pos, Bool, true, false, ◌&&◌, ◌||◌, ◌==◌, nat_lt, nat_le, if◌then◌else◌, List, [], ◌∷◌, ◌++◌, length, Option, Some, None, option_map, option_and_then, codes}
 use Rattle.edn.specs.Datum.{Atom, nil, boolean, integer, string, keyword, Datum, atom, vector, dictionary, items_of, entries_of, max_open}
 use Rattle.edn.specs.Token.{Token, open_vector, close_vector, open_map, close_map, leaf}
-use Rattle.edn.specs.Bytes.{is_separator, is_token_byte, is_name}
+use Rattle.edn.specs.Bytes.{is_separator, is_token_byte, is_digit, is_name_byte, is_name}
 use Rattle.std.specs.Str.{bytes_eq}
 use Rattle.edn.specs.Spells.{is_decimal, value_after, minus, escape_of}
 
@@ -23,6 +23,24 @@ word (b ∷ bs) = if is_token_byte b then b ∷ word bs else []
 abbrev pub after_word : List ℕ → List ℕ
 after_word [] = []
 after_word (b ∷ bs) = if is_token_byte b then after_word bs else b ∷ bs
+
+-- the bytes of a name at the front, and what follows them
+abbrev pub names : List ℕ → List ℕ
+names [] = []
+names (b ∷ bs) = if is_name_byte b then b ∷ names bs else []
+
+abbrev pub after_names : List ℕ → List ℕ
+after_names [] = []
+after_names (b ∷ bs) = if is_name_byte b then after_names bs else b ∷ bs
+
+-- the digits at the front, and what follows them
+abbrev pub digits : List ℕ → List ℕ
+digits [] = []
+digits (b ∷ bs) = if is_digit b then b ∷ digits bs else []
+
+abbrev pub after_digits : List ℕ → List ℕ
+after_digits [] = []
+after_digits (b ∷ bs) = if is_digit b then after_digits bs else b ∷ bs
 
 unfoldable pub positive_of : List ℕ → Option ℤ
 positive_of ds = if is_decimal ds && nat_lt (value_after 0 ds) (2 ^ 63) then Some (pos (value_after 0 ds)) else None
@@ -75,6 +93,10 @@ abbrev mutual
 abbrev pub with_next : Option ℕ → List ℕ → Option (List ℕ × List ℕ)
 with_next None rest = Some ([], rest)
 with_next (Some b) rest = with_byte b (string_at rest)
+
+-- what follows the quote that ends a string
+abbrev pub string_end : List ℕ → Option (List ℕ)
+string_end bytes = option_map (λ p. p.1) (string_at bytes)
 
 abbrev pub got_string : Option (List ℕ × List ℕ) → Next
 got_string None = bad

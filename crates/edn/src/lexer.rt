@@ -1,5 +1,5 @@
 //! Tokens from the front of a text.
-ghost use Rattle.std.specs.Prelude.{◌≡◌, ◌<◌, length, IfErr};
+ghost use Rattle.std.specs.Prelude.{◌≡◌, ◌<◌, ◌≤◌, length, IfErr};
 ghost use Rattle.std.specs.Str.{IsUtf8};
 ghost use Rattle.edn.specs.Reading as spec;
 ghost use Rattle.edn.specs.Results.{GivesToken, IsCopied};
@@ -21,21 +21,35 @@ pub enum Token {
     Leaf(Form),
 }
 
+/// After the line feed of a comment.
+fn behind_comment(text: &[u8]) -> &[u8]
+    ensures skip { spec.skip result.now ≡ spec.skip_comment text.now }
+    ensures within { length result.now ≤ length text.now }
+{
+    let mut rest = text;
+    'bytes: while let [b, tail @ ..] = rest {
+        if *b == b'\n' {
+            return tail;
+        }
+        rest = tail;
+    }
+    rest
+}
+
 /// After separators and comments.
+#[inline]
 pub fn skip(text: &[u8]) -> &[u8]
     ensures { result.now ≡ spec.skip text.now }
 {
     let mut rest = text;
-    let mut in_comment = false;
     'bytes: while let [b, tail @ ..] = rest {
-        if in_comment {
-            in_comment = *b != b'\n';
+        if is_separator(*b) {
+            rest = tail;
         } else if *b == b';' {
-            in_comment = true;
-        } else if !is_separator(*b) {
+            rest = behind_comment(tail);
+        } else {
             return rest;
         }
-        rest = tail;
     }
     rest
 }

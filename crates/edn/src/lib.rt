@@ -8,25 +8,33 @@
 #![tactic(auto)]
 
 mod bytes;
+mod elements;
 mod entries;
 mod fault;
 mod form;
 mod laws;
+mod levels;
 mod lexer;
 mod limits;
+mod piece;
 mod reader;
 mod sink;
+mod source;
 mod state;
 mod string;
+mod tape;
 mod word;
 mod writer;
 
+pub use elements::Elements;
 pub use fault::{EdnFault, FaultKind};
 pub use form::{Form, Name};
 pub use laws::{joined_spell, lines_spell, one_reading, text_spells};
 pub use limits::fits;
+pub use piece::Piece;
 pub use reader::{MAX_LENGTH, read_forms};
 pub use sink::{Device, Failed, Out, Sink};
+pub use source::{In, Source};
 pub use writer::{WriteFault, write_bytes, write_form, write_integer};
 
 #[cfg(test)]

@@ -10,7 +10,7 @@ use crate::form::Form;
 use crate::lexer::Token;
 use std::alloc::Global;
 
-fn escape_of(c: u8) -> Option<u8>
+pub fn escape_of(c: u8) -> Option<u8>
     ensures { result ≡ spec.escape_of c }
 {
     match c {

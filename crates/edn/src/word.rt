@@ -72,7 +72,7 @@ fn negative(digits: &[u8]) -> Option<i64>
 }
 
 #[tactic(auto, unfolding(crate::specs::Reading::integer_of))]
-fn integer(word: &[u8]) -> Option<i64>
+pub fn integer(word: &[u8]) -> Option<i64>
     ensures { result ≡ integer_of word.now }
 {
     match word {
@@ -84,7 +84,7 @@ fn integer(word: &[u8]) -> Option<i64>
 }
 
 /// What is wrong with a word that is no element and begins with no colon.
-fn fault_of(word: &[u8]) -> Cause
+pub fn fault_of(word: &[u8]) -> Cause
     ensures { result ≢ Cause.NoMemory }
 {
     let digits = match word {

@@ -14,29 +14,35 @@ use Rattle.events.specs.declared.event.Action.{Action}
 use Rattle.events.specs.declared.event.Action.TheVariants.{Invoke, Ok, Fail, Info}
 use Rattle.events.specs.declared.event.Event.{Event}
 use Rattle.events.specs.declared.operations.End.{End}
+use Rattle.events.specs.declared.operations.End.TheVariants.{Pending}
 use Rattle.events.specs.declared.operations.Invocation.{Invocation}
 use Rattle.events.specs.Events.{next_event}
-use Rattle.events.specs.Operations.{end_at, begun, operations_on, IsGathered}
+use Rattle.events.specs.Operations.{end_by, end_at, begun, operations_on, IsGathered}
 
--- What is known before the event at place k: the next event of each process, and the operations of each object.
-pub record IsAhead (next : ℕ → Option Event) (kept : ℕ → Option (List Invocation)) (later : List Event) : Type 0 where
-  pub ahead : (p : ℕ) → next p ≡ next_event p later
+-- What is known before the event at place k: how the next event of each process ends an operation, and the operations of
+-- each object.
+pub record IsAhead (ends : ℕ → End) (kept : ℕ → Option (List Invocation)) (later : List Event) : Type 0 where
+  pub ahead : (p : ℕ) → ends p ≡ end_at (next_event p later)
   pub gathered : (x : ℕ) → IsGathered (kept x) (operations_on x later)
 
-pub nothing_ahead : (next : ℕ → Option Event) (kept : ℕ → Option (List Invocation)) → ((p : ℕ) → next p ≡ None) → ((x : ℕ) → kept x ≡ None) → IsAhead next kept []
-nothing_ahead next kept n k = record { ahead = n; gathered = λ x. subst (λ o. IsGathered o []) (sym (k x)) refl }
+pub nothing_ahead : (ends : ℕ → End) (kept : ℕ → Option (List Invocation)) → ((p : ℕ) → ends p ≡ Pending) → ((x : ℕ) → kept x ≡ None) → IsAhead ends kept []
+nothing_ahead ends kept n k = record { ahead = n; gathered = λ x. subst (λ o. IsGathered o []) (sym (k x)) refl }
 
-next_more : (next next' : ℕ → Option Event) (e : Event) (later : List Event) → ((p : ℕ) → next p ≡ next_event p later) → next' e.process ≡ Some e → ((p : ℕ) → p ≢ e.process → next' p ≡ next p) → (p : ℕ) → next' p ≡ next_event p (e ∷ later)
-next_more next next' e later h own others p = go (e.process == p) refl
+-- one event more
+abbrev pub WithEnd : (ends ends' : ℕ → End) → Event → Type 0
+WithEnd ends ends' e = (p : ℕ) → ends' p ≡ cond (e.process == p) (end_by e.number e.action) (ends p)
+
+ends_more : (ends ends' : ℕ → End) (e : Event) (later : List Event) → ((p : ℕ) → ends p ≡ end_at (next_event p later)) → WithEnd ends ends' e → (p : ℕ) → ends' p ≡ end_at (next_event p (e ∷ later))
+ends_more ends ends' e later h step p = step p ∙ go (e.process == p)
   where
-    go : (b : Bool) → (e.process == p) ≡ b → next' p ≡ cond b (Some e) (next_event p later)
-    go true q = subst (λ n. next' n ≡ Some e) (eqb-true e.process p q) own
-    go false q = others p (λ s. eqb-false e.process p q (sym s)) ∙ h p
+    go : (b : Bool) → cond b (end_by e.number e.action) (ends p) ≡ end_at (cond b (Some e) (next_event p later))
+    go true = refl
+    go false = h p
 
 -- an event that begins no operation
-pub ahead_other : (next next' : ℕ → Option Event) (kept : ℕ → Option (List Invocation)) (e : Event) (later : List Event) → IsAhead next kept later → ((how : End) → begun e.number e.action how ≡ []) → next' e.process ≡ Some e → ((p : ℕ) → p ≢ e.process → next' p ≡ next p) → IsAhead next' kept (e ∷ later)
-ahead_other next next' kept e later h none own others = record {
-  ahead = next_more next next' e later h.ahead own others;
+pub ahead_other : (ends ends' : ℕ → End) (kept : ℕ → Option (List Invocation)) (e : Event) (later : List Event) → IsAhead ends kept later → ((how : End) → begun e.number e.action how ≡ []) → WithEnd ends ends' e → IsAhead ends' kept (e ∷ later)
+ahead_other ends ends' kept e later h none step = record {
+  ahead = ends_more ends ends' e later h.ahead step;
   gathered = λ x. subst (λ t. IsGathered (kept x) (t ++ operations_on x later)) (sym (nothing (e.object == x))) (h.gathered x);
 }
   where
@@ -45,14 +51,14 @@ ahead_other next next' kept e later h none own others = record {
     nothing false = refl
 
 -- an event that begins one
-pub ahead_begun : (next next' : ℕ → Option Event) (kept kept' : ℕ → Option (List Invocation)) (e : Event) (op : AnyOp) (o : Invocation) (later : List Event) → IsAhead next kept later → e.action ≡ Invoke op → o ≡ record { number = e.number; op = op; «end» = end_at (next e.process) } → kept' e.object ≡ Some (unwrap_or (kept e.object) [] ++ o ∷ []) → ((x : ℕ) → x ≢ e.object → kept' x ≡ kept x) → next' e.process ≡ Some e → ((p : ℕ) → p ≢ e.process → next' p ≡ next p) → IsAhead next' kept' (e ∷ later)
-ahead_begun next next' kept kept' e op o later h invokes is own_kept others_kept own others = record {
-  ahead = next_more next next' e later h.ahead own others;
+pub ahead_begun : (ends ends' : ℕ → End) (kept kept' : ℕ → Option (List Invocation)) (e : Event) (op : AnyOp) (o : Invocation) (later : List Event) → IsAhead ends kept later → e.action ≡ Invoke op → o ≡ record { number = e.number; op = op; «end» = ends e.process } → kept' e.object ≡ Some (unwrap_or (kept e.object) [] ++ o ∷ []) → ((x : ℕ) → x ≢ e.object → kept' x ≡ kept x) → WithEnd ends ends' e → IsAhead ends' kept' (e ∷ later)
+ahead_begun ends ends' kept kept' e op o later h invokes is own_kept others_kept step = record {
+  ahead = ends_more ends ends' e later h.ahead step;
   gathered = λ x. go x (e.object == x) refl;
 }
   where
     begins : begun e.number e.action (end_at (next_event e.process later)) ≡ o ∷ []
-    begins = ap (λ a. begun e.number a (end_at (next_event e.process later))) invokes ∙ ap (λ (x : Invocation). x ∷ []) (ap (λ (n : Option Event). record { number = e.number; op = op; «end» = end_at n }) (sym (h.ahead e.process)) ∙ sym is)
+    begins = ap (λ a. begun e.number a (end_at (next_event e.process later))) invokes ∙ ap (λ (x : Invocation). x ∷ []) (ap (λ (n : End). record { number = e.number; op = op; «end» = n }) (sym (h.ahead e.process)) ∙ sym is)
 
     one_more : (k : Option (List Invocation)) (ops : List Invocation) → IsGathered k ops → IsGathered (Some (unwrap_or k [] ++ o ∷ [])) (o ∷ ops)
     one_more None ops g = (ap (λ xs. reverse (o ∷ xs)) (sym g), λ q. cc q)

@@ -1,5 +1,5 @@
 -- The operations of one object, with their ends, and the calls that they are.
-use Rattle.std.specs.Prelude.{◌≡◌, ◌≢◌, ℕ, ◌==◌, ◌<◌, ⊤, reverse, List, [], ◌∷◌, ◌++◌, Option, Some, None, All, AllPairs, if◌then◌else◌}
+use Rattle.std.specs.Prelude.{unwrap_or, ◌≡◌, ◌≢◌, ℕ, ◌==◌, ◌<◌, ⊤, reverse, List, [], ◌∷◌, ◌++◌, Option, Some, None, All, AllPairs, if◌then◌else◌}
 use Rattle.std.specs.List.{filter_map}
 use Rattle.model.specs.declared.Kind.{Kind}
 use Rattle.model.specs.declared.AnyOp.{AnyOp}
@@ -23,6 +23,10 @@ end_by number Info = Pending
 abbrev pub end_at : Option Event → End
 end_at None = Pending
 end_at (Some e) = end_by e.number e.action
+
+-- how it ends where nothing is kept of it
+abbrev pub end_in : Option End → End
+end_in kept = unwrap_or kept Pending
 
 abbrev pub begun : ℕ → Action → End → List Invocation
 begun number (Invoke op) how = record { number = number; op = op; «end» = how } ∷ []

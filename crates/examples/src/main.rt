@@ -1,4 +1,5 @@
-//! Judges each example in the folder where it runs, and says of each whether lines and exit status are as expected.
+//! Judges each history and plays each schedule in the folder where it runs, and says of each whether lines and exit status are
+//! as expected.
 #![tactic(auto)]
 
 use commands::{line, perform};
@@ -15,11 +16,11 @@ trait Host: Files + AllocGlobal + Print + Threads + Wait + Sync + Clone + Drop {
 
 impl<R: Files + AllocGlobal + Print + Threads + Wait + Sync + Clone + Drop> Host for R {}
 
-/// The names of the examples, in the order of the alphabet.
-fn names<R: Host>(rt: &R) -> io::Result<Vec<String>> {
+/// The names of the examples whose files end so, in the order of the alphabet.
+fn names<R: Host>(rt: &R, ending: &str) -> io::Result<Vec<String>> {
     let mut names = Vec::new(rt.alloc());
     for entry in fs::read_dir(rt, ".")? {
-        if let Some(name) = entry?.file_name().strip_suffix(".history.edn") {
+        if let Some(name) = entry?.file_name().strip_suffix(ending) {
             names.push(String::from_str(rt.alloc(), name)?)?;
         }
     }
@@ -27,27 +28,39 @@ fn names<R: Host>(rt: &R) -> io::Result<Vec<String>> {
     Ok(names)
 }
 
-/// What `fcbench check` writes for the example, and a line with its exit status.
-fn answer<R: Host>(rt: &R, name: &str) -> io::Result<Vec<u8>> {
-    let history = format!(in rt.alloc(); "{name}.history.edn")?;
-    let certificates = format!(in rt.alloc(); "{name}.certificates.edn")?;
-    let words = ["fcbench", "check", history.as_str(), certificates.as_str()];
-    let Ok(check) = line(rt.alloc(), &words) else {
+/// What the words make `fcbench` write of these files, and a line with its exit status.
+fn answer<R: Host>(rt: &R, words: &[&str], first: &[u8], second: &[u8]) -> io::Result<Vec<u8>> {
+    let Ok(line) = line(rt.alloc(), words) else {
         return Err(io::Error::from(io::ErrorKind::InvalidInput));
     };
-    let first = fs::read(rt, &history)?;
-    let second = fs::read(rt, &certificates)?;
     let mut output = Out::new(Vec::new(rt.alloc()));
-    let status = perform(rt, rt.alloc(), &check, &first, &second, &mut output);
+    let status = perform(rt, rt.alloc(), &line, first, second, &mut output);
     let mut answer = output.into_inner();
     writeln!(answer, "status {status}")?;
     Ok(answer)
 }
 
-/// Says whether the example is answered as expected.
-fn compare<R: Host>(rt: &R, name: &str) -> io::Result<bool> {
+/// What a check answers of the history and the certificates of this name.
+fn checked<R: Host>(rt: &R, name: &str) -> io::Result<Vec<u8>> {
+    let history = format!(in rt.alloc(); "{name}.history.edn")?;
+    let certificates = format!(in rt.alloc(); "{name}.certificates.edn")?;
+    let words = ["fcbench", "check", history.as_str(), certificates.as_str()];
+    let first = fs::read(rt, &history)?;
+    let second = fs::read(rt, &certificates)?;
+    answer(rt, &words, &first, &second)
+}
+
+/// What comes of the schedule of this name.
+fn simulated<R: Host>(rt: &R, name: &str) -> io::Result<Vec<u8>> {
+    let schedule = format!(in rt.alloc(); "{name}.schedule.edn")?;
+    let words = ["fcbench", "simulate", schedule.as_str()];
+    answer(rt, &words, &fs::read(rt, &schedule)?, b"")
+}
+
+/// Says whether the answer of the example is the one that is expected.
+fn compare<R: Host>(rt: &R, name: &str, answer: &[u8]) -> io::Result<bool> {
     let expected = format!(in rt.alloc(); "{name}.expected")?;
-    let same = answer(rt, name)? == fs::read(rt, &expected)?;
+    let same = answer == fs::read(rt, &expected)?.as_slice();
     if same {
         rt.println(format_args!("ok {name}"))?;
     } else {
@@ -59,8 +72,11 @@ fn compare<R: Host>(rt: &R, name: &str) -> io::Result<bool> {
 /// Whether all examples are answered as expected.
 fn compare_all<R: Host>(rt: &R) -> io::Result<bool> {
     let mut all = true;
-    for name in names(rt)? {
-        all &= compare(rt, &name)?;
+    for name in names(rt, ".history.edn")? {
+        all &= compare(rt, &name, &checked(rt, &name)?)?;
+    }
+    for name in names(rt, ".schedule.edn")? {
+        all &= compare(rt, &name, &simulated(rt, &name)?)?;
     }
     Ok(all)
 }

@@ -1,19 +1,25 @@
 //! `fcbench`: judges histories of concurrent objects.
 #![tactic(auto)]
 
-use commands::{FAILED, Line, LineFault, NO_MEMORY, USAGE, line, perform, status_of_fault};
+use commands::{
+    FAILED, Line, LineFault, NO_MEMORY, NamedFile, Text, USAGE, check_sources, line, perform,
+    status_of_fault,
+};
 use edn::{MAX_LENGTH, Out};
+use std::fs::OpenFile;
 use std::io;
-use std::io::Read;
+use std::io::{IsTerminal, Read};
 use std::process::ExitCode;
 use std::rt::{Env, Files};
 use std::sync::Wait;
-use std::thread::Threads;
+use std::sync::atomic::{AtomicBool, Ordering};
+use std::thread::{Threads, join, sleep};
+use std::time::{Clock, Duration};
 
 /// What a command uses of the host.
-trait Host: Files + AllocGlobal + Print + Eprint + Threads + Wait + Sync {}
+trait Host: Files + AllocGlobal + Print + Eprint + Clock + Threads + Wait + Sync {}
 
-impl<R: Files + AllocGlobal + Print + Eprint + Threads + Wait + Sync> Host for R {}
+impl<R: Files + AllocGlobal + Print + Eprint + Clock + Threads + Wait + Sync> Host for R {}
 
 /// One byte more than the longest text that is judged.
 const READ_LIMIT: u64 = MAX_LENGTH as u64 + 1;
@@ -22,6 +28,11 @@ const READ_LIMIT: u64 = MAX_LENGTH as u64 + 1;
 fn bytes_of<R: Files + Alloc>(rt: &R, name: &str) -> io::Result<Vec<u8, R::A>> {
     let file = std::fs::open(rt, name)?;
     let mut bytes = Vec::new(rt.alloc());
+    // Room for the whole file at once. Where that is refused, or the length is not known, it grows as it is read.
+    if let Ok(about) = file.metadata() {
+        let length = about.len().min(READ_LIMIT) as usize;
+        let _ = bytes.reserve(length);
+    }
     file.take(READ_LIMIT).read_to_end(&mut bytes)?;
     Ok(bytes)
 }
@@ -32,9 +43,9 @@ fn no_memory<R: Print>(rt: &R) -> io::Result<u8> {
     Ok(NO_MEMORY)
 }
 
-/// Says why a file could not be read.
-fn unread<R: Print + Eprint>(rt: &R, name: &str, error: &io::Error) -> io::Result<u8> {
-    if error.kind() == io::ErrorKind::OutOfMemory {
+/// Says why a file could not be read: memory was refused, or another reason.
+fn unread<R: Print + Eprint>(rt: &R, name: &str, lacks_memory: bool) -> io::Result<u8> {
+    if lacks_memory {
         return no_memory(rt);
     }
     rt.eprintln(format_args!("fcbench: cannot read {name}"))?;
@@ -47,32 +58,43 @@ fn do_line<R: Host>(rt: &R, line: &Line, first: &[u8], second: &[u8]) -> u8 {
     perform(rt, rt.alloc(), line, first, second, &mut output)
 }
 
-/// Reads the files of a check, and does it.
-fn run_check<R: Host>(rt: &R, line: &Line, history: &str, certs: &str) -> io::Result<u8> {
-    let first = match bytes_of(rt, history) {
-        Ok(bytes) => bytes,
-        Err(error) => return unread(rt, history, &error),
-    };
-    let second = match bytes_of(rt, certs) {
-        Ok(bytes) => bytes,
-        Err(error) => return unread(rt, certs, &error),
-    };
-    Ok(do_line(rt, line, &first, &second))
+/// Judges the files of a check.
+fn run_check<R: Host>(rt: &R, history: &str, certs: &str, workers: u32) -> io::Result<u8> {
+    let mut first = NamedFile::new(rt, history);
+    let mut second = NamedFile::new(rt, certs);
+    let mut output = Out::new(io::writer(rt));
+    match check_sources(
+        rt,
+        rt.alloc(),
+        &mut first,
+        &mut second,
+        workers,
+        &mut output,
+    ) {
+        Ok(status) => Ok(status),
+        Err(Text::History) => unread(rt, history, first.lacks_memory()),
+        Err(Text::Certificates) => unread(rt, certs, second.lacks_memory()),
+    }
 }
 
-/// Reads the file of a search, and does it.
-fn run_search<R: Host>(rt: &R, line: &Line, history: &str) -> io::Result<u8> {
-    match bytes_of(rt, history) {
+/// Reads the one file of a command, and does it.
+fn run_on_file<R: Host>(rt: &R, line: &Line, name: &str) -> io::Result<u8> {
+    match bytes_of(rt, name) {
         Ok(bytes) => Ok(do_line(rt, line, &bytes, b"")),
-        Err(error) => unread(rt, history, &error),
+        Err(error) => unread(rt, name, error.kind() == io::ErrorKind::OutOfMemory),
     }
 }
 
 fn run_line<R: Host>(rt: &R, line: &Line) -> io::Result<u8> {
     match line {
-        Line::Check { history, certs } => run_check(rt, line, history, certs),
-        Line::Search { history, .. } => run_search(rt, line, history),
-        Line::Run => Ok(do_line(rt, line, b"", b"")),
+        Line::Check {
+            history,
+            certs,
+            workers,
+        } => run_check(rt, history, certs, *workers),
+        Line::Search { history, .. } => run_on_file(rt, line, history),
+        Line::Run(_) => Ok(do_line(rt, line, b"", b"")),
+        Line::Simulate { schedule } => run_on_file(rt, line, schedule),
     }
 }
 
@@ -109,9 +131,36 @@ fn run<R: Host + Env>(rt: &R) -> io::Result<u8> {
     }
 }
 
-fn main(rt: HostRuntime) -> ExitCode {
-    match run(&rt) {
-        Ok(status) => ExitCode::from(status),
-        Err(_) => ExitCode::from(FAILED),
+/// Says after a second that the command is under way, unless it is done before.
+fn watch<R: Eprint + Clock>(rt: &R, is_done: &AtomicBool) {
+    for _ in 0..20 {
+        if is_done.load(Ordering::SeqCst) {
+            return;
+        }
+        sleep(rt, Duration::from_millis(50));
     }
+    let _ = rt.eprintln("fcbench: under way");
+}
+
+/// Does the work. Where somebody may watch, it is said after a second that it is under way.
+fn watched<R: Host, F: FnOnce() -> u8 + Send>(rt: &R, may_watch: bool, work: F) -> u8
+    requires { F.IsAlwaysCallable work }
+{
+    if !may_watch {
+        return work();
+    }
+    let is_done = AtomicBool::new(false);
+    let whole = || {
+        let status = work();
+        is_done.store(true, Ordering::SeqCst);
+        status
+    };
+    let (status, ()) = join(rt, whole, || watch(rt, &is_done));
+    status
+}
+
+fn main(rt: HostRuntime) -> ExitCode {
+    let may_watch = rt.stderr().is_terminal();
+    let rt = &rt;
+    ExitCode::from(watched(rt, may_watch, || run(rt).unwrap_or(FAILED)))
 }

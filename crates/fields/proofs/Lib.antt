@@ -1,1 +1,5 @@
 pub mod Finding
+pub mod Skipping
+pub mod Operating
+pub mod Shapes
+pub mod Seeking

@@ -7,7 +7,14 @@ ghost use Rattle.edn.specs.Names.{name_bytes};
 ghost use Rattle.edn.specs.View.{view, pair_views};
 ghost use Rattle.fields.specs.Fields as spec;
 
+mod operation;
+mod seek;
+mod values;
+
 use edn::{Form, Name};
+pub use operation::{OperationValues, values_of};
+pub use seek::value_on;
+pub use values::{keyword_at, natural_at};
 
 /// The greatest object number.
 pub const MAX_OBJECT: u64 = 65_535;
@@ -21,7 +28,8 @@ pub fn is_same(left: &[u8], right: &[u8]) -> bool
 
 /// The value of a key, where the map has it.
 pub fn value_at<'a>(entries: &'a [(Name, Form)], key: &[u8]) -> Option<&'a Form>
-    ensures { option_map (λ f. view f.now) result ≡ spec.value_at key.now (entries_of (pair_views entries.now)) }
+    ensures { option_map (λ f. view f.now) result
+        ≡ spec.value_at key.now (entries_of (pair_views entries.now)) }
 {
     for entry in entries {
         if is_same(key, entry.0.as_bytes()) {
@@ -43,7 +51,8 @@ pub fn natural(value: Option<&Form>) -> Option<u64>
 
 /// The keyword without its colon.
 pub fn keyword<'a>(value: Option<&'a Form>) -> Option<&'a Name>
-    ensures { option_map (λ k. name_bytes k.now) result ≡ spec.keyword_in (option_map (λ f. view f.now) value.entry) }
+    ensures { option_map (λ k. name_bytes k.now) result
+        ≡ spec.keyword_in (option_map (λ f. view f.now) value.entry) }
 {
     match value {
         Some(Form::Keyword(name)) => Some(name),

@@ -6,3 +6,5 @@ pub mod OneMore
 pub mod Laws
 pub mod Proper
 pub mod Reading
+pub mod Saying
+pub mod TextReading

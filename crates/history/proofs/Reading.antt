@@ -18,7 +18,7 @@ pub record IsSoFar (seen : Seen) (ds : List Datum) (es : List Event) : Type 0 wh
   pub faultless : IsFaultless ds
   pub events : es ≡ events_from 0 ds
 
-events_push : (n : ℕ) (ds : List Datum) (d : Datum) → events_from n (ds ++ d ∷ []) ≡ events_from n ds ++ event_of (n + length ds) (client_of d)
+pub events_push : (n : ℕ) (ds : List Datum) (d : Datum) → events_from n (ds ++ d ∷ []) ≡ events_from n ds ++ event_of (n + length ds) (client_of d)
 events_push n [] d = append-nil (event_of n (client_of d)) ∙ ap (λ k. event_of k (client_of d)) (let e : n ≡ n + 0 = omega arith in e)
 events_push n (x ∷ ds) d =
     ap (λ es. event_of n (client_of x) ++ es) (events_push (n + 1) ds d)
@@ -42,7 +42,7 @@ split_push (y ∷ ds) d (x ∷ earlier) later e q =
       | inr h ↦ inr (h.0, ap (λ z. z ∷ ds) head ∙ ap (λ t. x ∷ t) h.1)
     ]
 
-faultless_push : (ds : List Datum) (d : Datum) → IsFaultless ds → HasNoFault ds d → IsFaultless (ds ++ d ∷ [])
+pub faultless_push : (ds : List Datum) (d : Datum) → IsFaultless ds → HasNoFault ds d → IsFaultless (ds ++ d ∷ [])
 faultless_push ds d h none earlier later e k q f = elim (split_push ds d earlier later e q) [
   | inl s ↦ none k (subst (λ x. IsFault ds x k) s.1 (subst (λ x. IsFault x e k) s.0 f))
   | inr s ↦ h earlier s.0 e k s.1 f

@@ -1,6 +1,7 @@
 pub mod Names
 pub mod Maps
 pub mod Views
+pub mod Texts
 pub mod Faults
 pub mod Seen
 pub mod Denotes

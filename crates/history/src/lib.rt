@@ -1,4 +1,4 @@
-//! Histories read from the forms of a text.
+//! Histories read from a text, or from its forms.
 #![tactic(auto)]
 
 mod client_map;
@@ -6,10 +6,13 @@ mod fault;
 mod map_faults;
 mod reader;
 mod seen;
+mod text_reader;
 
+pub use client_map::{function, plain_value};
 pub use events::{Action, End, Event, History, Invocation, ObjectHistory, split};
-pub use fault::{HistoryFault, HistoryFaultKind};
+pub use fault::{HistoryFault, HistoryFaultKind, TextFault};
 pub use reader::read_history;
+pub use text_reader::read_history_text;
 
 #[cfg(test)]
 mod tests;

@@ -1,3 +1,4 @@
 pub mod Reading
+pub mod Stopping
 pub mod Naming
 pub mod Accepting

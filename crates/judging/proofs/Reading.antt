@@ -1,35 +1,57 @@
--- What the forms of a text are fit for, and what stops their reading.
-use Rattle.std.proofs.Common.{◌≡◌, ◌≢◌, ℕ, ◌+◌, ◌<◌, List, [], ◌∷◌, length, take, All, inl, inr, subst, sym}
-use Rattle.std.proofs.lemmas.List.{length-map, take-map}
-use Rattle.edn.specs.Datum.{Fits, ItemsFit, max_open, items_of}
-use Rattle.edn.specs.View.{view, views}
-use Rattle.edn.specs.declared.form.Form.{Form}
-use Rattle.edn.specs.Spells.{Spells}
-use Rattle.history.specs.Faults.{IsFirstFault, IsFaultless}
+-- What stops the reading of a history, and of certificates.
+use Rattle.std.proofs.Common.{◌≡◌, ℕ, ◌<◌, List, length, inl, inr, refl, subst, sym, arith}
+use Rattle.edn.specs.Datum.{Datum, max_length}
+use Rattle.edn.specs.Sound.{IsShort}
+use Rattle.edn.specs.declared.fault.EdnFault.{EdnFault}
+use Rattle.edn.proofs.Progress.{one_reading_of}
+use Rattle.events.specs.declared.event.Event.{Event}
+use Rattle.history.specs.Denotes.{Denotes}
+use Rattle.history.specs.Texts.{IsTextFault}
 use Rattle.history.specs.declared.fault.HistoryFault.{HistoryFault}
-use Rattle.history.specs.declared.fault.HistoryFaultKind.TheVariants.{NoMemory}
+use Rattle.history.specs.declared.fault.TextFault.TheVariants.{Text, Maps}
+use Rattle.history.proofs.Reading.{fault_refutes}
 use Rattle.report.specs.declared.verdict.Fault.{Fault}
-use Rattle.report.specs.declared.verdict.Fault.TheVariants.{HistoryMaps}
+use Rattle.report.specs.declared.verdict.Fault.TheVariants.{HistoryText, HistoryMaps, CertificateText, CertificateForms}
 use Rattle.judging.specs.declared.texts.Stop.{Stop}
 use Rattle.judging.specs.declared.texts.Stop.TheVariants as stop
 use Rattle.judging.specs.declared.texts.Stop.TheVariants.{Stopped}
-use Rattle.judging.specs.Texts.{IsShort, IsStopOf, IsHistoryFault}
-use Rattle.model.proofs.Lists.{In, all_from_in}
+use Rattle.judging.specs.Texts.{DenotesHistory, DenotesCertificates, IsStopOf, IsHistoryFault, IsCertificatesFault}
+use Rattle.certificate.specs.declared.Certificate.{Certificate}
+use Rattle.certificate.specs.declared.fault.CertFault.{CertFault}
+use Rattle.certificate.specs.declared.fault.CertTextFault.TheVariants.{Forms}
+use Rattle.certificate.specs.Denotes as certificate_meaning
+use Rattle.certificate.specs.Texts as certificate_texts
+use Rattle.certificate.proofs.Reading.{not_denoted}
 
-pub forms_fit : (fs : List Form) → ItemsFit max_open (items_of (views fs)) → All (λ f. Fits max_open (view f)) fs
-forms_fit fs h = all_from_in (λ (f : Form). Fits max_open (view f)) fs (go fs h)
-  where
-    go : (fs : List Form) → ItemsFit max_open (items_of (views fs)) → (f : Form) → In f fs → Fits max_open (view f)
-    go [] h f i = absurd i
-    go (g ∷ gs) h f i = elim i [
-      | inl e ↦ subst (λ x. Fits max_open (view x)) (sym e) h.0
-      | inr j ↦ go gs h.1 f j
-    ]
+-- what stops the reading of a history's text
+pub stopped_text : (h : List ℕ) (e : EdnFault) (s : Stop) → IsTextFault h (Text e) → IsStopOf (HistoryText e) s → IsHistoryFault h s
+stopped_text h e (Stopped g) t k = subst (λ (x : Fault). IsHistoryFault h (Stopped x)) (sym k.0) (t.0 k.1)
+stopped_text h e stop.NoMemory t k = let a = t.1 k in (a.0, inl (e.place, a.1))
 
--- what stops the reading of maps
-pub stopped_maps : (h : List ℕ) (fs : List Form) (f : HistoryFault) (s : Stop) → IsShort h → Spells (views fs) h
-    → (f.kind ≢ NoMemory → IsFirstFault (views fs) f) → (f.kind ≡ NoMemory → IsFaultless (views (take (f.map + 1) fs))) → f.map < length fs
-    → IsStopOf (HistoryMaps f) s → IsHistoryFault h s
-stopped_maps h fs f (Stopped g) short spells first sound lt k = subst (λ (x : Fault). IsHistoryFault h (Stopped x)) (sym k.0) (short, views fs, spells, first k.1)
-stopped_maps h fs f stop.NoMemory short spells first sound lt k =
-    (short, inr (views fs, spells, f.map, subst (λ (n : ℕ). f.map < n) (sym (length-map fs view)) lt, subst IsFaultless (sym (take-map view (f.map + 1) fs)) (sound k)))
+pub stopped_maps : (h : List ℕ) (f : HistoryFault) (s : Stop) → IsTextFault h (Maps f) → IsStopOf (HistoryMaps f) s → IsHistoryFault h s
+stopped_maps h f (Stopped g) (short, ds, spells, found) k = subst (λ (x : Fault). IsHistoryFault h (Stopped x)) (sym k.0) (short, ds, spells, found.0 k.1)
+stopped_maps h f stop.NoMemory (short, ds, spells, found) k = let a = found.1 k in (short, inr (ds, spells, f.map, a.0, a.1))
+
+-- a text that denotes a history stops it for want of memory alone
+pub stops_for_memory : (h : List ℕ) (s : Stop) (es : List Event) → IsHistoryFault h s → DenotesHistory h es → IsShort h → s ≡ stop.NoMemory
+stops_for_memory h stop.NoMemory es f d short = refl
+stops_for_memory h (Stopped (HistoryText e)) es f d short =
+    absurd (f.nothing (λ t. (let long : max_length < length h = f.too_long.0 t in omega (arith, long, short))) d.forms d.spelled)
+stops_for_memory h (Stopped (HistoryMaps g)) es (a, ds, spells, first) d short =
+    absurd (fault_refutes ds g es first (subst (λ (x : List Datum). Denotes x es) (one_reading_of d.forms ds h d.spelled spells) d.denoted))
+stops_for_memory h (Stopped (CertificateText e)) es f d short = absurd f
+stops_for_memory h (Stopped (CertificateForms g)) es f d short = absurd f
+
+-- the same of a text of certificates
+pub stopped_forms : (c : List ℕ) (f : CertFault) (s : Stop) → certificate_texts.IsTextFault c (Forms f) → IsStopOf (CertificateForms f) s → IsCertificatesFault c s
+stopped_forms c f (Stopped g) (short, ds, spells, found) k = subst (λ (x : Fault). IsCertificatesFault c (Stopped x)) (sym k.0) (short, ds, spells, found.0 k.1)
+stopped_forms c f stop.NoMemory (short, ds, spells, found) k = (short, inr (ds, spells, f.form, found.1 k))
+
+pub certificates_for_memory : (c : List ℕ) (s : Stop) (cs : List Certificate) → IsCertificatesFault c s → DenotesCertificates c cs → IsShort c → s ≡ stop.NoMemory
+certificates_for_memory c stop.NoMemory cs f d short = refl
+certificates_for_memory c (Stopped (HistoryText e)) cs f d short = absurd f
+certificates_for_memory c (Stopped (HistoryMaps g)) cs f d short = absurd f
+certificates_for_memory c (Stopped (CertificateText e)) cs f d short =
+    absurd (f.nothing (λ t. (let long : max_length < length c = f.too_long.0 t in omega (arith, long, short))) d.forms d.spelled)
+certificates_for_memory c (Stopped (CertificateForms g)) cs (a, ds, spells, first) d short =
+    absurd (not_denoted ds g first cs (subst (λ (x : List Datum). certificate_meaning.Denotes x cs) (one_reading_of d.forms ds c d.spelled spells) d.denoted))

@@ -1,18 +1,17 @@
 -- What a history's text and a certificates' text denote, and what is wrong with a text that denotes nothing.
-use Rattle.std.specs.Prelude.{◌≡◌, ◌≢◌, ℕ, ◌+◌, ◌<◌, ◌≤◌, ◌↔◌, ◌⊎◌, List, length, map, take}
+use Rattle.std.specs.Prelude.{◌≡◌, ◌≢◌, ℕ, ◌⊎◌, List, length, map, Result, IfOk, IfErr}
 use Rattle.report.specs.declared.verdict.Summary.{Summary}
 use Rattle.report.specs.Counts.{operations_in, objects_in, kinds_in, uses, count_of}
-use Rattle.edn.specs.Datum.{Datum, max_length}
-use Rattle.edn.specs.Sound.{IsSoundAt}
+use Rattle.edn.specs.Datum.{Datum}
+use Rattle.edn.specs.Sound.{IsShort, IsSoundAt, IsUnreadable}
 use Rattle.edn.specs.Spells.{Spells}
-use Rattle.edn.specs.declared.fault.EdnFault.{EdnFault}
-use Rattle.edn.specs.declared.fault.FaultKind.TheVariants.{TooLong}
 use Rattle.edn.specs.declared.fault.FaultKind.TheVariants as edn_kind
 use Rattle.history.specs.declared.fault.HistoryFaultKind.TheVariants as history_kind
 use Rattle.certificate.specs.declared.fault.CertFaultKind.TheVariants as certificate_kind
 use Rattle.events.specs.declared.event.Event.{Event}
 use Rattle.history.specs.Denotes as history_meaning
 use Rattle.history.specs.Faults as history_fault
+use Rattle.history.specs.Texts.{IsHistorySound}
 use Rattle.certificate.specs.declared.Certificate.{Certificate}
 use Rattle.certificate.specs.Denotes as certificate_meaning
 use Rattle.certificate.specs.Faults as certificate_fault
@@ -42,15 +41,14 @@ pub record DenotesCertificates (text : List ℕ) (cs : List Certificate) : Type 
   pub spelled : Spells forms text
   pub denoted : certificate_meaning.Denotes forms cs
 
--- the text is not too long to be read
-abbrev pub IsShort : List ℕ → Type 0
-IsShort text = length text ≤ max_length
-
--- The text is too long to be read, and E10 says so; or it is not, and spells no forms. Want of memory is no such fault.
-pub record IsUnreadable (text : List ℕ) (e : EdnFault) : Type 0 where
-  pub not_memory : e.kind ≢ edn_kind.NoMemory
-  pub too_long : (e.kind ≡ TooLong) ↔ (max_length < length text)
-  pub nothing : e.kind ≢ TooLong → (ds : List Datum) → Spells ds text → ⊥
+-- The texts denote these client events and certificates, and nothing that says something else. Neither is too long to be read.
+pub record DenoteOnly (h c : List ℕ) (es : List Event) (cs : List Certificate) : Type 0 where
+  pub history_short : IsShort h
+  pub certificates_short : IsShort c
+  pub history_text : DenotesHistory h es
+  pub certificate_text : DenotesCertificates c cs
+  pub no_other_events : (fs : List Event) → DenotesHistory h fs → fs ≡ es
+  pub no_other_orders : (ds : List Certificate) → DenotesCertificates c ds → map certificate_meaning.reading_of ds ≡ map certificate_meaning.reading_of cs
 
 -- the fault is that memory was refused
 abbrev pub WantsMemory : Fault → Type 0
@@ -64,12 +62,8 @@ abbrev pub IsStopOf : Fault → Stop → Type 0
 IsStopOf fault (Stopped f) = (f ≡ fault) × ¬ (WantsMemory fault)
 IsStopOf fault NoMemory = WantsMemory fault
 
--- Nothing is wrong with the text of a history as far as it was looked at: up to a token and with it, or, where it spells
--- forms, up to one of them and with it.
-abbrev pub IsHistorySound : List ℕ → Type 0
-IsHistorySound h = IsShort h × (((place : ℕ) × IsSoundAt place h) ⊎ ((ds : List Datum) × Spells ds h × (map : ℕ) × (map < length ds) × history_fault.IsFaultless (take (map + 1) ds)))
-
--- the same of the text of certificates
+-- Nothing is wrong with the text of certificates as far as it was looked at: up to a token and with it, or, where it
+-- spells forms, up to one of them and with it.
 abbrev pub AreCertificatesSound : List ℕ → Type 0
 AreCertificatesSound c = IsShort c × (((place : ℕ) × IsSoundAt place c) ⊎ ((ds : List Datum) × Spells ds c × (form : ℕ) × certificate_fault.IsSoundAt ds form))
 
@@ -87,6 +81,24 @@ IsCertificatesFault c (Stopped (HistoryMaps f)) = ⊥
 IsCertificatesFault c (Stopped (CertificateText e)) = IsUnreadable c e
 IsCertificatesFault c (Stopped (CertificateForms f)) = IsShort c × (ds : List Datum) × Spells ds c × certificate_fault.IsFirstFault ds f
 IsCertificatesFault c NoMemory = AreCertificatesSound c
+
+-- What reading the text of a history comes to: the client events that it denotes and no others, or what stops it, which is want of
+-- memory where it denotes some and is not too long.
+pub record IsHistoryRead (h : List ℕ) (r : Result (List Event) Stop) : Type 0 where
+  pub denotes : IfOk r (DenotesHistory h)
+  pub only : IfOk r (λ es. (fs : List Event) → DenotesHistory h fs → fs ≡ es)
+  pub short : IfOk r (λ _. IsShort h)
+  pub stop : IfErr r (IsHistoryFault h)
+  pub accepts : IfErr r (λ s. (es : List Event) → DenotesHistory h es → IsShort h → s ≡ NoMemory)
+
+-- the same of the text of certificates, of which no two are of one object
+pub record AreCertificatesRead {V : Type 0} (items : V → List Certificate) (c : List ℕ) (r : Result V Stop) : Type 0 where
+  pub denotes : IfOk r (λ v. DenotesCertificates c (items v))
+  pub only : IfOk r (λ v. (ds : List Certificate) → DenotesCertificates c ds → map certificate_meaning.reading_of ds ≡ map certificate_meaning.reading_of (items v))
+  pub distinct : IfOk r (λ v. certificate_meaning.AreDistinct (items v))
+  pub short : IfOk r (λ _. IsShort c)
+  pub stop : IfErr r (IsCertificatesFault c)
+  pub accepts : IfErr r (λ s. (cs : List Certificate) → DenotesCertificates c cs → IsShort c → s ≡ NoMemory)
 
 -- The fault of the first text that has one, the history being looked at first: the text is too long, spells nothing, or
 -- spells forms of which this is the first fault.

@@ -9,22 +9,27 @@ ghost use Rattle.checker.specs.Refusals.{AreValid, IsFirstRefusal};
 ghost use Rattle.judging.specs.Texts.{AreValidTexts, IsLinearizableText, verdict_of};
 ghost use Rattle.judging.specs.Verdicts.{Judges, OnYes, IsYesUnlessMemory};
 
-use crate::texts::{Stop, certificates_in, history_in};
+use crate::texts::{Stop, texts_in};
 use certificate::Certificate;
-use checker::{Refusal, check_all};
+use checker::Refusal;
 use history::History;
 use locality::named_objects;
+use parallel::check_parallel;
 use report::{Verdict, summary};
+use seq_objects::Open;
 use std::alloc::Global;
+use std::thread::Threads;
 
 /// Checks the certificates of a history. Where they are valid the history is linearizable.
 ///
 /// `Ok` exactly where each object that the history names has a valid order, and no other object has a certificate; else
-/// the first refusal. `NoMemory` says nothing.
-pub fn judge_history(
+/// the first refusal. `NoMemory` says nothing. The work is shared by `workers` threads, at least 1 and at most 16.
+pub fn judge_history<R: Threads + Sync>(
+    rt: &R,
     alloc: Global,
     history: &History,
     certificates: &[Certificate],
+    workers: u32,
 ) -> Result<(), Refusal>
     // no object has two certificates
     requires { AreDistinct certificates.now }
@@ -36,7 +41,8 @@ pub fn judge_history(
     // These two do nothing. The first says that the events denote a well-formed history, the second is locality.
     history.events();
     named_objects();
-    check_all(alloc, history, certificates)
+    let workers = workers.clamp(1, 16);
+    check_parallel(rt, alloc, history, certificates, workers, &Open)
 }
 
 /// Judges a history, as a text of Jepsen operation maps, by a text of certificates, an order of operations for each
@@ -47,24 +53,25 @@ pub fn judge_history(
 /// before a later invocation; it answers No only with the first fault that truly stands in the certificates.
 ///
 /// The history's text comes first, then what its maps say, then the certificates' text, its forms, and the check; the
-/// first fault is the answer. `NoMemory` says that nothing was found to be wrong before. One thread does the work, whatever the number of
-/// `workers`. Linearizability is that of Herlihy and Wing, TOPLAS 1990, section 2.
-pub fn judge(alloc: Global, history: &[u8], certificates: &[u8], workers: u32) -> Verdict
+/// first fault is the answer. `NoMemory` says that nothing was found to be wrong before. The check is shared by `workers`
+/// threads, at least 1 and at most 16, and two of them read the texts side by side. Linearizability is that of Herlihy and Wing, TOPLAS 1990, section 2.
+pub fn judge<R: Threads + Sync>(
+    rt: &R,
+    alloc: Global,
+    history: &[u8],
+    certificates: &[u8],
+    workers: u32,
+) -> Verdict
     ensures linearizable { OnYes result (IsLinearizableText history.now) }
     ensures judges { Judges history.now certificates.now result }
     // With `judges`: Yes is answered exactly where both texts denote and the certificates are valid, but for want of memory.
     ensures accepts { AreValidTexts history.now certificates.now → IsYesUnlessMemory result }
 {
-    let _ = workers;
-    let client_events = match history_in(alloc, history) {
-        Ok(client_events) => client_events,
+    let (client_events, orders) = match texts_in(rt, alloc, history, certificates, workers) {
+        Ok(texts) => texts,
         Err(stop) => return stopped(stop),
     };
-    let orders = match certificates_in(alloc, certificates) {
-        Ok(orders) => orders,
-        Err(stop) => return stopped(stop),
-    };
-    match judge_history(alloc, &client_events, &orders) {
+    match judge_history(rt, alloc, &client_events, &orders, workers) {
         Ok(()) => match summary(alloc, &client_events) {
             Ok(summary) => Verdict::Yes(summary),
             Err(_) => Verdict::NoMemory,

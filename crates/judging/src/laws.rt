@@ -10,14 +10,16 @@ use edn::one_reading;
 
 /// A text denotes one history at most.
 pub fn one_history()
-    ensures { (text : List ℕ) (es fs : List Event) → DenotesHistory text es → DenotesHistory text fs → es ≡ fs }
+    ensures { (text : List ℕ) (es fs : List Event) → DenotesHistory text es → DenotesHistory text fs →
+        es ≡ fs }
 {
     one_reading();
 }
 
 /// The certificates that a text denotes say one thing: these orders for these objects, one by one.
 pub fn one_list_of_orders()
-    ensures { (text : List ℕ) (cs ds : List Certificate) → DenotesCertificates text cs → DenotesCertificates text ds → map reading_of cs ≡ map reading_of ds }
+    ensures { (text : List ℕ) (cs ds : List Certificate) → DenotesCertificates text cs →
+        DenotesCertificates text ds → map reading_of cs ≡ map reading_of ds }
 {
     one_reading();
 }

@@ -4,6 +4,7 @@ use checker::{OrderFault, Refusal};
 use seq_objects::{AnyReply, Kind};
 use std::alloc::Global;
 use std::test::Fail;
+use std::thread::Threads;
 
 const HISTORY: &[u8] = b"{:process 0, :type :invoke, :f :enqueue, :value 1}
 {:process 0, :type :ok, :f :enqueue, :value 1}
@@ -22,43 +23,78 @@ const DEQUEUE_FIRST: Refusal = Refusal::BadOrder {
 fn texts(rt: HostRuntime) -> Result<(), Fail> {
     one_history();
     one_list_of_orders();
-    let counts = match judge(rt.alloc(), HISTORY, b"{:object 0, :order [0 2]}", 1) {
-        Verdict::Yes(counts) => counts,
-        _ => return Err(Fail::new("a valid order is refused")),
-    };
-    assert_eq!(rt; (counts.operations, counts.objects), (2, 1));
-    let queues = KindCount {
-        kind: Kind::Queue,
-        objects: 1,
-        operations: 2,
-    };
-    assert_eq!(rt; counts.kinds.as_slice(), [queues].as_slice());
-    assert!(rt;
-        matches!(
-            judge(rt.alloc(), HISTORY, b"[0 2]", 1),
-            Verdict::Malformed(Fault::CertificateForms(_))
-        )
-    );
+    // more than one worker reads the texts side by side
+    for workers in [1, 2, 16] {
+        let order = b"{:object 0, :order [0 2]}";
+        let counts = match judge(&rt, rt.alloc(), HISTORY, order, workers) {
+            Verdict::Yes(counts) => counts,
+            _ => return Err(Fail::new("a valid order is refused")),
+        };
+        assert_eq!(rt; (counts.operations, counts.objects), (2, 1));
+        let queues = KindCount {
+            kind: Kind::Queue,
+            objects: 1,
+            operations: 2,
+        };
+        assert_eq!(rt; counts.kinds.as_slice(), [queues].as_slice());
+    }
+    Ok(())
+}
+
+/// The history's fault comes first, whichever text was read first.
+#[test]
+fn malformed_texts(rt: HostRuntime) -> Result<(), Fail> {
+    for workers in [1, 2] {
+        assert!(rt;
+            matches!(
+                judge(&rt, rt.alloc(), HISTORY, b"[0 2]", workers),
+                Verdict::Malformed(Fault::CertificateForms(_))
+            )
+        );
+        assert!(rt;
+            matches!(
+                judge(&rt, rt.alloc(), b"7", b"[0 2]", workers),
+                Verdict::Malformed(Fault::HistoryMaps(_))
+            )
+        );
+        assert!(rt;
+            matches!(
+                judge(&rt, rt.alloc(), b"{", b"}", workers),
+                Verdict::Malformed(Fault::HistoryText(_))
+            )
+        );
+    }
     Ok(())
 }
 
 /// What is wrong with the certificates of a text, for the history above.
-fn refusal(alloc: Global, certificates: &[u8]) -> Result<Option<Refusal>, Fail> {
+fn refusal<R: Threads + Sync>(
+    rt: &R,
+    alloc: Global,
+    certificates: &[u8],
+    workers: u32,
+) -> Result<Option<Refusal>, Fail> {
     let Ok(history) = history_in(alloc, HISTORY) else {
         return Err(Fail::new("no history"));
     };
     let Ok(orders) = certificates_in(alloc, certificates) else {
         return Err(Fail::new("no certificates"));
     };
-    Ok(judge_history(alloc, &history, &orders).err())
+    Ok(judge_history(rt, alloc, &history, &orders, workers).err())
 }
 
 #[test]
 fn certificates(rt: HostRuntime) -> Result<(), Fail> {
-    assert_eq!(rt; refusal(rt.alloc(), b"{:object 0, :order [0 2]}")?, None);
-    assert_eq!(rt;
-        refusal(rt.alloc(), b"{:object 0, :order [2 0]}")?,
-        Some(DEQUEUE_FIRST)
-    );
+    // no worker counts as one, and more than 16 as 16
+    for workers in 0..18 {
+        assert_eq!(rt;
+            refusal(&rt, rt.alloc(), b"{:object 0, :order [0 2]}", workers)?,
+            None
+        );
+        assert_eq!(rt;
+            refusal(&rt, rt.alloc(), b"{:object 0, :order [2 0]}", workers)?,
+            Some(DEQUEUE_FIRST)
+        );
+    }
     Ok(())
 }

@@ -4,13 +4,17 @@ ghost use Rattle.std.specs.Prelude.{◌≡◌, List, map, IfOk, IfErr, MatchBool
 ghost use Rattle.events.specs.declared.event.Event.{Event};
 ghost use Rattle.certificate.specs.declared.Certificate.{Certificate};
 ghost use Rattle.certificate.specs.Denotes.{AreDistinct, reading_of};
-ghost use Rattle.judging.specs.Texts.{DenotesHistory, DenotesCertificates, WantsMemory, IsStopOf, IsShort, IsHistoryFault, IsCertificatesFault};
+ghost use Rattle.edn.specs.Sound.{IsShort};
+ghost use Rattle.judging.specs.Texts.{DenotesHistory, DenotesCertificates, DenoteOnly, AreValidTexts, WantsMemory, IsStopOf, IsHistoryFault, IsCertificatesFault, IsHistoryRead, AreCertificatesRead, verdict_of};
+ghost use Rattle.judging.specs.Verdicts.{Judges};
 
-use certificate::{CertFaultKind, Certificate, read_certificates};
-use edn::{FaultKind, read_forms};
-use history::{History, HistoryFaultKind, read_history};
+use crate::laws::one_history;
+use certificate::{CertFaultKind, CertTextFault, Certificate, read_certificates_text};
+use edn::FaultKind;
+use history::{History, HistoryFaultKind, TextFault, read_history_text};
 use report::Fault;
 use std::alloc::Global;
+use std::thread::{Threads, join};
 
 /// What stops the reading of a text: a fault of it, or that memory was refused.
 #[derive(Clone, Copy, Debug, PartialEq, Eq)]
@@ -48,33 +52,63 @@ pub fn history_in(alloc: Global, text: &[u8]) -> Result<History, Stop>
     ensures only { IfOk result (λ es. (fs : List Event) → DenotesHistory text.now fs → fs ≡ es) }
     ensures short { IfOk result (λ _. IsShort text.now) }
     ensures stop { IfErr result (IsHistoryFault text.now) }
-    ensures accepts { IfErr result (λ s. (es : List Event) → DenotesHistory text.now es → IsShort text.now → s ≡ Stop.NoMemory) }
+    ensures accepts { IfErr result (λ s. (es : List Event) → DenotesHistory text.now es → IsShort text.now →
+        s ≡ Stop.NoMemory) }
 {
-    let forms = match read_forms(alloc, text) {
-        Ok(forms) => forms,
-        Err(fault) => return Err(stop_of(Fault::HistoryText(fault))),
-    };
-    match read_history(alloc, forms) {
+    // This does nothing: it says that the text denotes one history at most.
+    one_history();
+    match read_history_text(alloc, text) {
         Ok(history) => Ok(history),
-        Err(fault) => Err(stop_of(Fault::HistoryMaps(fault))),
+        Err(TextFault::Text(fault)) => Err(stop_of(Fault::HistoryText(fault))),
+        Err(TextFault::Maps(fault)) => Err(stop_of(Fault::HistoryMaps(fault))),
     }
 }
 
 /// The certificates that the text denotes.
 pub(crate) fn certificates_in(alloc: Global, text: &[u8]) -> Result<Vec<Certificate>, Stop>
     ensures denotes { IfOk result (λ cs. DenotesCertificates text.now cs.items) }
-    ensures only { IfOk result (λ cs. (ds : List Certificate) → DenotesCertificates text.now ds → map reading_of ds ≡ map reading_of cs.items) }
+    ensures only { IfOk result (λ cs. (ds : List Certificate) → DenotesCertificates text.now ds →
+        map reading_of ds ≡ map reading_of cs.items) }
     ensures distinct { IfOk result (λ cs. AreDistinct cs.items) }
     ensures short { IfOk result (λ _. IsShort text.now) }
     ensures stop { IfErr result (IsCertificatesFault text.now) }
-    ensures accepts { IfErr result (λ s. (cs : List Certificate) → DenotesCertificates text.now cs → IsShort text.now → s ≡ Stop.NoMemory) }
+    ensures accepts { IfErr result (λ s. (cs : List Certificate) → DenotesCertificates text.now cs →
+        IsShort text.now → s ≡ Stop.NoMemory) }
 {
-    let forms = match read_forms(alloc, text) {
-        Ok(forms) => forms,
-        Err(fault) => return Err(stop_of(Fault::CertificateText(fault))),
-    };
-    match read_certificates(alloc, forms) {
+    match read_certificates_text(alloc, text) {
         Ok(certificates) => Ok(certificates),
-        Err(fault) => Err(stop_of(Fault::CertificateForms(fault))),
+        Err(CertTextFault::Text(fault)) => Err(stop_of(Fault::CertificateText(fault))),
+        Err(CertTextFault::Forms(fault)) => Err(stop_of(Fault::CertificateForms(fault))),
     }
+}
+
+/// What both texts denote, or what stops the reading of the first that is stopped. One worker reads the certificates behind the
+/// history, and only where that denotes; more read them side by side.
+pub(crate) fn texts_in<R: Threads + Sync>(
+    rt: &R,
+    alloc: Global,
+    history: &[u8],
+    certificates: &[u8],
+    workers: u32,
+) -> Result<(History, Vec<Certificate>), Stop>
+    ensures texts { IfOk result (λ r. DenoteOnly history.now certificates.now r.0 r.1.items) }
+    ensures distinct { IfOk result (λ r. AreDistinct r.1.items) }
+    ensures stop { IfErr result (λ s. Judges history.now certificates.now (verdict_of s)) }
+    ensures accepts { IfErr result (λ s. AreValidTexts history.now certificates.now → s ≡ Stop.NoMemory) }
+{
+    if workers < 2 {
+        let client_events = history_in(alloc, history)?;
+        let orders = certificates_in(alloc, certificates)?;
+        return Ok((client_events, orders));
+    }
+    let (client_events, orders) = join(
+        rt,
+        || -> Result<History, Stop>
+            ensures { IsHistoryRead history.entry.now result }
+        { history_in(alloc, history) },
+        || -> Result<Vec<Certificate>, Stop>
+            ensures { AreCertificatesRead (λ v. v.items) certificates.entry.now result }
+        { certificates_in(alloc, certificates) },
+    );
+    Ok((client_events?, orders?))
 }

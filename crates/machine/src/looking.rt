@@ -31,7 +31,8 @@ impl<S: SeqObject> Machine<S> {
 
     // Whether there is such a client, and it has not ended.
     pub(crate) fn is_going(&self, client: u32) -> bool
-        ensures going { IsTrue result ↔ ((client < clients_of self.now) × ((world_of self.now).ended client ≡ false)) }
+        ensures going { IsTrue result ↔ ((client < clients_of self.now)
+            × ((world_of self.now).ended client ≡ false)) }
         ensures run { HasRun self.now }
     {
         match self.ended.get(client as usize) {
@@ -42,7 +43,8 @@ impl<S: SeqObject> Machine<S> {
 
     // Whether there is such an object, of this kind.
     pub(crate) fn has_kind(&self, object: u32, kind: Kind) -> bool
-        ensures { IsTrue result ↔ ((object < length self.now.kinds) × (kind ≡ kind_at self.now.kinds object)) }
+        ensures { IsTrue result ↔ ((object < length self.now.kinds)
+            × (kind ≡ kind_at self.now.kinds object)) }
     {
         match self.objects.get(object as usize) {
             Some(there) => there.kind() == kind,
@@ -52,7 +54,8 @@ impl<S: SeqObject> Machine<S> {
 
     // The object that the client holds.
     pub(crate) fn held_by(&self, client: u32) -> Option<u32>
-        ensures held { IfSome result (λ x. (x < length self.now.kinds) × ((world_of self.now).holder x ≡ Some client)) }
+        ensures held { IfSome result (λ x. (x < length self.now.kinds)
+            × ((world_of self.now).holder x ≡ Some client)) }
         ensures only { IfSome result (λ x. (y : ℕ) → (world_of self.now).holder y ≡ Some client → y ≡ x) }
         ensures none { IfNone result (HoldsNothing (world_of self.now) client) }
     {
@@ -73,7 +76,8 @@ impl<S: SeqObject> Machine<S> {
 
     // Whether there is such an object, and nobody holds it.
     pub(crate) fn is_free(&self, object: u32) -> bool
-        ensures { IsTrue result ↔ ((object < length self.now.kinds) × ((world_of self.now).holder object ≡ None)) }
+        ensures { IsTrue result ↔ ((object < length self.now.kinds)
+            × ((world_of self.now).holder object ≡ None)) }
     {
         match self.holders.get(object as usize) {
             Some(holder) => holder.is_none(),
@@ -100,7 +104,8 @@ impl<S: SeqObject> Machine<S> {
     // Whether the client is idle, and its quota is not used up.
     pub(crate) fn may_call(&self, client: u32) -> bool
         requires { client < clients_of self.now }
-        ensures { IsTrue result ↔ (((world_of self.now).stage client ≡ idle) × (calls_made ((world_of self.now).done client) None < self.now.quota)) }
+        ensures { IsTrue result ↔ (((world_of self.now).stage client ≡ idle)
+            × (calls_made ((world_of self.now).done client) None < self.now.quota)) }
     {
         match self.stage_at(client) {
             Stage::Idle => self.events_of(client) < 2 * self.quota as usize,
@@ -129,8 +134,10 @@ impl<S: SeqObject> Machine<S> {
 
     // The request for the object that stands in the row, if there is one.
     pub(crate) fn posted_at(&self, row: u32, object: u32) -> Option<Request<S::Op>>
-        ensures found { IfSome result (λ q. (row < clients_of self.now) × ((world_of self.now).stage row ≡ posted (request_in S.op_in q)) × (q.object ≡ object)) }
-        ensures none { IfNone result ((q : AnyRequest) → (world_of self.now).stage row ≡ posted q → q.object ≢ object) }
+        ensures found { IfSome result (λ q. (row < clients_of self.now)
+            × ((world_of self.now).stage row ≡ posted (request_in S.op_in q)) × (q.object ≡ object)) }
+        ensures none { IfNone result ((q : AnyRequest) → (world_of self.now).stage row ≡ posted q →
+            q.object ≢ object) }
     {
         if row >= self.clients() {
             return None;
@@ -179,7 +186,8 @@ impl<S: SeqObject> Machine<S> {
     // The object that the client holds, and the row and the request that it has in hand.
     pub(crate) fn in_hand(&self, client: u32) -> Option<(u32, u32, Request<S::Op>)>
         ensures found { IfSome result (λ h. IsInHand self.now client h.0 h.1 (request_in S.op_in h.2)) }
-        ensures none { IfNone result ((x r : ℕ) → (world_of self.now).holder x ≡ Some client → (world_of self.now).hand x ≡ Some r → ⊥) }
+        ensures none { IfNone result ((x r : ℕ) → (world_of self.now).holder x ≡ Some client →
+            (world_of self.now).hand x ≡ Some r → ⊥) }
     {
         let object = self.held_by(client)?;
         let row = self.hand_of(object)?;

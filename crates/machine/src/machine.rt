@@ -48,8 +48,10 @@ impl<S: SeqObject> Machine<S> {
         ensures taken { OnOk result (IsTaken self.old client (step_in S.op_in step) self.new) }
         ensures outcome { IfOk result (IsOutcome S.reply_in self.old client (step_in S.op_in step) self.new) }
         // With `taken` and `memory`: it is refused as not possible now exactly where it is possible in no way.
-        ensures not_now { IfErr result (λ e. e ≡ StepFault.NotNow → IsImpossible self.old.kinds self.old.quota (world_of self.old) (client, step_in S.op_in step)) }
-        ensures memory { IfErr result (λ e. e ≡ StepFault.NoMemory → IsDraw (step_in S.op_in step) × IsPossible self.old client (step_in S.op_in step)) }
+        ensures not_now { IfErr result (λ e. e ≡ StepFault.NotNow →
+            IsImpossible self.old.kinds self.old.quota (world_of self.old) (client, step_in S.op_in step)) }
+        ensures memory { IfErr result (λ e. e ≡ StepFault.NoMemory →
+            IsDraw (step_in S.op_in step) × IsPossible self.old client (step_in S.op_in step)) }
         ensures unchanged { OnErr result (self.new ≡ self.old) }
         // The world is that of a run, before and after.
         ensures run { HasRun self.new }

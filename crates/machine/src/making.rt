@@ -42,7 +42,8 @@ impl<S: SeqObject> Machine<S> {
         clients: u32,
         quota: u32,
     ) -> Result<Machine<S>, AllocError>
-        requires objects { (0 < length objects.items) × (length objects.items < 17) × All (λ o. S.content o ≡ empty (kind_with (S.content o))) objects.items }
+        requires objects { (0 < length objects.items) × (length objects.items < 17)
+            × All (λ o. S.content o ≡ empty (kind_with (S.content o))) objects.items }
         requires clients { (0 < clients) × (clients < 33) }
         requires quota { quota < 10001 }
         ensures kinds { IfOk result (λ m. m.kinds ≡ map (λ o. kind_with (S.content o)) objects.items) }

@@ -31,10 +31,15 @@ pub struct NoMemoryAt {
 impl<S: SeqObject> Machine<S> {
     /// Takes the steps in turn, each by its client. Those that are not possible at their turn are counted.
     pub fn run(&mut self, steps: &[(u32, Step<S::Op>)]) -> Result<Ran, NoMemoryAt>
-        ensures ran { IfOk result (λ r. TakesPossible self.old.kinds self.old.quota (world_of self.old) (steps_in S.op_in steps.now) r.refused (world_of self.new)) }
-        ensures before { IfErr result (λ e. (e.step < length steps.now) × (refused : ℕ) × TakesPossible self.old.kinds self.old.quota (world_of self.old) (steps_in S.op_in (take e.step steps.now)) refused (world_of self.new)) }
+        ensures ran { IfOk result (λ r.
+            TakesPossible self.old.kinds self.old.quota (world_of self.old)
+            (steps_in S.op_in steps.now) r.refused (world_of self.new)) }
+        ensures before { IfErr result (λ e. (e.step < length steps.now) × (refused : ℕ)
+            × TakesPossible self.old.kinds self.old.quota (world_of self.old)
+            (steps_in S.op_in (take e.step steps.now)) refused (world_of self.new)) }
         // The step of that number is a draw that is possible now.
-        ensures draw { IfErr result (λ e. (m : ℕ × Step S.Op) × (slice_get steps.now e.step ≡ Some m) × IsPossibleDraw self.new (m.0, step_in S.op_in m.1)) }
+        ensures draw { IfErr result (λ e. (m : ℕ × Step S.Op) × (slice_get steps.now e.step ≡ Some m)
+            × IsPossibleDraw self.new (m.0, step_in S.op_in m.1)) }
         ensures same { IsLike self.old self.new }
         ensures run { HasRun self.new }
     {
@@ -53,11 +58,14 @@ impl<S: SeqObject> Machine<S> {
 
     // Takes one step, or counts it if it is not possible now.
     fn turn(&mut self, client: u32, step: Step<S::Op>) -> Result<usize, AllocError>
-        ensures ok { IfOk result (λ n. TakesPossible self.old.kinds self.old.quota (world_of self.old) ((client, step_in S.op_in step) ∷ []) n (world_of self.new)) }
+        ensures ok { IfOk result (λ n.
+            TakesPossible self.old.kinds self.old.quota (world_of self.old)
+            ((client, step_in S.op_in step) ∷ []) n (world_of self.new)) }
         ensures few { IfOk result (λ n. n ≤ 1) }
         ensures like { IsLike self.old self.new }
         ensures run { HasRun self.new }
-        ensures err { OnErr result ((self.new ≡ self.old) × IsPossibleDraw self.new (client, step_in S.op_in step)) }
+        ensures err { OnErr result ((self.new ≡ self.old)
+            × IsPossibleDraw self.new (client, step_in S.op_in step)) }
     {
         match self.step(client, step) {
             Ok(_) => Ok(0),
@@ -68,7 +76,8 @@ impl<S: SeqObject> Machine<S> {
 
     // The least client that has not ended.
     fn first_going(&self) -> Option<u32>
-        ensures going { IfSome result (λ c. (c < clients_of self.now) × ((world_of self.now).ended c ≡ false) × ((d : ℕ) → d < c → HasEnded self.now d)) }
+        ensures going { IfSome result (λ c. (c < clients_of self.now) × ((world_of self.now).ended c ≡ false)
+            × ((d : ℕ) → d < c → HasEnded self.now d)) }
         ensures none { IfNone result ((d : ℕ) → d < clients_of self.now → HasEnded self.now d) }
     {
         for client in 0..self.clients() {
@@ -83,13 +92,19 @@ impl<S: SeqObject> Machine<S> {
     /// not. It takes no memory.
     pub fn finish(self) -> Result<Record<S>, (Machine<S>, u32)>
         ensures ended { IfOk result (λ _. (c : ℕ) → c < clients_of self → HasEnded self c) }
-        ensures journals { IfOk result (λ r. (c : ℕ) → map (event_in S.op_in S.reply_in) (journal_at r c) ≡ journal_in (world_of self) c) }
-        ensures logs { IfOk result (λ r. (x : ℕ) → map (entry_in S.op_in S.reply_in) (log_at r x) ≡ (world_of self).log x) }
-        ensures counts { IfOk result (λ r. (length r.journals ≡ clients_of self) × (length r.logs ≡ length self.kinds)) }
+        ensures journals { IfOk result (λ r. (c : ℕ) →
+            map (event_in S.op_in S.reply_in) (journal_at r c) ≡ journal_in (world_of self) c) }
+        ensures logs { IfOk result (λ r. (x : ℕ) →
+            map (entry_in S.op_in S.reply_in) (log_at r x) ≡ (world_of self).log x) }
+        ensures counts { IfOk result (λ r. (length r.journals ≡ clients_of self)
+            × (length r.logs ≡ length self.kinds)) }
         // The world is that of a run, and so the record is sound.
         ensures run { HasRun self }
-        ensures sound { IfOk result (λ r. IsSoundRecord self.kinds self.quota (λ c. map (event_in S.op_in S.reply_in) (journal_at r c)) (λ x. map (entry_in S.op_in S.reply_in) (log_at r x))) }
-        ensures going { IfErr result (λ e. (e.0 ≡ self) × (e.1 < clients_of self) × ((world_of self).ended e.1 ≡ false) × ((d : ℕ) → d < e.1 → HasEnded self d)) }
+        ensures sound { IfOk result (λ r.
+            IsSoundRecord self.kinds self.quota (λ c. map (event_in S.op_in S.reply_in) (journal_at r c))
+            (λ x. map (entry_in S.op_in S.reply_in) (log_at r x))) }
+        ensures going { IfErr result (λ e. (e.0 ≡ self) × (e.1 < clients_of self)
+            × ((world_of self).ended e.1 ≡ false) × ((d : ℕ) → d < e.1 → HasEnded self d)) }
     {
         match self.first_going() {
             Some(client) => Err((self, client)),

@@ -97,9 +97,12 @@ fn serve<S: SeqObject>(
     request: &Request<S::Op>,
 ) -> Answer<S::Reply>
     requires { IsSome (next (S.content object.old) (S.op_in request.now.op)) }
-    ensures log { map (entry_in S.op_in S.reply_in) log.new.items ≡ map (entry_in S.op_in S.reply_in) log.old.items ++ logged row (request_in S.op_in request.now) (answer_in S.reply_in result) }
+    ensures log { map (entry_in S.op_in S.reply_in) log.new.items
+        ≡ map (entry_in S.op_in S.reply_in) log.old.items
+        ++ logged row (request_in S.op_in request.now) (answer_in S.reply_in result) }
     ensures kind { kind_with (S.content object.new) ≡ kind_with (S.content object.old) }
-    ensures content { Serves (S.content object.old) (S.op_in request.now.op) (answer_in S.reply_in result) (S.content object.new) }
+    ensures content { Serves (S.content object.old) (S.op_in request.now.op) (answer_in S.reply_in result)
+        (S.content object.new) }
 {
     if log.reserve(1).is_err() {
         return Answer::Refused;

@@ -114,8 +114,11 @@ fn note<O: Drop, R: Drop>(
     event: JournalEvent<O, R>,
 ) -> Result<(), StepFault>
     requires { client < length journals.old.items }
-    ensures ok { OnOk result (items_of journals.new.items ≡ slice_set (items_of journals.old.items) client (slice_index_or (items_of journals.old.items) client [] ++ event ∷ [])) }
-    ensures err { IfErr result (λ e. (e ≡ StepFault.NoMemory) × (items_of journals.new.items ≡ items_of journals.old.items)) }
+    ensures ok { OnOk result (items_of journals.new.items
+        ≡ slice_set (items_of journals.old.items) client
+        (slice_index_or (items_of journals.old.items) client [] ++ event ∷ [])) }
+    ensures err { IfErr result (λ e. (e ≡ StepFault.NoMemory)
+        × (items_of journals.new.items ≡ items_of journals.old.items)) }
 {
     journals[client].push(event)?;
     Ok(())

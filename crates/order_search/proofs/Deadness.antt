@@ -21,9 +21,6 @@ one_way call k c after other reply e p =
     let s = same_Some (other, p.reply) (after, reply) (sym p.does ∙ e) in
     (ap (λ (x : Content × AnyReply). x.0) s, λ r q. p.agrees r q ∙ ap (λ (x : Content × AnyReply). x.1) s)
 
-pub dead_differs : (n : ℕ) (call : ℕ → Call) (done : List ℕ) (c after : Content) (k : ℕ) (reply : AnyReply) (r : Return) → next c (call k).op ≡ Some (after, reply) → (call k).returned ≡ Some r → r.reply ≢ reply → IsDeadAt n call done c k
-dead_differs n call done c after k reply r e q ne rest h = ne ((one_way call k c after h.2 reply e h.3).1 r q)
-
 pub dead_child : (n : ℕ) (call : ℕ → Call) (done : List ℕ) (c after : Content) (k : ℕ) (reply : AnyReply) → next c (call k).op ≡ Some (after, reply) → IsDead n call (k ∷ done) after → IsDeadAt n call done c k
 dead_child n call done c after k reply e d rest h =
     let s = one_way call k c after h.2 reply e h.3 in

@@ -2,10 +2,11 @@
 use Rattle.std.proofs.Common.{◌≡◌, ℕ, ◌<◌, ◌≤◌, ◌+◌, Bool, true, false, cond, List, [], ◌∷◌, ◌++◌, append_assoc, Some, is_some, length, reverse, get_or, refl, ap, sym, ◌∙◌, subst, arith}
 use Rattle.std.proofs.lemmas.List.{reverse-append, reverse-reverse, map-append, append-nil}
 use Rattle.model.specs.declared.AnyReply.{AnyReply}
-use Rattle.model.specs.Objects.{Content, next, kind_with}
+use Rattle.model.specs.Objects.{Content, next}
 use Rattle.model.specs.Orders.{Call}
 use Rattle.events.specs.declared.operations.Invocation.{Invocation}
 use Rattle.events.specs.Operations.{return_of}
+use Rattle.reversible.specs.Undoing.{undone}
 use Rattle.order_search.specs.declared.level.Level.{Level}
 use Rattle.order_search.specs.declared.trials.Trials.{Trials}
 use Rattle.order_search.specs.declared.dead.Pair.{Pair}
@@ -13,7 +14,7 @@ use Rattle.order_search.specs.Arranged.{as_call, call_at, owes, count_below}
 use Rattle.order_search.specs.Continuations.{Continues}
 use Rattle.order_search.specs.Links.{Linked, next_without, before_without}
 use Rattle.order_search.specs.Replies.{Agrees}
-use Rattle.order_search.specs.Searching.{places, IsLeast, Stack, IsWalk, AreDead}
+use Rattle.order_search.specs.Searching.{places, befores, IsLeast, Stack, IsWalk, AreDead}
 use Rattle.order_search.proofs.Owed.{none_owed, owes_placed, owes_pending}
 use Rattle.order_search.proofs.Stack.{onto, continued, placed, placed_frame, candidate_now, linked_now, walk_linked, walk_left}
 use Rattle.order_search.proofs.Links.{linked_without}
@@ -21,30 +22,28 @@ use Rattle.order_search.proofs.Steps.{reverse_push}
 
 -- ---- the first level
 
-pub none_dead : {X : Type 0} (content : X → Content) (t : Trials) (pairs : List (Pair X)) → pairs ≡ [] → AreDead content t pairs
-none_dead content t [] e = λ k d l. absurd (omega arith)
-none_dead content t (p ∷ pairs) e = absurd (cc e)
+pub none_dead : (t : Trials) (pairs : List Pair) → pairs ≡ [] → AreDead t pairs
+none_dead t [] e = λ k d l. absurd (omega arith)
+none_dead t (p ∷ pairs) e = absurd (cc e)
 
-pub begun : (n : ℕ) (call : ℕ → Call) (start c : Content) (ls : List Level) (bs : List Content) (nx pv : List ℕ) (at least left : ℕ) → ls ≡ [] → bs ≡ [] → c ≡ start → Linked n [] nx pv → at ≡ get_or nx 0 0 → IsLeast n call [] least → left ≡ count_below (owes call []) n → 0 < left → IsWalk n call start (reverse ls) (reverse bs) c nx pv 0 at least left
-begun n call start c ls bs nx pv at least left el eb ec link ea m counts owed =
-    subst (λ (x : ℕ). IsWalk n call start (reverse ls) (reverse bs) c nx pv 0 x least left) (sym ea)
-    (subst (λ (x : List Level). IsWalk n call start (reverse x) (reverse bs) c nx pv 0 (get_or nx 0 0) least left) (sym el)
-    (subst (λ (x : List Content). IsWalk n call start [] (reverse x) c nx pv 0 (get_or nx 0 0) least left) (sym eb)
-    (placed n call start [] [] c nx pv 0 least left (ec, link) m counts owed)))
+pub begun : (n : ℕ) (call : ℕ → Call) (start c : Content) (ls : List Level) (nx pv : List ℕ) (at least left : ℕ) → ls ≡ [] → c ≡ start → Linked n [] nx pv → at ≡ get_or nx 0 0 → IsLeast n call [] least → left ≡ count_below (owes call []) n → 0 < left → IsWalk n call start (reverse ls) (befores (reverse ls) c) c nx pv 0 at least left
+begun n call start c ls nx pv at least left el ec link ea m counts owed =
+    subst (λ (x : ℕ). IsWalk n call start (reverse ls) (befores (reverse ls) c) c nx pv 0 x least left) (sym ea)
+    (subst (λ (x : List Level). IsWalk n call start (reverse x) (befores (reverse x) c) c nx pv 0 (get_or nx 0 0) least left) (sym el)
+    (placed n call start [] [] c nx pv 0 least left (ec, link) m counts owed))
 
 -- ---- one level more
 
-pub stepped : (n : ℕ) (call : ℕ → Call) (start : Content) (olds news : List Level) (lv : Level) (oldb newb : List Content) (c after : Content) (nx pv nx2 pv2 : List ℕ) (high at least left high2 : ℕ) (gives : AnyReply) → IsWalk n call start (reverse olds) (reverse oldb) c nx pv high at least left → at < n → (call at).number ≤ least → next c (call at).op ≡ Some (after, gives) → Agrees (call at).returned gives → kind_with c ≡ kind_with after → high ≤ high2 → at < high2 →
-    lv.place ≡ at → lv.least ≡ least → lv.high ≡ high → news ≡ olds ++ lv ∷ [] → newb ≡ oldb ++ c ∷ [] → nx2 ≡ next_without nx pv at → pv2 ≡ before_without nx pv at →
-    Stack n call start (reverse news) (reverse newb) after nx2 pv2 high2
-stepped n call start olds news lv oldb newb c after nx pv nx2 pv2 high at least left high2 gives w l low does agrees kind hi hat ep el eh en eb ex ev =
-    let s = placed_frame n call start (reverse olds) (reverse oldb) c after nx pv high at least left high2 lv ep el eh w (candidate_now n call (places (reverse olds)) at least w.is_least low) l (record { reply = gives; does = does; agrees = agrees }) kind hi hat in
+pub stepped : (n : ℕ) (call : ℕ → Call) (start : Content) (olds news : List Level) (lv : Level) (oldb newb : List Content) (c after : Content) (nx pv nx2 pv2 : List ℕ) (high at least left high2 : ℕ) (gives : AnyReply) → IsWalk n call start (reverse olds) oldb c nx pv high at least left → at < n → (call at).number ≤ least → next c (call at).op ≡ Some (after, gives) → Agrees (call at).returned gives → high ≤ high2 → at < high2 →
+    lv.place ≡ at → lv.least ≡ least → lv.high ≡ high → news ≡ olds ++ lv ∷ [] → newb ≡ c ∷ oldb → nx2 ≡ next_without nx pv at → pv2 ≡ before_without nx pv at →
+    Stack n call start (reverse news) newb after nx2 pv2 high2
+stepped n call start olds news lv oldb newb c after nx pv nx2 pv2 high at least left high2 gives w l low does agrees hi hat ep el eh en eb ex ev =
+    let s = placed_frame n call start (reverse olds) oldb c after nx pv high at least left high2 lv ep el eh w (candidate_now n call (places (reverse olds)) at least w.is_least low) l (record { reply = gives; does = does; agrees = agrees }) hi hat in
     let rl : reverse news ≡ lv ∷ reverse olds = ap reverse en ∙ reverse_push olds lv in
-    let rb : reverse newb ≡ c ∷ reverse oldb = ap reverse eb ∙ reverse_push oldb c in
-    subst (λ (x : List ℕ). Stack n call start (reverse news) (reverse newb) after x pv2 high2) (sym ex)
-    (subst (λ (x : List ℕ). Stack n call start (reverse news) (reverse newb) after (next_without nx pv at) x high2) (sym ev)
-    (subst (λ (x : List Level). Stack n call start x (reverse newb) after (next_without nx pv at) (before_without nx pv at) high2) (sym rl)
-    (subst (λ (x : List Content). Stack n call start (lv ∷ reverse olds) x after (next_without nx pv at) (before_without nx pv at) high2) (sym rb) s)))
+    subst (λ (x : List ℕ). Stack n call start (reverse news) newb after x pv2 high2) (sym ex)
+    (subst (λ (x : List ℕ). Stack n call start (reverse news) newb after (next_without nx pv at) x high2) (sym ev)
+    (subst (λ (x : List Level). Stack n call start x newb after (next_without nx pv at) (before_without nx pv at) high2) (sym rl)
+    (subst (λ (x : List Content). Stack n call start (lv ∷ reverse olds) x after (next_without nx pv at) (before_without nx pv at) high2) (sym eb) s)))
 
 pub taken_out : (n : ℕ) (call : ℕ → Call) (start : Content) (ls : List Level) (bs : List Content) (c : Content) (nx pv nx2 pv2 : List ℕ) (high at least left : ℕ) → IsWalk n call start ls bs c nx pv high at least left → at < n → nx2 ≡ next_without nx pv at → pv2 ≡ before_without nx pv at → Linked n (at ∷ places ls) nx2 pv2
 taken_out n call start ls bs c nx pv nx2 pv2 high at least left w l ex ev =
@@ -85,3 +84,10 @@ over_now n call start levels bs c nx pv high left s counts zero_left =
     let r = continued n call start (reverse levels) bs c nx pv high [] s (none_owed n call (places (reverse levels)) (sym counts ∙ zero_left)) in
     let e = r.2 ∙ onto-reverse (places (reverse levels)) [] ∙ append-nil (reverse (places (reverse levels))) ∙ ap reverse (places-reverse levels) ∙ reverse-reverse (places levels) in
     subst (Continues n call [] start) e r.1
+
+-- ---- the contents before the levels
+
+-- with one level more, whose step is undone to c
+pub befores_more : (olds news : List Level) (lv : Level) (c after : Content) → news ≡ olds ++ lv ∷ [] → undone lv.undo after ≡ c → befores (reverse news) after ≡ c ∷ befores (reverse olds) c
+befores_more olds news lv c after e back =
+    ap (λ ls. befores ls after) (ap reverse e ∙ reverse_push olds lv) ∙ ap (λ b. b ∷ befores (reverse olds) b) back

@@ -1,7 +1,7 @@
 -- What one step of a search keeps, and what its end says.
 use Rattle.std.proofs.Common.{◌≡◌, ◌≢◌, ℕ, suc, ◌<◌, ◌≤◌, ◌⊎◌, inl, inr, List, [], ◌∷◌, Some, get_or, refl, ap, sym, ◌∙◌, subst, arith}
 use Rattle.std.proofs.lemmas.Bool.{cases_order}
-use Rattle.model.specs.Objects.{Content, kind_with}
+use Rattle.model.specs.Objects.{Content}
 use Rattle.model.specs.Orders.{Call, Return}
 use Rattle.model.proofs.Lists.{In}
 use Rattle.order_search.specs.declared.level.Level.{Level}
@@ -118,9 +118,9 @@ passed n call start ls bs c nx pv high at least left w l d =
 
 -- one more level
 pub placed_frame : (n : ℕ) (call : ℕ → Call) (start : Content) (ls : List Level) (bs : List Content) (c after : Content) (nx pv : List ℕ) (high at least left new_high : ℕ) (lv : Level) → lv.place ≡ at → lv.least ≡ least → lv.high ≡ high →
-    IsWalk n call start ls bs c nx pv high at least left → IsCandidate n call (places ls) at → at < n → Places call at c after → kind_with c ≡ kind_with after → high ≤ new_high → at < new_high →
+    IsWalk n call start ls bs c nx pv high at least left → IsCandidate n call (places ls) at → at < n → Places call at c after → high ≤ new_high → at < new_high →
     Stack n call start (lv ∷ ls) (c ∷ bs) after (next_without nx pv at) (before_without nx pv at) new_high
-placed_frame n call start ls bs c after nx pv high at least left new_high lv ep el eh w cand l p kind hi hat =
+placed_frame n call start ls bs c after nx pv high at least left new_high lv ep el eh w cand l p hi hat =
     let here = walk_left n call start ls bs c nx pv high at least left w l in
     let link = linked_now n call start ls bs c nx pv high w.stack in
     let bound = bound_now n call start ls bs c nx pv high w.stack in
@@ -128,7 +128,7 @@ placed_frame n call start ls bs c after nx pv high at least left new_high lv ep 
     let new_link = linked_without n (places ls) nx pv at link here in
     let en : next_with (next_without nx pv at) (before_without nx pv at) at ≡ nx = next_again n (places ls) nx pv at a in
     let eb : before_with (next_without nx pv at) (before_without nx pv at) at ≡ pv = before_again n (places ls) nx pv at a in
-    let frame : Frame n call (places ls) c after at least = record { left = here; candidate = cand; placed = p; tried = w.tried; is_least = w.is_least; of_kind = kind } in
+    let frame : Frame n call (places ls) c after at least = record { left = here; candidate = cand; placed = p; tried = w.tried; is_least = w.is_least } in
     let old : Stack n call start ls bs c (next_with (next_without nx pv at) (before_without nx pv at) at) (before_with (next_without nx pv at) (before_without nx pv at) at) high =
     subst (λ (x : List ℕ). Stack n call start ls bs c x (before_with (next_without nx pv at) (before_without nx pv at) at) high) (sym en) (subst (λ (y : List ℕ). Stack n call start ls bs c nx y high) (sym eb) w.stack) in
     let nb : IsBound (at ∷ places ls) new_high = λ k i. elim i [ inl e ↦ (let e' : k ≡ at = e in omega arith) | inr m ↦ (let b = bound k m in omega arith) ] in

@@ -1,12 +1,9 @@
 -- Steps of a search, as its lists are written.
-use Rattle.std.proofs.Common.{◌≡◌, ℕ, zero, suc, add-one, ◌<◌, ◌≤◌, ◌+◌, Bool, true, false, cond, ◌⊎◌, inl, inr, List, [], ◌∷◌, ◌++◌, append_assoc, Option, Some, IsSome, is_some, length, map, reverse, get_or, slice_get, take, refl, ap, sym, ◌∙◌, subst, arith}
-use Rattle.std.proofs.lemmas.List.{reverse-append, map-append, get_or_default, append-nil, take_all}
+use Rattle.std.proofs.Common.{◌≡◌, ℕ, zero, suc, add-one, ◌<◌, ◌≤◌, ◌+◌, Bool, true, false, cond, ◌⊎◌, inl, inr, List, [], ◌∷◌, ◌++◌, append_assoc, Option, Some, IsSome, is_some, length, reverse, get_or, slice_get, take, refl, ap, sym, ◌∙◌, subst, arith}
+use Rattle.std.proofs.lemmas.List.{reverse-append, get_or_default, append-nil, take_all}
 use Rattle.model.specs.declared.Kind.{Kind}
-use Rattle.model.specs.declared.Kind.TheVariants.{Queue, Heap, Register, Map, Mutex}
-use Rattle.model.specs.declared.Kind.TheVariants as kinds
-use Rattle.model.specs.Objects.{Content, empty, next, kind_with}
-use Rattle.order_search.specs.Replies.{IsRefused}
-use Rattle.order_search.proofs.Deadness.{dead_not_possible, dead_differs, dead_child, dead_again}
+use Rattle.model.specs.Objects.{Content, next}
+use Rattle.order_search.proofs.Deadness.{dead_not_possible, dead_child, dead_again}
 use Rattle.model.specs.declared.AnyReply.{AnyReply}
 use Rattle.model.specs.Orders.{Call, Return}
 use Rattle.model.proofs.Lists.{In}
@@ -25,14 +22,10 @@ use Rattle.order_search.proofs.Owed.{owes_placed, owes_pending}
 pub reverse_push : {X : Type 0} (xs : List X) (x : X) → reverse (xs ++ x ∷ []) ≡ x ∷ reverse xs
 reverse_push xs x = reverse-append xs (x ∷ [])
 
-pub popped : (n : ℕ) (call : ℕ → Call) (start : Content) (olds news : List Level) (lv : Level) (oldb newb : List Content) (b c : Content) (nx pv : List ℕ) (high : ℕ) → olds ≡ news ++ lv ∷ [] → oldb ≡ newb ++ b ∷ [] → Stack n call start (reverse olds) (reverse oldb) c nx pv high → Stack n call start (lv ∷ reverse news) (b ∷ reverse newb) c nx pv high
+pub popped : (n : ℕ) (call : ℕ → Call) (start : Content) (olds news : List Level) (lv : Level) (oldb newb : List Content) (b c : Content) (nx pv : List ℕ) (high : ℕ) → olds ≡ news ++ lv ∷ [] → oldb ≡ b ∷ newb → Stack n call start (reverse olds) oldb c nx pv high → Stack n call start (lv ∷ reverse news) (b ∷ newb) c nx pv high
 popped n call start olds news lv oldb newb b c nx pv high e f s =
     let el : reverse olds ≡ lv ∷ reverse news = ap reverse e ∙ reverse_push news lv in
-    let eb : reverse oldb ≡ b ∷ reverse newb = ap reverse f ∙ reverse_push newb b in
-    subst (λ (x : List Content). Stack n call start (lv ∷ reverse news) x c nx pv high) eb (subst (λ (y : List Level). Stack n call start y (reverse oldb) c nx pv high) el s)
-
-pub map_push : {X : Type 0} (f : X → Content) (olds news : List X) (x : X) → olds ≡ news ++ x ∷ [] → map f olds ≡ map f news ++ f x ∷ []
-map_push f olds news x e = ap (map f) e ∙ map-append f news (x ∷ [])
+    subst (λ (x : List Content). Stack n call start (lv ∷ reverse news) x c nx pv high) f (subst (λ (y : List Level). Stack n call start y oldb c nx pv high) el s)
 
 pub count_le : (f : ℕ → Bool) (n : ℕ) → count_below f n ≤ n
 count_le f zero = omega arith
@@ -43,7 +36,7 @@ count_le f (suc n) = go (f n) (count_le f n)
     go false l = omega arith
 
 -- the place of the last level
-pub popped_within : (n : ℕ) (call : ℕ → Call) (start : Content) (olds news : List Level) (lv : Level) (oldb newb : List Content) (b c : Content) (nx pv : List ℕ) (high : ℕ) → olds ≡ news ++ lv ∷ [] → oldb ≡ newb ++ b ∷ [] → Stack n call start (reverse olds) (reverse oldb) c nx pv high → AreWithin nx pv lv.place × (lv.place < n) × (length nx ≡ suc n)
+pub popped_within : (n : ℕ) (call : ℕ → Call) (start : Content) (olds news : List Level) (lv : Level) (oldb newb : List Content) (b c : Content) (nx pv : List ℕ) (high : ℕ) → olds ≡ news ++ lv ∷ [] → oldb ≡ b ∷ newb → Stack n call start (reverse olds) oldb c nx pv high → AreWithin nx pv lv.place × (lv.place < n) × (length nx ≡ suc n)
 popped_within n call start olds news lv oldb newb b c nx pv high e f s =
     let t = popped n call start olds news lv oldb newb b c nx pv high e f s in
     (t.3, t.0.left.0, t.1.long_next)
@@ -57,16 +50,16 @@ dead_pair n call start ls bs c nx pv high at least left undone w d h = record {
 }
 
 -- back to the level before
-pub back_step : (n : ℕ) (call : ℕ → Call) (start : Content) (olds news : List Level) (lv : Level) (oldb newb : List Content) (b c : Content) (nx pv : List ℕ) (high at least left new_left : ℕ) → olds ≡ news ++ lv ∷ [] → oldb ≡ newb ++ b ∷ [] →
-    IsWalk n call start (reverse olds) (reverse oldb) c nx pv high at least left → IsDead n call (places (reverse olds)) c →
+pub back_step : (n : ℕ) (call : ℕ → Call) (start : Content) (olds news : List Level) (lv : Level) (oldb newb : List Content) (b c : Content) (nx pv : List ℕ) (high at least left new_left : ℕ) → olds ≡ news ++ lv ∷ [] → oldb ≡ b ∷ newb →
+    IsWalk n call start (reverse olds) oldb c nx pv high at least left → IsDead n call (places (reverse olds)) c →
     new_left ≡ (cond (is_some (call lv.place).returned) (left + 1) left) →
-    IsWalk n call start (reverse news) (reverse newb) b (next_with nx pv lv.place) (before_with nx pv lv.place) lv.high (get_or (next_with nx pv lv.place) (suc lv.place) 0) lv.least new_left
+    IsWalk n call start (reverse news) newb b (next_with nx pv lv.place) (before_with nx pv lv.place) lv.high (get_or (next_with nx pv lv.place) (suc lv.place) 0) lv.least new_left
 back_step n call start olds news lv oldb newb b c nx pv high at least left new_left e f w d el =
     let s = popped n call start olds news lv oldb newb b c nx pv high e f w.stack in
     let rl : reverse olds ≡ lv ∷ reverse news = ap reverse e ∙ reverse_push news lv in
     let counts : left ≡ count_below (owes call (lv.place ∷ places (reverse news))) n = w.counts ∙ ap (λ (ls : List Level). count_below (owes call (places ls)) n) rl in
     let owed = w.owed in
-    came_back n call start lv (reverse news) b (reverse newb) c nx pv high new_left s
+    came_back n call start lv (reverse news) b newb c nx pv high new_left s
     (subst (λ (ls : List Level). IsDead n call (places ls) c) rl d)
     (go (is_some (call lv.place).returned) refl el counts s.0.left)
     (more (is_some (call lv.place).returned) el owed)
@@ -83,11 +76,11 @@ back_step n call start olds news lv oldb newb b c nx pv high at least left new_l
 pub call_read : (items : List Invocation) (k : ℕ) (d : Invocation) → k < length items → as_call (get_or items k d) ≡ call_at items k
 call_read items k d l = ap as_call (get_or_default items k d _ l)
 
-pub back_walk : (items : List Invocation) (o : Invocation) (start : Content) (olds news : List Level) (lv : Level) (oldb newb : List Content) (b b2 c : Content) (nx pv nx2 pv2 : List ℕ) (high at least left at2 new_left : ℕ) → olds ≡ news ++ lv ∷ [] → oldb ≡ newb ++ b ∷ [] →
-    IsWalk (length items) (call_at items) start (reverse olds) (reverse oldb) c nx pv high at least left → IsDead (length items) (call_at items) (places (reverse olds)) c →
+pub back_walk : (items : List Invocation) (o : Invocation) (start : Content) (olds news : List Level) (lv : Level) (oldb newb : List Content) (b b2 c : Content) (nx pv nx2 pv2 : List ℕ) (high at least left at2 new_left : ℕ) → olds ≡ news ++ lv ∷ [] → oldb ≡ b ∷ newb →
+    IsWalk (length items) (call_at items) start (reverse olds) oldb c nx pv high at least left → IsDead (length items) (call_at items) (places (reverse olds)) c →
     b2 ≡ b → nx2 ≡ next_with nx pv lv.place → pv2 ≡ before_with nx pv lv.place → at2 ≡ get_or nx2 (lv.place + 1) 0 → as_call o ≡ call_at items lv.place →
     new_left ≡ (cond (is_some (return_of o.«end»)) (left + 1) left) →
-    IsWalk (length items) (call_at items) start (reverse news) (reverse newb) b2 nx2 pv2 lv.high at2 lv.least new_left
+    IsWalk (length items) (call_at items) start (reverse news) newb b2 nx2 pv2 lv.high at2 lv.least new_left
 back_walk items o start olds news lv oldb newb b b2 c nx pv nx2 pv2 high at least left at2 new_left e f w dead eb en ep ea eo el =
     let n : ℕ = length items in
     let call : ℕ → Call = call_at items in
@@ -95,10 +88,10 @@ back_walk items o start olds news lv oldb newb b b2 c nx pv nx2 pv2 high at leas
     let r = back_step n call start olds news lv oldb newb b c nx pv high at least left new_left e f w dead
     (subst (λ (o : Option Return). new_left ≡ cond (is_some o) (left + 1) left) ret el) in
     let at_is : at2 ≡ get_or (next_with nx pv lv.place) (suc lv.place) 0 = ea ∙ ap (λ (x : ℕ). get_or nx2 x 0) (add-one lv.place) ∙ ap (λ (x : List ℕ). get_or x (suc lv.place) 0) en in
-    subst (λ (x : Content). IsWalk n call start (reverse news) (reverse newb) x nx2 pv2 lv.high at2 lv.least new_left) (sym eb)
-    (subst (λ (x : List ℕ). IsWalk n call start (reverse news) (reverse newb) b x pv2 lv.high at2 lv.least new_left) (sym en)
-    (subst (λ (x : List ℕ). IsWalk n call start (reverse news) (reverse newb) b (next_with nx pv lv.place) x lv.high at2 lv.least new_left) (sym ep)
-    (subst (λ (x : ℕ). IsWalk n call start (reverse news) (reverse newb) b (next_with nx pv lv.place) (before_with nx pv lv.place) lv.high x lv.least new_left) (sym at_is) r)))
+    subst (λ (x : Content). IsWalk n call start (reverse news) newb x nx2 pv2 lv.high at2 lv.least new_left) (sym eb)
+    (subst (λ (x : List ℕ). IsWalk n call start (reverse news) newb b x pv2 lv.high at2 lv.least new_left) (sym en)
+    (subst (λ (x : List ℕ). IsWalk n call start (reverse news) newb b (next_with nx pv lv.place) x lv.high at2 lv.least new_left) (sym ep)
+    (subst (λ (x : ℕ). IsWalk n call start (reverse news) newb b (next_with nx pv lv.place) (before_with nx pv lv.place) lv.high x lv.least new_left) (sym at_is) r)))
 
 pub pass_walk : (n : ℕ) (call : ℕ → Call) (start : Content) (ls : List Level) (bs : List Content) (c : Content) (nx pv : List ℕ) (high at least left at2 : ℕ) → IsWalk n call start ls bs c nx pv high at least left → at < n → IsDeadAt n call (places ls) c at → at2 ≡ get_or nx (at + 1) 0 →
     IsWalk n call start ls bs c nx pv high at2 least left
@@ -124,12 +117,6 @@ get_some (x ∷ xs) (suc k) z e = let r = get_some xs k z e in let l = r.0 in (o
 pub listed_end : (nx us : List ℕ) (slot high place : ℕ) → ((rest : List ℕ) → Lists nx slot rest high → Lists nx 0 (us ++ rest) high) → slot < length nx → get_or nx slot 0 ≡ place → ((high ≤ place) ⊎ (length nx ≤ suc place)) → Lists nx 0 us high
 listed_end nx us slot high place front l e end = subst (λ (x : List ℕ). Lists nx 0 x high) (append-nil us) (front [] (l, elim end [ inl a ↦ inl (omega arith) | inr b ↦ inr (omega arith) ]))
 
-pub kind_now : (n : ℕ) (call : ℕ → Call) (start : Content) (ls : List Level) (bs : List Content) (c : Content) (nx pv : List ℕ) (high : ℕ) → Stack n call start ls bs c nx pv high → kind_with c ≡ kind_with start
-kind_now n call start [] [] c nx pv high s = ap kind_with s.0
-kind_now n call start [] (b ∷ bs) c nx pv high s = absurd s
-kind_now n call start (l ∷ ls) [] c nx pv high s = absurd s
-kind_now n call start (l ∷ ls) (b ∷ bs) c nx pv high s = sym s.0.of_kind ∙ kind_now n call start ls bs b (next_with nx pv l.place) (before_with nx pv l.place) l.high s.4
-
 -- nothing goes on where each place that was not tried is invoked after the least return
 pub dead_here : (kind : Kind) (items : List Invocation) (floors : List ℕ) (start : Content) (ls : List Level) (bs : List Content) (c : Content) (nx pv : List ℕ) (high at least left : ℕ) → IsArranged kind items floors → IsWalk (length items) (call_at items) start ls bs c nx pv high at least left → ((length items ≤ at) ⊎ ((least < 4294967295) × (least < get_or floors at 0))) → IsDead (length items) (call_at items) (places ls) c
 dead_here kind items floors start ls bs c nx pv high at least left t w o = dead_now (length items) (call_at items) start ls bs c nx pv high at least left w (elim o [
@@ -143,22 +130,9 @@ dead_too_late kind items floors o start ls bs c nx pv high at least left t w l e
     let e = ap (λ (x : Call). x.number) eo in
     dead_after (length items) (call_at items) (places ls) c least at w.is_least small (omega arith) (λ r q. t.ends at r l q)
 
-pub kind_empty : (k : Kind) → kind_with (empty k) ≡ k
-kind_empty Queue = refl
-kind_empty kinds.Stack = refl
-kind_empty Heap = refl
-kind_empty Register = refl
-kind_empty Map = refl
-kind_empty Mutex = refl
-
--- an operation that is not possible, and one that replies otherwise, by the invocation as it was read
+-- an operation that is not possible, by the invocation as it was read
 pub dead_impossible : (items : List Invocation) (o : Invocation) (done : List ℕ) (c : Content) (at : ℕ) → as_call o ≡ call_at items at → (IsSome (next c o.op) → ⊥) → IsDeadAt (length items) (call_at items) done c at
 dead_impossible items o done c at e never = dead_not_possible (length items) (call_at items) done c at (subst (λ (x : Call). IsSome (next c x.op) → ⊥) e never)
-
-pub dead_refused : (items : List Invocation) (o : Invocation) (done : List ℕ) (c : Content) (at : ℕ) → as_call o ≡ call_at items at → IsRefused c o.op (return_of o.«end») → IsDeadAt (length items) (call_at items) done c at
-dead_refused items o done c at e h =
-    let r : IsRefused c (call_at items at).op (call_at items at).returned = subst (λ (x : Call). IsRefused c x.op x.returned) e h in
-    dead_differs (length items) (call_at items) done c r.0 at r.1 r.3.0 r.2 r.3.1 r.3.2
 
 -- a remembered pair is met: the place that leads to it is dead
 pub hit : (n : ℕ) (call : ℕ → Call) (start : Content) (ls : List Level) (bs : List Content) (c after cp : Content) (nx pv nx2 : List ℕ) (high at least left high2 hp : ℕ) (us : List ℕ) (gives : AnyReply) → IsWalk n call start ls bs c nx pv high at least left → at < n → next c (call at).op ≡ Some (after, gives) →

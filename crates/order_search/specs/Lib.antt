@@ -7,3 +7,4 @@ pub mod Outcomes
 pub use Rattle.model.specs.Objects
 pub use Rattle.model.specs.Orders
 pub use Rattle.events.specs.Operations
+pub use Rattle.reversible.specs.Undoing

@@ -1,8 +1,10 @@
 -- What holds between any two steps of a search.
 use Rattle.std.specs.Prelude.{◌≡◌, ℕ, ℤ, pos, ◌<◌, ◌≤◌, ◌⊎◌, List, [], ◌∷◌, Some, All, length, map, reverse}
-use Rattle.model.specs.Objects.{Content, empty, kind_with}
+use Rattle.model.specs.Objects.{Content, empty}
 use Rattle.model.specs.Orders.{Call, Return}
 use Rattle.model.proofs.Lists.{In}
+use Rattle.reversible.specs.Undoing.{content_of, content_kept, undone}
+use Rattle.reversible.specs.declared.step.Step.{Step}
 use Rattle.order_search.specs.declared.level.Level.{Level}
 use Rattle.order_search.specs.declared.trials.Trials.{Trials}
 use Rattle.order_search.specs.declared.dead.Pair.{Pair}
@@ -26,7 +28,11 @@ pub record Frame (n : ℕ) (call : ℕ → Call) (done : List ℕ) (before after
   pub placed : Places call place before after
   pub tried : IsTried n call done before place
   pub is_least : IsLeast n call done least
-  pub of_kind : kind_with before ≡ kind_with after
+
+-- the contents before the levels, the last one first, by what undoes each
+abbrev pub befores : List Level → Content → List Content
+befores [] c = []
+befores (l ∷ ls) c = undone l.undo c ∷ befores ls (undone l.undo c)
 
 abbrev pub IsBound : List ℕ → ℕ → Type 0
 IsBound done high = (k : ℕ) → In k done → k < high
@@ -60,24 +66,31 @@ abbrev pub IsNoOrder : Trials → Type 0
 IsNoOrder t = IsDead (length t.items.items) (call_at t.items.items) [] (empty t.kind)
 
 -- where the search stands nothing goes on, or nothing that begins with this place
-abbrev pub IsDeadHere : {X : Type 0} → (X → Content) → Trials → State X → Type 0
-IsDeadHere content t s = IsDead (length t.items.items) (call_at t.items.items) (places (reverse s.levels.items)) (content s.object)
+abbrev pub IsDeadHere : Trials → State → Type 0
+IsDeadHere t s = IsDead (length t.items.items) (call_at t.items.items) (places (reverse s.levels.items)) (content_of s.object)
 
-abbrev pub IsDeadAtPlace : {X : Type 0} → (X → Content) → Trials → State X → ℕ → Type 0
-IsDeadAtPlace content t s k = IsDeadAt (length t.items.items) (call_at t.items.items) (places (reverse s.levels.items)) (content s.object) k
+abbrev pub IsDeadAtPlace : Trials → State → ℕ → Type 0
+IsDeadAtPlace t s k = IsDeadAt (length t.items.items) (call_at t.items.items) (places (reverse s.levels.items)) (content_of s.object) k
 
 -- so many calls returned
 abbrev pub AreOwed : Trials → ℕ → Type 0
 AreOwed t left = left ≡ count_below (owes (call_at t.items.items) []) (length t.items.items)
 
 -- each remembered pair is dead
-abbrev pub AreDead : {X : Type 0} → (X → Content) → Trials → List (Pair X) → Type 0
-AreDead content t pairs = All (λ p. IsDeadPair (length t.items.items) (call_at t.items.items) p.high p.undone.items (content p.object)) pairs
+abbrev pub AreDead : Trials → List Pair → Type 0
+AreDead t pairs = All (λ p. IsDeadPair (length t.items.items) (call_at t.items.items) p.high p.undone.items (content_kept p.content)) pairs
 
--- a search stands between two steps
-pub record IsSearching {X : Type 0} (content : X → Content) (t : Trials) (s : State X) : Type 0 where
-  pub walk : IsWalk (length t.items.items) (call_at t.items.items) (empty t.kind) (reverse s.levels.items) (reverse (map content s.objects.items)) (content s.object) s.undone.next.items s.undone.before.items s.high s.at s.least s.left
-  pub dead : AreDead content t s.dead.pairs.items
+-- a search stands between two steps, at this content
+pub record IsSearchingAt (t : Trials) (s : State) (c : Content) : Type 0 where
+  pub walk : IsWalk (length t.items.items) (call_at t.items.items) (empty t.kind) (reverse s.levels.items) (befores (reverse s.levels.items) c) c s.undone.next.items s.undone.before.items s.high s.at s.least s.left
+  pub dead : AreDead t s.dead.pairs.items
+
+abbrev pub IsSearching : Trials → State → Type 0
+IsSearching t s = IsSearchingAt t s (content_of s.object)
+
+-- the content before a step that was done
+abbrev pub content_before : State → Step → Content
+content_before s step = undone step.undo (content_of s.object)
 
 -- the numbers of an order of places that goes on from nothing
 pub record IsOrderOf (t : Trials) (order : List ℤ) : Type 0 where

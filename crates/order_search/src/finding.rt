@@ -1,9 +1,6 @@
 //! The search for an order of the operations of one object.
 
 ghost use Rattle.std.specs.Prelude.{◌≡◌, ◌≢◌, ◌<◌, ◌≤◌, ◌↔◌, [], length, All, Any, IsSome, IfOk, map, pos, count_by, is_some};
-ghost use Rattle.model.specs.declared.AnyOp.{AnyOp};
-ghost use Rattle.model.specs.declared.AnyReply.{AnyReply};
-ghost use Rattle.model.specs.Objects.{empty};
 ghost use Rattle.model.specs.Orders.{IsValidOrder};
 ghost use Rattle.events.specs.Operations.{calls_of, return_of};
 ghost use Rattle.order_search.specs.Arranged.{call_at};
@@ -14,7 +11,6 @@ use crate::level::Level;
 use crate::trials::{Trials, TryFirst, call_count, return_count};
 use crate::walk::{Ending, State};
 use events::{Invocation, ObjectHistory};
-use seq_objects::{AnyObject, AnyOp, AnyReply, SeqObject};
 use std::alloc::{AllocError, Global};
 
 /// How a search ends.
@@ -53,19 +49,15 @@ fn order_of(alloc: Global, items: &[Invocation], levels: &[Level]) -> Result<Vec
     Ok(order)
 }
 
-/// Searches from an object that is empty.
-fn ordered<S: SeqObject<Op = AnyOp, Reply = AnyReply>>(
+/// Searches from nothing.
+fn ordered(
     alloc: Global,
-    object: S,
     trials: &Trials,
     left: usize,
     limit: u64,
     steps: &mut u64,
 ) -> Result<Outcome, AllocError>
-    requires own_ops { (op : AnyOp) → S.op_in op ≡ op }
-    requires own_replies { (r : AnyReply) → S.reply_in r ≡ r }
     requires trials { AreTrials trials.now }
-    requires empty { S.content object ≡ empty trials.now.kind }
     requires counts { AreOwed trials.now left }
     requires owed { 0 < left }
     requires steps { steps.old ≤ limit }
@@ -75,7 +67,7 @@ fn ordered<S: SeqObject<Op = AnyOp, Reply = AnyReply>>(
     ensures out_of_steps { IfOk result (λ o. o ≡ Outcome.OutOfSteps → steps.new ≡ limit) }
     ensures decided { IfOk result (λ o. (o ≢ Outcome.TooLarge) × (o ≢ Outcome.NoMemory)) }
 {
-    let mut state = State::begin(alloc, object, trials, left)?;
+    let mut state = State::begin(alloc, trials, left)?;
     match state.run(alloc, trials, limit, steps)? {
         Ending::Done => Ok(Outcome::Found(order_of(alloc, &trials.items, &state.levels)?)),
         Ending::Impossible => Ok(Outcome::Impossible),
@@ -98,15 +90,15 @@ fn searched(
     requires steps { steps.old ≤ limit }
     ensures steps { steps.new ≤ limit }
     ensures found { IfOk result (λ o. IfFound o (IsValidOrder history.now.kind (calls_of history.now.ops))) }
-    ensures impossible { IfOk result (λ o. o ≡ Outcome.Impossible → IsNoneValid history.now.kind (calls_of history.now.ops)) }
+    ensures impossible { IfOk result (λ o. o ≡ Outcome.Impossible →
+        IsNoneValid history.now.kind (calls_of history.now.ops)) }
     ensures out_of_steps { IfOk result (λ o. o ≡ Outcome.OutOfSteps → steps.new ≡ limit) }
     ensures decided { IfOk result (λ o. (o ≢ Outcome.TooLarge) × (o ≢ Outcome.NoMemory)) }
 {
     // This does nothing. It says that the operations are those of an object's history.
     history.ops();
     let trials = Trials::new(alloc, history, first)?;
-    let object = AnyObject::empty(alloc, history.kind());
-    ordered(alloc, object, &trials, left, limit, steps)
+    ordered(alloc, &trials, left, limit, steps)
 }
 
 /// Searches for an order of the operations that is valid, depth first, in at most so many steps. A step is one

@@ -113,7 +113,8 @@ impl Trials {
     ) -> Result<Trials, AllocError>
         requires few { length (calls_of history.now.ops) ≤ max_operations }
         ensures kind { IfOk result (λ t. t.kind ≡ history.now.kind) }
-        ensures items { IfOk result (λ t. IsPermutation (filter (λ o. is_some (call_of o)) history.now.ops) t.items.items) }
+        ensures items { IfOk result (λ t.
+            IsPermutation (filter (λ o. is_some (call_of o)) history.now.ops) t.items.items) }
         ensures arranged { IfOk result (λ t. IsArranged t.kind t.items.items t.floors.items) }
     {
         let mut items = items_of(alloc, history.ops())?;

@@ -45,7 +45,8 @@ impl Undone {
     pub fn take_out(&mut self, place: u16)
         requires { AreWithin self.old.next.items self.old.before.items place }
         ensures next { self.new.next.items ≡ next_without self.old.next.items self.old.before.items place }
-        ensures before { self.new.before.items ≡ before_without self.old.next.items self.old.before.items place }
+        ensures before { self.new.before.items
+            ≡ before_without self.old.next.items self.old.before.items place }
     {
         let slot = self.before[place as usize];
         let next = self.next[place as usize + 1];

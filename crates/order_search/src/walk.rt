@@ -1,15 +1,14 @@
 //! The walk through the beginnings of orders.
 
 ghost use Rattle.std.specs.Prelude.{◌≡◌, ◌≢◌, ℕ, ◌+◌, ◌<◌, ◌≤◌, ◌⊎◌, List, length, [], Some, None, IsSome, IfSome, IfOk, OnOk, MatchBool, map, reverse, is_some, true, false, if◌then◌else◌};
-ghost use Rattle.model.specs.declared.AnyOp.{AnyOp};
-ghost use Rattle.model.specs.declared.AnyReply.{AnyReply};
-ghost use Rattle.model.specs.Objects.{empty, next, kind_with};
+ghost use Rattle.model.specs.Objects.{next};
 ghost use Rattle.model.specs.Orders.{Return};
 ghost use Rattle.events.specs.Operations.{return_of};
+ghost use Rattle.reversible.specs.Undoing.{content_of};
 ghost use Rattle.order_search.specs.Arranged.{call_at};
 ghost use Rattle.order_search.specs.Links.{Linked};
-ghost use Rattle.order_search.specs.Replies.{Agrees, Differs, IsRefused};
-ghost use Rattle.order_search.specs.Searching.{places, AreTrials, AreOwed, IsLeast, IsOrder, IsNoOrder, IsDeadHere, IsDeadAtPlace, IsSearching};
+ghost use Rattle.order_search.specs.Replies.{Agrees, Differs};
+ghost use Rattle.order_search.specs.Searching.{places, content_before, AreTrials, AreOwed, IsLeast, IsOrder, IsNoOrder, IsDeadHere, IsDeadAtPlace, IsSearching, IsSearchingAt};
 
 use crate::dead::{Dead, Pair};
 use crate::digest::Digest;
@@ -17,9 +16,9 @@ use crate::level::Level;
 use crate::trials::{Trials, has_returned};
 use crate::undone::Undone;
 use events::{End, Invocation};
-use seq_objects::{AnyOp, AnyReply, SeqObject};
+use reversible::{Kept, Reversible, Step};
+use seq_objects::AnyReply;
 use std::alloc::{AllocError, Global};
-use std::mem::replace;
 
 /// How a walk ends.
 #[derive(Clone, Copy, Debug, PartialEq, Eq)]
@@ -45,8 +44,11 @@ fn earlier(end: &End, least: u32) -> u32
 /// The least return of the operations that are not in the order.
 fn least_return(trials: &Trials, undone: &Undone) -> u32
     requires trials { AreTrials trials.now }
-    requires linked { (done : List ℕ) × Linked (length trials.now.items.items) done undone.now.next.items undone.now.before.items }
-    ensures { (done : List ℕ) → Linked (length trials.now.items.items) done undone.now.next.items undone.now.before.items → IsLeast (length trials.now.items.items) (call_at trials.now.items.items) done result }
+    requires linked { (done : List ℕ)
+        × Linked (length trials.now.items.items) done undone.now.next.items undone.now.before.items }
+    ensures { (done : List ℕ) →
+        Linked (length trials.now.items.items) done undone.now.next.items undone.now.before.items →
+        IsLeast (length trials.now.items.items) (call_at trials.now.items.items) done result }
 {
     let mut least = u32::MAX;
     let mut at = undone.next[0] as usize;
@@ -89,34 +91,13 @@ fn one_more(left: usize, end: &End) -> usize
     if has_returned(end) { left + 1 } else { left }
 }
 
-/// The object after the operation, and the reply, where that is the one that the operation returned.
-fn tried<S: SeqObject<Op = AnyOp, Reply = AnyReply>>(
-    object: &S,
-    item: &Invocation,
-) -> Result<Option<(S, AnyReply)>, AllocError>
-    requires own_ops { (op : AnyOp) → S.op_in op ≡ op }
-    requires own_replies { (r : AnyReply) → S.reply_in r ≡ r }
-    requires possible { IsSome (next (S.content object.now) item.now.op) }
-    ensures none { IfOk result (λ o. o ≡ None → IsRefused (S.content object.now) item.now.op (return_of item.now.«end»)) }
-    ensures some { IfOk result (λ o. IfSome o (λ v. (next (S.content object.now) item.now.op ≡ Some (S.content v.0, v.1)) × Agrees (return_of item.now.«end») v.1 × (kind_with (S.content v.0) ≡ kind_with (S.content object.now)))) }
-{
-    let mut after = object.try_copy()?;
-    let gives = after.apply(&item.op)?;
-    if differs(&item.end, gives) {
-        return Ok(None);
-    }
-    Ok(Some((after, gives)))
-}
-
 /// Where a search stands: the order that has begun, and the place that is looked at next.
 #[derive(Drop)]
-pub(crate) struct State<S: SeqObject<Op = AnyOp, Reply = AnyReply>> {
+pub(crate) struct State {
     pub levels: Vec<Level>,
-    /// The contents before each level.
-    pub objects: Vec<S>,
-    pub object: S,
+    pub object: Reversible,
     pub undone: Undone,
-    pub dead: Dead<S>,
+    pub dead: Dead,
     pub digest: Digest,
     /// All places in the order lie below.
     pub high: u16,
@@ -127,19 +108,13 @@ pub(crate) struct State<S: SeqObject<Op = AnyOp, Reply = AnyReply>> {
     pub left: usize,
 }
 
-impl<S: SeqObject<Op = AnyOp, Reply = AnyReply>> State<S> {
+impl State {
     /// Before the first step, with an object that is empty.
-    pub fn begin(
-        alloc: Global,
-        object: S,
-        trials: &Trials,
-        left: usize,
-    ) -> Result<State<S>, AllocError>
+    pub fn begin(alloc: Global, trials: &Trials, left: usize) -> Result<State, AllocError>
         requires trials { AreTrials trials.now }
-        requires empty { S.content object ≡ empty trials.now.kind }
         requires counts { AreOwed trials.now left }
         requires owed { 0 < left }
-        ensures search { IfOk result (λ s. IsSearching S.content trials.now s) }
+        ensures search { IfOk result (λ s. IsSearching trials.now s) }
         ensures levels { IfOk result (λ s. s.levels.items ≡ []) }
     {
         let undone = Undone::all(alloc, trials.items.len() as u16)?;
@@ -147,8 +122,7 @@ impl<S: SeqObject<Op = AnyOp, Reply = AnyReply>> State<S> {
         let at = undone.next[0];
         Ok(State {
             levels: Vec::new(alloc),
-            objects: Vec::new(alloc),
-            object,
+            object: Reversible::empty(alloc, trials.kind),
             undone,
             dead: Dead::new(alloc),
             digest: Digest::new(),
@@ -162,10 +136,10 @@ impl<S: SeqObject<Op = AnyOp, Reply = AnyReply>> State<S> {
     /// Goes on to the next place.
     fn pass(&mut self, trials: &Trials)
         requires trials { AreTrials trials.now }
-        requires search { IsSearching S.content trials.now self.old }
+        requires search { IsSearching trials.now self.old }
         requires at { self.old.at < length trials.now.items.items }
-        requires dead_at { IsDeadAtPlace S.content trials.now self.old self.old.at }
-        ensures search { IsSearching S.content trials.now self.new }
+        requires dead_at { IsDeadAtPlace trials.now self.old self.old.at }
+        ensures search { IsSearching trials.now self.new }
         ensures rises { self.old.at < self.new.at }
         ensures levels { self.new.levels ≡ self.old.levels }
     {
@@ -174,36 +148,41 @@ impl<S: SeqObject<Op = AnyOp, Reply = AnyReply>> State<S> {
         self.at = self.undone.next[self.at as usize + 1];
     }
 
-    /// Puts the operation into the order, if that leads to no pair that is dead. Whether the order is done.
-    fn go_on(&mut self, trials: &Trials, after: S, gives: AnyReply) -> Result<bool, AllocError>
+    /// Puts the operation, which was done, into the order, if that leads to no pair that is dead; else undoes it.
+    /// Whether the order is done.
+    fn go_on(&mut self, trials: &Trials, step: Step) -> Result<bool, AllocError>
         requires trials { AreTrials trials.now }
-        requires search { IsSearching S.content trials.now self.old }
+        requires search { IsSearchingAt trials.now self.old (content_before self.old step) }
         requires at { self.old.at < length trials.now.items.items }
         requires in_time { (call_at trials.now.items.items self.old.at).number ≤ self.old.least }
-        requires does { next (S.content self.old.object) (call_at trials.now.items.items self.old.at).op ≡ Some (S.content after, gives) }
-        requires agrees { Agrees (call_at trials.now.items.items self.old.at).returned gives }
-        requires of_kind { kind_with (S.content after) ≡ kind_with (S.content self.old.object) }
-        ensures search { IfOk result (λ over. over ≡ false → IsSearching S.content trials.now self.new) }
+        requires does { next (content_before self.old step) (call_at trials.now.items.items self.old.at).op
+            ≡ Some (content_of self.old.object, step.reply) }
+        requires agrees { Agrees (call_at trials.now.items.items self.old.at).returned step.reply }
+        ensures search { IfOk result (λ over. over ≡ false → IsSearching trials.now self.new) }
         ensures over { IfOk result (λ over. over ≡ true → IsOrder trials.now (places self.new.levels.items)) }
         ensures deep { length self.new.levels.items ≤ length self.old.levels.items + 1 }
     {
         let place = self.at;
         let item = &trials.items[place as usize];
-        let digest = self.digest.after(place, &item.op, &gives);
+        let digest = self.digest.after(place, &item.op, &step.reply);
         let high = self.high.max(place + 1);
         self.undone.take_out(place);
-        if self.dead.holds(digest.hash(), high, &self.undone, &after) {
+        if self
+            .dead
+            .holds(digest.hash(), high, &self.undone, &self.object)
+        {
             self.undone.put_back(place);
+            self.object.undo(step.undo)?;
             self.pass(trials);
             return Ok(false);
         }
         self.levels.push(Level {
             place,
+            undo: step.undo,
             least: self.least,
             high: self.high,
             digest: self.digest,
         })?;
-        self.objects.push(replace(&mut self.object, after))?;
         self.left = one_less(self.left, &item.end);
         if self.left == 0 {
             return Ok(true);
@@ -215,28 +194,49 @@ impl<S: SeqObject<Op = AnyOp, Reply = AnyReply>> State<S> {
         Ok(false)
     }
 
+    /// Tries the operation that is looked at. Whether the order is done.
+    fn attempt(&mut self, trials: &Trials) -> Result<bool, AllocError>
+        requires trials { AreTrials trials.now }
+        requires search { IsSearching trials.now self.old }
+        requires at { self.old.at < length trials.now.items.items }
+        requires in_time { (call_at trials.now.items.items self.old.at).number ≤ self.old.least }
+        requires possible { IsSome
+            (next (content_of self.old.object) (call_at trials.now.items.items self.old.at).op) }
+        ensures search { IfOk result (λ over. over ≡ false → IsSearching trials.now self.new) }
+        ensures over { IfOk result (λ over. over ≡ true → IsOrder trials.now (places self.new.levels.items)) }
+        ensures deep { length self.new.levels.items ≤ length self.old.levels.items + 1 }
+    {
+        let item = &trials.items[self.at as usize];
+        let step = self.object.apply(&item.op)?;
+        if differs(&item.end, step.reply) {
+            self.object.undo(step.undo)?;
+            self.pass(trials);
+            return Ok(false);
+        }
+        self.go_on(trials, step)
+    }
+
     /// Remembers where the search stands as dead, and goes back to the level before. Whether there is one.
     fn come_back(&mut self, alloc: Global, trials: &Trials) -> Result<bool, AllocError>
         requires trials { AreTrials trials.now }
-        requires search { IsSearching S.content trials.now self.old }
-        requires dead_here { IsDeadHere S.content trials.now self.old }
-        ensures search { IfOk result (λ more. more ≡ true → IsSearching S.content trials.now self.new) }
+        requires search { IsSearching trials.now self.old }
+        requires dead_here { IsDeadHere trials.now self.old }
+        ensures search { IfOk result (λ more. more ≡ true → IsSearching trials.now self.new) }
         ensures none { IfOk result (λ more. more ≡ false → IsNoOrder trials.now) }
-        ensures back { IfOk result (λ more. more ≡ true → length self.old.levels.items ≡ length self.new.levels.items + 1) }
+        ensures back { IfOk result (λ more. more ≡ true →
+            length self.old.levels.items ≡ length self.new.levels.items + 1) }
     {
         let Some(level) = self.levels.pop() else {
-            return Ok(false);
-        };
-        let Some(before) = self.objects.pop() else {
             return Ok(false);
         };
         let pair = Pair {
             hash: self.digest.hash(),
             high: self.high,
             undone: self.undone.below(alloc, self.high)?,
-            object: replace(&mut self.object, before),
+            content: Kept::of(alloc, &self.object)?,
         };
         self.dead.remember(alloc, pair)?;
+        self.object.undo(level.undo)?;
         self.undone.put_back(level.place);
         self.left = one_more(self.left, &trials.items[level.place as usize].end);
         self.digest = level.digest;
@@ -254,14 +254,13 @@ impl<S: SeqObject<Op = AnyOp, Reply = AnyReply>> State<S> {
         limit: u64,
         steps: &mut u64,
     ) -> Result<Ending, AllocError>
-        requires own_ops { (op : AnyOp) → S.op_in op ≡ op }
-        requires own_replies { (r : AnyReply) → S.reply_in r ≡ r }
         requires trials { AreTrials trials.now }
-        requires search { IsSearching S.content trials.now self.old }
+        requires search { IsSearching trials.now self.old }
         requires none { self.old.levels.items ≡ [] }
         requires steps { steps.old ≤ limit }
         ensures steps { steps.new ≤ limit }
-        ensures over { IfOk result (λ e. e ≡ Ending.Done → IsOrder trials.now (places self.new.levels.items)) }
+        ensures over { IfOk result (λ e. e ≡ Ending.Done →
+            IsOrder trials.now (places self.new.levels.items)) }
         ensures impossible { IfOk result (λ e. e ≡ Ending.Impossible → IsNoOrder trials.now) }
         ensures out { IfOk result (λ e. e ≡ Ending.OutOfSteps → steps.new ≡ limit) }
     {
@@ -274,7 +273,7 @@ impl<S: SeqObject<Op = AnyOp, Reply = AnyReply>> State<S> {
                 continue;
             }
             let item = &trials.items[at];
-            if item.number > self.least || !self.object.possible(&item.op) {
+            if item.number > self.least || !self.object.is_possible(&item.op) {
                 self.pass(trials);
                 continue;
             }
@@ -282,13 +281,8 @@ impl<S: SeqObject<Op = AnyOp, Reply = AnyReply>> State<S> {
                 return Ok(Ending::OutOfSteps);
             }
             *steps += 1;
-            match tried(&self.object, item)? {
-                None => self.pass(trials),
-                Some((after, gives)) => {
-                    if self.go_on(trials, after, gives)? {
-                        return Ok(Ending::Done);
-                    }
-                }
+            if self.attempt(trials)? {
+                return Ok(Ending::Done);
             }
         }
     }

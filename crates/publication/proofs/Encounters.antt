@@ -5,7 +5,7 @@ use Rattle.atomic_table.specs.Table.{Me}
 use Rattle.model.specs.declared.AnyOp.{AnyOp}
 use Rattle.model.specs.declared.AnyReply.{AnyReply}
 use Rattle.world.specs.World.{AnyEntry, kind_at, IsLegal, StartsWith}
-use Rattle.roster.specs.declared.board.Enlist.{Enlist}
+use Rattle.roster.specs.Calls.{PlaceSeen}
 use Rattle.desk_rule.specs.declared.board.Journal.{Journal}
 use Rattle.desk_rule.specs.declared.board.Slot.{Slot}
 use Rattle.desk_rule.specs.declared.board.View.{View}
@@ -23,8 +23,8 @@ module _ {S O R : Type 0} (op_in : O → AnyOp) (reply_in : R → AnyReply) (num
   met_ok x l h m d k low legal account e = subst TheClient (sym e) record { agrees = agrees_seeing x l low legal account (agrees_light k.agrees); free = k.free; in_hand = k.in_hand }
 
 -- what the meeting says: a and b before, a' and b' after
-pub met : (x : ℕ) (one other : Known) (d e : DeskId) (s t : List (List Enlist)) (a b a' b' : View) (l : List AnyEntry) (h i : List (List AnyEntry)) → one.desk.kinds ≡ a.kinds → one.knows ≡ a → other.knows ≡ b → a' ≡ seeing x l (record a { heard = h }) → b' ≡ seeing x l (record b { heard = i })
-    → x < length a.seen → x < length b.seen → IsLegal (kind_at a.kinds x) l → StartsWith l (seen_of a x) → StartsWith l (seen_of b x) → Met x one other (record { desk = d; knows = a'; tries = s }) (record { desk = e; knows = b'; tries = t })
+pub met : (x : ℕ) (one other : Known) (d e : DeskId) (s t : List PlaceSeen) (a b a' b' : View) (l : List AnyEntry) (h i : List (List AnyEntry)) → one.desk.kinds ≡ a.kinds → one.knows ≡ a → other.knows ≡ b → a' ≡ seeing x l (record a { heard = h }) → b' ≡ seeing x l (record b { heard = i })
+    → x < length a.seen → x < length b.seen → IsLegal (kind_at a.kinds x) l → StartsWith l (seen_of a x) → StartsWith l (seen_of b x) → Met x one other (record { desk = d; knows = a'; places = s }) (record { desk = e; knows = b'; places = t })
 met x one other d e s t a b a' b' l h i kinds p q f g there there' legal first second = record {
   log = l;
   first = f ∙ λ k. seeing x l (record (sym p k) { heard = sym (ap (λ z. z.heard) f) k });

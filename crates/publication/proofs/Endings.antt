@@ -27,8 +27,8 @@ pub own_number : (n : ℕ) (b : Known) → n ≡ b.knows.number → HaveEnded n 
 own_number n b e before c l other = before c (let d : c ≢ n = λ f. other (f ∙ e) in omega arith) other
 
 -- one more has ended
-pub one_ended : (n : ℕ) (a b b' : Known) → b'.desk ≡ b.desk → b'.tries ≡ b.tries → b'.knows ≡ knowing_end n b.knows → HaveEnded n b → HasLearntEnds a b → HaveEnded (n + 1) b' × HasLearntEnds a b'
-one_ended n a b b' e t f before is = subst (λ z. HaveEnded (n + 1) z × HasLearntEnds a z) (λ i. record { desk = sym e i; knows = sym f i; tries = sym t i }) (
+pub one_ended : (n : ℕ) (a b b' : Known) → b'.desk ≡ b.desk → b'.places ≡ b.places → b'.knows ≡ knowing_end n b.knows → HaveEnded n b → HasLearntEnds a b → HaveEnded (n + 1) b' × HasLearntEnds a b'
+one_ended n a b b' e t f before is = subst (λ z. HaveEnded (n + 1) z × HasLearntEnds a z) (λ i. record { desk = sym e i; knows = sym f i; places = sym t i }) (
   (λ c l other. dite (ℕ_discrete c n)
       (λ same. subst (Contains (b.knows.retired ++ n ∷ [])) (sym same) (Contains-push b.knows.retired n))
       (λ apart. Contains-append_left b.knows.retired (n ∷ []) c (before c (omega arith) other))),

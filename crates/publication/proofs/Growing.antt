@@ -4,6 +4,7 @@ use mathlib.Core.Logic.{dite}
 use mathlib.Core.Option.{some, some-injective}
 use native.Mathlib.Decide.{ℕ_discrete}
 use lib.ListN.{get_elem?}
+use Rattle.atomic_table.specs.Seated.{TableId}
 use Rattle.atomic_table.proofs.Lists.{at_longer, at_last}
 use Rattle.desk_rule.proofs.Beginnings.{at_end}
 use Rattle.desk_rule.specs.declared.board.Core.{Core}
@@ -37,15 +38,15 @@ module _ {A : Type 0} where
   )
 
 module _ {S O R : Type 0} where
-  pub cores_more : (os os' : List S) (ss ss' : List (Slot S O R)) (o : S) (k : Core S O R) → os' ≡ os ++ o ∷ [] → ss' ≡ ss ++ slot.Core k ∷ [] → length ss ≡ length os → k.object ≡ o → k.log.items ≡ []
-      → AreCores os ss → AreCores os' ss'
-  cores_more os os' ss ss' o k e f n on empty before x p at = ⊎_elim
-      (λ (t : get_elem? os x ≡ some p). let b = before x p t in (b.0, ap (λ z. get_elem? z x) f ∙ at_longer ss (slot.Core k ∷ []) x (slot.Core b.0) b.1, b.2, b.3))
-      (λ (t : (x ≡ length os) × (o ≡ p)). (k, ap (λ z. get_elem? z x) f ∙ at_last ss (slot.Core k) x (n ∙ sym t.0), on ∙ t.1, empty))
+  pub cores_more : (lists : List TableId) (os os' : List S) (ss ss' : List (Slot S O R)) (o : S) (k : Core S O R) → os' ≡ os ++ o ∷ [] → ss' ≡ ss ++ slot.Core k ∷ [] → length ss ≡ length os → k.object ≡ o → k.log.items ≡ []
+      → get_elem? lists (length os) ≡ some k.list.roster → AreCores os lists ss → AreCores os' lists ss'
+  cores_more lists os os' ss ss' o k e f n on empty list before x p at = ⊎_elim
+      (λ (t : get_elem? os x ≡ some p). let b = before x p t in (b.0, ap (λ z. get_elem? z x) f ∙ at_longer ss (slot.Core k ∷ []) x (slot.Core b.0) b.1, b.2, b.3, b.4))
+      (λ (t : (x ≡ length os) × (o ≡ p)). (k, ap (λ z. get_elem? z x) f ∙ at_last ss (slot.Core k) x (n ∙ sym t.0), on ∙ t.1, empty, ap (get_elem? lists) t.0 ∙ list))
       (at_end os o p x (ap (λ z. get_elem? z x) (sym e) ∙ at))
 
-  pub cores_longer : (os : List S) (ss ss' more : List (Slot S O R)) → ss' ≡ ss ++ more → AreCores os ss → AreCores os ss'
-  cores_longer os ss ss' more e before x p at = let b = before x p at in (b.0, ap (λ z. get_elem? z x) e ∙ at_longer ss more x (slot.Core b.0) b.1, b.2, b.3)
+  pub cores_longer : (lists : List TableId) (os : List S) (ss ss' more : List (Slot S O R)) → ss' ≡ ss ++ more → AreCores os lists ss → AreCores os lists ss'
+  cores_longer lists os ss ss' more e before x p at = let b = before x p at in (b.0, ap (λ z. get_elem? z x) e ∙ at_longer ss more x (slot.Core b.0) b.1, b.2, b.3, b.4)
 
   pub nothing_more : (ss ss' : List (Slot S O R)) (from : ℕ) → ss' ≡ ss ++ slot.Nothing ∷ [] → ((i : ℕ) → from ≤ i → i < length ss → get_elem? ss i ≡ some slot.Nothing)
       → (i : ℕ) → from ≤ i → i < length ss + 1 → get_elem? ss' i ≡ some slot.Nothing

@@ -1,7 +1,11 @@
 -- A client that wins an object, serves rows and puts the object back: its fields go on agreeing with what it knows.
-use lib.ListN.{length-map}
+use mathlib.Core.Option as maybe
+use mathlib.Core.Option.{some}
+use lib.ListN.{get_elem?, length-map}
 use Rattle.std.proofs.Common.{◌≡◌, ℕ, ◌+◌, ◌-◌, ◌<◌, ◌≤◌, Bool, true, List, [], ◌∷◌, ◌++◌, length, length-append, get_or, vec_len, vec_capacity, refl, sym, ap, subst, ◌∙◌, arith, length-set}
 use Rattle.atomic_table.specs.Table.{rest, Me}
+use Rattle.atomic_table.specs.Seated.{TableId}
+use Rattle.roster.specs.Calls.{WalkerSeen}
 use Rattle.model.specs.declared.Kind.{Kind}
 use Rattle.model.specs.declared.AnyOp.{AnyOp}
 use Rattle.model.specs.declared.AnyReply.{AnyReply}
@@ -69,11 +73,11 @@ module _ {S O R : Type 0} (op_in : O → AnyOp) (reply_in : R → AnyReply) wher
 
 module _ {S O R : Type 0} (content : S → Content) (op_in : O → AnyOp) (reply_in : R → AnyReply) where
   -- the core after a request was served
-  pub core_grows : (kind : Kind) (r : ℕ) (k k' : Core S O R) (q : Request O) (a : Answer R) → Fits content op_in reply_in kind k (log_of op_in reply_in k)
+  pub core_grows : (kind : Kind) (list : maybe.Option TableId) (r : ℕ) (k k' : Core S O R) (q : Request O) (a : Answer R) → k'.list ≡ k.list → Fits content op_in reply_in kind list k (log_of op_in reply_in k)
       → log_of op_in reply_in k' ≡ log_of op_in reply_in k ++ logged r (request_in op_in q) (answer_in reply_in a) → Serves (content k.object) (op_in q.op) (answer_in reply_in a) (content k'.object)
-      → Fits content op_in reply_in kind k' (log_of op_in reply_in k')
-  core_grows kind r k k' q a fits log did =
-      (refl, subst (λ z. Replays (empty kind) z (content k'.object)) (sym log) (replays_more (empty kind) (content k.object) (content k'.object) (log_of op_in reply_in k) r (request_in op_in q) (answer_in reply_in a) fits.1 did))
+      → Fits content op_in reply_in kind list k' (log_of op_in reply_in k')
+  core_grows kind list r k k' q a same fits log did =
+      (refl, subst (λ z. Replays (empty kind) z (content k'.object)) (sym log) (replays_more (empty kind) (content k.object) (content k'.object) (log_of op_in reply_in k) r (request_in op_in q) (answer_in reply_in a) fits.1 did), fits.2 ∙ ap (λ (l : WalkerSeen). some l.roster) (sym same))
 
 module _ {S O R : Type 0} (content : S → Content) (op_in : O → AnyOp) (reply_in : R → AnyReply) (number calls quota : ℕ) (outstanding : Bool) (j : Journal O R) where
   abbrev M : Type 0
@@ -93,7 +97,7 @@ module _ {S O R : Type 0} (content : S → Content) (op_in : O → AnyOp) (reply
 
   -- the core is out of its slot: m before, a after the win, b with nothing in the slot
   pub pass_ok : (x : ℕ) (k core : Core S O R) (l : List AnyEntry) (m a b : M) → TheClient m → a ≡ (holding x l m.0, (x, slot.Core k) ∷ m.1) → b ≡ (a.0, (x, slot.Nothing) ∷ rest a.1) → core ≡ k
-      → Fits content op_in reply_in (kind_at m.0.kinds x) k l → x < 16 → ThePass x core b
+      → Fits content op_in reply_in (kind_at m.0.kinds x) (get_elem? m.0.lists x) k l → x < 16 → ThePass x core b
   pass_ok x k core l m a b c e f same fits low =
       let log : log_of op_in reply_in core ≡ l = ap (log_of op_in reply_in) same ∙ fits.0 in
       let is : b ≡ (holding x (log_of op_in reply_in core) m.0, (x, slot.Nothing) ∷ m.1) = f ∙ (ap (λ z. (z.0, (x, slot.Nothing) ∷ rest z.1)) e ∙ ap (λ z. (holding x z m.0, (x, slot.Nothing) ∷ m.1)) (sym log)) in
@@ -101,7 +105,7 @@ module _ {S O R : Type 0} (content : S → Content) (op_in : O → AnyOp) (reply
         agrees = agrees_light c.agrees;
         holds = refl;
         in_hand = ap (λ z. (x, slot.Nothing) ∷ z) c.in_hand;
-        fits = (refl, subst (λ z. Replays (empty (kind_at m.0.kinds x)) (log_of op_in reply_in z) (content z.object)) (sym same) (subst (λ z. Replays (empty (kind_at m.0.kinds x)) z (content k.object)) (sym fits.0) fits.1));
+        fits = (refl, subst (λ z. Replays (empty (kind_at m.0.kinds x)) (log_of op_in reply_in z) (content z.object)) (sym same) (subst (λ z. Replays (empty (kind_at m.0.kinds x)) z (content k.object)) (sym fits.0) fits.1), fits.2 ∙ ap (λ (z : Core S O R). some z.list.roster) (sym same));
         low = low;
       }
 
@@ -119,8 +123,8 @@ module _ {S O R : Type 0} (content : S → Content) (op_in : O → AnyOp) (reply
 
   -- with the core in hand, the client may release
   pub release_ready : (x : ℕ) (core : Core S O R) (m a : M) → ThePass x core m → a ≡ (m.0, (x, slot.Core core) ∷ rest m.1)
-      → (a.0.client ≡ true) × (a.0.held ≡ held.Pass x (log_of op_in reply_in core)) × (a.1 ≡ (x, slot.Core core) ∷ rest m.1) × Fits content op_in reply_in (kind_at a.0.kinds x) core (log_of op_in reply_in core) × IsAtRest a.0.own
-  release_ready x core m a p e = subst (λ (z : M). (z.0.client ≡ true) × (z.0.held ≡ held.Pass x (log_of op_in reply_in core)) × (z.1 ≡ (x, slot.Core core) ∷ rest m.1) × Fits content op_in reply_in (kind_at z.0.kinds x) core (log_of op_in reply_in core) × IsAtRest z.0.own)
+      → (a.0.client ≡ true) × (a.0.held ≡ held.Pass x (log_of op_in reply_in core)) × (a.1 ≡ (x, slot.Core core) ∷ rest m.1) × Fits content op_in reply_in (kind_at a.0.kinds x) (get_elem? a.0.lists x) core (log_of op_in reply_in core) × IsAtRest a.0.own
+  release_ready x core m a p e = subst (λ (z : M). (z.0.client ≡ true) × (z.0.held ≡ held.Pass x (log_of op_in reply_in core)) × (z.1 ≡ (x, slot.Core core) ∷ rest m.1) × Fits content op_in reply_in (kind_at z.0.kinds x) (get_elem? z.0.lists x) core (log_of op_in reply_in core) × IsAtRest z.0.own)
       (sym e) (p.agrees.client_is, p.holds, refl, p.fits, p.agrees.at_rest)
 
   -- with the request in hand again, the client may put it back
@@ -180,7 +184,7 @@ module _ {S O R : Type 0} (content : S → Content) (op_in : O → AnyOp) (reply
       }
 
   -- the pass after an answer: b with the answer in hand, d after the step
-  pub answered_ok : (x r : ℕ) (k k' : Core S O R) (q : Request O) (a : Answer R) (m b d : M) → TheHand x k r q m → Fits content op_in reply_in (kind_at m.0.kinds x) k' (log_of op_in reply_in k')
+  pub answered_ok : (x r : ℕ) (k k' : Core S O R) (q : Request O) (a : Answer R) (m b d : M) → TheHand x k r q m → Fits content op_in reply_in (kind_at m.0.kinds x) (get_elem? m.0.lists x) k' (log_of op_in reply_in k')
       → log_of op_in reply_in k' ≡ log_of op_in reply_in k ++ logged r (request_in op_in q) (answer_in reply_in a) → b ≡ (m.0, (16 + r, slot.Answer a) ∷ rest m.1)
       → d ≡ (answering r x (log_of op_in reply_in k ++ logged r (request_in op_in q) (answer_in reply_in a)) b.0, rest m.1) → ThePass x k' d
   answered_ok x r k k' q a m b d h fits log e f =

@@ -3,6 +3,7 @@ use Rattle.std.proofs.Common.{◌≡◌, ℕ, zero, suc, ◌+◌, ◌<◌, false
 use mathlib.Core.Option.{some, some-injective, some-ne-none}
 use lib.ListN.{get_elem?, length-map}
 use Rattle.atomic_table.specs.Table.{Me, opening}
+use Rattle.atomic_table.specs.Seated.{TableId}
 use Rattle.model.specs.declared.Kind.{Kind}
 use Rattle.model.specs.declared.AnyOp.{AnyOp}
 use Rattle.model.specs.declared.AnyReply.{AnyReply}
@@ -34,21 +35,21 @@ module _ {A : Type 0} where
   kind_there f (x ∷ xs) (suc i) a e = kind_there f xs i a e
 
 module _ {S O R : Type 0} (content : S → Content) (op_in : O → AnyOp) (reply_in : R → AnyReply) where
-  pub opens_on : (plan : Plan) (objects : List S) (slots : List (Slot S O R)) → IsSmall plan → plan.kinds.items ≡ kinds_with content objects → AreEmpty content objects → IsLaid objects slots
-      → Kept content op_in reply_in plan.kinds.items plan.clients plan.quota (opening (replicate 81 0) slots (founder plan.kinds.items))
+  pub opens_on : (plan : Plan) (objects : List S) (slots : List (Slot S O R)) → IsSmall plan → plan.kinds.items ≡ kinds_with content objects → AreEmpty content objects → IsLaid objects plan.lists.items slots
+      → Kept content op_in reply_in plan.kinds.items plan.clients plan.quota (opening (replicate 81 0) slots (founder plan.kinds.items plan.lists.items))
   opens_on plan objects slots small are clean laid = let count : length plan.kinds.items ≡ length objects = ap length are ∙ length-map objects (λ o. kind_with (content o)) in let few = small.0 in
-      opens content op_in reply_in plan.kinds.items plan.clients plan.quota (replicate 81 0) slots small.0 small.1 small.2 refl (get_or-replicate_same 0 81) laid.long
+      opens content op_in reply_in plan.kinds.items plan.clients plan.quota plan.lists.items (replicate 81 0) slots small.0 small.1 small.2 refl (get_or-replicate_same 0 81) laid.long
       (λ x l. let o = there objects x (omega arith) in let k = laid.cores x o.0 o.1 in
       let kind : kind_at plan.kinds.items x ≡ kind_with (content o.0) = ap (λ z. kind_at z x) are ∙ kind_there (λ o. kind_with (content o)) objects x o.0 o.1 in
       let is : content o.0 ≡ empty (kind_with (content o.0)) = holds_there (λ o. content o ≡ empty (kind_with (content o))) objects x o.0 o.1 clean in
-      (k.0, k.1, (ap (map (entry_in op_in reply_in)) k.3, ap empty kind ∙ (sym is ∙ ap content (sym k.2)))))
+      (k.0, k.1, (ap (map (entry_in op_in reply_in)) k.3, ap empty kind ∙ (sym is ∙ ap content (sym k.2)), k.4)))
       (λ i h l. laid.others i (omega arith) l)
 
 module _ {S O R : Type 0} (op_in : O → AnyOp) (reply_in : R → AnyReply) where
   -- a client after its first step
-  pub begun_ok : (kinds : List Kind) (number quota : ℕ) (j : Journal O R) (m : Me (Slot S O R) View) → number < 32 → quota < 10001 → HasRoom quota j → m ≡ (calling own.Idle (newcomer kinds number), at_hand number own.Idle)
+  pub begun_ok : (kinds : List Kind) (lists : List TableId) (number quota : ℕ) (j : Journal O R) (m : Me (Slot S O R) View) → number < 32 → quota < 10001 → HasRoom quota j → m ≡ (calling own.Idle (newcomer kinds lists number), at_hand number own.Idle)
       → IsClient op_in reply_in number 0 quota false j m
-  begun_ok kinds number quota j m low few room is = subst (IsClient op_in reply_in number 0 quota false j) (sym is) record {
+  begun_ok kinds lists number quota j m low few room is = subst (IsClient op_in reply_in number 0 quota false j) (sym is) record {
     agrees = record {
       client_is = refl;
       number_is = refl;
@@ -71,7 +72,7 @@ module _ {S O R : Type 0} (op_in : O → AnyOp) (reply_in : R → AnyReply) wher
 
 module _ {S O R : Type 0} where
   -- its seat: the founder's, then split off, then after its first step
-  pub entered : (kinds : List Kind) (number : ℕ) (f new m : Me (Slot S O R) View) → f ≡ (founder_of kinds number, []) → new ≡ (newcomer f.0.kinds f.0.made, [])
-      → m ≡ (calling own.Idle new.0, (16 + number, slot.Nothing) ∷ (48 + number, slot.Nothing) ∷ new.1) → m ≡ (calling own.Idle (newcomer kinds number), at_hand number own.Idle)
-  entered kinds number f new m a b e = e ∙ (ap (λ (z : Me (Slot S O R) View). (calling own.Idle z.0, (16 + number, slot.Nothing) ∷ (48 + number, slot.Nothing) ∷ z.1)) b
-      ∙ ap (λ (z : Me (Slot S O R) View). (calling own.Idle (newcomer z.0.kinds z.0.made), at_hand number own.Idle)) a)
+  pub entered : (kinds : List Kind) (lists : List TableId) (number : ℕ) (f new m : Me (Slot S O R) View) → f ≡ (founder_of kinds lists number, []) → new ≡ (newcomer f.0.kinds f.0.lists f.0.made, [])
+      → m ≡ (calling own.Idle new.0, (16 + number, slot.Nothing) ∷ (48 + number, slot.Nothing) ∷ new.1) → m ≡ (calling own.Idle (newcomer kinds lists number), at_hand number own.Idle)
+  entered kinds lists number f new m a b e = e ∙ (ap (λ (z : Me (Slot S O R) View). (calling own.Idle z.0, (16 + number, slot.Nothing) ∷ (48 + number, slot.Nothing) ∷ z.1)) b
+      ∙ ap (λ (z : Me (Slot S O R) View). (calling own.Idle (newcomer z.0.kinds z.0.lists z.0.made), at_hand number own.Idle)) a)

@@ -1,6 +1,7 @@
 -- What the clauses of the desk's calls say, from what the steps told.
 use Rattle.std.proofs.Common.{◌≡◌, ◌≢◌, ℕ, ◌+◌, ◌<◌, Bool, List, [], ◌∷◌, ◌++◌, length, All, IsSome, IsTrue, ◌↔◌, refl, sym, ap, subst, ◌∙◌}
 use Rattle.std.proofs.lemmas.List.{get_or-set_same}
+use lib.ListN.{get_elem?}
 use Rattle.atomic_table.specs.Table.{rest, Me}
 use Rattle.model.specs.declared.Kind.{Kind}
 use Rattle.model.specs.declared.AnyOp.{AnyOp}
@@ -18,7 +19,7 @@ use Rattle.desk_rule.specs.declared.board.View.{View}
 use Rattle.desk_rule.specs.Views.{seen_of, holding, noting, handling, putting_back, answering, learnt}
 use Rattle.desk_rule.specs.Rule.{Fits}
 use Rattle.publication.specs.Handles.{DeskId, Known, PassState, Holding, Handling, log_of}
-use Rattle.publication.specs.Calls.{Opened, Got, NotGot, CanDo, kind_held, Answered, IsPutBack}
+use Rattle.publication.specs.Calls.{Opened, Got, NotGot, CanDo, kind_held, kind_in, Answered, IsPutBack}
 
 -- w after a miss at the row r
 pub not_got : (p : Holding) (d : DeskId) (n : PassState) (r : ℕ) (w : View) (v : Holding) → p ≡ v → w ≡ noting (16 + r) v.object v.knows → All (λ b. b.row ≢ r) v.knows.back → NotGot p r (record { desk = d; knows = w; object = v.object; log = v.log; state = n })
@@ -62,6 +63,14 @@ can_says h v content b is replays can = subst (λ u. IsTrue b ↔ CanDo (kind_he
 pub may_serve : (h v : Handling) (content : Content) → h ≡ v → Replays (empty (kind_held v)) v.log content → CanDo (kind_held h) h.log h.request.op → IsSome (next content v.request.op)
 may_serve h v content is replays can = does (kind_held v) v.log v.request.op content replays (subst (λ u. CanDo (kind_held u) u.log u.request.op) is can)
 
+-- the same of a pass whose object contains this
+pub pass_says : (p v : Holding) (op : AnyOp) (content : Content) (b : Bool) → p ≡ v → Replays (empty (kind_in v)) v.log content → (IsTrue b ↔ IsSome (next content op)) → IsTrue b ↔ CanDo (kind_in p) p.log op
+pass_says p v op content b is replays can = subst (λ u. IsTrue b ↔ CanDo (kind_in u) u.log op) (sym is)
+    ((λ t. can_do (kind_in v) v.log op content replays (can.0 t)), λ t. can.1 (does (kind_in v) v.log op content replays t))
+
+pub may_perform : (p v : Holding) (op : AnyOp) (content : Content) → p ≡ v → Replays (empty (kind_in v)) v.log content → CanDo (kind_in p) p.log op → IsSome (next content op)
+may_perform p v op content is replays can = does (kind_in v) v.log op content replays (subst (λ u. CanDo (kind_in u) u.log op) is can)
+
 -- m before, b with the request in its slot, d after the step
 pub is_put_back : {S O R : Type 0} (h : Handling) (z : DeskId) (n : PassState) (b d : Me (Slot S O R) View) (v : Handling) (i : ℕ) (s : Slot S O R) (tl : List (ℕ × Slot S O R)) → h ≡ v → b ≡ (v.knows, (i, s) ∷ tl)
     → d ≡ (putting_back v.object v.log v.row v.request b.0, rest b.1) → IsPutBack h (record { desk = z; knows = d.0; object = v.object; log = v.log; state = n })
@@ -74,7 +83,7 @@ is_put_back h z n b d v i s tl is e f = subst (λ u. IsPutBack u (record { desk 
 module _ {S O R : Type 0} (content : S → Content) (op_in : O → AnyOp) (reply_in : R → AnyReply) where
   -- m before, a after the win, b with nothing in the slot
   pub opened : (c : Known) (x : ℕ) (k core : Core S O R) (l : List AnyEntry) (m a b : Me (Slot S O R) View) (d : DeskId) (n : PassState) → c.desk.kinds ≡ m.0.kinds → c.knows ≡ m.0 → a ≡ (holding x l m.0, (x, slot.Core k) ∷ m.1) → b ≡ (a.0, (x, slot.Nothing) ∷ rest a.1)
-      → core ≡ k → Fits content op_in reply_in (kind_at m.0.kinds x) k l → StartsWith l (seen_of m.0 x)
+      → core ≡ k → Fits content op_in reply_in (kind_at m.0.kinds x) (get_elem? m.0.lists x) k l → StartsWith l (seen_of m.0 x)
       → Opened c x (record { desk = d; knows = b.0; object = x; log = log_of op_in reply_in core; state = n })
   opened c x k core l m a b d n kinds is e f same fits begins =
       let log : log_of op_in reply_in core ≡ l = ap (log_of op_in reply_in) same ∙ fits.0 in record {

@@ -42,12 +42,12 @@ pub outstanding_is : {S O R : Type 0} {op_in : O → AnyOp} {reply_in : R → An
 outstanding_is {op_in = op_in} {reply_in = reply_in} {number = number} {calls = calls} {quota = quota} {j = j} {m = m} e k = subst (λ z. IsClient op_in reply_in number calls quota z j m) e k
 
 -- the journal with one call more
-journal_asks : (ds : List AnyDone) (q : AnyRequest) → journal_of ds (Some q) ≡ journal_of ds None ++ invoked q ∷ []
+pub journal_asks : (ds : List AnyDone) (q : AnyRequest) → journal_of ds (Some q) ≡ journal_of ds None ++ invoked q ∷ []
 journal_asks [] q = refl
 journal_asks (d ∷ ds) q = ap (λ z. invoked d.request ∷ Returned d.returned d.answer ∷ z) (journal_asks ds q)
 
 -- the journal with one return more
-journal_ends : (ds : List AnyDone) (q : AnyRequest) (a : AnyAnswer) (t : ℕ) → journal_of (ds ++ record { request = q; answer = a; returned = t } ∷ []) None ≡ journal_of ds (Some q) ++ Returned t a ∷ []
+pub journal_ends : (ds : List AnyDone) (q : AnyRequest) (a : AnyAnswer) (t : ℕ) → journal_of (ds ++ record { request = q; answer = a; returned = t } ∷ []) None ≡ journal_of ds (Some q) ++ Returned t a ∷ []
 journal_ends [] q a t = refl
 journal_ends (d ∷ ds) q a t = ap (λ z. invoked d.request ∷ Returned d.returned d.answer ∷ z) (journal_ends ds q a t)
 
@@ -58,7 +58,7 @@ journal_long (d ∷ ds) q = let n = journal_long ds q in omega arith
 
 module _ {O R : Type 0} (op_in : O → AnyOp) (reply_in : R → AnyReply) where
   -- the journal's vector is as long as the journal
-  events_long : (number calls quota : ℕ) (outstanding : Bool) (j : Journal O R) (v : View) → Agrees op_in reply_in number calls quota outstanding j v → vec_len j.events ≡ tickets_drawn v.done (own_request v.own)
+  pub events_long : (number calls quota : ℕ) (outstanding : Bool) (j : Journal O R) (v : View) → Agrees op_in reply_in number calls quota outstanding j v → vec_len j.events ≡ tickets_drawn v.done (own_request v.own)
   events_long number calls quota outstanding j v k = j.events.ok.0 ∙ (sym (length-map j.events.items (event_in op_in reply_in)) ∙ (ap length k.journal_is ∙ journal_long v.done (own_request v.own)))
 
   -- there is room for the return of the outstanding call

@@ -8,11 +8,11 @@ use Rattle.world.specs.declared.JournalEvent.TheVariants.{Invoked, Returned}
 use Rattle.world.specs.World.{AnyEntry, AnyRequest, AnyAnswer, kind_at, logged, entries_of, served, calls_made, Replays, IsLegal, StartsWith}
 use Rattle.desk_rule.specs.declared.board.Own.TheVariants as own
 use Rattle.desk_rule.specs.declared.board.View.{View}
-use Rattle.desk_rule.specs.Views.{seen_of, own_request, journal, is_waiting, missing, noting, holding, handling, putting_back, answering, calling, taking, done_with, seeing, finding_there, IsAccount}
+use Rattle.desk_rule.specs.Views.{seen_of, own_request, journal, is_waiting, missing, noting, holding, handling, putting_back, answering, calling, taking, done_with, performing, seeing, finding_there, IsAccount}
 use Rattle.world.specs.Images.{entry_in, event_in}
 use Rattle.world.specs.Records.{IsSoundRecord}
 use Rattle.recorder.specs.Records.{Recorded, journal_at, log_at}
-use Rattle.roster.specs.declared.board.Enlist.{Enlist}
+use Rattle.roster.specs.Calls.{PlaceSeen}
 use Rattle.publication.specs.declared.desk.Post.{Post}
 use Rattle.publication.specs.declared.desk.Post.TheVariants as post
 use Rattle.publication.specs.declared.desk.Win.{Win}
@@ -28,9 +28,13 @@ pub record Posted (v : View) (object : ℕ) (op : AnyOp) (w : View) : Type 0 whe
   pub knows : w ≡ calling (own.Waiting record { object = object; ticket = ticket; op = op }) v
   pub journal : journal w ≡ journal v ++ Invoked ticket object op ∷ []
 
+-- of the client that knows this no call is outstanding, and it may make one more
+abbrev pub HasCallLeft : DeskId → View → Type 0
+HasCallLeft d v = (is_waiting v.own ≡ false) × (calls_made v.done (own_request v.own) < d.quota)
+
 -- the client has no call outstanding, and may post one more
 abbrev pub MayPost : Known → Type 0
-MayPost c = (is_waiting c.knows.own ≡ false) × (calls_made c.knows.done (own_request c.knows.own) < c.desk.quota)
+MayPost c = HasCallLeft c.desk c.knows
 
 -- there is no object x, or it is of another kind
 abbrev pub IsNotOfKind : List Kind → ℕ → Kind → Post → Type 0
@@ -106,6 +110,29 @@ pub record Answered (h : Handling) (a : AnyAnswer) (p : Holding) : Type 0 where
   pub legal : IsLegal (kind_held h) p.log
   pub knows : p.knows ≡ answering h.row h.object p.log h.knows
 
+-- the kind of the object of a pass
+abbrev pub kind_in : Holding → Kind
+kind_in p = kind_at p.desk.kinds p.object
+
+-- The client made a call of its own on the object that it holds, and it is over, with this answer: its invocation and its
+-- return are the last events of the journal. The log has one entry more, with the client, the ticket of the invocation, the
+-- operation and the reply, or none where memory was refused. It is legal, was seen, begins with all that was seen before, and
+-- holds of the client's own calls those before and this one; the ticket of the return is greater than each in it.
+pub record Performed (p : Holding) (op : AnyOp) (a : AnyAnswer) (r : Holding) : Type 0 where
+  pub request : AnyRequest
+  pub returned : ℕ
+  pub was_idle : p.knows.own ≡ own.Idle
+  pub asked : (request.object ≡ p.object) × (request.op ≡ op)
+  pub object : r.object ≡ p.object
+  pub log : r.log ≡ p.log ++ logged p.knows.number request a
+  pub knows : r.knows ≡ performing request a r.log returned p.knows
+  pub seen : seen_of r.knows p.object ≡ r.log
+  pub legal : IsLegal (kind_in p) r.log
+  pub begins : StartsWith r.log (seen_of p.knows p.object)
+  pub counted : entries_of p.knows.number r.log ≡ served p.object p.knows.number p.knows.done ++ logged p.knows.number request a
+  pub later : All (λ e. e.ticket < returned) r.log
+  pub journal : journal r.knows ≡ journal p.knows ++ Invoked request.ticket p.object op ∷ Returned returned a ∷ []
+
 -- the request in hand is back in its row, and nothing else changed
 pub record IsPutBack (h : Handling) (p : Holding) : Type 0 where
   pub object : p.object ≡ h.object
@@ -171,9 +198,9 @@ module _ {S O R : Type 0} where
   state_after_pick (pick.Got h) = h.state
   state_after_pick (pick.Not p) = p.state
 
-  abbrev pub tries_after_win : Win S O R → List (List Enlist)
-  tries_after_win (win.Won p) = p.state.tries
-  tries_after_win (win.Held c) = c.tries
+  abbrev pub places_after_win : Win S O R → List PlaceSeen
+  places_after_win (win.Won p) = p.state.places
+  places_after_win (win.Held c) = c.places
 
   abbrev pub IfGot : Picked S O R → (Handling → Type 0) → Type 0
   IfGot (pick.Got h) P = P h

@@ -1,5 +1,5 @@
 -- What contracts see of a desk, of a client, and of a client that holds an object.
-use Rattle.std.specs.Prelude.{◌≡◌, ℕ, ◌+◌, ◌-◌, ◌<◌, ◌≤◌, Bool, true, false, List, [], ◌∷◌, ◌++◌, map, length, replicate, slice_set, slice_index_or, vec_len, vec_capacity}
+use Rattle.std.specs.Prelude.{◌≡◌, ℕ, zero, suc, ◌+◌, ◌-◌, ◌<◌, ◌≤◌, Bool, true, false, List, [], ◌∷◌, ◌++◌, map, length, replicate, vec_len, vec_capacity}
 use Rattle.std.specs.declared.vec.Vec.{Vec}
 use mathlib.Core.Option.{some}
 use lib.ListN.{get_elem?}
@@ -13,7 +13,7 @@ use Rattle.world.specs.declared.Request.{Request}
 use Rattle.world.specs.World.{AnyEntry, AnyRequest, kind_at, calls_made, IsLegal}
 use Rattle.world.specs.Images.{request_in, entry_in, event_in}
 use Rattle.roster.specs.declared.board.Enlist.{Enlist}
-use Rattle.roster.specs.Calls.{WalkerSeen}
+use Rattle.roster.specs.Calls.{PlaceSeen, WalkerSeen}
 use Rattle.desk_rule.specs.declared.board.Core.{Core}
 use Rattle.desk_rule.specs.declared.board.Journal.{Journal}
 use Rattle.desk_rule.specs.declared.board.Leaving.{Leaving}
@@ -27,34 +27,51 @@ use Rattle.desk_rule.specs.declared.board.View.{View}
 use Rattle.desk_rule.specs.Views.{newcomer, calling, own_request, journal, is_waiting, seen_of, IsAtRest, IsAccount}
 use Rattle.desk_rule.specs.Rule.{Fits}
 
--- which desk: its table, the quota of each of its clients, and the kind of each of its objects
+-- which desk: its table, the quota of each of its clients, the kind of each of its objects, and which roster the
+-- publication list of each object is
 pub record DeskId : Type 0 where
   pub table : TableId
   pub quota : ℕ
   pub kinds : List Kind
+  pub lists : List TableId
+
+-- the publication list of the object x is this roster
+abbrev pub IsListOf : DeskId → ℕ → TableId → Type 0
+IsListOf d x list = get_elem? d.lists x ≡ some list
 
 pub record DeskSeen : Type 0 where
   pub id : DeskId
   pub clients : ℕ
 
--- a client: its desk, what it knows, and of each object what its tries to enlist its row came to
+-- a client: its desk, what it knows, and its place in the list of each object
 pub record Known : Type 0 where
   pub desk : DeskId
   pub knows : View
-  pub tries : List (List Enlist)
+  pub places : List PlaceSeen
 
--- one try more at the list of x
-abbrev pub trying : ℕ → Enlist → List (List Enlist) → List (List Enlist)
-trying x came_to tries = slice_set tries x (slice_index_or tries x [] ++ came_to ∷ [])
+-- one try more at the place in the list of x
+abbrev pub trying : ℕ → Enlist → List PlaceSeen → List PlaceSeen
+trying x came_to [] = []
+trying zero came_to (p ∷ ps) = record p { tries = p.tries ++ came_to ∷ [] } ∷ ps
+trying (suc x) came_to (p ∷ ps) = p ∷ trying x came_to ps
+
+-- the client's place in the list of the object x is of its own row
+abbrev pub HasPlaceAt : Known → ℕ → Type 0
+HasPlaceAt c x = (p : PlaceSeen) × (get_elem? c.places x ≡ some p) × (p.row ≡ c.knows.number) × IsListOf c.desk x p.roster
+
+-- these places are of the row c, one in each of these lists
+pub record ArePlacesOf (c : ℕ) (lists : List TableId) (places : List PlaceSeen) : Type 0 where
+  pub rows : map (λ p. p.row) places ≡ replicate 16 c
+  pub lists_are : map (λ p. p.roster) places ≡ lists
 
 -- What else there is in a client's hands while it holds an object: how many passes there were over the object, for how
--- many entries more its log has room, its publication list, the age of each row, and the client's tries.
+-- many entries more its log has room, its publication list, the age of each row, and the client's places.
 pub record PassState : Type 0 where
   pub passes : ℕ
   pub room : ℕ
   pub list : WalkerSeen
   pub ages : List ℕ
-  pub tries : List (List Enlist)
+  pub places : List PlaceSeen
 
 -- a client that holds an object: also the object's number and its log
 pub record Holding : Type 0 where
@@ -122,30 +139,34 @@ module _ {S O R : Type 0} (op_in : O → AnyOp) (reply_in : R → AnyReply) wher
   log_of core = map (entry_in op_in reply_in) core.log.items
 
 module _ {S O R : Type 0} where
-  abbrev pub state_of : Core S O R → List (List Enlist) → PassState
-  state_of core tries = record { passes = core.passes; room = vec_capacity core.log - vec_len core.log; list = core.list; ages = core.ages; tries = tries }
+  abbrev pub state_of : Core S O R → List PlaceSeen → PassState
+  state_of core places = record { passes = core.passes; room = vec_capacity core.log - vec_len core.log; list = core.list; ages = core.ages; places = places }
 
 module _ {S O R : Type 0} (content : S → Content) (op_in : O → AnyOp) (reply_in : R → AnyReply) where
   pub record IsPass (number calls quota : ℕ) (outstanding : Bool) (j : Journal O R) (object : ℕ) (core : Core S O R) (me : Me (Slot S O R) View) : Type 0 where
     pub agrees : Agrees op_in reply_in number calls quota outstanding j me.0
     pub holds : me.0.held ≡ held.Pass object (log_of op_in reply_in core)
     pub in_hand : me.1 ≡ (object, slot.Nothing) ∷ at_hand number me.0.own
-    pub fits : Fits content op_in reply_in (kind_at me.0.kinds object) core (log_of op_in reply_in core)
+    pub fits : Fits content op_in reply_in (kind_at me.0.kinds object) (get_elem? me.0.lists object) core (log_of op_in reply_in core)
     pub low : object < 16
 
   pub record IsHand (number calls quota : ℕ) (outstanding : Bool) (j : Journal O R) (object : ℕ) (core : Core S O R) (row : ℕ) (request : Request O) (me : Me (Slot S O R) View) : Type 0 where
     pub agrees : Agrees op_in reply_in number calls quota outstanding j me.0
     pub holds : me.0.held ≡ held.Hand object (log_of op_in reply_in core) row (request_in op_in request)
     pub in_hand : me.1 ≡ (16 + row, slot.Nothing) ∷ (object, slot.Nothing) ∷ at_hand number me.0.own
-    pub fits : Fits content op_in reply_in (kind_at me.0.kinds object) core (log_of op_in reply_in core)
+    pub fits : Fits content op_in reply_in (kind_at me.0.kinds object) (get_elem? me.0.lists object) core (log_of op_in reply_in core)
     pub low : object < 16
     pub row_low : row < 32
     pub on : request.object ≡ object
     pub of_kind : kind_of (op_in request.op) ≡ kind_at me.0.kinds object
 
+-- places of the row c in these lists, at which nothing was tried
+abbrev pub fresh_places : ℕ → List TableId → List PlaceSeen
+fresh_places c lists = map (λ id. record { roster = id; row = c; tries = [] }) lists
+
 -- a client that has made no call, and has not tried to enlist its row
 abbrev pub begun : DeskId → ℕ → Known
-begun d c = record { desk = d; knows = calling own.Idle (newcomer d.kinds c); tries = replicate 16 [] }
+begun d c = record { desk = d; knows = calling own.Idle (newcomer d.kinds d.lists c); places = fresh_places c d.lists }
 
 abbrev pub AllBegun : DeskId → List Known → Type 0
 AllBegun d cs = (c : ℕ) → c < length cs → get_elem? cs c ≡ some (begun d c)

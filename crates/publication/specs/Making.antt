@@ -1,7 +1,8 @@
 -- What a new desk is made of.
-use Rattle.std.specs.Prelude.{◌≡◌, ℕ, ◌+◌, ◌<◌, ◌≤◌, List, [], map, length, replicate, All, vec_len, vec_capacity}
+use Rattle.std.specs.Prelude.{◌≡◌, ℕ, ◌+◌, ◌<◌, ◌≤◌, List, [], map, length, slice_index_or, All, vec_len, vec_capacity}
 use Rattle.std.specs.declared.vec.Vec.{Vec}
-use Rattle.roster.specs.Calls.{PlaceSeen}
+use Rattle.atomic_table.specs.Seated.{TableId}
+use Rattle.roster.specs.Calls.{PlaceSeen, WalkerSeen}
 use mathlib.Core.Option.{some}
 use lib.ListN.{get_elem?}
 use Rattle.model.specs.declared.Kind.{Kind}
@@ -11,18 +12,25 @@ use Rattle.desk_rule.specs.declared.board.Journal.{Journal}
 use Rattle.desk_rule.specs.declared.board.Plan.{Plan}
 use Rattle.desk_rule.specs.declared.board.Slot.{Slot}
 use Rattle.desk_rule.specs.declared.board.Slot.TheVariants as slot
-use Rattle.publication.specs.Handles.{IsRoom}
+use Rattle.publication.specs.Handles.{IsRoom, fresh_places}
 
 module _ {S O R : Type 0} where
-  -- slot x is the core of object x
-  abbrev pub AreCores : List S → List (Slot S O R) → Type 0
-  AreCores objects slots = (x : ℕ) (o : S) → get_elem? objects x ≡ some o → (k : Core S O R) × (get_elem? slots x ≡ some (slot.Core k)) × (k.object ≡ o) × (k.log.items ≡ [])
+  -- slot x is the core of object x, with the walker of its list
+  abbrev pub AreCores : List S → List TableId → List (Slot S O R) → Type 0
+  AreCores objects lists slots = (x : ℕ) (o : S) → get_elem? objects x ≡ some o → (k : Core S O R) × (get_elem? slots x ≡ some (slot.Core k)) × (k.object ≡ o) × (k.log.items ≡ []) × (get_elem? lists x ≡ some k.list.roster)
 
   -- and behind the objects there is nothing
-  pub record IsLaid (objects : List S) (slots : List (Slot S O R)) : Type 0 where
+  pub record IsLaid (objects : List S) (lists : List TableId) (slots : List (Slot S O R)) : Type 0 where
     pub long : length slots ≡ 80
-    pub cores : AreCores objects slots
+    pub cores : AreCores objects lists slots
     pub others : (i : ℕ) → length objects ≤ i → i < 80 → get_elem? slots i ≡ some slot.Nothing
+
+-- which roster each of these walkers walks
+abbrev pub rosters_of : List WalkerSeen → List TableId
+rosters_of walkers = map (λ (w : WalkerSeen). w.roster) walkers
+
+abbrev pub AreWalkersOf : List TableId → List WalkerSeen → Type 0
+AreWalkersOf lists walkers = rosters_of walkers ≡ lists
 
 -- each object is empty, and this is the kind of each
 abbrev pub AreEmpty : {S : Type 0} → (S → Content) → List S → Type 0
@@ -39,10 +47,10 @@ HasRoom quota j = IsRoom (quota + quota) j.events
 abbrev pub IsSmall : Plan → Type 0
 IsSmall plan = (length plan.kinds.items < 17) × (plan.clients < 33) × (plan.quota < 10001)
 
--- an owner of rows has k places, at which nothing was tried, and room for 16
-abbrev pub HasPlaces : {Z : Type 0} → ℕ → Vec PlaceSeen Z → Type 0
-HasPlaces k v = (map (λ (p : PlaceSeen). p.tries) v.items ≡ replicate k []) × (vec_len v ≡ k) × (vec_capacity v ≡ 16)
+-- the owner of the row c has a place of its row in each of these lists, at which nothing was tried, and room for 16
+abbrev pub HasPlaces : {Z : Type 0} → ℕ → List TableId → Vec PlaceSeen Z → Type 0
+HasPlaces c lists v = (v.items ≡ fresh_places c lists) × (vec_len v ≡ length lists) × (vec_capacity v ≡ 16)
 
--- each of n owners has
-abbrev pub AreDealt : {Z : Type 0} → ℕ → ℕ → List (Vec PlaceSeen Z) → Type 0
-AreDealt n k owners = (length owners ≡ n) × All (HasPlaces k) owners
+-- each of n owners has, of whose rows this is the first
+abbrev pub AreDealt : {Z : Type 0} → ℕ → ℕ → List TableId → List (Vec PlaceSeen Z) → Type 0
+AreDealt {Z} first n lists owners = (length owners ≡ n) × ((i : ℕ) (d : Vec PlaceSeen Z) → i < n → HasPlaces (first + i) lists (slice_index_or owners i d))

@@ -1,12 +1,14 @@
 //! A client, and what it becomes while it holds an object.
 
-ghost use Rattle.std.specs.Prelude.{◌≡◌, ◌<◌, ℕ};
+ghost use Rattle.std.specs.Prelude.{◌≡◌, ◌+◌, ◌<◌, ◌≤◌, ℕ, [], ◌∷◌, ◌++◌, vec_len, vec_capacity};
+ghost use Rattle.world.specs.declared.JournalEvent.TheVariants.{Invoked, Returned};
 ghost use Rattle.world.specs.World.{kind_at, IsLegal};
 ghost use Rattle.desk_rule.specs.Views.{is_waiting, seen_of, IsAccount};
 ghost use Rattle.publication.specs.Handles.{trying};
 
 use atomic_table::Seat;
-use desk_rule::{Core, Journal, Slot, View};
+use desk_rule::{BoxedCore, Journal, Slot, View};
+use recorder::{Answer, JournalEvent};
 use roster::{Enlist, SharedPlace};
 use seq_objects::SeqObject;
 use std::marker::Model;
@@ -14,19 +16,19 @@ use world::Request;
 
 pub(crate) type Place<S, O, R> = Seat<Slot<S, O, R>, View>;
 
-/// A client's place in the publication list of each object. Contracts see what each of its tries to enlist came to.
+/// A client's place in the publication list of each object.
 #[derive(Drop)]
 pub(crate) struct Places {
     pub all: Vec<SharedPlace>,
 }
 
 impl Model for Places {
-    ghost use Rattle.std.specs.Prelude.{◌≡◌, List, length, map};
-    ghost use Rattle.roster.specs.declared.board.Enlist.{Enlist};
+    ghost use Rattle.std.specs.Prelude.{◌≡◌, List, length};
+    ghost use Rattle.roster.specs.Calls.{PlaceSeen};
 
-    ghost Value = { List (List Enlist) };
+    ghost Value = { List PlaceSeen };
 
-    ghost view = { λ p. map (λ q. q.tries) p.all.items };
+    ghost view = { λ p. p.all.items };
 
     ghost invariant = { λ p. length p.all.items ≡ 16 };
 }
@@ -53,6 +55,33 @@ pub(crate) struct Member<S: SeqObject> {
     pub places: Places,
 }
 
+impl<S: SeqObject> Member<S> {
+    // Writes a whole call into the journal, which has room for it.
+    pub fn note_call(&mut self, asked: Request<S::Op>, ticket: u64, answer: Answer<S::Reply>)
+        requires calls { self.old.calls < self.old.quota }
+        requires room { vec_len self.old.journal.events + 2 ≤ vec_capacity self.old.journal.events }
+        ensures calls { self.new.calls ≡ self.old.calls + 1 }
+        ensures events { self.new.journal.events.items ≡ self.old.journal.events.items
+            ++ Invoked asked.ticket asked.object asked.op ∷ Returned ticket answer ∷ [] }
+        ensures capacity { vec_capacity self.new.journal.events ≡ vec_capacity self.old.journal.events }
+        ensures same { self.new ≡ record self.old { calls = self.new.calls; journal = self.new.journal } }
+    {
+        let Request {
+            object,
+            ticket: first,
+            op,
+        } = asked;
+        let events = &mut self.journal.events;
+        events.push_reserved(JournalEvent::Invoked {
+            ticket: first,
+            object,
+            op,
+        });
+        events.push_reserved(JournalEvent::Returned { ticket, answer });
+        self.calls += 1;
+    }
+}
+
 /// A client that holds no object.
 #[derive(Drop)]
 pub struct Client<S: SeqObject> {
@@ -60,50 +89,53 @@ pub struct Client<S: SeqObject> {
 }
 
 impl<S: SeqObject> Model for Client<S> {
-    ghost use Rattle.publication.specs.Handles.{Known, IsClient};
+    ghost use Rattle.std.specs.Prelude.{map};
+    ghost use Rattle.publication.specs.Handles.{Known, IsClient, ArePlacesOf};
 
     ghost Value = { Known };
 
-    ghost view = { λ c. record { desk = record { table = c.member.seat.table_id; quota = c.member.quota; kinds = c.member.seat.me.0.kinds }; knows = c.member.seat.me.0; tries = c.member.places } };
+    ghost view = { λ c. record { desk = record { table = c.member.seat.table_id; quota = c.member.quota; kinds = c.member.seat.me.0.kinds; lists = map (λ q. q.roster) c.member.places }; knows = c.member.seat.me.0; places = c.member.places } };
 
-    ghost invariant = { λ c. IsClient S.op_in S.reply_in c.member.number c.member.calls c.member.quota c.member.outstanding c.member.journal c.member.seat.me };
+    ghost invariant = { λ c. IsClient S.op_in S.reply_in c.member.number c.member.calls c.member.quota c.member.outstanding c.member.journal c.member.seat.me × ArePlacesOf c.member.number c.member.seat.me.0.lists c.member.places };
 }
 
 /// A client that holds an object. It must be spent.
 pub struct Pass<S: SeqObject> {
     pub(crate) member: Member<S>,
     pub(crate) object: u32,
-    pub(crate) core: Core<S, S::Op, S::Reply>,
+    pub(crate) core: BoxedCore<S, S::Op, S::Reply>,
 }
 
 impl<S: SeqObject> Model for Pass<S> {
-    ghost use Rattle.publication.specs.Handles.{Holding, IsPass, log_of, state_of};
+    ghost use Rattle.std.specs.Prelude.{map};
+    ghost use Rattle.publication.specs.Handles.{Holding, IsPass, ArePlacesOf, log_of, state_of};
 
     ghost Value = { Holding };
 
-    ghost view = { λ p. record { desk = record { table = p.member.seat.table_id; quota = p.member.quota; kinds = p.member.seat.me.0.kinds }; knows = p.member.seat.me.0; object = p.object; log = log_of S.op_in S.reply_in p.core; state = state_of p.core p.member.places } };
+    ghost view = { λ p. record { desk = record { table = p.member.seat.table_id; quota = p.member.quota; kinds = p.member.seat.me.0.kinds; lists = map (λ q. q.roster) p.member.places }; knows = p.member.seat.me.0; object = p.object; log = log_of S.op_in S.reply_in p.core; state = state_of p.core p.member.places } };
 
-    ghost invariant = { λ p. IsPass S.content S.op_in S.reply_in p.member.number p.member.calls p.member.quota p.member.outstanding p.member.journal p.object p.core p.member.seat.me };
+    ghost invariant = { λ p. IsPass S.content S.op_in S.reply_in p.member.number p.member.calls p.member.quota p.member.outstanding p.member.journal p.object p.core p.member.seat.me × ArePlacesOf p.member.number p.member.seat.me.0.lists p.member.places };
 }
 
 /// A client that holds an object and the request of a row. It must be spent.
 pub struct Hand<S: SeqObject> {
     pub(crate) member: Member<S>,
     pub(crate) object: u32,
-    pub(crate) core: Core<S, S::Op, S::Reply>,
+    pub(crate) core: BoxedCore<S, S::Op, S::Reply>,
     pub(crate) row: u32,
     pub(crate) request: Request<S::Op>,
 }
 
 impl<S: SeqObject> Model for Hand<S> {
     ghost use Rattle.world.specs.Images.{request_in};
-    ghost use Rattle.publication.specs.Handles.{Handling, IsHand, log_of, state_of};
+    ghost use Rattle.std.specs.Prelude.{map};
+    ghost use Rattle.publication.specs.Handles.{Handling, IsHand, ArePlacesOf, log_of, state_of};
 
     ghost Value = { Handling };
 
-    ghost view = { λ p. record { desk = record { table = p.member.seat.table_id; quota = p.member.quota; kinds = p.member.seat.me.0.kinds }; knows = p.member.seat.me.0; object = p.object; log = log_of S.op_in S.reply_in p.core; state = state_of p.core p.member.places; row = p.row; request = request_in S.op_in p.request } };
+    ghost view = { λ p. record { desk = record { table = p.member.seat.table_id; quota = p.member.quota; kinds = p.member.seat.me.0.kinds; lists = map (λ q. q.roster) p.member.places }; knows = p.member.seat.me.0; object = p.object; log = log_of S.op_in S.reply_in p.core; state = state_of p.core p.member.places; row = p.row; request = request_in S.op_in p.request } };
 
-    ghost invariant = { λ p. IsHand S.content S.op_in S.reply_in p.member.number p.member.calls p.member.quota p.member.outstanding p.member.journal p.object p.core p.row p.request p.member.seat.me };
+    ghost invariant = { λ p. IsHand S.content S.op_in S.reply_in p.member.number p.member.calls p.member.quota p.member.outstanding p.member.journal p.object p.core p.row p.request p.member.seat.me × ArePlacesOf p.member.number p.member.seat.me.0.lists p.member.places };
 }
 
 impl<S: SeqObject> Client<S> {

@@ -11,7 +11,7 @@ use crate::client::{Client, Member, Place};
 use crate::desk::{Desk, ENDS};
 use crate::making::SLOTS;
 use crate::plays::{BidsFarewell, Ends, IsTold, SeesEnd};
-use desk_rule::{Core, Journal, Slot};
+use desk_rule::{Journal, Slot};
 use recorder::{JournalEvent, LogEntry, Record};
 use seq_objects::SeqObject;
 use std::alloc::Global;
@@ -85,7 +85,8 @@ impl<S: SeqObject> Desk<S> {
     pub fn close(self, mut last: Client<S>) -> Result<Record<S>, Unretired<S>>
         requires { last.desk ≡ self.id }
         ensures closed { IfOk result (Closed S.op_in S.reply_in self last) }
-        ensures unretired { IfErr result (λ u. (u.desk ≡ self) × (u.last.desk ≡ last.desk) × (u.last.tries ≡ last.tries) × StillThere self last u.client u.last) }
+        ensures unretired { IfErr result (λ u. (u.desk ≡ self) × (u.last.desk ≡ last.desk)
+            × (u.last.places ≡ last.places) × StillThere self last u.client u.last) }
     {
         match first_unretired(&self, &mut last) {
             Some(client) => Err(Unretired {
@@ -103,8 +104,9 @@ fn sees_end<S: SeqObject>(desk: &Desk<S>, last: &mut Client<S>, client: u32) -> 
     requires desk { last.old.desk ≡ desk.now.id }
     requires client { client < desk.now.clients }
     ensures desk { last.new.desk ≡ last.old.desk }
-    ensures tries { last.new.tries ≡ last.old.tries }
-    ensures seen { last.new.knows ≡ (if result then knowing_end client last.old.knows else finding_there client last.old.knows) }
+    ensures places { last.new.places ≡ last.old.places }
+    ensures seen { last.new.knows
+        ≡ (if result then knowing_end client last.old.knows else finding_there client last.old.knows) }
     ensures untold { result ≡ false → All (λ l. l.client ≢ client) last.old.knows.left }
 {
     let shared = &desk.table.shared;
@@ -115,7 +117,7 @@ fn sees_end<S: SeqObject>(desk: &Desk<S>, last: &mut Client<S>, client: u32) -> 
 fn first_unretired<S: SeqObject>(desk: &Desk<S>, last: &mut Client<S>) -> Option<u32>
     requires { last.old.desk ≡ desk.now.id }
     ensures desk { last.new.desk ≡ last.old.desk }
-    ensures tries { last.new.tries ≡ last.old.tries }
+    ensures places { last.new.places ≡ last.old.places }
     ensures found { IfSome result (λ c. StillThere desk.now last.old c last.new) }
     ensures all { IfNone result (HaveEnded desk.now.clients last.new × HasLearntEnds last.old last.new) }
 {
@@ -139,7 +141,7 @@ fn take_log<S: SeqObject>(
     ensures log { IsLogOf (values_of left.old) x result.items }
 {
     match left.take(x) {
-        Slot::Core(Core { log, .. }) => log,
+        Slot::Core(core) => Box::into_inner(core.inside).log,
         _ => unreachable!(),
     }
 }
@@ -198,7 +200,8 @@ fn take_journals<S: SeqObject>(
     requires present { (c : ℕ) → from ≤ c → c < to → HasJournal (values_of left.old) c }
     requires room { (vec_len journals.old ≡ from) × (to ≤ vec_capacity journals.old) }
     ensures slots { IsTakenTo (48 + to) left.new × (values_of left.new ≡ values_of left.old) }
-    ensures journals { AreJournals from to (values_of left.old) (items_of journals.new.items) × IsSameBelow from (items_of journals.old.items) (items_of journals.new.items) }
+    ensures journals { AreJournals from to (values_of left.old) (items_of journals.new.items)
+        × IsSameBelow from (items_of journals.old.items) (items_of journals.new.items) }
     ensures room { vec_capacity journals.new ≡ vec_capacity journals.old }
 {
     for client in from..to {
@@ -220,7 +223,8 @@ fn take_all_journals<S: SeqObject>(
     ensures slots { IsTakenTo (48 + clients) left.new × (values_of left.new ≡ values_of left.old) }
     ensures count { length (items_of journals.new.items) ≡ clients }
     ensures own { slice_index_or (items_of journals.new.items) number [] ≡ own.items }
-    ensures others { (c : ℕ) → c < clients → c ≢ number → IsJournalOf (values_of left.old) c (slice_index_or (items_of journals.new.items) c []) }
+    ensures others { (c : ℕ) → c < clients → c ≢ number →
+        IsJournalOf (values_of left.old) c (slice_index_or (items_of journals.new.items) c []) }
 {
     let own_slot = ENDS + number as usize;
     take_journals(left, 0, number, journals);
@@ -238,6 +242,7 @@ fn gather<S: SeqObject>(desk: Desk<S>, last: Client<S>) -> Record<S>
     let Desk {
         table,
         kinds,
+        lists: _,
         clients,
         quota: _,
         mut journals,

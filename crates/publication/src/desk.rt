@@ -7,11 +7,13 @@ ghost use Rattle.world.specs.Images.{answer_in};
 ghost use Rattle.desk_rule.specs.Views.{missing};
 
 use crate::client::{Client, Hand, Member, Pass};
-use crate::plays::{Draws, Posts, Returns, Takes, Wins};
+use crate::looking::look_and_exchange;
+use crate::plays::{Draws, LooksAtLock, LooksForAnswer, Posts, Returns, Takes, Wins};
 use atomic_table::Table;
 use desk_rule::{Core, DeskRule, Journal, Plan, Slot, View};
 use model::Kind;
 use recorder::{Answer, JournalEvent, LogEntry};
+use roster::SharedRoster;
 use seq_objects::SeqObject;
 use std::alloc::Global;
 use std::marker::Model;
@@ -42,6 +44,8 @@ pub(crate) const ANSWERED: u64 = 33;
 pub struct Desk<S: SeqObject> {
     pub(crate) table: Board<S, S::Op, S::Reply>,
     pub(crate) kinds: Vec<Kind>,
+    // Which roster the publication list of each object is.
+    pub(crate) lists: Vec<SharedRoster>,
     pub(crate) clients: u32,
     pub(crate) quota: u32,
     // Room for the record.
@@ -55,9 +59,9 @@ impl<S: SeqObject> Model for Desk<S> {
 
     ghost Value = { DeskSeen };
 
-    ghost view = { λ d. record { id = record { table = d.table.shared.table_id; quota = d.quota; kinds = d.kinds.items }; clients = d.clients } };
+    ghost view = { λ d. record { id = record { table = d.table.shared.table_id; quota = d.quota; kinds = d.kinds.items; lists = d.lists.items }; clients = d.clients } };
 
-    ghost invariant = { λ d. IsDesk d.table.shared.table_id d.table.shared.key (record { id = record { table = d.table.shared.table_id; quota = d.quota; kinds = d.kinds.items }; clients = d.clients }) × IsRoom d.clients d.journals × IsRoom (length d.kinds.items) d.logs };
+    ghost invariant = { λ d. IsDesk d.table.shared.table_id d.table.shared.key (record { id = record { table = d.table.shared.table_id; quota = d.quota; kinds = d.kinds.items; lists = d.lists.items }; clients = d.clients }) × IsRoom d.clients d.journals × IsRoom (length d.kinds.items) d.logs };
 }
 
 /// Why a call was not posted.
@@ -88,7 +92,7 @@ pub enum Picked<S: SeqObject> {
 }
 
 impl<S: SeqObject> Desk<S> {
-    ghost use Rattle.publication.specs.Calls.{IsNotOfKind, MayPost, Posted, PostRefused, Polled, NotPolled, Opened, desk_after_win, tries_after_win, IfWon, IfHeld};
+    ghost use Rattle.publication.specs.Calls.{IsNotOfKind, MayPost, Posted, PostRefused, Polled, NotPolled, Opened, desk_after_win, places_after_win, IfWon, IfHeld};
 
     /// How many objects there are.
     pub fn objects(&self) -> u32
@@ -107,7 +111,8 @@ impl<S: SeqObject> Desk<S> {
 
     // Whether there is such an object, of this kind.
     fn has_kind(&self, object: u32, kind: Kind) -> Result<(), Post>
-        ensures ok { OnOk result ((object < length self.now.id.kinds) × (kind ≡ kind_at self.now.id.kinds object)) }
+        ensures ok { OnOk result ((object < length self.now.id.kinds)
+            × (kind ≡ kind_at self.now.id.kinds object)) }
         ensures err { IfErr result (IsNotOfKind self.now.id.kinds object kind) }
     {
         if object as usize >= self.kinds.len() {
@@ -119,26 +124,40 @@ impl<S: SeqObject> Desk<S> {
         Ok(())
     }
 
-    /// Posts a call. It takes one ticket, unless it is refused, and then nothing changes.
-    pub fn post(&self, client: &mut Client<S>, object: u32, op: S::Op) -> Result<(), Post>
-        requires { client.old.desk ≡ self.now.id }
-        ensures desk { client.new.desk ≡ client.old.desk }
-        ensures tries { client.new.tries ≡ client.old.tries }
-        ensures may { OnOk result (MayPost client.old) }
-        ensures there { OnOk result ((object < length self.now.id.kinds) × (kind_of (S.op_in op) ≡ kind_at self.now.id.kinds object)) }
-        ensures posted { IfOk result (λ _. Posted client.old.knows object (S.op_in op) client.new.knows) }
-        ensures refused { IfErr result (λ e. (client.new ≡ client.old) × PostRefused self.now client.old object (S.op_in op) e) }
+    /// Whether the client may make this call: if not, the first of P1 to P4 that stands.
+    pub fn may_post(&self, client: &Client<S>, object: u32, op: &S::Op) -> Result<(), Post>
+        requires { client.now.desk ≡ self.now.id }
+        ensures may { OnOk result (MayPost client.now) }
+        ensures there { OnOk result ((object < length self.now.id.kinds)
+            × (kind_of (S.op_in op.now) ≡ kind_at self.now.id.kinds object)) }
+        ensures refused { IfErr result (PostRefused self.now client.now object (S.op_in op.now)) }
     {
-        let member = &mut client.member;
+        let member = &client.member;
         if member.outstanding {
             return Err(Post::Outstanding);
         }
         if member.calls >= member.quota {
             return Err(Post::Spent);
         }
-        if let Err(fault) = self.has_kind(object, S::kind_of(&op)) {
+        self.has_kind(object, S::kind_of(op))
+    }
+
+    /// Posts a call. It takes one ticket, unless it is refused, and then nothing changes.
+    pub fn post(&self, client: &mut Client<S>, object: u32, op: S::Op) -> Result<(), Post>
+        requires { client.old.desk ≡ self.now.id }
+        ensures desk { client.new.desk ≡ client.old.desk }
+        ensures places { client.new.places ≡ client.old.places }
+        ensures may { OnOk result (MayPost client.old) }
+        ensures there { OnOk result ((object < length self.now.id.kinds)
+            × (kind_of (S.op_in op) ≡ kind_at self.now.id.kinds object)) }
+        ensures posted { IfOk result (λ _. Posted client.old.knows object (S.op_in op) client.new.knows) }
+        ensures refused { IfErr result (λ e. (client.new ≡ client.old)
+            × PostRefused self.now client.old object (S.op_in op) e) }
+    {
+        if let Err(fault) = self.may_post(client, object, &op) {
             return Err(fault);
         }
+        let member = &mut client.member;
         let slot = ROWS + member.number as usize;
         let shared = &self.table.shared;
         let seat = &mut member.seat;
@@ -163,8 +182,9 @@ impl<S: SeqObject> Desk<S> {
     pub fn poll(&self, client: &mut Client<S>) -> Option<Answer<S::Reply>>
         requires { client.old.desk ≡ self.now.id }
         ensures desk { client.new.desk ≡ client.old.desk }
-        ensures tries { client.new.tries ≡ client.old.tries }
-        ensures polled { IfSome result (λ a. Polled client.old.knows (answer_in S.reply_in a) client.new.knows) }
+        ensures places { client.new.places ≡ client.old.places }
+        ensures polled { IfSome result (λ a.
+            Polled client.old.knows (answer_in S.reply_in a) client.new.knows) }
         ensures missed { IfNone result (NotPolled client.old.knows client.new.knows) }
     {
         let member = &mut client.member;
@@ -174,7 +194,10 @@ impl<S: SeqObject> Desk<S> {
         let slot = ROWS + member.number as usize;
         let shared = &self.table.shared;
         let seat = &mut member.seat;
-        if shared.compare_exchange::<Takes>(seat, slot, ANSWERED, 0) != ANSWERED {
+        let found = look_and_exchange::<_, _, _, _, LooksForAnswer, Takes>(
+            shared, seat, slot, ANSWERED, 0,
+        );
+        if found != ANSWERED {
             return None;
         }
         match shared.exchange(seat, slot, Slot::Nothing) {
@@ -194,7 +217,7 @@ impl<S: SeqObject> Desk<S> {
         requires desk { client.desk ≡ self.now.id }
         requires object { object < length self.now.id.kinds }
         ensures desk { desk_after_win result ≡ client.desk }
-        ensures tries { tries_after_win result ≡ client.tries }
+        ensures places { places_after_win result ≡ client.places }
         ensures won { IfWon result (Opened client object) }
         ensures held { IfHeld result (λ c. c.knows ≡ missing object client.knows) }
     {
@@ -202,7 +225,14 @@ impl<S: SeqObject> Desk<S> {
         let shared = &self.table.shared;
         let word = object as usize;
         let mine = 1 + member.number as u64;
-        if shared.compare_exchange::<Wins>(&mut member.seat, word, 0, mine) != 0 {
+        let found = look_and_exchange::<_, _, _, _, LooksAtLock, Wins>(
+            shared,
+            &mut member.seat,
+            word,
+            0,
+            mine,
+        );
+        if found != 0 {
             return Win::Held(Client { member });
         }
         match shared.exchange(&mut member.seat, word, Slot::Nothing) {

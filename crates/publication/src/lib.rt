@@ -9,6 +9,7 @@
 mod client;
 mod closing;
 mod desk;
+mod looking;
 mod making;
 mod meeting;
 mod pass;

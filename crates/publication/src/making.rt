@@ -1,18 +1,18 @@
 //! A new desk, and its clients.
 
-ghost use Rattle.std.specs.Prelude.{◌≡◌, ◌+◌, ◌<◌, ◌≤◌, [], length, replicate, map, All, IfOk, OnOk, vec_len, vec_capacity};
+ghost use Rattle.std.specs.Prelude.{◌≡◌, ◌+◌, ◌<◌, ◌≤◌, [], length, map, All, IfOk, vec_len, vec_capacity};
 ghost use Rattle.model.specs.Objects.{empty, kind_with};
 ghost use Rattle.desk_rule.specs.Views.{founder_of};
-ghost use Rattle.publication.specs.Handles.{AllBegun, IsRoom, begun};
-ghost use Rattle.publication.specs.Making.{AreCores, IsLaid, AreEmpty, kinds_with, HasRoom, IsSmall, AreDealt};
+ghost use Rattle.publication.specs.Handles.{AllBegun, IsRoom, begun, fresh_places};
+ghost use Rattle.publication.specs.Making.{AreCores, IsLaid, AreEmpty, kinds_with, HasRoom, IsSmall, AreDealt, rosters_of, AreWalkersOf};
 
 use crate::client::{Client, Member, Place, Places};
 use crate::desk::{Board, Desk, ROWS};
 use crate::plays::{Begins, Makes};
 use atomic_table::Table;
-use desk_rule::{Core, Journal, Plan, Slot};
+use desk_rule::{BoxedCore, Core, Journal, Plan, Slot};
 use model::Kind;
-use roster::{Roster, SharedPlace, SharedWalker};
+use roster::{Roster, SharedPlace, SharedRoster, SharedWalker};
 use seq_objects::SeqObject;
 use std::alloc::{AllocError, Global};
 
@@ -35,7 +35,7 @@ fn kinds_of<S: SeqObject>(alloc: Global, objects: &[S]) -> Result<Vec<Kind>, All
 
 // For each client no place yet, and room for one in the list of each object that there may be.
 fn no_places(alloc: Global, clients: u32) -> Result<Vec<Vec<SharedPlace>>, AllocError>
-    ensures { IfOk result (λ v. AreDealt clients 0 v.items) }
+    ensures { IfOk result (λ v. AreDealt 0 clients [] v.items) }
 {
     let mut owners = Vec::with_capacity(alloc, clients as usize)?;
     for _ in 0..clients {
@@ -44,18 +44,29 @@ fn no_places(alloc: Global, clients: u32) -> Result<Vec<Vec<SharedPlace>>, Alloc
     Ok(owners)
 }
 
+// The publication lists, by the number of the object, and the walker of each.
+struct Dealt {
+    rosters: Vec<SharedRoster>,
+    walkers: Vec<SharedWalker>,
+}
+
 // A publication list for each object that there may be, in which each client has a place.
-fn lists(alloc: Global, owners: &mut Vec<Vec<SharedPlace>>) -> Result<Vec<SharedWalker>, AllocError>
+fn lists(alloc: Global, owners: &mut Vec<Vec<SharedPlace>>) -> Result<Dealt, AllocError>
     requires few { (0 < length owners.old.items) × (length owners.old.items < 33) }
-    requires owners { AreDealt (length owners.old.items) 0 owners.old.items }
-    ensures lists { IfOk result (λ v. vec_len v ≡ 16) }
-    ensures owners { OnOk result (AreDealt (length owners.old.items) 16 owners.new.items) }
+    requires owners { AreDealt 0 (length owners.old.items) [] owners.old.items }
+    ensures lists { IfOk result (λ l. (vec_len l.rosters ≡ 16)
+        × AreWalkersOf l.rosters.items l.walkers.items) }
+    ensures owners { IfOk result (λ l.
+        AreDealt 0 (length owners.old.items) l.rosters.items owners.new.items) }
 {
-    let mut lists = Vec::with_capacity(alloc, OBJECTS)?;
-    while lists.len() < OBJECTS {
-        lists.push_reserved(Roster::deal(alloc, owners)?);
+    let mut rosters = Vec::with_capacity(alloc, OBJECTS)?;
+    let mut walkers = Vec::with_capacity(alloc, OBJECTS)?;
+    while rosters.len() < OBJECTS {
+        let (roster, walker) = Roster::deal(alloc, owners)?;
+        rosters.push_reserved(roster);
+        walkers.push_reserved(walker);
     }
-    Ok(lists)
+    Ok(Dealt { rosters, walkers })
 }
 
 // A slot for each object, with an empty log, and its publication list.
@@ -65,18 +76,21 @@ fn cores<S: SeqObject>(
     mut lists: Vec<SharedWalker>,
 ) -> Result<Vec<Slot<S, S::Op, S::Reply>>, AllocError>
     requires { (length objects.items < 17) × (vec_len lists ≡ 16) }
-    ensures { IfOk result (λ v. (vec_len v ≡ length objects.items) × (vec_capacity v ≡ 80) × AreCores objects.items v.items) }
+    ensures { IfOk result (λ v. (vec_len v ≡ length objects.items) × (vec_capacity v ≡ 80)
+        × AreCores objects.items (rosters_of lists.items) v.items) }
 {
     let mut slots = Vec::with_capacity(alloc, SLOTS)?;
     for object in objects {
         let log = Vec::new(alloc);
-        slots.push_reserved(Slot::Core(Core {
+        let core = Core {
             object,
             log,
             passes: 0,
             list: lists.remove(0),
             ages: [0; 32],
-        }));
+        };
+        let inside = Box::new(alloc, core)?;
+        slots.push_reserved(Slot::Core(BoxedCore { inside }));
     }
     Ok(slots)
 }
@@ -88,7 +102,7 @@ fn lay<S: SeqObject>(
     lists: Vec<SharedWalker>,
 ) -> Result<Vec<Slot<S, S::Op, S::Reply>>, AllocError>
     requires { (length objects.items < 17) × (vec_len lists ≡ 16) }
-    ensures { IfOk result (λ v. IsLaid objects.items v.items) }
+    ensures { IfOk result (λ v. IsLaid objects.items (rosters_of lists.items) v.items) }
 {
     let mut slots = cores(alloc, objects, lists)?;
     while slots.len() < SLOTS {
@@ -107,9 +121,11 @@ fn open<S: SeqObject>(
     plan: &Plan,
 ) -> Result<Opened<S, S::Op, S::Reply>, AllocError>
     requires objects { AreEmpty S.content objects.items }
-    requires lists { vec_len lists ≡ 16 }
+    requires lists { (vec_len lists ≡ 16) × AreWalkersOf plan.now.lists.items lists.items }
     requires plan { (plan.now.kinds.items ≡ kinds_with S.content objects.items) × IsSmall plan.now }
-    ensures { IfOk result (λ r. (r.1.table_id ≡ r.0.shared.table_id) × (r.0.shared.table_id.words ≡ 81) × (r.0.shared.table_id.slots ≡ 80) × (r.0.shared.key ≡ plan.now) × (r.1.me ≡ (founder_of plan.now.kinds.items 0, []))) }
+    ensures { IfOk result (λ r. (r.1.table_id ≡ r.0.shared.table_id) × (r.0.shared.table_id.words ≡ 81)
+        × (r.0.shared.table_id.slots ≡ 80) × (r.0.shared.key ≡ plan.now)
+        × (r.1.me ≡ (founder_of plan.now.kinds.items plan.now.lists.items 0, []))) }
 {
     let slots = lay(alloc, objects, lists)?;
     let words = [0; 81];
@@ -145,13 +161,22 @@ fn make<S: SeqObject>(
     number: u32,
     quota: u32,
 ) -> Client<S>
-    requires table { (founder.old.table_id ≡ table.now.shared.table_id) × (table.now.shared.table_id.words ≡ 81) }
-    requires plan { IsSmall table.now.shared.key × (number < table.now.shared.key.clients) × (quota ≡ table.now.shared.key.quota) }
-    requires founder { founder.old.me ≡ (founder_of table.now.shared.key.kinds.items number, []) }
+    requires table { (founder.old.table_id ≡ table.now.shared.table_id)
+        × (table.now.shared.table_id.words ≡ 81) }
+    requires plan { IsSmall table.now.shared.key × (number < table.now.shared.key.clients)
+        × (quota ≡ table.now.shared.key.quota) }
+    requires founder { founder.old.me
+        ≡ (founder_of table.now.shared.key.kinds.items table.now.shared.key.lists.items number, []) }
     requires journal { HasRoom quota journal }
-    requires places { places ≡ replicate 16 [] }
-    ensures founder { (founder.new.table_id ≡ founder.old.table_id) × (founder.new.me ≡ (founder_of table.now.shared.key.kinds.items (number + 1), [])) }
-    ensures client { result ≡ begun (record { table = table.now.shared.table_id; quota = quota; kinds = table.now.shared.key.kinds.items }) number }
+    requires places { (places ≡ fresh_places number table.now.shared.key.lists.items)
+        × (length table.now.shared.key.lists.items ≡ 16) }
+    ensures founder { (founder.new.table_id ≡ founder.old.table_id)
+        × (founder.new.me ≡ (
+          founder_of table.now.shared.key.kinds.items table.now.shared.key.lists.items
+              (number + 1),
+          [],
+        )) }
+    ensures client { result ≡ begun (record { table = table.now.shared.table_id; quota = quota; kinds = table.now.shared.key.kinds.items; lists = table.now.shared.key.lists.items }) number }
 {
     let shared = &table.shared;
     let mut seat = shared.split_seat::<Makes>(founder);
@@ -179,11 +204,14 @@ fn make_all<S: SeqObject>(
 )
     requires table { (founder.table_id ≡ table.now.shared.table_id) × (table.now.shared.table_id.words ≡ 81) }
     requires plan { IsSmall table.now.shared.key × (quota ≡ table.now.shared.key.quota) }
-    requires founder { founder.me ≡ (founder_of table.now.shared.key.kinds.items 0, []) }
-    requires journals { (vec_len journals ≡ table.now.shared.key.clients) × All (HasRoom quota) journals.items }
-    requires owners { AreDealt table.now.shared.key.clients 16 owners.items }
+    requires founder { founder.me
+        ≡ (founder_of table.now.shared.key.kinds.items table.now.shared.key.lists.items 0, []) }
+    requires journals { (vec_len journals ≡ table.now.shared.key.clients)
+        × All (HasRoom quota) journals.items }
+    requires owners { AreDealt 0 table.now.shared.key.clients table.now.shared.key.lists.items owners.items
+        × (length table.now.shared.key.lists.items ≡ 16) }
     requires made { IsRoom table.now.shared.key.clients made.old × (vec_len made.old ≡ 0) }
-    ensures { (length made.new.items ≡ table.now.shared.key.clients) × AllBegun (record { table = table.now.shared.table_id; quota = quota; kinds = table.now.shared.key.kinds.items }) made.new.items }
+    ensures { (length made.new.items ≡ table.now.shared.key.clients) × AllBegun (record { table = table.now.shared.table_id; quota = quota; kinds = table.now.shared.key.kinds.items; lists = table.now.shared.key.lists.items }) made.new.items }
 {
     let mut number = 0;
     while let Some(journal) = journals.pop() {
@@ -204,29 +232,34 @@ impl<S: SeqObject> Desk<S> {
         clients: u32,
         quota: u32,
     ) -> Result<(Desk<S>, Vec<Client<S>>), AllocError>
-        requires objects { (0 < length objects.items) × (length objects.items < 17) × All (λ o. S.content o ≡ empty (kind_with (S.content o))) objects.items }
+        requires objects { (0 < length objects.items) × (length objects.items < 17)
+            × All (λ o. S.content o ≡ empty (kind_with (S.content o))) objects.items }
         requires clients { (0 < clients) × (clients < 33) }
         requires quota { quota < 10001 }
-        ensures desk { IfOk result (λ r. (r.0.id.kinds ≡ map (λ o. kind_with (S.content o)) objects.items) × (r.0.clients ≡ clients) × (r.0.id.quota ≡ quota)) }
+        ensures desk { IfOk result (λ r. (r.0.id.kinds ≡ map (λ o. kind_with (S.content o)) objects.items)
+            × (r.0.clients ≡ clients) × (r.0.id.quota ≡ quota)) }
         ensures clients { IfOk result (λ r. (length r.1.items ≡ clients) × AllBegun r.0.id r.1.items) }
     {
-        let plan = Plan {
-            kinds: kinds_of(alloc, &objects)?,
-            clients,
-            quota,
-        };
+        let kinds = kinds_of(alloc, &objects)?;
         let room = journals(alloc, clients, quota)?;
         let mut made = Vec::with_capacity(alloc, clients as usize)?;
         let journals = Vec::with_capacity(alloc, clients as usize)?;
         let logs = Vec::with_capacity(alloc, objects.len())?;
         let mut owners = no_places(alloc, clients)?;
-        let lists = lists(alloc, &mut owners)?;
-        let (table, founder) = open(alloc, objects, lists, &plan)?;
+        let Dealt { rosters, walkers } = lists(alloc, &mut owners)?;
+        let plan = Plan {
+            kinds,
+            lists: rosters,
+            clients,
+            quota,
+        };
+        let (table, founder) = open(alloc, objects, walkers, &plan)?;
         make_all(&table, founder, room, owners, &mut made, quota);
-        let Plan { kinds, .. } = plan;
+        let Plan { kinds, lists, .. } = plan;
         let desk = Desk {
             table,
             kinds,
+            lists,
             clients,
             quota,
             journals,

@@ -15,7 +15,7 @@ impl<S: SeqObject> Desk<S> {
         requires other { other.desk ≡ self.now.id }
         requires object { object < length self.now.id.kinds }
         ensures desk { (result.0.desk ≡ one.desk) × (result.1.desk ≡ other.desk) }
-        ensures tries { (result.0.tries ≡ one.tries) × (result.1.tries ≡ other.tries) }
+        ensures places { (result.0.places ≡ one.places) × (result.1.places ≡ other.places) }
         ensures met { Met object one other result.0 result.1 }
     {
         let Client { member: mut first } = one;

@@ -1,16 +1,17 @@
 //! Serving the rows of an object that is held.
 
 ghost use Rattle.std.specs.Prelude.{◌≡◌, ◌+◌, ◌-◌, ◌^◌, ◌<◌, ◌++◌, ◌↔◌, length, min, map, vec_len, vec_capacity, IsTrue, IsSome};
-ghost use Rattle.model.specs.Objects.{next};
+ghost use Rattle.model.specs.Objects.{kind_of, kind_with, next};
 ghost use Rattle.world.specs.World.{logged, Serves};
 ghost use Rattle.world.specs.Images.{request_in, answer_in, entry_in};
 ghost use Rattle.desk_rule.specs.Views.{learnt, seen_of};
-ghost use Rattle.publication.specs.Calls.{Got, NotGot, CanDo, kind_held, Answered, IsPutBack, desk_after_pick, state_after_pick, IfGot, IfNot};
+ghost use Rattle.publication.specs.Calls.{Got, NotGot, HasCallLeft, CanDo, kind_held, kind_in, Performed, Answered, IsPutBack, desk_after_pick, state_after_pick, IfGot, IfNot};
 
 use crate::client::{Client, Hand, Pass};
-use crate::desk::{ANSWERED, Desk, PICKED, POSTED, Picked, ROWS};
-use crate::plays::{Answers, Picks, PutsBack, Releases};
-use desk_rule::{Core, Slot};
+use crate::desk::{ANSWERED, CLOCK, Desk, PICKED, POSTED, Picked, ROWS};
+use crate::looking::look_and_exchange;
+use crate::plays::{Answers, Draws, LooksAtRow, Performs, Picks, PutsBack, Releases};
+use desk_rule::{BoxedCore, Core, Slot};
 use recorder::{Answer, LogEntry};
 use seq_objects::SeqObject;
 use world::Request;
@@ -43,7 +44,14 @@ impl<S: SeqObject> Pass<S> {
         let slot = ROWS + row as usize;
         let posted = POSTED + object as u64;
         let picked = PICKED + object as u64;
-        if shared.compare_exchange::<Picks>(&mut member.seat, slot, posted, picked) != posted {
+        let found = look_and_exchange::<_, _, _, _, LooksAtRow, Picks>(
+            shared,
+            &mut member.seat,
+            slot,
+            posted,
+            picked,
+        );
+        if found != posted {
             return Picked::Not(Pass {
                 member,
                 object,
@@ -67,15 +75,64 @@ impl<S: SeqObject> Pass<S> {
         ensures counted { self.new ≡ record self.old { state = record self.old.state { passes = result } } }
         ensures raised { result ≡ min (self.old.state.passes + 1) (2 ^ 64 - 1) }
     {
-        self.core.passes = self.core.passes.saturating_add(1);
-        self.core.passes
+        let passes = self.core.inside.passes.saturating_add(1);
+        self.core.inside.passes = passes;
+        passes
+    }
+
+    /// Whether the object can do the operation now.
+    pub fn possible(&self, op: &S::Op) -> bool
+        requires { kind_of (S.op_in op.now) ≡ kind_in self.now }
+        ensures { IsTrue result ↔ CanDo (kind_in self.now) self.now.log (S.op_in op.now) }
+    {
+        can_do(&self.core, op)
+    }
+
+    /// Makes a call of the client's own, and answers it: no request goes through the client's row. It draws the ticket of the
+    /// invocation, does the operation, logs it, and draws the ticket of the return. Where memory is refused the answer is
+    /// Refused, and nothing is done or logged.
+    pub fn perform(&mut self, desk: &Desk<S>, op: S::Op) -> Answer<S::Reply>
+        requires desk { self.old.desk ≡ desk.now.id }
+        requires may { HasCallLeft self.old.desk self.old.knows }
+        requires possible { (kind_of (S.op_in op) ≡ kind_in self.old)
+            × CanDo (kind_in self.old) self.old.log (S.op_in op) }
+        ensures desk { self.new.desk ≡ self.old.desk }
+        ensures state { self.new.state ≡ record self.old.state { room = self.new.state.room } }
+        // An entry takes room for one, where there was room.
+        ensures room { 0 < self.old.state.room →
+            self.new.state.room + length self.new.log ≡ self.old.state.room + length self.old.log }
+        ensures performed { Performed self.old (S.op_in op) (answer_in S.reply_in result) self.new }
+    {
+        let member = &mut self.member;
+        let (object, number) = (self.object, member.number);
+        let slot = ROWS + number as usize;
+        let shared = &desk.table.shared;
+        let seat = &mut member.seat;
+        // The slot of its own row is in hand, behind that of the object.
+        seat.turn();
+        let asked = Request {
+            object,
+            ticket: 0,
+            op,
+        };
+        let _ = shared.exchange(seat, slot, Slot::Request(asked));
+        let ticket = shared.fetch_add::<Draws>(seat, CLOCK, 1);
+        let asked = Request { object, ticket, op };
+        let answer = serve(&mut self.core, number, &asked);
+        let _ = shared.exchange(seat, slot, Slot::Answer(answer));
+        let returned = shared.fetch_add::<Performs>(seat, CLOCK, 1);
+        let _ = shared.exchange(seat, slot, Slot::Nothing);
+        seat.turn();
+        seat.turn();
+        member.note_call(asked, returned, answer);
+        answer
     }
 
     /// Puts the object back.
     pub fn release(self, desk: &Desk<S>) -> Client<S>
         requires { self.desk ≡ desk.now.id }
         ensures desk { result.desk ≡ self.desk }
-        ensures tries { result.tries ≡ self.state.tries }
+        ensures places { result.places ≡ self.state.places }
         // The client has seen the log.
         ensures learnt { result.knows ≡ learnt self.object self.log self.knows }
         ensures seen { seen_of result.knows self.object ≡ self.log }
@@ -105,7 +162,7 @@ impl<S: SeqObject> Hand<S> {
     pub fn possible(&self) -> bool
         ensures { IsTrue result ↔ CanDo (kind_held self.now) self.now.log self.now.request.op }
     {
-        self.core.object.possible(&self.request.op)
+        can_do(&self.core, &self.request.op)
     }
 
     /// Does the operation, logs it, and answers the request. Where memory is refused it answers Refused, and nothing is
@@ -116,7 +173,9 @@ impl<S: SeqObject> Hand<S> {
         ensures desk { result.0.desk ≡ self.desk }
         ensures state { result.0.state ≡ record self.state { room = result.0.state.room } }
         // An entry takes room for one, where there was room.
-        ensures room { 0 < self.state.room → result.0.state.room + length (logged self.row self.request (answer_in S.reply_in result.1)) ≡ self.state.room }
+        ensures room { 0 < self.state.room →
+            result.0.state.room + length (logged self.row self.request (answer_in S.reply_in result.1))
+            ≡ self.state.room }
         ensures answered { Answered self (answer_in S.reply_in result.1) result.0 }
     {
         let Hand {
@@ -168,19 +227,34 @@ impl<S: SeqObject> Hand<S> {
     }
 }
 
-// Does the operation, and logs it.
+// Whether the object can do the operation.
+fn can_do<S: SeqObject>(core: &BoxedCore<S, S::Op, S::Reply>, op: &S::Op) -> bool
+    requires { kind_of (S.op_in op.now) ≡ kind_with (S.content core.now.object) }
+    ensures { IsTrue result ↔ IsSome (next (S.content core.now.object) (S.op_in op.now)) }
+{
+    core.inside.object.possible(op)
+}
+
+// Does the operation, and logs it. Its answer is to go on in registers: read as a whole word too soon after it was written in
+// pieces, it would be waited for.
+#[inline(always)]
 fn serve<S: SeqObject>(
-    core: &mut Core<S, S::Op, S::Reply>,
+    core: &mut BoxedCore<S, S::Op, S::Reply>,
     row: u32,
     request: &Request<S::Op>,
 ) -> Answer<S::Reply>
     requires { IsSome (next (S.content core.old.object) (S.op_in request.now.op)) }
-    ensures log { map (entry_in S.op_in S.reply_in) core.new.log.items ≡ map (entry_in S.op_in S.reply_in) core.old.log.items ++ logged row (request_in S.op_in request.now) (answer_in S.reply_in result) }
-    ensures state { (core.new.passes ≡ core.old.passes) × (core.new.list ≡ core.old.list) × (core.new.ages ≡ core.old.ages) }
-    ensures room { vec_len core.old.log < vec_capacity core.old.log → vec_capacity core.new.log ≡ vec_capacity core.old.log }
-    ensures content { Serves (S.content core.old.object) (S.op_in request.now.op) (answer_in S.reply_in result) (S.content core.new.object) }
+    ensures log { map (entry_in S.op_in S.reply_in) core.new.log.items
+        ≡ map (entry_in S.op_in S.reply_in) core.old.log.items
+        ++ logged row (request_in S.op_in request.now) (answer_in S.reply_in result) }
+    ensures state { (core.new.passes ≡ core.old.passes) × (core.new.list ≡ core.old.list)
+        × (core.new.ages ≡ core.old.ages) }
+    ensures room { vec_len core.old.log < vec_capacity core.old.log →
+        vec_capacity core.new.log ≡ vec_capacity core.old.log }
+    ensures content { Serves (S.content core.old.object) (S.op_in request.now.op)
+        (answer_in S.reply_in result) (S.content core.new.object) }
 {
-    let Core { object, log, .. } = core;
+    let Core { object, log, .. } = &mut *core.inside;
     if log.len() == log.capacity() && log.reserve(1).is_err() {
         return Answer::Refused;
     }

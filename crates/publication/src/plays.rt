@@ -4,6 +4,14 @@ use atomic_table::{Join, Play, Split};
 use desk_rule::{Slot, View};
 use seq_objects::SeqObject;
 
+pub(crate) struct LooksAtLock;
+
+impl<S: SeqObject> Play<Slot<S, S::Op, S::Reply>, View> for LooksAtLock {
+    ghost use Rattle.desk_rule.specs.Plays.{looks_at_lock};
+
+    ghost then = { looks_at_lock S.content S.op_in S.reply_in };
+}
+
 pub(crate) struct Wins;
 
 impl<S: SeqObject> Play<Slot<S, S::Op, S::Reply>, View> for Wins {
@@ -18,6 +26,14 @@ impl<S: SeqObject> Play<Slot<S, S::Op, S::Reply>, View> for Releases {
     ghost use Rattle.desk_rule.specs.Plays.{releases};
 
     ghost then = { releases S.content S.op_in S.reply_in };
+}
+
+pub(crate) struct LooksAtRow;
+
+impl<S: SeqObject> Play<Slot<S, S::Op, S::Reply>, View> for LooksAtRow {
+    ghost use Rattle.desk_rule.specs.Plays.{looks_at_row};
+
+    ghost then = { looks_at_row S.content S.op_in S.reply_in };
 }
 
 pub(crate) struct Picks;
@@ -60,6 +76,14 @@ impl<S: SeqObject> Play<Slot<S, S::Op, S::Reply>, View> for Posts {
     ghost then = { posts S.content S.op_in S.reply_in };
 }
 
+pub(crate) struct LooksForAnswer;
+
+impl<S: SeqObject> Play<Slot<S, S::Op, S::Reply>, View> for LooksForAnswer {
+    ghost use Rattle.desk_rule.specs.Plays.{looks_for_answer};
+
+    ghost then = { looks_for_answer S.content S.op_in S.reply_in };
+}
+
 pub(crate) struct Takes;
 
 impl<S: SeqObject> Play<Slot<S, S::Op, S::Reply>, View> for Takes {
@@ -74,6 +98,14 @@ impl<S: SeqObject> Play<Slot<S, S::Op, S::Reply>, View> for Returns {
     ghost use Rattle.desk_rule.specs.Plays.{returns};
 
     ghost then = { returns S.content S.op_in S.reply_in };
+}
+
+pub(crate) struct Performs;
+
+impl<S: SeqObject> Play<Slot<S, S::Op, S::Reply>, View> for Performs {
+    ghost use Rattle.desk_rule.specs.Plays.{performs};
+
+    ghost then = { performs S.content S.op_in S.reply_in };
 }
 
 pub(crate) struct Begins;
@@ -145,7 +177,7 @@ impl Split<View> for Makes {
 
     ghost left = { one_made };
 
-    ghost right = { λ v. newcomer v.kinds v.made };
+    ghost right = { λ v. newcomer v.kinds v.lists v.made };
 }
 
 /// What a client has seen, for another.

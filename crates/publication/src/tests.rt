@@ -4,8 +4,9 @@ ghost use Rattle.std.specs.Prelude.{◌≡◌, ◌+◌, ◌<◌, length, IfOk};
 ghost use Rattle.publication.specs.Handles.{AllBegun, begun};
 ghost use Rattle.publication.specs.Making.{AreEmpty};
 
-use crate::{Client, Desk, Unretired};
-use seq_objects::{AnyObject, Kind, SeqObject};
+use crate::desk::{CLOCK, ROWS};
+use crate::{Answer, Client, Desk, Unretired, Win};
+use seq_objects::{AnyObject, AnyOp, AnyReply, Kind, SeqObject};
 use std::alloc::{AllocError, Global};
 use std::process::Abort;
 use std::test::Fail;
@@ -32,7 +33,8 @@ fn desk(alloc: Global) -> Result<(Desk<AnyObject>, Vec<Client<AnyObject>>), Allo
 fn next(desk: &Desk<AnyObject>, clients: &mut Vec<Client<AnyObject>>) -> Client<AnyObject>
     requires { (0 < length clients.old.items) × AllBegun desk.now.id clients.old.items }
     ensures client { result.desk ≡ desk.now.id }
-    ensures others { (length clients.new.items + 1 ≡ length clients.old.items) × AllBegun desk.now.id clients.new.items }
+    ensures others { (length clients.new.items + 1 ≡ length clients.old.items)
+        × AllBegun desk.now.id clients.new.items }
 {
     match clients.pop() {
         Some(client) => client,
@@ -110,6 +112,44 @@ fn error_names_the_least_client(rt: HostRuntime) -> Result<(), Fail> {
     assert_eq!(rt; client, 2);
     desk.retire(third);
     closed(&rt, desk, second);
+    Ok(())
+}
+
+// The client wins object 0, and makes a call of its own.
+fn performed(
+    rt: &impl Abort,
+    desk: &Desk<AnyObject>,
+    client: Client<AnyObject>,
+    op: AnyOp,
+) -> (Client<AnyObject>, Answer<AnyReply>)
+    requires { client.desk ≡ desk.now.id }
+{
+    let Ok(()) = desk.may_post(&client, 0, &op) else {
+        panic!(rt; "the call is refused")
+    };
+    match desk.win(client, 0) {
+        Win::Held(_) => panic!(rt; "the object is held"),
+        Win::Won(mut pass) => {
+            if !pass.possible(&op) {
+                drop(pass.release(desk));
+                panic!(rt; "the operation is not possible")
+            }
+            let answer = pass.perform(desk, op);
+            (pass.release(desk), answer)
+        }
+    }
+}
+
+// The word of its row stays empty, and two tickets are drawn.
+#[test]
+fn own_call_goes_through_no_row(rt: HostRuntime) -> Result<(), Fail> {
+    let (desk, mut clients) = desk(rt.alloc())?;
+    let third = next(&desk, &mut clients);
+    let (third, answer) = performed(&rt, &desk, third, AnyOp::Enqueue(4));
+    assert!(rt; answer == Answer::Reply(AnyReply::Value(Some(4))));
+    assert!(rt; !third.outstanding());
+    assert_eq!(rt; desk.table.shared.peek(ROWS + 2), 0);
+    assert_eq!(rt; desk.table.shared.peek(CLOCK), 2);
     Ok(())
 }
 

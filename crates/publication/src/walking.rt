@@ -2,7 +2,7 @@
 
 ghost use Rattle.std.specs.Prelude.{◌≡◌, ◌<◌, ◌≤◌, ◌∷◌, ◌++◌, All, [], length, remove, slice_index, slice_set, OnOk};
 ghost use Rattle.roster.specs.PublicationList.{WalkMeets};
-ghost use Rattle.publication.specs.Handles.{trying};
+ghost use Rattle.publication.specs.Handles.{HasPlaceAt, IsListOf, trying};
 
 use crate::client::{Client, Pass};
 use crate::desk::Desk;
@@ -15,7 +15,9 @@ impl<S: SeqObject> Desk<S> {
     pub fn enlist(&self, client: &mut Client<S>, object: u32) -> Enlist
         requires client { client.old.desk ≡ self.now.id }
         requires object { object < length self.now.id.kinds }
-        ensures { client.new ≡ record client.old { tries = trying object result client.old.tries } }
+        ensures tried { client.new ≡ record client.old { places = trying object result client.old.places } }
+        // The place is of the client's own row, in the list of this object.
+        ensures own { HasPlaceAt client.old object }
     {
         // There are 16 objects at most, and a place for each.
         let _ = &self.kinds;
@@ -28,27 +30,32 @@ impl<S: SeqObject> Pass<S> {
     /// order. They are the whole list, as a load of its head found it.
     pub fn walk(&mut self)
         ensures same { self.new ≡ record self.old { state = record self.old.state { list = self.new.state.list } } }
+        // It is the list in which clients enlist for this object.
+        ensures list { IsListOf self.new.desk self.new.object self.new.state.list.roster }
         ensures met { WalkMeets self.old.state.list.rows self.new.state.list.rows }
-        ensures looked { self.new.state.list.walks ≡ self.old.state.list.walks ++ self.new.state.list.rows ∷ [] }
+        ensures looked { self.new.state.list.walks ≡ self.old.state.list.walks
+            ++ self.new.state.list.rows ∷ [] }
     {
-        self.core.list.walk();
+        self.core.inside.list.walk();
     }
 
     /// The rows that the last walk met, less those unlinked since.
     pub fn rows(&self) -> &[u32]
         ensures rows { result.now ≡ self.now.state.list.rows }
+        ensures list { IsListOf self.now.desk self.now.object self.now.state.list.roster }
         ensures low { All (λ row. row < 32) self.now.state.list.rows }
         ensures few { length self.now.state.list.rows ≤ 32 }
     {
-        self.core.list.rows()
+        self.core.inside.list.rows()
     }
 
     /// Takes a row out of the list, which is not the first that was met, and marks it inactive.
     pub fn unlink(&mut self, at: usize)
         requires { (1 ≤ at) × (at < length self.old.state.list.rows) }
-        ensures { self.new ≡ record self.old { state = record self.old.state { list = record self.old.state.list { rows = remove self.old.state.list.rows at } } } }
+        ensures unlinked { self.new ≡ record self.old { state = record self.old.state { list = record self.old.state.list { rows = remove self.old.state.list.rows at } } } }
+        ensures list { IsListOf self.new.desk self.new.object self.new.state.list.roster }
     {
-        self.core.list.unlink(at);
+        self.core.inside.list.unlink(at);
     }
 
     /// The age of a row: 0 at first.
@@ -56,7 +63,7 @@ impl<S: SeqObject> Pass<S> {
         requires { row < 32 }
         ensures { result ≡ slice_index self.now.state.ages row }
     {
-        self.core.ages[row as usize]
+        self.core.inside.ages[row as usize]
     }
 
     /// Makes the row as old as this pass.
@@ -64,8 +71,8 @@ impl<S: SeqObject> Pass<S> {
         requires { row < 32 }
         ensures { self.new ≡ record self.old { state = record self.old.state { ages = slice_set self.old.state.ages row self.old.state.passes } } }
     {
-        let row = row as usize;
-        self.core.ages[row] = self.core.passes;
+        let core = &mut self.core.inside;
+        core.ages[row as usize] = core.passes;
     }
 
     /// Makes room in the log for so many entries.
@@ -73,13 +80,13 @@ impl<S: SeqObject> Pass<S> {
         ensures same { self.new ≡ record self.old { state = record self.old.state { room = self.new.state.room } } }
         ensures room { OnOk result (entries ≤ self.new.state.room) }
     {
-        self.core.log.reserve(entries)
+        self.core.inside.log.reserve(entries)
     }
 
     /// For how many entries the log has room.
     pub fn room(&self) -> usize
         ensures { result ≡ self.now.state.room }
     {
-        self.core.log.capacity() - self.core.log.len()
+        self.core.inside.log.capacity() - self.core.inside.log.len()
     }
 }

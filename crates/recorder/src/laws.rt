@@ -9,10 +9,12 @@ ghost use Rattle.recorder.specs.Histories.{AreEventsOf, IsRecord};
 
 /// Journals have one history at most.
 pub fn one_history()
-    ensures { (journals : ℕ → List AnyEvent) (es fs : List Event) → AreEventsOf journals es → AreEventsOf journals fs → es ≡ fs }
+    ensures { (journals : ℕ → List AnyEvent) (es fs : List Event) → AreEventsOf journals es →
+        AreEventsOf journals fs → es ≡ fs }
 {}
 
 /// The journals and logs of a sound record are a record, where no client makes more than 10,000 calls.
 pub fn sound_record_is_a_record()
-    ensures { (kinds : List Kind) (quota : ℕ) (journals : ℕ → List AnyEvent) (logs : ℕ → List AnyEntry) → IsSoundRecord kinds quota journals logs → quota < 10001 → IsRecord (length kinds) journals logs }
+    ensures { (kinds : List Kind) (quota : ℕ) (journals : ℕ → List AnyEvent) (logs : ℕ → List AnyEntry) →
+        IsSoundRecord kinds quota journals logs → quota < 10001 → IsRecord (length kinds) journals logs }
 {}

@@ -1,3 +1,3 @@
-pub mod Writing
+pub mod LinesLeft
 pub mod Uses
 pub mod Named

@@ -1,8 +1,10 @@
 -- Counting the invocations of a history.
-use Rattle.std.proofs.Common.{◌≡◌, ℕ, suc, ◌+◌, ◌<◌, ◌&&◌, Bool, true, false, not, cond, List, [], ◌∷◌, ◌++◌, length, take, get_or, map, filter, Option, Some, None, refl, ap, sym, ◌∙◌}
+use Rattle.std.proofs.Common.{◌≡◌, ℕ, suc, ◌==◌, ◌+◌, ◌<◌, ◌&&◌, Bool, true, false, not, cond, List, [], ◌∷◌, ◌++◌, length, take, get_or, map, filter, Option, Some, None, refl, ap, sym, ◌∙◌, subst, arith, length-append}
 use Rattle.std.specs.Prelude.{nat_eq, ◌||◌}
 use Rattle.std.specs.List.{list_any, cons_option}
-use Rattle.std.proofs.lemmas.List.{take_more, map-append}
+use Rattle.std.proofs.lemmas.Bool.{eqb-true, eqb-false, eq-eqb, ne_eqb}
+use Rattle.std.proofs.lemmas.List.{take_more, map-append, append-nil}
+use Rattle.std.proofs.lemmas.List.Elements.{filter-append}
 use Rattle.std.proofs.lemmas.List.Sums.{fold-append}
 use Rattle.model.specs.declared.Kind.{Kind}
 use Rattle.model.specs.Objects.{kind_of}
@@ -12,7 +14,7 @@ use Rattle.events.specs.declared.event.Action.TheVariants.{Invoke, Ok, Fail, Inf
 use Rattle.events.specs.declared.event.Event.{Event}
 use Rattle.events.specs.Events.{denoted, denoted_by, fails, next_event}
 use Rattle.report.specs.Counts.{Use, use_by, uses, with_new, first_seen, same_kind, objects_in, kinds_in, operations_in, operations_of, objects_of, count_of}
-use Rattle.report.specs.Invoked.{invoked, invoked_by, is_of, operation_count, named, count_in}
+use Rattle.report.specs.Invoked.{invoked, invoked_by, is_of, operation_count, named, count_in, AreSeen}
 use Rattle.report.specs.declared.counting.Invoked.{Invoked}
 
 -- ---- one element more
@@ -20,24 +22,80 @@ use Rattle.report.specs.declared.counting.Invoked.{Invoked}
 pub first_seen-push : {X : Type 0} (same : X → X → Bool) (xs : List X) (y : X) → first_seen same (xs ++ y ∷ []) ≡ with_new same (first_seen same xs) y
 first_seen-push same xs y = fold-append (with_new same) [] xs (y ∷ [])
 
--- the objects that were seen, as a set
-pub record AreSeen (among : ℕ → Bool) (size : ℕ) (seen : List ℕ) : Type 0 where
-  pub objects : (x : ℕ) → among x ≡ list_any (nat_eq x) seen
-  pub count : size ≡ length seen
+-- one invocation more, among those of a kind
+pub named_push : (k : Option Kind) (xs : List Invoked) (e : Invoked) → named k (xs ++ e ∷ []) ≡ cond (is_of k e) (with_new nat_eq (named k xs) e.object) (named k xs)
+named_push k xs e = ap (λ is. first_seen nat_eq (map (λ (i : Invoked). i.object) is)) (filter-append (is_of k) xs (e ∷ [])) ∙ go (is_of k e)
+  where
+    go : (b : Bool) → first_seen nat_eq (map (λ (i : Invoked). i.object) (filter (is_of k) xs ++ cond b (e ∷ []) [])) ≡ cond b (with_new nat_eq (named k xs) e.object) (named k xs)
+    go true = ap (first_seen nat_eq) (map-append (λ (i : Invoked). i.object) (filter (is_of k) xs) (e ∷ [])) ∙ first_seen-push nat_eq (map (λ (i : Invoked). i.object) (filter (is_of k) xs)) e.object
+    go false = ap (λ is. first_seen nat_eq (map (λ (i : Invoked). i.object) is)) (append-nil (filter (is_of k) xs))
+
+any_push : (p : ℕ → Bool) (xs : List ℕ) (y : ℕ) → list_any p (xs ++ y ∷ []) ≡ (list_any p xs || p y)
+any_push p [] y = or_false (p y)
+  where
+    or_false : (b : Bool) → (b || false) ≡ b
+    or_false true = refl
+    or_false false = refl
+any_push p (x ∷ xs) y = ap (λ b. p x || b) (any_push p xs y) ∙ or_assoc (p x) (list_any p xs) (p y)
+  where
+    or_assoc : (a b c : Bool) → (a || (b || c)) ≡ ((a || b) || c)
+    or_assoc true b c = refl
+    or_assoc false b c = refl
+
+-- one object more: it is among those that were seen, or new
+with_object : (old new : ℕ → Bool) (n more o : ℕ) (seen : List ℕ) → ((x : ℕ) → new x ≡ cond (o == x) true (old x)) → more ≡ cond (old o) 0 1 → AreSeen old n seen → AreSeen new (n + more) (with_new nat_eq seen o)
+with_object old new n more o seen among is h = go (list_any (nat_eq o) seen) refl
+  where
+    known : list_any (nat_eq o) seen ≡ true → (x : ℕ) (b : Bool) → (o == x) ≡ b → cond b true (old x) ≡ list_any (nat_eq x) seen
+    known q x true e = sym (subst (λ y. list_any (nat_eq y) seen ≡ true) (eqb-true o x e) q)
+    known q x false e = h.objects x
+
+    fresh : (x : ℕ) (b : Bool) → (o == x) ≡ b → cond b true (old x) ≡ (list_any (nat_eq x) seen || (x == o))
+    fresh x true e = sym (ap (λ b. list_any (nat_eq x) seen || b) (eq-eqb x o (sym (eqb-true o x e))) ∙ or_true (list_any (nat_eq x) seen))
+      where
+        or_true : (b : Bool) → (b || true) ≡ true
+        or_true true = refl
+        or_true false = refl
+    fresh x false e = h.objects x ∙ sym (ap (λ b. list_any (nat_eq x) seen || b) (ne_eqb x o (λ q. eqb-false o x e (sym q))) ∙ or_false (list_any (nat_eq x) seen))
+      where
+        or_false : (b : Bool) → (b || false) ≡ b
+        or_false true = refl
+        or_false false = refl
+
+    go : (b : Bool) → list_any (nat_eq o) seen ≡ b → AreSeen new (n + more) (cond b seen (seen ++ o ∷ []))
+    go true q =
+        let none : more ≡ 0 = is ∙ ap (λ b. cond b 0 1) (h.objects o ∙ q) in
+        let count = h.count in
+        record { objects = λ x. among x ∙ known q x (o == x) refl; count = omega (arith, none, count) }
+    go false q =
+        let one : more ≡ 1 = is ∙ ap (λ b. cond b 0 1) (h.objects o ∙ q) in
+        let count = h.count in
+        let long : length (seen ++ o ∷ []) ≡ length seen + 1 = length-append seen (o ∷ []) in
+        record { objects = λ x. among x ∙ fresh x (o == x) refl ∙ sym (any_push (nat_eq x) seen o); count = omega (arith, one, count, long) }
+
+pub one_of_kind : (k : Option Kind) (xs : List Invoked) (e : Invoked) (old new : ℕ → Bool) (n more : ℕ) → is_of k e ≡ true → ((x : ℕ) → new x ≡ cond (e.object == x) true (old x)) → more ≡ cond (old e.object) 0 1
+    → AreSeen old n (named k xs) → AreSeen new (n + more) (named k (xs ++ e ∷ []))
+one_of_kind k xs e old new n more own among is h =
+    subst (AreSeen new (n + more)) (sym (named_push k xs e ∙ ap (λ b. cond b (with_new nat_eq (named k xs) e.object) (named k xs)) own)) (with_object old new n more e.object (named k xs) among is h)
+
+pub one_of_another : (k : Option Kind) (xs : List Invoked) (e : Invoked) (old : ℕ → Bool) (n : ℕ) → is_of k e ≡ false → AreSeen old n (named k xs) → AreSeen old (n + 0) (named k (xs ++ e ∷ []))
+one_of_another k xs e old n other h =
+    let same : named k (xs ++ e ∷ []) ≡ named k xs = named_push k xs e ∙ ap (λ b. cond b (with_new nat_eq (named k xs) e.object) (named k xs)) other in
+    let count : n ≡ length (named k xs) = h.count in
+    let more : n + 0 ≡ length (named k xs) = omega (arith, count) in
+    subst (AreSeen old (n + 0)) (sym same) (record { objects = h.objects; count = more })
+
+pub seen_next : (k : Option Kind) (all : List Invoked) (i : ℕ) (d : Invoked) (new : ℕ → Bool) (m : ℕ) → i < length all → AreSeen new m (named k (take i all ++ get_or all i d ∷ [])) → AreSeen new m (named k (take (i + 1) all))
+seen_next k all i d new m lt h = subst (λ xs. AreSeen new m (named k xs)) (sym (take_more all i d lt)) h
 
 -- ---- kinds
 
-list_any-same : {X : Type 0} (p q : X → Bool) (xs : List X) → ((x : X) → p x ≡ q x) → list_any p xs ≡ list_any q xs
-list_any-same p q [] h = refl
-list_any-same p q (x ∷ xs) h = ap (λ b. b || list_any p xs) (h x) ∙ ap (λ b. q x || b) (list_any-same p q xs h)
-
--- one kind more, by a test of equality
-pub kinds_on : (all : List Invoked) (i : ℕ) (d : Invoked) (equal : Kind → Kind → Bool) (old new : List Kind) → i < length all → old ≡ first_seen same_kind (map (λ (v : Invoked). v.kind) (take i all))
-    → new ≡ cond (list_any (equal (get_or all i d).kind) old) old (old ++ (get_or all i d).kind ∷ []) → ((k l : Kind) → equal k l ≡ same_kind k l) → new ≡ first_seen same_kind (map (λ (v : Invoked). v.kind) (take (i + 1) all))
-kinds_on all i d equal old new lt h step same =
+-- one kind more
+pub kinds_on : (all : List Invoked) (i : ℕ) (d : Invoked) (old new : List Kind) → i < length all → old ≡ first_seen same_kind (map (λ (v : Invoked). v.kind) (take i all))
+    → new ≡ with_new same_kind old (get_or all i d).kind → new ≡ first_seen same_kind (map (λ (v : Invoked). v.kind) (take (i + 1) all))
+kinds_on all i d old new lt h step =
     let k = (get_or all i d).kind in
-    step ∙ ap (λ b. cond b old (old ++ k ∷ [])) (list_any-same (equal k) (same_kind k) old (same k))
-    ∙ ap (λ ks. with_new same_kind ks k) h
+    step ∙ ap (λ ks. with_new same_kind ks k) h
     ∙ sym (first_seen-push same_kind (map (λ (v : Invoked). v.kind) (take i all)) k)
     ∙ ap (first_seen same_kind) (sym (ap (map (λ (v : Invoked). v.kind)) (take_more all i d lt) ∙ map-append (λ (v : Invoked). v.kind) (take i all) (get_or all i d ∷ [])))
 

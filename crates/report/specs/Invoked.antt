@@ -1,5 +1,6 @@
 -- The invocations as they are counted. No public clause speaks of it.
-use Rattle.std.specs.Prelude.{ℕ, Bool, true, List, [], ◌∷◌, ◌++◌, map, filter, length, Option, Some, None, nat_eq, not, ◌&&◌}
+use Rattle.std.specs.Prelude.{◌≡◌, ℕ, Bool, true, List, [], ◌∷◌, ◌++◌, map, filter, length, Option, Some, None, nat_eq, not, ◌&&◌}
+use Rattle.std.specs.List.{list_any}
 use Rattle.model.specs.declared.Kind.{Kind}
 use Rattle.model.specs.Objects.{kind_of}
 use Rattle.events.specs.declared.event.Action.{Action}
@@ -34,3 +35,8 @@ named k xs = first_seen nat_eq (map (λ i. i.object) (filter (is_of k) xs))
 
 abbrev pub count_in : List Invoked → Kind → KindCount
 count_in xs k = record { kind = k; objects = length (named (Some k) xs); operations = operation_count (Some k) xs }
+
+-- these are the objects that were seen, as a set, and so many
+pub record AreSeen (among : ℕ → Bool) (size : ℕ) (seen : List ℕ) : Type 0 where
+  pub objects : (x : ℕ) → among x ≡ list_any (nat_eq x) seen
+  pub count : size ≡ length seen

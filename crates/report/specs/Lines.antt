@@ -2,9 +2,8 @@
 use Rattle.std.specs.Prelude.{ℕ, Bool, true, false, List, [], ◌∷◌, ◌++◌, codes, decimal}
 use Rattle.std.specs.Fmt.{signed_decimal}
 use Rattle.edn.specs.Faults.{text_of_kind}
-use Rattle.history.specs.Faults.{number_of}
-use Rattle.certificate.specs.declared.fault.CertFaultKind.{CertFaultKind}
-use Rattle.certificate.specs.declared.fault.CertFaultKind.TheVariants as certificate
+use Rattle.history.specs.Faults as history
+use Rattle.certificate.specs.Faults as certificate
 use Rattle.checker.specs.declared.refusal.OrderFault.{OrderFault}
 use Rattle.checker.specs.declared.refusal.OrderFault.TheVariants.{UnknownOperation, Repeated, TooLate, NotPossible, WrongReply, Omitted}
 use Rattle.checker.specs.declared.refusal.Refusal.{Refusal}
@@ -67,17 +66,11 @@ refusal_line refusal.NoMemory = no_memory_line
 
 -- ---- malformed
 
--- the number behind the letter K
-abbrev pub certificate_number : CertFaultKind → ℕ
-certificate_number certificate.NotACertificate = 1
-certificate_number certificate.TwoForOneObject = 2
-certificate_number certificate.NoMemory = 3
-
 abbrev pub fault_line : Fault → List ℕ
 fault_line (HistoryText e) = codes "malformed history: " ++ (text_of_kind e.kind ++ (codes " at byte " ++ (decimal e.place ++ codes "\n")))
-fault_line (HistoryMaps h) = codes "malformed history: H" ++ (decimal (number_of h.kind) ++ (codes " at map " ++ (decimal h.map ++ codes "\n")))
+fault_line (HistoryMaps h) = codes "malformed history: H" ++ (decimal (history.number_of h.kind) ++ (codes " at map " ++ (decimal h.map ++ codes "\n")))
 fault_line (CertificateText e) = codes "malformed certificates: " ++ (text_of_kind e.kind ++ (codes " at byte " ++ (decimal e.place ++ codes "\n")))
-fault_line (CertificateForms k) = codes "malformed certificates: K" ++ (decimal (certificate_number k.kind) ++ (codes " at form " ++ (decimal k.form ++ codes "\n")))
+fault_line (CertificateForms k) = codes "malformed certificates: K" ++ (decimal (certificate.number_of k.kind) ++ (codes " at form " ++ (decimal k.form ++ codes "\n")))
 
 -- ---- all
 

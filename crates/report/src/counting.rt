@@ -1,20 +1,20 @@
 //! What a history has, in all and of each kind.
 
-ghost use Rattle.std.specs.Prelude.{◌≡◌, ◌≢◌, ◌==◌, ◌+◌, ◌++◌, ◌↔◌, ℕ, AllPairs, Contains, if◌then◌else◌, true, false, IfOk, OnOk, length, map, reverse, unwrap_or};
-ghost use Rattle.std.specs.Ordering.{nat_cmp};
-ghost use Rattle.std.specs.BTreeMap.{get};
-ghost use Rattle.std.specs.BTreeSet.{contains, btree_set_len};
-ghost use Rattle.events.specs.Events as event;
+ghost use Rattle.std.specs.Prelude.{◌≡◌, ◌≢◌, ◌==◌, ◌+◌, ◌++◌, ◌↔◌, ℕ, AllPairs, Contains, if◌then◌else◌, true, false, IfOk, OnOk, length, map, reverse};
+ghost use Rattle.std.specs.Prelude.{List, [], ◌∷◌, ◌≤◌, is_some, unwrap_or};
+ghost use Rattle.std.specs.List.{list_any};
+ghost use Rattle.numbers.specs.Lookup.{value_of};
+ghost use Rattle.events.specs.Events as spec;
 ghost use Rattle.events.specs.Events.{IsNamed};
-ghost use Rattle.report.specs.Counts.{same_kind, first_seen, uses, objects_in, kinds_in, operations_in, count_of};
-ghost use Rattle.report.specs.Invoked.{invoked, invoked_by, is_of, operation_count, named, count_in};
+ghost use Rattle.report.specs.Counts.{same_kind, with_new, first_seen, uses, objects_in, kinds_in, operations_in, count_of};
+ghost use Rattle.report.specs.Invoked.{invoked, invoked_by, is_of, operation_count, named, count_in, AreSeen};
+ghost use Rattle.report.specs.declared.counting.Invoked.{Invoked};
 
 use crate::verdict::{KindCount, Summary};
 use events::{Action, Event, History};
-use indexmap::IndexSet;
+use numbers::NumberMap;
 use seq_objects::{AnyObject, Kind, SeqObject};
 use std::alloc::{AllocError, Global};
-use std::collections::{BTreeMap, BTreeSet};
 
 /// An invocation: its object, the kind of its operation, and whether that failed.
 #[derive(Clone, Copy, Debug, PartialEq, Eq)]
@@ -40,7 +40,7 @@ fn is_of(kind: Option<Kind>, invoked: &Invoked) -> bool
 }
 
 fn is_fail(action: &Action) -> bool
-    ensures { result ≡ event.is_fail action.now }
+    ensures { result ≡ spec.is_fail action.now }
 {
     match action {
         Action::Fail => true,
@@ -50,7 +50,8 @@ fn is_fail(action: &Action) -> bool
 
 /// Puts the invocation that an event is, if it is one, behind the others.
 fn push_invoked(all: &mut Vec<Invoked>, event: &Event, failed: bool) -> Result<(), AllocError>
-    ensures { OnOk result (reverse all.new.items ≡ invoked_by event.now.object event.now.action failed ++ reverse all.old.items) }
+    ensures { OnOk result (reverse all.new.items
+        ≡ invoked_by event.now.object event.now.action failed ++ reverse all.old.items) }
 {
     match event.action {
         Action::Invoke(op) => {
@@ -67,36 +68,61 @@ fn push_invoked(all: &mut Vec<Invoked>, event: &Event, failed: bool) -> Result<(
     }
 }
 
-/// Whether the next event of a process says that its operation failed.
-fn fails_next(fails: &BTreeMap<u64, bool>, process: u64) -> bool
-    ensures { result ≡ unwrap_or (get nat_cmp fails.now process) false }
+/// Whether the next event of the process says that an operation failed. One that is not kept has none.
+fn is_failing(failing: &NumberMap<bool>, process: u64) -> bool
+    ensures { result ≡ unwrap_or (value_of failing.now process) false }
 {
-    fails.get(&process).copied().unwrap_or(false)
+    failing.get(process).unwrap_or(false)
+}
+
+/// Takes in one more event, from the last one back: whether it says that an operation of its process failed.
+fn note_end(failing: &mut NumberMap<bool>, event: &Event) -> Result<(), AllocError>
+    ensures { OnOk result ((p : ℕ) → unwrap_or (value_of failing.new p) false
+        ≡ (if event.now.process == p then spec.is_fail event.now.action else unwrap_or (value_of failing.old p) false)) }
+{
+    failing.insert(event.process, is_fail(&event.action))
 }
 
 /// The invocations in their order.
 fn invoked_in(alloc: Global, events: &[Event]) -> Result<Vec<Invoked>, AllocError>
     ensures { IfOk result (λ v. v.items ≡ invoked events.now) }
 {
-    let mut fails = BTreeMap::new(alloc);
+    let mut failing = NumberMap::new(alloc);
     let mut all = Vec::new(alloc);
     for k in (0..events.len()).rev() {
-        let event = events[k];
-        let failed = fails_next(&fails, event.process);
-        push_invoked(&mut all, &event, failed)?;
-        fails.insert(event.process, is_fail(&event.action))?;
+        let event = &events[k];
+        let failed = is_failing(&failing, event.process);
+        push_invoked(&mut all, event, failed)?;
+        note_end(&mut failing, event)?;
     }
     all.reverse();
     Ok(all)
 }
 
-/// The kinds in the order of their first invocations.
-fn kinds_of(alloc: Global, all: &[Invoked]) -> Result<IndexSet<Kind>, AllocError>
-    ensures { IfOk result (λ s. s.keys ≡ first_seen same_kind (map (λ i. i.kind) all.now)) }
+fn is_among(kinds: &[Kind], kind: Kind) -> bool
+    ensures { result ≡ list_any (same_kind kind) kinds.now }
 {
-    let mut kinds = IndexSet::new(alloc);
+    kinds.iter().any(|known| is_same_kind(kind, *known))
+}
+
+/// Puts in a kind, where it is new.
+fn note_kind(kinds: &mut Vec<Kind>, kind: Kind) -> Result<(), AllocError>
+    ensures { OnOk result (kinds.new.items ≡ with_new same_kind kinds.old.items kind) }
+{
+    if is_among(kinds, kind) {
+        return Ok(());
+    }
+    kinds.push(kind)?;
+    Ok(())
+}
+
+/// The kinds in the order of their first invocations.
+fn kinds_of(alloc: Global, all: &[Invoked]) -> Result<Vec<Kind>, AllocError>
+    ensures { IfOk result (λ v. v.items ≡ first_seen same_kind (map (λ i. i.kind) all.now)) }
+{
+    let mut kinds = Vec::new(alloc);
     for invoked in all {
-        kinds.insert(invoked.kind)?;
+        note_kind(&mut kinds, invoked.kind)?;
     }
     Ok(kinds)
 }
@@ -107,26 +133,48 @@ fn count_operations(kind: Option<Kind>, all: &[Invoked]) -> usize
     all.iter().filter(|i| is_of(kind, i) && !i.failed).count()
 }
 
-/// Puts in an object, where it is new.
-fn insert_object(objects: &mut BTreeSet<u32>, object: u32) -> Result<(), AllocError>
-    ensures among { OnOk result ((x : ℕ) → contains nat_cmp objects.new x ≡ (if object == x then true else contains nat_cmp objects.old x)) }
-    ensures len { OnOk result (btree_set_len objects.new ≡ btree_set_len objects.old + (if contains nat_cmp objects.old object then 0 else 1)) }
+/// Puts in an object: one more where it is new, else none.
+fn insert_object(objects: &mut NumberMap<()>, object: u32) -> Result<usize, AllocError>
+    ensures among { OnOk result ((x : ℕ) → is_some (value_of objects.new x)
+        ≡ (if object == x then true else is_some (value_of objects.old x))) }
+    ensures more { IfOk result (λ more. more ≡ (if is_some (value_of objects.old object) then 0 else 1)) }
 {
-    objects.insert(object)?;
-    Ok(())
+    let object = object as u64;
+    if objects.get(object).is_some() {
+        return Ok(0);
+    }
+    objects.insert(object, ())?;
+    Ok(1)
+}
+
+/// Takes in one more invocation, and says how many more objects are then named.
+fn count_more(
+    objects: &mut NumberMap<()>,
+    kind: Option<Kind>,
+    invoked: &Invoked,
+) -> Result<usize, AllocError>
+    ensures seen { IfOk result (λ more. (n : ℕ) (all : List Invoked)
+        → AreSeen (λ x. is_some (value_of objects.old x)) n (named kind all)
+        → AreSeen (λ x. is_some (value_of objects.new x)) (n + more) (named kind (all ++ invoked.now ∷ []))) }
+    ensures few { IfOk result (λ more. more ≤ 1) }
+{
+    if is_of(kind, invoked) {
+        let more = insert_object(objects, invoked.object)?;
+        return Ok(more);
+    }
+    Ok(0)
 }
 
 /// How many objects the invocations name, those of the kind or all.
 fn count_objects(alloc: Global, kind: Option<Kind>, all: &[Invoked]) -> Result<usize, AllocError>
     ensures { IfOk result (λ n. n ≡ length (named kind all.now)) }
 {
-    let mut objects = BTreeSet::new(alloc);
+    let mut objects = NumberMap::new(alloc);
+    let mut count = 0;
     for invoked in all {
-        if is_of(kind, invoked) {
-            insert_object(&mut objects, invoked.object)?;
-        }
+        count += count_more(&mut objects, kind, invoked)?;
     }
-    Ok(objects.len())
+    Ok(count)
 }
 
 /// The counts of each of the kinds.
@@ -148,7 +196,8 @@ fn count_kinds(alloc: Global, kinds: &[Kind], all: &[Invoked]) -> Result<Vec<Kin
 pub(crate) fn summary_of(alloc: Global, events: &[Event]) -> Result<Summary, AllocError>
     ensures operations { IfOk result (λ s. s.operations ≡ length (operations_in events.now)) }
     ensures objects { IfOk result (λ s. s.objects ≡ length (objects_in (uses events.now))) }
-    ensures kinds { IfOk result (λ s. s.kinds.items ≡ map (count_of events.now) (kinds_in (uses events.now))) }
+    ensures kinds { IfOk result (λ s. s.kinds.items
+        ≡ map (count_of events.now) (kinds_in (uses events.now))) }
 {
     let all = invoked_in(alloc, events)?;
     let kinds = kinds_of(alloc, &all)?;
@@ -168,7 +217,8 @@ pub fn summary(alloc: Global, history: &History) -> Result<Summary, AllocError>
     ensures named { (x : ℕ) → Contains (objects_in (uses history.now)) x ↔ IsNamed history.now x }
     ensures once { AllPairs (λ x y. x ≢ y) (objects_in (uses history.now)) }
     // The kinds stand in the order of their first invocations, each once.
-    ensures kinds { IfOk result (λ s. s.kinds.items ≡ map (count_of history.now) (kinds_in (uses history.now))) }
+    ensures kinds { IfOk result (λ s. s.kinds.items
+        ≡ map (count_of history.now) (kinds_in (uses history.now))) }
     ensures kinds_once { AllPairs (λ k l. k ≢ l) (kinds_in (uses history.now)) }
 {
     summary_of(alloc, history.events())

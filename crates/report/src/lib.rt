@@ -5,10 +5,11 @@ mod counting;
 mod lines;
 mod pieces;
 mod verdict;
+mod writing;
 
 pub use counting::summary;
-pub use lines::write_verdict;
 pub use verdict::{Fault, KindCount, Summary, Verdict};
+pub use writing::write_verdict;
 
 #[cfg(test)]
 mod tests;

@@ -33,7 +33,8 @@ fn write_piece<S: Sink>(piece: Piece, sink: &mut S) -> Result<(), Failed>
     requires { S.broken sink.old ≡ false }
     ensures ok { OnOk result (Appends (S.sent sink.old) (S.sent sink.new) (piece_text piece)) }
     ensures usable { OnOk result (S.broken sink.new ≡ false) }
-    ensures front { OnErr result (SendsFront (S.sent sink.old) (S.sent sink.new) (piece_text piece)) }
+    ensures front { OnErr result (SendsFront (S.sent sink.old) (S.sent sink.new)
+        (piece_text piece)) }
     ensures failed { OnErr result (S.broken sink.new ≡ true) }
 {
     match piece {
@@ -46,9 +47,11 @@ fn write_piece<S: Sink>(piece: Piece, sink: &mut S) -> Result<(), Failed>
 /// Sends the pieces, one after the other.
 fn write_pieces<S: Sink>(pieces: &[Piece], sink: &mut S) -> Result<(), Failed>
     requires { S.broken sink.old ≡ false }
-    ensures ok { OnOk result (Appends (S.sent sink.old) (S.sent sink.new) (pieces_text pieces.now)) }
+    ensures ok { OnOk result (Appends (S.sent sink.old) (S.sent sink.new)
+        (pieces_text pieces.now)) }
     ensures usable { OnOk result (S.broken sink.new ≡ false) }
-    ensures front { OnErr result (SendsFront (S.sent sink.old) (S.sent sink.new) (pieces_text pieces.now)) }
+    ensures front { OnErr result (SendsFront (S.sent sink.old) (S.sent sink.new)
+        (pieces_text pieces.now)) }
     ensures failed { OnErr result (S.broken sink.new ≡ true) }
 {
     for piece in pieces {
@@ -60,9 +63,11 @@ fn write_pieces<S: Sink>(pieces: &[Piece], sink: &mut S) -> Result<(), Failed>
 /// Sends `; ` where the line is a comment.
 fn write_comment<S: Sink>(commented: bool, sink: &mut S) -> Result<(), Failed>
     requires { S.broken sink.old ≡ false }
-    ensures ok { OnOk result (Appends (S.sent sink.old) (S.sent sink.new) (comment_text commented)) }
+    ensures ok { OnOk result (Appends (S.sent sink.old) (S.sent sink.new)
+        (comment_text commented)) }
     ensures usable { OnOk result (S.broken sink.new ≡ false) }
-    ensures front { OnErr result (SendsFront (S.sent sink.old) (S.sent sink.new) (comment_text commented)) }
+    ensures front { OnErr result (SendsFront (S.sent sink.old) (S.sent sink.new)
+        (comment_text commented)) }
     ensures failed { OnErr result (S.broken sink.new ≡ true) }
 {
     write_bytes(if commented { b"; " } else { b"" }, sink)
@@ -75,9 +80,11 @@ pub(crate) fn write_line<S: Sink>(
     sink: &mut S,
 ) -> Result<(), Failed>
     requires { S.broken sink.old ≡ false }
-    ensures ok { OnOk result (Appends (S.sent sink.old) (S.sent sink.new) (comment_text commented ++ pieces_text pieces.now)) }
+    ensures ok { OnOk result (Appends (S.sent sink.old) (S.sent sink.new)
+        (comment_text commented ++ pieces_text pieces.now)) }
     ensures usable { OnOk result (S.broken sink.new ≡ false) }
-    ensures front { OnErr result (SendsFront (S.sent sink.old) (S.sent sink.new) (comment_text commented ++ pieces_text pieces.now)) }
+    ensures front { OnErr result (SendsFront (S.sent sink.old) (S.sent sink.new)
+        (comment_text commented ++ pieces_text pieces.now)) }
     ensures failed { OnErr result (S.broken sink.new ≡ true) }
 {
     write_comment(commented, sink)?;

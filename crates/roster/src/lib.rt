@@ -14,7 +14,7 @@ mod walker;
 pub use board::Enlist;
 pub use place::Place;
 pub use roster::Roster;
-pub use shared::{SharedPlace, SharedWalker};
+pub use shared::{SharedPlace, SharedRoster, SharedWalker};
 pub use walker::Walker;
 
 #[cfg(test)]

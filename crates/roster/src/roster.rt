@@ -33,7 +33,8 @@ impl Model for Roster {
 
 // The places of the first rows.
 fn make_all(table: &Board, seat: &mut Chair, rows: u32, made: &mut Vec<Place>)
-    requires table { (seat.old.table_id ≡ table.now.shared.table_id) × (table.now.shared.table_id.words ≡ 65) }
+    requires table { (seat.old.table_id ≡ table.now.shared.table_id)
+        × (table.now.shared.table_id.words ≡ 65) }
     requires rows { rows < 33 }
     requires seat { seat.old.me ≡ (view.Walker 0 [] None [], []) }
     requires made { (made.old.items ≡ []) × (vec_len made.old ≡ 0) × (rows ≤ vec_capacity made.old) }
@@ -57,7 +58,8 @@ impl Roster {
         requires { (0 < rows) × (rows < 33) }
         ensures rows { IfOk result (λ r. r.0.rows ≡ rows) }
         ensures places { IfOk result (λ r. ArePlaces r.0.id rows r.1.items) }
-        ensures walker { IfOk result (λ r. r.2 ≡ record { roster = r.0.id; places = rows; rows = []; walks = [] }) }
+        ensures walker { IfOk result (λ r.
+            r.2 ≡ record { roster = r.0.id; places = rows; rows = []; walks = [] }) }
     {
         let mut places = Vec::with_capacity(alloc, rows as usize)?;
         let room = Vec::with_capacity(alloc, rows as usize)?;

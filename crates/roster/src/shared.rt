@@ -1,4 +1,4 @@
-//! A roster that its walker and the owners of its rows share.
+//! A roster that its walker, the owners of its rows and others share.
 
 ghost use Rattle.std.specs.Prelude.{◌≡◌, ◌<◌, ◌≤◌, ◌∷◌, ◌++◌, ℕ, [], length, slice_index, remove, IfOk};
 ghost use Rattle.roster.specs.PublicationList.{WalkMeets};
@@ -8,6 +8,21 @@ use crate::{Enlist, Place, Roster, Walker};
 use std::alloc::{AllocError, Global};
 use std::marker::Model;
 use std::sync::Arc;
+
+/// A share in a roster. It takes no step: contracts see which roster it is.
+#[derive(Drop)]
+pub struct SharedRoster {
+    roster: Arc<Roster>,
+}
+
+impl Model for SharedRoster {
+    ghost use Rattle.std.specs.Arc.{arc_value};
+    ghost use Rattle.atomic_table.specs.Seated.{TableId};
+
+    ghost Value = { TableId };
+
+    ghost view = { λ r. (arc_value r.roster).id };
+}
 
 /// The place of a row, with the roster that it is of.
 #[derive(Drop)]
@@ -90,11 +105,12 @@ impl Roster {
     pub fn deal(
         alloc: Global,
         owners: &mut Vec<Vec<SharedPlace>>,
-    ) -> Result<SharedWalker, AllocError>
+    ) -> Result<(SharedRoster, SharedWalker), AllocError>
         requires few { (0 < length owners.old.items) × (length owners.old.items < 33) }
         requires room { HaveRoom owners.old.items }
-        ensures walker { IfOk result (λ w. w ≡ record { roster = w.roster; places = length owners.old.items; rows = []; walks = [] }) }
-        ensures grown { IfOk result (λ w. AreGrown w.roster owners.old.items owners.new.items) }
+        ensures walker { IfOk result (λ r.
+            r.1 ≡ record { roster = r.0; places = length owners.old.items; rows = []; walks = [] }) }
+        ensures grown { IfOk result (λ r. AreGrown r.0 owners.old.items owners.new.items) }
     {
         let (roster, mut places, walker) = Roster::new(alloc, owners.len() as u32)?;
         let shared = Arc::new(alloc, roster)?;
@@ -102,9 +118,13 @@ impl Roster {
             let roster = Arc::try_clone(&shared)?;
             owners[places.len()].push_reserved(SharedPlace { roster, place });
         }
-        Ok(SharedWalker {
+        let named = SharedRoster {
+            roster: Arc::try_clone(&shared)?,
+        };
+        let walker = SharedWalker {
             roster: shared,
             walker,
-        })
+        };
+        Ok((named, walker))
     }
 }

@@ -1,12 +1,12 @@
 -- Forms that are steps, and the first that is none.
 use Rattle.std.proofs.Common.{◌≡◌, ◌≢◌, ℕ, ◌+◌, ◌<◌, ◌≤◌, List, [], ◌∷◌, ◌++◌, length, take, drop, map, get_or, Some, None, refl, ap, sym, ◌∙◌, subst, arith}
-use Rattle.std.proofs.lemmas.List.{map-append, take_more, drop_more, take-append-drop, length-map, length-take-le, take_all}
+use Rattle.std.proofs.lemmas.List.{map-append, take_more, drop_more, take-append-drop, length-map, length-take-le, take-map, take_all}
 use Rattle.model.proofs.Lists.{In, in_middle, in_map, in_map_from, all_from_in}
 use Rattle.edn.specs.Datum.{Datum}
 use Rattle.edn.specs.View.{view, views}
 use Rattle.edn.specs.declared.form.Form.{Form}
 use Rattle.schedule.specs.Schedules.{AnyStep, step_of, Denotes}
-use Rattle.schedule.specs.Faults.{IsNoStepAt, StepFaultIs}
+use Rattle.schedule.specs.Faults.{AreStepsTo, IsNoStepAt, StepFaultIs}
 use Rattle.schedule.specs.declared.header.Header.{Header}
 use Rattle.schedule.specs.declared.fault.ScheduleFaultKind.{ScheduleFaultKind}
 use Rattle.schedule.specs.declared.fault.ScheduleFaultKind.TheVariants.{NoHeader, NotAStep, NoMemory}
@@ -30,6 +30,18 @@ each_step ds steps h d i none =
     let there : In (step_of d) (map (λ s. Some s) steps) = subst (In (step_of d)) h (in_map_from step_of d ds i) in
     let s = in_map (λ s. Some s) (step_of d) steps there in
     absurd (cc (none, s.2))
+
+-- the next form is a step too
+pub steps_to : (fs : List Form) (i : ℕ) (f : Form) (steps : List (ℕ × AnyStep)) (s : ℕ × AnyStep) → i < length fs → f ≡ get_or fs i f → map step_of (views (take i fs)) ≡ map (λ s. Some s) steps → Some s ≡ step_of (view f) → AreStepsTo (views fs) (i + 1)
+steps_to fs i f steps s low is so_far one =
+    let long = length-map fs view in
+    let more = step_more fs i f steps (steps ++ s ∷ []) s low is so_far one refl in
+    let front = subst (λ ds. map step_of ds ≡ map (λ s. Some s) (steps ++ s ∷ [])) (sym (take-map view (i + 1) fs)) more in
+    record {
+      behind_header = omega arith;
+      there = omega arith;
+      steps = all_from_in (λ d. step_of d ≢ None) (take (i + 1) (views fs)) (each_step (take (i + 1) (views fs)) (steps ++ s ∷ []) front);
+    }
 
 -- the next form is no step
 pub no_step : (fs : List Form) (i : ℕ) (f : Form) (steps : List (ℕ × AnyStep)) → i < length fs → f ≡ get_or fs i f → map step_of (views (take i fs)) ≡ map (λ s. Some s) steps → None ≡ step_of (view f) → IsNoStepAt (views fs) (i + 1)

@@ -1,5 +1,5 @@
 -- What is wrong with the forms of a schedule, and which fault is the first.
-use Rattle.std.specs.Prelude.{◌≡◌, ◌≢◌, ℕ, ◌+◌, List, [], ◌∷◌, ◌++◌, length, None, All}
+use Rattle.std.specs.Prelude.{◌≡◌, ◌≢◌, ℕ, ◌+◌, ◌<◌, ◌≤◌, List, [], ◌∷◌, ◌++◌, length, take, None, All}
 use Rattle.edn.specs.Datum.{Datum}
 use Rattle.schedule.specs.Schedules.{header_of, step_of}
 use Rattle.schedule.specs.declared.fault.ScheduleFault.{ScheduleFault}
@@ -21,17 +21,33 @@ pub record IsNoStepAt (ds : List Datum) (place : ℕ) : Type 0 where
   pub steps : All (λ d. step_of d ≢ None) earlier
   pub none : step_of form ≡ None
 
+-- Of the same forms, those up to this one and with it are steps.
+pub record AreStepsTo (ds : List Datum) (place : ℕ) : Type 0 where
+  pub behind_header : 0 < place
+  pub there : place ≤ length ds
+  pub steps : All (λ d. step_of d ≢ None) (take place ds)
+
 abbrev pub StepFaultIs : List Datum → ScheduleFaultKind → ℕ → Type 0
 StepFaultIs ds NoHeader n = ⊥
 StepFaultIs ds NotAStep n = IsNoStepAt ds n
-StepFaultIs ds NoMemory n = Unit {0}
+StepFaultIs ds NoMemory n = AreStepsTo ds n
 
--- the fault of a kind stands at this form, and none at an earlier one
+-- The first form is a header, and each form behind it up to this one and with it is a step.
+abbrev pub IsSoundTo : List Datum → ℕ → Type 0
+IsSoundTo ds n = (first : Datum) × (rest : List Datum) × (ds ≡ first ∷ rest) × (header_of first ≢ None) × AreStepsTo rest n
+
+-- the fault of a kind stands at this form, and none at an earlier one; want of memory, at a form in which nothing is wrong
 abbrev pub FaultIs : List Datum → ScheduleFaultKind → ℕ → Type 0
 FaultIs ds NoHeader n = LacksHeader ds × (n ≡ 0)
 FaultIs ds NotAStep n = (first : Datum) × (rest : List Datum) × (ds ≡ first ∷ rest) × (header_of first ≢ None) × IsNoStepAt rest n
-FaultIs ds NoMemory n = Unit {0}
+FaultIs ds NoMemory n = IsSoundTo ds n
 
--- The first fault: that of the least faulty form. Want of memory says nothing.
+-- The first fault: that of the least faulty form, or want of memory before one was met.
 abbrev pub IsFirstFault : List Datum → ScheduleFault → Type 0
 IsFirstFault ds fault = FaultIs ds fault.kind fault.form
+
+-- The number that is printed behind the letter S. Want of memory is never printed.
+abbrev pub number_of : ScheduleFaultKind → ℕ
+number_of NoHeader = 1
+number_of NotAStep = 2
+number_of NoMemory = 3

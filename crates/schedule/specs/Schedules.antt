@@ -10,8 +10,8 @@ use Rattle.history.specs.Names.{function_named}
 use Rattle.machine.specs.declared.step.Step.{Step}
 use Rattle.machine.specs.declared.step.Step.TheVariants.{Draw, Post, Win, Pick, Answer, PutBack, Take, Release, End}
 use Rattle.schedule.specs.declared.header.Header.{Header}
-use Rattle.schedule.specs.declared.header.Kinds.{Kinds}
-use Rattle.schedule.specs.declared.header.Kinds.TheVariants.{One, Mixed}
+use Rattle.kinds.specs.declared.Kinds.{Kinds}
+use Rattle.kinds.specs.declared.Kinds.TheVariants.{One, Mixed}
 
 -- a number from low to high
 abbrev pub number_within : ℕ → ℕ → Option ℕ → Option ℕ

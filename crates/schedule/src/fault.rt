@@ -1,5 +1,7 @@
 //! What is wrong with a schedule.
 
+ghost use Rattle.std.specs.Prelude.{◌≡◌};
+
 /// What is wrong with a form.
 #[derive(Clone, Copy, Debug, PartialEq, Eq)]
 pub enum ScheduleFaultKind {
@@ -7,8 +9,23 @@ pub enum ScheduleFaultKind {
     NoHeader,
     /// S2: it is no step.
     NotAStep,
-    /// Memory was refused.
+    /// Memory was refused at this form, in which nothing is wrong.
     NoMemory,
+}
+
+impl ScheduleFaultKind {
+    ghost use Rattle.schedule.specs.Faults.{number_of};
+
+    /// The number behind the letter S. Want of memory is never printed.
+    pub fn number(self) -> u8
+        ensures { result ≡ number_of self }
+    {
+        match self {
+            ScheduleFaultKind::NoHeader => 1,
+            ScheduleFaultKind::NotAStep => 2,
+            ScheduleFaultKind::NoMemory => 3,
+        }
+    }
 }
 
 /// A fault, and the number of its form, from 0.

@@ -8,16 +8,8 @@ ghost use Rattle.schedule.specs.Schedules.{IsWithin};
 
 use edn::{Form, Name};
 use fields::{is_same, keyword, natural, value_at};
+use kinds::Kinds;
 use model::Kind;
-
-/// The kinds of the objects.
-#[derive(Clone, Copy, Debug, PartialEq, Eq)]
-pub enum Kinds {
-    /// All are of one kind.
-    One(Kind),
-    /// Queue, stack, heap, register and map in turn.
-    Mixed,
-}
 
 /// What a machine is to be made of.
 #[derive(Clone, Copy, Debug, PartialEq, Eq)]
@@ -31,7 +23,8 @@ pub struct Header {
     pub quota: u32,
 }
 
-fn kinds_named(name: &[u8]) -> Option<Kinds>
+/// The kinds with this name, as the header of a schedule has it: that of a kind, or `mixed`.
+pub fn kinds_named(name: &[u8]) -> Option<Kinds>
     ensures { result ≡ spec.kinds_named name.now }
 {
     if is_same(name, b"queue") {

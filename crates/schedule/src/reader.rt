@@ -46,15 +46,15 @@ fn read_steps(alloc: Global, forms: &[Form]) -> Result<Vec<(u32, Step<AnyOp>)>, 
 }
 
 /// The schedule that the forms are: a header, and then a step for each further form. The fault is that of the least faulty
-/// form, but for want of memory.
+/// form; want of memory comes only where nothing is wrong up to a form and with it.
 pub fn read_schedule(alloc: Global, forms: &[Form]) -> Result<Schedule, ScheduleFault>
     ensures denotes { IfOk result (λ s. Denotes (views forms.now) s.header s.steps.items) }
     // What the header asks for is within the bounds of a machine.
     ensures within { IfOk result (λ s. IsWithin s.header) }
-
     ensures fault { IfErr result (IsFirstFault (views forms.now)) }
-    // A fault means that the forms denote no schedule, but for want of memory.
-    ensures refused { IfErr result (λ e. e.kind ≢ ScheduleFaultKind.NoMemory → (h : Header) (steps : List (ℕ × AnyStep)) → Denotes (views forms.now) h steps → ⊥) }
+    // Forms that denote a schedule are refused for want of memory alone.
+    ensures refused { IfErr result (λ e. e.kind ≢ ScheduleFaultKind.NoMemory →
+        (h : Header) (steps : List (ℕ × AnyStep)) → Denotes (views forms.now) h steps → ⊥) }
 {
     let Some((first, rest)) = forms.split_first() else {
         return Err(ScheduleFault {

@@ -1,58 +1,18 @@
 //! The steps of a schedule.
 
 ghost use Rattle.std.specs.Prelude.{◌≡◌, Some, codes, option_and_then, option_map};
-ghost use Rattle.edn.specs.Datum.{dictionary, items_of, entries_of};
-ghost use Rattle.edn.specs.View.{view, views, pair_views};
-ghost use Rattle.fields.specs.Fields.{keyword_in, value_in, value_at};
-ghost use Rattle.history.specs.Maps as maps;
-ghost use Rattle.history.specs.Names.{function_named};
+ghost use Rattle.edn.specs.Datum.{dictionary, entries_of};
+ghost use Rattle.edn.specs.View.{view, pair_views};
+ghost use Rattle.fields.specs.Fields.{keyword_in, value_at};
 ghost use Rattle.schedule.specs.Schedules as spec;
 
 use crate::header::number_at;
 use edn::{Form, Name};
 use fields::{is_same, keyword, value_at};
+use history::{function, plain_value};
 use machine::Step;
 use model::AnyOp;
-use seq_objects::{Function, Value, op_of};
-
-fn function(name: &[u8]) -> Option<Function>
-    ensures { result ≡ function_named name.now }
-{
-    Function::named(name)
-}
-
-fn integer(form: &Form) -> Option<i64>
-    ensures { result ≡ maps.integer_in (view form.now) }
-{
-    match form {
-        Form::Int(n) => Some(*n),
-        _ => None,
-    }
-}
-
-/// The pair that two integers are.
-fn pair_in(items: &[Form]) -> Option<Value>
-    ensures { result ≡ maps.pair_in (items_of (views items.now)) }
-{
-    let [first, second] = items else {
-        return None;
-    };
-    Some(Value::Pair(integer(first)?, integer(second)?))
-}
-
-/// The value in which an argument is written: an absent one is nil.
-#[tactic(auto, using(edn::proofs::Pairs::vector_view))]
-fn plain_value(value: Option<&Form>) -> Option<Value>
-    ensures { result ≡ maps.plain_value (value_in (option_map (λ f. view f.now) value.entry)) }
-{
-    match value {
-        None | Some(Form::Nil) => Some(Value::Nil),
-        Some(Form::Bool(false)) => Some(Value::False),
-        Some(Form::Int(n)) => Some(Value::Int(*n)),
-        Some(Form::Vector(items)) => pair_in(items),
-        _ => None,
-    }
-}
+use seq_objects::op_of;
 
 /// The operation that the function's name and the map's value make.
 fn op_named(name: &[u8], entries: &[(Name, Form)]) -> Option<AnyOp>
@@ -64,7 +24,8 @@ fn op_named(name: &[u8], entries: &[(Name, Form)]) -> Option<AnyOp>
 
 /// The operation that the function and the map's value make.
 fn op_in(function: &Form, entries: &[(Name, Form)]) -> Option<AnyOp>
-    ensures { result ≡ option_and_then (λ k. spec.op_named k (entries_of (pair_views entries.now))) (keyword_in (Some (view function.now))) }
+    ensures { result ≡ option_and_then (λ k. spec.op_named k (entries_of (pair_views entries.now)))
+        (keyword_in (Some (view function.now))) }
 {
     op_named(keyword(Some(function))?.as_bytes(), entries)
 }
@@ -77,7 +38,8 @@ fn call_with(object: Option<u32>, op: Option<AnyOp>) -> Option<Step<AnyOp>>
 
 /// The draw of a call, where there is a function, or else of a return.
 fn draw_in(entries: &[(Name, Form)]) -> Option<Step<AnyOp>>
-    ensures { result ≡ spec.draw_with (value_at (codes "f") (entries_of (pair_views entries.now))) (entries_of (pair_views entries.now)) }
+    ensures { result ≡ spec.draw_with (value_at (codes "f") (entries_of (pair_views entries.now)))
+        (entries_of (pair_views entries.now)) }
 {
     match value_at(entries, b"f") {
         None => Some(Step::Draw(None)),
@@ -89,13 +51,15 @@ fn draw_in(entries: &[(Name, Form)]) -> Option<Step<AnyOp>>
 }
 
 fn win_in(entries: &[(Name, Form)]) -> Option<Step<AnyOp>>
-    ensures { result ≡ option_map Step.Win (spec.number_at (codes "object") 0 15 (entries_of (pair_views entries.now))) }
+    ensures { result ≡ option_map Step.Win
+        (spec.number_at (codes "object") 0 15 (entries_of (pair_views entries.now))) }
 {
     Some(Step::Win(number_at(entries, b"object", 0, 15)?))
 }
 
 fn pick_in(entries: &[(Name, Form)]) -> Option<Step<AnyOp>>
-    ensures { result ≡ option_map Step.Pick (spec.number_at (codes "row") 0 31 (entries_of (pair_views entries.now))) }
+    ensures { result ≡ option_map Step.Pick
+        (spec.number_at (codes "row") 0 31 (entries_of (pair_views entries.now))) }
 {
     Some(Step::Pick(number_at(entries, b"row", 0, 31)?))
 }

@@ -38,7 +38,8 @@ pub trait SeqObject: Drop + Send {
     /// Does the operation, and answers its reply. Where memory is refused nothing is done.
     fn apply(&mut self, op: &Self::Op) -> Result<Self::Reply, AllocError>
         requires { IsSome (next (content self.old) (op_in op.now)) }
-        ensures ok { IfOk result (λ r. next (content self.old) (op_in op.now) ≡ Some (content self.new, reply_in r)) }
+        ensures ok { IfOk result (λ r.
+            next (content self.old) (op_in op.now) ≡ Some (content self.new, reply_in r)) }
         ensures kind { kind_with (content self.new) ≡ kind_with (content self.old) }
         ensures err { OnErr result (content self.new ≡ content self.old) };
 

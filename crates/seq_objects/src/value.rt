@@ -124,7 +124,8 @@ pub fn reply_of(f: Function, value: Value) -> Option<AnyReply>
 /// The value that stands for the reply. With each name with which some value is read as the reply, this one is.
 pub fn value_of_reply(reply: &AnyReply) -> Value
     ensures value { result ≡ reply_value reply.now }
-    ensures read_back { (f : Function) (v : Value) → reply_with f v ≡ Some reply.now → reply_with f result ≡ Some reply.now }
+    ensures read_back { (f : Function) (v : Value) → reply_with f v ≡ Some reply.now →
+        reply_with f result ≡ Some reply.now }
 {
     match *reply {
         AnyReply::Value(None) => Value::Nil,

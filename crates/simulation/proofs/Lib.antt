@@ -1,2 +1,2 @@
 pub mod Machines
-pub mod Comments
+pub mod Faults

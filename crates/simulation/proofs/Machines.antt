@@ -1,7 +1,8 @@
 -- A machine that has taken the steps of a schedule.
-use Rattle.std.proofs.Common.{◌≡◌, ℕ, zero, suc, ◌+◌, ◌<◌, List, [], ◌∷◌, ◌++◌, length, map, All, add-one, length-append, refl, ap, sym, ◌∙◌, subst, arith}
+use Rattle.std.proofs.Common.{◌≡◌, ℕ, ◌+◌, ◌<◌, false, List, [], ◌∷◌, ◌++◌, length, map, All, refl, ap, sym, ◌∙◌, subst, arith}
 use Rattle.std.proofs.lemmas.List.{map-append, length-map}
 use Rattle.std.proofs.lemmas.List.Elements.{All-push}
+use Rattle.std.proofs.lemmas.List.FromFn.{length-map-range_with_len, map-range_with_len_more}
 use Rattle.model.specs.declared.AnyOp.{AnyOp}
 use Rattle.model.specs.declared.AnyReply.{AnyReply}
 use Rattle.model.specs.declared.Kind.{Kind}
@@ -18,22 +19,21 @@ use Rattle.machine.specs.Runs.{start_of, TakesPossible, IsWorldOfRun}
 use Rattle.machine.specs.Steps.{IsLike, HasEnded, steps_in}
 use Rattle.schedule.specs.Schedules.{AnyStep}
 use Rattle.schedule.specs.declared.header.Header.{Header}
-use Rattle.schedule.specs.declared.header.Kinds.{Kinds}
-use Rattle.simulation.specs.Plays.{kind_of_object, kinds_upto, kinds_of, IsPlayed}
-
-pub kinds_length : (ks : Kinds) (n : ℕ) → length (kinds_upto ks n) ≡ n
-kinds_length ks zero = refl
-kinds_length ks (suc n) = let rest = kinds_length ks n in let long = length-append (kinds_upto ks n) (kind_of_object ks n ∷ []) in omega arith
+use Rattle.kinds.specs.declared.Kinds.{Kinds}
+use Rattle.kinds.specs.Mixing.{kind_in}
+use Rattle.kinds.specs.Mixing as mixing
+use Rattle.simulation.specs.Plays.{kinds_of, IsPlayed, Takes}
+use Rattle.simulation.specs.Simulations.{IsGoingOn}
 
 empty_kind : (k : Kind) → kind_with (empty k) ≡ k
 empty_kind k = kind_replayed k [] (empty k) refl
 
-pub kinds_more : (ks : Kinds) (i : ℕ) (old new : List AnyObject) (o : AnyObject) → map (λ o. kind_with (content_of o)) old ≡ kinds_upto ks i → content_of o ≡ empty (kind_of_object ks i) → new ≡ old ++ o ∷ [] → map (λ o. kind_with (content_of o)) new ≡ kinds_upto ks (i + 1)
+pub kinds_more : (ks : Kinds) (i : ℕ) (old new : List AnyObject) (o : AnyObject) → map (λ o. kind_with (content_of o)) old ≡ mixing.kinds_of ks i → content_of o ≡ empty (kind_in ks i) → new ≡ old ++ o ∷ [] → map (λ o. kind_with (content_of o)) new ≡ mixing.kinds_of ks (i + 1)
 kinds_more ks i old new o so_far is more =
     ap (map (λ (x : AnyObject). kind_with (content_of x))) more
     ∙ (map-append (λ (x : AnyObject). kind_with (content_of x)) old (o ∷ [])
     ∙ (ap (λ xs. xs ++ kind_with (content_of o) ∷ []) so_far
-    ∙ (ap (λ k. kinds_upto ks i ++ k ∷ []) (ap kind_with is ∙ empty_kind (kind_of_object ks i)) ∙ ap (kinds_upto ks) (sym (add-one i)))))
+    ∙ (ap (λ k. mixing.kinds_of ks i ++ k ∷ []) (ap kind_with is ∙ empty_kind (kind_in ks i)) ∙ sym (map-range_with_len_more (kind_in ks) 0 i i (omega arith)))))
 
 pub empty_more : (old new : List AnyObject) (o : AnyObject) (k : Kind) → All (λ o. content_of o ≡ empty (kind_with (content_of o))) old → content_of o ≡ empty k → new ≡ old ++ o ∷ [] → All (λ o. content_of o ≡ empty (kind_with (content_of o))) new
 empty_more old new o k so_far is more = subst (All (λ (x : AnyObject). content_of x ≡ empty (kind_with (content_of x)))) (sym more)
@@ -41,21 +41,36 @@ empty_more old new o k so_far is more = subst (All (λ (x : AnyObject). content_
 
 -- as many objects as there are kinds
 pub count_is : (h : Header) (os : List AnyObject) → map (λ o. kind_with (content_of o)) os ≡ kinds_of h → length os ≡ h.objects
-count_is h os e = sym (length-map os (λ (x : AnyObject). kind_with (content_of x))) ∙ (ap (λ (ks : List Kind). length ks) e ∙ kinds_length h.kinds h.objects)
+count_is h os e = sym (length-map os (λ (x : AnyObject). kind_with (content_of x))) ∙ (ap (λ (ks : List Kind). length ks) e ∙ length-map-range_with_len (kind_in h.kinds) 0 h.objects)
 
-module _ (h : Header) (steps : List (ℕ × AnyStep)) (refused : ℕ) (r : Recorded AnyOp AnyReply) (start now : State) (kinds : start.kinds ≡ kinds_of h) (clients : clients_of start ≡ h.clients) (quota : start.quota ≡ h.quota) (like : IsLike start now) where
+module _ (h : Header) (steps : List (ℕ × AnyStep)) (refused : ℕ) (start now : State) (kinds : start.kinds ≡ kinds_of h) (clients : clients_of start ≡ h.clients) (quota : start.quota ≡ h.quota) (like : IsLike start now) where
   -- of the state after the steps
   on_kinds : (P : List Kind → ℕ → ℕ → Type 0) → P now.kinds (clients_of now) now.quota → P (kinds_of h) h.clients h.quota
   on_kinds P p = subst (λ (ks : List Kind). P ks h.clients h.quota) (like.kinds ∙ kinds) (subst (λ (n : ℕ). P now.kinds n h.quota) (like.clients ∙ clients) (subst (λ (q : ℕ). P now.kinds (clients_of now) q) (like.quota ∙ quota) p))
 
-  pub is_played : world_of start ≡ start_of h.clients → TakesPossible start.kinds start.quota (world_of start) (steps_in (λ op. op) steps) refused (world_of now) → HasRun now → ((c : ℕ) → c < clients_of now → HasEnded now c)
+  takes_all : world_of start ≡ start_of h.clients → TakesPossible start.kinds start.quota (world_of start) (steps_in (λ op. op) steps) refused (world_of now) → Takes h steps refused (world_of now)
+  takes_all at ran = subst (λ (w : World). TakesPossible (kinds_of h) h.quota w (steps_in (λ op. op) steps) refused (world_of now)) at
+      (subst (λ (ks : List Kind). TakesPossible ks h.quota (world_of start) (steps_in (λ op. op) steps) refused (world_of now)) kinds
+      (subst (λ (q : ℕ). TakesPossible start.kinds q (world_of start) (steps_in (λ op. op) steps) refused (world_of now)) quota ran))
+
+  pub is_going_on : world_of start ≡ start_of h.clients → TakesPossible start.kinds start.quota (world_of start) (steps_in (λ op. op) steps) refused (world_of now) → HasRun now
+      → (c : ℕ) → c < clients_of now → (world_of now).ended c ≡ false → ((d : ℕ) → d < c → HasEnded now d) → IsGoingOn h steps c
+  is_going_on at ran run c there going earlier = record {
+    world = world_of now;
+    refused = refused;
+    takes = takes_all at ran;
+    run = on_kinds (λ ks n q. IsWorldOfRun ks n q (world_of now)) run;
+    there = subst (λ (n : ℕ). c < n) (like.clients ∙ clients) there;
+    going = going;
+    earlier = earlier;
+  }
+
+  pub is_played : (r : Recorded AnyOp AnyReply) → world_of start ≡ start_of h.clients → TakesPossible start.kinds start.quota (world_of start) (steps_in (λ op. op) steps) refused (world_of now) → HasRun now → ((c : ℕ) → c < clients_of now → HasEnded now c)
       → ((c : ℕ) → journals_in (λ op. op) (λ reply. reply) r c ≡ journal_in (world_of now) c) → ((x : ℕ) → logs_in (λ op. op) (λ reply. reply) r x ≡ (world_of now).log x)
       → IsSoundRecord now.kinds now.quota (journals_in (λ op. op) (λ reply. reply) r) (logs_in (λ op. op) (λ reply. reply) r) → IsPlayed h steps refused r
-  is_played at ran run ended journals logs sound = record {
+  is_played r at ran run ended journals logs sound = record {
     world = world_of now;
-    takes = subst (λ (w : World). TakesPossible (kinds_of h) h.quota w (steps_in (λ op. op) steps) refused (world_of now)) at
-        (subst (λ (ks : List Kind). TakesPossible ks h.quota (world_of start) (steps_in (λ op. op) steps) refused (world_of now)) kinds
-        (subst (λ (q : ℕ). TakesPossible start.kinds q (world_of start) (steps_in (λ op. op) steps) refused (world_of now)) quota ran));
+    takes = takes_all at ran;
     run = on_kinds (λ ks n q. IsWorldOfRun ks n q (world_of now)) run;
     ended = λ c low. ended c (subst (λ (n : ℕ). c < n) (sym (like.clients ∙ clients)) low);
     journals = journals;

@@ -1,2 +1,2 @@
 pub mod Plays
-pub mod Outputs
+pub mod Simulations

@@ -1,11 +1,11 @@
-//! What comes of a schedule: the machine that it asks for takes its steps, and the record is checked.
+//! What comes of a schedule: the machine that it asks for takes its steps, and hands out its record.
 #![tactic(auto)]
 
 mod playing;
 mod simulating;
 
 pub use playing::{PlayFault, Played, play};
-pub use simulating::simulate;
+pub use simulating::{SimulationFault, simulate};
 
 #[cfg(test)]
 mod tests;

@@ -3,15 +3,15 @@
 ghost use Rattle.std.specs.Prelude.{◌≡◌, ◌<◌, ◌≤◌, ℕ, length, map, All, IfOk, IfErr, IsSome, Some};
 ghost use Rattle.model.specs.Objects.{empty, kind_with};
 ghost use Rattle.seq_objects.specs.AnyContent.{content_of};
-ghost use Rattle.world.specs.World.{World};
-ghost use Rattle.simulation.specs.Plays as spec;
+ghost use Rattle.machine.specs.Machines.{clients_of, world_of};
+ghost use Rattle.machine.specs.Runs.{start_of};
 ghost use Rattle.simulation.specs.Plays.{IsPlayed, kinds_of};
+ghost use Rattle.simulation.specs.Simulations.{IsPlayFault};
 ghost use Rattle.schedule.specs.Schedules.{IsWithin};
 
 use machine::{Machine, Ran};
-use model::Kind;
 use recorder::Record;
-use schedule::{Header, Kinds, Schedule};
+use schedule::{Header, Schedule};
 use seq_objects::AnyObject;
 use std::alloc::{AllocError, Global};
 
@@ -30,22 +30,6 @@ pub enum PlayFault {
     NoMemory,
 }
 
-/// The kind of the object with this number.
-fn kind_of(kinds: Kinds, object: u32) -> Kind
-    ensures { result ≡ spec.kind_of_object kinds object }
-{
-    match kinds {
-        Kinds::One(kind) => kind,
-        Kinds::Mixed => match object % 5 {
-            0 => Kind::Queue,
-            1 => Kind::Stack,
-            2 => Kind::Heap,
-            3 => Kind::Register,
-            _ => Kind::Map,
-        },
-    }
-}
-
 /// The objects that the header asks for, all empty.
 fn objects_of(alloc: Global, header: &Header) -> Result<Vec<AnyObject>, AllocError>
     ensures kinds { IfOk result (λ v. map (λ o. kind_with (content_of o)) v.items ≡ kinds_of header.now) }
@@ -53,21 +37,30 @@ fn objects_of(alloc: Global, header: &Header) -> Result<Vec<AnyObject>, AllocErr
 {
     let mut objects = Vec::new(alloc);
     for object in 0..header.objects {
-        objects.push(AnyObject::empty(alloc, kind_of(header.kinds, object)))?;
+        objects.push(AnyObject::empty(alloc, header.kinds.kind(object)))?;
     }
     Ok(objects)
+}
+
+/// The machine that the header asks for, of which no step was taken.
+pub(crate) fn machine_of(alloc: Global, header: &Header) -> Result<Machine<AnyObject>, AllocError>
+    requires { IsWithin header.now }
+    ensures kinds { IfOk result (λ m. m.kinds ≡ kinds_of header.now) }
+    ensures counts { IfOk result (λ m. (clients_of m ≡ header.now.clients) × (m.quota ≡ header.now.quota)) }
+    ensures start { IfOk result (λ m. world_of m ≡ start_of header.now.clients) }
+{
+    let objects = objects_of(alloc, header)?;
+    Machine::new(alloc, objects, header.clients, header.quota)
 }
 
 /// Takes the steps of the schedule, and hands out the record once all clients have ended.
 pub fn play(alloc: Global, schedule: &Schedule) -> Result<Played, PlayFault>
     requires { IsWithin schedule.now.header }
-    ensures played { IfOk result (λ p. IsPlayed schedule.now.header schedule.now.steps.items p.refused p.record) }
+    ensures played { IfOk result (λ p.
+        IsPlayed schedule.now.header schedule.now.steps.items p.refused p.record) }
+    ensures fault { IfErr result (IsPlayFault schedule.now.header schedule.now.steps.items) }
 {
-    let header = &schedule.header;
-    let Ok(objects) = objects_of(alloc, header) else {
-        return Err(PlayFault::NoMemory);
-    };
-    let Ok(mut machine) = Machine::new(alloc, objects, header.clients, header.quota) else {
+    let Ok(mut machine) = machine_of(alloc, &schedule.header) else {
         return Err(PlayFault::NoMemory);
     };
     let Ok(Ran { refused }) = machine.run(&schedule.steps) else {

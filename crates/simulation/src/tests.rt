@@ -1,10 +1,13 @@
 ghost use Rattle.std.specs.Prelude.{◌≡◌, ◌<◌, ◌≤◌, IfOk};
+ghost use Rattle.schedule.specs.Schedules.{IsWithin};
 
-use crate::{PlayFault, Played, play, simulate};
-use edn::Out;
+use crate::playing::machine_of;
+use crate::{PlayFault, Played, SimulationFault, play, simulate};
+use edn::{EdnFault, FaultKind};
+use kinds::Kinds;
 use machine::Step;
 use model::{AnyOp, Kind};
-use schedule::{Header, Kinds, Schedule};
+use schedule::{Header, Schedule, ScheduleFault, ScheduleFaultKind};
 use std::alloc::{AllocError, Global};
 use std::process::Abort;
 use std::test::Fail;
@@ -48,9 +51,17 @@ const fn op_of(choice: u64, a: i64, b: i64) -> AnyOp {
     }
 }
 
-/// A step, possible or not.
-fn any_step(numbers: &mut Numbers) -> Step<AnyOp> {
-    let object = numbers.below(4) as u32;
+/// A number up to this one, the lower ones more often.
+fn mostly_low(numbers: &mut Numbers, most: u32) -> u32
+    ensures { result ≤ most }
+{
+    let limit = 1 + numbers.below(u64::from(most) + 1);
+    numbers.below(limit) as u32
+}
+
+/// A step, possible or not: objects and rows are those that there are, and one more.
+fn any_step(numbers: &mut Numbers, objects: u32, clients: u32) -> Step<AnyOp> {
+    let object = mostly_low(numbers, objects);
     let op = op_of(
         numbers.below(14),
         numbers.below(4) as i64,
@@ -61,7 +72,7 @@ fn any_step(numbers: &mut Numbers) -> Step<AnyOp> {
         4 => Step::Draw(None),
         5 | 6 => Step::Post,
         7 | 8 => Step::Win(object),
-        9 | 10 => Step::Pick(numbers.below(8) as u32),
+        9 | 10 => Step::Pick(mostly_low(numbers, clients)),
         11 | 12 => Step::Answer,
         13 => Step::PutBack,
         14 => Step::Take,
@@ -100,19 +111,21 @@ fn serve(
     Ok(())
 }
 
-/// 300 random steps, then all end. Of every third client a call is outstanding when it ends, where this is asked.
+/// 300 random steps, then all end. Every third client has ended before with this call outstanding, where there is one.
 fn random_steps(
     alloc: Global,
     numbers: &mut Numbers,
+    objects: u32,
     clients: u32,
-    abandons: bool,
-    op: AnyOp,
+    abandoned: Option<AnyOp>,
 ) -> Result<Vec<(u32, Step<AnyOp>)>, AllocError>
     requires { 0 < clients }
 {
     let mut steps = Vec::new(alloc);
     for client in 0..clients {
-        if abandons && client % 3 == 0 {
+        if let Some(op) = abandoned
+            && client % 3 == 0
+        {
             steps.push((client, Step::Draw(Some((0, op)))))?;
             steps.push((client, Step::Post))?;
             steps.push((client, Step::End))?;
@@ -120,7 +133,7 @@ fn random_steps(
     }
     for _ in 0..300 {
         let client = numbers.below(u64::from(clients)) as u32;
-        steps.push((client, any_step(numbers)))?;
+        steps.push((client, any_step(numbers, objects, clients)))?;
     }
     serve(&mut steps, clients - 1, 0, clients)?;
     end_all(&mut steps, clients)?;
@@ -139,26 +152,45 @@ fn kinds_at(choice: u64) -> (Kinds, AnyOp) {
     }
 }
 
-// Each record of a list of random steps is accepted.
+/// Whether some request is put back in the course of the steps.
+fn puts_back(alloc: Global, schedule: &Schedule) -> Result<bool, AllocError>
+    requires { IsWithin schedule.now.header }
+{
+    let mut machine = machine_of(alloc, &schedule.header)?;
+    let mut found = false;
+    for (client, step) in &schedule.steps {
+        let is_taken = machine.step(*client, *step).is_ok();
+        found |= is_taken && matches!(step, Step::PutBack);
+    }
+    Ok(found)
+}
+
+// Each record of a list of random steps is accepted. In half of the runs a third of the clients have ended with a call
+// outstanding, and in some of all runs a request is put back.
 #[test]
 fn random_runs_are_accepted(rt: HostRuntime) -> Result<(), Fail> {
     let mut numbers = Numbers { state: 14 };
+    let mut is_put_back = false;
     for run in 0..400 {
         let (kinds, op) = kinds_at(numbers.below(7));
         let objects = 1 + numbers.below(16) as u32;
         let clients = 1 + numbers.below(32) as u32;
-        let steps = random_steps(rt.alloc(), &mut numbers, clients, run % 2 == 1, op)?;
+        let abandoned = if run % 2 == 1 { Some(op) } else { None };
+        let steps = random_steps(rt.alloc(), &mut numbers, objects, clients, abandoned)?;
         let header = Header {
             kinds,
             objects,
             clients,
             quota: 20,
         };
-        let Ok(Played { record, .. }) = play(rt.alloc(), &Schedule { header, steps }) else {
+        let schedule = Schedule { header, steps };
+        is_put_back |= puts_back(rt.alloc(), &schedule)?;
+        let Ok(Played { record, .. }) = play(rt.alloc(), &schedule) else {
             return Err(Fail::new("there is no record"));
         };
         assert!(rt; check_record(rt.alloc(), &record) == Ok(()));
     }
+    assert!(rt; is_put_back);
     Ok(())
 }
 
@@ -179,13 +211,7 @@ fn a_client_has_not_ended(rt: HostRuntime) -> Result<(), Fail> {
     Ok(())
 }
 
-// The text of a schedule, what is put out, and the status.
-fn simulated(alloc: Global, text: &str) -> Result<(Vec<u8>, u8), Fail> {
-    let mut sink = Out::new(Vec::new(alloc));
-    let status = simulate(alloc, text.as_bytes(), &mut sink);
-    Ok((sink.into_inner(), status))
-}
-
+/// Two clients post, one of them serves both and ends; the other has ended before it takes its answer.
 const SERVED: &str = "{:kind :queue, :objects 1, :clients 2, :quota 1}
 {:client 0, :step :draw, :f :enqueue, :value 1, :object 0}
 {:client 1, :step :draw, :f :enqueue, :value 2, :object 0}
@@ -196,74 +222,40 @@ const SERVED: &str = "{:kind :queue, :objects 1, :clients 2, :quota 1}
 {:client 1, :step :release} {:client 1, :step :take} {:client 1, :step :draw}
 {:client 0, :step :end} {:client 1, :step :end}";
 
-const SERVED_OUT: &str = "{:process 0, :type :invoke, :f :enqueue, :value 1, :object 0}
-{:process 1, :type :invoke, :f :enqueue, :value 2, :object 0}
-{:process 1, :type :ok, :f :enqueue, :value 2, :object 0}
-; refused steps: 0
-; {:object 0, :order [0 1]}
-; yes: 2 operations, 1 objects
-; queue: 1 objects, 2 operations
-";
-
-const ONE_HEADER: &str = "{:kind :queue, :objects 1, :clients 1, :quota 1}";
+#[test]
+fn a_text_is_played(rt: HostRuntime) -> Result<(), Fail> {
+    let Ok(Played { record, refused }) = simulate(rt.alloc(), SERVED.as_bytes()) else {
+        return Err(Fail::new("there is no record"));
+    };
+    assert_eq!(rt; refused, 0);
+    assert_eq!(rt; (record.clients(), record.objects()), (2, 1));
+    assert_eq!(rt; (record.journal(0).len(), record.journal(1).len()), (1, 2));
+    assert_eq!(rt; record.log(0).len(), 2);
+    Ok(())
+}
 
 #[test]
-fn schedules_are_played(rt: HostRuntime) -> Result<(), Fail> {
-    let rows = [
-        (SERVED, SERVED_OUT, 0),
-        (
-            "{:kind :queue, :objects 1, :clients 1, :quota 1} {:client 0, :step :post} {:client 0, :step :end}",
-            "; refused steps: 1\n; yes: 0 operations, 0 objects\n",
-            0,
-        ),
-        (
-            "{:kind :queue, :objects 1, :clients 1, :quota 1} {:client 3, :step :post} {:client 0, :step :win, :object 9} {:client 0, :step :pick, :row 31} {:client 0, :step :end}",
-            "; refused steps: 3\n; yes: 0 operations, 0 objects\n",
-            0,
-        ),
-        (ONE_HEADER, "client 0 has not ended\n", 2),
-        ("", "malformed schedule: S1 at form 0\n", 2),
-        ("nil", "malformed schedule: S1 at form 0\n", 2),
-        (
-            "{:kind :queue, :objects 17, :clients 1, :quota 1}",
-            "malformed schedule: S1 at form 0\n",
-            2,
-        ),
-        (
-            "{:kind :queue, :objects 1, :clients 1, :quota 1} {:client 0, :step :jump}",
-            "malformed schedule: S2 at form 1\n",
-            2,
-        ),
-        (
-            "{:kind :queue, :objects 1, :clients 1, :quota 1} {:client 0, :step :draw, :f :jump, :object 0}",
-            "malformed schedule: S2 at form 1\n",
-            2,
-        ),
-        (
-            "{:kind :queue, :objects 1, :clients 1, :quota 1} {:client 0, :step :draw, :f :enqueue, :value nil, :object 0}",
-            "malformed schedule: S2 at form 1\n",
-            2,
-        ),
-        (
-            "{:kind :queue, :objects 1, :clients 1, :quota 1} {:client 0, :step :draw, :f :enqueue, :value 1}",
-            "malformed schedule: S2 at form 1\n",
-            2,
-        ),
-        (
-            "{:kind :queue, :objects 1, :clients 1, :quota 1} {:client 0, :step :draw, :f nil}",
-            "malformed schedule: S2 at form 1\n",
-            2,
-        ),
-        (
-            "{:kind :queue 007",
-            "malformed schedule: E3 at byte 14\n",
-            2,
-        ),
-    ];
-    for (text, out, status) in rows {
-        let (written, answered) = simulated(rt.alloc(), text)?;
-        assert_eq!(rt; written.as_slice(), out.as_bytes(), "at {text:?}");
-        assert_eq!(rt; answered, status, "at {text:?}");
-    }
+fn texts_that_have_no_record(rt: HostRuntime) -> Result<(), Fail> {
+    let alloc = rt.alloc();
+    assert!(rt;
+        matches!(
+            simulate(alloc, b"{:kind :queue 007"),
+            Err(SimulationFault::Text(EdnFault {
+                kind: FaultKind::BadToken,
+                place: 14,
+            }))
+        )
+    );
+    assert!(rt;
+        matches!(
+            simulate(alloc, b""),
+            Err(SimulationFault::Form(ScheduleFault {
+                kind: ScheduleFaultKind::NoHeader,
+                form: 0,
+            }))
+        )
+    );
+    let header = b"{:kind :mixed, :objects 6, :clients 3, :quota 0} {:client 0, :step :end}";
+    assert!(rt; matches!(simulate(alloc, header), Err(SimulationFault::NotEnded(1))));
     Ok(())
 }

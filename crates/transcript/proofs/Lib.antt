@@ -9,3 +9,4 @@ pub mod Texts
 pub mod Runs
 pub mod Forms
 pub mod ReadBack
+pub mod Profiles

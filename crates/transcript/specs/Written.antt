@@ -1,16 +1,18 @@
 -- What is written of a record.
-use Rattle.std.specs.Prelude.{◌≡◌, ℕ, List, Option}
+use Rattle.std.specs.Prelude.{◌≡◌, ℕ, List, Option, All}
 use Rattle.std.specs.Io.KnownBytes.{Appends}
 use Rattle.edn.specs.Sent.{SendsFront}
+use Rattle.edn.specs.Text.{InProfile}
 use Rattle.world.specs.World.{AnyEvent}
 use Rattle.transcript.specs.declared.line.Line.{Line}
-use Rattle.transcript.specs.Lines.{AreLinesOf, history_text}
+use Rattle.transcript.specs.Lines.{AreLinesOf, form_of, history_text}
 
--- the text of the journals' lines, in order of tickets
+-- The text of the journals' lines, in order of tickets. Each has integers and names that a text can have.
 pub record IsHistoryText (journals : ℕ → List AnyEvent) (text : List ℕ) : Type 0 where
   pub lines : List Line
   pub are_lines : AreLinesOf journals lines
   pub text_is : text ≡ history_text lines
+  pub in_profile : All (λ l. InProfile (form_of l)) lines
 
 -- it went out
 pub record AppendsHistory (journals : ℕ → List AnyEvent) (old new : Option (List ℕ)) : Type 0 where

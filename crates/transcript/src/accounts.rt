@@ -56,7 +56,9 @@ pub fn certificates<S: SeqObject>(
     alloc: Global,
     account: &Record<S>,
 ) -> Result<Vec<Certificate>, AllocError>
-    ensures { IfOk result (λ v. AreCertificatesOf (journals_in S.op_in S.reply_in account.now) (logs_in S.op_in S.reply_in account.now) v.items) }
+    ensures { IfOk result (λ v.
+        AreCertificatesOf (journals_in S.op_in S.reply_in account.now)
+        (logs_in S.op_in S.reply_in account.now) v.items) }
 {
     let history = history(alloc, account)?;
     let objects = split(alloc, &history)?;
@@ -74,8 +76,10 @@ pub fn check_record<S: SeqObject>(alloc: Global, account: &Record<S>) -> Result<
     ensures accepted { (kinds : List Kind) (quota : ℕ)
         → IsSoundRecord kinds quota (journals_in S.op_in S.reply_in account.now) (logs_in S.op_in S.reply_in account.now)
         → IfErr result (λ e. e ≡ Refusal.NoMemory) }
-    ensures checked { IfErr result (λ e. e ≢ Refusal.NoMemory → IsRefused (journals_in S.op_in S.reply_in account.now) (logs_in S.op_in S.reply_in account.now) e) }
-    ensures valid { OnOk result (IsAccepted (journals_in S.op_in S.reply_in account.now) (logs_in S.op_in S.reply_in account.now)) }
+    ensures checked { IfErr result (λ e. e ≢ Refusal.NoMemory →
+        IsRefused (journals_in S.op_in S.reply_in account.now) (logs_in S.op_in S.reply_in account.now) e) }
+    ensures valid { OnOk result
+        (IsAccepted (journals_in S.op_in S.reply_in account.now) (logs_in S.op_in S.reply_in account.now)) }
 {
     let Ok(history) = history(alloc, account) else {
         return Err(Refusal::NoMemory);

@@ -1,6 +1,6 @@
 //! The lines of a record, in memory.
 
-ghost use Rattle.std.specs.Prelude.{◌≡◌, ◌<◌, ◌++◌, All, OnOk, IfOk, map, length};
+ghost use Rattle.std.specs.Prelude.{◌≡◌, ◌<◌, ◌^◌, ◌++◌, All, OnOk, IfOk, map, length};
 ghost use Rattle.world.specs.World.{ticket_of};
 ghost use Rattle.world.specs.Images.{event_in, answer_in};
 ghost use Rattle.events.specs.Events.{IsProper};
@@ -88,7 +88,8 @@ fn push_line<S: SeqObject>(
     lines: &mut Vec<Line>,
 ) -> Result<(), AllocError>
     requires { ticket_of (event_in S.op_in S.reply_in event.now) < max_tickets }
-    ensures { OnOk result (lines.new.items ≡ lines.old.items ++ spec.line_with client (event_in S.op_in S.reply_in event.now) call) }
+    ensures { OnOk result (lines.new.items ≡ lines.old.items
+        ++ spec.line_with client (event_in S.op_in S.reply_in event.now) call) }
 {
     if let Some(Call { object, op }) = call {
         let event = event_with::<S>(client, object, event);
@@ -104,7 +105,8 @@ fn push_journal<S: SeqObject>(
     lines: &mut Vec<Line>,
 ) -> Result<(), AllocError>
     requires { All (λ e. ticket_of (event_in S.op_in S.reply_in e) < max_tickets) journal.now }
-    ensures { OnOk result (lines.new.items ≡ lines.old.items ++ spec.lines_of client (map (event_in S.op_in S.reply_in) journal.now)) }
+    ensures { OnOk result (lines.new.items ≡ lines.old.items
+        ++ spec.lines_of client (map (event_in S.op_in S.reply_in) journal.now)) }
 {
     let mut last = None;
     for event in journal {
@@ -116,7 +118,9 @@ fn push_journal<S: SeqObject>(
 
 /// The lines of all journals, client by client.
 fn gather<S: SeqObject>(alloc: Global, account: &Record<S>) -> Result<Vec<Line>, AllocError>
-    ensures lines { IfOk result (λ v. v.items ≡ spec.lines_in 0 (map (map (event_in S.op_in S.reply_in)) account.now.journals)) }
+    ensures lines { IfOk result (λ v.
+        v.items ≡ spec.lines_in 0 (map (map (event_in S.op_in S.reply_in)) account.now.journals)) }
+    ensures few { length account.now.journals < 2 ^ 63 }
     ensures kept { IsRecordOf S.op_in S.reply_in account.now }
 {
     let mut lines = Vec::new(alloc);
@@ -132,8 +136,10 @@ pub(crate) fn lines_of<S: SeqObject>(
     account: &Record<S>,
 ) -> Result<Vec<Line>, AllocError>
     ensures lines { IfOk result (λ v. AreLinesOf (journals_in S.op_in S.reply_in account.now) v.items) }
-    ensures events { IfOk result (λ v. AreEventsOf (journals_in S.op_in S.reply_in account.now) (events_in v.items)) }
+    ensures events { IfOk result (λ v.
+        AreEventsOf (journals_in S.op_in S.reply_in account.now) (events_in v.items)) }
     ensures proper { IfOk result (λ v. IsProper (events_in v.items)) }
+    ensures low { IfOk result (λ v. All (λ l. l.event.process < 2 ^ 63) v.items) }
     ensures kept { IsRecordOf S.op_in S.reply_in account.now }
 {
     let mut lines = gather(alloc, account)?;

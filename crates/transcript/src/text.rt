@@ -1,9 +1,10 @@
 //! The text of a record's history.
 
-ghost use Rattle.std.specs.Prelude.{◌≡◌, ◌++◌, false, true, codes, decimal, IfErr, IfOk, OnOk};
+ghost use Rattle.std.specs.Prelude.{◌≡◌, ◌<◌, ◌^◌, ◌++◌, false, true, codes, decimal, All, IfErr, IfOk, OnOk};
 ghost use Rattle.std.specs.Fmt.{signed_decimal};
 ghost use Rattle.std.specs.Io.KnownBytes.{Appends, Keeps};
 ghost use Rattle.edn.specs.Sent.{SendsFront};
+ghost use Rattle.edn.specs.Text.{InProfile, IsInt64};
 ghost use Rattle.recorder.specs.Histories.{journals_in};
 ghost use Rattle.transcript.specs.Lines as spec;
 ghost use Rattle.transcript.specs.Pieces as text;
@@ -50,7 +51,9 @@ fn write_natural<S: Sink>(n: u64, sink: &mut S) -> Result<(), Failed>
 
 fn write_pair<S: Sink>(a: i64, b: i64, sink: &mut S) -> Result<(), Failed>
     requires { S.broken sink.old ≡ false }
-    ensures ok { OnOk result (Appends (S.sent sink.old) (S.sent sink.new) (codes "[" ++ (signed_decimal a ++ (codes " " ++ (signed_decimal b ++ codes "]"))))) }
+    ensures ok { OnOk result (Appends (S.sent sink.old) (S.sent sink.new) (codes "["
+        ++ (signed_decimal a ++ (codes " " ++ (signed_decimal b ++ codes "]"))))) }
+    ensures in_profile { OnOk result (IsInt64 a × IsInt64 b) }
     ensures usable { OnOk result (S.broken sink.new ≡ false) }
 {
     write_bytes(b"[", sink)?;
@@ -63,6 +66,7 @@ fn write_pair<S: Sink>(a: i64, b: i64, sink: &mut S) -> Result<(), Failed>
 fn write_value<S: Sink>(value: Value, sink: &mut S) -> Result<(), Failed>
     requires { S.broken sink.old ≡ false }
     ensures ok { OnOk result (Appends (S.sent sink.old) (S.sent sink.new) (text.value_text value)) }
+    ensures in_profile { OnOk result (InProfile (spec.value_form value)) }
     ensures usable { OnOk result (S.broken sink.new ≡ false) }
 {
     match value {
@@ -89,6 +93,8 @@ fn write_process<S: Sink>(line: &Line, sink: &mut S) -> Result<(), Failed>
 fn write_operation<S: Sink>(line: &Line, sink: &mut S) -> Result<(), Failed>
     requires { S.broken sink.old ≡ false }
     ensures ok { OnOk result (Appends (S.sent sink.old) (S.sent sink.new) (text.operation_text line.now)) }
+    ensures in_profile { OnOk result
+        (InProfile (spec.value_form (spec.value_of line.now.op line.now.event.action))) }
     ensures usable { OnOk result (S.broken sink.new ≡ false) }
 {
     write_bytes(b", :f :", sink)?;
@@ -100,6 +106,7 @@ fn write_operation<S: Sink>(line: &Line, sink: &mut S) -> Result<(), Failed>
 fn write_object<S: Sink>(object: u32, sink: &mut S) -> Result<(), Failed>
     requires { S.broken sink.old ≡ false }
     ensures ok { OnOk result (Appends (S.sent sink.old) (S.sent sink.new) (text.object_text object)) }
+    ensures low { object < 2 ^ 63 }
     ensures usable { OnOk result (S.broken sink.new ≡ false) }
 {
     write_bytes(b", :object ", sink)?;
@@ -108,8 +115,10 @@ fn write_object<S: Sink>(object: u32, sink: &mut S) -> Result<(), Failed>
 }
 
 fn write_line<S: Sink>(line: &Line, sink: &mut S) -> Result<(), Failed>
-    requires { S.broken sink.old ≡ false }
+    requires working { S.broken sink.old ≡ false }
+    requires low { line.now.event.process < 2 ^ 63 }
     ensures ok { OnOk result (Appends (S.sent sink.old) (S.sent sink.new) (text.line_text line.now)) }
+    ensures in_profile { OnOk result (InProfile (spec.form_of line.now)) }
     ensures usable { OnOk result (S.broken sink.new ≡ false) }
 {
     write_process(line, sink)?;
@@ -118,8 +127,10 @@ fn write_line<S: Sink>(line: &Line, sink: &mut S) -> Result<(), Failed>
 }
 
 fn write_lines<S: Sink>(lines: &[Line], sink: &mut S) -> Result<(), Failed>
-    requires { S.broken sink.old ≡ false }
+    requires working { S.broken sink.old ≡ false }
+    requires low { All (λ l. l.event.process < 2 ^ 63) lines.now }
     ensures ok { OnOk result (Appends (S.sent sink.old) (S.sent sink.new) (text.lines_text lines.now)) }
+    ensures in_profile { OnOk result (All (λ l. InProfile (spec.form_of l)) lines.now) }
     ensures usable { OnOk result (S.broken sink.new ≡ false) }
 {
     for line in lines {
@@ -130,7 +141,9 @@ fn write_lines<S: Sink>(lines: &[Line], sink: &mut S) -> Result<(), Failed>
 
 /// The text of these lines.
 fn history_text(alloc: Global, lines: &[Line]) -> Result<Vec<u8>, AllocError>
-    ensures { IfOk result (λ v. v.items ≡ spec.history_text lines.now) }
+    requires { All (λ l. l.event.process < 2 ^ 63) lines.now }
+    ensures text { IfOk result (λ v. v.items ≡ spec.history_text lines.now) }
+    ensures in_profile { IfOk result (λ _. All (λ l. InProfile (spec.form_of l)) lines.now) }
 {
     let mut sink = Out::new(Vec::new(alloc));
     match write_lines(lines, &mut sink) {
@@ -146,10 +159,13 @@ pub fn write_history<S: SeqObject, K: Sink>(
     sink: &mut K,
 ) -> Result<(), WriteFault>
     requires { K.broken sink.old ≡ false }
-    ensures ok { OnOk result (AppendsHistory (journals_in S.op_in S.reply_in account.now) (K.sent sink.old) (K.sent sink.new)) }
+    ensures ok { OnOk result
+        (AppendsHistory (journals_in S.op_in S.reply_in account.now) (K.sent sink.old) (K.sent sink.new)) }
     ensures usable { OnOk result (K.broken sink.new ≡ false) }
 
-    ensures front { IfErr result (λ e. e ≡ WriteFault.Device → SendsFrontOfHistory (journals_in S.op_in S.reply_in account.now) (K.sent sink.old) (K.sent sink.new)) }
+    ensures front { IfErr result (λ e. e ≡ WriteFault.Device →
+        SendsFrontOfHistory (journals_in S.op_in S.reply_in account.now) (K.sent sink.old)
+        (K.sent sink.new)) }
     ensures failed { IfErr result (λ e. e ≡ WriteFault.Device → K.broken sink.new ≡ true) }
     ensures memory { IfErr result (λ e. e ≡ WriteFault.NoMemory → sink.new ≡ sink.old) }
 {

@@ -16,20 +16,25 @@ pub fn opening_is_sound()
 
 /// A sound world is sound still when a client has come.
 pub fn coming_keeps_it_sound()
-    ensures { (kinds : List Kind) (quota : ℕ) (w : World) (client : ℕ) → w.stage client ≡ absent → Sound kinds quota w → Sound kinds quota (staged w client idle) }
+    ensures { (kinds : List Kind) (quota : ℕ) (w : World) (client : ℕ) → w.stage client ≡ absent →
+        Sound kinds quota w → Sound kinds quota (staged w client idle) }
 {}
 
 /// Each move of each client leaves a sound world sound, for all objects and quotas.
 pub fn each_move_keeps_it_sound()
-    ensures { (kinds : List Kind) (quota : ℕ) (step : Step) (w w' : World) (client : ℕ) → Moves kinds quota step w client w' → Sound kinds quota w → Sound kinds quota w' }
+    ensures { (kinds : List Kind) (quota : ℕ) (step : Step) (w w' : World) (client : ℕ) →
+        Moves kinds quota step w client w' → Sound kinds quota w → Sound kinds quota w' }
 {}
 
 /// The record of a sound world is sound: its history is well-formed, and each log is a valid order. Calls may be under way.
 pub fn record_is_sound()
-    ensures { (kinds : List Kind) (quota : ℕ) (w : World) → Sound kinds quota w → IsSoundRecord kinds quota (journal_in w) w.log }
+    ensures { (kinds : List Kind) (quota : ℕ) (w : World) → Sound kinds quota w →
+        IsSoundRecord kinds quota (journal_in w) w.log }
 {}
 
 /// The history of a sound record is linearizable.
 pub fn sound_record_is_linearizable()
-    ensures { (kinds : List Kind) (quota : ℕ) (journals : ℕ → List AnyEvent) (logs : ℕ → List AnyEntry) (r : IsSoundRecord kinds quota journals logs) → IsLinearizable (kind_at kinds) (events r.history) }
+    ensures { (kinds : List Kind) (quota : ℕ) (journals : ℕ → List AnyEvent) (logs : ℕ →
+        List AnyEntry) (r : IsSoundRecord kinds quota journals logs) →
+        IsLinearizable (kind_at kinds) (events r.history) }
 {}

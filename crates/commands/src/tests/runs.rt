@@ -2,9 +2,10 @@
 
 use super::*;
 use crate::running::report_record;
+use kinds::Kinds;
 use machine::Step;
 use recorder::Record;
-use schedule::{Header, Kinds, Schedule};
+use schedule::{Header, Schedule};
 use seq_objects::{AnyObject, AnyOp, Kind};
 use simulation::play;
 
@@ -45,7 +46,7 @@ fn check_record<R: AllocGlobal + Abort>(
 ) -> Result<(), Fail> {
     let record = record_of(rt.alloc(), mixed, steps)?;
     let mut sink = Out::new(Vec::new(rt.alloc()));
-    assert_eq!(rt; report_record(rt.alloc(), &record, &mut sink), 0);
+    assert_eq!(rt; report_record(rt.alloc(), &record, b"", &mut sink), 0);
     assert_eq!(rt; sink.into_inner().as_slice(), expected.as_bytes());
     Ok(())
 }
@@ -209,7 +210,7 @@ fn failing_output(rt: HostRuntime) -> Result<(), Fail> {
     for room in 0..TWO_CLIENTS.len() {
         let mut bytes = [0; 600];
         let mut sink = Out::new(&mut bytes[..room]);
-        assert_eq!(rt; report_record(rt.alloc(), &record, &mut sink), FAILED);
+        assert_eq!(rt; report_record(rt.alloc(), &record, b"", &mut sink), FAILED);
         assert_eq!(rt; &bytes[..room], &TWO_CLIENTS.as_bytes()[..room]);
     }
     Ok(())

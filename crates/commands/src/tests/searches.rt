@@ -1,6 +1,7 @@
 //! What a search puts out: lines and status.
 
 use super::*;
+use search::TryFirst;
 use table::{ONE_BY_ONE, OVERLAPPING, TWO_QUEUES, YES};
 
 struct SearchRow {
@@ -144,6 +145,7 @@ fn search_line(alloc: Global, steps: u32) -> Result<Line, Fail> {
     Ok(Line::Search {
         history: String::from_str(alloc, "h.edn")?,
         steps,
+        first: TryFirst::LeastNumber,
     })
 }
 
@@ -182,6 +184,37 @@ fn found_certificates_are_accepted(rt: HostRuntime) -> Result<(), Fail> {
         assert_eq!(rt; status, 0, "{}", row.name);
         assert_eq!(rt; sink.into_inner().as_slice(), row.output.as_bytes());
     }
+    Ok(())
+}
+
+/// What is invoked first returns last.
+const RETURNS_CROSSED: &str = "{:process 0, :type :invoke, :f :enqueue, :value 1}\n\
+    {:process 1, :type :invoke, :f :enqueue, :value 2}\n\
+    {:process 1, :type :ok, :f :enqueue, :value 2}\n\
+    {:process 0, :type :ok, :f :enqueue, :value 1}";
+
+#[test]
+fn first_in_words(rt: HostRuntime) -> Result<(), Fail> {
+    for (word, order) in [
+        ("number", b"{:object 0, :order [0 1]}\n"),
+        ("return", b"{:object 0, :order [1 0]}\n"),
+    ] {
+        let words = ["fcbench", "search", "h.edn", "--first", word];
+        let line = asked(rt.alloc(), &words)?;
+        let mut sink = Out::new(Vec::new(rt.alloc()));
+        let status = perform(
+            &rt,
+            rt.alloc(),
+            &line,
+            RETURNS_CROSSED.as_bytes(),
+            b"",
+            &mut sink,
+        );
+        assert_eq!(rt; status, 0);
+        assert_eq!(rt; sink.into_inner().as_slice(), order.as_slice());
+    }
+    let refused = ["fcbench", "search", "h.edn", "--first", "value"];
+    assert!(rt; matches!(line(rt.alloc(), &refused), Err(LineFault::Refused(_))));
     Ok(())
 }
 

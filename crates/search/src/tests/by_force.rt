@@ -30,6 +30,28 @@ const REGISTER: Words = [
     ("invoke :f :cas :value [1 2]", "info :f :cas :value [1 2]"),
 ];
 
+/// The same with two values that may or may not have come in.
+const QUEUE_OF_UNKNOWN_VALUES: Words = [
+    ("invoke :f :enqueue :value 1", "ok :f :enqueue :value 1"),
+    ("invoke :f :enqueue :value 2", "ok :f :enqueue :value 2"),
+    ("invoke :f :dequeue", "ok :f :dequeue :value 1"),
+    ("invoke :f :dequeue", "ok :f :dequeue :value 2"),
+    ("invoke :f :dequeue", "ok :f :dequeue :value nil"),
+    ("invoke :f :enqueue :value 1", "info :f :enqueue :value 1"),
+    ("invoke :f :enqueue :value 2", "info :f :enqueue :value 2"),
+];
+
+/// The same with reads of nil, and with a compare-and-set that did not take place.
+const REGISTER_AT_FIRST: Words = [
+    ("invoke :f :write :value 1", "ok :f :write :value 1"),
+    ("invoke :f :write :value 2", "ok :f :write :value 2"),
+    ("invoke :f :read", "ok :f :read :value nil"),
+    ("invoke :f :read", "ok :f :read :value 2"),
+    ("invoke :f :cas :value [1 2]", "ok :f :cas :value false"),
+    ("invoke :f :write :value 2", "info :f :write :value 2"),
+    ("invoke :f :read", "info :f :read"),
+];
+
 /// What a process is about.
 #[derive(Clone, Copy)]
 enum Stage {
@@ -183,6 +205,20 @@ fn queues(rt: HostRuntime) -> Result<(), Fail> {
 #[test]
 fn registers(rt: HostRuntime) -> Result<(), Fail> {
     let count = tries_all(rt.alloc(), &REGISTER)?;
+    assert!(rt; count > 1000, "{count} histories");
+    Ok(())
+}
+
+#[test]
+fn queues_of_unknown_values(rt: HostRuntime) -> Result<(), Fail> {
+    let count = tries_all(rt.alloc(), &QUEUE_OF_UNKNOWN_VALUES)?;
+    assert!(rt; count > 1000, "{count} histories");
+    Ok(())
+}
+
+#[test]
+fn registers_at_first(rt: HostRuntime) -> Result<(), Fail> {
+    let count = tries_all(rt.alloc(), &REGISTER_AT_FIRST)?;
     assert!(rt; count > 1000, "{count} histories");
     Ok(())
 }

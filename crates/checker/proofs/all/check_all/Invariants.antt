@@ -1,6 +1,6 @@
 use Rattle.std.proofs.Common.{take}
-use Rattle.checker.proofs.Certificates.{IsChecked}
+use Rattle.checker.proofs.Certificates.{AreFine}
 use Rattle.checker.proofs.all.check_all.Given as goal
 
 abbrev pub invariant-loop-object : goal.invariant-loop-object
-invariant-loop-object l = IsChecked l.history l.certificates (take l.object-index l.object-items) l.left
+invariant-loop-object l = AreFine l.history l.certificates (take l.object-index l.object-items)

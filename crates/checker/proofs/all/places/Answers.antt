@@ -10,5 +10,5 @@ loop-k-preserved c =
     one_placed certificates c.loop-k.places c.insert.new.self c.loop-k.k d c.loop-k-test.true (ap (get_or certificates c.loop-k.k) c.index-certificates-k.is) c.loop-k.invariant.0 c.loop-k.invariant.1
     c.in_ok-insert.ensures.updates.1 (λ x ne. c.in_ok-insert.ensures.updates.2 x (apart_keys d.object x ne))
 
-pub returns-clause-all : goal.returns-clause-all
-returns-clause-all c = all_placed c.args.certificates.now c.loop-k.places c.loop-k.k c.loop-k-test.false c.loop-k.invariant.1
+pub returns : goal.returns
+returns c = record { places = c.loop-k.invariant.0; all = all_placed c.args.certificates.now c.loop-k.places c.loop-k.k c.loop-k-test.false c.loop-k.invariant.1 }

@@ -13,7 +13,7 @@ pub returns-in-Not-clause-own : goal.returns-in-Not-clause-own
 returns-in-Not-clause-own g c = not_tried c.args.pass c.in-Not.pass c.args.row c.in-Not.ensures.missed
 
 pub returns-then-possible-clause-goes : goal.returns-then-possible-clause-goes
-returns-then-possible-clause-goes g c = goes_on _ _ _ (answered_goes c.args.pass c.in-Got.hand c.answer-pass.result.0 c.args.row _ c.in-Got.ensures.desk c.answer-pass.ensures.desk c.in-Got.ensures.state (ap (λ z. z.tries) c.answer-pass.ensures.state) c.in-Got.ensures.got c.answer-pass.ensures.answered)
+returns-then-possible-clause-goes g c = goes_on _ _ _ (answered_goes c.args.pass c.in-Got.hand c.answer-pass.result.0 c.args.row _ c.in-Got.ensures.desk c.answer-pass.ensures.desk c.in-Got.ensures.state (ap (λ z. z.places) c.answer-pass.ensures.state) c.in-Got.ensures.got c.answer-pass.ensures.answered)
     (goes_same c.answer-pass.result.0 _ (_, _, c.set_age.ensures))
 
 pub returns-then-possible-clause-own : goal.returns-then-possible-clause-own

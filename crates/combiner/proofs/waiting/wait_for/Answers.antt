@@ -1,22 +1,25 @@
-use Rattle.std.proofs.Common.{ap, subst, ◌∙◌}
-use Rattle.combiner.specs.Passes.{KeepsCalls}
-use Rattle.combiner.proofs.Served.{keeps_on, keeps_unpolled}
-use Rattle.combiner.proofs.Waited.{returned}
+use Rattle.std.proofs.Common.{ap, ◌∙◌}
+use Rattle.combiner.proofs.Waited.{keeps_round, returned}
 use Rattle.combiner.proofs.waiting.wait_for.Goals as goal
 
 pub returns-in-Some-poll-clause-returns : goal.returns-in-Some-poll-clause-returns
 returns-in-Some-poll-clause-returns g c = returned _ _ _ _ c.loop.invariant.3 c.in-Some-poll.ensures.polled
 
 pub loop-preserved : goal.loop-preserved
-loop-preserved g c = let i = c.loop.invariant in (
+loop-preserved g c = let i = c.loop.invariant in let tried = c.enlist.ensures.tried in let made = c.combine-after.ensures in (
   tt,
   tt,
-  c.combine-after.ensures.desk ∙ (ap (λ k. k.desk) c.enlist.ensures ∙ (c.in_default.ensures.desk ∙ i.2)),
-  keeps_on c.args.client.knows c.loop.client.knows c.combine-after.result.0.knows i.3 (keeps_on c.loop.client.knows c.poll.new.client.knows c.combine-after.result.0.knows (keeps_unpolled c.loop.client.knows c.poll.new.client.knows c.in_default.ensures.missed)
-      (subst (λ v. KeepsCalls v c.combine-after.result.0.knows) (ap (λ k. k.knows) c.enlist.ensures) c.combine-after.ensures.same)),
+  made.desk ∙ (ap (λ k. k.desk) tried ∙ (c.in_default.ensures.desk ∙ i.2)),
+  keeps_round _ _ _ _ _ i.3 c.in_default.ensures.missed (ap (λ k. k.knows) tried) made.same,
 )
 
-pub returns-then-eq-clause-stays : goal.returns-then-eq-clause-stays
-returns-then-eq-clause-stays g c = let i = c.loop.invariant in
-    keeps_on c.args.client.knows c.loop.client.knows c.combine-after.result.0.knows i.3 (keeps_on c.loop.client.knows c.poll.new.client.knows c.combine-after.result.0.knows (keeps_unpolled c.loop.client.knows c.poll.new.client.knows c.in_default.ensures.missed)
-    (subst (λ v. KeepsCalls v c.combine-after.result.0.knows) (ap (λ k. k.knows) c.enlist.ensures) c.combine-after.ensures.same))
+pub loop-preserved-then-count-gt0 : goal.loop-preserved-then-count-gt0
+loop-preserved-then-count-gt0 g c = let i = c.loop.invariant in let tried = c.enlist.ensures.tried in let made = c.combine-after.ensures in (
+  tt,
+  tt,
+  made.desk ∙ (ap (λ k. k.desk) tried ∙ (c.in_default.ensures.desk ∙ i.2)),
+  keeps_round _ _ _ _ _ i.3 c.in_default.ensures.missed (ap (λ k. k.knows) tried) made.same,
+)
+
+pub returns-in-NoMemory-clause-stays : goal.returns-in-NoMemory-clause-stays
+returns-in-NoMemory-clause-stays g c = keeps_round _ _ _ _ _ c.loop.invariant.3 c.in_default.ensures.missed (ap (λ k. k.knows) c.enlist.ensures.tried) c.combine-after.ensures.same

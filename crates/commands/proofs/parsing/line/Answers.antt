@@ -3,7 +3,7 @@ use Rattle.std.proofs.lemmas.Result.{IfOk-weaker, IfErr-weaker}
 use Rattle.clap.specs.Words.{app_of}
 use Rattle.commands.specs.declared.command_line.LineFault.TheVariants.{NoMemory}
 use Rattle.commands.specs.Words.{Lacks}
-use Rattle.commands.proofs.Parse.{found, lacking, only_memory, only_memory_run, only_memory_search, refused}
+use Rattle.commands.proofs.Parse.{found, lacking, on_ok, only_memory, only_memory_run, only_memory_search, only_memory_simulate, refused}
 use Rattle.commands.proofs.parsing.line.Goals as goal
 
 pub returns-in-Err-clause-refused : goal.returns-in-Err-clause-refused
@@ -17,6 +17,9 @@ returns-in-Err-clause-searches g c p = only_memory_search (map g.S.AsStr.text c.
 
 pub returns-in-Err-clause-runs : goal.returns-in-Err-clause-runs
 returns-in-Err-clause-runs g c p = only_memory_run (map g.S.AsStr.text c.args.words.now) c.fault_of.result p (returns-in-Err-clause-refused g c)
+
+pub returns-in-Err-clause-simulates : goal.returns-in-Err-clause-simulates
+returns-in-Err-clause-simulates g c p = only_memory_simulate (map g.S.AsStr.text c.args.words.now) c.fault_of.result p (returns-in-Err-clause-refused g c)
 
 pub found-requires : goal.found-requires
 found-requires g c = (found (app_of c.in_ok-command.field-0) _ c.in-Ok.matches c.in_ok-command.ensures c.in-Ok.ensures.kinds c.in-Ok.ensures.matches).0
@@ -39,3 +42,11 @@ returns-in-Ok-clause-searches g c p = IfErr-weaker c.found.result _ _ (λ f. onl
 
 pub returns-in-Ok-clause-runs : goal.returns-in-Ok-clause-runs
 returns-in-Ok-clause-runs g c p = IfErr-weaker c.found.result _ _ (λ f. only_memory_run (map g.S.AsStr.text c.args.words.now) f p) (returns-in-Ok-clause-refused g c)
+
+pub returns-in-Ok-clause-simulates : goal.returns-in-Ok-clause-simulates
+returns-in-Ok-clause-simulates g c p = IfErr-weaker c.found.result _ _ (λ f. only_memory_simulate (map g.S.AsStr.text c.args.words.now) f p) (returns-in-Ok-clause-refused g c)
+
+pub returns-in-Ok-clause-faultless : goal.returns-in-Ok-clause-faultless
+returns-in-Ok-clause-faultless g c =
+    let parse = found (app_of c.in_ok-command.field-0) (map g.S.AsStr.text c.args.words.now) c.in-Ok.matches c.in_ok-command.ensures c.in-Ok.ensures.kinds c.in-Ok.ensures.matches in
+    on_ok c.found.result parse.3

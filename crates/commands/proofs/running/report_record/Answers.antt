@@ -1,4 +1,4 @@
-use Rattle.std.proofs.Common.{List, ℕ, ◌++◌, inl, refl, subst, true}
+use Rattle.std.proofs.Common.{List, ℕ, ◌++◌, codes, inl, inr, refl, subst, true}
 use Rattle.edn.specs.Sent.{SendsFront}
 use Rattle.report.specs.Lines.{verdict_text}
 use Rattle.commands.specs.Runs.{IsReported, journals_of, logs_of}
@@ -9,6 +9,9 @@ pub returns-clause-front : goal.returns-clause-front
 returns-clause-front g c e =
     let text = c.in-Ok.text.items in
     let v = c.verdict_on-verdict.result in
-    let reported : IsReported (journals_of c.args.record.now) (logs_of c.args.record.now) (status_of v) (text ++ verdict_text true v) = record { own = text; verdict = v; is_text = c.in-Ok.ensures; says = c.verdict_on-verdict.ensures.says; accepted = c.verdict_on-verdict.ensures.accepted; status_is = refl; text_is = refl } in
+    let reported : IsReported (journals_of c.args.record.now) (logs_of c.args.record.now) c.args.between.now (status_of v) (text ++ verdict_text true v) = record { own = text; verdict = v; is_text = c.in-Ok.ensures; says = c.verdict_on-verdict.ensures.says; accepted = c.verdict_on-verdict.ensures.accepted; status_is = refl; text_is = refl } in
     let sent = subst (λ (t : List ℕ). SendsFront (g.S.Sink.sent c.args.sink.now) (g.S.Sink.sent c.put_out.new.sink) (t ++ verdict_text true v)) c.deref.ensures.value (c.put_out.ensures.front e) in
     (status_of v, text ++ verdict_text true v, inl reported, sent)
+
+pub returns-in_default-clause-front : goal.returns-in_default-clause-front
+returns-in_default-clause-front g c e = (3, codes "out of memory\n", inr (refl, refl), c.send.ensures.front e)

@@ -8,37 +8,32 @@ use Rattle.judging.proofs.Accepting.{same_valid}
 use Rattle.judging.proofs.decision.judge.Goals as goal
 
 pub returns-in-Err-clause-accepts : goal.returns-in-Err-clause-accepts
-returns-in-Err-clause-accepts c v =
-    let memory = c.in-Err.ensures.accepts v.client_events v.history_text v.history_short in
-    subst IsYesUnlessMemory (sym (c.stopped.ensures ∙ ap verdict_of memory)) tt
-
-pub returns-in-Err-certificates_in-clause-accepts : goal.returns-in-Err-certificates_in-clause-accepts
-returns-in-Err-certificates_in-clause-accepts c v =
-    let memory = c.in-Err-certificates_in.ensures.accepts v.certificates v.certificate_text v.certificates_short in
-    subst IsYesUnlessMemory (sym (c.stopped-in-Err-certificates_in.ensures ∙ ap verdict_of memory)) tt
+returns-in-Err-clause-accepts g c v = subst IsYesUnlessMemory (sym (c.stopped.ensures ∙ ap verdict_of (c.in-Err.ensures.accepts v))) tt
 
 pub returns-in-Ok-summary-clause-judges : goal.returns-in-Ok-summary-clause-judges
-returns-in-Ok-summary-clause-judges c =
+returns-in-Ok-summary-clause-judges g c =
+    let t = c.in-Ok.ensures.texts in
     let texts : AreValidTexts c.args.history.now c.args.certificates.now = record {
-      client_events = c.in-Ok.client_events;
-      certificates = c.in-Ok-certificates_in.orders.items;
-      history_short = c.in-Ok.ensures.short;
-      certificates_short = c.in-Ok-certificates_in.ensures.short;
-      history_text = c.in-Ok.ensures.denotes;
-      certificate_text = c.in-Ok-certificates_in.ensures.denotes;
-      valid = subst (AreValid c.in-Ok.client_events) c.deref.ensures.value c.in-Ok-judge_history.ensures.valid;
+      client_events = c.in-Ok.texts.0;
+      certificates = c.in-Ok.texts.1.items;
+      history_short = t.history_short;
+      certificates_short = t.certificates_short;
+      history_text = t.history_text;
+      certificate_text = t.certificate_text;
+      valid = subst (AreValid c.in-Ok.texts.0) c.deref.ensures.value c.in-Ok-judge_history.ensures.valid;
     } in
     let e = c.in-Ok-summary.ensures in
     (texts, record { operations = e.operations; objects = e.objects; kinds = e.kinds })
 
 pub returns : goal.returns
-returns c = record {
+returns g c = record {
   linearizable = tt;
   judges = search rules;
   accepts = λ v.
-      let es = c.in-Ok.ensures.only v.client_events v.history_text in
-      let cs = c.in-Ok-certificates_in.ensures.only v.certificates v.certificate_text in
-      let own = same_valid c.in-Ok.client_events v.certificates c.deref.result.now (cs ∙ ap (map reading_of) (sym c.deref.ensures.value)) (subst (λ es. AreValid es v.certificates) es v.valid) in
+      let t = c.in-Ok.ensures.texts in
+      let es = t.no_other_events v.client_events v.history_text in
+      let cs = t.no_other_orders v.certificates v.certificate_text in
+      let own = same_valid c.in-Ok.texts.0 v.certificates c.deref.result.now (cs ∙ ap (map reading_of) (sym c.deref.ensures.value)) (subst (λ es. AreValid es v.certificates) es v.valid) in
       let other : c.in-Err-judge_history.refusal ≢ refusal.NoMemory = search rules in
       other (c.in-Err-judge_history.ensures.exact own);
 }

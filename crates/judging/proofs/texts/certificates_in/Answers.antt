@@ -1,11 +1,17 @@
-use Rattle.edn.specs.View.{views}
+use Rattle.std.proofs.Common.{subst}
+use Rattle.edn.proofs.Progress.{one_reading_of}
+use Rattle.certificate.specs.Texts.{IsTextFault}
 use Rattle.judging.proofs.Accepting.{one_meaning}
-use Rattle.judging.proofs.Reading.{forms_fit}
+use Rattle.judging.proofs.Reading.{stopped_forms, certificates_for_memory}
 use Rattle.judging.proofs.texts.certificates_in.Goals as goal
 
-pub read_certificates-requires : goal.read_certificates-requires
-read_certificates-requires c = record { fit = forms_fit c.in-Ok.forms.items c.in-Ok.ensures.spelled.fits }
+pub returns-in-Ok-clause-only : goal.returns-in-Ok-clause-only
+returns-in-Ok-clause-only c = λ ds h.
+    let d = c.in-Ok.ensures.denotes in
+    one_meaning c.args.text.now d.0 c.in-Ok.certificates.items ds (λ es k. one_reading_of es d.0 c.args.text.now k d.1) d.2 h
 
-pub returns-in-Ok-read_certificates-clause-only : goal.returns-in-Ok-read_certificates-clause-only
-returns-in-Ok-read_certificates-clause-only c ds h =
-    one_meaning c.args.text.now (views c.in-Ok.forms.items) c.in-Ok-read_certificates.certificates.items ds c.in-Ok.ensures.only c.in-Ok-read_certificates.ensures.denotes h
+pub returns-in-Err-Forms-clause-stop : goal.returns-in-Err-Forms-clause-stop
+returns-in-Err-Forms-clause-stop c = stopped_forms c.args.text.now c.in-Err-Forms.fault c.stop_of-in-Err-Forms.result (subst (IsTextFault c.args.text.now) c.in-Err-Forms.field-0-is c.in-Err-Forms.ensures.fault) c.stop_of-in-Err-Forms.ensures
+
+pub returns-in-Err-Forms-clause-accepts : goal.returns-in-Err-Forms-clause-accepts
+returns-in-Err-Forms-clause-accepts c = λ cs d short. certificates_for_memory c.args.text.now c.stop_of-in-Err-Forms.result cs (returns-in-Err-Forms-clause-stop c) d short

@@ -1,13 +1,15 @@
-use Rattle.std.proofs.Common.{rules}
-use Rattle.judging.specs.Texts.{IsShort}
-use Rattle.judging.proofs.Reading.{forms_fit, stopped_maps}
+use Rattle.std.proofs.Common.{subst}
+use Rattle.history.specs.Texts.{IsTextFault}
+use Rattle.judging.proofs.Reading.{stopped_maps, stops_for_memory}
 use Rattle.judging.proofs.texts.history_in.Goals as goal
 
-pub read_history-requires : goal.read_history-requires
-read_history-requires c = forms_fit c.in-Ok.forms.items c.in-Ok.ensures.spelled.fits
+pub returns-in-Ok-clause-only : goal.returns-in-Ok-clause-only
+returns-in-Ok-clause-only c = λ fs h.
+    let d = c.in-Ok.ensures.denotes in
+    c.one_history.ensures c.args.text.now fs c.in-Ok.history h (record { forms = d.0; spelled = d.1; denoted = d.2 })
 
-pub returns-in-Err-read_history-clause-stop : goal.returns-in-Err-read_history-clause-stop
-returns-in-Err-read_history-clause-stop c =
-    let e = c.in-Err-read_history.ensures in
-    let short : IsShort c.args.text.now = search rules in
-    stopped_maps c.args.text.now c.in-Ok.forms.items c.in-Err-read_history.fault c.stop_of-in-Err-read_history.result short c.in-Ok.ensures.spelled e.fault e.memory e.place c.stop_of-in-Err-read_history.ensures
+pub returns-in-Err-Maps-clause-stop : goal.returns-in-Err-Maps-clause-stop
+returns-in-Err-Maps-clause-stop c = stopped_maps c.args.text.now c.in-Err-Maps.fault c.stop_of-in-Err-Maps.result (subst (IsTextFault c.args.text.now) c.in-Err-Maps.field-0-is c.in-Err-Maps.ensures.fault) c.stop_of-in-Err-Maps.ensures
+
+pub returns-in-Err-Maps-clause-accepts : goal.returns-in-Err-Maps-clause-accepts
+returns-in-Err-Maps-clause-accepts c = λ es d short. stops_for_memory c.args.text.now c.stop_of-in-Err-Maps.result es (returns-in-Err-Maps-clause-stop c) d short

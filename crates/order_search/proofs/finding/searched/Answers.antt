@@ -13,7 +13,7 @@ use Rattle.order_search.proofs.Orders.{listed_calls, found_valid, none_valid, If
 use Rattle.order_search.proofs.finding.searched.Goals as goal
 
 pub ordered-requires-clause-counts : goal.ordered-requires-clause-counts
-ordered-requires-clause-counts c κs = count-owed c.args.history.now.ops c.in_ok-trials.trials.items.items c.args.left c.in_ok-trials.ensures.items c.requires.counts
+ordered-requires-clause-counts c = count-owed c.args.history.now.ops c.in_ok-trials.trials.items.items c.args.left c.in_ok-trials.ensures.items c.requires.counts
 
 pub returns-clause-found : goal.returns-clause-found
 returns-clause-found c =

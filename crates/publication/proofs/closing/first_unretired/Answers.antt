@@ -13,7 +13,7 @@ returns-then-not-sees_end-clause-found g c = let i = c.loop-client.invariant in 
 pub loop-client-preserved : goal.loop-client-preserved
 loop-client-preserved g c = let i = c.loop-client.invariant in elim c.else-client-number.branch [
   | else-client-number-via-then-client-number+else-not-sees_end w ↦
-      let e = one_ended c.loop-client.client c.args.last.now c.loop-client.last w.sees_end.new.last w.sees_end.ensures.desk w.sees_end.ensures.tries
+      let e = one_ended c.loop-client.client c.args.last.now c.loop-client.last w.sees_end.new.last w.sees_end.ensures.desk w.sees_end.ensures.places
       (w.sees_end.ensures.seen ∙ ap (λ (b : Bool). if b then knowing_end c.loop-client.client c.loop-client.last.knows else finding_there c.loop-client.client c.loop-client.last.knows) w.if-not-sees_end.false) i.1 i.2 in
       let is : c.else-client-number.last ≡ w.sees_end.new.last = w.last-is in
       (ap (λ k. k.desk) is ∙ (w.sees_end.ensures.desk ∙ i.0), subst (HaveEnded (c.loop-client.client + 1)) (sym is) e.0, subst (HasLearntEnds c.args.last.now) (sym is) e.1)

@@ -1,5 +1,6 @@
 use Rattle.std.proofs.Common.{rules, arith, ◌≡◌, ◌+◌, ◌∷◌, [], length}
 use Rattle.desk_rule.specs.declared.board.Slot.TheVariants as slot
+use Rattle.publication.specs.Making.{rosters_of}
 use Rattle.publication.proofs.Growing.{cores_longer, nothing_more}
 use Rattle.publication.proofs.making.lay.Goals as goal
 
@@ -14,7 +15,7 @@ loop-slots-preserved g c = let i = c.loop-slots.invariant in let p = c.push_rese
       search rules,
       search rules,
       omega arith,
-      cores_longer c.args.objects.items c.loop-slots.slots.items c.push_reserved.new.self.items (slot.Nothing ∷ []) p.items i.4,
+      cores_longer (rosters_of c.args.lists.items) c.args.objects.items c.loop-slots.slots.items c.push_reserved.new.self.items (slot.Nothing ∷ []) p.items i.4,
       λ j l h. nothing_more c.loop-slots.slots.items c.push_reserved.new.self.items (length c.args.objects.items) p.items (λ x a b. i.5 x a (omega arith)) j l (omega arith),
     )
 

@@ -1,9 +1,7 @@
-use Rattle.std.proofs.Common.{take}
-use Rattle.std.specs.Ordering.{nat_cmp}
-use Rattle.std.specs.BTreeSet.{contains, btree_set_len}
-use Rattle.report.specs.Invoked.{named}
-use Rattle.report.proofs.Uses.{AreSeen}
+use Rattle.std.proofs.Common.{ℕ, ◌≤◌, take, is_some}
+use Rattle.numbers.specs.Lookup.{value_of}
+use Rattle.report.specs.Invoked.{named, AreSeen}
 use Rattle.report.proofs.counting.count_objects.Given as goal
 
 abbrev pub invariant-loop-invoked : goal.invariant-loop-invoked
-invariant-loop-invoked l = AreSeen (contains nat_cmp l.objects) (btree_set_len l.objects) (named l.kind (take l.invoked-index l.all))
+invariant-loop-invoked l = AreSeen (λ x. is_some (value_of l.objects x)) l.count (named l.kind (take l.invoked-index l.all)) × (l.count ≤ l.invoked-index)

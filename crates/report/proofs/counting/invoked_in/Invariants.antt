@@ -1,7 +1,5 @@
-use Rattle.std.proofs.Common.{◌≡◌, ℕ, false, drop, reverse}
-use Rattle.std.specs.Prelude.{unwrap_or}
-use Rattle.std.specs.Ordering.{nat_cmp}
-use Rattle.std.specs.BTreeMap.{get}
+use Rattle.std.proofs.Common.{◌≡◌, ℕ, false, drop, reverse, unwrap_or}
+use Rattle.numbers.specs.Lookup.{value_of}
 use Rattle.events.specs.Events.{next_event, fails}
 use Rattle.report.specs.Invoked.{invoked}
 use Rattle.report.proofs.counting.invoked_in.Given as goal
@@ -9,5 +7,5 @@ use Rattle.report.proofs.counting.invoked_in.Given as goal
 abbrev pub invariant-loop-k : goal.invariant-loop-k
 invariant-loop-k l = record {
   reversed : reverse l.all.items ≡ invoked (drop l.k l.events);
-  next : (p : ℕ) → unwrap_or (get nat_cmp l.fails p) false ≡ fails (next_event p (drop l.k l.events));
+  next : (p : ℕ) → unwrap_or (value_of l.failing p) false ≡ fails (next_event p (drop l.k l.events));
 }

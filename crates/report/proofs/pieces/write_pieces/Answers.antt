@@ -1,6 +1,6 @@
 use Rattle.edn.proofs.Fronts.{within, further, on_err}
 use Rattle.report.specs.Pieces.{pieces_text}
-use Rattle.report.proofs.Writing.{pieces_left}
+use Rattle.report.proofs.LinesLeft.{pieces_left}
 use Rattle.report.proofs.pieces.write_pieces.Goals as goal
 
 pub returns-in_err-write_piece-clause-front : goal.returns-in_err-write_piece-clause-front

@@ -1,10 +1,11 @@
-use Rattle.std.proofs.Common.{rules, map, subst}
+use Rattle.std.proofs.Common.{rules, ◌^◌, map, subst}
 use Rattle.std.specs.List.Sorted.{IsPermutation}
 use Rattle.std.proofs.lemmas.List.Sorted.{IsNonDecreasingBy-from_sort_by_key}
 use Rattle.world.specs.Images.{event_in}
 use Rattle.recorder.specs.Histories.{journals_in}
 use Rattle.transcript.proofs.Gathered as gathered
 use Rattle.transcript.proofs.Tickets.{journal_is}
+use Rattle.transcript.proofs.Profiles.{clients_low}
 use Rattle.transcript.proofs.line.lines_of.Goals as goal
 
 lines_are : goal.returns-clause-lines
@@ -30,3 +31,6 @@ pub returns-clause-proper : goal.returns-clause-proper
 returns-clause-proper g c =
     let kept = c.gather.ensures.kept in
     gathered.is_proper (journals_in g.S.SeqObject.op_in g.S.SeqObject.reply_in c.args.account.now) kept.events kept.are_events kept.proper c.sort_unstable_by_key.new.self.items (lines_are g c)
+
+pub returns-clause-low : goal.returns-clause-low
+returns-clause-low g c = clients_low g.S.SeqObject.op_in g.S.SeqObject.reply_in c.args.account.now (2 ^ 63) c.in_ok-lines.ensures.few c.sort_unstable_by_key.new.self.items (lines_are g c)

@@ -1,4 +1,4 @@
-use Rattle.std.proofs.Common.{◌≡◌, [], length, map, ap, ◌∙◌, subst, arith}
+use Rattle.std.proofs.Common.{◌≡◌, [], length, ◌∙◌, subst, arith}
 use Rattle.std.proofs.lemmas.List.{get_or_default}
 use Rattle.model.specs.Objects.{empty}
 use Rattle.order_search.specs.Arranged.{call_at}
@@ -7,7 +7,7 @@ use Rattle.order_search.proofs.Levels.{begun, none_dead}
 use Rattle.order_search.proofs.walk.State.begin.Goals as goal
 
 pub returns-clause-search : goal.returns-clause-search
-returns-clause-search g c =
+returns-clause-search c =
     let t = c.args.trials.now in
     let items = t.items.items in
     let u = c.in_ok-undone.undone in
@@ -15,6 +15,6 @@ returns-clause-search g c =
     let link = subst (λ n. Linked n [] u.next.items u.before.items) len c.in_ok-undone.ensures in
     let long = link.long_next in
     record {
-      walk = begun (length items) (call_at items) (empty t.kind) (g.S.SeqObject.content c.args.object) c.new.result.items (map g.S.SeqObject.content c.new-2.result.items) u.next.items u.before.items c.index-at.result.now c.least_return-least.result c.args.left c.new.ensures.items (ap (map g.S.SeqObject.content) c.new-2.ensures.items) c.requires.empty link (c.index-at.ensures ∙ get_or_default u.next.items 0 _ 0 (omega arith)) (c.least_return-least.ensures [] link) c.requires.counts c.requires.owed;
-      dead = none_dead g.S.SeqObject.content t c.new-3.result.pairs.items c.new-3.ensures;
+      walk = begun (length items) (call_at items) (empty t.kind) _ c.new.result.items u.next.items u.before.items c.index-at.result.now c.least_return-least.result c.args.left c.new.ensures.items c.empty.ensures link (c.index-at.ensures ∙ get_or_default u.next.items 0 _ 0 (omega arith)) (c.least_return-least.ensures [] link) c.requires.counts c.requires.owed;
+      dead = none_dead t c.new-2.result.pairs.items c.new-2.ensures;
     }

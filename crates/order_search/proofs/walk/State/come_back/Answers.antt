@@ -1,46 +1,51 @@
-use Rattle.std.proofs.Common.{◌<◌, ◌+◌, length, map, reverse, sym, ap, ◌∙◌, subst, arith}
+use Rattle.std.proofs.Common.{◌<◌, ◌+◌, length, reverse, refl, sym, ap, ◌∙◌, subst, arith}
 use Rattle.std.proofs.lemmas.List.{get_or_default, length-set}
 use Rattle.std.proofs.lemmas.List.Elements.{All-push}
 use Rattle.model.specs.Objects.{empty}
+use Rattle.reversible.specs.Undoing.{content_of, content_kept, undone}
 use Rattle.order_search.specs.Arranged.{as_call, call_at, owes}
 use Rattle.order_search.specs.Continuations.{IsDeadPair}
-use Rattle.order_search.specs.Searching.{places}
-use Rattle.order_search.proofs.Steps.{popped_within, call_read, map_push, back_walk, dead_pair, count_le}
+use Rattle.order_search.specs.Searching.{places, befores, IsWalk}
+use Rattle.order_search.proofs.Steps.{popped_within, call_read, back_walk, dead_pair, count_le}
+use Rattle.order_search.proofs.Levels.{befores_more}
 use Rattle.order_search.proofs.walk.State.come_back.Goals as goal
 
 pub one_more-self-requires : goal.one_more-self-requires
-one_more-self-requires g c =
+one_more-self-requires c =
     let items = c.args.trials.now.items.items in
     let l = count_le (owes (call_at items) (places (reverse c.args.self.now.levels.items))) (length items) in
     omega (arith, c.requires.search.walk.counts, c.requires.trials.few, l)
 
 pub index-requires-2 : goal.index-requires-2
-index-requires-2 g c =
+index-requires-2 c =
     let a = c.args.self.now in
     let t = c.args.trials.now in
-    let content = g.S.SeqObject.content in
-    let p = popped_within (length t.items.items) (call_at t.items.items) (empty t.kind) a.levels.items c.pop.new.self.items c.in-Some.level _ (map content c.pop-2.new.self.items) (content c.in-Some-pop.before) (content a.object) a.undone.next.items a.undone.before.items a.high c.in-Some.ensures.items (map_push content a.objects.items c.pop-2.new.self.items c.in-Some-pop.before c.in-Some-pop.ensures.items) c.requires.search.walk.stack in
+    let level = c.in-Some.level in
+    let before = undone level.undo (content_of a.object) in
+    let befores_are = befores_more c.pop.new.self.items a.levels.items level before (content_of a.object) c.in-Some.ensures.items refl in
+    let p = popped_within (length t.items.items) (call_at t.items.items) (empty t.kind) a.levels.items c.pop.new.self.items level _ (befores (reverse c.pop.new.self.items) before) before (content_of a.object) a.undone.next.items a.undone.before.items a.high c.in-Some.ensures.items befores_are c.requires.search.walk.stack in
     let e = ap length c.put_back.ensures.next ∙ length-set a.undone.next.items _ _ in
     let w = p.0.here_next in
     omega arith
 
 pub returns-clause-search : goal.returns-clause-search
-returns-clause-search g c = λ e.
+returns-clause-search c = λ e.
     let a = c.args.self.now in
     let t = c.args.trials.now in
-    let content = g.S.SeqObject.content in
-    let objects = map_push content a.objects.items c.pop-2.new.self.items c.in-Some-pop.before c.in-Some-pop.ensures.items in
-    let p = popped_within (length t.items.items) (call_at t.items.items) (empty t.kind) a.levels.items c.pop.new.self.items c.in-Some.level _ (map content c.pop-2.new.self.items) (content c.in-Some-pop.before) (content a.object) a.undone.next.items a.undone.before.items a.high c.in-Some.ensures.items objects c.requires.search.walk.stack in
+    let level = c.in-Some.level in
+    let before = undone level.undo (content_of a.object) in
+    let befores_are = befores_more c.pop.new.self.items a.levels.items level before (content_of a.object) c.in-Some.ensures.items refl in
+    let p = popped_within (length t.items.items) (call_at t.items.items) (empty t.kind) a.levels.items c.pop.new.self.items level _ (befores (reverse c.pop.new.self.items) before) before (content_of a.object) a.undone.next.items a.undone.before.items a.high c.in-Some.ensures.items befores_are c.requires.search.walk.stack in
     let ln = ap length c.put_back.ensures.next ∙ length-set a.undone.next.items _ _ in
     let w = p.0.here_next in
-    let inside : c.in-Some.level.place + 1 < length c.put_back.new.self.next.items = omega arith in
+    let inside : level.place + 1 < length c.put_back.new.self.next.items = omega arith in
     let remembered = c.in_ok-remember.ensures in
-    let z = c.replace.ensures.value in
-    let d = dead_pair (length t.items.items) (call_at t.items.items) (empty t.kind) (reverse a.levels.items) (reverse (map content a.objects.items)) (content a.object) a.undone.next.items a.undone.before.items a.high a.at a.least a.left c.in_ok-below.field-0.items c.requires.search.walk c.requires.dead_here c.in_ok-below.ensures in
+    let d = dead_pair (length t.items.items) (call_at t.items.items) (empty t.kind) (reverse a.levels.items) (befores (reverse a.levels.items) (content_of a.object)) (content_of a.object) a.undone.next.items a.undone.before.items a.high a.at a.least a.left c.in_ok-below.field-0.items c.requires.search.walk c.requires.dead_here c.in_ok-below.ensures in
+    let walk = back_walk t.items.items c.index.result.now (empty t.kind) a.levels.items c.pop.new.self.items level _ (befores (reverse c.pop.new.self.items) before) before before (content_of a.object) a.undone.next.items a.undone.before.items c.put_back.new.self.next.items c.put_back.new.self.before.items a.high a.at a.least a.left c.index-2.result.now c.one_more-self.result
+    c.in-Some.ensures.items befores_are c.requires.search.walk c.requires.dead_here
+    refl c.put_back.ensures.next c.put_back.ensures.before (c.index-2.ensures ∙ get_or_default c.put_back.new.self.next.items (level.place + 1) _ 0 inside)
+    (ap as_call c.index.ensures ∙ call_read t.items.items level.place _ p.1) c.one_more-self.ensures in
     record {
-      walk = back_walk t.items.items c.index.result.now (empty t.kind) a.levels.items c.pop.new.self.items c.in-Some.level (map content a.objects.items) (map content c.pop-2.new.self.items) (content c.in-Some-pop.before) (content c.replace.new.dest) (content a.object) a.undone.next.items a.undone.before.items c.put_back.new.self.next.items c.put_back.new.self.before.items a.high a.at a.least a.left c.index-2.result.now c.one_more-self.result
-          c.in-Some.ensures.items objects c.requires.search.walk c.requires.dead_here
-          (ap content c.replace.ensures.after) c.put_back.ensures.next c.put_back.ensures.before (c.index-2.ensures ∙ get_or_default c.put_back.new.self.next.items (c.in-Some.level.place + 1) _ 0 inside)
-          (ap as_call c.index.ensures ∙ call_read t.items.items c.in-Some.level.place _ p.1) c.one_more-self.ensures;
-      dead = rw remembered (All-push (λ p. IsDeadPair (length t.items.items) (call_at t.items.items) p.high p.undone.items (content p.object)) a.dead.pairs.items _ c.requires.search.dead (subst (λ o. IsDeadPair (length t.items.items) (call_at t.items.items) a.high c.in_ok-below.field-0.items (content o)) (sym z) d));
+      walk = subst (λ x. IsWalk (length t.items.items) (call_at t.items.items) (empty t.kind) (reverse c.pop.new.self.items) (befores (reverse c.pop.new.self.items) x) x c.put_back.new.self.next.items c.put_back.new.self.before.items level.high c.index-2.result.now level.least c.one_more-self.result) (sym c.in_ok-undo.ensures) walk;
+      dead = rw remembered (All-push (λ p. IsDeadPair (length t.items.items) (call_at t.items.items) p.high p.undone.items (content_kept p.content)) a.dead.pairs.items _ c.requires.search.dead (subst (λ o. IsDeadPair (length t.items.items) (call_at t.items.items) a.high c.in_ok-below.field-0.items o) (sym c.in_ok-of.ensures) d));
     }

@@ -1,86 +1,92 @@
-use Rattle.std.proofs.Common.{[], ◌∷◌, ◌++◌, length, map, reverse, ap, sym, refl, ◌∙◌, subst, arith}
+use Rattle.std.proofs.Common.{length, reverse, ap, sym, refl, ◌∙◌, subst, arith}
 use Rattle.std.proofs.lemmas.List.{get_or_default}
 use Rattle.model.specs.Objects.{empty}
+use Rattle.reversible.specs.Undoing.{content_of}
+use Rattle.reversible.specs.declared.kept.Kept.TheVariants.{Whole}
 use Rattle.order_search.specs.declared.dead.Pair.{Pair}
 use Rattle.order_search.specs.declared.level.Level.{Level}
 use Rattle.order_search.specs.Arranged.{as_call, call_at}
-use Rattle.order_search.specs.Searching.{IsWalk}
-use Rattle.order_search.proofs.Steps.{hit, walk_within, without_within, walk_again, call_read, map_push}
-use Rattle.order_search.proofs.Levels.{stepped, taken_out, owed_less, onward, over_now}
+use Rattle.order_search.specs.Continuations.{IsDeadAt}
+use Rattle.order_search.specs.Searching.{places, befores, content_before, IsWalk}
+use Rattle.order_search.proofs.Steps.{hit, walk_within, without_within, walk_again, call_read}
+use Rattle.order_search.proofs.Levels.{befores_more, stepped, taken_out, owed_less, onward, over_now}
 use Rattle.order_search.proofs.walk.State.go_on.Goals as goal
 
 pub take_out-requires : goal.take_out-requires
-take_out-requires g c =
+take_out-requires c =
     let a = c.args.self.now in
     let t = c.args.trials.now in
-    walk_within (length t.items.items) (call_at t.items.items) (empty t.kind) (reverse a.levels.items) (reverse (map g.S.SeqObject.content a.objects.items)) (g.S.SeqObject.content a.object) a.undone.next.items a.undone.before.items a.high a.at a.least a.left c.requires.search.walk c.requires.at
+    walk_within (length t.items.items) (call_at t.items.items) (empty t.kind) (reverse a.levels.items) (befores (reverse a.levels.items) (content_before a c.args.step)) (content_before a c.args.step) a.undone.next.items a.undone.before.items a.high a.at a.least a.left c.requires.search.walk c.requires.at
 
 pub put_back-requires-clause-within : goal.put_back-requires-clause-within
-put_back-requires-clause-within g c =
+put_back-requires-clause-within c =
     let a = c.args.self.now in
     let t = c.args.trials.now in
-    without_within (length t.items.items) (call_at t.items.items) (empty t.kind) (reverse a.levels.items) (reverse (map g.S.SeqObject.content a.objects.items)) (g.S.SeqObject.content a.object) a.undone.next.items a.undone.before.items c.take_out.new.self.next.items c.take_out.new.self.before.items a.high a.at a.least a.left c.requires.search.walk c.requires.at c.take_out.ensures.next c.take_out.ensures.before
+    without_within (length t.items.items) (call_at t.items.items) (empty t.kind) (reverse a.levels.items) (befores (reverse a.levels.items) (content_before a c.args.step)) (content_before a c.args.step) a.undone.next.items a.undone.before.items c.take_out.new.self.next.items c.take_out.new.self.before.items a.high a.at a.least a.left c.requires.search.walk c.requires.at c.take_out.ensures.next c.take_out.ensures.before
 
 pub pass-requires-clause-search : goal.pass-requires-clause-search
-pass-requires-clause-search g c κs u =
+pass-requires-clause-search c =
     let a = c.args.self.now in
     let t = c.args.trials.now in
+    let before = content_before a c.args.step in
+    let walk = walk_again (length t.items.items) (call_at t.items.items) (empty t.kind) (reverse a.levels.items) (befores (reverse a.levels.items) before) before a.undone.next.items a.undone.before.items c.take_out.new.self.next.items c.take_out.new.self.before.items c.put_back.new.self.next.items c.put_back.new.self.before.items a.high a.at a.least a.left c.requires.search.walk c.requires.at c.take_out.ensures.next c.take_out.ensures.before c.put_back.ensures.next c.put_back.ensures.before in
     record {
-      walk = walk_again (length t.items.items) (call_at t.items.items) (empty t.kind) (reverse a.levels.items) (reverse (map g.S.SeqObject.content a.objects.items)) (g.S.SeqObject.content a.object) a.undone.next.items a.undone.before.items c.take_out.new.self.next.items c.take_out.new.self.before.items c.put_back.new.self.next.items c.put_back.new.self.before.items a.high a.at a.least a.left c.requires.search.walk c.requires.at c.take_out.ensures.next c.take_out.ensures.before c.put_back.ensures.next c.put_back.ensures.before;
+      walk = subst (λ x. IsWalk (length t.items.items) (call_at t.items.items) (empty t.kind) (reverse a.levels.items) (befores (reverse a.levels.items) x) x c.put_back.new.self.next.items c.put_back.new.self.before.items a.high a.at a.least a.left) (sym c.in_ok-undo.ensures) walk;
       dead = c.requires.search.dead;
     }
 
 pub pass-requires-clause-dead_at : goal.pass-requires-clause-dead_at
-pass-requires-clause-dead_at g c κs u =
+pass-requires-clause-dead_at c =
     let a = c.args.self.now in
     let t = c.args.trials.now in
+    let before = content_before a c.args.step in
     let h = c.holds.ensures c.if-holds.true in
-    let d : Pair g.row.S.Denot = record { hash = 0; high = 0; undone = a.undone.next; object = a.object } in
+    let d : Pair = record { hash = 0; high = 0; undone = a.undone.next; content = Whole a.object } in
     let q = h.2 d in
-    hit (length t.items.items) (call_at t.items.items) (empty t.kind) (reverse a.levels.items) (reverse (map g.S.SeqObject.content a.objects.items)) (g.S.SeqObject.content a.object) (g.S.SeqObject.content c.args.after) _ a.undone.next.items a.undone.before.items c.take_out.new.self.next.items a.high a.at a.least a.left _ _ _ c.args.gives
-    c.requires.search.walk c.requires.at c.requires.does c.take_out.ensures.next q.1 (omega (arith, c.max-high.ensures)) (omega (arith, c.max-high.ensures)) (c.requires.search.dead h.0 d h.1) q.0 q.2
+    let dead = hit (length t.items.items) (call_at t.items.items) (empty t.kind) (reverse a.levels.items) (befores (reverse a.levels.items) before) before (content_of a.object) _ a.undone.next.items a.undone.before.items c.take_out.new.self.next.items a.high a.at a.least a.left _ _ _ c.args.step.reply
+    c.requires.search.walk c.requires.at c.requires.does c.take_out.ensures.next q.1 (omega (arith, c.max-high.ensures)) (omega (arith, c.max-high.ensures)) (c.requires.search.dead h.0 d h.1) q.0 q.2 in
+    subst (λ x. IsDeadAt (length t.items.items) (call_at t.items.items) (places (reverse a.levels.items)) x a.at) (sym c.in_ok-undo.ensures) dead
 
 pub returns-then-self-eq0-clause-over : goal.returns-then-self-eq0-clause-over
-returns-then-self-eq0-clause-over g c u =
+returns-then-self-eq0-clause-over c u =
     let a = c.args.self.now in
     let t = c.args.trials.now in
-    let content = g.S.SeqObject.content in
+    let before = content_before a c.args.step in
     let w = c.requires.search.walk in
-    let lv : Level = record { place = a.at; least = a.least; high = a.high; digest = a.digest } in
+    let lv : Level = record { place = a.at; undo = c.args.step.undo; least = a.least; high = a.high; digest = a.digest } in
     let high = c.max-high.ensures in
-    let objects = map_push content c.push-2.new.self.items a.objects.items c.replace.result c.in_ok-push-2.ensures.items ∙ ap (λ x. map content a.objects.items ++ content x ∷ []) c.replace.ensures.value in
-    let stack = stepped (length t.items.items) (call_at t.items.items) (empty t.kind) a.levels.items c.push.new.self.items lv (map content a.objects.items) (map content c.push-2.new.self.items) (content a.object) (content c.args.after) a.undone.next.items a.undone.before.items c.take_out.new.self.next.items c.take_out.new.self.before.items a.high a.at a.least a.left c.max-high.result c.args.gives w c.requires.at c.requires.in_time c.requires.does c.requires.agrees (sym c.requires.of_kind) (omega arith) (omega arith) refl refl refl c.in_ok-push.ensures.items objects c.take_out.ensures.next c.take_out.ensures.before in
-    let owed = owed_less t.items.items c.index-item.result.now (empty t.kind) a.levels.items c.push.new.self.items lv (reverse (map content a.objects.items)) (content a.object) a.undone.next.items a.undone.before.items a.high a.at a.least a.left c.one_less-self.result w c.requires.at (ap as_call c.index-item.ensures ∙ call_read t.items.items a.at _ c.requires.at) refl c.in_ok-push.ensures.items c.one_less-self.ensures in
-    over_now (length t.items.items) (call_at t.items.items) (empty t.kind) c.push.new.self.items (reverse (map content c.push-2.new.self.items)) (content c.args.after) c.take_out.new.self.next.items c.take_out.new.self.before.items c.max-high.result c.one_less-self.result stack owed c.if-self-eq0.true
+    let more = befores_more a.levels.items c.push.new.self.items lv before (content_of a.object) c.in_ok-push.ensures.items refl in
+    let stack = stepped (length t.items.items) (call_at t.items.items) (empty t.kind) a.levels.items c.push.new.self.items lv (befores (reverse a.levels.items) before) (befores (reverse c.push.new.self.items) (content_of a.object)) before (content_of a.object) a.undone.next.items a.undone.before.items c.take_out.new.self.next.items c.take_out.new.self.before.items a.high a.at a.least a.left c.max-high.result c.args.step.reply w c.requires.at c.requires.in_time c.requires.does c.requires.agrees (omega arith) (omega arith) refl refl refl c.in_ok-push.ensures.items more c.take_out.ensures.next c.take_out.ensures.before in
+    let owed = owed_less t.items.items c.index-item.result.now (empty t.kind) a.levels.items c.push.new.self.items lv (befores (reverse a.levels.items) before) before a.undone.next.items a.undone.before.items a.high a.at a.least a.left c.one_less-self.result w c.requires.at (ap as_call c.index-item.ensures ∙ call_read t.items.items a.at _ c.requires.at) refl c.in_ok-push.ensures.items c.one_less-self.ensures in
+    over_now (length t.items.items) (call_at t.items.items) (empty t.kind) c.push.new.self.items (befores (reverse c.push.new.self.items) (content_of a.object)) (content_of a.object) c.take_out.new.self.next.items c.take_out.new.self.before.items c.max-high.result c.one_less-self.result stack owed c.if-self-eq0.true
 
 pub least_return-self-requires-clause-linked : goal.least_return-self-requires-clause-linked
-least_return-self-requires-clause-linked g c =
+least_return-self-requires-clause-linked c =
     let a = c.args.self.now in
     let t = c.args.trials.now in
-    (_, taken_out (length t.items.items) (call_at t.items.items) (empty t.kind) (reverse a.levels.items) (reverse (map g.S.SeqObject.content a.objects.items)) (g.S.SeqObject.content a.object) a.undone.next.items a.undone.before.items c.take_out.new.self.next.items c.take_out.new.self.before.items a.high a.at a.least a.left c.requires.search.walk c.requires.at c.take_out.ensures.next c.take_out.ensures.before)
+    (_, taken_out (length t.items.items) (call_at t.items.items) (empty t.kind) (reverse a.levels.items) (befores (reverse a.levels.items) (content_before a c.args.step)) (content_before a c.args.step) a.undone.next.items a.undone.before.items c.take_out.new.self.next.items c.take_out.new.self.before.items a.high a.at a.least a.left c.requires.search.walk c.requires.at c.take_out.ensures.next c.take_out.ensures.before)
 
 pub index-requires : goal.index-requires
-index-requires g c =
+index-requires c =
     let a = c.args.self.now in
     let t = c.args.trials.now in
-    let w = (without_within (length t.items.items) (call_at t.items.items) (empty t.kind) (reverse a.levels.items) (reverse (map g.S.SeqObject.content a.objects.items)) (g.S.SeqObject.content a.object) a.undone.next.items a.undone.before.items c.take_out.new.self.next.items c.take_out.new.self.before.items a.high a.at a.least a.left c.requires.search.walk c.requires.at c.take_out.ensures.next c.take_out.ensures.before).here_next in
+    let w = (without_within (length t.items.items) (call_at t.items.items) (empty t.kind) (reverse a.levels.items) (befores (reverse a.levels.items) (content_before a c.args.step)) (content_before a c.args.step) a.undone.next.items a.undone.before.items c.take_out.new.self.next.items c.take_out.new.self.before.items a.high a.at a.least a.left c.requires.search.walk c.requires.at c.take_out.ensures.next c.take_out.ensures.before).here_next in
     omega arith
 
 pub returns-clause-search : goal.returns-clause-search
-returns-clause-search g c u =
+returns-clause-search c u =
     let a = c.args.self.now in
     let t = c.args.trials.now in
-    let content = g.S.SeqObject.content in
+    let before = content_before a c.args.step in
     let w = c.requires.search.walk in
-    let lv : Level = record { place = a.at; least = a.least; high = a.high; digest = a.digest } in
+    let lv : Level = record { place = a.at; undo = c.args.step.undo; least = a.least; high = a.high; digest = a.digest } in
     let high = c.max-high.ensures in
-    let objects = map_push content c.push-2.new.self.items a.objects.items c.replace.result c.in_ok-push-2.ensures.items ∙ ap (λ x. map content a.objects.items ++ content x ∷ []) c.replace.ensures.value in
-    let stack = stepped (length t.items.items) (call_at t.items.items) (empty t.kind) a.levels.items c.push.new.self.items lv (map content a.objects.items) (map content c.push-2.new.self.items) (content a.object) (content c.args.after) a.undone.next.items a.undone.before.items c.take_out.new.self.next.items c.take_out.new.self.before.items a.high a.at a.least a.left c.max-high.result c.args.gives w c.requires.at c.requires.in_time c.requires.does c.requires.agrees (sym c.requires.of_kind) (omega arith) (omega arith) refl refl refl c.in_ok-push.ensures.items objects c.take_out.ensures.next c.take_out.ensures.before in
-    let owed = owed_less t.items.items c.index-item.result.now (empty t.kind) a.levels.items c.push.new.self.items lv (reverse (map content a.objects.items)) (content a.object) a.undone.next.items a.undone.before.items a.high a.at a.least a.left c.one_less-self.result w c.requires.at (ap as_call c.index-item.ensures ∙ call_read t.items.items a.at _ c.requires.at) refl c.in_ok-push.ensures.items c.one_less-self.ensures in
-    let room = (without_within (length t.items.items) (call_at t.items.items) (empty t.kind) (reverse a.levels.items) (reverse (map content a.objects.items)) (content a.object) a.undone.next.items a.undone.before.items c.take_out.new.self.next.items c.take_out.new.self.before.items a.high a.at a.least a.left w c.requires.at c.take_out.ensures.next c.take_out.ensures.before).here_next in
+    let more = befores_more a.levels.items c.push.new.self.items lv before (content_of a.object) c.in_ok-push.ensures.items refl in
+    let stack = stepped (length t.items.items) (call_at t.items.items) (empty t.kind) a.levels.items c.push.new.self.items lv (befores (reverse a.levels.items) before) (befores (reverse c.push.new.self.items) (content_of a.object)) before (content_of a.object) a.undone.next.items a.undone.before.items c.take_out.new.self.next.items c.take_out.new.self.before.items a.high a.at a.least a.left c.max-high.result c.args.step.reply w c.requires.at c.requires.in_time c.requires.does c.requires.agrees (omega arith) (omega arith) refl refl refl c.in_ok-push.ensures.items more c.take_out.ensures.next c.take_out.ensures.before in
+    let owed = owed_less t.items.items c.index-item.result.now (empty t.kind) a.levels.items c.push.new.self.items lv (befores (reverse a.levels.items) before) before a.undone.next.items a.undone.before.items a.high a.at a.least a.left c.one_less-self.result w c.requires.at (ap as_call c.index-item.ensures ∙ call_read t.items.items a.at _ c.requires.at) refl c.in_ok-push.ensures.items c.one_less-self.ensures in
+    let room = (without_within (length t.items.items) (call_at t.items.items) (empty t.kind) (reverse a.levels.items) (befores (reverse a.levels.items) before) before a.undone.next.items a.undone.before.items c.take_out.new.self.next.items c.take_out.new.self.before.items a.high a.at a.least a.left w c.requires.at c.take_out.ensures.next c.take_out.ensures.before).here_next in
     let first = c.index.ensures ∙ get_or_default c.take_out.new.self.next.items 0 _ 0 (omega arith) in
-    let walk = onward (length t.items.items) (call_at t.items.items) (empty t.kind) (reverse c.push.new.self.items) (reverse (map content c.push-2.new.self.items)) (content c.args.after) c.take_out.new.self.next.items c.take_out.new.self.before.items c.max-high.result c.index.result.now c.least_return-self.result c.one_less-self.result stack first c.least_return-self.ensures owed c.if-self-eq0.false in
     record {
-      walk = subst (λ x. IsWalk (length t.items.items) (call_at t.items.items) (empty t.kind) (reverse c.push.new.self.items) (reverse (map content c.push-2.new.self.items)) x c.take_out.new.self.next.items c.take_out.new.self.before.items c.max-high.result c.index.result.now c.least_return-self.result c.one_less-self.result) (sym (ap content c.replace.ensures.after)) walk;
+      walk = onward (length t.items.items) (call_at t.items.items) (empty t.kind) (reverse c.push.new.self.items) (befores (reverse c.push.new.self.items) (content_of a.object)) (content_of a.object) c.take_out.new.self.next.items c.take_out.new.self.before.items c.max-high.result c.index.result.now c.least_return-self.result c.one_less-self.result stack first c.least_return-self.ensures owed c.if-self-eq0.false;
       dead = c.requires.search.dead;
     }

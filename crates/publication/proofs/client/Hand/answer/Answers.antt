@@ -1,6 +1,8 @@
-use Rattle.std.proofs.Common.{◌≡◌, ◌+◌, ◌-◌, ◌<◌, length, vec_len, vec_capacity, rules, arith, sym, ap, subst, ◌∙◌}
+use Rattle.std.proofs.Common.{map, ◌≡◌, ◌+◌, ◌-◌, ◌<◌, length, vec_len, vec_capacity, rules, arith, sym, ap, subst, ◌∙◌}
 use Rattle.world.specs.World.{logged}
 use Rattle.world.specs.Images.{answer_in}
+use Rattle.roster.specs.Calls.{PlaceSeen}
+use Rattle.publication.proofs.Dealing.{own_still}
 use Rattle.publication.specs.Handles.{Handling}
 use Rattle.desk_rule.proofs.Rows.{answers_it}
 use Rattle.publication.proofs.Holds.{answer_ready, room_taken, core_grows, answered_ok}
@@ -8,10 +10,10 @@ use Rattle.publication.proofs.Said.{may_serve, answered}
 use Rattle.publication.proofs.client.Hand.answer.Goals as goal
 
 pub serve-answer-requires-after_bounds : goal.serve-answer-requires-after_bounds
-serve-answer-requires-after_bounds g c = λ κs bounds. may_serve c.args.self _ _ (sym c.self.view_is) c.self.invariant.fits.1 c.requires.possible
+serve-answer-requires-after_bounds g c = λ κs bounds. may_serve c.args.self _ _ (sym c.self.view_is) c.self.invariant.0.fits.1 c.requires.possible
 
 pub store-requires : goal.store-requires
-store-requires g c = let h = c.self.invariant in let low = h.row_low in let wide = c.desk.invariant.0.0 in let e = c.serve-answer.ensures in
+store-requires g c = let h = c.self.invariant.0 in let low = h.row_low in let wide = c.desk.invariant.0.0 in let e = c.serve-answer.ensures in
     let r = answer_ready g.S.SeqObject.content g.S.SeqObject.op_in g.S.SeqObject.reply_in _ _ _ _ _ _ c.self.inside.core c.serve-answer.new.core _ c.self.inside.request c.serve-answer.result _ _ h c.exchange.ensures.3 e.log e.content in (
       search rules,
       omega arith,
@@ -19,23 +21,25 @@ store-requires g c = let h = c.self.invariant in let low = h.row_low in let wide
     )
 
 pub invariant_of-result : goal.invariant_of-result
-invariant_of-result g c = let h = c.self.invariant in let e = c.serve-answer.ensures in
+invariant_of-result g c = let h = c.self.invariant.0 in let e = c.serve-answer.ensures in
     let r = answer_ready g.S.SeqObject.content g.S.SeqObject.op_in g.S.SeqObject.reply_in _ _ _ _ _ _ c.self.inside.core c.serve-answer.new.core _ c.self.inside.request c.serve-answer.result _ _ h c.exchange.ensures.3 e.log e.content in
-    answered_ok g.S.SeqObject.content g.S.SeqObject.op_in g.S.SeqObject.reply_in _ _ _ _ _ _ _ c.self.inside.core c.serve-answer.new.core c.self.inside.request c.serve-answer.result _ _ _ h
-    (core_grows g.S.SeqObject.content g.S.SeqObject.op_in g.S.SeqObject.reply_in _ _ c.self.inside.core c.serve-answer.new.core c.self.inside.request c.serve-answer.result h.fits e.log e.content) e.log c.exchange.ensures.3
-    (c.store.ensures.2 _ _ _ _ _ _ _ r.1 r.2)
+    let t = c.store.ensures.2 _ _ _ _ _ _ _ r.1 r.2 in (
+      answered_ok g.S.SeqObject.content g.S.SeqObject.op_in g.S.SeqObject.reply_in _ _ _ _ _ _ _ c.self.inside.core c.serve-answer.new.core c.self.inside.request c.serve-answer.result _ _ _ h
+          (core_grows g.S.SeqObject.content g.S.SeqObject.op_in g.S.SeqObject.reply_in _ _ _ c.self.inside.core c.serve-answer.new.core c.self.inside.request c.serve-answer.result e.state.1 h.fits e.log e.content) e.log c.exchange.ensures.3 t,
+      own_still _ _ _ _ (ap (λ m. m.0.lists) t ∙ ap (λ m. m.0.lists) c.exchange.ensures.3) c.self.invariant.1,
+    )
 
 pub returns-clause-answered : goal.returns-clause-answered
-returns-clause-answered g c = let h = c.self.invariant in let e = c.serve-answer.ensures in
+returns-clause-answered g c = let h = c.self.invariant.0 in let e = c.serve-answer.ensures in
     let r = answer_ready g.S.SeqObject.content g.S.SeqObject.op_in g.S.SeqObject.reply_in _ _ _ _ _ _ c.self.inside.core c.serve-answer.new.core _ c.self.inside.request c.serve-answer.result _ _ h c.exchange.ensures.3 e.log e.content in
-    let fits = core_grows g.S.SeqObject.content g.S.SeqObject.op_in g.S.SeqObject.reply_in _ _ c.self.inside.core c.serve-answer.new.core c.self.inside.request c.serve-answer.result h.fits e.log e.content in
+    let fits = core_grows g.S.SeqObject.content g.S.SeqObject.op_in g.S.SeqObject.reply_in _ _ _ c.self.inside.core c.serve-answer.new.core c.self.inside.request c.serve-answer.result e.state.1 h.fits e.log e.content in
     answered c.args.self _ _ _ _ _ _ _ _ _ _ (sym c.self.view_is) c.exchange.ensures.3 (c.store.ensures.2 _ _ _ _ _ _ _ r.1 r.2) e.log (_, fits.1)
 
 pub returns-clause-desk : goal.returns-clause-desk
-returns-clause-desk g c = let h = c.self.invariant in let e = c.serve-answer.ensures in
+returns-clause-desk g c = let h = c.self.invariant.0 in let e = c.serve-answer.ensures in
     let r = answer_ready g.S.SeqObject.content g.S.SeqObject.op_in g.S.SeqObject.reply_in _ _ _ _ _ _ c.self.inside.core c.serve-answer.new.core _ c.self.inside.request c.serve-answer.result _ _ h c.exchange.ensures.3 e.log e.content in
     let kinds : c.store.new.seat.me.0.kinds ≡ c.self.inside.member.seat.me.0.kinds = ap (λ m. m.0.kinds) (c.store.ensures.2 _ _ _ _ _ _ _ r.1 r.2) ∙ ap (λ m. m.0.kinds) c.exchange.ensures.3 in
-    (λ i. record { table = (c.store.ensures.0 ∙ c.exchange.ensures.0) i; quota = c.self.inside.member.quota; kinds = kinds i }) ∙ ap (λ k. k.desk) c.self.view_is
+    (λ i. record { table = (c.store.ensures.0 ∙ c.exchange.ensures.0) i; quota = c.self.inside.member.quota; kinds = kinds i; lists = map (λ (p : PlaceSeen). p.roster) c.self.inside.member.places }) ∙ ap (λ k. k.desk) c.self.view_is
 
 pub returns-clause-room : goal.returns-clause-room
 returns-clause-room g c = let e = c.serve-answer.ensures in

@@ -3,6 +3,7 @@ use Rattle.world.specs.World.{kind_at, IsLegal, StartsWith}
 use Rattle.desk_rule.specs.declared.board.View.{View}
 use Rattle.desk_rule.specs.Views.{seen_of, heard_of, seeing, hearing, IsAtRest, IsAccount}
 use Rattle.desk_rule.proofs.Meets.{tells, hears, learns_it, adopts_it, told_back, begins_there}
+use Rattle.publication.proofs.Dealing.{own_still}
 use Rattle.publication.proofs.Encounters.{met_ok, met}
 use Rattle.publication.proofs.desk.Desk.meet.Goals as goal
 
@@ -14,7 +15,7 @@ join_seat-requires g c = let wide = c.self.invariant.0.0 in (search rules, searc
 
 pub load-requires : goal.load-requires
 load-requires g c = let d = c.self.invariant.0 in let wide = d.0 in let few = d.5 in let low : c.args.object < length c.self.inside.kinds.items = search rules in
-    let e = c.join_seat.ensures.2 in let k = c.one.invariant.agrees in
+    let e = c.join_seat.ensures.2 in let k = c.one.invariant.0.agrees in
     (search rules, omega arith, learns_it _ _ _ _ _ _ _ _ _ _ (ap (λ z. z.0.client) e ∙ k.client_is) (omega arith) (subst (λ (v : View). IsAtRest v.own) (sym (ap (λ z. z.0) e)) k.at_rest))
 
 pub split_seat-letter-requires-2 : goal.split_seat-letter-requires-2
@@ -25,7 +26,7 @@ join_seat-requires-2 g c = let wide = c.self.invariant.0.0 in (search rules, sea
 
 pub load-requires-2 : goal.load-requires-2
 load-requires-2 g c = let d = c.self.invariant.0 in let wide = d.0 in let few = d.5 in let low : c.args.object < length c.self.inside.kinds.items = search rules in let low' : c.args.object < 16 = omega arith in
-    let t = c.load.ensures.2 in let k = c.other.invariant.agrees in
+    let t = c.load.ensures.2 in let k = c.other.invariant.0.agrees in
     let heard = ap (λ z. z.0) c.join_seat.ensures.2 ∙ ap (λ z. hearing c.one.inside.member.seat.me.0 z.0) c.split_seat-letter.ensures.4 in
     let back = ap (λ z. z.0) c.join_seat-2.ensures.2 ∙ ((λ i. hearing (c.split_seat-letter.ensures.2 i).0 (c.split_seat-letter-2.ensures.4 i).0)) in
     let is = told_back c.args.object c.one.inside.member.seat.me.0 c.other.inside.member.seat.me.0 c.join_seat.new.seat.me.0 c.load.new.seat.me.0 c.join_seat-2.new.seat.me.0 t.0 low' heard (ap (λ z. z.0) t.1) t.5 back in (
@@ -40,10 +41,12 @@ load-requires-2 g c = let d = c.self.invariant.0 in let wide = d.0 in let few = 
 pub invariant_of-result : goal.invariant_of-result
 invariant_of-result g c = let d = c.self.invariant.0 in let few = d.5 in let low : c.args.object < length c.self.inside.kinds.items = search rules in let low' : c.args.object < 16 = omega arith in
     let x : ℕ = c.args.object in let t = c.load.ensures.2 in
-    let first = c.split_seat-letter-2.ensures.2 ∙ (t.1 ∙ ap (λ z. (seeing x t.0 z.0, z.1)) c.join_seat.ensures.2) in
-    met_ok g.S.SeqObject.op_in g.S.SeqObject.reply_in _ _ _ _ _ x t.0 c.split_seat-letter.result.me.0.seen c.one.inside.member.seat.me _ c.one.invariant low'
-    (subst (λ (v : View). IsLegal (kind_at v.kinds x) t.0) (ap (λ z. z.0) c.join_seat.ensures.2) t.2)
-    (subst (λ (v : View). IsAccount x v t.0) (ap (λ z. z.0) c.join_seat.ensures.2) t.6) first
+    let first = c.split_seat-letter-2.ensures.2 ∙ (t.1 ∙ ap (λ z. (seeing x t.0 z.0, z.1)) c.join_seat.ensures.2) in (
+      met_ok g.S.SeqObject.op_in g.S.SeqObject.reply_in _ _ _ _ _ x t.0 c.split_seat-letter.result.me.0.seen c.one.inside.member.seat.me _ c.one.invariant.0 low'
+          (subst (λ (v : View). IsLegal (kind_at v.kinds x) t.0) (ap (λ z. z.0) c.join_seat.ensures.2) t.2)
+          (subst (λ (v : View). IsAccount x v t.0) (ap (λ z. z.0) c.join_seat.ensures.2) t.6) first,
+      own_still _ _ _ _ (ap (λ m. m.0.lists) first) c.one.invariant.1,
+    )
 
 pub invariant_of-result-2 : goal.invariant_of-result-2
 invariant_of-result-2 g c = let d = c.self.invariant.0 in let few = d.5 in let low : c.args.object < length c.self.inside.kinds.items = search rules in let low' : c.args.object < 16 = omega arith in
@@ -52,13 +55,15 @@ invariant_of-result-2 g c = let d = c.self.invariant.0 in let few = d.5 in let l
     let back = ap (λ z. z.0) c.join_seat-2.ensures.2 ∙ ((λ i. hearing (c.split_seat-letter.ensures.2 i).0 (c.split_seat-letter-2.ensures.4 i).0)) in
     let is = told_back x c.one.inside.member.seat.me.0 c.other.inside.member.seat.me.0 c.join_seat.new.seat.me.0 c.load.new.seat.me.0 c.join_seat-2.new.seat.me.0 t.0 low' heard (ap (λ z. z.0) t.1) t.5 back in
     let whole = c.join_seat-2.ensures.2 ∙ ap (λ z. (hearing z.0 c.split_seat-letter-2.result.me.0, z.1)) c.split_seat-letter.ensures.2 in
-    let u = c.load-2.ensures.2 in let second = u.0 ∙ (λ i. (seeing x (is i) (whole i).0, (whole i).1)) in
-    met_ok g.S.SeqObject.op_in g.S.SeqObject.reply_in _ _ _ _ _ x t.0 c.split_seat-letter-2.result.me.0.seen c.other.inside.member.seat.me _ c.other.invariant low'
-    (subst (λ l. IsLegal (kind_at c.other.inside.member.seat.me.0.kinds x) l) is (subst (λ (v : View). IsLegal (kind_at v.kinds x) (heard_of c.join_seat-2.new.seat.me.0 x)) (ap (λ z. z.0) whole) u.1))
-    (subst (λ l. IsAccount x (hearing c.other.inside.member.seat.me.0 c.split_seat-letter-2.result.me.0) l) is (subst (λ (v : View). IsAccount x v (heard_of c.join_seat-2.new.seat.me.0 x)) (ap (λ z. z.0) whole) u.2)) second
+    let u = c.load-2.ensures.2 in let second = u.0 ∙ (λ i. (seeing x (is i) (whole i).0, (whole i).1)) in (
+      met_ok g.S.SeqObject.op_in g.S.SeqObject.reply_in _ _ _ _ _ x t.0 c.split_seat-letter-2.result.me.0.seen c.other.inside.member.seat.me _ c.other.invariant.0 low'
+          (subst (λ l. IsLegal (kind_at c.other.inside.member.seat.me.0.kinds x) l) is (subst (λ (v : View). IsLegal (kind_at v.kinds x) (heard_of c.join_seat-2.new.seat.me.0 x)) (ap (λ z. z.0) whole) u.1))
+          (subst (λ l. IsAccount x (hearing c.other.inside.member.seat.me.0 c.split_seat-letter-2.result.me.0) l) is (subst (λ (v : View). IsAccount x v (heard_of c.join_seat-2.new.seat.me.0 x)) (ap (λ z. z.0) whole) u.2)) second,
+      own_still _ _ _ _ (ap (λ m. m.0.lists) second) c.other.invariant.1,
+    )
 
 pub returns-clause-met : goal.returns-clause-met
-returns-clause-met g c = let wide = c.one.invariant.agrees.wide in let wide' = c.other.invariant.agrees.wide in let d = c.self.invariant.0 in let few = d.5 in let low : c.args.object < length c.self.inside.kinds.items = search rules in let low' : c.args.object < 16 = omega arith in
+returns-clause-met g c = let wide = c.one.invariant.0.agrees.wide in let wide' = c.other.invariant.0.agrees.wide in let d = c.self.invariant.0 in let few = d.5 in let low : c.args.object < length c.self.inside.kinds.items = search rules in let low' : c.args.object < 16 = omega arith in
     let x : ℕ = c.args.object in let t = c.load.ensures.2 in
     let first = c.split_seat-letter-2.ensures.2 ∙ (t.1 ∙ ap (λ z. (seeing x t.0 z.0, z.1)) c.join_seat.ensures.2) in
     let heard = ap (λ z. z.0) c.join_seat.ensures.2 ∙ ap (λ z. hearing c.one.inside.member.seat.me.0 z.0) c.split_seat-letter.ensures.4 in

@@ -1,34 +1,37 @@
-use Rattle.std.proofs.Common.{rules, arith, ◌≡◌, ◌<◌, ◌+◌, List, length, refl, sym, ap, ◌∙◌, subst}
+use Rattle.std.proofs.Common.{map, rules, arith, ◌≡◌, ◌<◌, ◌+◌, List, length, refl, sym, ap, ◌∙◌, subst}
 use Rattle.model.specs.declared.Kind.{Kind}
 use Rattle.world.specs.World.{kind_at, calls_made}
-use Rattle.desk_rule.specs.Views.{own_request}
+use Rattle.roster.specs.Calls.{PlaceSeen}
+use Rattle.desk_rule.specs.Views.{own_request, is_waiting}
+use Rattle.publication.specs.Handles.{Known}
 use Rattle.desk_rule.proofs.Calls.{draws_it, posts_it}
+use Rattle.publication.proofs.Dealing.{own_still}
 use Rattle.publication.proofs.Slots.{can_exchange}
 use Rattle.publication.proofs.Turns.{own_idle, outstanding_is, post_turn, post_ok, posted, room_to_call}
 use Rattle.publication.proofs.desk.Desk.post.Goals as goal
 
 pub fetch_add-ticket-requires : goal.fetch_add-ticket-requires
-fetch_add-ticket-requires g c = let k = outstanding_is c.if-member.false c.client.invariant in
+fetch_add-ticket-requires g c = let may = c.in_default.ensures.may in let k = outstanding_is (c.client.invariant.0.agrees.outstanding_is ∙ (ap (λ z. is_waiting z.knows.own) c.client.view_is ∙ may.0)) c.client.invariant.0 in
     let is = own_idle _ k.agrees.at_rest (sym k.agrees.outstanding_is) in
-    let d = c.self.invariant.0 in let wide = d.0 in let e = c.exchange.ensures.3 in let ok = c.in_default.ensures.ok in
+    let d = c.self.invariant.0 in let wide = d.0 in let e = c.exchange.ensures.3 in let ok = c.in_default.ensures.there in
     let kinds = sym (ap (λ v. v.id.kinds) c.self.view_is) ∙ sym d.2 in
     let on : c.args.object < length c.self.inside.table.shared.key.kinds.items = subst (λ (ks : List Kind). c.args.object < length ks) kinds ok.0 in
-    let fits = sym c.kind_of.ensures ∙ (ok.1 ∙ ap (λ (ks : List Kind). kind_at ks c.args.object) kinds) in
+    let fits = (ok.1 ∙ ap (λ (ks : List Kind). kind_at ks c.args.object) kinds) in
     let quota : c.client.inside.member.quota ≡ c.self.inside.table.shared.key.quota = ap (λ v. v.desk.quota) c.client.view_is ∙ (ap (λ z. z.quota) c.requires ∙ (sym (ap (λ v. v.id.quota) c.self.view_is) ∙ sym d.4)) in
-    let few : c.client.inside.member.calls < c.client.inside.member.quota = search rules in
+    let count = k.agrees.calls_is in let left : calls_made c.client.inside.member.seat.me.0.done (own_request c.client.inside.member.seat.me.0.own) < c.client.inside.member.quota = subst (λ (z : Known). calls_made z.knows.done (own_request z.knows.own) < z.desk.quota) (sym c.client.view_is) may.1 in let few : c.client.inside.member.calls < c.client.inside.member.quota = omega arith in
     let done : length c.exchange.new.seat.me.0.done ≡ length c.client.inside.member.seat.me.0.done = ap (λ z. length z.0.done) e in
     let calls : c.client.inside.member.calls ≡ length c.client.inside.member.seat.me.0.done + 0 = k.agrees.calls_is ∙ ap (λ o. calls_made c.client.inside.member.seat.me.0.done (own_request o)) is in
     let count : length c.exchange.new.seat.me.0.done < c.self.inside.table.shared.key.quota = omega arith in (
       search rules,
       omega arith,
-      draws_it _ _ _ _ _ _ _ _ _ _ _ _ (ap (λ z. z.0.client) e ∙ k.agrees.client_is) (ap (λ z. z.0.own) e ∙ is) (ap (λ z. z.0.held) e ∙ k.free) (ap (λ z. z.0.ended) e ∙ k.agrees.going) (ap (λ z. z.1) e) on fits count,
+      draws_it _ _ _ _ _ _ _ _ _ _ _ _ (ap (λ z. z.0.client) e ∙ k.agrees.client_is) (ap (λ z. z.0.own) e ∙ is) (ap (λ z. z.0.ended) e ∙ k.agrees.going) (ap (λ z. z.1) e) on fits count,
     )
 
 pub exchange-requires-2 : goal.exchange-requires-2
 exchange-requires-2 g c = let e = c.exchange.ensures.3 in (search rules, can_exchange _ _ _ _ (ap (λ z. z.1) (c.fetch_add-ticket.ensures.2 _ _ _ (ap (λ z. z.1) e)) ∙ ap (λ z. z.1) e))
 
 pub store-requires : goal.store-requires
-store-requires g c = let k = outstanding_is c.if-member.false c.client.invariant in
+store-requires g c = let may = c.in_default.ensures.may in let k = outstanding_is (c.client.invariant.0.agrees.outstanding_is ∙ (ap (λ z. is_waiting z.knows.own) c.client.view_is ∙ may.0)) c.client.invariant.0 in
     let is = own_idle _ k.agrees.at_rest (sym k.agrees.outstanding_is) in
     let wide = c.self.invariant.0.0 in let low = k.agrees.number_low in let e = c.exchange.ensures.3 in let f = c.fetch_add-ticket.ensures.2 _ _ _ (ap (λ z. z.1) e) in let h = c.exchange-2.ensures.3 in (
       search rules,
@@ -38,20 +41,23 @@ store-requires g c = let k = outstanding_is c.if-member.false c.client.invariant
     )
 
 pub push_reserved-requires : goal.push_reserved-requires
-push_reserved-requires g c = let k = outstanding_is c.if-member.false c.client.invariant in
+push_reserved-requires g c = let may = c.in_default.ensures.may in let k = outstanding_is (c.client.invariant.0.agrees.outstanding_is ∙ (ap (λ z. is_waiting z.knows.own) c.client.view_is ∙ may.0)) c.client.invariant.0 in
     let is = own_idle _ k.agrees.at_rest (sym k.agrees.outstanding_is) in
-    room_to_call g.S.SeqObject.op_in g.S.SeqObject.reply_in _ _ _ c.client.inside.member.journal _ k.agrees (search rules)
+    let count = k.agrees.calls_is in let left : calls_made c.client.inside.member.seat.me.0.done (own_request c.client.inside.member.seat.me.0.own) < c.client.inside.member.quota = subst (λ (z : Known). calls_made z.knows.done (own_request z.knows.own) < z.desk.quota) (sym c.client.view_is) may.1 in
+    room_to_call g.S.SeqObject.op_in g.S.SeqObject.reply_in _ _ _ c.client.inside.member.journal _ k.agrees (omega arith)
 
-pub invariant_of-client-2 : goal.invariant_of-client-2
-invariant_of-client-2 g c = let k = outstanding_is c.if-member.false c.client.invariant in
+pub invariant_of-client : goal.invariant_of-client
+invariant_of-client g c = let may = c.in_default.ensures.may in let k = outstanding_is (c.client.invariant.0.agrees.outstanding_is ∙ (ap (λ z. is_waiting z.knows.own) c.client.view_is ∙ may.0)) c.client.invariant.0 in
     let is = own_idle _ k.agrees.at_rest (sym k.agrees.outstanding_is) in
-    let e = c.exchange.ensures.3 in let f = c.fetch_add-ticket.ensures.2 _ _ _ (ap (λ z. z.1) e) in let h = c.exchange-2.ensures.3 in let p = c.push_reserved.ensures in let few = c.self.invariant.0.5 in let ok = c.in_default.ensures.ok in
+    let e = c.exchange.ensures.3 in let f = c.fetch_add-ticket.ensures.2 _ _ _ (ap (λ z. z.1) e) in let h = c.exchange-2.ensures.3 in let p = c.push_reserved.ensures in let few = c.self.invariant.0.5 in let ok = c.in_default.ensures.there in
     let turn = post_turn g.S.SeqObject.op_in g.S.SeqObject.reply_in _ _ _ _ _ (record { object = c.args.object; ticket = c.fetch_add-ticket.result; op = c.args.op }) _ _ _ _ _ k e f h (c.store.ensures.2 _ (ap (λ z. z.0.own) h ∙ ap (λ z. z.0.own) f)) in
-    let low : c.args.object < length c.self.inside.kinds.items = search rules in
-    post_ok g.S.SeqObject.op_in g.S.SeqObject.reply_in _ _ _ c.client.inside.member.journal _ _ _ _ k turn (omega arith) (search rules) p.items p.capacity
+    let low : c.args.object < length c.self.inside.kinds.items = search rules in (
+      post_ok g.S.SeqObject.op_in g.S.SeqObject.reply_in _ _ _ c.client.inside.member.journal _ _ _ _ k turn (omega arith) (let count = k.agrees.calls_is in let left : calls_made c.client.inside.member.seat.me.0.done (own_request c.client.inside.member.seat.me.0.own) < c.client.inside.member.quota = subst (λ (z : Known). calls_made z.knows.done (own_request z.knows.own) < z.desk.quota) (sym c.client.view_is) may.1 in omega arith) p.items p.capacity,
+      own_still _ _ _ _ (ap (λ m. m.0.lists) turn) c.client.invariant.1,
+    )
 
 pub returns-clause-posted : goal.returns-clause-posted
-returns-clause-posted g c = let k = outstanding_is c.if-member.false c.client.invariant in
+returns-clause-posted g c = let may = c.in_default.ensures.may in let k = outstanding_is (c.client.invariant.0.agrees.outstanding_is ∙ (ap (λ z. is_waiting z.knows.own) c.client.view_is ∙ may.0)) c.client.invariant.0 in
     let is = own_idle _ k.agrees.at_rest (sym k.agrees.outstanding_is) in
     let e = c.exchange.ensures.3 in let f = c.fetch_add-ticket.ensures.2 _ _ _ (ap (λ z. z.1) e) in let h = c.exchange-2.ensures.3 in
     let turn = post_turn g.S.SeqObject.op_in g.S.SeqObject.reply_in _ _ _ _ _ (record { object = c.args.object; ticket = c.fetch_add-ticket.result; op = c.args.op }) _ _ _ _ _ k e f h (c.store.ensures.2 _ (ap (λ z. z.0.own) h ∙ ap (λ z. z.0.own) f)) in
@@ -60,4 +66,4 @@ returns-clause-posted g c = let k = outstanding_is c.if-member.false c.client.in
 pub returns-clause-desk : goal.returns-clause-desk
 returns-clause-desk g c = let e = c.exchange.ensures.3 in let f = c.fetch_add-ticket.ensures.2 _ _ _ (ap (λ z. z.1) e) in let h = c.exchange-2.ensures.3 in let d = c.store.ensures.2 _ (ap (λ z. z.0.own) h ∙ ap (λ z. z.0.own) f) in
     let kinds : c.store.new.seat.me.0.kinds ≡ c.client.inside.member.seat.me.0.kinds = ap (λ m. m.0.kinds) d ∙ (ap (λ m. m.0.kinds) h ∙ (ap (λ m. m.0.kinds) f ∙ ap (λ m. m.0.kinds) e)) in
-    (λ i. record { table = (c.store.ensures.0 ∙ (c.exchange-2.ensures.0 ∙ (c.fetch_add-ticket.ensures.0 ∙ c.exchange.ensures.0))) i; quota = c.client.inside.member.quota; kinds = kinds i }) ∙ ap (λ k. k.desk) c.client.view_is
+    (λ i. record { table = (c.store.ensures.0 ∙ (c.exchange-2.ensures.0 ∙ (c.fetch_add-ticket.ensures.0 ∙ c.exchange.ensures.0))) i; quota = c.client.inside.member.quota; kinds = kinds i; lists = map (λ (p : PlaceSeen). p.roster) c.client.inside.member.places }) ∙ ap (λ k. k.desk) c.client.view_is

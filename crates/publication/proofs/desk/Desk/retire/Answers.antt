@@ -6,7 +6,7 @@ use Rattle.desk_rule.proofs.Farewells.{bids_farewell}
 use Rattle.publication.proofs.desk.Desk.retire.Goals as goal
 
 pub store-requires : goal.store-requires
-store-requires g c = let d = c.self.invariant.0 in let wide = d.0 in let k = c.client.invariant in let low = k.agrees.number_low in let e = c.exchange.ensures in let t = c.turn.ensures in
+store-requires g c = let d = c.self.invariant.0 in let wide = d.0 in let k = c.client.invariant.0 in let low = k.agrees.number_low in let e = c.exchange.ensures in let t = c.turn.ensures in
     let same = ap (λ m. m.0) e.3 ∙ ap (λ m. m.0) t.2 in
     let calm = subst (λ (v : View). IsAtRest v.own) (sym same) k.agrees.at_rest in (
       e.0 ∙ (t.0 ∙ (ap (λ k. k.desk.table) c.client.view_is ∙ (ap (λ s. s.table) c.requires ∙ sym (ap (λ s. s.id.table) c.self.view_is)))),
@@ -16,7 +16,7 @@ store-requires g c = let d = c.self.invariant.0 in let wide = d.0 in let k = c.c
     )
 
 pub split_seat-requires : goal.split_seat-requires
-split_seat-requires g c = let d = c.self.invariant.0 in let wide = d.0 in let k = c.client.invariant in
+split_seat-requires g c = let d = c.self.invariant.0 in let wide = d.0 in let k = c.client.invariant.0 in
     let same = ap (λ m. m.0) c.store.ensures.2 ∙ ap (λ m. ending m.0) c.exchange.ensures.3 ∙ ap (λ m. ending m.0) c.turn.ensures.2 in (
       search rules,
       omega arith,
@@ -24,7 +24,7 @@ split_seat-requires g c = let d = c.self.invariant.0 in let wide = d.0 in let k 
     )
 
 pub returns : goal.returns
-returns g c = let k = c.client.invariant in let s = c.split_seat.ensures in
+returns g c = let k = c.client.invariant.0 in let s = c.split_seat.ensures in
     let same = ap (λ m. m.0) c.store.ensures.2 ∙ ap (λ m. ending m.0) c.exchange.ensures.3 ∙ ap (λ m. ending m.0) c.turn.ensures.2 in
     let table = s.3 ∙ (c.store.ensures.0 ∙ (c.exchange.ensures.0 ∙ (c.turn.ensures.0 ∙ ap (λ k. k.desk.table) c.client.view_is))) in
     let left = ap (λ m. m.0.left) s.4 ∙ (ap (λ v. leaving v ∷ []) same ∙ ap (λ k. leaving k.knows ∷ []) c.client.view_is) in

@@ -27,7 +27,7 @@ pub returns-clause-grown : goal.returns-clause-grown
 returns-clause-grown c =
     let none = c.in_default.ensures.cases in
     let a = long c.loop-place.places in
-    let id = ap (λ r. r.id) c.in_ok-shared.ensures.ok ∙ sym (ap (λ w. w.roster) c.in_ok-roster.ensures.walker) in
+    let id = ap (λ r. r.id) (sym c.in_ok-try_clone.ensures) in
     subst (λ z. AreGrown z c.args.owners.now.items c.loop-place.owners.items) id (all_grown _ (length c.loop-place.places.items) _ _ (omega arith) c.loop-place.invariant.2)
 
 pub invariant_of-push_reserved : goal.invariant_of-push_reserved

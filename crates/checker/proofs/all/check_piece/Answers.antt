@@ -1,0 +1,38 @@
+use Rattle.std.proofs.Common.{ap, sym, ◌∙◌, ◌≡◌, Some, None}
+use Rattle.std.specs.BTreeMap.{get}
+use Rattle.std.specs.Ordering.{nat_cmp}
+use Rattle.events.specs.Operations.{calls_of}
+use Rattle.certificate.specs.declared.Certificate.{Certificate}
+use Rattle.checker.proofs.Certificates.{fine_here, refused_here, no_certificate}
+use Rattle.checker.proofs.all.check_piece.Goals as goal
+
+pub bounds-certificates-place : goal.bounds-certificates-place
+bounds-certificates-place c =
+    let at : get nat_cmp c.args.places.now c.args.object.now.object ≡ Some c.in-Some.place = ap (get nat_cmp c.args.places.now) (sym c.object.ensures) ∙ (sym c.get.ensures.value ∙ (sym c.copied.ensures ∙ c.in-Some.is)) in
+    (c.requires.places c.args.object.now.object c.in-Some.place at).inside
+
+pub check_object-requires : goal.check_object-requires
+check_object-requires c =
+    let at : get nat_cmp c.args.places.now c.args.object.now.object ≡ Some c.in-Some.place = ap (get nat_cmp c.args.places.now) (sym c.object.ensures) ∙ (sym c.get.ensures.value ∙ (sym c.copied.ensures ∙ c.in-Some.is)) in
+    let p = c.requires.places c.args.object.now.object c.in-Some.place at in
+    sym (ap (λ (d : Certificate). d.object) c.index-certificates-place.is ∙ p.for_object c.index-certificates-place.result)
+
+pub returns-in_default-clause-refused : goal.returns-in_default-clause-refused
+returns-in_default-clause-refused c =
+    let x = c.args.object.now.object in
+    let none : get nat_cmp c.args.places.now x ≡ None = ap (get nat_cmp c.args.places.now) (sym c.object.ensures) ∙ (sym c.get.ensures.value ∙ (sym c.copied.ensures ∙ c.in_default.is)) in
+    (c.object-object.ensures, no_certificate c.args.certificates.now c.args.places.now x c.requires none)
+
+pub returns-clause-fine : goal.returns-clause-fine
+returns-clause-fine c =
+    let o = c.args.object.now in
+    let at : get nat_cmp c.args.places.now c.args.object.now.object ≡ Some c.in-Some.place = ap (get nat_cmp c.args.places.now) (sym c.object.ensures) ∙ (sym c.get.ensures.value ∙ (sym c.copied.ensures ∙ c.in-Some.is)) in
+    let p = c.requires.places o.object c.in-Some.place at in
+    fine_here o.kind (calls_of o.ops) c.args.certificates.now o.object c.in-Some.place c.index-certificates-place.result c.check_object.result p c.index-certificates-place.is c.check_object.ensures.valid c.check_object.ensures.faultless
+
+pub returns-clause-refused : goal.returns-clause-refused
+returns-clause-refused c =
+    let o = c.args.object.now in
+    let at : get nat_cmp c.args.places.now c.args.object.now.object ≡ Some c.in-Some.place = ap (get nat_cmp c.args.places.now) (sym c.object.ensures) ∙ (sym c.get.ensures.value ∙ (sym c.copied.ensures ∙ c.in-Some.is)) in
+    let p = c.requires.places o.object c.in-Some.place at in
+    refused_here o.kind (calls_of o.ops) c.args.certificates.now o.object c.in-Some.place c.index-certificates-place.result c.check_object.result p c.index-certificates-place.is c.check_object.ensures.refused c.check_object.ensures.exact

@@ -1,0 +1,14 @@
+use Rattle.std.proofs.Common.{rules, ◌≡◌, ◌∙◌, ap, ap₂, codes, true}
+use Rattle.std.proofs.lemmas.Result.{IfOk-weaker}
+use Rattle.clap.specs.Words.{App, app_of, new_app, with_subcommand}
+use Rattle.clap.specs.Simple.{on_top}
+use Rattle.commands.specs.Words as spec
+use Rattle.commands.proofs.parsing.judging_commands.Goals as goal
+
+pub returns-clause-shape : goal.returns-clause-shape
+returns-clause-shape c =
+    let check_is : app_of c.in_ok-check.check ≡ spec.check = c.in_ok-check.ensures.shape in
+    let top_is : app_of c.subcommand_required.result ≡ on_top (λ s. record s { subcommand_required = true }) (new_app (codes "fcbench")) = search rules in
+    let search_is : app_of c.in_ok-search.search ≡ spec.search_command = c.in_ok-search.ensures.shape in
+    let first_is = c.in_ok-subcommand.ensures.shape (search rules) ∙ ap₂ with_subcommand top_is (ap (λ (a : App). a.top) check_is) in
+    IfOk-weaker c.subcommand-2.result _ _ (λ r h. h.shape (search rules) ∙ ap₂ with_subcommand first_is (ap (λ (a : App). a.top) search_is)) c.subcommand-2.ensures

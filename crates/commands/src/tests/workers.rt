@@ -1,0 +1,323 @@
+//! Runs of clients in threads: what the words ask for, and what is put out.
+
+use super::*;
+use kinds::Kinds;
+use model::{AnyOp, Kind};
+use workload::{Workload, workload};
+
+/// What is run where no option is given.
+const DEFAULTS: RunOptions = RunOptions {
+    kinds: Kinds::One(Kind::Queue),
+    objects: 1,
+    clients: 2,
+    calls: 100,
+    seed: 0,
+};
+
+/// The line that these words behind `run` ask for.
+fn asked(alloc: Global, options: &[&str]) -> Result<Line, Fail> {
+    let mut words = vec![in alloc; "fcbench", "run"]?;
+    words.extend_from_slice(options)?;
+    match line(alloc, &words) {
+        Ok(line) => Ok(line),
+        Err(_) => Err(Fail::new("the words of a run are refused")),
+    }
+}
+
+#[test]
+fn options_in_words(rt: HostRuntime) -> Result<(), Fail> {
+    assert_eq!(rt; asked(rt.alloc(), &[])?, Line::Run(DEFAULTS));
+    assert_eq!(rt; asked(rt.alloc(), &["--"])?, Line::Run(DEFAULTS));
+    let all = asked(
+        rt.alloc(),
+        &[
+            "--seed",
+            "18446744073709551615",
+            "--kind",
+            "mixed",
+            "--calls",
+            "10000",
+            "--clients",
+            "32",
+            "--objects=16",
+        ],
+    )?;
+    let greatest = RunOptions {
+        kinds: Kinds::Mixed,
+        objects: 16,
+        clients: 32,
+        calls: 10_000,
+        seed: u64::MAX,
+    };
+    assert_eq!(rt; all, Line::Run(greatest));
+    let least = asked(
+        rt.alloc(),
+        &[
+            "--kind=mutex",
+            "--objects",
+            "1",
+            "--clients",
+            "1",
+            "--calls",
+            "0",
+            "--seed",
+            "0",
+        ],
+    )?;
+    let fewest = RunOptions {
+        kinds: Kinds::One(Kind::Mutex),
+        objects: 1,
+        clients: 1,
+        calls: 0,
+        seed: 0,
+    };
+    assert_eq!(rt; least, Line::Run(fewest));
+    Ok(())
+}
+
+#[test]
+fn refused_options(rt: HostRuntime) -> Result<(), Fail> {
+    for refused in [
+        &["--clients", "33"][..],
+        &["--clients", "0"],
+        &["--objects", "17"],
+        &["--objects", "0"],
+        &["--calls", "10001"],
+        &["--calls", "-1"],
+        &["--seed", "-1"],
+        &["--seed", "18446744073709551616"],
+        &["--kind", "tree"],
+        &["--kind", "Queue"],
+        &["--kind", ""],
+        &["--kind"],
+        &["--clients", "two"],
+        &["--clients", "2", "--clients", "3"],
+        &["--workers", "2"],
+        &["h.edn"],
+        &["--", "--"],
+    ] {
+        let mut words = vec![in rt.alloc(); "fcbench", "run"]?;
+        words.extend_from_slice(refused)?;
+        match line(rt.alloc(), &words) {
+            Err(fault) => assert_eq!(rt; status_of_fault(&fault), 64),
+            Ok(_) => return Err(Fail::new("the words are taken")),
+        }
+    }
+    Ok(())
+}
+
+/// What a run puts out, and its exit status.
+fn run_with<R: AllocGlobal + Abort + Threads + Wait + Sync>(
+    rt: &R,
+    options: RunOptions,
+) -> Result<Vec<u8>, Fail> {
+    let mut sink = Out::new(Vec::new(rt.alloc()));
+    let status = perform(rt, rt.alloc(), &Line::Run(options), b"", b"", &mut sink);
+    assert_eq!(rt; status, 0);
+    Ok(sink.into_inner())
+}
+
+#[test]
+fn no_calls(rt: HostRuntime) -> Result<(), Fail> {
+    let options = RunOptions {
+        kinds: Kinds::One(Kind::Queue),
+        objects: 1,
+        clients: 2,
+        calls: 0,
+        seed: 0,
+    };
+    let output = run_with(&rt, options)?;
+    let expected = b"; yes: 0 operations, 0 objects\n";
+    assert_eq!(rt; output.as_slice(), expected.as_slice());
+    Ok(())
+}
+
+/// The last call of five is left out.
+#[test]
+fn one_client_at_a_mutex(rt: HostRuntime) -> Result<(), Fail> {
+    let options = RunOptions {
+        kinds: Kinds::One(Kind::Mutex),
+        objects: 1,
+        clients: 1,
+        calls: 5,
+        seed: 0,
+    };
+    let output = run_with(&rt, options)?;
+    let expected = "{:process 0, :type :invoke, :f :acquire, :value nil, :object 0}\n\
+        {:process 0, :type :ok, :f :acquire, :value nil, :object 0}\n\
+        {:process 0, :type :invoke, :f :release, :value nil, :object 0}\n\
+        {:process 0, :type :ok, :f :release, :value nil, :object 0}\n\
+        {:process 0, :type :invoke, :f :acquire, :value nil, :object 0}\n\
+        {:process 0, :type :ok, :f :acquire, :value nil, :object 0}\n\
+        {:process 0, :type :invoke, :f :release, :value nil, :object 0}\n\
+        {:process 0, :type :ok, :f :release, :value nil, :object 0}\n\
+        ; {:object 0, :order [0 2 4 6]}\n\
+        ; yes: 4 operations, 1 objects\n\
+        ; mutex: 1 objects, 4 operations\n";
+    assert_eq!(rt; output.as_slice(), expected.as_bytes());
+    Ok(())
+}
+
+#[test]
+fn one_client_twice(rt: HostRuntime) -> Result<(), Fail> {
+    let options = RunOptions {
+        kinds: Kinds::Mixed,
+        objects: 5,
+        clients: 1,
+        calls: 50,
+        seed: 7,
+    };
+    let output = run_with(&rt, options)?;
+    assert!(rt; output == run_with(&rt, options)?);
+    Ok(())
+}
+
+/// The function and the argument with which a history writes the call.
+fn written(alloc: Global, op: AnyOp) -> Result<String, AllocError> {
+    match op {
+        AnyOp::Enqueue(v) => format!(in alloc; ":enqueue, :value {v}"),
+        AnyOp::Dequeue => format!(in alloc; ":dequeue, :value nil"),
+        AnyOp::Push(v) => format!(in alloc; ":push, :value {v}"),
+        AnyOp::Pop => format!(in alloc; ":pop, :value nil"),
+        AnyOp::Insert(v) => format!(in alloc; ":insert, :value {v}"),
+        AnyOp::ExtractMin => format!(in alloc; ":extract-min, :value nil"),
+        AnyOp::Write(v) => format!(in alloc; ":write, :value {v}"),
+        AnyOp::Read => format!(in alloc; ":read, :value nil"),
+        AnyOp::Cas(a, b) => format!(in alloc; ":cas, :value [{a} {b}]"),
+        AnyOp::Put(k, v) => format!(in alloc; ":put, :value [{k} {v}]"),
+        AnyOp::Get(k) => format!(in alloc; ":get, :value {k}"),
+        AnyOp::Del(k) => format!(in alloc; ":del, :value {k}"),
+        AnyOp::Acquire => format!(in alloc; ":acquire, :value nil"),
+        AnyOp::Release => format!(in alloc; ":release, :value nil"),
+    }
+}
+
+/// The lines of the client's invocations, in order.
+fn invocations(alloc: Global, work: &Workload, client: u32) -> Result<Vec<u8>, Fail> {
+    let mut lines = Vec::new(alloc);
+    if client < work.clients() {
+        for (object, op) in work.calls(client) {
+            let call = written(alloc, *op)?;
+            let line = format!(in alloc;
+                "{{:process {client}, :type :invoke, :f {call}, :object {object}}}\n"
+            )?;
+            lines.extend_from_slice(line.as_bytes())?;
+        }
+    }
+    Ok(lines)
+}
+
+/// The lines of the output that begin so, with this in their place.
+fn lines_with(alloc: Global, output: &[u8], front: &[u8], less: usize) -> Result<Vec<u8>, Fail> {
+    let mut lines = Vec::new(alloc);
+    for line in output.split(|b| *b == b'\n') {
+        if line.starts_with(front) && less <= line.len() {
+            lines.extend_from_slice(&line[less..])?;
+            lines.push(b'\n')?;
+        }
+    }
+    Ok(lines)
+}
+
+/// Runs so many clients, and looks at what is put out: each client's invocations are its calls, in order; and the history is
+/// judged yes by its certificates.
+fn check_run<R: AllocGlobal + Abort + Threads + Wait + Sync>(
+    rt: &R,
+    options: RunOptions,
+) -> Result<Vec<u8>, Fail> {
+    let work = workload(
+        rt.alloc(),
+        options.kinds,
+        options.objects,
+        options.clients,
+        options.calls,
+        options.seed,
+    )?;
+    let output = run_with(rt, options)?;
+    for client in 0..options.clients {
+        let front = format!(in rt.alloc(); "{{:process {client}, :type :invoke,")?;
+        let lines = lines_with(rt.alloc(), &output, front.as_bytes(), 0)?;
+        assert!(rt;
+            lines == invocations(rt.alloc(), &work, client)?,
+            "client {client}"
+        );
+    }
+    let certificates = lines_with(rt.alloc(), &output, b"; {:object", 2)?;
+    let check = checking(rt.alloc())?;
+    let mut sink = Out::new(Vec::new(rt.alloc()));
+    let status = perform(rt, rt.alloc(), &check, &output, &certificates, &mut sink);
+    assert_eq!(rt; status, 0);
+    Ok(output)
+}
+
+#[test]
+fn each_kind(rt: HostRuntime) -> Result<(), Fail> {
+    for kinds in [
+        Kinds::One(Kind::Queue),
+        Kinds::One(Kind::Stack),
+        Kinds::One(Kind::Heap),
+        Kinds::One(Kind::Register),
+        Kinds::One(Kind::Map),
+        Kinds::One(Kind::Mutex),
+        Kinds::Mixed,
+    ] {
+        let options = RunOptions {
+            kinds,
+            objects: 3,
+            clients: 4,
+            calls: 20,
+            seed: 7,
+        };
+        check_run(&rt, options)?;
+    }
+    Ok(())
+}
+
+#[test]
+fn four_clients_at_one_queue(rt: HostRuntime) -> Result<(), Fail> {
+    let options = RunOptions {
+        kinds: Kinds::One(Kind::Queue),
+        objects: 1,
+        clients: 4,
+        calls: 20,
+        seed: 0,
+    };
+    let output = check_run(&rt, options)?;
+    let verdict = b"; yes: 80 operations, 1 objects\n; queue: 1 objects, 80 operations\n";
+    assert!(rt; output.ends_with(verdict));
+    Ok(())
+}
+
+#[test]
+fn thirty_two_clients(rt: HostRuntime) -> Result<(), Fail> {
+    let options = RunOptions {
+        kinds: Kinds::Mixed,
+        objects: 16,
+        clients: 32,
+        calls: 200,
+        seed: 3,
+    };
+    let output = check_run(&rt, options)?;
+    let counts = b"; yes: 6400 operations, 16 objects\n";
+    assert!(rt;
+        output
+            .windows(counts.len())
+            .any(|part| part == counts.as_slice())
+    );
+    Ok(())
+}
+
+#[test]
+fn eight_clients_at_one_mutex(rt: HostRuntime) -> Result<(), Fail> {
+    let options = RunOptions {
+        kinds: Kinds::One(Kind::Mutex),
+        objects: 1,
+        clients: 8,
+        calls: 100,
+        seed: 0,
+    };
+    let output = check_run(&rt, options)?;
+    let verdict = b"; yes: 800 operations, 1 objects\n; mutex: 1 objects, 800 operations\n";
+    assert!(rt; output.ends_with(verdict));
+    Ok(())
+}

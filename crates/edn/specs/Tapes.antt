@@ -1,0 +1,20 @@
+-- What a tape holds. No public clause speaks of it but by `ReadsNext`.
+use Rattle.std.specs.Prelude.{ℕ, ◌-◌, ◌≤◌, List, length}
+use Rattle.edn.specs.Token.{Token}
+use Rattle.edn.specs.Shapes.{Shapes}
+use Rattle.edn.specs.Sound.{IsSoundAt}
+use Rattle.edn.specs.Pieces.{tape_tokens}
+use Rattle.edn.specs.Levels.{levels_shapes}
+use Rattle.edn.specs.declared.tape.Tape.{Tape}
+
+-- the tokens of the element that was read last
+abbrev pub tokens_on : Tape → List Token
+tokens_on t = tape_tokens t.pieces.items
+
+-- what is open
+abbrev pub open_on : Tape → Shapes
+open_on t = levels_shapes t.levels
+
+-- nothing is wrong up to the token at which so much of the text is left
+abbrev pub IsSoundBehind : ℕ → List ℕ → Type 0
+IsSoundBehind left text = (left ≤ length text) × IsSoundAt (length text - left) text

@@ -1,0 +1,177 @@
+//! A text, element by element, on a tape that is used again.
+ghost use Rattle.std.specs.Prelude.{◌≡◌, ◌≢◌, ◌<◌, [], List, length, Some, None, IfOk, IfErr, IfSome, OnOk, MatchResult, option_map};
+ghost use Rattle.std.specs.Str.{IsUtf8};
+ghost use Rattle.edn.specs.Datum.{Datum};
+ghost use Rattle.edn.specs.Reading as reading;
+ghost use Rattle.edn.specs.Shapes.{after_piece, nothing_open};
+ghost use Rattle.edn.specs.Spells.{Spells};
+ghost use Rattle.edn.specs.Elements.{ReadsNext, KeepsToken};
+ghost use Rattle.edn.specs.Results.{Denies};
+ghost use Rattle.edn.specs.Tapes.{IsSoundBehind};
+
+use crate::fault::{Cause, Stop};
+use crate::levels::Levels;
+use crate::lexer::skip;
+use crate::piece::Piece;
+use std::alloc::Global;
+
+/// The tokens of one element, what is open while they are read, and what follows the last of them.
+#[derive(Drop)]
+pub struct Tape<'a> {
+    pieces: Vec<Piece<'a>>,
+    levels: Levels<'a>,
+    behind: &'a [u8],
+}
+
+impl<'a> Tape<'a> {
+    ghost use Rattle.edn.specs.Tapes.{tokens_on, open_on};
+    ghost use Rattle.edn.specs.Pieces.{piece_token, tape_tokens};
+
+    pub fn new(alloc: Global) -> Tape<'a>
+        ensures { open_on result ≡ nothing_open }
+    {
+        Tape {
+            pieces: Vec::new(alloc),
+            levels: Levels::new(alloc),
+            behind: b"",
+        }
+    }
+
+    /// Takes this token, which stands at the front, and keeps what follows it.
+    // Put in its callers' place, so that a token whose kind is known there is never copied. What follows is no part of the
+    // result: that would be copied in parts, and the parts read as one.
+    #[inline(always)]
+    fn put(
+        &mut self,
+        alloc: Global,
+        piece: Piece<'a>,
+        here: &'a [u8],
+        rest: &'a [u8],
+    ) -> Result<(), Stop>
+        requires { reading.first here.now ≡ reading.got (piece_token piece) rest.now }
+        ensures taken { MatchResult result
+            (λ _. after_piece (open_on self.old) (reading.first here.entry.now) ≡ Some (open_on self.new, self.new.behind.now))
+            (λ e. Denies e.cause (after_piece (open_on self.old) (reading.first here.entry.now))) }
+        ensures place { IfErr result (λ e. e.cause ≡ Cause.NoMemory → e.left ≡ length here.entry.now) }
+        ensures kept { OnOk result
+            (KeepsToken (tokens_on self.old) (reading.first here.entry.now) (tokens_on self.new)) }
+    {
+        if let Err(cause) = self.levels.step(alloc, &piece) {
+            return Err(Stop::at(cause, here));
+        }
+        self.behind = rest;
+        // Most pushes find room: these are made here, and only the others by a call.
+        if self.pieces.len() < self.pieces.capacity() {
+            self.pieces.push_reserved(piece);
+            return Ok(());
+        }
+        match self.pieces.push(piece) {
+            Ok(()) => Ok(()),
+            Err(_) => Err(Stop::at(Cause::NoMemory, here)),
+        }
+    }
+
+    /// Takes the token at the front, of whatever kind.
+    #[inline(never)]
+    fn take_any(&mut self, alloc: Global, here: &'a [u8]) -> Result<(), Stop>
+        requires { 0 < length here.now }
+        ensures taken { MatchResult result
+            (λ _. after_piece (open_on self.old) (reading.first here.entry.now) ≡ Some (open_on self.new, self.new.behind.now))
+            (λ e. Denies e.cause (after_piece (open_on self.old) (reading.first here.entry.now))) }
+        ensures place { IfErr result (λ e. e.cause ≡ Cause.NoMemory → e.left ≡ length here.entry.now) }
+        ensures kept { OnOk result
+            (KeepsToken (tokens_on self.old) (reading.first here.entry.now) (tokens_on self.new)) }
+    {
+        // A string is no key, whatever it holds.
+        if self.levels.takes_key() && here[0] == b'"' {
+            return Err(Stop::at(Cause::KeyKind, here));
+        }
+        let (piece, rest) = Piece::first(here)?;
+        self.put(alloc, piece, here, rest)
+    }
+
+    /// Takes the token at the front, and keeps what follows it. After an error the tape is of no use.
+    #[inline(always)]
+    #[tactic(auto, unfolding(crate::specs::Reading::first))]
+    fn take(&mut self, alloc: Global, here: &'a [u8]) -> Result<(), Stop>
+        requires { 0 < length here.now }
+        ensures taken { MatchResult result
+            (λ _. after_piece (open_on self.old) (reading.first here.entry.now) ≡ Some (open_on self.new, self.new.behind.now))
+            (λ e. Denies e.cause (after_piece (open_on self.old) (reading.first here.entry.now))) }
+        ensures place { IfErr result (λ e. e.cause ≡ Cause.NoMemory → e.left ≡ length here.entry.now) }
+        ensures kept { OnOk result
+            (KeepsToken (tokens_on self.old) (reading.first here.entry.now) (tokens_on self.new)) }
+    {
+        match here {
+            [b':', tail @ ..] => match Piece::usual_keyword(tail) {
+                Some((name, rest)) => self.put(alloc, Piece::Keyword(name), here, rest),
+                None => self.take_any(alloc, here),
+            },
+            [b'1'..=b'9', ..] => match Piece::usual_number(here) {
+                Some((number, rest)) => self.put(alloc, Piece::Int(number), here, rest),
+                None => self.take_any(alloc, here),
+            },
+            [b'{', rest @ ..] => self.put(alloc, Piece::OpenMap, here, rest),
+            [b'}', rest @ ..] => self.put(alloc, Piece::CloseMap, here, rest),
+            _ => self.take_any(alloc, here),
+        }
+    }
+
+    /// Reads the next element. After an error the tape is of no use.
+    #[tactic(auto, using(crate::proofs::Lexical::skip_within, crate::proofs::Turns::after_piece_shorter))]
+    fn try_read(&mut self, alloc: Global, text: &'a [u8]) -> Result<Option<&'a [u8]>, Stop>
+        requires utf8 { IsUtf8 text.now }
+        requires fresh { open_on self.old ≡ nothing_open }
+        ensures reads { IfOk result (λ rest.
+            ReadsNext text.entry.now (tokens_on self.new) (option_map (λ r. r.now) rest)) }
+        ensures shorter { IfOk result (λ rest. IfSome rest (λ r. length r.now < length text.entry.now)) }
+        ensures none { IfErr result (λ e. e.cause ≢ Cause.NoMemory → (ds : List Datum) →
+            Spells ds text.entry.now → ⊥) }
+        ensures memory { IfErr result (λ e. e.cause ≡ Cause.NoMemory → IsSoundBehind e.left text.entry.now) }
+        ensures fresh { OnOk result (open_on self.new ≡ nothing_open) }
+    {
+        self.pieces.clear();
+        let here = skip(text);
+        if here.is_empty() {
+            return Ok(None);
+        }
+        self.take(alloc, here)?;
+        'tokens: while !self.levels.is_outermost() {
+            let here = skip(self.behind);
+            if here.is_empty() {
+                return Err(Stop::at_end());
+            }
+            self.take(alloc, here)?;
+        }
+        Ok(Some(self.behind))
+    }
+
+    /// Reads the next element of a text, and gives what follows it, or none where there is no
+    /// element more. After an error nothing is open, as before.
+    pub fn read(&mut self, alloc: Global, text: &'a [u8]) -> Result<Option<&'a [u8]>, Stop>
+        requires utf8 { IsUtf8 text.now }
+        requires fresh { open_on self.old ≡ nothing_open }
+        ensures reads { IfOk result (λ rest.
+            ReadsNext text.entry.now (tokens_on self.new) (option_map (λ r. r.now) rest)) }
+        ensures shorter { IfOk result (λ rest. IfSome rest (λ r. length r.now < length text.entry.now)) }
+        ensures none { IfErr result (λ e. e.cause ≢ Cause.NoMemory → (ds : List Datum) →
+            Spells ds text.entry.now → ⊥) }
+        ensures memory { IfErr result (λ e. e.cause ≡ Cause.NoMemory → IsSoundBehind e.left text.entry.now) }
+        ensures fresh { open_on self.new ≡ nothing_open }
+    {
+        match self.try_read(alloc, text) {
+            Ok(rest) => Ok(rest),
+            Err(stop) => {
+                self.levels = Levels::new(alloc);
+                Err(stop)
+            }
+        }
+    }
+
+    /// The tokens of the element that was read last.
+    pub fn pieces(&self) -> &[Piece<'a>]
+        ensures { tape_tokens result.now ≡ tokens_on self.now }
+    {
+        self.pieces.as_slice()
+    }
+}

@@ -1,0 +1,66 @@
+//! The value that a map has for one key, where its tokens lie on a tape.
+
+ghost use Rattle.std.specs.Prelude.{◌≡◌, ◌++◌, ◌∷◌, [], IfSome, IfNone, MatchOption};
+ghost use Rattle.edn.specs.Datum.{Datum, Entries, keyword, atom, dictionary};
+ghost use Rattle.edn.specs.Token.{tokens_of, entries_tokens, leaf, open_map, close_map};
+ghost use Rattle.edn.specs.Pieces.{tape_tokens};
+ghost use Rattle.fields.specs.Fields.{value_at};
+ghost use Rattle.fields.specs.Values.{IsValue, IsValueIn};
+ghost use Rattle.fields.specs.Operations.{NoMap, NoPair};
+
+use crate::is_same;
+use crate::values::after_value;
+use edn::Piece;
+
+/// The tape behind the bracket that opens a map.
+#[inline]
+pub fn behind_bracket<'p, 'a>(pieces: &'p [Piece<'a>]) -> Option<&'p [Piece<'a>]>
+    ensures { MatchOption result (NoMap (tape_tokens pieces.entry.now))
+        (λ inside. tape_tokens pieces.entry.now ≡ open_map ∷ tape_tokens inside.now) }
+{
+    match pieces {
+        [Piece::OpenMap, inside @ ..] => Some(inside),
+        _ => None,
+    }
+}
+
+/// The key at the front, and the tape behind it.
+#[inline]
+pub fn pair_at<'p, 'a>(pieces: &'p [Piece<'a>]) -> Option<(&'a str, &'p [Piece<'a>])>
+    ensures { MatchOption result (NoPair (tape_tokens pieces.entry.now))
+        (λ x. tape_tokens pieces.entry.now ≡ leaf (atom (keyword x.0.now)) ∷ tape_tokens x.1.now) }
+{
+    match pieces {
+        [Piece::Keyword(name), tail @ ..] => Some((name, tail)),
+        _ => None,
+    }
+}
+
+/// The value of a key in a map, behind the map's bracket.
+fn value_behind<'p, 'a>(inside: &'p [Piece<'a>], key: &[u8]) -> &'p [Piece<'a>]
+    ensures { (es : Entries) → tape_tokens inside.entry.now ≡ entries_tokens es ++ close_map ∷ [] →
+        IsValue result.now (value_at key.now es) }
+{
+    let mut rest = inside;
+    'pairs: while let Some((name, value)) = pair_at(rest) {
+        if is_same(key, name.as_bytes()) {
+            return value;
+        }
+        rest = after_value(value);
+    }
+    &rest[..0]
+}
+
+/// The tape from the value of a key on, which is empty where the map whose tokens these are has no
+/// such key. None where it is no map.
+pub fn value_on<'p, 'a>(pieces: &'p [Piece<'a>], key: &[u8]) -> Option<&'p [Piece<'a>]>
+    ensures value { IfSome result (λ v. (d : Datum) → tape_tokens pieces.entry.now ≡ tokens_of d →
+        IsValueIn v.now key.now d) }
+    ensures other { IfNone result ((es : Entries)
+        → tape_tokens pieces.entry.now ≡ tokens_of (dictionary es) → ⊥) }
+{
+    match behind_bracket(pieces) {
+        Some(inside) => Some(value_behind(inside, key)),
+        None => None,
+    }
+}

@@ -1,0 +1,117 @@
+-- What a form says, by its entries or by its tokens.
+use Rattle.std.proofs.Common.{◌≡◌, ℕ, ℤ, ◌==◌, true, false, Option, Some, None, IfSome, List, [], ◌∷◌, ◌++◌, length, codes, refl, sym, ap, subst, ◌∙◌}
+use Rattle.std.specs.Prelude.{option_map, option_and_then, is_some}
+use Rattle.edn.specs.Datum.{nil, boolean, integer, string, keyword, Datum, atom, vector, dictionary, Items, no_items, item, Entries}
+use Rattle.edn.specs.Token.{Token, close_vector, leaf, tokens_of, items_tokens}
+use Rattle.edn.specs.Pieces.{tape_tokens}
+use Rattle.edn.specs.declared.Piece.{Piece}
+use Rattle.edn.proofs.Prefixes.{not_nothing}
+use Rattle.seq_objects.specs.declared.value.Value.{Value}
+use Rattle.seq_objects.specs.declared.value.Value.TheVariants.{Pair}
+use Rattle.fields.specs.Fields.{value_at, natural_in, keyword_in, object_in, value_in}
+use Rattle.fields.specs.Values.{IsValue, natural_first, keyword_first}
+use Rattle.fields.specs.Operations.{HasValues, IsMapWith}
+use Rattle.fields.specs.declared.operation.OperationValues.{OperationValues}
+use Rattle.fields.proofs.Operating.{empty_is}
+use Rattle.fields.proofs.Shapes.{natural_is, keyword_is}
+use Rattle.history.specs.Maps as spec
+use Rattle.history.specs.Maps.{type_named, object_at, integer_in, pair_in, plain_value, client_with, client_in, client_of}
+use Rattle.history.specs.Views.{client_map, IsClient, Says, pair_first, plain_first}
+use Rattle.history.specs.declared.client_map.ClientMap.{ClientMap}
+use Rattle.history.specs.declared.client_map.OperationMap.TheVariants.{OfClient, Ignored, Neither}
+
+-- ---- the value, by its first tokens
+
+no_first : (a : Datum) (ds : Items) → integer_in a ≡ None → None ≡ pair_in (item a ds)
+no_first a no_items e = refl
+no_first a (item b no_items) e = rw e refl
+no_first a (item b (item d ds)) e = refl
+
+no_second : (a b : Datum) (ds : Items) → integer_in b ≡ None → None ≡ pair_in (item a (item b ds))
+no_second a b no_items e = by_first (integer_in a)
+  where
+    by_first : (o : Option ℤ) → None ≡ option_and_then (λ x. option_map (λ y. Pair x y) (integer_in b)) o
+    by_first None = refl
+    by_first (Some x) = rw e refl
+no_second a b (item d ds) e = refl
+
+second_by : (x : ℤ) (b : Datum) (ds : Items) (ts : List Token) → pair_first (leaf (atom (integer x)) ∷ (((tokens_of b ++ items_tokens ds) ++ close_vector ∷ []) ++ ts)) ≡ pair_in (item (atom (integer x)) (item b ds))
+second_by x (atom nil) ds ts = no_second (atom (integer x)) (atom nil) ds refl
+second_by x (atom (boolean b)) ds ts = no_second (atom (integer x)) (atom (boolean b)) ds refl
+second_by x (atom (string s)) ds ts = no_second (atom (integer x)) (atom (string s)) ds refl
+second_by x (atom (keyword k)) ds ts = no_second (atom (integer x)) (atom (keyword k)) ds refl
+second_by x (vector es) ds ts = no_second (atom (integer x)) (vector es) ds refl
+second_by x (dictionary es) ds ts = no_second (atom (integer x)) (dictionary es) ds refl
+second_by x (atom (integer y)) no_items ts = refl
+second_by x (atom (integer y)) (item (atom a) ds) ts = refl
+second_by x (atom (integer y)) (item (vector es) ds) ts = refl
+second_by x (atom (integer y)) (item (dictionary es) ds) ts = refl
+
+pair_by : (ds : Items) (ts : List Token) → pair_first ((items_tokens ds ++ close_vector ∷ []) ++ ts) ≡ pair_in ds
+pair_by no_items ts = refl
+pair_by (item (atom nil) ds) ts = no_first (atom nil) ds refl
+pair_by (item (atom (boolean b)) ds) ts = no_first (atom (boolean b)) ds refl
+pair_by (item (atom (string s)) ds) ts = no_first (atom (string s)) ds refl
+pair_by (item (atom (keyword k)) ds) ts = no_first (atom (keyword k)) ds refl
+pair_by (item (vector es) ds) ts = no_first (vector es) ds refl
+pair_by (item (dictionary es) ds) ts = no_first (dictionary es) ds refl
+pair_by (item (atom (integer x)) no_items) ts = refl
+pair_by (item (atom (integer x)) (item b ds)) ts = second_by x b ds ts
+
+plain_by : (d : Datum) (ts : List Token) → plain_first (tokens_of d ++ ts) ≡ plain_value d
+plain_by (atom nil) ts = refl
+plain_by (atom (boolean true)) ts = refl
+plain_by (atom (boolean false)) ts = refl
+plain_by (atom (integer z)) ts = refl
+plain_by (atom (string s)) ts = refl
+plain_by (atom (keyword k)) ts = refl
+plain_by (vector ds) ts = pair_by ds ts
+plain_by (dictionary es) ts = refl
+
+pub plain_is : (ps : List Piece) (o : Option Datum) → IsValue ps o → plain_first (tape_tokens ps) ≡ plain_value (value_in o)
+plain_is ps None h = ap (λ (x : List Piece). plain_first (tape_tokens x)) h
+plain_is ps (Some d) h = ap plain_first h.1 ∙ plain_by d h.0
+
+-- ---- the object
+
+pub object_absent : (ps : List Piece) (o : Option Datum) → true ≡ (length ps == 0) → IsValue ps o → Some 0 ≡ object_at o
+object_absent ps None e h = refl
+object_absent ps (Some d) e h = absurd (not_nothing d h.0 (sym (ap tape_tokens (empty_is ps e)) ∙ h.1))
+
+pub object_there : (ps : List Piece) (o : Option Datum) → false ≡ (length ps == 0) → IsValue ps o → object_in (natural_first (tape_tokens ps)) ≡ object_at o
+object_there ps None e h = let z : (length ps == 0) ≡ true = ap (λ (x : List Piece). length x == 0) h in absurd cc
+object_there ps (Some d) e h = ap object_in (natural_is ps (Some d) h)
+
+-- ---- the map
+
+pub client_is : (r : Option ClientMap) (p : Option ℕ) (t f : Option (List ℕ)) (x : Option ℕ) (v : Option Value) (es : Entries)
+    → ((w : Datum) → option_map (λ c. client_map c w) r ≡ client_with p (option_and_then type_named t) f x w) → IfSome r (λ c. c.value ≡ v)
+    → p ≡ natural_in (value_at (codes "process") es) → t ≡ keyword_in (value_at (codes "type") es) → f ≡ keyword_in (value_at (codes "f") es) → x ≡ object_at (value_at (codes "object") es)
+    → v ≡ plain_value (value_in (value_at (codes "value") es)) → IsClient r (client_in es)
+client_is r p t f x v es map value ep et ef ex ev =
+    let w : Datum = value_in (value_at (codes "value") es) in
+    let e : option_map (λ (c : ClientMap). client_map c w) r ≡ client_in es =
+    map w
+    ∙ ap (λ (y : Option ℕ). client_with y (option_and_then type_named t) f x w) ep
+    ∙ ap (λ (y : Option (List ℕ)). client_with (natural_in (value_at (codes "process") es)) (option_and_then type_named y) f x w) et
+    ∙ ap (λ (y : Option (List ℕ)). client_with (natural_in (value_at (codes "process") es)) (spec.type_in (value_at (codes "type") es)) y x w) ef
+    ∙ ap (λ (y : Option ℕ). client_with (natural_in (value_at (codes "process") es)) (spec.type_in (value_at (codes "type") es)) (keyword_in (value_at (codes "f") es)) y w) ex in
+    by_result r e value
+  where
+    by_result : (o : Option ClientMap) → option_map (λ (c : ClientMap). client_map c (value_in (value_at (codes "value") es))) o ≡ client_in es → IfSome o (λ c. c.value ≡ v) → IsClient o (client_in es)
+    by_result None e h = sym e
+    by_result (Some c) e h = (value_in (value_at (codes "value") es), sym e, sym (h ∙ ev))
+
+pub no_map : (tokens : List Token) → ((es : Entries) → tokens ≡ tokens_of (dictionary es) → ⊥) → (d : Datum) → tokens ≡ tokens_of d → Says Neither d
+no_map tokens h (atom a) e = (refl, refl)
+no_map tokens h (vector ds) e = (refl, refl)
+no_map tokens h (dictionary es) e = absurd (h es e)
+
+pub a_client : (v : OperationValues) (d : Datum) (c : ClientMap) → IsMapWith v d → ((es : Entries) → HasValues v es → IsClient (Some c) (client_in es)) → Says (OfClient c) d
+a_client v d c (es, q, h) k = subst (λ (x : Datum). Says (OfClient c) x) (sym q) (k es h)
+
+pub an_ignored : (v : OperationValues) (d : Datum) → IsMapWith v d → ((es : Entries) → HasValues v es → IsClient None (client_in es)) → is_some (keyword_first (tape_tokens v.process.now)) ≡ true → Says Ignored d
+an_ignored v d (es, q, h) k e = subst (λ (x : Datum). Says Ignored x) (sym q) (k es h, sym (ap is_some (keyword_is v.process.now (value_at (codes "process") es) h.process)) ∙ e)
+
+pub neither : (v : OperationValues) (d : Datum) → IsMapWith v d → ((es : Entries) → HasValues v es → IsClient None (client_in es)) → is_some (keyword_first (tape_tokens v.process.now)) ≡ false → Says Neither d
+neither v d (es, q, h) k e = subst (λ (x : Datum). Says Neither x) (sym q) (k es h, sym (ap is_some (keyword_is v.process.now (value_at (codes "process") es) h.process)) ∙ e)

@@ -1,0 +1,87 @@
+-- The maps of a text, one by one: what was found stays found, whatever follows.
+use Rattle.std.proofs.Common.{◌≡◌, ◌≢◌, ℕ, ◌+◌, ◌<◌, ◌≤◌, Option, Some, None, List, [], ◌∷◌, ◌++◌, length, take, refl, sym, ap, subst, ◌∙◌, append_assoc, zero-add, arith}
+use Rattle.std.proofs.lemmas.List.{length-append, take_all, take-append-le}
+use Rattle.edn.specs.Datum.{Datum}
+use Rattle.events.specs.declared.event.Event.{Event}
+use Rattle.events.specs.Events.{IsProper}
+use Rattle.history.specs.declared.seen.Seen.{Seen}
+use Rattle.history.specs.declared.fault.HistoryFault.{HistoryFault}
+use Rattle.history.specs.declared.fault.HistoryFaultKind.{HistoryFaultKind}
+use Rattle.history.specs.declared.fault.HistoryFaultKind.TheVariants.{NoMemory}
+use Rattle.history.specs.declared.text_reader.Reading.{Reading}
+use Rattle.history.specs.Maps.{client_of}
+use Rattle.history.specs.Faults.{IsFaultless, IsFirstFault}
+use Rattle.history.specs.Denotes.{event_of, events_from, Denotes}
+use Rattle.history.specs.Seen.{HasFirst, HasNoFault, IsRead}
+use Rattle.history.specs.Texts.{IsFoundIn, AreRead, IsReadOrFaulty, IsReading}
+use Rattle.history.proofs.Reading.{events_push, faultless_push}
+use Rattle.history.proofs.Proper.{proper_events}
+
+no_split : (earlier later : List Datum) (d : Datum) → [] ≡ earlier ++ d ∷ later → ⊥
+no_split [] later d e = cc
+no_split (x ∷ earlier) later d e = cc
+
+pub nothing_faulty : IsFaultless []
+nothing_faulty earlier later d kind e f = no_split earlier later d e
+
+-- more forms behind a fault
+first_more : (ds : List Datum) (d : Datum) (f : HistoryFault) → IsFirstFault ds f → IsFirstFault (ds ++ d ∷ []) f
+first_more ds d f h =
+    record {
+      earlier = h.earlier;
+      form = h.form;
+      later = h.later ++ d ∷ [];
+      split = ap (λ (xs : List Datum). xs ++ d ∷ []) h.split ∙ append_assoc h.earlier (h.form ∷ h.later) (d ∷ []);
+      place = h.place;
+      stands = h.stands;
+      least = h.least;
+      first = h.first;
+    }
+
+found_more : (ds : List Datum) (d : Datum) (f : HistoryFault) → IsFoundIn ds f → IsFoundIn (ds ++ d ∷ []) f
+found_more ds d f h = (
+  λ n. first_more ds d f (h.0 n),
+  λ m. (
+      let a = h.1 m in
+      let lt : f.map < length ds = a.0 in
+      (omega (arith, lt, length-append ds (d ∷ [])), subst IsFaultless (sym (take_front (f.map + 1) ds d (omega (arith, lt)))) a.1)
+      ),
+)
+  where
+    take_front : (n : ℕ) (xs : List Datum) (d : Datum) → n ≤ length xs → take n (xs ++ d ∷ []) ≡ take n xs
+    take_front n xs d le = rw take-append-le refl
+
+pub faulty_more : (r : Reading) (f : HistoryFault) (ds : List Datum) (d : Datum) → r.fault ≡ Some f → IsReading r ds → IsReading r (ds ++ d ∷ [])
+faulty_more r f ds d e h =
+    let a : IsFoundIn ds f = subst (λ (o : Option HistoryFault). IsReadOrFaulty o r.seen r.map ds r.events.items) e h in
+    subst (λ (o : Option HistoryFault). IsReadOrFaulty o r.seen r.map (ds ++ d ∷ []) r.events.items) (sym e) (found_more ds d f a)
+
+pub are_read : (r : Reading) (ds : List Datum) → r.fault ≡ None → IsReading r ds → AreRead r.seen r.map ds r.events.items
+are_read r ds e h = subst (λ (o : Option HistoryFault). IsReadOrFaulty o r.seen r.map ds r.events.items) e h
+
+-- one map more
+pub one_more : (old new : Seen) (number : ℕ) (ds : List Datum) (d : Datum) (es more : List Event) → AreRead old number ds es → IsRead old new ds d more → AreRead new (number + 1) (ds ++ d ∷ []) (es ++ more)
+one_more old new number ds d es more h r =
+    record {
+      kept = r.seen;
+      faultless = faultless_push ds d h.faultless r.no_fault;
+      events = ap (λ (x : List Event). x ++ more) h.events ∙ (ap (λ (x : List Event). events_from 0 ds ++ x) r.events ∙ sym (events_push 0 ds d ∙ ap (λ (k : ℕ). events_from 0 ds ++ event_of k (client_of d)) (zero-add (length ds))));
+      count = omega (arith, length-append ds (d ∷ []), h.count);
+    }
+
+-- what is wrong with the map behind those that were read
+pub found : (seen : Seen) (number : ℕ) (ds : List Datum) (d : Datum) (es : List Event) (k : HistoryFaultKind) → AreRead seen number ds es → (k ≢ NoMemory → HasFirst ds d k) → (k ≡ NoMemory → HasNoFault ds d) → IsFoundIn (ds ++ d ∷ []) (record { kind = k; map = number })
+found seen number ds d es k h first none = (
+  λ n. (let f = first n in record { earlier = ds; form = d; later = []; split = refl; place = h.count; stands = f.stands; least = h.faultless; first = f.first }),
+  λ m. (
+      let long = length-append ds (d ∷ []) in
+      let count : length ds ≡ number = h.count in
+      (omega (arith, long, count), subst IsFaultless (sym (take_all (number + 1) (ds ++ d ∷ []) (omega (arith, long, count)))) (faultless_push ds d h.faultless (none m)))
+      ),
+)
+
+pub proper_reading : (r : Reading) (ds : List Datum) → r.fault ≡ None → IsReading r ds → IsProper r.events.items
+proper_reading r ds e h = let a = are_read r ds e h in subst IsProper (sym a.events) (proper_events ds a.faultless)
+
+pub denotes_reading : (r : Reading) (ds : List Datum) → r.fault ≡ None → IsReading r ds → Denotes ds r.events.items
+denotes_reading r ds e h = let a = are_read r ds e h in record { faultless = a.faultless; events = a.events }

@@ -1,0 +1,111 @@
+//! From a text to a history, element by element.
+
+ghost use Rattle.std.specs.Prelude.{◌≡◌, ◌≢◌, ◌<◌, ◌+◌, ◌++◌, ◌∷◌, [], List, length, IfOk, IfErr, OnOk, MatchResult};
+ghost use Rattle.edn.specs.Datum.{Datum};
+ghost use Rattle.edn.specs.Pieces.{tape_tokens};
+ghost use Rattle.edn.specs.Sound.{IsShort};
+ghost use Rattle.edn.specs.Spells.{Spells};
+ghost use Rattle.edn.specs.Token.{tokens_of};
+ghost use Rattle.events.specs.declared.event.Event.{Event};
+ghost use Rattle.history.specs.Denotes.{Denotes};
+ghost use Rattle.history.specs.Texts.{IsFoundIn, IsTextFault};
+
+use crate::client_map::said_on;
+use crate::fault::{HistoryFault, TextFault};
+use crate::seen::{Seen, read_next};
+use edn::{Elements, Piece};
+use events::{Event, History};
+use std::alloc::Global;
+
+/// What was read: the maps so far, and what is wrong with the first of them that is faulty.
+#[derive(Drop)]
+struct Reading {
+    seen: Seen,
+    events: Vec<Event>,
+    map: usize,
+    fault: Option<HistoryFault>,
+}
+
+impl Reading {
+    ghost use Rattle.std.specs.Prelude.{None};
+    ghost use Rattle.history.specs.Texts.{IsReading};
+
+    fn new(alloc: Global) -> Reading
+        ensures { IsReading result [] }
+    {
+        Reading {
+            seen: Seen::new(alloc),
+            events: Vec::new(alloc),
+            map: 0,
+            fault: None,
+        }
+    }
+
+    /// Reads one more map, where none was faulty.
+    fn take_next(&mut self, pieces: &[Piece])
+        requires { self.old.fault ≡ None }
+        ensures { (ds : List Datum) (d : Datum) → tape_tokens pieces.now ≡ tokens_of d
+            → IsReading self.old ds → IsReading self.new (ds ++ d ∷ []) }
+    {
+        let map = self.map;
+        match read_next(&mut self.seen, &mut self.events, map, said_on(pieces)) {
+            Ok(()) => self.map = map + 1,
+            Err(kind) => self.fault = Some(HistoryFault { kind, map }),
+        }
+    }
+
+    /// Reads one more map, unless an earlier one is faulty.
+    #[tactic(auto, using(crate::proofs::TextReading::faulty_more))]
+    fn take(&mut self, pieces: &[Piece])
+        ensures { (ds : List Datum) (d : Datum) → tape_tokens pieces.now ≡ tokens_of d
+            → IsReading self.old ds → IsReading self.new (ds ++ d ∷ []) }
+    {
+        if self.fault.is_none() {
+            self.take_next(pieces);
+        }
+    }
+
+    /// The history, or what is wrong with a map.
+    fn finish(self) -> Result<History, HistoryFault>
+        requires { (ds : List Datum) × IsReading self ds }
+        ensures { (ds : List Datum) → IsReading self ds →
+            MatchResult result (λ h. Denotes ds h) (IsFoundIn ds) }
+    {
+        let Reading {
+            seen: _,
+            events,
+            map: _,
+            fault,
+        } = self;
+        match fault {
+            Some(fault) => Err(fault),
+            None => Ok(History::new(events)),
+        }
+    }
+}
+
+/// The history that the text denotes, each form being one operation map, or what is wrong. What is
+/// wrong with the text comes before what is wrong with a map: behind the first map that is faulty, or
+/// for which memory was refused, the text is still read to its end. The forms of the text are never
+/// in memory together.
+pub fn read_history_text(alloc: Global, text: &[u8]) -> Result<History, TextFault>
+    ensures denotes { IfOk result (λ h. (ds : List Datum) × Spells ds text.now × Denotes ds h) }
+    ensures short { OnOk result (IsShort text.now) }
+    ensures fault { IfErr result (IsTextFault text.now) }
+{
+    let mut elements = match Elements::new(alloc, text) {
+        Ok(elements) => elements,
+        Err(fault) => return Err(TextFault::Text(fault)),
+    };
+    let mut reading = Reading::new(alloc);
+    'elements: loop {
+        match elements.advance() {
+            Ok(true) => reading.take(elements.pieces()),
+            Ok(false) => match reading.finish() {
+                Ok(history) => return Ok(history),
+                Err(fault) => return Err(TextFault::Maps(fault)),
+            },
+            Err(fault) => return Err(TextFault::Text(fault)),
+        }
+    }
+}

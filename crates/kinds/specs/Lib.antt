@@ -1,0 +1,2 @@
+pub mod Mixing
+pub use Rattle.model.specs.Objects

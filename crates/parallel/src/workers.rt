@@ -1,0 +1,69 @@
+//! Workers that share the objects of a history.
+
+ghost use Rattle.std.specs.Prelude.{◌≡◌, ◌<◌, OnOk, IfErr, AllPairs};
+ghost use Rattle.certificate.specs.Denotes.{AreDistinct};
+ghost use Rattle.checker.specs.Refusals.{AreValid, IsFirstRefusal};
+ghost use Rattle.checker.specs.Checking.{AreAllPlaces};
+ghost use Rattle.parallel.specs.Shares.{IsShare};
+
+use crate::share::{Found, check_share, least};
+use certificate::Certificate;
+use checker::{Refusal, places, strange_object};
+use events::{History, split};
+use seq_objects::Gate;
+use std::alloc::Global;
+use std::thread::{Threads, map_indices};
+
+/// Checks the certificates of a history's objects by so many workers. The answer is that of `check_all`: `Ok` exactly
+/// where each named object has a valid order and no other object has a certificate, and else the first refusal, that of
+/// the least object and strange objects last, whichever was found first in time.
+///
+/// The objects come in rising number. Worker `w` checks those at the places `w`, `w + workers`, and so on, each between the
+/// gate's `before` and `after`, and stops at the first that is refused. No more workers are started than there are objects.
+/// `NoMemory` says nothing.
+pub fn check_parallel<R: Threads + Sync, G: Gate>(
+    rt: &R,
+    alloc: Global,
+    history: &History,
+    certificates: &[Certificate],
+    workers: u32,
+    gate: &G,
+) -> Result<(), Refusal>
+    // no object has two certificates
+    requires distinct { AreDistinct certificates.now }
+    requires some { 0 < workers }
+    requires few { workers < 17 }
+    ensures valid { OnOk result (AreValid history.now certificates.now) }
+    ensures refused { IfErr result (IsFirstRefusal history.now certificates.now) }
+    // Certificates that are refused, but for want of memory, are not valid.
+    ensures exact { AreValid history.now certificates.now → IfErr result (λ e. e ≡ Refusal.NoMemory) }
+{
+    let Ok(objects) = split(alloc, history) else {
+        return Err(Refusal::NoMemory);
+    };
+    let Ok(places) = places(alloc, certificates) else {
+        return Err(Refusal::NoMemory);
+    };
+    let count = objects.len().clamp(1, workers as usize);
+    let pieces = objects.as_slice();
+    let found = map_indices(
+        rt,
+        alloc,
+        count,
+        &|worker: usize| -> Result<(), Found>
+            requires { (worker < count) × (count < 17) × AllPairs (λ a b. a.object < b.object) pieces.now
+                × AreAllPlaces places certificates.now }
+            ensures { IsShare worker count pieces.entry.now certificates.entry.now result }
+        { check_share(alloc, pieces, &places, certificates, worker, count, gate) },
+    );
+    let Ok(found) = found else {
+        return Err(Refusal::NoMemory);
+    };
+    if let Some(first) = least(&found) {
+        return Err(first.refusal);
+    }
+    match strange_object(pieces, places, certificates) {
+        Some(object) => Err(Refusal::StrangeObject { object }),
+        None => Ok(()),
+    }
+}

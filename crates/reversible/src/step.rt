@@ -1,0 +1,25 @@
+//! What an operation replied, and what undoes it.
+
+use model::AnyReply;
+
+/// What brings back the content before an operation.
+#[derive(Clone, Copy, Debug, PartialEq, Eq, Drop)]
+pub enum Undo {
+    /// The operation left the content as it was.
+    Nothing,
+    TakeFirst,
+    TakeLast,
+    /// Takes the value at this place.
+    TakeAt(usize),
+    PutFirst(i64),
+    SetRegister(Option<i64>),
+    /// Gives a key its value, or none.
+    SetKey(i64, Option<i64>),
+    SetHeld(bool),
+}
+
+#[derive(Clone, Copy, Debug, PartialEq, Eq, Drop)]
+pub struct Step {
+    pub reply: AnyReply,
+    pub undo: Undo,
+}

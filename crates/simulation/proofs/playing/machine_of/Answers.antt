@@ -1,0 +1,13 @@
+use Rattle.std.proofs.Common.{◌∙◌, arith}
+use Rattle.std.proofs.lemmas.Result.{IfOk-weaker}
+use Rattle.simulation.proofs.Machines.{count_is}
+use Rattle.simulation.proofs.playing.machine_of.Goals as goal
+
+pub new-requires-clause-objects : goal.new-requires-clause-objects
+new-requires-clause-objects c κs =
+    let count = count_is c.args.header.now c.in_ok-objects.objects.items c.in_ok-objects.ensures.kinds in
+    let some = c.requires.objects in
+    (omega arith, omega arith, c.in_ok-objects.ensures.empty)
+
+pub returns-clause-kinds : goal.returns-clause-kinds
+returns-clause-kinds c = IfOk-weaker c.new.result _ _ (λ m is. is ∙ c.in_ok-objects.ensures.kinds) c.new.ensures.kinds

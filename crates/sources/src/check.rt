@@ -1,0 +1,146 @@
+//! The judge on two texts that come from sources.
+
+ghost use Rattle.std.specs.Prelude.{◌≡◌, ◌≢◌, false, true, IfOk, IfErr, OnErr};
+ghost use Rattle.std.specs.Io.KnownBytes.{Appends};
+ghost use Rattle.edn.specs.Sent.{SendsFront};
+ghost use Rattle.judging.specs.Verdicts.{Holds};
+ghost use Rattle.report.specs.Lines.{verdict_text};
+ghost use Rattle.report.specs.declared.verdict.Verdict.{Verdict as ReportVerdict};
+ghost use Rattle.sources.specs.Checks.{IsJudged, IsCutOff};
+
+use crate::bytes::Bytes;
+use crate::reading::{ReadFault, read_text};
+use edn::{Failed, Sink, Source};
+use judging::judge;
+use report::{Verdict, write_verdict};
+use std::alloc::Global;
+use std::thread::Threads;
+
+/// One of the two texts.
+#[derive(Clone, Copy, Debug, PartialEq, Eq)]
+pub enum Text {
+    History,
+    Certificates,
+}
+
+/// Why there is no verdict, or not all of its lines.
+#[derive(Clone, Copy, Debug, PartialEq, Eq)]
+pub enum ToolFault {
+    /// X1: the text's source failed. Nothing was written.
+    Read(Text),
+    /// X2: the sink failed. A beginning of the verdict's lines was written.
+    Write,
+    /// X3: memory was refused before the texts were judged. Nothing was written.
+    NoMemory,
+}
+
+/// Why there is no verdict where this text was not read.
+fn unread(text: Text, fault: ReadFault) -> ToolFault
+    ensures failed { fault ≡ ReadFault.Failed → result ≡ ToolFault.Read text }
+    ensures memory { fault ≡ ReadFault.NoMemory → result ≡ ToolFault.NoMemory }
+{
+    match fault {
+        ReadFault::Failed => ToolFault::Read(text),
+        ReadFault::NoMemory => ToolFault::NoMemory,
+    }
+}
+
+/// Judges the texts, and writes the lines of the verdict.
+fn judge_and_write<R: Threads + Sync, W: Sink>(
+    rt: &R,
+    alloc: Global,
+    history: &[u8],
+    certificates: &[u8],
+    workers: u32,
+    sink: &mut W,
+) -> Result<Verdict, Failed>
+    requires { W.broken sink.old ≡ false }
+    ensures judged { IfOk result (λ v. Holds history.now certificates.now v
+        × Appends (W.sent sink.old) (W.sent sink.new) (verdict_text false v)) }
+    ensures usable { IfOk result (λ _. W.broken sink.new ≡ false) }
+    ensures failed { OnErr result (W.broken sink.new ≡ true) }
+    ensures front { OnErr result ((v : ReportVerdict) × Holds history.now certificates.now v
+        × SendsFront (W.sent sink.old) (W.sent sink.new) (verdict_text false v)) }
+{
+    let verdict = judge(rt, alloc, history, certificates, workers);
+    match write_verdict(&verdict, false, sink) {
+        Ok(()) => Ok(verdict),
+        Err(_) => Err(Failed),
+    }
+}
+
+/// Reads both texts, the history first, judges them, and writes the lines of the verdict. Each text is read to its end, or
+/// to one byte more than the longest that is judged. An error of a read or a write is a failure, and is not tried again.
+///
+/// `Ok` gives the verdict of `judge` on the bytes that were read. Memory that is refused inside `judge` is its verdict `NoMemory`,
+/// and is written as its line.
+pub fn check_over<R: Threads + Sync, H: Source, C: Source, W: Sink>(
+    rt: &R,
+    alloc: Global,
+    history: &mut H,
+    certificates: &mut C,
+    workers: u32,
+    sink: &mut W,
+) -> Result<Verdict, ToolFault>
+    requires history { H.broken history.old ≡ false }
+    requires certificates { C.broken certificates.old ≡ false }
+    requires sink { W.broken sink.old ≡ false }
+    ensures judged { IfOk result (IsJudged (H.remaining history.old) (H.remaining history.new) (C.remaining certificates.old)
+        (C.remaining certificates.new) (W.sent sink.old) (W.sent sink.new)) }
+    ensures usable { IfOk result (λ _. W.broken sink.new ≡ false) }
+    // X1
+    ensures unread_history { IfErr result (λ e. e ≡ ToolFault.Read Text.History →
+        (H.broken history.new ≡ true) × (certificates.new ≡ certificates.old)) }
+    ensures unread_certificates { IfErr result (λ e. e ≡ ToolFault.Read Text.Certificates →
+        (H.broken history.new ≡ false) × (C.broken certificates.new ≡ true)) }
+    // X2
+    ensures unwritten { IfErr result (λ e. e ≡ ToolFault.Write → (W.broken sink.new ≡ true)
+        × IsCutOff (H.remaining history.old) (H.remaining history.new) (C.remaining certificates.old)
+        (C.remaining certificates.new) (W.sent sink.old) (W.sent sink.new)) }
+    // X3
+    ensures memory { IfErr result (λ e. e ≡ ToolFault.NoMemory →
+        (H.broken history.new ≡ false) × (C.broken certificates.new ≡ false)) }
+    ensures nothing_written { IfErr result (λ e. e ≢ ToolFault.Write → sink.new ≡ sink.old) }
+{
+    let first = match read_text(alloc, history) {
+        Ok(bytes) => bytes,
+        Err(fault) => return Err(unread(Text::History, fault)),
+    };
+    let second = match read_text(alloc, certificates) {
+        Ok(bytes) => bytes,
+        Err(fault) => return Err(unread(Text::Certificates, fault)),
+    };
+    match judge_and_write(rt, alloc, &first, &second, workers, sink) {
+        Ok(verdict) => Ok(verdict),
+        Err(Failed) => Err(ToolFault::Write),
+    }
+}
+
+/// Judges two texts in memory, and writes the lines of the verdict, as `check_over` does. Where memory for a copy of the texts is
+/// refused they are judged where they lie, so only the sink can fail.
+pub fn check_bytes<R: Threads + Sync, W: Sink>(
+    rt: &R,
+    alloc: Global,
+    history: &[u8],
+    certificates: &[u8],
+    workers: u32,
+    sink: &mut W,
+) -> Result<Verdict, Failed>
+    requires { W.broken sink.old ≡ false }
+    ensures judged { IfOk result (λ v. Holds history.now certificates.now v
+        × Appends (W.sent sink.old) (W.sent sink.new) (verdict_text false v)) }
+    ensures usable { IfOk result (λ _. W.broken sink.new ≡ false) }
+    ensures failed { OnErr result (W.broken sink.new ≡ true) }
+    ensures front { OnErr result ((v : ReportVerdict) × Holds history.now certificates.now v
+        × SendsFront (W.sent sink.old) (W.sent sink.new) (verdict_text false v)) }
+{
+    let (mut first, mut second) = (Bytes::new(history), Bytes::new(certificates));
+    match check_over(rt, alloc, &mut first, &mut second, workers, sink) {
+        Ok(verdict) => Ok(verdict),
+        Err(ToolFault::Write) => Err(Failed),
+        // bytes in memory never fail
+        Err(ToolFault::Read(_) | ToolFault::NoMemory) => {
+            judge_and_write(rt, alloc, history, certificates, workers, sink)
+        }
+    }
+}

@@ -1,0 +1,16 @@
+//! Texts that come from sources, and the judge on them.
+#![tactic(auto)]
+
+mod bytes;
+mod check;
+mod file;
+mod reading;
+
+pub use bytes::Bytes;
+pub use check::{Text, ToolFault, check_bytes, check_over};
+pub use edn::{In, Source};
+pub use file::NamedFile;
+pub use reading::{ReadFault, read_text};
+
+#[cfg(test)]
+mod tests;

@@ -1,0 +1,202 @@
+ghost use Rattle.std.specs.Prelude.{◌≡◌, None, false};
+
+use crate::{Bytes, In, NamedFile, Source, Text, ToolFault, check_over, read_text};
+use edn::{Failed, MAX_LENGTH, Out};
+use report::Verdict;
+use std::test::Fail;
+
+/// One process enqueues 1 and dequeues it.
+const HISTORY: &[u8] = b"{:process 0, :type :invoke, :f :enqueue, :value 1}
+{:process 0, :type :ok, :f :enqueue, :value 1}
+{:process 0, :type :invoke, :f :dequeue}
+{:process 0, :type :ok, :f :dequeue, :value 1}
+";
+
+const ORDER: &[u8] = b"{:object 0, :order [0 2]}";
+
+const YES: &[u8] = b"yes: 2 operations, 1 objects\nqueue: 1 objects, 2 operations\n";
+
+/// Gives a text in pieces of this size, and then fails or ends.
+#[derive(Drop)]
+struct Pieces {
+    text: &'static [u8],
+    size: usize,
+    fails: bool,
+    failed: bool,
+    asked: usize,
+}
+
+fn in_pieces(text: &'static [u8], size: usize, fails: bool) -> Pieces
+    ensures { result.failed ≡ false }
+{
+    Pieces {
+        text,
+        size,
+        fails,
+        failed: false,
+        asked: 0,
+    }
+}
+
+impl Source for Pieces {
+    ghost remaining = { λ _. None };
+
+    ghost broken = { λ s. s.failed };
+
+    fn get(&mut self, buf: &mut [u8]) -> Result<usize, Failed> {
+        self.asked = self.asked.wrapping_add(1);
+        let given = self.size.min(self.text.len()).min(buf.len());
+        if given == 0 && self.fails {
+            self.failed = true;
+            return Err(Failed);
+        }
+        let (piece, rest) = self.text.split_at(given);
+        buf[..given].copy_from_slice(piece);
+        self.text = rest;
+        Ok(given)
+    }
+
+    fn has_failed(&self) -> bool {
+        self.failed
+    }
+}
+
+#[test]
+fn both_texts_are_read(rt: HostRuntime) -> Result<(), Fail> {
+    for size in [1, 7, 100_000] {
+        for workers in [1, 2] {
+            let mut sink = Out::new(Vec::new(rt.alloc()));
+            let (mut history, mut order) = (
+                in_pieces(HISTORY, size, false),
+                in_pieces(ORDER, size, false),
+            );
+            let given = check_over(
+                &rt,
+                rt.alloc(),
+                &mut history,
+                &mut order,
+                workers,
+                &mut sink,
+            );
+            assert!(rt; matches!(given, Ok(Verdict::Yes(_))));
+            assert_eq!(rt; sink.into_inner().as_slice(), YES);
+        }
+    }
+    Ok(())
+}
+
+#[test]
+fn readers_are_sources(rt: HostRuntime) -> Result<(), Fail> {
+    let mut sink = Out::new(Vec::new(rt.alloc()));
+    let (mut history, mut order) = (In::new(HISTORY), In::new(ORDER));
+    let given = check_over(&rt, rt.alloc(), &mut history, &mut order, 1, &mut sink);
+    assert!(rt; matches!(given, Ok(Verdict::Yes(_))));
+    assert!(rt; !history.has_failed() && !order.has_failed());
+    assert!(rt; history.into_inner().is_empty());
+    assert_eq!(rt; sink.into_inner().as_slice(), YES);
+    Ok(())
+}
+
+#[test]
+fn bytes_are_sources(rt: HostRuntime) -> Result<(), Fail> {
+    let mut sink = Out::new(Vec::new(rt.alloc()));
+    let (mut history, mut order) = (Bytes::new(HISTORY), Bytes::new(ORDER));
+    let given = check_over(&rt, rt.alloc(), &mut history, &mut order, 1, &mut sink);
+    assert!(rt; matches!(given, Ok(Verdict::Yes(_))));
+    assert!(rt; !history.has_failed() && !order.has_failed());
+    assert_eq!(rt; sink.into_inner().as_slice(), YES);
+    Ok(())
+}
+
+/// A file is opened when it is read, and a history that cannot be opened is found before the certificates are.
+#[test]
+fn files_that_are_not_there(rt: HostRuntime) -> Result<(), Fail> {
+    let mut sink = Out::new(Vec::new(rt.alloc()));
+    let mut history = NamedFile::new(&rt, "no such folder/history.edn");
+    let mut order = NamedFile::new(&rt, "no such folder/certificates.edn");
+    let given = check_over(&rt, rt.alloc(), &mut history, &mut order, 1, &mut sink);
+    assert_eq!(rt; given.err(), Some(ToolFault::Read(Text::History)));
+    assert!(rt; history.has_failed() && !history.lacks_memory());
+    assert!(rt; !order.has_failed());
+    let mut history = Bytes::new(HISTORY);
+    let given = check_over(&rt, rt.alloc(), &mut history, &mut order, 1, &mut sink);
+    assert_eq!(rt; given.err(), Some(ToolFault::Read(Text::Certificates)));
+    assert!(rt; order.has_failed() && !order.lacks_memory());
+    assert!(rt; sink.into_inner().is_empty());
+    Ok(())
+}
+
+/// The history is read first, and nothing is written where a text cannot be read.
+#[test]
+fn sources_that_fail(rt: HostRuntime) -> Result<(), Fail> {
+    let mut sink = Out::new(Vec::new(rt.alloc()));
+    let (mut history, mut order) = (in_pieces(HISTORY, 9, true), in_pieces(ORDER, 9, true));
+    let given = check_over(&rt, rt.alloc(), &mut history, &mut order, 1, &mut sink);
+    assert_eq!(rt; given.err(), Some(ToolFault::Read(Text::History)));
+    assert_eq!(rt; order.asked, 0);
+    assert!(rt; sink.into_inner().is_empty());
+    let mut sink = Out::new(Vec::new(rt.alloc()));
+    let (mut history, mut order) = (in_pieces(HISTORY, 9, false), in_pieces(ORDER, 9, true));
+    let given = check_over(&rt, rt.alloc(), &mut history, &mut order, 1, &mut sink);
+    assert_eq!(rt; given.err(), Some(ToolFault::Read(Text::Certificates)));
+    assert!(rt; sink.into_inner().is_empty());
+    Ok(())
+}
+
+#[test]
+fn a_sink_that_fails(rt: HostRuntime) -> Result<(), Fail> {
+    let mut room = [0; 20];
+    let mut sink = Out::new(room.as_mut_slice());
+    let (mut history, mut order) = (in_pieces(HISTORY, 9, false), in_pieces(ORDER, 9, false));
+    let given = check_over(&rt, rt.alloc(), &mut history, &mut order, 1, &mut sink);
+    assert_eq!(rt; given.err(), Some(ToolFault::Write));
+    assert_eq!(rt; room.as_slice(), b"yes: 2 operations, 1".as_slice());
+    Ok(())
+}
+
+/// The bytes of the first three, two, one and no maps of the history, and the lines.
+const CUT: [(usize, &[u8]); 4] = [
+    (139, YES),
+    (98, b"no: C3 object 0: 2 is no operation\n"),
+    (51, b"no: C3 object 0: 2 is no operation\n"),
+    (0, b"no: C2 object 0 is not in the history\n"),
+];
+
+#[test]
+fn histories_that_are_cut(rt: HostRuntime) -> Result<(), Fail> {
+    for (length, lines) in CUT {
+        let (cut, _) = HISTORY.split_at(length.min(HISTORY.len()));
+        let mut sink = Out::new(Vec::new(rt.alloc()));
+        let (mut history, mut order) = (in_pieces(cut, 9, false), in_pieces(ORDER, 9, false));
+        let given = check_over(&rt, rt.alloc(), &mut history, &mut order, 1, &mut sink);
+        assert!(rt; given.is_ok());
+        assert_eq!(rt; sink.into_inner().as_slice(), lines);
+    }
+    Ok(())
+}
+
+/// Gives bytes without an end.
+#[derive(Drop)]
+struct Endless;
+
+impl Source for Endless {
+    ghost remaining = { λ _. None };
+
+    ghost broken = { λ _. false };
+
+    fn get(&mut self, buf: &mut [u8]) -> Result<usize, Failed> {
+        Ok(buf.len())
+    }
+
+    fn has_failed(&self) -> bool {
+        false
+    }
+}
+
+/// No more is read than one byte past the longest text.
+#[test]
+fn texts_without_an_end(rt: HostRuntime) -> Result<(), Fail> {
+    let bytes = read_text(rt.alloc(), &mut Endless).map_err(|_| Fail::new("a text is not read"))?;
+    assert_eq!(rt; bytes.len(), MAX_LENGTH + 1);
+    Ok(())
+}

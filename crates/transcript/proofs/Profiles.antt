@@ -1,0 +1,73 @@
+-- Lines have integers and names that a text can have.
+use Rattle.std.proofs.Common.{◌≡◌, ℕ, ◌+◌, ◌<◌, ◌≤◌, ◌^◌, ◌==◌, true, List, [], length, map, get_or, take, All, refl, ap, sym, subst, inl, inr, arith, eq-eqb}
+use Rattle.std.proofs.lemmas.Bool.{cases_lt}
+use Rattle.std.proofs.lemmas.List.{get_or_past, take_all, take_more}
+use Rattle.std.proofs.lemmas.List.Elements.{All-push}
+use Rattle.model.specs.declared.AnyOp.{AnyOp}
+use Rattle.model.specs.declared.AnyOp.TheVariants as op
+use Rattle.model.specs.declared.AnyReply.{AnyReply}
+use Rattle.model.proofs.Lists.{In, in_filter_from, all_from_in}
+use Rattle.edn.specs.Bytes.{is_name}
+use Rattle.edn.specs.Text.{InProfile}
+use Rattle.seq_objects.specs.Functions.{name_of}
+use Rattle.seq_objects.specs.Values.{function_in}
+use Rattle.events.specs.declared.event.Action.{Action}
+use Rattle.events.specs.declared.event.Action.TheVariants.{Invoke, Ok, Fail, Info}
+use Rattle.world.specs.World.{AnyEvent}
+use Rattle.world.specs.Images.{event_in}
+use Rattle.recorder.specs.Records.{Recorded}
+use Rattle.recorder.specs.Histories.{journals_in}
+use Rattle.transcript.specs.declared.line.Line.{Line}
+use Rattle.transcript.specs.Lines.{AreLinesOf, form_of, lines_of, type_of, value_form, value_of}
+
+function_named : (o : AnyOp) → is_name (name_of (function_in o)) ≡ true
+unfolding is_name
+function_named (op.Enqueue v) = refl
+function_named op.Dequeue = refl
+function_named (op.Push v) = refl
+function_named op.Pop = refl
+function_named (op.Insert v) = refl
+function_named op.ExtractMin = refl
+function_named (op.Write v) = refl
+function_named op.Read = refl
+function_named (op.Cas a b) = refl
+function_named (op.Put a b) = refl
+function_named (op.Get k) = refl
+function_named (op.Del k) = refl
+function_named op.Acquire = refl
+function_named op.Release = refl
+
+type_named : (a : Action) → is_name (type_of a) ≡ true
+unfolding is_name
+type_named (Invoke o) = refl
+type_named (Ok r) = refl
+type_named Fail = refl
+type_named Info = refl
+
+pub form_in_profile : (l : Line) → l.event.process < 2 ^ 63 → l.event.object < 2 ^ 63 → InProfile (value_form (value_of l.op l.event.action)) → InProfile (form_of l)
+unfolding is_name
+form_in_profile l process object value = (refl, process, (refl, type_named l.event.action, (refl, function_named l.op, (refl, value, (refl, object, tt)))))
+
+-- one line more
+pub profiles_more : (ls : List Line) (i : ℕ) (d : Line) → i < length ls → All (λ l. InProfile (form_of l)) (take i ls) → InProfile (form_of (get_or ls i d)) → All (λ l. InProfile (form_of l)) (take (i + 1) ls)
+profiles_more ls i d low so_far here = subst (All (λ (l : Line). InProfile (form_of l))) (sym (take_more ls i d low)) (All-push (λ (l : Line). InProfile (form_of l)) (take i ls) (get_or ls i d) so_far here)
+
+pub all_profiles : (ls : List Line) (i : ℕ) → length ls ≤ i → All (λ l. InProfile (form_of l)) (take i ls) → All (λ l. InProfile (form_of l)) ls
+all_profiles ls i high h = subst (All (λ (l : Line). InProfile (form_of l))) (take_all i ls high) h
+
+module _ {O R : Type 0} (op_in : O → AnyOp) (reply_in : R → AnyReply) (r : Recorded O R) where
+  -- past the last client there is no journal
+  past : (c : ℕ) → length r.journals ≤ c → journals_in op_in reply_in r c ≡ []
+  past c high = ap (map (event_in op_in reply_in)) (get_or_past r.journals c [] high)
+
+  -- so no line is of a client past the last
+  pub clients_low : (n : ℕ) → length r.journals < n → (ls : List Line) → AreLinesOf (journals_in op_in reply_in r) ls → All (λ l. l.event.process < n) ls
+  clients_low n few ls are = all_from_in (λ (l : Line). l.event.process < n) ls (λ l i. low l i)
+    where
+      low : (l : Line) → In l ls → l.event.process < n
+      low l i =
+          let own : In l (lines_of l.event.process (journals_in op_in reply_in r l.event.process)) = subst (In l) (are.each l.event.process) (in_filter_from (λ (k : Line). k.event.process == l.event.process) l ls i (eq-eqb l.event.process l.event.process refl)) in
+          elim (cases_lt l.event.process n) [
+            | inl h ↦ h
+            | inr h ↦ absurd (subst (λ (js : List AnyEvent). In l (lines_of l.event.process js)) (past l.event.process (omega arith)) own)
+          ]

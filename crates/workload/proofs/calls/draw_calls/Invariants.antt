@@ -1,0 +1,12 @@
+use Rattle.std.proofs.Common.{◌≡◌, ◌-◌, ◌++◌, All, length}
+use Rattle.kinds.specs.Mixing.{kinds_of}
+use Rattle.workload.specs.Drawing.{calls_from, stream_at}
+use Rattle.workload.specs.Workloads.{IsCall}
+use Rattle.workload.proofs.calls.draw_calls.Given as goal
+
+abbrev pub invariant-loop : goal.invariant-loop
+invariant-loop l = record {
+  drawn : l.calls.items ++ calls_from l.kinds l.objects (l.count - l.counter) (stream_at l.generator) ≡ calls_from l.kinds l.objects l.count (stream_at l.fn.generator);
+  counts : length l.calls.items ≡ l.counter;
+  fit : All (IsCall (kinds_of l.kinds l.objects)) l.calls.items;
+}

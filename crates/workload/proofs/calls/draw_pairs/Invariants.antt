@@ -1,0 +1,14 @@
+use Rattle.std.proofs.Common.{◌≡◌, ◌-◌, ◌++◌, ◌*◌, All, length}
+use Rattle.kinds.specs.Mixing.{kinds_of}
+use Rattle.workload.specs.Drawing.{mutex_calls_from, stream_at}
+use Rattle.model.specs.declared.Kind.TheVariants.{Mutex}
+use Rattle.kinds.specs.declared.Kinds.TheVariants.{One}
+use Rattle.workload.specs.Workloads.{IsCall}
+use Rattle.workload.proofs.calls.draw_pairs.Given as goal
+
+abbrev pub invariant-loop : goal.invariant-loop
+invariant-loop l = record {
+  drawn : l.calls.items ++ mutex_calls_from l.objects (l.count - l.counter) (stream_at l.generator) ≡ mutex_calls_from l.objects l.count (stream_at l.fn.generator);
+  counts : length l.calls.items ≡ l.counter * 2;
+  fit : All (IsCall (kinds_of (One Mutex) l.objects)) l.calls.items;
+}

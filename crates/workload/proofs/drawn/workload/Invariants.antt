@@ -1,0 +1,13 @@
+use Rattle.std.proofs.Common.{◌≡◌, ◌<◌, All, length, map}
+use Rattle.std.specs.List.{range_with_len}
+use Rattle.workload.specs.Workloads.{IsCall}
+use Rattle.kinds.specs.Mixing.{kinds_of}
+use Rattle.workload.specs.Drawing.{client_calls}
+use Rattle.workload.proofs.drawn.workload.Given as goal
+
+abbrev pub invariant-loop-client : goal.invariant-loop-client
+invariant-loop-client l = record {
+  drawn : map (λ v. v.items) l.calls_of_all.items ≡ map (client_calls l.kinds l.objects l.calls l.seed) (range_with_len 0 l.client);
+  few : All (λ cs. length cs < 10001) (map (λ v. v.items) l.calls_of_all.items);
+  fits : All (λ cs. All (IsCall (kinds_of l.kinds l.objects)) cs) (map (λ v. v.items) l.calls_of_all.items);
+}

@@ -1,0 +1,3 @@
+pub mod Workloads
+pub mod Drawing
+pub use Rattle.model.specs.Objects

@@ -1,0 +1,31 @@
+-- What the clients of a desk are to call.
+use Rattle.std.specs.Prelude.{◌≡◌, ℕ, ◌<◌, List, [], length, All, slice_index_or}
+use Rattle.model.specs.declared.Kind.{Kind}
+use Rattle.model.specs.declared.AnyOp.{AnyOp}
+use Rattle.model.specs.Objects.{kind_of}
+use Rattle.world.specs.World.{kind_at}
+
+-- a call: the number of its object, and the operation
+abbrev pub Call : Type 0
+Call = ℕ × AnyOp
+
+-- the kind of each object, and the calls of each client in order
+pub record Work : Type 0 where
+  pub kinds : List Kind
+  pub calls : List (List Call)
+
+abbrev pub calls_at : Work → ℕ → List Call
+calls_at w c = slice_index_or w.calls c []
+
+-- the object is there, and the operation is of its kind
+abbrev pub IsCall : List Kind → Call → Type 0
+IsCall kinds c = (c.0 < length kinds) × (kind_of c.1 ≡ kind_at kinds c.0)
+
+-- a desk can be made for it
+pub record IsWorkload (w : Work) : Type 0 where
+  pub objects : 0 < length w.kinds
+  pub few_objects : length w.kinds < 17
+  pub clients : 0 < length w.calls
+  pub few_clients : length w.calls < 33
+  pub few_calls : All (λ cs. length cs < 10001) w.calls
+  pub fits : All (λ cs. All (IsCall w.kinds) cs) w.calls
