@@ -76,7 +76,7 @@ answered p x op (e ∷ es) h = go (e.process == p) refl (answered p x op es)
 abbrev pub AllRun : List Event → Type 0
 AllRun es = (p : ℕ) → (s : State) × Runs p s es
 
-all_run_later : (e : Event) (es : List Event) → AllRun (e ∷ es) → AllRun es
+pub all_run_later : (e : Event) (es : List Event) → AllRun (e ∷ es) → AllRun es
 all_run_later e es h p = let r = h p in go (e.process == p) refl r.0 r.1
   where
     go : (b : Bool) → (e.process == p) ≡ b → (s : State) → Runs p s (e ∷ es) → (s : State) × Runs p s es

@@ -5,3 +5,4 @@ pub mod Parts
 pub mod Gathering
 pub mod Splitting
 pub mod Sorting
+pub mod Owned

@@ -1,5 +1,5 @@
 -- The operations of one object, with their ends, and the calls that they are.
-use Rattle.std.specs.Prelude.{unwrap_or, ◌≡◌, ◌≢◌, ℕ, ◌==◌, ◌<◌, ⊤, reverse, List, [], ◌∷◌, ◌++◌, Option, Some, None, All, AllPairs, if◌then◌else◌}
+use Rattle.std.specs.Prelude.{unwrap_or, ◌≡◌, ◌≢◌, ℕ, ◌==◌, ◌<◌, ⊤, reverse, List, [], ◌∷◌, ◌++◌, Option, Some, None, All, AllPairs, Contains, ◌%◌, ◌⊎◌, if◌then◌else◌}
 use Rattle.std.specs.List.{filter_map}
 use Rattle.model.specs.declared.Kind.{Kind}
 use Rattle.model.specs.declared.AnyOp.{AnyOp}
@@ -38,6 +38,10 @@ begun number Info how = []
 abbrev pub operations_on : ℕ → List Event → List Invocation
 operations_on x [] = []
 operations_on x (e ∷ later) = (if e.object == x then begun e.number e.action (end_at (next_event e.process later)) else []) ++ operations_on x later
+
+-- those of an object whose number leaves the remainder part by parts, and none of another
+abbrev pub operations_in : ℕ → ℕ → ℕ → List Event → List Invocation
+operations_in part parts x es = if x % parts == part then operations_on x es else []
 
 -- ---- as calls
 
@@ -83,3 +87,7 @@ pub record IsObjectHistory (h : ObjectCalls) : Type 0 where
 abbrev pub IsGathered : Option (List Invocation) → List Invocation → Type 0
 IsGathered None ops = ops ≡ []
 IsGathered (Some kept) ops = (kept ≡ reverse ops) × (ops ≢ [])
+
+-- an object of which something is kept stands in the list
+abbrev pub IsListed : {V : Type 0} → Option V → List ℕ → ℕ → Type 0
+IsListed kept objects x = (kept ≡ None) ⊎ Contains objects x

@@ -6,7 +6,7 @@ mod event;
 mod history;
 mod operations;
 
-pub use by_object::split;
+pub use by_object::{split, split_part};
 pub use event::{Action, Event};
 pub use history::History;
 pub use operations::{End, Invocation, ObjectHistory};

@@ -49,6 +49,30 @@ fn three_operations(alloc: Global) -> Result<History, Fail> {
     Ok(History::new(events))
 }
 
+/// What the acquire did.
+const ACQUIRE: Invocation = Invocation {
+    number: 3,
+    op: AnyOp::Acquire,
+    end: End::Pending,
+};
+
+/// What the queue's two operations did.
+const ON_QUEUE: [Invocation; 2] = [
+    Invocation {
+        number: 2,
+        op: AnyOp::Enqueue(5),
+        end: End::Failed,
+    },
+    Invocation {
+        number: 6,
+        op: AnyOp::Dequeue,
+        end: End::Returned {
+            at: 9,
+            reply: AnyReply::Value(None),
+        },
+    },
+];
+
 #[test]
 fn splits_by_object(rt: HostRuntime) -> Result<(), Fail> {
     let history = three_operations(rt.alloc())?;
@@ -58,28 +82,42 @@ fn splits_by_object(rt: HostRuntime) -> Result<(), Fail> {
 
     assert_eq!(rt; objects[0].object(), 0);
     assert_eq!(rt; objects[0].kind(), Kind::Mutex);
-    let acquire = Invocation {
-        number: 3,
-        op: AnyOp::Acquire,
-        end: End::Pending,
-    };
-    assert_eq!(rt; objects[0].ops(), [acquire].as_slice());
+    assert_eq!(rt; objects[0].ops(), [ACQUIRE].as_slice());
 
     assert_eq!(rt; objects[1].object(), 7);
     assert_eq!(rt; objects[1].kind(), Kind::Queue);
-    let enqueue = Invocation {
-        number: 2,
-        op: AnyOp::Enqueue(5),
-        end: End::Failed,
-    };
-    let dequeue = Invocation {
-        number: 6,
-        op: AnyOp::Dequeue,
-        end: End::Returned {
-            at: 9,
-            reply: AnyReply::Value(None),
-        },
-    };
-    assert_eq!(rt; objects[1].ops(), [enqueue, dequeue].as_slice());
+    assert_eq!(rt; objects[1].ops(), ON_QUEUE.as_slice());
+    Ok(())
+}
+
+/// Of 0 and 7, the even one falls to the first of two parts; of three parts the middle one has 7, and the last none.
+#[test]
+fn splits_into_parts(rt: HostRuntime) -> Result<(), Fail> {
+    let history = three_operations(rt.alloc())?;
+    let rows: [(u32, u32, Option<u32>); 5] = [
+        (0, 2, Some(0)),
+        (1, 2, Some(7)),
+        (0, 3, Some(0)),
+        (1, 3, Some(7)),
+        (2, 3, None),
+    ];
+    for (part, parts, object) in rows {
+        if part < parts {
+            let objects = split_part(rt.alloc(), &history, part, parts)?;
+            let Some(object) = object else {
+                assert_eq!(rt; objects.len(), 0);
+                continue;
+            };
+            assert_eq!(rt; objects.len(), 1);
+            assert_eq!(rt; objects[0].object(), object);
+            let is_queue = object == 7;
+            let ops = if is_queue {
+                ON_QUEUE.as_slice()
+            } else {
+                [ACQUIRE].as_slice()
+            };
+            assert_eq!(rt; objects[0].ops(), ops);
+        }
+    }
     Ok(())
 }
