@@ -1,4 +1,5 @@
 pub mod Shares
+pub mod Parts
 pub use Rattle.model.specs.Objects
 pub use Rattle.model.specs.Orders
 pub use Rattle.events.specs.Events

@@ -1,9 +1,11 @@
-//! The check of all certificates by several workers, each in a thread of its own.
+//! Each object's operations gathered, and all certificates checked, by several workers, each in a thread of its own.
 #![tactic(auto)]
 
+mod gathering;
 mod share;
 mod workers;
 
+pub use gathering::split_by_workers;
 pub use workers::check_parallel;
 
 #[cfg(test)]

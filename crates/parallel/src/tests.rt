@@ -3,11 +3,11 @@ ghost use Rattle.edn.specs.Datum.{Fits, max_open};
 ghost use Rattle.edn.specs.View.{view};
 ghost use Rattle.certificate.specs.Denotes.{AreDistinct};
 
-use crate::check_parallel;
+use crate::{check_parallel, split_by_workers};
 use certificate::{Certificate, read_certificates};
 use checker::{OrderFault, Refusal, check_all};
 use edn::{Form, fits, read_forms};
-use events::History;
+use events::{History, split};
 use history::read_history;
 use seq_objects::{AnyReply, Gate, Open};
 use std::alloc::Global;
@@ -112,6 +112,39 @@ fn any_number_of_workers(rt: HostRuntime) -> Result<(), Fail> {
         for workers in 1..17 {
             let given = check_parallel(&rt, rt.alloc(), &history, &certificates, workers, &Open);
             assert_eq!(rt; given, *answer);
+        }
+    }
+    Ok(())
+}
+
+/// A mutex on each of four objects whose numbers are multiples of 4; on the last one an operation that fails, and nothing is
+/// known of the other.
+const FOUR_MUTEXES: &str = "
+    {:process 0, :type :invoke, :f :acquire, :object 0}
+    {:process 1, :type :invoke, :f :acquire, :object 8}
+    {:process 2, :type :invoke, :f :acquire, :object 4}
+    {:process 3, :type :invoke, :f :acquire, :object 12}
+    {:process 0, :type :ok, :f :acquire, :object 0}
+    {:process 3, :type :fail, :f :acquire, :object 12}
+    {:process 1, :type :ok, :f :acquire, :object 8}
+    {:process 0, :type :invoke, :f :release, :object 8}
+    {:process 3, :type :invoke, :f :acquire, :object 12}
+    {:process 0, :type :ok, :f :release, :object 8}
+    {:process 3, :type :info, :f :acquire, :object 12}";
+
+#[test]
+fn splits_as_one_worker(rt: HostRuntime) -> Result<(), Fail> {
+    for text in [TWO_QUEUES, FOUR_MUTEXES, ""] {
+        let history = history_of(rt.alloc(), text)?;
+        let whole = split(rt.alloc(), &history)?;
+        for workers in 1..17 {
+            let objects = split_by_workers(&rt, rt.alloc(), &history, workers)?;
+            assert_eq!(rt; objects.len(), whole.len());
+            for (object, own) in objects.iter().zip(whole.iter()) {
+                assert_eq!(rt; object.object(), own.object());
+                assert_eq!(rt; object.kind(), own.kind());
+                assert_eq!(rt; object.ops(), own.ops());
+            }
         }
     }
     Ok(())

@@ -6,10 +6,11 @@ ghost use Rattle.checker.specs.Refusals.{AreValid, IsFirstRefusal};
 ghost use Rattle.checker.specs.Checking.{AreAllPlaces};
 ghost use Rattle.parallel.specs.Shares.{IsShare};
 
+use crate::gathering::split_by_workers;
 use crate::share::{Found, check_share, least};
 use certificate::Certificate;
 use checker::{Refusal, places, strange_object};
-use events::{History, split};
+use events::History;
 use seq_objects::Gate;
 use std::alloc::Global;
 use std::thread::{Threads, map_indices};
@@ -38,7 +39,7 @@ pub fn check_parallel<R: Threads + Sync, G: Gate>(
     // Certificates that are refused, but for want of memory, are not valid.
     ensures exact { AreValid history.now certificates.now → IfErr result (λ e. e ≡ Refusal.NoMemory) }
 {
-    let Ok(objects) = split(alloc, history) else {
+    let Ok(objects) = split_by_workers(rt, alloc, history, workers) else {
         return Err(Refusal::NoMemory);
     };
     let Ok(places) = places(alloc, certificates) else {

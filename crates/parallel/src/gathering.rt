@@ -1,0 +1,83 @@
+//! The operations of each object of a history, gathered by several workers.
+
+ghost use Rattle.std.specs.Prelude.{◌≡◌, ◌<◌, ◌↔◌, ℕ, List, length, OnOk, IfOk, All, AllPairs, Contains, map, ◌^◌};
+ghost use Rattle.std.specs.Ordering.{nat_cmp};
+ghost use Rattle.std.specs.BTreeMap.{get};
+ghost use Rattle.model.specs.Orders.{calls_on};
+ghost use Rattle.events.specs.declared.event.Event.{Event};
+ghost use Rattle.events.specs.Events.{IsNamed, kind_at, denoted};
+ghost use Rattle.events.specs.Operations.{operations_on, calls_of};
+ghost use Rattle.parallel.specs.Parts.{IsPart, ArePartsOf, IsPutIn, IsWhole};
+
+use events::{History, ObjectHistory, split_part};
+use std::alloc::{AllocError, Global};
+use std::collections::BTreeMap;
+use std::thread::{Threads, map_indices};
+
+/// Puts in the objects of one part.
+fn put_in(
+    sorted: &mut BTreeMap<u32, ObjectHistory>,
+    part: Vec<ObjectHistory>,
+) -> Result<(), AllocError>
+    ensures { OnOk result ((x : ℕ) → IsPutIn part.items x (get nat_cmp sorted.old x) (get nat_cmp sorted.new x)) }
+{
+    for object in part {
+        sorted.insert(object.object(), object)?;
+    }
+    Ok(())
+}
+
+/// The objects of all parts, in rising number, unless memory was refused.
+fn joined(
+    alloc: Global,
+    found: Vec<Result<Vec<ObjectHistory>, AllocError>>,
+) -> Result<BTreeMap<u32, ObjectHistory>, AllocError>
+    requires { 0 < length found.items }
+    ensures { IfOk result (λ m. (es : List Event) → ArePartsOf (λ v. v.items) es found.items → IsWhole es m) }
+{
+    let mut sorted = BTreeMap::new(alloc);
+    for part in found {
+        let objects = part?;
+        put_in(&mut sorted, objects)?;
+    }
+    Ok(sorted)
+}
+
+/// As `events::split`, by so many workers: the history of each object that some invocation names, a failed one too, in rising
+/// object number.
+///
+/// Worker `w` gathers the objects whose numbers leave the remainder `w` by the number of workers. So the work is shared
+/// where the objects' numbers are spread over the remainders; each worker also looks once at each event.
+pub fn split_by_workers<R: Threads + Sync>(
+    rt: &R,
+    alloc: Global,
+    history: &History,
+    workers: u32,
+) -> Result<Vec<ObjectHistory>, AllocError>
+    requires { 0 < workers }
+    ensures rising { IfOk result (λ v. AllPairs (λ a b. a.object < b.object) v.items) }
+    ensures named { IfOk result (λ v. (x : ℕ) →
+        Contains (map (λ o. o.object) v.items) x ↔ IsNamed history.now x) }
+    ensures kinds { IfOk result (λ v. All (λ o. o.kind ≡ kind_at history.now o.object) v.items) }
+    // Each has all its operations, with their ends.
+    ensures operations { IfOk result (λ v. All (λ o. o.ops ≡ operations_on o.object history.now) v.items) }
+    // Those that did not fail are its calls in the history that the events denote.
+    ensures calls { IfOk result (λ v.
+        All (λ o. calls_of o.ops ≡ calls_on o.object (denoted history.now)) v.items) }
+{
+    let found = map_indices(
+        rt,
+        alloc,
+        workers as usize,
+        &|worker: usize| -> Result<Vec<ObjectHistory>, AllocError>
+            requires { (worker < workers) × (workers < 2 ^ 32) }
+            ensures { IfOk result (λ v. IsPart history.entry.now worker workers v.items) }
+        { split_part(alloc, history, worker as u32, workers) },
+    )?;
+    let sorted = joined(alloc, found)?;
+    let mut objects = Vec::new(alloc);
+    for (_, object) in sorted {
+        objects.push(object)?;
+    }
+    Ok(objects)
+}
