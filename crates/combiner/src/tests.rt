@@ -5,6 +5,7 @@ mod abandoned;
 mod at_once;
 mod listing;
 mod many_rows;
+mod outstanding;
 mod refused;
 mod two_objects;
 

@@ -21,7 +21,10 @@ fn for_eight(alloc: Global) -> Result<(Desk<AnyObject>, Vec<Client<AnyObject>>),
 }
 
 // The last of the clients.
-fn next(desk: &Desk<AnyObject>, clients: &mut Vec<Client<AnyObject>>) -> Client<AnyObject>
+pub(super) fn next(
+    desk: &Desk<AnyObject>,
+    clients: &mut Vec<Client<AnyObject>>,
+) -> Client<AnyObject>
     requires { (0 < length clients.old.items) × AllBegun desk.now.id clients.old.items }
     ensures client { result.desk ≡ desk.now.id }
     ensures others { (length clients.new.items + 1 ≡ length clients.old.items)
