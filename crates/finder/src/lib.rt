@@ -1,7 +1,8 @@
 //! A fast finder of certificates. What it finds is checked before it is handed out, so nothing else of it is trusted; what it does
 //! not find is open.
 //!
-//! Queues and heaps are decided where each value comes once, mutexes always; other objects stay open.
+//! It finds an order of a queue, stack, heap, register or map in which each value is put in once, and of any mutex, in some n log n
+//! steps of n calls. A value that comes twice, and some calls that are pending, leave an object open.
 #![tactic(auto)]
 
 mod accesses;

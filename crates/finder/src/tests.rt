@@ -1,3 +1,5 @@
+mod random;
+
 use super::*;
 use checker::check_object;
 use events::split;
