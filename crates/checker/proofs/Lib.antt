@@ -7,3 +7,4 @@ pub mod Objects
 pub mod Certificates
 pub mod Marks
 pub mod Ending
+pub mod Collected

@@ -1,40 +1,15 @@
-ghost use Rattle.std.specs.Prelude.{All, IsTrue, IfOk};
-ghost use Rattle.edn.specs.Datum.{Fits, max_open};
-ghost use Rattle.edn.specs.View.{view};
-
 mod by_force;
 
 use super::*;
 use checker::check_object;
-use edn::{Form, fits, read_forms};
 use events::{History, ObjectHistory, split};
-use history::read_history;
+use history::read_history_text;
 use order_search::find_order;
 use std::alloc::Global;
 use std::test::Fail;
 
-/// Whether each form fits, which is what the reader asks.
-fn all_fit(forms: &[Form]) -> bool
-    ensures { IsTrue result → All (λ f. Fits max_open (view f)) forms.now }
-{
-    forms.iter().all(|f| fits(f))
-}
-
-fn forms_of(alloc: Global, text: &str) -> Result<Vec<Form>, Fail>
-    ensures { IfOk result (λ v. All (λ f. Fits max_open (view f)) v.items) }
-{
-    let Ok(forms) = read_forms(alloc, text.as_bytes()) else {
-        return Err(Fail::new("a text of forms is refused"));
-    };
-    if !all_fit(forms.as_slice()) {
-        return Err(Fail::new("a form that was read does not fit"));
-    }
-    Ok(forms)
-}
-
 fn history_of(alloc: Global, text: &str) -> Result<History, Fail> {
-    let forms = forms_of(alloc, text)?;
-    read_history(alloc, forms).map_err(|_| Fail::new("a history is refused"))
+    read_history_text(alloc, text.as_bytes()).map_err(|_| Fail::new("a history is refused"))
 }
 
 /// The answer in words, as `[1, 0, 4] after 6`.

@@ -4,8 +4,9 @@ use Rattle.std.proofs.lemmas.List.Elements.{All-push}
 use Rattle.model.specs.Orders.{calls_on}
 use Rattle.events.specs.Events.{IsNamed, kind_at, denoted}
 use Rattle.events.specs.Operations.{calls_of}
-use Rattle.search.specs.Answers.{IsAnswerOn}
-use Rattle.search.proofs.Certificates.{are_more, answer_for, all_numbers, answers_rise, not_linearizable, distinct, valid}
+use Rattle.checker.proofs.Collected.{are_more, all_numbers, answers_rise, distinct, valid}
+use Rattle.search.specs.Answers.{IsAnswerOn, certificate_in}
+use Rattle.search.proofs.Certificates.{answer_for, not_linearizable, of_object}
 use Rattle.search.proofs.all.search_all_by.Goals as goal
 
 pub loop-object-preserved : goal.loop-object-preserved
@@ -41,7 +42,7 @@ pub returns-clause-impossible : goal.returns-clause-impossible
 returns-clause-impossible c = not_linearizable c.args.history.now c.args.limit c.loop-object.answers.items c.events.ensures.history (c.linearizable_has_orders.ensures (kind_at c.args.history.now) (denoted c.args.history.now) c.events.ensures.history) c.loop-object.invariant.each
 
 pub returns-clause-distinct : goal.returns-clause-distinct
-returns-clause-distinct c = distinct c.args.history.now c.args.limit c.loop-object.answers.items c.loop-object.invariant.each (returns-clause-rising c)
+returns-clause-distinct c = distinct (λ s. certificate_in s.found) c.args.history.now c.loop-object.answers.items (of_object c.args.history.now c.args.limit c.loop-object.answers.items c.loop-object.invariant.each) (returns-clause-rising c)
 
 pub returns-clause-valid : goal.returns-clause-valid
-returns-clause-valid c = valid c.args.history.now c.args.limit c.loop-object.answers.items c.loop-object.invariant.each (returns-clause-named c)
+returns-clause-valid c = valid (λ s. certificate_in s.found) c.args.history.now c.loop-object.answers.items (of_object c.args.history.now c.args.limit c.loop-object.answers.items c.loop-object.invariant.each) (returns-clause-named c)

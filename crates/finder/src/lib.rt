@@ -1,0 +1,28 @@
+//! A fast finder of certificates. What it finds is checked before it is handed out, so nothing else of it is trusted; what it does
+//! not find is open.
+//!
+//! It finds an order of a queue, stack, heap, register or map in which each value is put in once, and of any mutex, in some n log n
+//! steps of n calls. A value that comes twice, and some calls that are pending, leave an object open.
+#![tactic(auto)]
+
+mod accesses;
+mod all;
+mod calls;
+mod cells;
+mod finding;
+mod gaps;
+mod heap;
+mod links;
+mod mutex;
+mod queue;
+mod refusing;
+mod runs;
+mod stack;
+mod stays;
+mod trees;
+
+pub use all::find_all;
+pub use finding::{Found, find};
+
+#[cfg(test)]
+mod tests;

@@ -1,0 +1,327 @@
+//! Queues in which each value comes once.
+//!
+//! A call that finds nothing stands in a gap in which no value surely is in the queue, and cuts the values in two: those that can
+//! have come and gone before it, and the others. Values leave in the order in which they come, so a value goes before another where
+//! its enqueue or its dequeue returns before that of the other begins; a queue of such calls has a valid order only where that
+//! leads nowhere back to itself (Henzinger, Sezgin, Vafeiadis, CONCUR 2013).
+
+use crate::calls::{TimedCall, moment_count};
+use crate::gaps::Gaps;
+use crate::stays::{NEVER, Stay, Stays};
+use std::alloc::{AllocError, Global};
+
+/// A call that finds nothing, and its gap.
+#[derive(Clone, Copy, Debug)]
+struct Cut {
+    gap: u32,
+    number: u32,
+}
+
+/// Gaps for the calls that find nothing, in rising order; none where one has no gap.
+fn cuts_of(alloc: Global, stays: &Stays, end: u32) -> Result<Option<Vec<Cut>>, AllocError> {
+    let mut gaps = Gaps::new(alloc, end)?;
+    for stay in &stays.stays {
+        gaps.cover(stay.surely_from(), stay.surely_to());
+    }
+    let mut cuts = Vec::new(alloc);
+    for call in &stays.empties {
+        let gap = gaps.first_free(call.begin);
+        if gap >= call.end {
+            return Ok(None);
+        }
+        let number = call.number;
+        cuts.push(Cut { gap, number })?;
+    }
+    cuts.sort_unstable_by_key(|cut| cut.gap);
+    Ok(Some(cuts))
+}
+
+/// A value with the times of its calls, each cut off at the cuts between which the value stands.
+#[derive(Clone, Copy, Debug)]
+struct Row {
+    /// The number of cuts before it.
+    phase: usize,
+    /// The gap of the last cut before it, and 0 where there is none.
+    from: u32,
+    put_from: u32,
+    put_by: u32,
+    take_from: u32,
+    take_by: u32,
+    stay: Stay,
+}
+
+fn row_of(cuts: &[Cut], stay: Stay) -> Row {
+    let gone = stay.surely_to();
+    let phase = cuts.partition_point(|cut| cut.gap < gone);
+    let mut row = Row {
+        phase,
+        from: 0,
+        put_from: stay.put.begin,
+        put_by: stay.surely_from(),
+        take_from: stay.taken_from(),
+        take_by: stay.taken_by(),
+        stay,
+    };
+    if let Some(before) = phase.checked_sub(1).and_then(|last| cuts.get(last)) {
+        let after = before.gap.saturating_add(1);
+        row.from = before.gap;
+        row.put_from = row.put_from.max(after);
+        row.take_from = row.take_from.max(after);
+    }
+    if let Some(behind) = cuts.get(phase) {
+        row.put_by = row.put_by.min(behind.gap);
+        row.take_by = row.take_by.min(behind.gap);
+    }
+    row
+}
+
+/// What is left to be lined up: for each value which of its two calls wait no more, and whether it is lined up.
+#[derive(Clone, Copy, Debug)]
+struct Waiting {
+    put: bool,
+    take: bool,
+    done: bool,
+}
+
+/// A walk over the values by one of their times.
+#[derive(Debug, Drop)]
+struct Front {
+    places: Vec<(u32, usize)>,
+    next: usize,
+}
+
+/// The walk over the rows by one of their times.
+fn front_by<F: Fn(&Row) -> u32>(alloc: Global, rows: &[Row], time: F) -> Result<Front, AllocError>
+    requires { F.IsAlwaysCallable time }
+{
+    let mut places = Vec::new(alloc);
+    for (place, row) in rows.iter().enumerate() {
+        places.push((time(row), place))?;
+    }
+    places.sort_unstable();
+    Ok(Front { places, next: 0 })
+}
+
+impl Front {
+    /// The least time of a value that is not lined up.
+    fn least(&mut self, waiting: &[Waiting]) -> Option<u32> {
+        for k in self.next..self.places.len() {
+            let (time, place) = self.places.get(k).copied()?;
+            if waiting.get(place).is_some_and(|w| !w.done) {
+                self.next = k;
+                return Some(time);
+            }
+        }
+        self.next = self.places.len();
+        None
+    }
+
+    /// The next value whose time is at most this, once.
+    fn admit(&mut self, most: u32) -> Option<usize> {
+        let (time, place) = self.places.get(self.next).copied()?;
+        if time > most {
+            return None;
+        }
+        self.next = self.next.saturating_add(1);
+        Some(place)
+    }
+}
+
+/// Values that are lined up one by one, each when no other that is left has to go before it.
+#[derive(Debug, Drop)]
+struct LineUp {
+    puts_by: Front,
+    takes_by: Front,
+    puts_from: Front,
+    takes_from: Front,
+    waiting: Vec<Waiting>,
+    ready: Vec<usize>,
+}
+
+impl LineUp {
+    fn new(alloc: Global, rows: &[Row]) -> Result<LineUp, AllocError> {
+        let none = Waiting {
+            put: true,
+            take: true,
+            done: false,
+        };
+        Ok(LineUp {
+            puts_by: front_by(alloc, rows, |row| row.put_by)?,
+            takes_by: front_by(alloc, rows, |row| row.take_by)?,
+            puts_from: front_by(alloc, rows, |row| row.put_from)?,
+            takes_from: front_by(alloc, rows, |row| row.take_from)?,
+            waiting: vec![in alloc; none; rows.len()]?,
+            ready: Vec::new(alloc),
+        })
+    }
+
+    /// Notes the values whose put begins no later than this: no other value's calls return before it.
+    fn admit_puts(&mut self, most: u32) -> Result<(), AllocError> {
+        for _ in 0..self.waiting.len() {
+            let Some(place) = self.puts_from.admit(most) else {
+                break;
+            };
+            let Some(waiting) = self.waiting.get_mut(place) else {
+                break;
+            };
+            waiting.put = false;
+            if !waiting.take {
+                self.ready.push(place)?;
+            }
+        }
+        Ok(())
+    }
+
+    /// The same of the values' takings.
+    fn admit_takes(&mut self, most: u32) -> Result<(), AllocError> {
+        for _ in 0..self.waiting.len() {
+            let Some(place) = self.takes_from.admit(most) else {
+                break;
+            };
+            let Some(waiting) = self.waiting.get_mut(place) else {
+                break;
+            };
+            waiting.take = false;
+            if !waiting.put {
+                self.ready.push(place)?;
+            }
+        }
+        Ok(())
+    }
+
+    /// The place of a value that can be next, if there is one.
+    fn next(&mut self) -> Result<Option<usize>, AllocError> {
+        let put_by = self.puts_by.least(&self.waiting).unwrap_or(NEVER);
+        let take_by = self.takes_by.least(&self.waiting).unwrap_or(NEVER);
+        self.admit_puts(put_by.min(take_by))?;
+        self.admit_takes(take_by)?;
+        let Some(place) = self.ready.pop() else {
+            return Ok(None);
+        };
+        if let Some(waiting) = self.waiting.get_mut(place) {
+            waiting.done = true;
+        }
+        Ok(Some(place))
+    }
+}
+
+/// The rows in an order in which the values can come and go.
+fn lined_up(alloc: Global, rows: &[Row]) -> Result<Option<Vec<Row>>, AllocError> {
+    let mut line_up = LineUp::new(alloc, rows)?;
+    let mut line = Vec::new(alloc);
+    for _ in 0..rows.len() {
+        let Some(row) = line_up.next()?.and_then(|place| rows.get(place)) else {
+            return Ok(None);
+        };
+        line.push(*row)?;
+    }
+    Ok(Some(line))
+}
+
+/// What comes first in one gap between two cuts.
+#[derive(Clone, Copy, PartialEq, Eq, PartialOrd, Ord, Debug)]
+enum Rank {
+    Puts,
+    Takes,
+    FindsNone,
+}
+
+#[derive(Clone, Copy, Debug)]
+struct Step {
+    phase: usize,
+    gap: u32,
+    rank: Rank,
+    turn: usize,
+    number: u32,
+}
+
+/// The calls of the values, each in the first gap that those before it leave.
+fn steps_of(alloc: Global, line: &[Row]) -> Result<Vec<Step>, AllocError> {
+    let mut steps = Vec::new(alloc);
+    let mut put_at = 0;
+    let mut take_at = 0;
+    for (turn, row) in line.iter().enumerate() {
+        let phase = row.phase;
+        put_at = row.stay.put.begin.max(row.from).max(put_at);
+        steps.push(Step {
+            phase,
+            gap: put_at,
+            rank: Rank::Puts,
+            turn,
+            number: row.stay.put.number,
+        })?;
+        if let Some(take) = row.stay.take {
+            take_at = take.begin.max(put_at).max(take_at);
+            steps.push(Step {
+                phase,
+                gap: take_at,
+                rank: Rank::Takes,
+                turn,
+                number: take.number,
+            })?;
+        }
+    }
+    Ok(steps)
+}
+
+fn add_cuts(steps: &mut Vec<Step>, cuts: &[Cut]) -> Result<(), AllocError> {
+    for (phase, cut) in cuts.iter().enumerate() {
+        steps.push(Step {
+            phase,
+            gap: cut.gap,
+            rank: Rank::FindsNone,
+            turn: 0,
+            number: cut.number,
+        })?;
+    }
+    Ok(())
+}
+
+/// The values that nobody is known to take and that must be gone: their put returned before another that is taken was put, or
+/// before a call that finds nothing. With each the moment of that return.
+fn must_be_gone(alloc: Global, stays: &Stays) -> Result<Vec<(u32, usize)>, AllocError> {
+    let mut latest = 0;
+    for stay in &stays.stays {
+        if stay.take.is_some() {
+            latest = stay.put.begin.max(latest);
+        }
+    }
+    for call in &stays.empties {
+        latest = call.begin.max(latest);
+    }
+    let mut needed = Vec::new(alloc);
+    for (place, stay) in stays.stays.iter().enumerate() {
+        if stay.take.is_none() && stay.put.end < latest {
+            needed.push((stay.put.end, place))?;
+        }
+    }
+    Ok(needed)
+}
+
+/// An order of the calls that may be valid.
+pub(crate) fn queue_order(
+    alloc: Global,
+    calls: &[TimedCall],
+    mut stays: Stays,
+) -> Result<Option<Vec<i64>>, AllocError> {
+    let needed = must_be_gone(alloc, &stays)?;
+    stays.give(needed);
+    let Some(cuts) = cuts_of(alloc, &stays, moment_count(calls))? else {
+        return Ok(None);
+    };
+    let mut rows = Vec::new(alloc);
+    for stay in &stays.stays {
+        rows.push(row_of(&cuts, *stay))?;
+    }
+    let Some(line) = lined_up(alloc, &rows)? else {
+        return Ok(None);
+    };
+    let mut steps = steps_of(alloc, &line)?;
+    add_cuts(&mut steps, &cuts)?;
+    steps.sort_unstable_by_key(|step| (step.phase, step.gap, step.rank, step.turn));
+    let mut order = Vec::new(alloc);
+    for step in &steps {
+        order.push(step.number as i64)?;
+    }
+    Ok(Some(order))
+}

@@ -1,0 +1,160 @@
+//! How long each value is in a queue, stack or heap, where each comes once.
+
+use crate::calls::{PENDING, TimedCall};
+use seq_objects::{AnyOp, AnyReply};
+use std::alloc::{AllocError, Global};
+
+/// The moment that a value is taken which nobody takes: behind that of a call that is pending.
+pub(crate) const NEVER: u32 = 0xffff_ffff;
+
+/// A value, the call that puts it in, and the one that takes it.
+#[derive(Clone, Copy, Debug)]
+pub(crate) struct Stay {
+    pub(crate) value: i64,
+    pub(crate) put: TimedCall,
+    pub(crate) take: Option<TimedCall>,
+}
+
+impl Stay {
+    /// The first gap in which the value surely is in the object, if it surely is in any: the put has returned, or the taking has.
+    pub(crate) fn surely_from(&self) -> u32 {
+        self.put.end.min(self.taken_by())
+    }
+
+    /// The first gap in which it may be gone.
+    pub(crate) fn surely_to(&self) -> u32 {
+        self.taken_from().max(self.put.begin)
+    }
+
+    /// When its taking begins.
+    pub(crate) fn taken_from(&self) -> u32 {
+        self.take.map_or(NEVER, |take| take.begin)
+    }
+
+    /// When its taking has returned.
+    pub(crate) fn taken_by(&self) -> u32 {
+        self.take.map_or(NEVER, |take| take.end)
+    }
+}
+
+/// What a call does with the values of a queue, stack or heap.
+enum Role {
+    Puts(i64),
+    Takes(i64),
+    FindsNone,
+    /// It takes a value that is not known, or nothing.
+    Unknown,
+}
+
+fn role_of(call: &TimedCall) -> Role {
+    match (call.op, call.reply) {
+        (AnyOp::Enqueue(value), _) => Role::Puts(value),
+        (AnyOp::Push(value), _) => Role::Puts(value),
+        (AnyOp::Insert(value), _) => Role::Puts(value),
+        (_, Some(AnyReply::Value(Some(value)))) => Role::Takes(value),
+        (_, Some(AnyReply::Value(None))) => Role::FindsNone,
+        _ => Role::Unknown,
+    }
+}
+
+/// A put or a taking of a value: puts come first.
+#[derive(Clone, Copy, Debug)]
+struct Touch {
+    value: i64,
+    takes: bool,
+    call: TimedCall,
+}
+
+/// The calls of a queue, stack or heap in which each value comes once.
+#[derive(Debug, Drop)]
+pub(crate) struct Stays {
+    /// In rising value.
+    pub(crate) stays: Vec<Stay>,
+    /// The calls that found nothing in the object.
+    pub(crate) empties: Vec<TimedCall>,
+    /// Takings that are pending, in the order of their invocations.
+    pub(crate) unknown: Vec<TimedCall>,
+}
+
+/// Adds a put, or a taking to the value that was put last. False where the value came before, or was never put.
+fn add_touch(stays: &mut Vec<Stay>, touch: Touch) -> Result<bool, AllocError> {
+    let Touch { value, takes, call } = touch;
+    match stays.last_mut() {
+        Some(stay) if stay.value == value => {
+            if !takes || stay.take.is_some() {
+                return Ok(false);
+            }
+            stay.take = Some(call);
+            Ok(true)
+        }
+        _ => {
+            if takes {
+                return Ok(false);
+            }
+            stays.push(Stay {
+                value,
+                put: call,
+                take: None,
+            })?;
+            Ok(true)
+        }
+    }
+}
+
+/// The values with their puts and takings, where each comes once.
+fn pair(alloc: Global, mut touches: Vec<Touch>) -> Result<Option<Vec<Stay>>, AllocError> {
+    touches.sort_unstable_by_key(|touch| (touch.value, touch.takes));
+    let mut stays = Vec::new(alloc);
+    for next in &touches {
+        if !add_touch(&mut stays, *next)? {
+            return Ok(None);
+        }
+    }
+    // what is not known to be put in and is not taken is left out
+    stays.retain(|stay| stay.put.end != PENDING || stay.take.is_some());
+    Ok(Some(stays))
+}
+
+/// The values of the calls; none where a value comes twice, or is taken and never put in.
+pub(crate) fn stays_of(alloc: Global, calls: &[TimedCall]) -> Result<Option<Stays>, AllocError> {
+    let mut touches = Vec::new(alloc);
+    let mut empties = Vec::new(alloc);
+    let mut unknown = Vec::new(alloc);
+    for call in calls {
+        let call = *call;
+        match role_of(&call) {
+            Role::Puts(value) => touches.push(Touch {
+                value,
+                takes: false,
+                call,
+            })?,
+            Role::Takes(value) => touches.push(Touch {
+                value,
+                takes: true,
+                call,
+            })?,
+            Role::FindsNone => empties.push(call)?,
+            Role::Unknown => unknown.push(call)?,
+        }
+    }
+    let Some(stays) = pair(alloc, touches)? else {
+        return Ok(None);
+    };
+    Ok(Some(Stays {
+        stays,
+        empties,
+        unknown,
+    }))
+}
+
+impl Stays {
+    /// Gives takings that are pending to these values, of which each has its moment: the least moment and the first taking first.
+    pub(crate) fn give(&mut self, mut needed: Vec<(u32, usize)>) {
+        needed.sort_unstable();
+        for ((_, place), call) in needed.iter().zip(self.unknown.iter()) {
+            if let Some(stay) = self.stays.get_mut(*place) {
+                stay.take = Some(*call);
+            }
+        }
+    }
+}

@@ -1,0 +1,300 @@
+//! Small histories at random, in which each value is put in once and each call returns: what the bounded search finds is found.
+
+use crate::{Found, find};
+use events::split;
+use history::read_history_text;
+use order_search::{Outcome, TryFirst, find_order};
+use seq_objects::Kind;
+use std::alloc::{AllocError, Global};
+use std::test::Fail;
+
+/// Numbers by the multiplier and increment of Knuth's MMIX.
+#[derive(Debug, Drop)]
+struct Random {
+    state: u64,
+}
+
+impl Random {
+    fn below(&mut self, bound: u32) -> u32 {
+        self.state = self
+            .state
+            .wrapping_mul(6_364_136_223_846_793_005)
+            .wrapping_add(1_442_695_040_888_963_407);
+        ((self.state >> 33) % bound.max(1) as u64) as u32
+    }
+}
+
+/// What an object holds: the values of a queue, stack or heap, what two cells hold, and whether a mutex is held.
+#[derive(Debug, Drop)]
+struct Contents {
+    values: Vec<u32>,
+    first: Option<u32>,
+    second: Option<u32>,
+    held: bool,
+}
+
+/// A call in words: its function, its argument and its reply.
+#[derive(Debug, Drop)]
+struct Words {
+    function: &'static str,
+    argument: String,
+    reply: String,
+}
+
+fn number(alloc: Global, value: Option<u32>) -> Result<String, AllocError> {
+    match value {
+        Some(value) => format!(in alloc; "{value}"),
+        None => String::from_str(alloc, "nil"),
+    }
+}
+
+/// The place of the least value.
+fn least(values: &[u32]) -> Option<usize> {
+    let mut least: Option<(u32, usize)> = None;
+    for (place, value) in values.iter().enumerate() {
+        if least.is_none_or(|(other, _)| *value < other) {
+            least = Some((*value, place));
+        }
+    }
+    least.map(|(_, place)| place)
+}
+
+/// Takes a value out of a queue, stack or heap.
+fn take(values: &mut Vec<u32>, kind: Kind) -> Option<u32> {
+    let place = match kind {
+        Kind::Queue => 0,
+        Kind::Stack => values.len().saturating_sub(1),
+        _ => least(values)?,
+    };
+    if place < values.len() {
+        Some(values.remove(place))
+    } else {
+        None
+    }
+}
+
+/// The words of a queue's, stack's or heap's functions.
+fn names_of(kind: Kind) -> (&'static str, &'static str) {
+    match kind {
+        Kind::Queue => ("enqueue", "dequeue"),
+        Kind::Stack => ("push", "pop"),
+        _ => ("insert", "extract-min"),
+    }
+}
+
+fn call_of_values(
+    alloc: Global,
+    random: &mut Random,
+    contents: &mut Contents,
+    kind: Kind,
+    fresh: u32,
+) -> Result<Words, AllocError> {
+    let (puts, takes) = names_of(kind);
+    if random.below(2) == 0 {
+        contents.values.push(fresh)?;
+        return Ok(Words {
+            function: puts,
+            argument: number(alloc, Some(fresh))?,
+            reply: number(alloc, Some(fresh))?,
+        });
+    }
+    let taken = take(&mut contents.values, kind);
+    Ok(Words {
+        function: takes,
+        argument: number(alloc, None)?,
+        reply: number(alloc, taken)?,
+    })
+}
+
+fn call_of_register(
+    alloc: Global,
+    random: &mut Random,
+    contents: &mut Contents,
+    fresh: u32,
+) -> Result<Words, AllocError> {
+    if random.below(2) == 0 {
+        contents.first = Some(fresh);
+        return Ok(Words {
+            function: "write",
+            argument: number(alloc, Some(fresh))?,
+            reply: number(alloc, Some(fresh))?,
+        });
+    }
+    Ok(Words {
+        function: "read",
+        argument: number(alloc, None)?,
+        reply: number(alloc, contents.first)?,
+    })
+}
+
+fn call_of_map(
+    alloc: Global,
+    random: &mut Random,
+    contents: &mut Contents,
+    fresh: u32,
+) -> Result<Words, AllocError> {
+    let key = random.below(2);
+    let cell = if key == 0 {
+        &mut contents.first
+    } else {
+        &mut contents.second
+    };
+    let reply = number(alloc, *cell)?;
+    let argument = number(alloc, Some(key))?;
+    Ok(match random.below(3) {
+        0 => {
+            *cell = Some(fresh);
+            Words {
+                function: "put",
+                argument: format!(in alloc; "[{key} {fresh}]")?,
+                reply,
+            }
+        }
+        1 => Words {
+            function: "get",
+            argument,
+            reply,
+        },
+        _ => {
+            *cell = None;
+            Words {
+                function: "del",
+                argument,
+                reply,
+            }
+        }
+    })
+}
+
+fn call_of_mutex(alloc: Global, contents: &mut Contents) -> Result<Words, AllocError> {
+    let function = if contents.held { "release" } else { "acquire" };
+    contents.held = !contents.held;
+    Ok(Words {
+        function,
+        argument: number(alloc, None)?,
+        reply: number(alloc, None)?,
+    })
+}
+
+/// The next call, done on the object. `fresh` is a value that no other call puts in.
+fn call_of(
+    alloc: Global,
+    random: &mut Random,
+    contents: &mut Contents,
+    kind: Kind,
+    fresh: u32,
+) -> Result<Words, AllocError> {
+    match kind {
+        Kind::Register => call_of_register(alloc, random, contents, fresh),
+        Kind::Map => call_of_map(alloc, random, contents, fresh),
+        Kind::Mutex => call_of_mutex(alloc, contents),
+        _ => call_of_values(alloc, random, contents, kind, fresh),
+    }
+}
+
+/// Calls in the order in which the object did them; half of all times one of them begins or returns elsewhere.
+fn calls_of(
+    alloc: Global,
+    random: &mut Random,
+    kind: Kind,
+    count: u32,
+) -> Result<Vec<Words>, AllocError> {
+    let mut contents = Contents {
+        values: Vec::new(alloc),
+        first: None,
+        second: None,
+        held: false,
+    };
+    let mut calls = Vec::new(alloc);
+    for k in 0..count {
+        let fresh = k.saturating_add(10);
+        calls.push(call_of(alloc, random, &mut contents, kind, fresh)?)?;
+    }
+    if random.below(2) == 0 && calls.len() > 1 {
+        let call = calls.remove(0);
+        calls.push(call)?;
+    }
+    Ok(calls)
+}
+
+/// When the calls begin and return, each around its turn: the moment, the place of the call, and whether it returns.
+fn moments_of(
+    alloc: Global,
+    random: &mut Random,
+    count: usize,
+) -> Result<Vec<(u32, usize, bool)>, AllocError> {
+    let mut moments = Vec::new(alloc);
+    let mut turn: u32 = 10;
+    for place in 0..count {
+        moments.push((turn.saturating_sub(random.below(9)), place, false))?;
+        moments.push((turn.saturating_add(random.below(9)), place, true))?;
+        turn = turn.saturating_add(3);
+    }
+    moments.sort_unstable_by_key(|(moment, place, returns)| (*moment, *returns, *place));
+    Ok(moments)
+}
+
+/// A history of so many calls, each by a process of its own.
+fn history_text(
+    alloc: Global,
+    random: &mut Random,
+    kind: Kind,
+    count: u32,
+) -> Result<String, AllocError> {
+    let calls = calls_of(alloc, random, kind, count)?;
+    let mut text = String::new(alloc);
+    for (_, place, returns) in &moments_of(alloc, random, calls.len())? {
+        if let Some(call) = calls.get(*place) {
+            let (event, value) = if *returns {
+                ("ok", &call.reply)
+            } else {
+                ("invoke", &call.argument)
+            };
+            let function = call.function;
+            text.push_str(&format!(in alloc;
+                "{{:process {place}, :type :{event}, :f :{function}, :value {value}}}\n"
+            )?)?;
+        }
+    }
+    Ok(text)
+}
+
+/// Whether the search finds an order, and whether the finder does.
+fn both(alloc: Global, text: &str) -> Result<(bool, bool), Fail> {
+    let Ok(history) = read_history_text(alloc, text.as_bytes()) else {
+        return Err(Fail::new("a history is refused"));
+    };
+    let objects = split(alloc, &history)?;
+    let Some(object) = objects.first() else {
+        return Err(Fail::new("no object is named"));
+    };
+    let searched = find_order(alloc, object, TryFirst::LeastNumber, 1_000_000);
+    let is_found = matches!(find(alloc, object)?, Found::Order(_));
+    Ok((matches!(searched.outcome, Outcome::Found(_)), is_found))
+}
+
+#[test]
+fn what_a_search_finds_is_found(rt: HostRuntime) -> Result<(), Fail> {
+    let mut random = Random { state: 2026 };
+    for kind in [
+        Kind::Queue,
+        Kind::Stack,
+        Kind::Heap,
+        Kind::Register,
+        Kind::Map,
+        Kind::Mutex,
+    ] {
+        let mut valid: u32 = 0;
+        for turn in 0..150u32 {
+            let text = history_text(rt.alloc(), &mut random, kind, 3 + turn % 6)?;
+            let (searched, found) = both(rt.alloc(), &text)?;
+            assert_eq!(rt; found, searched, "{text}");
+            if found {
+                valid = valid.saturating_add(1);
+            }
+        }
+        // some have an order, and some have none
+        assert!(rt; valid > 40 && valid < 150, "{valid}");
+    }
+    Ok(())
+}
