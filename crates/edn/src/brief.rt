@@ -130,6 +130,18 @@ impl<'a> Brief<'a> {
         self.push(piece)
     }
 
+    /// A token that a value has round it. Few have, so this is apart from what takes the others.
+    #[inline(never)]
+    fn keep_within(&mut self, piece: Piece<'a>) -> Result<(), AllocError>
+        requires { 0 < self.old.below }
+        ensures { OnOk result (kept_in self.new ≡ spec.keep (piece_token piece.entry) (kept_in self.old)) }
+    {
+        if self.below == 1 {
+            return self.keep_inside(piece);
+        }
+        self.pass_over(piece)
+    }
+
     /// One more token.
     #[inline(always)]
     pub fn keep(&mut self, piece: Piece<'a>) -> Result<(), AllocError>
@@ -138,10 +150,7 @@ impl<'a> Brief<'a> {
         if self.below == 0 {
             return self.keep_outside(piece);
         }
-        if self.below == 1 {
-            return self.keep_inside(piece);
-        }
-        self.pass_over(piece)
+        self.keep_within(piece)
     }
 
     /// The tokens that are kept.
