@@ -6,6 +6,7 @@ use Rattle.edn.specs.Elements.{SpellsFront, SpellsNothing, ReadsElement, ReadsNe
 use Rattle.edn.specs.Sound.{BeginWith, IsShort, IsSoundAt, IsSoundFrom, IsUnreadable}
 use Rattle.edn.specs.Spells.{Spells}
 use Rattle.edn.specs.Token.{Token, tokens_of}
+use Rattle.edn.specs.Briefs.{kept_of}
 use Rattle.edn.specs.declared.fault.EdnFault.{EdnFault}
 use Rattle.edn.specs.declared.fault.FaultKind.TheVariants.{TooLong, NoMemory}
 use Rattle.std.proofs.lemmas.List.{append-nil}
@@ -72,9 +73,9 @@ pub record Along (P : List Datum → Type 0) (text rest : List ℕ) (start : ℕ
   pub place : start + length rest ≡ length text
 
 -- one element more
-pub along_more : (P Q : List Datum → Type 0) (text mid rest : List ℕ) (before start : ℕ) (tokens : List Token) → ReadsElement mid tokens rest → start + length rest ≡ before + length mid
-    → ((ds : List Datum) (d : Datum) → tokens ≡ tokens_of d → P ds → Q (ds ++ d ∷ [])) → Along P text mid before → Along Q text rest start
-along_more P Q text mid rest before start tokens e moves put a =
+pub along_more : (cuts : Bool) (P Q : List Datum → Type 0) (text mid rest : List ℕ) (before start : ℕ) (tokens : List Token) → ReadsElement cuts mid tokens rest → start + length rest ≡ before + length mid
+    → ((ds : List Datum) (d : Datum) → tokens ≡ tokens_of (kept_of cuts d) → P ds → Q (ds ++ d ∷ [])) → Along P text mid before → Along Q text rest start
+along_more cuts P Q text mid rest before start tokens e moves put a =
     record { forms = a.forms ++ e.element ∷ []; front = front_more text mid rest a.forms (e.element ∷ []) a.front e.front; holds = put a.forms e.element e.own a.holds; place = moves ∙ a.place }
 
 -- no element more
@@ -95,10 +96,10 @@ unreadable_behind P text rest start e short a not_long none not_memory =
       nothing = λ _. along_none P text rest start a (none not_memory);
     }
 
-pub reads_some : (b : Bool) (text : List ℕ) (tokens : List Token) (rest : List ℕ) → b ≡ true → ReadsNext text tokens (cond b (Some rest) None) → ReadsElement text tokens rest
-reads_some true text tokens rest e h = h
-reads_some false text tokens rest e h = absurd cc
+pub reads_some : (cuts b : Bool) (text : List ℕ) (tokens : List Token) (rest : List ℕ) → b ≡ true → ReadsNext cuts text tokens (cond b (Some rest) None) → ReadsElement cuts text tokens rest
+reads_some cuts true text tokens rest e h = h
+reads_some cuts false text tokens rest e h = absurd cc
 
-pub reads_none : (b : Bool) (text : List ℕ) (tokens : List Token) (rest : List ℕ) → b ≡ false → ReadsNext text tokens (cond b (Some rest) None) → SpellsNothing text
-reads_none true text tokens rest e h = absurd cc
-reads_none false text tokens rest e h = h
+pub reads_none : (cuts b : Bool) (text : List ℕ) (tokens : List Token) (rest : List ℕ) → b ≡ false → ReadsNext cuts text tokens (cond b (Some rest) None) → SpellsNothing text
+reads_none cuts true text tokens rest e h = absurd cc
+reads_none cuts false text tokens rest e h = h

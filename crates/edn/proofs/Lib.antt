@@ -27,6 +27,7 @@ pub mod Known
 pub mod Nested
 pub mod Raw
 pub mod Prefixes
+pub mod Cutting
 pub mod Turns
 pub mod Tables
 pub mod Runs

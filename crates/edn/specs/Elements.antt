@@ -1,10 +1,11 @@
 -- A text, element by element.
-use Rattle.std.specs.Prelude.{◌≡◌, ℕ, List, [], ◌∷◌, ◌++◌, Option, Some, None}
+use Rattle.std.specs.Prelude.{◌≡◌, ℕ, Bool, List, [], ◌∷◌, ◌++◌, Option, Some, None}
 use Rattle.std.specs.Str.{IsUtf8}
 use Rattle.edn.specs.Datum.{Datum, ItemsFit, items_of, max_open}
 use Rattle.edn.specs.Spells.{Spells}
 use Rattle.edn.specs.Sound.{BeginWith}
 use Rattle.edn.specs.Token.{Token, tokens_of, items_tokens}
+use Rattle.edn.specs.Briefs.{kept_of, Keep, keep}
 use Rattle.edn.specs.Reading.{Next, got}
 
 -- The text begins with these forms, and this rest follows them: what the rest spells, the text spells behind them, and
@@ -20,18 +21,18 @@ pub record SpellsNothing (text : List ℕ) : Type 0 where
   pub spelled : Spells [] text
   pub only : (es : List Datum) → Spells es text → es ≡ []
 
--- One element was read, these being its tokens, and this rest follows it.
-pub record ReadsElement (text : List ℕ) (tokens : List Token) (rest : List ℕ) : Type 0 where
+-- One element was read, these being the tokens of what is kept of it, and this rest follows it.
+pub record ReadsElement (cuts : Bool) (text : List ℕ) (tokens : List Token) (rest : List ℕ) : Type 0 where
   pub element : Datum
-  pub own : tokens ≡ tokens_of element
+  pub own : tokens ≡ tokens_of (kept_of cuts element)
   pub front : SpellsFront text (element ∷ []) rest
   pub utf8 : IsUtf8 rest
 
 -- what a text begins with, or that it has no element more
-abbrev pub ReadsNext : List ℕ → List Token → Option (List ℕ) → Type 0
-ReadsNext text tokens None = SpellsNothing text
-ReadsNext text tokens (Some rest) = ReadsElement text tokens rest
+abbrev pub ReadsNext : Bool → List ℕ → List Token → Option (List ℕ) → Type 0
+ReadsNext cuts text tokens None = SpellsNothing text
+ReadsNext cuts text tokens (Some rest) = ReadsElement cuts text tokens rest
 
--- the tokens that are kept are one more
-abbrev pub KeepsToken : List Token → Next → List Token → Type 0
-KeepsToken old n new = (t : Token) (r : List ℕ) → n ≡ got t r → new ≡ old ++ t ∷ []
+-- one more token is kept, as far as it is
+abbrev pub KeepsToken : Keep → Next → Keep → Type 0
+KeepsToken old n new = (t : Token) (r : List ℕ) → n ≡ got t r → new ≡ keep t old

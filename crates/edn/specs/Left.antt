@@ -1,5 +1,5 @@
 -- What a reader of elements has.
-use Rattle.std.specs.Prelude.{ℕ, ◌-◌, List, length}
+use Rattle.std.specs.Prelude.{ℕ, ◌-◌, Bool, List, length}
 use Rattle.edn.specs.Token.{Token}
 use Rattle.edn.specs.Tapes.{tokens_on}
 use Rattle.edn.specs.declared.elements.Elements.{Elements}
@@ -12,6 +12,10 @@ left_of e = e.rest.now
 abbrev pub start_of : Elements → ℕ
 start_of e = e.whole - length e.rest.now
 
--- the tokens of the element that was read last
+-- whether values are cut
+abbrev pub cuts_in : Elements → Bool
+cuts_in e = e.cuts
+
+-- the tokens that were kept of the element that was read last
 abbrev pub tokens_in : Elements → List Token
 tokens_in e = tokens_on e.tape

@@ -21,6 +21,8 @@ pub mod Shapes
 pub mod NameSets
 pub mod Pieces
 pub mod Levels
+pub mod Briefs
+pub mod Kepts
 pub mod Elements
 pub mod Tapes
 pub mod Left

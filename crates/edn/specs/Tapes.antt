@@ -3,13 +3,17 @@ use Rattle.std.specs.Prelude.{ℕ, ◌-◌, ◌≤◌, List, length}
 use Rattle.edn.specs.Token.{Token}
 use Rattle.edn.specs.Shapes.{Shapes}
 use Rattle.edn.specs.Sound.{IsSoundAt}
-use Rattle.edn.specs.Pieces.{tape_tokens}
+use Rattle.edn.specs.Briefs.{Keep}
+use Rattle.edn.specs.Kepts.{kept_in}
 use Rattle.edn.specs.Levels.{levels_shapes}
 use Rattle.edn.specs.declared.tape.Tape.{Tape}
 
--- the tokens of the element that was read last
+-- what is kept of the element that was read last
+abbrev pub kept_on : Tape → Keep
+kept_on t = kept_in t.brief
+
 abbrev pub tokens_on : Tape → List Token
-tokens_on t = tape_tokens t.pieces.items
+tokens_on t = (kept_on t).tokens
 
 -- what is open
 abbrev pub open_on : Tape → Shapes

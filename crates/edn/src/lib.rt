@@ -7,6 +7,7 @@
 //! line feed or the end. `specs/Spells.antt` says it exactly.
 #![tactic(auto)]
 
+mod brief;
 mod bytes;
 mod elements;
 mod entries;

@@ -9,29 +9,30 @@ ghost use Rattle.edn.specs.Elements.{ReadsNext, KeepsToken};
 ghost use Rattle.edn.specs.Results.{Denies};
 ghost use Rattle.edn.specs.Tapes.{IsSoundBehind};
 
+use crate::brief::Brief;
 use crate::fault::{Cause, Stop};
 use crate::levels::Levels;
 use crate::lexer::skip;
 use crate::piece::Piece;
 use std::alloc::Global;
 
-/// The tokens of one element, what is open while they are read, and what follows the last of them.
+/// The tokens of one element that are kept, what is open while they are read, and what follows the last of them.
 #[derive(Drop)]
 pub struct Tape<'a> {
-    pieces: Vec<Piece<'a>>,
+    brief: Brief<'a>,
     levels: Levels<'a>,
     behind: &'a [u8],
 }
 
 impl<'a> Tape<'a> {
-    ghost use Rattle.edn.specs.Tapes.{tokens_on, open_on};
+    ghost use Rattle.edn.specs.Tapes.{tokens_on, kept_on, open_on};
     ghost use Rattle.edn.specs.Pieces.{piece_token, tape_tokens};
 
     pub fn new(alloc: Global) -> Tape<'a>
         ensures { open_on result ≡ nothing_open }
     {
         Tape {
-            pieces: Vec::new(alloc),
+            brief: Brief::new(alloc),
             levels: Levels::new(alloc),
             behind: b"",
         }
@@ -54,18 +55,13 @@ impl<'a> Tape<'a> {
             (λ e. Denies e.cause (after_piece (open_on self.old) (reading.first here.entry.now))) }
         ensures place { IfErr result (λ e. e.cause ≡ Cause.NoMemory → e.left ≡ length here.entry.now) }
         ensures kept { OnOk result
-            (KeepsToken (tokens_on self.old) (reading.first here.entry.now) (tokens_on self.new)) }
+            (KeepsToken (kept_on self.old) (reading.first here.entry.now) (kept_on self.new)) }
     {
         if let Err(cause) = self.levels.step(alloc, &piece) {
             return Err(Stop::at(cause, here));
         }
         self.behind = rest;
-        // Most pushes find room: these are made here, and only the others by a call.
-        if self.pieces.len() < self.pieces.capacity() {
-            self.pieces.push_reserved(piece);
-            return Ok(());
-        }
-        match self.pieces.push(piece) {
+        match self.brief.keep(piece) {
             Ok(()) => Ok(()),
             Err(_) => Err(Stop::at(Cause::NoMemory, here)),
         }
@@ -80,7 +76,7 @@ impl<'a> Tape<'a> {
             (λ e. Denies e.cause (after_piece (open_on self.old) (reading.first here.entry.now))) }
         ensures place { IfErr result (λ e. e.cause ≡ Cause.NoMemory → e.left ≡ length here.entry.now) }
         ensures kept { OnOk result
-            (KeepsToken (tokens_on self.old) (reading.first here.entry.now) (tokens_on self.new)) }
+            (KeepsToken (kept_on self.old) (reading.first here.entry.now) (kept_on self.new)) }
     {
         // A string is no key, whatever it holds.
         if self.levels.takes_key() && here[0] == b'"' {
@@ -100,7 +96,7 @@ impl<'a> Tape<'a> {
             (λ e. Denies e.cause (after_piece (open_on self.old) (reading.first here.entry.now))) }
         ensures place { IfErr result (λ e. e.cause ≡ Cause.NoMemory → e.left ≡ length here.entry.now) }
         ensures kept { OnOk result
-            (KeepsToken (tokens_on self.old) (reading.first here.entry.now) (tokens_on self.new)) }
+            (KeepsToken (kept_on self.old) (reading.first here.entry.now) (kept_on self.new)) }
     {
         match here {
             [b':', tail @ ..] => match Piece::usual_keyword(tail) {
@@ -119,18 +115,23 @@ impl<'a> Tape<'a> {
 
     /// Reads the next element. After an error the tape is of no use.
     #[tactic(auto, using(crate::proofs::Lexical::skip_within, crate::proofs::Turns::after_piece_shorter))]
-    fn try_read(&mut self, alloc: Global, text: &'a [u8]) -> Result<Option<&'a [u8]>, Stop>
+    fn try_read(
+        &mut self,
+        alloc: Global,
+        cuts: bool,
+        text: &'a [u8],
+    ) -> Result<Option<&'a [u8]>, Stop>
         requires utf8 { IsUtf8 text.now }
         requires fresh { open_on self.old ≡ nothing_open }
         ensures reads { IfOk result (λ rest.
-            ReadsNext text.entry.now (tokens_on self.new) (option_map (λ r. r.now) rest)) }
+            ReadsNext cuts text.entry.now (tokens_on self.new) (option_map (λ r. r.now) rest)) }
         ensures shorter { IfOk result (λ rest. IfSome rest (λ r. length r.now < length text.entry.now)) }
         ensures none { IfErr result (λ e. e.cause ≢ Cause.NoMemory → (ds : List Datum) →
             Spells ds text.entry.now → ⊥) }
         ensures memory { IfErr result (λ e. e.cause ≡ Cause.NoMemory → IsSoundBehind e.left text.entry.now) }
         ensures fresh { OnOk result (open_on self.new ≡ nothing_open) }
     {
-        self.pieces.clear();
+        self.brief.clear(cuts);
         let here = skip(text);
         if here.is_empty() {
             return Ok(None);
@@ -147,19 +148,25 @@ impl<'a> Tape<'a> {
     }
 
     /// Reads the next element of a text, and gives what follows it, or none where there is no
-    /// element more. After an error nothing is open, as before.
-    pub fn read(&mut self, alloc: Global, text: &'a [u8]) -> Result<Option<&'a [u8]>, Stop>
+    /// element more. Of its tokens all are kept, or the beginning of each value where it is to be
+    /// cut. After an error nothing is open, as before.
+    pub fn read(
+        &mut self,
+        alloc: Global,
+        cuts: bool,
+        text: &'a [u8],
+    ) -> Result<Option<&'a [u8]>, Stop>
         requires utf8 { IsUtf8 text.now }
         requires fresh { open_on self.old ≡ nothing_open }
         ensures reads { IfOk result (λ rest.
-            ReadsNext text.entry.now (tokens_on self.new) (option_map (λ r. r.now) rest)) }
+            ReadsNext cuts text.entry.now (tokens_on self.new) (option_map (λ r. r.now) rest)) }
         ensures shorter { IfOk result (λ rest. IfSome rest (λ r. length r.now < length text.entry.now)) }
         ensures none { IfErr result (λ e. e.cause ≢ Cause.NoMemory → (ds : List Datum) →
             Spells ds text.entry.now → ⊥) }
         ensures memory { IfErr result (λ e. e.cause ≡ Cause.NoMemory → IsSoundBehind e.left text.entry.now) }
         ensures fresh { open_on self.new ≡ nothing_open }
     {
-        match self.try_read(alloc, text) {
+        match self.try_read(alloc, cuts, text) {
             Ok(rest) => Ok(rest),
             Err(stop) => {
                 self.levels = Levels::new(alloc);
@@ -168,10 +175,10 @@ impl<'a> Tape<'a> {
         }
     }
 
-    /// The tokens of the element that was read last.
+    /// The tokens that were kept of the element that was read last.
     pub fn pieces(&self) -> &[Piece<'a>]
         ensures { tape_tokens result.now ≡ tokens_on self.now }
     {
-        self.pieces.as_slice()
+        self.brief.pieces()
     }
 }

@@ -1,5 +1,6 @@
 -- The maps of a text, one by one: what was found stays found, whatever follows.
-use Rattle.std.proofs.Common.{◌≡◌, ◌≢◌, ℕ, ◌+◌, ◌<◌, ◌≤◌, Option, Some, None, List, [], ◌∷◌, ◌++◌, length, take, refl, sym, ap, subst, ◌∙◌, append_assoc, zero-add, arith}
+use Rattle.std.proofs.Common.{◌≡◌, ◌≢◌, ℕ, ◌+◌, ◌<◌, ◌≤◌, true, Option, Some, None, List, [], ◌∷◌, ◌++◌, length, take, refl, sym, ap, subst, ◌∙◌, append_assoc, zero-add, arith}
+use Rattle.std.specs.Option.{is_some}
 use Rattle.std.proofs.lemmas.List.{length-append, take_all, take-append-le}
 use Rattle.edn.specs.Datum.{Datum}
 use Rattle.events.specs.declared.event.Event.{Event}
@@ -51,10 +52,17 @@ found_more ds d f h = (
     take_front : (n : ℕ) (xs : List Datum) (d : Datum) → n ≤ length xs → take n (xs ++ d ∷ []) ≡ take n xs
     take_front n xs d le = rw take-append-le refl
 
-pub faulty_more : (r : Reading) (f : HistoryFault) (ds : List Datum) (d : Datum) → r.fault ≡ Some f → IsReading r ds → IsReading r (ds ++ d ∷ [])
+faulty_more : (r : Reading) (f : HistoryFault) (ds : List Datum) (d : Datum) → r.fault ≡ Some f → IsReading r ds → IsReading r (ds ++ d ∷ [])
 faulty_more r f ds d e h =
     let a : IsFoundIn ds f = subst (λ (o : Option HistoryFault). IsReadOrFaulty o r.seen r.map ds r.events.items) e h in
     subst (λ (o : Option HistoryFault). IsReadOrFaulty o r.seen r.map (ds ++ d ∷ []) r.events.items) (sym e) (found_more ds d f a)
+
+pub faulty_stays : (r : Reading) (ds : List Datum) (d : Datum) → is_some r.fault ≡ true → IsReading r ds → IsReading r (ds ++ d ∷ [])
+faulty_stays r ds d e h = by_fault r.fault refl e
+  where
+    by_fault : (o : Option HistoryFault) → r.fault ≡ o → is_some o ≡ true → IsReading r (ds ++ d ∷ [])
+    by_fault None q k = absurd cc
+    by_fault (Some f) q k = faulty_more r f ds d q h
 
 pub are_read : (r : Reading) (ds : List Datum) → r.fault ≡ None → IsReading r ds → AreRead r.seen r.map ds r.events.items
 are_read r ds e h = subst (λ (o : Option HistoryFault). IsReadOrFaulty o r.seen r.map ds r.events.items) e h

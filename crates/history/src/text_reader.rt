@@ -1,6 +1,7 @@
 //! From a text to a history, element by element.
 
 ghost use Rattle.std.specs.Prelude.{◌≡◌, ◌≢◌, ◌<◌, ◌+◌, ◌++◌, ◌∷◌, [], List, length, IfOk, IfErr, OnOk, MatchResult};
+ghost use Rattle.edn.specs.Briefs.{brief};
 ghost use Rattle.edn.specs.Datum.{Datum};
 ghost use Rattle.edn.specs.Pieces.{tape_tokens};
 ghost use Rattle.edn.specs.Sound.{IsShort};
@@ -41,10 +42,10 @@ impl Reading {
         }
     }
 
-    /// Reads one more map, where none was faulty.
+    /// Reads one more map, where none was faulty. Of each value only the beginning is given.
     fn take_next(&mut self, pieces: &[Piece])
         requires { self.old.fault ≡ None }
-        ensures { (ds : List Datum) (d : Datum) → tape_tokens pieces.now ≡ tokens_of d
+        ensures { (ds : List Datum) (d : Datum) → tape_tokens pieces.now ≡ tokens_of (brief d)
             → IsReading self.old ds → IsReading self.new (ds ++ d ∷ []) }
     {
         let map = self.map;
@@ -55,9 +56,8 @@ impl Reading {
     }
 
     /// Reads one more map, unless an earlier one is faulty.
-    #[tactic(auto, using(crate::proofs::TextReading::faulty_more))]
     fn take(&mut self, pieces: &[Piece])
-        ensures { (ds : List Datum) (d : Datum) → tape_tokens pieces.now ≡ tokens_of d
+        ensures { (ds : List Datum) (d : Datum) → tape_tokens pieces.now ≡ tokens_of (brief d)
             → IsReading self.old ds → IsReading self.new (ds ++ d ∷ []) }
     {
         if self.fault.is_none() {
@@ -87,13 +87,13 @@ impl Reading {
 /// The history that the text denotes, each form being one operation map, or what is wrong. What is
 /// wrong with the text comes before what is wrong with a map: behind the first map that is faulty, or
 /// for which memory was refused, the text is still read to its end. The forms of the text are never
-/// in memory together.
+/// in memory together, and of a value only what can be an argument or a reply.
 pub fn read_history_text(alloc: Global, text: &[u8]) -> Result<History, TextFault>
     ensures denotes { IfOk result (λ h. (ds : List Datum) × Spells ds text.now × Denotes ds h) }
     ensures short { OnOk result (IsShort text.now) }
     ensures fault { IfErr result (IsTextFault text.now) }
 {
-    let mut elements = match Elements::new(alloc, text) {
+    let mut elements = match Elements::brief(alloc, text) {
         Ok(elements) => elements,
         Err(fault) => return Err(TextFault::Text(fault)),
     };

@@ -1,0 +1,109 @@
+-- What a form says is what is kept of it says.
+use Rattle.std.proofs.Common.{◌≡◌, ℕ, Bool, true, false, Option, Some, None, List, codes, refl, sym, ap, subst, ◌∙◌}
+use Rattle.std.specs.Prelude.{option_map, option_and_then, is_some, if◌then◌else◌}
+use Rattle.edn.specs.Briefs.{most_items, brief_item, brief_items, brief_value, brief_entries, brief}
+use Rattle.edn.specs.Datum.{nil, boolean, integer, string, keyword, Datum, atom, vector, dictionary, Items, no_items, item, Entries, no_entries, entry}
+use Rattle.fields.specs.Fields.{same_bytes, value_at, natural_in, keyword_in, value_in}
+use Rattle.history.specs.Maps.{MapType, type_named, type_in, object_at, integer_in, pair_in, plain_value, ClientMap, client_with, client_in, client_of, is_ignored}
+use Rattle.history.specs.Views.{client_map, IsClient, Says}
+use Rattle.history.specs.declared.client_map.ClientMap as code
+use Rattle.history.specs.Names.{function_named}
+use Rattle.edn.proofs.Strings.{some_is}
+use Rattle.history.specs.declared.client_map.OperationMap.{OperationMap}
+use Rattle.history.specs.declared.client_map.OperationMap.TheVariants.{OfClient, Ignored, Neither}
+
+value_of_brief : (k : List ℕ) (es : Entries) → value_at k (brief_entries es) ≡ option_map brief_value (value_at k es)
+value_of_brief k no_entries = refl
+value_of_brief k (entry l d es) = by_key (same_bytes k l) (value_of_brief k es)
+  where
+    by_key : (b : Bool) → value_at k (brief_entries es) ≡ option_map brief_value (value_at k es) → (if b then Some (brief_value d) else value_at k (brief_entries es)) ≡ option_map brief_value (if b then Some d else value_at k es)
+    by_key true e = refl
+    by_key false e = e
+
+natural_of_brief : (o : Option Datum) → natural_in (option_map brief_value o) ≡ natural_in o
+natural_of_brief None = refl
+natural_of_brief (Some (atom a)) = refl
+natural_of_brief (Some (vector ds)) = refl
+natural_of_brief (Some (dictionary es)) = refl
+
+keyword_of_brief : (o : Option Datum) → keyword_in (option_map brief_value o) ≡ keyword_in o
+keyword_of_brief None = refl
+keyword_of_brief (Some (atom a)) = refl
+keyword_of_brief (Some (vector ds)) = refl
+keyword_of_brief (Some (dictionary es)) = refl
+
+object_of_brief : (o : Option Datum) → object_at (option_map brief_value o) ≡ object_at o
+object_of_brief None = refl
+object_of_brief (Some (atom a)) = refl
+object_of_brief (Some (vector ds)) = refl
+object_of_brief (Some (dictionary es)) = refl
+
+integer_of_brief : (d : Datum) → integer_in (brief_item d) ≡ integer_in d
+integer_of_brief (atom a) = refl
+integer_of_brief (vector ds) = refl
+integer_of_brief (dictionary es) = refl
+
+pair_of_brief : (ds : Items) → pair_in (brief_items most_items ds) ≡ pair_in ds
+pair_of_brief no_items = refl
+pair_of_brief (item a no_items) = refl
+pair_of_brief (item a (item b no_items)) = rw (integer_of_brief a, integer_of_brief b) refl
+pair_of_brief (item a (item b (item d ds))) = refl
+
+plain_of_brief : (o : Option Datum) → plain_value (value_in (option_map brief_value o)) ≡ plain_value (value_in o)
+plain_of_brief None = refl
+plain_of_brief (Some (atom a)) = refl
+plain_of_brief (Some (vector ds)) = pair_of_brief ds
+plain_of_brief (Some (dictionary es)) = refl
+
+-- ---- the map
+
+-- a map with another value, of which the same is kept
+another : (p : Option ℕ) (t : Option MapType) (f : Option (List ℕ)) (x : Option ℕ) (v w : Datum) (c : code.ClientMap) → plain_value v ≡ plain_value w → IsClient (Some c) (client_with p t f x v) → IsClient (Some c) (client_with p t f x w)
+another None t f x v w c e (u, q, k) = absurd cc
+another (Some p) None f x v w c e (u, q, k) = absurd cc
+another (Some p) (Some t) None x v w c e (u, q, k) = absurd cc
+another (Some p) (Some t) (Some f) None v w c e (u, q, k) = absurd cc
+another (Some p) (Some t) (Some f) (Some x) v w c e (u, q, k) =
+    let m : ClientMap = record { process = p; type = t; function = function_named f; object = x; value = v } in
+    let s : m ≡ client_map c u = some_is m (client_map c u) q in
+    (w, ap (λ (n : ClientMap). Some (record n { value = w })) s, sym e ∙ ap (λ (n : ClientMap). plain_value n.value) s ∙ k)
+
+no_other : (p : Option ℕ) (t : Option MapType) (f : Option (List ℕ)) (x : Option ℕ) (v w : Datum) → client_with p t f x v ≡ None → client_with p t f x w ≡ None
+no_other None t f x v w e = refl
+no_other (Some p) None f x v w e = refl
+no_other (Some p) (Some t) None x v w e = refl
+no_other (Some p) (Some t) (Some f) None v w e = refl
+no_other (Some p) (Some t) (Some f) (Some x) v w e = absurd cc
+
+-- the values that are looked at, and the one that is cut
+client_of_brief : (es : Entries) → client_in (brief_entries es) ≡ client_with (natural_in (value_at (codes "process") es)) (type_in (value_at (codes "type") es)) (keyword_in (value_at (codes "f") es)) (object_at (value_at (codes "object") es)) (value_in (option_map brief_value (value_at (codes "value") es)))
+client_of_brief es =
+    let v = value_in (value_at (codes "value") (brief_entries es)) in
+    let p = value_of_brief (codes "process") es in
+    let t = value_of_brief (codes "type") es in
+    let f = value_of_brief (codes "f") es in
+    let x = value_of_brief (codes "object") es in
+    ap (λ (y : Option ℕ). client_with y (type_in (value_at (codes "type") (brief_entries es))) (keyword_in (value_at (codes "f") (brief_entries es))) (object_at (value_at (codes "object") (brief_entries es))) v) (ap natural_in p ∙ natural_of_brief (value_at (codes "process") es))
+    ∙ ap (λ (y : Option (List ℕ)). client_with (natural_in (value_at (codes "process") es)) (option_and_then type_named y) (keyword_in (value_at (codes "f") (brief_entries es))) (object_at (value_at (codes "object") (brief_entries es))) v) (ap keyword_in t ∙ keyword_of_brief (value_at (codes "type") es))
+    ∙ ap (λ (y : Option (List ℕ)). client_with (natural_in (value_at (codes "process") es)) (type_in (value_at (codes "type") es)) y (object_at (value_at (codes "object") (brief_entries es))) v) (ap keyword_in f ∙ keyword_of_brief (value_at (codes "f") es))
+    ∙ ap (λ (y : Option ℕ). client_with (natural_in (value_at (codes "process") es)) (type_in (value_at (codes "type") es)) (keyword_in (value_at (codes "f") es)) y v) (ap object_at x ∙ object_of_brief (value_at (codes "object") es))
+    ∙ ap (λ (o : Option Datum). client_with (natural_in (value_at (codes "process") es)) (type_in (value_at (codes "type") es)) (keyword_in (value_at (codes "f") es)) (object_at (value_at (codes "object") es)) (value_in o)) (value_of_brief (codes "value") es)
+
+process_of_brief : (es : Entries) → is_some (keyword_in (value_at (codes "process") (brief_entries es))) ≡ is_some (keyword_in (value_at (codes "process") es))
+process_of_brief es = ap (λ (o : Option Datum). is_some (keyword_in o)) (value_of_brief (codes "process") es) ∙ ap is_some (keyword_of_brief (value_at (codes "process") es))
+
+none_in : (es : Entries) → client_in (brief_entries es) ≡ None → client_in es ≡ None
+none_in es e = no_other (natural_in (value_at (codes "process") es)) (type_in (value_at (codes "type") es)) (keyword_in (value_at (codes "f") es)) (object_at (value_at (codes "object") es)) (value_in (option_map brief_value (value_at (codes "value") es))) (value_in (value_at (codes "value") es)) (sym (client_of_brief es) ∙ e)
+
+pub says_as_much : (o : OperationMap) (d : Datum) → Says o (brief d) → Says o d
+says_as_much (OfClient c) (atom a) h = h
+says_as_much (OfClient c) (vector ds) h = h
+says_as_much (OfClient c) (dictionary es) h =
+    another (natural_in (value_at (codes "process") es)) (type_in (value_at (codes "type") es)) (keyword_in (value_at (codes "f") es)) (object_at (value_at (codes "object") es)) (value_in (option_map brief_value (value_at (codes "value") es))) (value_in (value_at (codes "value") es)) c
+    (plain_of_brief (value_at (codes "value") es)) (subst (IsClient (Some c)) (client_of_brief es) h)
+says_as_much Ignored (atom a) h = h
+says_as_much Ignored (vector ds) h = h
+says_as_much Ignored (dictionary es) h = (none_in es h.0, sym (process_of_brief es) ∙ h.1)
+says_as_much Neither (atom a) h = h
+says_as_much Neither (vector ds) h = h
+says_as_much Neither (dictionary es) h = (none_in es h.0, sym (process_of_brief es) ∙ h.1)
