@@ -60,7 +60,8 @@ impl<'a> Brief<'a> {
 
     /// An element of a value, where it has room.
     fn keep_item(&mut self, piece: Piece<'a>) -> Result<(), AllocError>
-        ensures { OnOk result (kept_in self.new ≡ spec.keep_item (piece_token piece.entry) (kept_in self.old)) }
+        ensures { OnOk result
+            (kept_in self.new ≡ spec.keep_item (piece_token piece.entry) (kept_in self.old)) }
     {
         if self.room == 0 {
             return Ok(());
@@ -72,7 +73,8 @@ impl<'a> Brief<'a> {
 
     /// A token in a value.
     fn keep_inside(&mut self, piece: Piece<'a>) -> Result<(), AllocError>
-        ensures { OnOk result (kept_in self.new ≡ spec.keep_inside (piece_token piece.entry) (kept_in self.old)) }
+        ensures { OnOk result
+            (kept_in self.new ≡ spec.keep_inside (piece_token piece.entry) (kept_in self.old)) }
     {
         match piece {
             Piece::OpenVector | Piece::OpenMap => {
@@ -92,7 +94,8 @@ impl<'a> Brief<'a> {
     /// A token deeper in a value, which is not kept.
     fn pass_over(&mut self, piece: Piece<'a>) -> Result<(), AllocError>
         requires { 1 < self.old.below }
-        ensures { OnOk result (kept_in self.new ≡ spec.pass_over (piece_token piece.entry) (kept_in self.old)) }
+        ensures { OnOk result
+            (kept_in self.new ≡ spec.pass_over (piece_token piece.entry) (kept_in self.old)) }
     {
         match piece {
             Piece::OpenVector | Piece::OpenMap => {
@@ -111,7 +114,8 @@ impl<'a> Brief<'a> {
     /// A token that no value has round it.
     #[inline(always)]
     fn keep_outside(&mut self, piece: Piece<'a>) -> Result<(), AllocError>
-        ensures { OnOk result (kept_in self.new ≡ spec.keep_outside (piece_token piece.entry) (kept_in self.old)) }
+        ensures { OnOk result
+            (kept_in self.new ≡ spec.keep_outside (piece_token piece.entry) (kept_in self.old)) }
     {
         match piece {
             Piece::OpenVector if self.cuts => {

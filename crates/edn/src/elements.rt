@@ -87,7 +87,8 @@ impl<'a> Elements<'a> {
     /// Reads the next element, or says that there is none. After an error what is left stays as it
     /// was, and the next call answers the same, but for want of memory.
     pub fn advance(&mut self) -> Result<bool, EdnFault>
-        ensures reads { IfOk result (λ more. ReadsNext (cuts_in self.old) (left_of self.old) (tokens_in self.new)
+        ensures reads { IfOk result (λ more.
+            ReadsNext (cuts_in self.old) (left_of self.old) (tokens_in self.new)
             (if more then Some (left_of self.new) else None)) }
         ensures cut { cuts_in self.new ≡ cuts_in self.old }
         ensures moves { start_of self.new + length (left_of self.new)
