@@ -1,5 +1,6 @@
-use Rattle.std.proofs.Common.{map, rules, arith, ◌≡◌, ◌<◌, ◌+◌, List, length, refl, sym, ap, ◌∙◌, subst}
+use Rattle.std.proofs.Common.{map, rules, arith, ◌≡◌, ◌<◌, ◌+◌, ◌++◌, ◌∷◌, [], List, length, refl, sym, ap, ◌∙◌, subst}
 use Rattle.model.specs.declared.Kind.{Kind}
+use Rattle.world.specs.declared.JournalEvent.TheVariants.{Invoked}
 use Rattle.world.specs.World.{kind_at, calls_made}
 use Rattle.roster.specs.Calls.{PlaceSeen}
 use Rattle.desk_rule.specs.Views.{own_request, is_waiting}
@@ -49,10 +50,11 @@ push_reserved-requires g c = let may = c.in_default.ensures.may in let k = outst
 pub invariant_of-client : goal.invariant_of-client
 invariant_of-client g c = let may = c.in_default.ensures.may in let k = outstanding_is (c.client.invariant.0.agrees.outstanding_is ∙ (ap (λ z. is_waiting z.knows.own) c.client.view_is ∙ may.0)) c.client.invariant.0 in
     let is = own_idle _ k.agrees.at_rest (sym k.agrees.outstanding_is) in
-    let e = c.exchange.ensures.3 in let f = c.fetch_add-ticket.ensures.2 _ _ _ (ap (λ z. z.1) e) in let h = c.exchange-2.ensures.3 in let p = c.push_reserved.ensures in let few = c.self.invariant.0.5 in let ok = c.in_default.ensures.there in
+    let e = c.exchange.ensures.3 in let f = c.fetch_add-ticket.ensures.2 _ _ _ (ap (λ z. z.1) e) in let h = c.exchange-2.ensures.3 in let p = c.push_reserved.ensures in
+    let written : c.push_reserved.new.self.items ≡ c.client.inside.member.journal.events.items ++ Invoked c.fetch_add-ticket.result c.args.object c.args.op ∷ [] = p.items in let few = c.self.invariant.0.5 in let ok = c.in_default.ensures.there in
     let turn = post_turn g.S.SeqObject.op_in g.S.SeqObject.reply_in _ _ _ _ _ (record { object = c.args.object; ticket = c.fetch_add-ticket.result; op = c.args.op }) _ _ _ _ _ k e f h (c.store.ensures.2 _ (ap (λ z. z.0.own) h ∙ ap (λ z. z.0.own) f)) in
     let low : c.args.object < length c.self.inside.kinds.items = search rules in (
-      post_ok g.S.SeqObject.op_in g.S.SeqObject.reply_in _ _ _ c.client.inside.member.journal _ _ _ _ k turn (omega arith) (let count = k.agrees.calls_is in let left : calls_made c.client.inside.member.seat.me.0.done (own_request c.client.inside.member.seat.me.0.own) < c.client.inside.member.quota = subst (λ (z : Known). calls_made z.knows.done (own_request z.knows.own) < z.desk.quota) (sym c.client.view_is) may.1 in omega arith) p.items p.capacity,
+      post_ok g.S.SeqObject.op_in g.S.SeqObject.reply_in _ _ _ c.client.inside.member.journal _ _ _ _ k turn (omega arith) (let count = k.agrees.calls_is in let left : calls_made c.client.inside.member.seat.me.0.done (own_request c.client.inside.member.seat.me.0.own) < c.client.inside.member.quota = subst (λ (z : Known). calls_made z.knows.done (own_request z.knows.own) < z.desk.quota) (sym c.client.view_is) may.1 in omega arith) written p.capacity,
       own_still _ _ _ _ (ap (λ m. m.0.lists) turn) c.client.invariant.1,
     )
 
