@@ -48,7 +48,7 @@ fn joined(
 ///
 /// Worker `w` gathers the objects whose numbers leave the remainder `w` by the number of workers. So the work is shared
 /// where the objects' numbers are spread over the remainders; each worker also looks once at each event.
-pub fn split_by_workers<R: Threads + Sync>(
+pub(crate) fn split_by_workers<R: Threads + Sync>(
     rt: &R,
     alloc: Global,
     history: &History,

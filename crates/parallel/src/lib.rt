@@ -5,7 +5,6 @@ mod gathering;
 mod share;
 mod workers;
 
-pub use gathering::split_by_workers;
 pub use workers::check_parallel;
 
 #[cfg(test)]

@@ -1,14 +1,12 @@
-ghost use Rattle.std.specs.Prelude.{All, IsTrue, IfOk};
-ghost use Rattle.edn.specs.Datum.{Fits, max_open};
-ghost use Rattle.edn.specs.View.{view};
+ghost use Rattle.std.specs.Prelude.{IfOk};
 ghost use Rattle.certificate.specs.Denotes.{AreDistinct};
 
-use crate::{check_parallel, split_by_workers};
-use certificate::{Certificate, read_certificates};
+use crate::check_parallel;
+use crate::gathering::split_by_workers;
+use certificate::{Certificate, read_certificates_text};
 use checker::{OrderFault, Refusal, check_all};
-use edn::{Form, fits, read_forms};
 use events::{History, split};
-use history::read_history;
+use history::read_history_text;
 use seq_objects::{AnyReply, Gate, Open};
 use std::alloc::Global;
 use std::sync::atomic::{AtomicU64, Ordering};
@@ -29,35 +27,14 @@ const TWO_QUEUES: &str = "
 /// How long a gate waits, each turn a yield.
 const TURNS: u32 = 10_000_000;
 
-/// Whether each form fits, which is what the readers ask.
-fn all_fit(forms: &[Form]) -> bool
-    ensures { IsTrue result → All (λ f. Fits max_open (view f)) forms.now }
-{
-    forms.iter().all(|f| fits(f))
-}
-
-fn forms_of(alloc: Global, text: &str) -> Result<Vec<Form>, Fail>
-    ensures { IfOk result (λ v. All (λ f. Fits max_open (view f)) v.items) }
-{
-    let Ok(forms) = read_forms(alloc, text.as_bytes()) else {
-        return Err(Fail::new("a text of forms is refused"));
-    };
-    if !all_fit(forms.as_slice()) {
-        return Err(Fail::new("a form that was read does not fit"));
-    }
-    Ok(forms)
-}
-
 fn history_of(alloc: Global, text: &str) -> Result<History, Fail> {
-    let forms = forms_of(alloc, text)?;
-    read_history(alloc, forms).map_err(|_| Fail::new("a history is refused"))
+    read_history_text(alloc, text.as_bytes()).map_err(|_| Fail::new("a history is refused"))
 }
 
 fn certificates_of(alloc: Global, text: &str) -> Result<Vec<Certificate>, Fail>
     ensures { IfOk result (λ v. AreDistinct v.items) }
 {
-    let forms = forms_of(alloc, text)?;
-    let Ok(certificates) = read_certificates(alloc, forms) else {
+    let Ok(certificates) = read_certificates_text(alloc, text.as_bytes()) else {
         return Err(Fail::new("certificates are refused"));
     };
     Ok(certificates)
