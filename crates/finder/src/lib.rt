@@ -2,7 +2,8 @@
 //! not find is open.
 //!
 //! It finds an order of a queue, stack, heap, register or map in which each value is put in once, and of any mutex, in some n log n
-//! steps of n calls. A value that comes twice, and some calls that are pending, leave an object open.
+//! steps of n calls. Where values come more than once, or calls are pending, some objects that have an order stay open; a register or a
+//! key of a map does where a value is set twice.
 #![tactic(auto)]
 
 mod accesses;

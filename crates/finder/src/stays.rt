@@ -1,4 +1,5 @@
-//! How long each value is in a queue, stack or heap, where each comes once.
+//! How long each value is in a queue, stack or heap. Where a value comes more than once, its puts and takings are paired in the
+//! order of their begins, and each pair counts as a value of its own.
 
 use crate::calls::{PENDING, TimedCall};
 use seq_objects::{AnyOp, AnyReply};
@@ -65,7 +66,7 @@ struct Touch {
     call: TimedCall,
 }
 
-/// The calls of a queue, stack or heap in which each value comes once.
+/// The calls of a queue, stack or heap.
 #[derive(Debug, Drop)]
 pub(crate) struct Stays {
     /// In rising value.
@@ -76,46 +77,57 @@ pub(crate) struct Stays {
     pub(crate) unknown: Vec<TimedCall>,
 }
 
-/// Adds a put, or a taking to the value that was put last. False where the value came before, or was never put.
-fn add_touch(stays: &mut Vec<Stay>, touch: Touch) -> Result<bool, AllocError> {
-    let Touch { value, takes, call } = touch;
-    match stays.last_mut() {
-        Some(stay) if stay.value == value => {
-            if !takes || stay.take.is_some() {
-                return Ok(false);
+/// Values that are paired with their puts and takings, in rising value: those of one value in the order of their begins.
+#[derive(Debug, Drop)]
+struct Pairing {
+    stays: Vec<Stay>,
+    /// The first stay of the last value that has no taking.
+    open: usize,
+}
+
+impl Pairing {
+    /// Adds a put, or a taking to the first put of its value that has none. False where there is none.
+    fn add(&mut self, touch: &Touch) -> Result<bool, AllocError> {
+        let value = touch.value;
+        if touch.takes {
+            match self.stays.get_mut(self.open) {
+                Some(stay) if stay.value == value => stay.take = Some(touch.call),
+                _ => return Ok(false),
             }
-            stay.take = Some(call);
-            Ok(true)
+            self.open = self.open.saturating_add(1);
+            return Ok(true);
         }
-        _ => {
-            if takes {
-                return Ok(false);
-            }
-            stays.push(Stay {
-                value,
-                put: call,
-                take: None,
-            })?;
-            Ok(true)
+        if self.stays.last().is_none_or(|stay| stay.value != value) {
+            self.open = self.stays.len();
         }
+        self.stays.push(Stay {
+            value,
+            put: touch.call,
+            take: None,
+        })?;
+        Ok(true)
     }
 }
 
-/// The values with their puts and takings, where each comes once.
+/// The values with their puts and takings; none where one is taken more often than it is put in.
 fn pair(alloc: Global, mut touches: Vec<Touch>) -> Result<Option<Vec<Stay>>, AllocError> {
-    touches.sort_unstable_by_key(|touch| (touch.value, touch.takes));
-    let mut stays = Vec::new(alloc);
-    for next in &touches {
-        if !add_touch(&mut stays, *next)? {
+    touches.sort_unstable_by_key(|touch| (touch.value, touch.takes, touch.call.begin));
+    let mut pairing = Pairing {
+        stays: Vec::new(alloc),
+        open: 0,
+    };
+    for touch in &touches {
+        if !pairing.add(touch)? {
             return Ok(None);
         }
     }
+    let mut stays = pairing.stays;
     // what is not known to be put in and is not taken is left out
     stays.retain(|stay| stay.put.end != PENDING || stay.take.is_some());
     Ok(Some(stays))
 }
 
-/// The values of the calls; none where a value comes twice, or is taken and never put in.
+/// The values of the calls; none where one is taken more often than it is put in.
 pub(crate) fn stays_of(alloc: Global, calls: &[TimedCall]) -> Result<Option<Stays>, AllocError> {
     let mut touches = Vec::new(alloc);
     let mut empties = Vec::new(alloc);

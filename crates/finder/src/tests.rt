@@ -74,13 +74,28 @@ fn a_mutex(rt: HostRuntime) -> Result<(), Fail> {
     Ok(())
 }
 
-/// A value that comes twice, and one that comes before it is put in.
+/// One value put in twice at the same time, and taken twice.
+#[test]
+fn a_value_twice(rt: HostRuntime) -> Result<(), Fail> {
+    let text = "{:process 0, :type :invoke, :f :enqueue, :value 1}
+        {:process 1, :type :invoke, :f :enqueue, :value 1}
+        {:process 0, :type :ok, :f :enqueue, :value 1}
+        {:process 1, :type :ok, :f :enqueue, :value 1}
+        {:process 0, :type :invoke, :f :dequeue, :value nil}
+        {:process 0, :type :ok, :f :dequeue, :value 1}
+        {:process 0, :type :invoke, :f :dequeue, :value nil}
+        {:process 0, :type :ok, :f :dequeue, :value 1}";
+    assert_eq!(rt; found_in(rt.alloc(), text)?.as_str(), "[0, 1, 4, 6]");
+    Ok(())
+}
+
+/// A value that is set twice in a register, and one that is taken before it is put in.
 #[test]
 fn open(rt: HostRuntime) -> Result<(), Fail> {
-    let twice = "{:process 0, :type :invoke, :f :enqueue, :value 1}
-        {:process 0, :type :ok, :f :enqueue, :value 1}
-        {:process 0, :type :invoke, :f :enqueue, :value 1}
-        {:process 0, :type :ok, :f :enqueue, :value 1}";
+    let twice = "{:process 0, :type :invoke, :f :write, :value 1}
+        {:process 0, :type :ok, :f :write, :value 1}
+        {:process 0, :type :invoke, :f :write, :value 1}
+        {:process 0, :type :ok, :f :write, :value 1}";
     assert_eq!(rt; found_in(rt.alloc(), twice)?.as_str(), "open");
     let early = "{:process 0, :type :invoke, :f :dequeue, :value nil}
         {:process 0, :type :ok, :f :dequeue, :value 1}
