@@ -1,8 +1,8 @@
 //! Heaps in which each value comes once.
 //!
 //! Values are placed from the least up. An extract takes the first gap of its time, behind the begin of its insert, in which no
-//! lesser value surely is in the heap; an insert goes as late as its return and that extract allow. A heap of such calls has a
-//! valid order only where this finds a gap for each.
+//! lesser value surely is in the heap; an insert goes as late as its return and that extract allow. That a heap of
+//! such calls has a valid order only where this finds a gap for each is not proved.
 
 use crate::calls::{PENDING, TimedCall, moment_count};
 use crate::gaps::Gaps;

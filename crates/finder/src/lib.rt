@@ -1,8 +1,8 @@
 //! A fast finder of certificates. What it finds is checked before it is handed out, so nothing else of it is trusted; what it does
 //! not find is open.
 //!
-//! It finds an order of a queue, stack, heap, register or map in which each value is put in once, and of any mutex, in some n log n
-//! steps of n calls. Where values come more than once, or calls are pending, some objects that have an order stay open; a register or a
+//! It is made to find an order of a queue, stack, heap, register or map in which each value is put in once, and of any mutex, in some
+//! n log n steps of n calls. That it does is not proved: random histories are tried beside the bounded search. Where values come more than once, or calls are pending, some objects that have an order stay open; a register or a
 //! key of a map does where a value is set twice.
 #![tactic(auto)]
 

@@ -2,8 +2,8 @@
 //!
 //! A value whose put and taking overlap is put and taken in one gap, anywhere. The others surely are in the stack for a while, and
 //! are cut where none of them surely is: what is behind the cut can stand behind all that is before it. Where there is no such gap
-//! one value lies below all others, and any that can be put before them all and taken behind them all may be that one. So a stack of
-//! such calls has a valid order only where this finds one.
+//! one value lies below all others, and any that can be put before them all and taken behind them all may be that one. That a stack
+//! of such calls has a valid order only where this finds one is not proved.
 
 use crate::calls::{TimedCall, moment_count};
 use crate::gaps::Gaps;

@@ -1,24 +1,20 @@
 -- The answers on all objects of a history.
-use Rattle.std.proofs.Common.{◌≡◌, ◌≢◌, ℕ, ◌<◌, inl, inr, List, [], ◌∷◌, ◌++◌, Option, Some, None, IsSome, map, ◌+◌, ◌≤◌, length, take, get_or, All, Any, AllPairs, Contains, refl, ap, sym, ◌∙◌, subst, arith}
-use Rattle.std.specs.Prelude.{◌↔◌}
-use Rattle.std.specs.List.{cons_option}
+use Rattle.std.proofs.Common.{◌≡◌, ℕ, List, Some, All, Any, sym, subst}
 use Rattle.std.proofs.lemmas.Option.{same_Some}
-use Rattle.std.proofs.lemmas.List.{map-append, take_more, take_all}
 use Rattle.model.specs.Linearizable.{IsLinearizable}
 use Rattle.model.specs.declared.Kind.{Kind}
-use Rattle.model.specs.Orders.{Call, IsHistory, events, calls_on, IsValidOrder}
-use Rattle.model.proofs.Lists.{In, Pairs, in_map, in_map_from, in_from_contains, contains_from_in, all_from_in, all_at, all_from_pairs, pairs_from_all, pairs_map, pairs_from_map}
+use Rattle.model.specs.Orders.{Call, IsHistory, events, calls_on}
+use Rattle.model.proofs.Lists.{in_from_contains, all_at}
 use Rattle.locality.specs.Locality.{HasValidOrder}
 use Rattle.events.specs.declared.event.Event.{Event}
-use Rattle.events.specs.Events.{IsNamed, kind_at, denoted}
+use Rattle.events.specs.Events.{kind_at, denoted}
 use Rattle.certificate.specs.declared.Certificate.{Certificate}
-use Rattle.certificate.specs.Denotes.{AreDistinct}
 use Rattle.checker.proofs.Collected.{AreForTheirs}
 use Rattle.search.specs.declared.found.Search.{Search}
 use Rattle.search.specs.declared.found.Found.{Found}
 use Rattle.search.specs.declared.found.Found.TheVariants.{Impossible, OutOfSteps, TooLarge, NoMemory}
 use Rattle.search.specs.declared.found.Found.TheVariants as found
-use Rattle.search.specs.Answers.{certificate_in, certificates_in, IfFound, IsFound, IsFor, IsAnswer, IsAnswerOn}
+use Rattle.search.specs.Answers.{certificate_in, IfFound, IsFor, IsAnswer, IsAnswerOn}
 
 -- what holds of a certificate that was found
 if_found : (f : Found) (P : Certificate → Type 0) (c : Certificate) → IfFound f P → certificate_in f ≡ Some c → P c
