@@ -1,48 +1,61 @@
--- The order of a certificate on a tape.
-use Rattle.std.proofs.Common.{◌≡◌, ℕ, Option, Some, None, option_map, List, [], ◌∷◌, ◌++◌, refl, sym, ap, ◌∙◌, append_assoc, codes}
-use Rattle.std.specs.Prelude.{ℤ}
+-- A certificate, by what is kept of it.
+use Rattle.std.proofs.Common.{◌≡◌, ℕ, Option, Some, None, option_map, List, ◌∷◌, refl, sym, ap, ◌∙◌, codes}
+use Rattle.std.specs.Prelude.{ℤ, option_and_then}
+use Rattle.edn.specs.Briefs.{brief_entries, brief, integers_in, row_of, row_at}
 use Rattle.edn.specs.Datum.{nil, boolean, integer, string, keyword, Datum, atom, vector, dictionary, Items, no_items, item}
-use Rattle.edn.specs.Token.{Token, close_vector, tokens_of, items_tokens}
 use Rattle.edn.specs.Pieces.{tape_tokens}
 use Rattle.edn.specs.declared.Piece.{Piece}
 use Rattle.fields.specs.Fields.{value_at, natural_in, object_in}
-use Rattle.fields.specs.Values.{IsValue, IsValueIn, natural_first}
+use Rattle.fields.specs.Values.{IsValueIn, natural_first}
+use Rattle.fields.proofs.Briefs.{value_of_brief, natural_of_brief, row_of_value}
 use Rattle.fields.proofs.Shapes.{natural_is}
-use Rattle.certificate.specs.Denotes.{integers_in, order_in, reading_with, certificate_of}
-use Rattle.certificate.specs.Tapes.{integers_first, order_first}
+use Rattle.certificate.specs.Denotes as spec
+use Rattle.certificate.specs.Denotes.{order_in, reading_with, certificate_of}
+use Rattle.certificate.specs.Tapes.{IsKept, object_of}
 
--- the integers, behind some that were read
-abbrev pub integers_done : List ℤ → List Token → Option (List ℤ)
-integers_done done ts = option_map (λ zs. done ++ zs) (integers_first ts)
+-- ---- the object
 
--- ---- a value of which the tokens come first
+pub object_is : (number : List Piece) (d : Datum) → IsValueIn number (codes "object") (brief d) → object_in (natural_first (tape_tokens number)) ≡ object_of d
+object_is number (atom a) h = absurd h
+object_is number (vector ds) h = absurd h
+object_is number (dictionary es) h =
+    ap object_in (natural_is number (value_at (codes "object") (brief_entries es)) h ∙ ap natural_in (value_of_brief (codes "object") es) ∙ natural_of_brief (value_at (codes "object") es))
 
-items_by : (ds : Items) (ts : List Token) → integers_first (items_tokens ds ++ close_vector ∷ ts) ≡ integers_in ds
-items_by no_items ts = refl
-items_by (item (atom nil) ds) ts = refl
-items_by (item (atom (boolean b)) ds) ts = refl
-items_by (item (atom (integer z)) ds) ts = ap (option_map (λ zs. z ∷ zs)) (items_by ds ts)
-items_by (item (atom (string s)) ds) ts = refl
-items_by (item (atom (keyword k)) ds) ts = refl
-items_by (item (vector es) ds) ts = refl
-items_by (item (dictionary es) ds) ts = refl
+-- ---- the order
 
-order_by : (d : Datum) (ts : List Token) → order_first (tokens_of d ++ ts) ≡ order_in (Some d)
-order_by (atom a) ts = refl
-order_by (vector ds) ts = ap integers_first (append_assoc (items_tokens ds) (close_vector ∷ []) ts) ∙ items_by ds ts
-order_by (dictionary es) ts = refl
+integers_are : (ds : Items) → spec.integers_in ds ≡ integers_in ds
+integers_are no_items = refl
+integers_are (item (atom nil) ds) = refl
+integers_are (item (atom (boolean b)) ds) = refl
+integers_are (item (atom (integer z)) ds) = ap (option_map (λ zs. z ∷ zs)) (integers_are ds)
+integers_are (item (atom (string s)) ds) = refl
+integers_are (item (atom (keyword k)) ds) = refl
+integers_are (item (vector es) ds) = refl
+integers_are (item (dictionary es) ds) = refl
 
-order_is : (ps : List Piece) (o : Option Datum) → IsValue ps o → order_first (tape_tokens ps) ≡ order_in o
-order_is ps None h = ap (λ (x : List Piece). order_first (tape_tokens x)) h
-order_is ps (Some d) h = ap order_first h.1 ∙ order_by d h.0
+order_is : (o : Option Datum) → order_in o ≡ option_and_then row_of o
+order_is None = refl
+order_is (Some (atom a)) = refl
+order_is (Some (vector ds)) = integers_are ds
+order_is (Some (dictionary es)) = refl
 
--- ---- a certificate
+-- ---- the certificate
 
-pub certificate_is : (number order : List Piece) (x : Option ℕ) (o : Option (List ℤ)) (d : Datum) → IsValueIn number (codes "object") d → IsValueIn order (codes "order") d → x ≡ object_in (natural_first (tape_tokens number))
-    → order_first (tape_tokens order) ≡ o → certificate_of d ≡ reading_with x o
-certificate_is number order x o (atom a) h k e q = absurd h
-certificate_is number order x o (vector ds) h k e q = absurd h
-certificate_is number order x o (dictionary es) h k e q =
-    let a : object_in (natural_in (value_at (codes "object") es)) ≡ x = sym (e ∙ ap object_in (natural_is number (value_at (codes "object") es) h)) in
-    let b : order_in (value_at (codes "order") es) ≡ o = sym (order_is order (value_at (codes "order") es) k) ∙ q in
-    ap (λ y. reading_with y (order_in (value_at (codes "order") es))) a ∙ ap (reading_with x) b
+pub certificate_is : (d : Datum) → certificate_of d ≡ reading_with (object_of d) (row_at (codes "order") d)
+certificate_is (atom a) = refl
+certificate_is (vector ds) = refl
+certificate_is (dictionary es) = ap (reading_with (object_of (dictionary es))) (order_is (value_at (codes "order") es) ∙ sym (row_of_value (codes "order") es))
+
+-- by what is kept
+pub certificate_by : (ps : List Piece) (row : Option (List ℤ)) (o : Option ℕ) (d : Datum) → IsKept ps row d → o ≡ object_of d → certificate_of d ≡ reading_with o row
+certificate_by ps row o d h e = certificate_is d ∙ ap (λ (x : Option ℕ). reading_with x (row_at (codes "order") d)) (sym e) ∙ ap (reading_with o) (sym h.1)
+
+pub no_row : (ps : List Piece) (row : Option (List ℤ)) (o : Option ℕ) (d : Datum) → IsKept ps row d → o ≡ object_of d → row ≡ None → certificate_of d ≡ None
+no_row ps row o d h e n = certificate_by ps row o d h e ∙ ap (reading_with o) n ∙ nothing o
+  where
+    nothing : (x : Option ℕ) → reading_with x None ≡ None
+    nothing None = refl
+    nothing (Some x) = refl
+
+pub no_object : (ps : List Piece) (row : Option (List ℤ)) (o : Option ℕ) (d : Datum) → IsKept ps row d → o ≡ object_of d → o ≡ None → certificate_of d ≡ None
+no_object ps row o d h e n = certificate_by ps row o d h e ∙ ap (λ (x : Option ℕ). reading_with x row) n

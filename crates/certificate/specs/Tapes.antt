@@ -1,42 +1,23 @@
--- The order of a certificate, where its tokens come first. No public clause speaks of it.
-use Rattle.std.specs.Prelude.{ℤ, Bool, true, false, List, [], ◌∷◌, Option, Some, None, option_map}
-use Rattle.edn.specs.Token.{Token, open_vector, close_vector, open_map, close_map, leaf}
-use Rattle.certificate.specs.Denotes.{integer_in}
+-- What is kept of a form that may be a certificate. No public clause speaks of it.
+use Rattle.std.specs.Prelude.{◌≡◌, ℕ, ℤ, List, Option, None, option_map, codes}
+use Rattle.std.specs.declared.vec.Vec.{Vec}
+use Rattle.edn.specs.Briefs.{brief, row_at}
+use Rattle.edn.specs.Datum.{Datum, atom, vector, dictionary}
+use Rattle.edn.specs.Token.{tokens_of}
+use Rattle.edn.specs.Pieces.{tape_tokens}
+use Rattle.edn.specs.declared.Piece.{Piece}
+use Rattle.fields.specs.Fields.{value_at, natural_in, object_in}
 
--- the integer that a token is
-abbrev pub integer_token : Token → Option ℤ
-integer_token open_vector = None
-integer_token close_vector = None
-integer_token open_map = None
-integer_token close_map = None
-integer_token (leaf d) = integer_in d
+-- the numbers of a row
+abbrev pub numbers_of : {Z : Type 0} → Option (Vec ℤ Z) → Option (List ℤ)
+numbers_of row = option_map (λ v. v.items) row
 
-abbrev pub closes_token : Token → Bool
-closes_token open_vector = false
-closes_token close_vector = true
-closes_token open_map = false
-closes_token close_map = false
-closes_token (leaf d) = false
+-- the beginnings of its values, and the row of its order
+abbrev pub IsKept : List Piece → Option (List ℤ) → Datum → Type 0
+IsKept pieces row d = (tape_tokens pieces ≡ tokens_of (brief d)) × (row ≡ row_at (codes "order") d)
 
--- an integer before others
-abbrev pub with_first : Option ℤ → Option (List ℤ) → Option (List ℤ)
-with_first None zs = None
-with_first (Some z) zs = option_map (λ ys. z ∷ ys) zs
-
--- the integers before the bracket that closes their vector, where nothing else comes before it
-abbrev pub integers_first : List Token → Option (List ℤ)
-integers_first [] = None
-integers_first (open_vector ∷ ts) = None
-integers_first (close_vector ∷ ts) = Some []
-integers_first (open_map ∷ ts) = None
-integers_first (close_map ∷ ts) = None
-integers_first (leaf d ∷ ts) = with_first (integer_in d) (integers_first ts)
-
--- the same of a vector with its brackets
-abbrev pub order_first : List Token → Option (List ℤ)
-order_first [] = None
-order_first (open_vector ∷ ts) = integers_first ts
-order_first (close_vector ∷ ts) = None
-order_first (open_map ∷ ts) = None
-order_first (close_map ∷ ts) = None
-order_first (leaf d ∷ ts) = None
+-- the object of a map
+abbrev pub object_of : Datum → Option ℕ
+object_of (atom a) = None
+object_of (vector ds) = None
+object_of (dictionary es) = object_in (natural_in (value_at (codes "object") es))

@@ -52,7 +52,7 @@ fn written_certificates_are_read_back(rt: HostRuntime) -> Result<(), Fail> {
 
 #[test]
 fn first_faults(rt: HostRuntime) -> Result<(), Fail> {
-    let rows: [(&str, CertFaultKind, usize); 12] = [
+    let rows: [(&str, CertFaultKind, usize); 17] = [
         ("[0 2]", CertFaultKind::NotACertificate, 0),
         ("nil", CertFaultKind::NotACertificate, 0),
         ("{:order [0 2]}", CertFaultKind::NotACertificate, 0),
@@ -71,6 +71,31 @@ fn first_faults(rt: HostRuntime) -> Result<(), Fail> {
         ("{:object 0, :order 0}", CertFaultKind::NotACertificate, 0),
         (
             "{:object 0, :order [0 [1]]}",
+            CertFaultKind::NotACertificate,
+            0,
+        ),
+        (
+            "{:object 0, :order [0 2 4 6 8 nil]}",
+            CertFaultKind::NotACertificate,
+            0,
+        ),
+        (
+            "{:object 0, :order [0 2 4 6 8 {}]}",
+            CertFaultKind::NotACertificate,
+            0,
+        ),
+        (
+            "{:object 0, :by {:order [0]}}",
+            CertFaultKind::NotACertificate,
+            0,
+        ),
+        (
+            "{:object 0, :by :order, :than [0]}",
+            CertFaultKind::NotACertificate,
+            0,
+        ),
+        (
+            "{:object [0], :order [0]}",
             CertFaultKind::NotACertificate,
             0,
         ),
@@ -135,6 +160,24 @@ fn other_keys_are_ignored(rt: HostRuntime) -> Result<(), Fail> {
     assert_eq!(rt; certificates.len(), 1);
     assert_eq!(rt; certificates[0].object, 4);
     assert_eq!(rt; certificates[0].order.as_slice(), [2].as_slice());
+    Ok(())
+}
+
+/// The order is that of the whole element, whatever else the map has.
+#[test]
+fn long_orders(rt: HostRuntime) -> Result<(), Fail> {
+    let text =
+        b"{:by {:order [9 [9]]}, :order [2 3 5 7 11 13], :to [[:order 1] 2 3 4], :object 4} {:object 5, :order [1 2 3 4]}";
+    let Ok(certificates) = read(rt.alloc(), text)? else {
+        return Err(Fail::new("a certificate is refused"));
+    };
+    assert_eq!(rt; certificates.len(), 2);
+    assert_eq!(rt; certificates[0].object, 4);
+    assert_eq!(rt;
+        certificates[0].order.as_slice(),
+        [2, 3, 5, 7, 11, 13].as_slice()
+    );
+    assert_eq!(rt; certificates[1].order.as_slice(), [1, 2, 3, 4].as_slice());
     Ok(())
 }
 

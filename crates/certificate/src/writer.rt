@@ -1,10 +1,9 @@
 //! Certificates as text.
 
-ghost use Rattle.std.specs.Prelude.{◌≡◌, ◌++◌, false, true, codes, OnOk, OnErr, IfErr};
+ghost use Rattle.std.specs.Prelude.{◌≡◌, ◌++◌, false, true, codes, OnOk, IfErr};
 ghost use Rattle.std.specs.Fmt.{signed_decimal};
-ghost use Rattle.std.specs.Io.KnownBytes.{Appends};
 ghost use Rattle.std.specs.List.{AllByRecursion};
-ghost use Rattle.edn.specs.Sent.{SendsFront};
+ghost use Rattle.edn.specs.Sent.{Sends};
 ghost use Rattle.edn.specs.Text.{between, IsInt64};
 ghost use Rattle.certificate.specs.Denotes.{AreDistinct};
 ghost use Rattle.certificate.specs.Lines as text;
@@ -16,11 +15,8 @@ use edn::{Failed, Sink, WriteFault, write_bytes, write_integer};
 /// The space before each integer that is not the first.
 fn write_between<S: Sink>(first: bool, sink: &mut S) -> Result<(), Failed>
     requires { S.broken sink.old ≡ false }
-    ensures ok { OnOk result (Appends (S.sent sink.old) (S.sent sink.new) (between first (codes " "))) }
-    ensures usable { OnOk result (S.broken sink.new ≡ false) }
-    ensures front { OnErr result
-        (SendsFront (S.sent sink.old) (S.sent sink.new) (between first (codes " "))) }
-    ensures failed { OnErr result (S.broken sink.new ≡ true) }
+    ensures sent { Sends result (S.sent sink.old) (S.sent sink.new) (S.broken sink.new)
+        (between first (codes " ")) }
 {
     write_bytes(if first { b"" } else { b" " }, sink)
 }
@@ -28,13 +24,9 @@ fn write_between<S: Sink>(first: bool, sink: &mut S) -> Result<(), Failed>
 /// An integer, behind the space that stands before each that is not the first.
 fn write_next<S: Sink>(first: bool, n: i64, sink: &mut S) -> Result<(), Failed>
     requires { S.broken sink.old ≡ false }
-    ensures ok { OnOk result (Appends (S.sent sink.old) (S.sent sink.new) (between first (codes " ")
-        ++ signed_decimal n)) }
+    ensures sent { Sends result (S.sent sink.old) (S.sent sink.new) (S.broken sink.new)
+        (between first (codes " ") ++ signed_decimal n) }
     ensures in_range { IsInt64 n }
-    ensures usable { OnOk result (S.broken sink.new ≡ false) }
-    ensures front { OnErr result (SendsFront (S.sent sink.old) (S.sent sink.new) (between first (codes " ")
-        ++ signed_decimal n)) }
-    ensures failed { OnErr result (S.broken sink.new ≡ true) }
 {
     write_between(first, sink)?;
     write_integer(n, sink)
@@ -43,13 +35,9 @@ fn write_next<S: Sink>(first: bool, n: i64, sink: &mut S) -> Result<(), Failed>
 /// The integers with a space between them.
 fn write_numbers<S: Sink>(numbers: &[i64], sink: &mut S) -> Result<(), Failed>
     requires { S.broken sink.old ≡ false }
-    ensures ok { OnOk result
-        (Appends (S.sent sink.old) (S.sent sink.new) (text.numbers_text true numbers.now)) }
+    ensures sent { Sends result (S.sent sink.old) (S.sent sink.new) (S.broken sink.new)
+        (text.numbers_text true numbers.now) }
     ensures in_range { OnOk result (AllByRecursion IsInt64 numbers.now) }
-    ensures usable { OnOk result (S.broken sink.new ≡ false) }
-    ensures front { OnErr result
-        (SendsFront (S.sent sink.old) (S.sent sink.new) (text.numbers_text true numbers.now)) }
-    ensures failed { OnErr result (S.broken sink.new ≡ true) }
 {
     let mut first = true;
     for n in numbers {
@@ -62,12 +50,9 @@ fn write_numbers<S: Sink>(numbers: &[i64], sink: &mut S) -> Result<(), Failed>
 /// The line of a certificate.
 fn write_line<S: Sink>(certificate: &Certificate, sink: &mut S) -> Result<(), Failed>
     requires { S.broken sink.old ≡ false }
-    ensures ok { OnOk result (Appends (S.sent sink.old) (S.sent sink.new) (text.line_of certificate.now)) }
+    ensures sent { Sends result (S.sent sink.old) (S.sent sink.new) (S.broken sink.new)
+        (text.line_of certificate.now) }
     ensures in_range { OnOk result (AllByRecursion IsInt64 certificate.now.order.items) }
-    ensures usable { OnOk result (S.broken sink.new ≡ false) }
-    ensures front { OnErr result
-        (SendsFront (S.sent sink.old) (S.sent sink.new) (text.line_of certificate.now)) }
-    ensures failed { OnErr result (S.broken sink.new ≡ true) }
 {
     write_bytes(b"{:object ", sink)?;
     write_integer(i64::from(certificate.object), sink)?;
@@ -82,16 +67,12 @@ pub fn write_certificates<S: Sink>(
     sink: &mut S,
 ) -> Result<(), WriteFault>
     requires working { S.broken sink.old ≡ false }
-    ensures ok { OnOk result (Appends (S.sent sink.old) (S.sent sink.new) (text.lines_of certificates.now)) }
+    ensures sent { Sends result (S.sent sink.old) (S.sent sink.new) (S.broken sink.new)
+        (text.lines_of certificates.now) }
     // What went out reads back as these certificates.
     ensures spelled { OnOk result (AreDistinct certificates.now → AreInRange certificates.now →
         SpellsCertificates certificates.now (text.lines_of certificates.now)) }
-    ensures usable { OnOk result (S.broken sink.new ≡ false) }
-
     ensures device { IfErr result (λ e. e ≡ WriteFault.Device) }
-    ensures front { OnErr result
-        (SendsFront (S.sent sink.old) (S.sent sink.new) (text.lines_of certificates.now)) }
-    ensures failed { OnErr result (S.broken sink.new ≡ true) }
 {
     for certificate in certificates {
         write_line(certificate, sink)?;

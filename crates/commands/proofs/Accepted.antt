@@ -8,7 +8,7 @@ use Rattle.report.specs.declared.verdict.Verdict.{Verdict}
 use Rattle.report.specs.declared.verdict.Verdict.TheVariants.{Yes, No, Malformed, NoMemory}
 use Rattle.judging.specs.Verdicts.{IsYesUnlessMemory}
 use Rattle.clients.specs.Made.{Ran}
-use Rattle.commands.specs.declared.command_line.RunOptions.{RunOptions}
+use Rattle.command_line.specs.declared.asking.RunOptions.{RunOptions}
 use Rattle.commands.specs.Statuses.{no_status, status_of, yes_status}
 use Rattle.commands.specs.Runs.{IsAcceptedOutput, IsAcceptedRun, IsRecordOutput, IsReported, IsRunOutput, IsSound, Says, commented, journals_of, logs_of, work_of}
 use Rattle.commands.proofs.Reports.{sound_as_it_is}

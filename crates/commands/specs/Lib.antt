@@ -1,5 +1,5 @@
 pub mod Statuses
-pub mod Words
 pub mod Runs
 pub mod Searches
+pub mod Findings
 pub mod Simulated

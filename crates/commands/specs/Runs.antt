@@ -23,7 +23,7 @@ use Rattle.report.specs.declared.verdict.Verdict.{Verdict}
 use Rattle.report.specs.declared.verdict.Verdict.TheVariants.{Yes, No, Malformed, NoMemory}
 use Rattle.judging.specs.Texts.{AreCountsOf}
 use Rattle.judging.specs.Verdicts.{IsYesUnlessMemory}
-use Rattle.commands.specs.declared.command_line.RunOptions.{RunOptions}
+use Rattle.command_line.specs.declared.asking.RunOptions.{RunOptions}
 use Rattle.commands.specs.Statuses.{no_memory_status, status_of}
 
 -- the lines of certificates, each as a comment

@@ -3,9 +3,9 @@ use Rattle.std.specs.Prelude.{ℕ}
 use Rattle.checker.specs.declared.refusal.Refusal.TheVariants as refusal
 use Rattle.report.specs.declared.verdict.Verdict.{Verdict}
 use Rattle.report.specs.declared.verdict.Verdict.TheVariants.{Yes, No, Malformed, NoMemory}
-use Rattle.commands.specs.declared.command_line.LineFault.{LineFault}
-use Rattle.commands.specs.declared.command_line.LineFault.TheVariants as line_fault
-use Rattle.commands.specs.declared.command_line.LineFault.TheVariants.{Help, Refused}
+use Rattle.command_line.specs.declared.asking.LineFault.{LineFault}
+use Rattle.command_line.specs.declared.asking.LineFault.TheVariants as line_fault
+use Rattle.command_line.specs.declared.asking.LineFault.TheVariants.{Help, Refused}
 
 -- where the history is linearizable
 abbrev pub yes_status : ℕ

@@ -8,17 +8,19 @@ ghost use Rattle.report.specs.declared.verdict.Verdict.{Verdict};
 ghost use Rattle.commands.specs.Statuses as spec;
 ghost use Rattle.commands.specs.Statuses.{yes_status, no_status, failed_status};
 ghost use Rattle.judging.specs.Texts.{IsLinearizableText};
+ghost use Rattle.commands.specs.Findings.{IsFindOutput};
 ghost use Rattle.commands.specs.Runs.{IsAcceptedRun, IsRunOutput};
 ghost use Rattle.commands.specs.Searches.{AreCertificatesFor, IsNotLinearizableText, IsSearchOutput};
 ghost use Rattle.judging.specs.Verdicts.{Holds};
 ghost use Rattle.commands.specs.Simulated.{IsAcceptedSimulation, IsSimulateOutput};
-ghost use Rattle.commands.specs.Words.{IfRun, IfSearch, IsCheck, IsSimulate};
+ghost use Rattle.command_line.specs.Words.{IfRun, IfSearch, IsCheck, IsFind, IsSimulate};
 
-use crate::command_line::Line;
+use crate::finding::report_find;
 use crate::running::run;
 use crate::searching::report_search;
 use crate::simulating::report_simulation;
 use crate::statuses::{FAILED, status_of};
+use command_line::Line;
 use edn::{Failed, Sink};
 use sources::check_bytes;
 use std::alloc::Global;
@@ -84,6 +86,15 @@ pub fn perform<R: Threads + Wait + Sync, S: Sink>(
     ensures certified { IfSearch line.now (λ _. result ≡ yes_status →
         (out : List ℕ) × AreCertificatesFor first.now out × Appends (S.sent sink.old) (S.sent sink.new) out) }
     ensures refuted { IfSearch line.now (λ _. result ≡ no_status → IsNotLinearizableText first.now) }
+    // Certificates that are found without a search are valid for the history, or some object stays open.
+    ensures find_written { IsFind line.now → result ≢ failed_status →
+        (out : List ℕ) × IsFindOutput first.now result out
+        × Appends (S.sent sink.old) (S.sent sink.new) out }
+    ensures find_front { IsFind line.now → result ≡ failed_status →
+        (status : ℕ) × (out : List ℕ) × IsFindOutput first.now status out
+        × SendsFront (S.sent sink.old) (S.sent sink.new) out }
+    ensures found_certified { IsFind line.now → result ≡ yes_status →
+        (out : List ℕ) × AreCertificatesFor first.now out × Appends (S.sent sink.old) (S.sent sink.new) out }
     // A run comes to the record of clients that made the calls asked for, whose certificates are accepted, or to the line that
     // says why not.
     ensures run_written { IfRun line.now (λ o. result ≢ failed_status →
@@ -117,6 +128,7 @@ pub fn perform<R: Threads + Wait + Sync, S: Sink>(
             steps,
             first: order,
         } => report_search(alloc, first, *steps, *order, sink),
+        Line::Find { .. } => report_find(alloc, first, sink),
         Line::Run(options) => run(rt, alloc, *options, sink),
         Line::Simulate { .. } => report_simulation(alloc, first, sink),
     }

@@ -12,11 +12,11 @@ ghost use Rattle.commands.specs.Statuses as spec;
 ghost use Rattle.commands.specs.Statuses.{failed_status, no_status, yes_status};
 ghost use Rattle.clients.specs.Made.{Ran};
 
-use crate::command_line::RunOptions;
 use crate::comments::comments_text;
 use crate::statuses::{FAILED, NO_MEMORY, status_of};
 use checker::Refusal;
 use clients::{RunFault, run_workers};
+use command_line::RunOptions;
 use edn::{Failed, Out, Sink, write_bytes};
 use recorder::Record;
 use report::{Summary, Verdict, summary, write_verdict};

@@ -17,11 +17,11 @@ use report::{Verdict, write_verdict};
 use search::{Found, Search, TryFirst, search_all_by};
 use std::alloc::{AllocError, Global};
 
-/// What a search puts out, and its exit status.
+/// What is put out, and the exit status.
 #[derive(Drop)]
-struct Output {
-    status: u8,
-    text: Vec<u8>,
+pub(crate) struct Output {
+    pub(crate) status: u8,
+    pub(crate) text: Vec<u8>,
 }
 
 pub(crate) fn push_decimal(text: &mut Vec<u8>, n: u64) -> Result<(), AllocError>
@@ -39,7 +39,7 @@ fn push_object(text: &mut Vec<u8>, object: u32) -> Result<(), AllocError>
 }
 
 /// The line that says why an object has no certificate.
-fn push_note(text: &mut Vec<u8>, object: u32, note: &[u8]) -> Result<(), AllocError>
+pub(crate) fn push_note(text: &mut Vec<u8>, object: u32, note: &[u8]) -> Result<(), AllocError>
     ensures { OnOk result (text.new.items ≡ text.old.items
         ++ ((codes "; object " ++ decimal object) ++ note.now)) }
 {

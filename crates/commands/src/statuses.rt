@@ -3,8 +3,8 @@
 ghost use Rattle.std.specs.Prelude.{◌≡◌};
 ghost use Rattle.commands.specs.Statuses as spec;
 
-use crate::command_line::LineFault;
 use checker::Refusal;
+use command_line::LineFault;
 use report::Verdict;
 
 /// The exit status where memory was refused, or a thread could not be started.

@@ -1,3 +1,4 @@
+mod findings;
 mod runs;
 mod searches;
 mod simulations;
@@ -131,88 +132,6 @@ fn too_long(rt: HostRuntime) -> Result<(), Fail> {
         let status = perform(&rt, rt.alloc(), &check, history, certificates, &mut sink);
         assert_eq!(rt; sink.into_inner().as_slice(), expected.as_bytes());
         assert_eq!(rt; status, 2);
-    }
-    Ok(())
-}
-
-#[test]
-fn words(rt: HostRuntime) -> Result<(), Fail> {
-    let expected = Line::Check {
-        history: String::from_str(rt.alloc(), "h.edn")?,
-        certs: String::from_str(rt.alloc(), "c.edn")?,
-        workers: 1,
-    };
-    assert_eq!(rt; checking(rt.alloc())?, expected);
-    let marked = match line(rt.alloc(), &["fcbench", "check", "--", "-h.edn", "c.edn"]) {
-        Ok(line) => line,
-        Err(_) => return Err(Fail::new("words after `--` are refused")),
-    };
-    let expected = Line::Check {
-        history: String::from_str(rt.alloc(), "-h.edn")?,
-        certs: String::from_str(rt.alloc(), "c.edn")?,
-        workers: 1,
-    };
-    assert_eq!(rt; marked, expected);
-    for refused in [
-        &["fcbench"][..],
-        &["fcbench", "check", "h.edn"],
-        &["fcbench", "judge"],
-        &["fcbench", "--", "run"],
-        &["fcbench", "check", "h.edn", "c.edn", "--workers", "0"],
-        &["fcbench", "check", "h.edn", "c.edn", "--workers", "17"],
-        &["fcbench", "check", "h.edn", "c.edn", "--workers", "x"],
-        &["fcbench", "check", "h.edn", "c.edn", "--workers", ""],
-        &["fcbench", "check", "h.edn", "c.edn", "--workers"],
-        &["fcbench", "check", "--workers", "2", "h.edn"],
-        &[
-            "fcbench",
-            "check",
-            "h.edn",
-            "c.edn",
-            "--workers",
-            "2",
-            "--workers",
-            "2",
-        ],
-    ] {
-        assert!(rt; matches!(line(rt.alloc(), refused), Err(LineFault::Refused(_))));
-    }
-    assert!(rt;
-        matches!(
-            line(rt.alloc(), &["fcbench", "--help"]),
-            Err(LineFault::Help(_))
-        )
-    );
-    Ok(())
-}
-
-/// The option may stand anywhere before `--`, and its number behind `=`.
-#[test]
-fn workers_in_words(rt: HostRuntime) -> Result<(), Fail> {
-    for (words, workers) in [
-        (
-            &["fcbench", "check", "--workers", "16", "h.edn", "c.edn"][..],
-            16,
-        ),
-        (&["fcbench", "check", "h.edn", "--workers=1", "c.edn"], 1),
-        (
-            &["fcbench", "check", "h.edn", "c.edn", "--workers", "+4"],
-            4,
-        ),
-        (
-            &["fcbench", "check", "--workers", "2", "--", "h.edn", "c.edn"],
-            2,
-        ),
-    ] {
-        let expected = Line::Check {
-            history: String::from_str(rt.alloc(), "h.edn")?,
-            certs: String::from_str(rt.alloc(), "c.edn")?,
-            workers,
-        };
-        match line(rt.alloc(), words) {
-            Ok(line) => assert_eq!(rt; line, expected),
-            Err(_) => return Err(Fail::new("the words of a check are refused")),
-        }
     }
     Ok(())
 }

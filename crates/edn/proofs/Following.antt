@@ -1,12 +1,13 @@
 -- Forms at the front of a text, one more behind them, and what is sound behind them.
 use Rattle.std.proofs.Common.{◌≡◌, ◌≢◌, ℕ, ◌+◌, ◌<◌, ◌≤◌, Bool, true, false, cond, Option, Some, None, List, [], ◌∷◌, ◌++◌, length, refl, sym, ap, subst, ◌∙◌, append_assoc, arith}
+use Rattle.std.specs.Prelude.{ℤ}
 use Rattle.std.specs.Str.{IsUtf8}
 use Rattle.edn.specs.Datum.{Datum, ItemsFit, items_of}
 use Rattle.edn.specs.Elements.{SpellsFront, SpellsNothing, ReadsElement, ReadsNext}
 use Rattle.edn.specs.Sound.{BeginWith, IsShort, IsSoundAt, IsSoundFrom, IsUnreadable}
 use Rattle.edn.specs.Spells.{Spells}
 use Rattle.edn.specs.Token.{Token, tokens_of}
-use Rattle.edn.specs.Briefs.{kept_of}
+use Rattle.edn.specs.Briefs.{Keeping, kept_of, row_kept}
 use Rattle.edn.specs.declared.fault.EdnFault.{EdnFault}
 use Rattle.edn.specs.declared.fault.FaultKind.TheVariants.{TooLong, NoMemory}
 use Rattle.std.proofs.lemmas.List.{append-nil}
@@ -73,10 +74,14 @@ pub record Along (P : List Datum → Type 0) (text rest : List ℕ) (start : ℕ
   pub place : start + length rest ≡ length text
 
 -- one element more
-pub along_more : (cuts : Bool) (P Q : List Datum → Type 0) (text mid rest : List ℕ) (before start : ℕ) (tokens : List Token) → ReadsElement cuts mid tokens rest → start + length rest ≡ before + length mid
-    → ((ds : List Datum) (d : Datum) → tokens ≡ tokens_of (kept_of cuts d) → P ds → Q (ds ++ d ∷ [])) → Along P text mid before → Along Q text rest start
-along_more cuts P Q text mid rest before start tokens e moves put a =
-    record { forms = a.forms ++ e.element ∷ []; front = front_more text mid rest a.forms (e.element ∷ []) a.front e.front; holds = put a.forms e.element e.own a.holds; place = moves ∙ a.place }
+pub along_more : (keeping : Keeping) (P Q : List Datum → Type 0) (text mid rest : List ℕ) (before start : ℕ) (tokens : List Token) (row : Option (List ℤ)) → ReadsElement keeping mid tokens row rest → start + length rest ≡ before + length mid
+    → ((ds : List Datum) (d : Datum) → tokens ≡ tokens_of (kept_of keeping.cuts d) → row ≡ row_kept keeping d → P ds → Q (ds ++ d ∷ [])) → Along P text mid before → Along Q text rest start
+along_more keeping P Q text mid rest before start tokens row e moves put a =
+    record { forms = a.forms ++ e.element ∷ []; front = front_more text mid rest a.forms (e.element ∷ []) a.front e.front; holds = put a.forms e.element e.own e.own_row a.holds; place = moves ∙ a.place }
+
+-- the same place by another name
+pub along_moved : (P : List Datum → Type 0) (text rest other : List ℕ) (start from : ℕ) → other ≡ rest → from ≡ start → Along P text rest start → Along P text other from
+along_moved P text rest other start from e s a = subst (λ (n : ℕ). Along P text other n) (sym s) (subst (λ (x : List ℕ). Along P text x start) (sym e) a)
 
 -- no element more
 pub along_spells : (P : List Datum → Type 0) (text rest : List ℕ) (start : ℕ) (a : Along P text rest start) → SpellsNothing rest → Spells a.forms text
@@ -96,10 +101,10 @@ unreadable_behind P text rest start e short a not_long none not_memory =
       nothing = λ _. along_none P text rest start a (none not_memory);
     }
 
-pub reads_some : (cuts b : Bool) (text : List ℕ) (tokens : List Token) (rest : List ℕ) → b ≡ true → ReadsNext cuts text tokens (cond b (Some rest) None) → ReadsElement cuts text tokens rest
-reads_some cuts true text tokens rest e h = h
-reads_some cuts false text tokens rest e h = absurd cc
+pub reads_some : (keeping : Keeping) (b : Bool) (text : List ℕ) (tokens : List Token) (row : Option (List ℤ)) (rest : List ℕ) → b ≡ true → ReadsNext keeping text tokens row (cond b (Some rest) None) → ReadsElement keeping text tokens row rest
+reads_some keeping true text tokens row rest e h = h
+reads_some keeping false text tokens row rest e h = absurd cc
 
-pub reads_none : (cuts b : Bool) (text : List ℕ) (tokens : List Token) (rest : List ℕ) → b ≡ false → ReadsNext cuts text tokens (cond b (Some rest) None) → SpellsNothing text
-reads_none cuts true text tokens rest e h = absurd cc
-reads_none cuts false text tokens rest e h = h
+pub reads_none : (keeping : Keeping) (b : Bool) (text : List ℕ) (tokens : List Token) (row : Option (List ℤ)) (rest : List ℕ) → b ≡ false → ReadsNext keeping text tokens row (cond b (Some rest) None) → SpellsNothing text
+reads_none keeping true text tokens row rest e h = absurd cc
+reads_none keeping false text tokens row rest e h = h

@@ -28,6 +28,7 @@ pub mod Nested
 pub mod Raw
 pub mod Prefixes
 pub mod Cutting
+pub mod Noting
 pub mod Turns
 pub mod Tables
 pub mod Runs

@@ -9,9 +9,11 @@ use Rattle.edn.specs.Token.{Token, open_vector, close_vector, open_map, close_ma
 use Rattle.edn.specs.Spells.{Lexes, Spells}
 use Rattle.edn.specs.Reading.{Next, after_token, end, bad, got, got_string, string_at, skip, first, next, Frame, in_text, in_vector, in_map, in_pair, put, takes_key, close_as, close_vector_at, close_map_at, open_at, State, step, steps, opening, closed}
 use Rattle.edn.specs.Shapes.{Shape, whole_text, a_vector, a_map, Shapes, shape_list, shapes_of, shape_step, after_piece, nothing_open, waits_for_key, put_in}
-use Rattle.edn.specs.Elements.{SpellsFront, SpellsNothing, ReadsElement, KeepsToken}
-use Rattle.edn.specs.Briefs.{Keep, nothing_kept, keep, keep_all}
-use Rattle.edn.proofs.Cutting.{keep_append, kept_tokens}
+use Rattle.edn.specs.Elements.{SpellsFront, SpellsNothing, ReadsElement, HoldsToken}
+use Rattle.edn.specs.Briefs.{Keeping, Keep}
+use Rattle.edn.specs.Rows.{Held, nothing_held, hold, hold_all, noted}
+use Rattle.edn.proofs.Cutting.{kept_tokens}
+use Rattle.edn.proofs.Noting.{hold_append, held_kept, row_held}
 use Rattle.edn.proofs.Strings.{some_is}
 use Rattle.edn.proofs.Consumed.{consumed, step_tokens, list_tokens, mapped, kept_if, unless_so}
 use Rattle.edn.proofs.Lexical.{first_shorter, skip_within}
@@ -122,11 +124,11 @@ step_first (leaf d) z e = inr (d, sym (some_is (closed (d ∷ [])) z e))
 -- ---- one turn of the loop over an element's tokens
 
 -- behind the tokens that were kept the element goes on, or it is whole
-pub record Midway (cuts : Bool) (text rest : List ℕ) (now_open : Shapes) (k : Keep) : Type 0 where
+pub record Midway (keeping : Keeping) (text rest : List ℕ) (now_open : Shapes) (k : Held) : Type 0 where
   pub state : State
   pub progress : Progress text rest state
   pub shaped : shapes_of state ≡ now_open
-  pub kept : keep_all (consumed state) (nothing_kept cuts) ≡ k
+  pub kept : hold_all (consumed state) (nothing_held keeping) ≡ k
   pub going : IsGoing state
 
 -- a token that was taken, and the step that it is
@@ -182,8 +184,8 @@ pub start : (text : List ℕ) → IsUtf8 text → Progress text text opening
 start text u = record { spelled = λ ts h. h; only = λ ts h. (ts, h, refl); fits = record { room = omega arith; inner = tt; outer = tt }; utf8 = u; grounded = refl; begins = refl; within = omega arith }
 
 -- the first token of an element
-pub first_turn : (cuts : Bool) (text here r : List ℕ) (now_open : Shapes) (kept : Keep) → IsUtf8 text → here ≡ skip text → after_piece nothing_open (first here) ≡ Some (now_open, r) → KeepsToken (nothing_kept cuts) (first here) kept → Midway cuts text r now_open kept
-first_turn cuts text here r now_open kept u h e k =
+pub first_turn : (keeping : Keeping) (text here r : List ℕ) (now_open : Shapes) (kept : Held) → IsUtf8 text → here ≡ skip text → after_piece nothing_open (first here) ≡ Some (now_open, r) → HoldsToken (nothing_held keeping) (first here) kept → Midway keeping text r now_open kept
+first_turn keeping text here r now_open kept u h e k =
     let t = taken opening (first here) now_open r e in
     let n : next text ≡ got t.token r = next_at text here h ∙ t.is in
     let p = goes_on text text t.token r opening t.after n t.steps_to (start text u) in
@@ -191,14 +193,14 @@ first_turn cuts text here r now_open kept u h e k =
       state = t.after;
       progress = p;
       shaped = t.shaped;
-      kept = ap (λ (ts : List Token). keep_all ts (nothing_kept cuts)) (step_consumed text t.token r opening t.after n t.steps_to) ∙ sym (k t.token r t.is);
+      kept = ap (λ (ts : List Token). hold_all ts (nothing_held keeping)) (step_consumed text t.token r opening t.after n t.steps_to) ∙ sym (k t.token r t.is);
       going = step_first t.token t.after t.steps_to;
     }
 
 -- a token behind others
-pub next_turn : (cuts : Bool) (text rest here r : List ℕ) (old new : Shapes) (kept more : Keep) → here ≡ skip rest → (old.outer ≡ [] → ⊥) → after_piece old (first here) ≡ Some (new, r) → KeepsToken kept (first here) more
-    → Midway cuts text rest old kept → Midway cuts text r new more
-next_turn cuts text rest here r old new kept more h inside e k m =
+pub next_turn : (keeping : Keeping) (text rest here r : List ℕ) (old new : Shapes) (kept more : Held) → here ≡ skip rest → (old.outer ≡ [] → ⊥) → after_piece old (first here) ≡ Some (new, r) → HoldsToken kept (first here) more
+    → Midway keeping text rest old kept → Midway keeping text r new more
+next_turn keeping text rest here r old new kept more h inside e k m =
     let e' : after_piece (shapes_of m.state) (first here) ≡ Some (new, r) = ap (λ (s : Shapes). after_piece s (first here)) m.shaped ∙ e in
     let t = taken m.state (first here) new r e' in
     let n : next rest ≡ got t.token r = next_at rest here h ∙ t.is in
@@ -207,18 +209,18 @@ next_turn cuts text rest here r old new kept more h inside e k m =
       progress = goes_on text rest t.token r m.state t.after n t.steps_to m.progress;
       shaped = t.shaped;
       kept =
-          ap (λ (ts : List Token). keep_all ts (nothing_kept cuts)) (step_consumed rest t.token r m.state t.after n t.steps_to)
-          ∙ keep_append (consumed m.state) (t.token ∷ []) (nothing_kept cuts)
-          ∙ ap (keep t.token) m.kept
+          ap (λ (ts : List Token). hold_all ts (nothing_held keeping)) (step_consumed rest t.token r m.state t.after n t.steps_to)
+          ∙ hold_append (consumed m.state) (t.token ∷ []) (nothing_held keeping)
+          ∙ ap (hold t.token) m.kept
           ∙ sym (k t.token r t.is);
       going = step_going t.token m.state t.after t.steps_to (inside_of m.state old m.shaped inside m.going);
     }
 
 -- nothing is open: the element is whole
-pub whole : (cuts : Bool) (text rest : List ℕ) (now_open : Shapes) (kept : Keep) → IsUtf8 text → now_open.outer ≡ [] → Midway cuts text rest now_open kept → ReadsElement cuts text kept.tokens rest
-whole cuts text rest now_open kept u e m = by_going m.going
+pub whole : (keeping : Keeping) (text rest : List ℕ) (now_open : Shapes) (kept : Held) → IsUtf8 text → now_open.outer ≡ [] → Midway keeping text rest now_open kept → ReadsElement keeping text kept.kept.tokens (noted kept.row) rest
+whole keeping text rest now_open kept u e m = by_going m.going
   where
-    by_going : IsGoing m.state → ReadsElement cuts text kept.tokens rest
+    by_going : IsGoing m.state → ReadsElement keeping text kept.kept.tokens (noted kept.row) rest
     by_going (inl i) = absurd (not_inside m.state.outer i (ap (λ (x : Shapes). x.outer) m.shaped ∙ e))
       where
         not_inside : (fs : List Frame) → IsInside fs → shape_list fs ≡ [] → ⊥
@@ -226,16 +228,18 @@ whole cuts text rest now_open kept u e m = by_going m.going
         not_inside (f ∷ fs) i h = cc
     by_going (inr (d, q)) =
         let p : Progress text rest (closed (d ∷ [])) = subst (λ (s : State). Progress text rest s) q m.progress in
+        let held : kept ≡ hold_all (tokens_of d) (nothing_held keeping) = sym m.kept ∙ ap (λ (ts : List Token). hold_all ts (nothing_held keeping)) (ap consumed q ∙ append-nil (tokens_of d)) in
         record {
           element = d;
-          own = ap (λ (k : Keep). k.tokens) (sym m.kept) ∙ ap (λ (ts : List Token). (keep_all ts (nothing_kept cuts)).tokens) (ap consumed q ∙ append-nil (tokens_of d)) ∙ kept_tokens cuts d;
+          own = ap (λ (k : Held). k.kept.tokens) held ∙ ap (λ (k : Keep). k.tokens) (held_kept (tokens_of d) (nothing_held keeping)) ∙ kept_tokens keeping.cuts d;
+          own_row = ap (λ (k : Held). noted k.row) held ∙ row_held keeping d;
           front = element_front text rest d p u;
           utf8 = p.utf8;
         }
 
 -- then nothing is open but the text
-pub whole_open : (cuts : Bool) (text rest : List ℕ) (now_open : Shapes) (kept : Keep) → now_open.outer ≡ [] → Midway cuts text rest now_open kept → now_open ≡ nothing_open
-whole_open cuts text rest now_open kept e m = by_going m.going
+pub whole_open : (keeping : Keeping) (text rest : List ℕ) (now_open : Shapes) (kept : Held) → now_open.outer ≡ [] → Midway keeping text rest now_open kept → now_open ≡ nothing_open
+whole_open keeping text rest now_open kept e m = by_going m.going
   where
     by_going : IsGoing m.state → now_open ≡ nothing_open
     by_going (inl i) = absurd (not_inside m.state.outer i (ap (λ (x : Shapes). x.outer) m.shaped ∙ e))
@@ -250,13 +254,13 @@ whole_open cuts text rest now_open kept e m = by_going m.going
 pub none_first : (text here : List ℕ) → IsUtf8 text → here ≡ skip text → 0 < length here → after_piece nothing_open (first here) ≡ None → (ds : List Datum) → Spells ds text → ⊥
 none_first text here u h some e = stops text text here opening h some (not_taken opening (first here) e) (start text u)
 
-pub none_next : (cuts : Bool) (text rest here : List ℕ) (now_open : Shapes) (kept : Keep) → here ≡ skip rest → 0 < length here → after_piece now_open (first here) ≡ None → Midway cuts text rest now_open kept → (ds : List Datum) → Spells ds text → ⊥
-none_next cuts text rest here now_open kept h some e m =
+pub none_next : (keeping : Keeping) (text rest here : List ℕ) (now_open : Shapes) (kept : Held) → here ≡ skip rest → 0 < length here → after_piece now_open (first here) ≡ None → Midway keeping text rest now_open kept → (ds : List Datum) → Spells ds text → ⊥
+none_next keeping text rest here now_open kept h some e m =
     stops text rest here m.state h some (not_taken m.state (first here) (ap (λ (s : Shapes). after_piece s (first here)) m.shaped ∙ e)) m.progress
 
 -- nothing is wrong up to a token that would be taken
-pub sound_next : (cuts : Bool) (text rest here : List ℕ) (now_open : Shapes) (kept : Keep) → IsUtf8 text → here ≡ skip rest → IsSome (after_piece now_open (first here)) → Midway cuts text rest now_open kept → IsSoundBehind (length here) text
-sound_next cuts text rest here now_open kept u h e m =
+pub sound_next : (keeping : Keeping) (text rest here : List ℕ) (now_open : Shapes) (kept : Held) → IsUtf8 text → here ≡ skip rest → IsSome (after_piece now_open (first here)) → Midway keeping text rest now_open kept → IsSoundBehind (length here) text
+sound_next keeping text rest here now_open kept u h e m =
     let within : length here ≤ length text = omega (arith, ap length h, skip_within rest, m.progress.within) in
     (within, sound text rest here m.state h u m.progress (taken_too m.state (first here) (subst (λ (s : Shapes). IsSome (after_piece s (first here))) (sym m.shaped) e)))
 
@@ -266,8 +270,8 @@ sound_first text here old u h o e =
     (within, sound text text here opening h u (start text u) (taken_too opening (first here) (subst (λ (s : Shapes). IsSome (after_piece s (first here))) o e)))
 
 -- the text ends inside an element
-pub none_at_end : (cuts : Bool) (text rest here : List ℕ) (now_open : Shapes) (kept : Keep) → here ≡ skip rest → true ≡ (length here == 0) → (now_open.outer ≡ [] → ⊥) → Midway cuts text rest now_open kept → (ds : List Datum) → Spells ds text → ⊥
-none_at_end cuts text rest here now_open kept h e inside m ds k =
+pub none_at_end : (keeping : Keeping) (text rest here : List ℕ) (now_open : Shapes) (kept : Held) → here ≡ skip rest → true ≡ (length here == 0) → (now_open.outer ≡ [] → ⊥) → Midway keeping text rest now_open kept → (ds : List Datum) → Spells ds text → ⊥
+none_at_end keeping text rest here now_open kept h e inside m ds k =
     let q : m.state ≡ closed ds = ends_there text rest m.state (at_end rest here h e) m.progress ds k in
     inside (sym (ap (λ (x : Shapes). x.outer) m.shaped) ∙ ap (λ (x : State). shape_list x.outer) q)
 
@@ -286,25 +290,25 @@ nothing_in : (fs : List Shape) → true ≡ (length fs == 0) → fs ≡ []
 nothing_in [] h = refl
 nothing_in (f ∷ fs) h = let z : length (f ∷ fs) ≡ 0 = eqb-true (length (f ∷ fs)) 0 (sym h) in absurd (omega arith)
 
-pub loop_init : (cuts : Bool) (text here r : List ℕ) (old new : Shapes) (kept more : Keep) → IsUtf8 text → here ≡ skip text → old ≡ nothing_open → kept ≡ nothing_kept cuts → after_piece old (first here) ≡ Some (new, r) → KeepsToken kept (first here) more → Midway cuts text r new more
-loop_init cuts text here r old new kept more u h o z e k =
-    first_turn cuts text here r new more u h (ap (λ (s : Shapes). after_piece s (first here)) (sym o) ∙ e) (λ t q n. k t q n ∙ ap (keep t) z)
+pub loop_init : (keeping : Keeping) (text here r : List ℕ) (old new : Shapes) (kept more : Held) → IsUtf8 text → here ≡ skip text → old ≡ nothing_open → kept ≡ nothing_held keeping → after_piece old (first here) ≡ Some (new, r) → HoldsToken kept (first here) more → Midway keeping text r new more
+loop_init keeping text here r old new kept more u h o z e k =
+    first_turn keeping text here r new more u h (ap (λ (s : Shapes). after_piece s (first here)) (sym o) ∙ e) (λ t q n. k t q n ∙ ap (hold t) z)
 
-pub loop_turn : (cuts : Bool) (text rest here r : List ℕ) (old new : Shapes) (kept more : Keep) → here ≡ skip rest → false ≡ (length old.outer == 0) → after_piece old (first here) ≡ Some (new, r) → KeepsToken kept (first here) more
-    → Midway cuts text rest old kept → Midway cuts text r new more
-loop_turn cuts text rest here r old new kept more h o e k m = next_turn cuts text rest here r old new kept more h (is_open old o) e k m
+pub loop_turn : (keeping : Keeping) (text rest here r : List ℕ) (old new : Shapes) (kept more : Held) → here ≡ skip rest → false ≡ (length old.outer == 0) → after_piece old (first here) ≡ Some (new, r) → HoldsToken kept (first here) more
+    → Midway keeping text rest old kept → Midway keeping text r new more
+loop_turn keeping text rest here r old new kept more h o e k m = next_turn keeping text rest here r old new kept more h (is_open old o) e k m
 
-pub loop_whole : (cuts : Bool) (text rest : List ℕ) (now_open : Shapes) (kept : Keep) → IsUtf8 text → true ≡ (length now_open.outer == 0) → Midway cuts text rest now_open kept → ReadsElement cuts text kept.tokens rest
-loop_whole cuts text rest now_open kept u o m = whole cuts text rest now_open kept u (nothing_in now_open.outer o) m
+pub loop_whole : (keeping : Keeping) (text rest : List ℕ) (now_open : Shapes) (kept : Held) → IsUtf8 text → true ≡ (length now_open.outer == 0) → Midway keeping text rest now_open kept → ReadsElement keeping text kept.kept.tokens (noted kept.row) rest
+loop_whole keeping text rest now_open kept u o m = whole keeping text rest now_open kept u (nothing_in now_open.outer o) m
 
-pub loop_fresh : (cuts : Bool) (text rest : List ℕ) (now_open : Shapes) (kept : Keep) → true ≡ (length now_open.outer == 0) → Midway cuts text rest now_open kept → now_open ≡ nothing_open
-loop_fresh cuts text rest now_open kept o m = whole_open cuts text rest now_open kept (nothing_in now_open.outer o) m
+pub loop_fresh : (keeping : Keeping) (text rest : List ℕ) (now_open : Shapes) (kept : Held) → true ≡ (length now_open.outer == 0) → Midway keeping text rest now_open kept → now_open ≡ nothing_open
+loop_fresh keeping text rest now_open kept o m = whole_open keeping text rest now_open kept (nothing_in now_open.outer o) m
 
 pub loop_none_first : (text here : List ℕ) (old : Shapes) → IsUtf8 text → here ≡ skip text → 0 < length here → old ≡ nothing_open → after_piece old (first here) ≡ None → (ds : List Datum) → Spells ds text → ⊥
 loop_none_first text here old u h some o e = none_first text here u h some (ap (λ (s : Shapes). after_piece s (first here)) (sym o) ∙ e)
 
-pub loop_none_at_end : (cuts : Bool) (text rest here : List ℕ) (now_open : Shapes) (kept : Keep) → here ≡ skip rest → true ≡ (length here == 0) → false ≡ (length now_open.outer == 0) → Midway cuts text rest now_open kept → (ds : List Datum) → Spells ds text → ⊥
-loop_none_at_end cuts text rest here now_open kept h e o m = none_at_end cuts text rest here now_open kept h e (is_open now_open o) m
+pub loop_none_at_end : (keeping : Keeping) (text rest here : List ℕ) (now_open : Shapes) (kept : Held) → here ≡ skip rest → true ≡ (length here == 0) → false ≡ (length now_open.outer == 0) → Midway keeping text rest now_open kept → (ds : List Datum) → Spells ds text → ⊥
+loop_none_at_end keeping text rest here now_open kept h e o m = none_at_end keeping text rest here now_open kept h e (is_open now_open o) m
 
 pub after_piece_shorter : (t : List ℕ) (s z : Shapes) (r : List ℕ) → after_piece s (first t) ≡ Some (z, r) → length r < length t
 after_piece_shorter t s z r e = by_next (first t) refl e

@@ -1,6 +1,7 @@
--- What is kept of an element of which a reader needs only the beginning of each value.
-use Rattle.std.specs.Prelude.{ℕ, zero, suc, ◌+◌, ◌-◌, ◌==◌, Bool, true, false, if◌then◌else◌, List, [], ◌∷◌, ◌++◌}
-use Rattle.edn.specs.Datum.{nil, Datum, atom, vector, dictionary, Items, no_items, item, Entries, no_entries, entry}
+-- What is kept of an element of which a reader needs only the beginning of each value, and the row of numbers under one key.
+use Rattle.std.specs.Prelude.{ℕ, zero, suc, ◌+◌, ◌-◌, ◌==◌, ℤ, Bool, true, false, if◌then◌else◌, List, [], ◌∷◌, ◌++◌, Option, Some, None, option_map, option_and_then}
+use Rattle.std.specs.Str.{bytes_eq}
+use Rattle.edn.specs.Datum.{nil, integer, Datum, atom, vector, dictionary, Items, no_items, item, Entries, no_entries, entry}
 use Rattle.edn.specs.Token.{Token, open_vector, close_vector, open_map, close_map, leaf}
 
 -- how many elements of a vector are kept
@@ -38,6 +39,51 @@ brief (dictionary es) = dictionary (brief_entries es)
 -- what is kept of an element, by whether it is cut
 abbrev pub kept_of : Bool → Datum → Datum
 kept_of cuts d = if cuts then brief d else d
+
+-- ---- a row of numbers
+
+abbrev pub integer_in : Datum → Option ℤ
+integer_in (atom (integer z)) = Some z
+integer_in other = None
+
+-- the elements of a vector, where all are integers
+abbrev pub integers_in : Items → Option (List ℤ)
+integers_in no_items = Some []
+integers_in (item d ds) = option_and_then (λ z. option_map (λ zs. z ∷ zs) (integers_in ds)) (integer_in d)
+
+-- the numbers of a vector that holds integers alone
+abbrev pub row_of : Datum → Option (List ℤ)
+row_of (vector ds) = integers_in ds
+row_of other = None
+
+-- the row that stands under a key: under the first entry that has it
+abbrev pub row_under : List ℕ → Entries → Option (List ℤ)
+row_under key no_entries = None
+row_under key (entry k d es) = if bytes_eq key k then row_of d else row_under key es
+
+abbrev pub row_at : List ℕ → Datum → Option (List ℤ)
+row_at key (dictionary es) = row_under key es
+row_at key other = None
+
+-- ---- what a reader keeps of each element
+
+-- whether the element is cut, and under which key the row is kept, if one is
+pub record Keeping : Type 0 where
+  pub cuts : Bool
+  pub row_key : Option (List ℕ)
+
+abbrev pub all_kept : Keeping
+all_kept = record { cuts = false; row_key = None }
+
+abbrev pub brief_kept : Keeping
+brief_kept = record { cuts = true; row_key = None }
+
+abbrev pub brief_and_row : List ℕ → Keeping
+brief_and_row key = record { cuts = true; row_key = Some key }
+
+-- the row of a whole element, whether or not it is cut
+abbrev pub row_kept : Keeping → Datum → Option (List ℤ)
+row_kept k d = option_and_then (λ key. row_at key d) k.row_key
 
 -- ---- token by token. No public clause speaks of it.
 

@@ -1,11 +1,12 @@
 -- A text, element by element.
-use Rattle.std.specs.Prelude.{◌≡◌, ℕ, Bool, List, [], ◌∷◌, ◌++◌, Option, Some, None}
+use Rattle.std.specs.Prelude.{◌≡◌, ℕ, ℤ, List, [], ◌∷◌, ◌++◌, Option, Some, None}
 use Rattle.std.specs.Str.{IsUtf8}
 use Rattle.edn.specs.Datum.{Datum, ItemsFit, items_of, max_open}
 use Rattle.edn.specs.Spells.{Spells}
 use Rattle.edn.specs.Sound.{BeginWith}
 use Rattle.edn.specs.Token.{Token, tokens_of, items_tokens}
-use Rattle.edn.specs.Briefs.{kept_of, Keep, keep}
+use Rattle.edn.specs.Briefs.{Keeping, kept_of, row_kept}
+use Rattle.edn.specs.Rows.{Held, hold}
 use Rattle.edn.specs.Reading.{Next, got}
 
 -- The text begins with these forms, and this rest follows them: what the rest spells, the text spells behind them, and
@@ -21,18 +22,19 @@ pub record SpellsNothing (text : List ℕ) : Type 0 where
   pub spelled : Spells [] text
   pub only : (es : List Datum) → Spells es text → es ≡ []
 
--- One element was read, these being the tokens of what is kept of it, and this rest follows it.
-pub record ReadsElement (cuts : Bool) (text : List ℕ) (tokens : List Token) (rest : List ℕ) : Type 0 where
+-- One element was read, these being the tokens of what is kept of it and its row, and this rest follows it.
+pub record ReadsElement (keeping : Keeping) (text : List ℕ) (tokens : List Token) (row : Option (List ℤ)) (rest : List ℕ) : Type 0 where
   pub element : Datum
-  pub own : tokens ≡ tokens_of (kept_of cuts element)
+  pub own : tokens ≡ tokens_of (kept_of keeping.cuts element)
+  pub own_row : row ≡ row_kept keeping element
   pub front : SpellsFront text (element ∷ []) rest
   pub utf8 : IsUtf8 rest
 
 -- what a text begins with, or that it has no element more
-abbrev pub ReadsNext : Bool → List ℕ → List Token → Option (List ℕ) → Type 0
-ReadsNext cuts text tokens None = SpellsNothing text
-ReadsNext cuts text tokens (Some rest) = ReadsElement cuts text tokens rest
+abbrev pub ReadsNext : Keeping → List ℕ → List Token → Option (List ℤ) → Option (List ℕ) → Type 0
+ReadsNext keeping text tokens row None = SpellsNothing text
+ReadsNext keeping text tokens row (Some rest) = ReadsElement keeping text tokens row rest
 
--- one more token is kept, as far as it is
-abbrev pub KeepsToken : Keep → Next → Keep → Type 0
-KeepsToken old n new = (t : Token) (r : List ℕ) → n ≡ got t r → new ≡ keep t old
+-- one more token is kept and noted, as far as it is
+abbrev pub HoldsToken : Held → Next → Held → Type 0
+HoldsToken old n new = (t : Token) (r : List ℕ) → n ≡ got t r → new ≡ hold t old

@@ -1,7 +1,9 @@
 -- What a reader of elements has.
-use Rattle.std.specs.Prelude.{ℕ, ◌-◌, Bool, List, length}
+use Rattle.std.specs.Prelude.{ℕ, ◌-◌, ℤ, List, length, Option}
 use Rattle.edn.specs.Token.{Token}
-use Rattle.edn.specs.Tapes.{tokens_on}
+use Rattle.edn.specs.Briefs.{Keeping}
+use Rattle.edn.specs.Kepts.{keeping_of}
+use Rattle.edn.specs.Tapes.{tokens_on, row_on}
 use Rattle.edn.specs.declared.elements.Elements.{Elements}
 
 -- what is left of the text
@@ -12,10 +14,14 @@ left_of e = e.rest.now
 abbrev pub start_of : Elements → ℕ
 start_of e = e.whole - length e.rest.now
 
--- whether values are cut
-abbrev pub cuts_in : Elements → Bool
-cuts_in e = e.cuts
+-- what is kept of each element
+abbrev pub keeping_in : Elements → Keeping
+keeping_in e = keeping_of e.keeping
 
 -- the tokens that were kept of the element that was read last
 abbrev pub tokens_in : Elements → List Token
 tokens_in e = tokens_on e.tape
+
+-- its row, where one was kept and was not taken yet
+abbrev pub row_in : Elements → Option (List ℤ)
+row_in e = row_on e.tape

@@ -22,6 +22,7 @@ pub mod NameSets
 pub mod Pieces
 pub mod Levels
 pub mod Briefs
+pub mod Rows
 pub mod Kepts
 pub mod Elements
 pub mod Tapes

@@ -11,32 +11,40 @@ ghost use Rattle.edn.specs.Tapes.{open_on};
 use crate::fault::{EdnFault, FaultKind};
 use crate::piece::Piece;
 use crate::reader::MAX_LENGTH;
-use crate::tape::Tape;
+use crate::tape::{Keeping, Tape};
 use std::alloc::Global;
 
 /// What is left of a text, and the tokens that were kept of the element that was read last: all, or
-/// the beginning of each value. The room of the tokens is used again for the next element.
+/// the beginning of each value; and its row, where one is kept. The room of the tokens is used again
+/// for the next element.
 #[derive(Drop)]
 pub struct Elements<'a> {
     alloc: Global,
     rest: &'a str,
     whole: usize,
-    cuts: bool,
+    keeping: Keeping<'a>,
     tape: Tape<'a>,
     ghost fresh: { open_on tape ≡ nothing_open },
     ghost within: { length rest.now ≤ whole },
 }
 
 impl<'a> Elements<'a> {
-    ghost use Rattle.std.specs.Prelude.{true, false};
-    ghost use Rattle.edn.specs.Left.{left_of, start_of, cuts_in, tokens_in};
+    ghost use Rattle.std.specs.Prelude.{true, option_map};
+    ghost use Rattle.edn.specs.Left.{left_of, start_of, keeping_in, tokens_in, row_in};
+    ghost use Rattle.edn.specs.Briefs.{all_kept, brief_kept, brief_and_row};
     ghost use Rattle.edn.specs.Pieces.{tape_tokens};
 
     /// A text that is too long is not looked at; then comes whether it is UTF-8 as a whole. No memory
     /// is taken.
-    fn over(alloc: Global, cuts: bool, text: &'a [u8]) -> Result<Elements<'a>, EdnFault>
+    fn over(
+        alloc: Global,
+        cuts: bool,
+        row_key: Option<&'a [u8]>,
+        text: &'a [u8],
+    ) -> Result<Elements<'a>, EdnFault>
         ensures text { IfOk result (λ r. (left_of r ≡ text.entry.now) × (start_of r ≡ 0)) }
-        ensures cut { IfOk result (λ r. cuts_in r ≡ cuts) }
+        ensures keeps { IfOk result (λ r. keeping_in r
+            ≡ record { cuts = cuts; row_key = option_map (λ k. k.now) row_key.entry }) }
         ensures short { IfOk result (λ r. IsShort text.entry.now × IsUtf8 text.entry.now) }
         ensures unreadable { IfErr result (IsUnreadable text.entry.now) }
     {
@@ -51,7 +59,7 @@ impl<'a> Elements<'a> {
                 alloc,
                 rest,
                 whole: text.len(),
-                cuts,
+                keeping: Keeping { cuts, row_key },
                 tape: Tape::new(alloc),
             }),
             Err(e) => Err(EdnFault {
@@ -65,11 +73,11 @@ impl<'a> Elements<'a> {
     /// whether it is UTF-8 as a whole. No memory is taken.
     pub fn new(alloc: Global, text: &'a [u8]) -> Result<Elements<'a>, EdnFault>
         ensures text { IfOk result (λ r. (left_of r ≡ text.entry.now) × (start_of r ≡ 0)) }
-        ensures cut { IfOk result (λ r. cuts_in r ≡ false) }
+        ensures keeps { IfOk result (λ r. keeping_in r ≡ all_kept) }
         ensures short { IfOk result (λ r. IsShort text.entry.now × IsUtf8 text.entry.now) }
         ensures unreadable { IfErr result (IsUnreadable text.entry.now) }
     {
-        Elements::over(alloc, false, text)
+        Elements::over(alloc, false, None, text)
     }
 
     /// Elements of which only the beginning of each value is kept: of a vector three elements, with
@@ -77,20 +85,32 @@ impl<'a> Elements<'a> {
     /// is kept as a value is. What is not kept takes no memory, and is read as all else is.
     pub fn brief(alloc: Global, text: &'a [u8]) -> Result<Elements<'a>, EdnFault>
         ensures text { IfOk result (λ r. (left_of r ≡ text.entry.now) × (start_of r ≡ 0)) }
-        ensures cut { IfOk result (λ r. cuts_in r ≡ true) }
+        ensures keeps { IfOk result (λ r. keeping_in r ≡ brief_kept) }
         ensures short { IfOk result (λ r. IsShort text.entry.now × IsUtf8 text.entry.now) }
         ensures unreadable { IfErr result (IsUnreadable text.entry.now) }
     {
-        Elements::over(alloc, true, text)
+        Elements::over(alloc, true, None, text)
+    }
+
+    /// The same, and beside it the row of each element: where an element is a map, and the first value
+    /// that it has for the key is a vector of integers alone, the whole of these. A row takes eight
+    /// bytes for each number.
+    pub fn with_row(alloc: Global, text: &'a [u8], key: &'a [u8]) -> Result<Elements<'a>, EdnFault>
+        ensures text { IfOk result (λ r. (left_of r ≡ text.entry.now) × (start_of r ≡ 0)) }
+        ensures keeps { IfOk result (λ r. keeping_in r ≡ brief_and_row key.entry.now) }
+        ensures short { IfOk result (λ r. IsShort text.entry.now × IsUtf8 text.entry.now) }
+        ensures unreadable { IfErr result (IsUnreadable text.entry.now) }
+    {
+        Elements::over(alloc, true, Some(key), text)
     }
 
     /// Reads the next element, or says that there is none. After an error what is left stays as it
     /// was, and the next call answers the same, but for want of memory.
     pub fn advance(&mut self) -> Result<bool, EdnFault>
         ensures reads { IfOk result (λ more.
-            ReadsNext (cuts_in self.old) (left_of self.old) (tokens_in self.new)
+            ReadsNext (keeping_in self.old) (left_of self.old) (tokens_in self.new) (row_in self.new)
             (if more then Some (left_of self.new) else None)) }
-        ensures cut { cuts_in self.new ≡ cuts_in self.old }
+        ensures keeps { keeping_in self.new ≡ keeping_in self.old }
         ensures moves { start_of self.new + length (left_of self.new)
             ≡ start_of self.old + length (left_of self.old) }
         ensures shorter { IfOk result (λ more. more ≡ true →
@@ -103,7 +123,10 @@ impl<'a> Elements<'a> {
             → IsSoundFrom (start_of self.old) e.place (left_of self.old)) }
         ensures short { IfErr result (λ e. e.kind ≢ FaultKind.TooLong) }
     {
-        match self.tape.read(self.alloc, self.cuts, self.rest.as_bytes()) {
+        match self
+            .tape
+            .read(self.alloc, self.keeping, self.rest.as_bytes())
+        {
             Ok(Some(rest)) => {
                 // What follows an element of a text is text.
                 self.rest = unsafe { std::str::from_utf8_unchecked(rest) };
@@ -119,5 +142,16 @@ impl<'a> Elements<'a> {
         ensures { tape_tokens result.now ≡ tokens_in self.now }
     {
         self.tape.pieces()
+    }
+
+    /// The row of the element that was read last, which is gone then.
+    pub fn take_row(&mut self) -> Option<Vec<i64>>
+        ensures row { option_map (λ v. v.items) result ≡ row_in self.old }
+        ensures gone { row_in self.new ≡ None }
+        ensures tokens { tokens_in self.new ≡ tokens_in self.old }
+        ensures keeps { keeping_in self.new ≡ keeping_in self.old }
+        ensures left { (left_of self.new ≡ left_of self.old) × (start_of self.new ≡ start_of self.old) }
+    {
+        self.tape.take_row(self.alloc)
     }
 }

@@ -19,6 +19,7 @@ mod lexer;
 mod limits;
 mod piece;
 mod reader;
+mod row;
 mod sink;
 mod source;
 mod state;

@@ -5,7 +5,7 @@ ghost use Rattle.edn.specs.Datum.{Datum};
 ghost use Rattle.edn.specs.Reading as reading;
 ghost use Rattle.edn.specs.Shapes.{after_piece, nothing_open};
 ghost use Rattle.edn.specs.Spells.{Spells};
-ghost use Rattle.edn.specs.Elements.{ReadsNext, KeepsToken};
+ghost use Rattle.edn.specs.Elements.{ReadsNext, HoldsToken};
 ghost use Rattle.edn.specs.Results.{Denies};
 ghost use Rattle.edn.specs.Tapes.{IsSoundBehind};
 
@@ -14,18 +14,28 @@ use crate::fault::{Cause, Stop};
 use crate::levels::Levels;
 use crate::lexer::skip;
 use crate::piece::Piece;
+use crate::row::Row;
 use std::alloc::Global;
 
-/// The tokens of one element that are kept, what is open while they are read, and what follows the last of them.
+/// What is kept of each element: whether it is cut, and under which key its row is kept, if one is.
+#[derive(Clone, Copy)]
+pub struct Keeping<'a> {
+    pub cuts: bool,
+    pub row_key: Option<&'a [u8]>,
+}
+
+/// The tokens of one element that are kept, its row, what is open while they are read, and what follows the last of them.
 #[derive(Drop)]
 pub struct Tape<'a> {
     brief: Brief<'a>,
+    row: Row<'a>,
     levels: Levels<'a>,
     behind: &'a [u8],
 }
 
 impl<'a> Tape<'a> {
-    ghost use Rattle.edn.specs.Tapes.{tokens_on, kept_on, open_on};
+    ghost use Rattle.edn.specs.Tapes.{tokens_on, row_on, held_on, open_on};
+    ghost use Rattle.edn.specs.Kepts.{keeping_of};
     ghost use Rattle.edn.specs.Pieces.{piece_token, tape_tokens};
 
     pub fn new(alloc: Global) -> Tape<'a>
@@ -33,6 +43,7 @@ impl<'a> Tape<'a> {
     {
         Tape {
             brief: Brief::new(alloc),
+            row: Row::new(alloc),
             levels: Levels::new(alloc),
             behind: b"",
         }
@@ -55,12 +66,15 @@ impl<'a> Tape<'a> {
             (λ e. Denies e.cause (after_piece (open_on self.old) (reading.first here.entry.now))) }
         ensures place { IfErr result (λ e. e.cause ≡ Cause.NoMemory → e.left ≡ length here.entry.now) }
         ensures kept { OnOk result
-            (KeepsToken (kept_on self.old) (reading.first here.entry.now) (kept_on self.new)) }
+            (HoldsToken (held_on self.old) (reading.first here.entry.now) (held_on self.new)) }
     {
         if let Err(cause) = self.levels.step(alloc, &piece) {
             return Err(Stop::at(cause, here));
         }
         self.behind = rest;
+        if self.row.note(&piece).is_err() {
+            return Err(Stop::at(Cause::NoMemory, here));
+        }
         match self.brief.keep(piece) {
             Ok(()) => Ok(()),
             Err(_) => Err(Stop::at(Cause::NoMemory, here)),
@@ -76,7 +90,7 @@ impl<'a> Tape<'a> {
             (λ e. Denies e.cause (after_piece (open_on self.old) (reading.first here.entry.now))) }
         ensures place { IfErr result (λ e. e.cause ≡ Cause.NoMemory → e.left ≡ length here.entry.now) }
         ensures kept { OnOk result
-            (KeepsToken (kept_on self.old) (reading.first here.entry.now) (kept_on self.new)) }
+            (HoldsToken (held_on self.old) (reading.first here.entry.now) (held_on self.new)) }
     {
         // A string is no key, whatever it holds.
         if self.levels.takes_key() && here[0] == b'"' {
@@ -96,7 +110,7 @@ impl<'a> Tape<'a> {
             (λ e. Denies e.cause (after_piece (open_on self.old) (reading.first here.entry.now))) }
         ensures place { IfErr result (λ e. e.cause ≡ Cause.NoMemory → e.left ≡ length here.entry.now) }
         ensures kept { OnOk result
-            (KeepsToken (kept_on self.old) (reading.first here.entry.now) (kept_on self.new)) }
+            (HoldsToken (held_on self.old) (reading.first here.entry.now) (held_on self.new)) }
     {
         match here {
             [b':', tail @ ..] => match Piece::usual_keyword(tail) {
@@ -118,20 +132,22 @@ impl<'a> Tape<'a> {
     fn try_read(
         &mut self,
         alloc: Global,
-        cuts: bool,
+        keeping: Keeping<'a>,
         text: &'a [u8],
     ) -> Result<Option<&'a [u8]>, Stop>
         requires utf8 { IsUtf8 text.now }
         requires fresh { open_on self.old ≡ nothing_open }
         ensures reads { IfOk result (λ rest.
-            ReadsNext cuts text.entry.now (tokens_on self.new) (option_map (λ r. r.now) rest)) }
+            ReadsNext (keeping_of keeping.entry) text.entry.now (tokens_on self.new) (row_on self.new)
+            (option_map (λ r. r.now) rest)) }
         ensures shorter { IfOk result (λ rest. IfSome rest (λ r. length r.now < length text.entry.now)) }
         ensures none { IfErr result (λ e. e.cause ≢ Cause.NoMemory → (ds : List Datum) →
             Spells ds text.entry.now → ⊥) }
         ensures memory { IfErr result (λ e. e.cause ≡ Cause.NoMemory → IsSoundBehind e.left text.entry.now) }
         ensures fresh { OnOk result (open_on self.new ≡ nothing_open) }
     {
-        self.brief.clear(cuts);
+        self.brief.clear(keeping.cuts);
+        self.row.clear(keeping.row_key);
         let here = skip(text);
         if here.is_empty() {
             return Ok(None);
@@ -149,24 +165,25 @@ impl<'a> Tape<'a> {
 
     /// Reads the next element of a text, and gives what follows it, or none where there is no
     /// element more. Of its tokens all are kept, or the beginning of each value where it is to be
-    /// cut. After an error nothing is open, as before.
+    /// cut, and its row where there is a key for it. After an error nothing is open, as before.
     pub fn read(
         &mut self,
         alloc: Global,
-        cuts: bool,
+        keeping: Keeping<'a>,
         text: &'a [u8],
     ) -> Result<Option<&'a [u8]>, Stop>
         requires utf8 { IsUtf8 text.now }
         requires fresh { open_on self.old ≡ nothing_open }
         ensures reads { IfOk result (λ rest.
-            ReadsNext cuts text.entry.now (tokens_on self.new) (option_map (λ r. r.now) rest)) }
+            ReadsNext (keeping_of keeping.entry) text.entry.now (tokens_on self.new) (row_on self.new)
+            (option_map (λ r. r.now) rest)) }
         ensures shorter { IfOk result (λ rest. IfSome rest (λ r. length r.now < length text.entry.now)) }
         ensures none { IfErr result (λ e. e.cause ≢ Cause.NoMemory → (ds : List Datum) →
             Spells ds text.entry.now → ⊥) }
         ensures memory { IfErr result (λ e. e.cause ≡ Cause.NoMemory → IsSoundBehind e.left text.entry.now) }
         ensures fresh { open_on self.new ≡ nothing_open }
     {
-        match self.try_read(alloc, cuts, text) {
+        match self.try_read(alloc, keeping, text) {
             Ok(rest) => Ok(rest),
             Err(stop) => {
                 self.levels = Levels::new(alloc);
@@ -180,5 +197,15 @@ impl<'a> Tape<'a> {
         ensures { tape_tokens result.now ≡ tokens_on self.now }
     {
         self.brief.pieces()
+    }
+
+    /// The row of the element that was read last, which is gone then.
+    pub fn take_row(&mut self, alloc: Global) -> Option<Vec<i64>>
+        ensures row { option_map (λ v. v.items) result ≡ row_on self.old }
+        ensures gone { row_on self.new ≡ None }
+        ensures tokens { tokens_on self.new ≡ tokens_on self.old }
+        ensures open { open_on self.new ≡ open_on self.old }
+    {
+        self.row.take(alloc)
     }
 }

@@ -3,3 +3,4 @@ pub mod Skipping
 pub mod Operating
 pub mod Shapes
 pub mod Seeking
+pub mod Briefs

@@ -2,8 +2,9 @@
 //! not find is open.
 //!
 //! It is made to find an order of a queue, stack, heap, register or map in which each value is put in once, and of any mutex, in some
-//! n log n steps of n calls. That it does is not proved: random histories are tried beside the bounded search. Where values come more than once, or calls are pending, some objects that have an order stay open; a register or a
-//! key of a map does where a value is set twice.
+//! n log n steps of n calls. That it does is not proved: random histories are tried beside the bounded search. Where values come more
+//! than once, or calls are pending, the bounded search is tried on objects of at most 4,096 operations, and what it does not find in
+//! its steps stays open.
 #![tactic(auto)]
 
 mod accesses;
@@ -21,6 +22,7 @@ mod runs;
 mod stack;
 mod stays;
 mod trees;
+mod ways;
 
 pub use all::find_all;
 pub use finding::{Found, find};

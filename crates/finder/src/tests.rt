@@ -1,4 +1,5 @@
 mod random;
+mod small;
 
 use super::*;
 use checker::check_object;
@@ -91,12 +92,12 @@ fn a_value_twice(rt: HostRuntime) -> Result<(), Fail> {
 
 /// A value that is set twice in a register, and one that is taken before it is put in.
 #[test]
-fn open(rt: HostRuntime) -> Result<(), Fail> {
+fn set_twice_and_taken_early(rt: HostRuntime) -> Result<(), Fail> {
     let twice = "{:process 0, :type :invoke, :f :write, :value 1}
         {:process 0, :type :ok, :f :write, :value 1}
         {:process 0, :type :invoke, :f :write, :value 1}
         {:process 0, :type :ok, :f :write, :value 1}";
-    assert_eq!(rt; found_in(rt.alloc(), twice)?.as_str(), "open");
+    assert_eq!(rt; found_in(rt.alloc(), twice)?.as_str(), "[0, 2]");
     let early = "{:process 0, :type :invoke, :f :dequeue, :value nil}
         {:process 0, :type :ok, :f :dequeue, :value 1}
         {:process 0, :type :invoke, :f :enqueue, :value 1}

@@ -3,7 +3,8 @@ use Rattle.std.proofs.Common.{◌≡◌, ℕ, Bool, true, false, Option, Some, N
 use Rattle.std.specs.Prelude.{option_map, option_and_then, is_some, if◌then◌else◌}
 use Rattle.edn.specs.Briefs.{most_items, brief_item, brief_items, brief_value, brief_entries, brief}
 use Rattle.edn.specs.Datum.{nil, boolean, integer, string, keyword, Datum, atom, vector, dictionary, Items, no_items, item, Entries, no_entries, entry}
-use Rattle.fields.specs.Fields.{same_bytes, value_at, natural_in, keyword_in, value_in}
+use Rattle.fields.specs.Fields.{value_at, natural_in, keyword_in, value_in}
+use Rattle.fields.proofs.Briefs.{value_of_brief, natural_of_brief, keyword_of_brief}
 use Rattle.history.specs.Maps.{MapType, type_named, type_in, object_at, integer_in, pair_in, plain_value, ClientMap, client_with, client_in, client_of, is_ignored}
 use Rattle.history.specs.Views.{client_map, IsClient, Says}
 use Rattle.history.specs.declared.client_map.ClientMap as code
@@ -11,26 +12,6 @@ use Rattle.history.specs.Names.{function_named}
 use Rattle.edn.proofs.Strings.{some_is}
 use Rattle.history.specs.declared.client_map.OperationMap.{OperationMap}
 use Rattle.history.specs.declared.client_map.OperationMap.TheVariants.{OfClient, Ignored, Neither}
-
-value_of_brief : (k : List ℕ) (es : Entries) → value_at k (brief_entries es) ≡ option_map brief_value (value_at k es)
-value_of_brief k no_entries = refl
-value_of_brief k (entry l d es) = by_key (same_bytes k l) (value_of_brief k es)
-  where
-    by_key : (b : Bool) → value_at k (brief_entries es) ≡ option_map brief_value (value_at k es) → (if b then Some (brief_value d) else value_at k (brief_entries es)) ≡ option_map brief_value (if b then Some d else value_at k es)
-    by_key true e = refl
-    by_key false e = e
-
-natural_of_brief : (o : Option Datum) → natural_in (option_map brief_value o) ≡ natural_in o
-natural_of_brief None = refl
-natural_of_brief (Some (atom a)) = refl
-natural_of_brief (Some (vector ds)) = refl
-natural_of_brief (Some (dictionary es)) = refl
-
-keyword_of_brief : (o : Option Datum) → keyword_in (option_map brief_value o) ≡ keyword_in o
-keyword_of_brief None = refl
-keyword_of_brief (Some (atom a)) = refl
-keyword_of_brief (Some (vector ds)) = refl
-keyword_of_brief (Some (dictionary es)) = refl
 
 object_of_brief : (o : Option Datum) → object_at (option_map brief_value o) ≡ object_at o
 object_of_brief None = refl

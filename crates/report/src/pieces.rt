@@ -1,8 +1,7 @@
 //! Lines made of pieces.
 
-ghost use Rattle.std.specs.Prelude.{◌≡◌, ◌++◌, false, true, decimal, OnOk, OnErr};
-ghost use Rattle.std.specs.Io.KnownBytes.{Appends};
-ghost use Rattle.edn.specs.Sent.{SendsFront};
+ghost use Rattle.std.specs.Prelude.{◌≡◌, ◌++◌, false, true, decimal};
+ghost use Rattle.edn.specs.Sent.{Sends};
 ghost use Rattle.report.specs.Lines.{comment_text};
 ghost use Rattle.report.specs.Pieces.{piece_text, pieces_text};
 
@@ -19,10 +18,7 @@ pub(crate) enum Piece {
 
 fn write_natural<S: Sink>(n: usize, sink: &mut S) -> Result<(), Failed>
     requires { S.broken sink.old ≡ false }
-    ensures ok { OnOk result (Appends (S.sent sink.old) (S.sent sink.new) (decimal n)) }
-    ensures usable { OnOk result (S.broken sink.new ≡ false) }
-    ensures front { OnErr result (SendsFront (S.sent sink.old) (S.sent sink.new) (decimal n)) }
-    ensures failed { OnErr result (S.broken sink.new ≡ true) }
+    ensures sent { Sends result (S.sent sink.old) (S.sent sink.new) (S.broken sink.new) (decimal n) }
 {
     let mut buffer = Buffer::new();
     let digits = buffer.format(n);
@@ -31,11 +27,7 @@ fn write_natural<S: Sink>(n: usize, sink: &mut S) -> Result<(), Failed>
 
 fn write_piece<S: Sink>(piece: Piece, sink: &mut S) -> Result<(), Failed>
     requires { S.broken sink.old ≡ false }
-    ensures ok { OnOk result (Appends (S.sent sink.old) (S.sent sink.new) (piece_text piece)) }
-    ensures usable { OnOk result (S.broken sink.new ≡ false) }
-    ensures front { OnErr result (SendsFront (S.sent sink.old) (S.sent sink.new)
-        (piece_text piece)) }
-    ensures failed { OnErr result (S.broken sink.new ≡ true) }
+    ensures sent { Sends result (S.sent sink.old) (S.sent sink.new) (S.broken sink.new) (piece_text piece) }
 {
     match piece {
         Piece::Text(text) => write_bytes(text, sink),
@@ -47,12 +39,8 @@ fn write_piece<S: Sink>(piece: Piece, sink: &mut S) -> Result<(), Failed>
 /// Sends the pieces, one after the other.
 fn write_pieces<S: Sink>(pieces: &[Piece], sink: &mut S) -> Result<(), Failed>
     requires { S.broken sink.old ≡ false }
-    ensures ok { OnOk result (Appends (S.sent sink.old) (S.sent sink.new)
-        (pieces_text pieces.now)) }
-    ensures usable { OnOk result (S.broken sink.new ≡ false) }
-    ensures front { OnErr result (SendsFront (S.sent sink.old) (S.sent sink.new)
-        (pieces_text pieces.now)) }
-    ensures failed { OnErr result (S.broken sink.new ≡ true) }
+    ensures sent { Sends result (S.sent sink.old) (S.sent sink.new) (S.broken sink.new)
+        (pieces_text pieces.now) }
 {
     for piece in pieces {
         write_piece(*piece, sink)?;
@@ -63,12 +51,8 @@ fn write_pieces<S: Sink>(pieces: &[Piece], sink: &mut S) -> Result<(), Failed>
 /// Sends `; ` where the line is a comment.
 fn write_comment<S: Sink>(commented: bool, sink: &mut S) -> Result<(), Failed>
     requires { S.broken sink.old ≡ false }
-    ensures ok { OnOk result (Appends (S.sent sink.old) (S.sent sink.new)
-        (comment_text commented)) }
-    ensures usable { OnOk result (S.broken sink.new ≡ false) }
-    ensures front { OnErr result (SendsFront (S.sent sink.old) (S.sent sink.new)
-        (comment_text commented)) }
-    ensures failed { OnErr result (S.broken sink.new ≡ true) }
+    ensures sent { Sends result (S.sent sink.old) (S.sent sink.new) (S.broken sink.new)
+        (comment_text commented) }
 {
     write_bytes(if commented { b"; " } else { b"" }, sink)
 }
@@ -80,12 +64,8 @@ pub(crate) fn write_line<S: Sink>(
     sink: &mut S,
 ) -> Result<(), Failed>
     requires { S.broken sink.old ≡ false }
-    ensures ok { OnOk result (Appends (S.sent sink.old) (S.sent sink.new)
-        (comment_text commented ++ pieces_text pieces.now)) }
-    ensures usable { OnOk result (S.broken sink.new ≡ false) }
-    ensures front { OnErr result (SendsFront (S.sent sink.old) (S.sent sink.new)
-        (comment_text commented ++ pieces_text pieces.now)) }
-    ensures failed { OnErr result (S.broken sink.new ≡ true) }
+    ensures sent { Sends result (S.sent sink.old) (S.sent sink.new) (S.broken sink.new)
+        (comment_text commented ++ pieces_text pieces.now) }
 {
     write_comment(commented, sink)?;
     write_pieces(pieces, sink)

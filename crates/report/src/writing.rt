@@ -1,8 +1,7 @@
 //! The lines of a verdict, written.
 
-ghost use Rattle.std.specs.Prelude.{◌≡◌, ◌++◌, false, true, OnOk, OnErr, IfErr};
-ghost use Rattle.std.specs.Io.KnownBytes.{Appends};
-ghost use Rattle.edn.specs.Sent.{SendsFront};
+ghost use Rattle.std.specs.Prelude.{◌≡◌, ◌++◌, false, true, IfErr};
+ghost use Rattle.edn.specs.Sent.{Sends};
 ghost use Rattle.report.specs.Lines as text;
 ghost use Rattle.report.specs.Lines.{comment_text};
 
@@ -13,12 +12,8 @@ use edn::{Failed, Sink, WriteFault};
 
 fn write_kinds<S: Sink>(kinds: &[KindCount], commented: bool, sink: &mut S) -> Result<(), Failed>
     requires { S.broken sink.old ≡ false }
-    ensures ok { OnOk result (Appends (S.sent sink.old) (S.sent sink.new)
-        (text.kind_lines commented kinds.now)) }
-    ensures usable { OnOk result (S.broken sink.new ≡ false) }
-    ensures front { OnErr result (SendsFront (S.sent sink.old) (S.sent sink.new)
-        (text.kind_lines commented kinds.now)) }
-    ensures failed { OnErr result (S.broken sink.new ≡ true) }
+    ensures sent { Sends result (S.sent sink.old) (S.sent sink.new) (S.broken sink.new)
+        (text.kind_lines commented kinds.now) }
 {
     for kind in kinds {
         write_line(commented, &kind_line(kind), sink)?;
@@ -28,12 +23,8 @@ fn write_kinds<S: Sink>(kinds: &[KindCount], commented: bool, sink: &mut S) -> R
 
 fn write_summary<S: Sink>(summary: &Summary, commented: bool, sink: &mut S) -> Result<(), Failed>
     requires { S.broken sink.old ≡ false }
-    ensures ok { OnOk result (Appends (S.sent sink.old) (S.sent sink.new)
-        (text.verdict_text commented (Verdict.Yes summary.now))) }
-    ensures usable { OnOk result (S.broken sink.new ≡ false) }
-    ensures front { OnErr result (SendsFront (S.sent sink.old) (S.sent sink.new)
-        (text.verdict_text commented (Verdict.Yes summary.now))) }
-    ensures failed { OnErr result (S.broken sink.new ≡ true) }
+    ensures sent { Sends result (S.sent sink.old) (S.sent sink.new) (S.broken sink.new)
+        (text.verdict_text commented (Verdict.Yes summary.now)) }
 {
     write_line(commented, &total_line(summary), sink)?;
     write_kinds(&summary.kinds, commented, sink)
@@ -41,12 +32,8 @@ fn write_summary<S: Sink>(summary: &Summary, commented: bool, sink: &mut S) -> R
 
 fn write_lines<S: Sink>(verdict: &Verdict, commented: bool, sink: &mut S) -> Result<(), Failed>
     requires { S.broken sink.old ≡ false }
-    ensures ok { OnOk result (Appends (S.sent sink.old) (S.sent sink.new)
-        (text.verdict_text commented verdict.now)) }
-    ensures usable { OnOk result (S.broken sink.new ≡ false) }
-    ensures front { OnErr result (SendsFront (S.sent sink.old) (S.sent sink.new)
-        (text.verdict_text commented verdict.now)) }
-    ensures failed { OnErr result (S.broken sink.new ≡ true) }
+    ensures sent { Sends result (S.sent sink.old) (S.sent sink.new) (S.broken sink.new)
+        (text.verdict_text commented verdict.now) }
 {
     let line = match verdict {
         Verdict::Yes(summary) => return write_summary(summary, commented, sink),
@@ -65,14 +52,9 @@ pub fn write_verdict<S: Sink>(
     sink: &mut S,
 ) -> Result<(), WriteFault>
     requires working { S.broken sink.old ≡ false }
-    ensures ok { OnOk result (Appends (S.sent sink.old) (S.sent sink.new)
-        (text.verdict_text commented verdict.now)) }
-    ensures usable { OnOk result (S.broken sink.new ≡ false) }
-
+    ensures sent { Sends result (S.sent sink.old) (S.sent sink.new) (S.broken sink.new)
+        (text.verdict_text commented verdict.now) }
     ensures device { IfErr result (λ e. e ≡ WriteFault.Device) }
-    ensures front { OnErr result (SendsFront (S.sent sink.old) (S.sent sink.new)
-        (text.verdict_text commented verdict.now)) }
-    ensures failed { OnErr result (S.broken sink.new ≡ true) }
 {
     write_lines(verdict, commented, sink)?;
     Ok(())

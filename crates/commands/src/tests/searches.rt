@@ -237,33 +237,3 @@ fn asked(alloc: Global, words: &[&str]) -> Result<Line, Fail> {
         Err(_) => Err(Fail::new("the words of a search are refused")),
     }
 }
-
-#[test]
-fn steps_in_words(rt: HostRuntime) -> Result<(), Fail> {
-    let plain = asked(rt.alloc(), &["fcbench", "search", "h.edn"])?;
-    assert_eq!(rt; plain, search_line(rt.alloc(), AMPLE)?);
-    for words in [
-        &["fcbench", "search", "h.edn", "--steps", "7"][..],
-        &["fcbench", "search", "--steps=7", "h.edn"],
-        &["fcbench", "search", "--steps", "7", "--", "h.edn"],
-    ] {
-        assert_eq!(rt; asked(rt.alloc(), words)?, search_line(rt.alloc(), 7)?);
-    }
-    let most = asked(
-        rt.alloc(),
-        &["fcbench", "search", "h.edn", "--steps", "1000000000"],
-    )?;
-    assert_eq!(rt; most, search_line(rt.alloc(), 1_000_000_000)?);
-    for refused in [
-        &["fcbench", "search"][..],
-        &["fcbench", "search", "h.edn", "c.edn"],
-        &["fcbench", "search", "h.edn", "--steps"],
-        &["fcbench", "search", "h.edn", "--steps", "1000000001"],
-        &["fcbench", "search", "h.edn", "--steps", "-1"],
-        &["fcbench", "search", "h.edn", "--steps", "many"],
-        &["fcbench", "search", "h.edn", "--steps", "1", "--steps", "2"],
-    ] {
-        assert!(rt; matches!(line(rt.alloc(), refused), Err(LineFault::Refused(_))));
-    }
-    Ok(())
-}

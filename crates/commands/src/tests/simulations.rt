@@ -265,28 +265,3 @@ fn a_schedule_with_failing_output(rt: HostRuntime) -> Result<(), Fail> {
     }
     Ok(())
 }
-
-#[test]
-fn words_of_a_simulation(rt: HostRuntime) -> Result<(), Fail> {
-    let expected = Line::Simulate {
-        schedule: String::from_str(rt.alloc(), "s.edn")?,
-    };
-    assert_eq!(rt; simulate_line(rt.alloc())?, expected);
-    let marked = match line(rt.alloc(), &["fcbench", "simulate", "--", "-s.edn"]) {
-        Ok(line) => line,
-        Err(_) => return Err(Fail::new("words after `--` are refused")),
-    };
-    let expected = Line::Simulate {
-        schedule: String::from_str(rt.alloc(), "-s.edn")?,
-    };
-    assert_eq!(rt; marked, expected);
-    for refused in [
-        &["fcbench", "simulate"][..],
-        &["fcbench", "simulate", "s.edn", "t.edn"],
-        &["fcbench", "simulate", "-s.edn"],
-        &["fcbench", "simulate", "s.edn", "--steps", "7"],
-    ] {
-        assert!(rt; matches!(line(rt.alloc(), refused), Err(LineFault::Refused(_))));
-    }
-    Ok(())
-}

@@ -1,7 +1,10 @@
-//! Small histories at random, in which each value is put in once and each call returns: what the bounded search finds is found.
+//! Small histories at random, in which each value is put in once and each call returns: where the bounded search finds an order, the
+//! way that is made for the kind does.
 
-use crate::{Found, find};
-use events::split;
+use crate::ways::{Way, order_by};
+use certificate::Certificate;
+use checker::check_object;
+use events::{ObjectHistory, split};
 use history::read_history_text;
 use order_search::{Outcome, TryFirst, find_order};
 use seq_objects::Kind;
@@ -10,12 +13,12 @@ use std::test::Fail;
 
 /// Numbers by the multiplier and increment of Knuth's MMIX.
 #[derive(Debug, Drop)]
-struct Random {
-    state: u64,
+pub(super) struct Random {
+    pub(super) state: u64,
 }
 
 impl Random {
-    fn below(&mut self, bound: u32) -> u32 {
+    pub(super) fn below(&mut self, bound: u32) -> u32 {
         self.state = self
             .state
             .wrapping_mul(6_364_136_223_846_793_005)
@@ -259,7 +262,17 @@ fn history_text(
     Ok(text)
 }
 
-/// Whether the search finds an order, and whether the finder does.
+/// Whether an order is found by the way that is made for the kind.
+fn is_found(alloc: Global, history: &ObjectHistory) -> Result<bool, AllocError> {
+    let Some(order) = order_by(alloc, Way::OfTheKind, history)? else {
+        return Ok(false);
+    };
+    let object = history.object();
+    let certificate = Certificate { object, order };
+    Ok(check_object(alloc, history, &certificate).is_ok())
+}
+
+/// Whether the search finds an order, and whether the way that is made for the kind does.
 fn both(alloc: Global, text: &str) -> Result<(bool, bool), Fail> {
     let Ok(history) = read_history_text(alloc, text.as_bytes()) else {
         return Err(Fail::new("a history is refused"));
@@ -269,8 +282,8 @@ fn both(alloc: Global, text: &str) -> Result<(bool, bool), Fail> {
         return Err(Fail::new("no object is named"));
     };
     let searched = find_order(alloc, object, TryFirst::LeastNumber, 1_000_000);
-    let is_found = matches!(find(alloc, object)?, Found::Order(_));
-    Ok((matches!(searched.outcome, Outcome::Found(_)), is_found))
+    let found = is_found(alloc, object)?;
+    Ok((matches!(searched.outcome, Outcome::Found(_)), found))
 }
 
 #[test]

@@ -1,28 +1,29 @@
-use Rattle.std.proofs.Common.{arith, subst}
+use Rattle.std.proofs.Common.{rules, arith, subst}
 use Rattle.std.proofs.lemmas.List.{take_all}
 use Rattle.edn.specs.Text.{IsInt64}
 use Rattle.std.specs.List.{AllByRecursion}
-use Rattle.edn.proofs.Fronts.{within, further, on_err}
+use Rattle.edn.proofs.Fronts.{within, further, fails}
 use Rattle.certificate.specs.Lines.{lines_of}
 use Rattle.certificate.specs.declared.Certificate.{Certificate}
 use Rattle.certificate.proofs.Writing.{lines_left, lines_spell, all_taken_item, InProfiles}
 use Rattle.certificate.proofs.writer.write_certificates.Goals as goal
 
-pub returns-in_err-write_line-clause-front : goal.returns-in_err-write_line-clause-front
-returns-in_err-write_line-clause-front g c =
+pub returns-in_err-write_line-clause-sent : goal.returns-in_err-write_line-clause-sent
+returns-in_err-write_line-clause-sent g c =
     let l = c.loop-certificate in
-    let cs = c.args.certificates.now in
-    let left = lines_left cs l.certificate-index c.certificate-item.result c.loop-certificate-test.true c.certificate-item.is in
-    on_err _ _ (within _ _ _ _ l.invariant.done _ _ _ l.invariant.parts left l.invariant.sent c.in_err-write_line.ensures.front)
+    let h = c.in_err-write_line.ensures.sent in
+    let left = lines_left c.args.certificates.now l.certificate-index c.certificate-item.result c.loop-certificate-test.true c.certificate-item.is in
+    fails _ _ _ _ _ (search rules) (within _ _ _ _ l.invariant.done _ _ _ l.invariant.parts left l.invariant.sent h.1.0) h.1.1
 
 pub loop-certificate-preserved : goal.loop-certificate-preserved
 loop-certificate-preserved g c =
     let l = c.loop-certificate in
+    let h = c.in_ok-write_line.ensures.sent.0 in
     let cs = c.args.certificates.now in
     let left = lines_left cs l.certificate-index c.certificate-item.result c.loop-certificate-test.true c.certificate-item.is in
-    let f = further _ _ _ (lines_of cs) l.invariant.done _ _ _ l.invariant.parts left l.invariant.sent c.in_ok-write_line.ensures.ok in
+    let f = further _ _ _ (lines_of cs) l.invariant.done _ _ _ l.invariant.parts left l.invariant.sent h.0 in
     record {
-      usable = c.in_ok-write_line.ensures.usable;
+      usable = h.1;
       done = f.0;
       parts = f.1;
       sent = f.2;

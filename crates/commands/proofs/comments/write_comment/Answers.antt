@@ -10,4 +10,4 @@ returns-in-Ok-clause-ok g c =
     let line = line_of c.args.certificate.now in
     let second : Appends (g.S.Sink.sent c.write_bytes.new.sink) (g.S.Sink.sent c.write_certificates.new.sink) (line ++ []) = search rules in
     let last = subst (Appends (g.S.Sink.sent c.write_bytes.new.sink) (g.S.Sink.sent c.write_certificates.new.sink)) (append-nil line) second in
-    Appends-trans _ _ _ (codes "; ") line c.in_ok-write_bytes.ensures.ok last
+    Appends-trans _ _ _ (codes "; ") line c.in_ok-write_bytes.ensures.sent.0.0 last

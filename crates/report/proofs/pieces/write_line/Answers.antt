@@ -1,10 +1,15 @@
-use Rattle.edn.proofs.Fronts.{front_of_first, front_behind, on_err, err_then}
+use Rattle.std.proofs.Common.{rules}
+use Rattle.edn.proofs.Fronts.{front_of_first, fails, sends_behind}
 use Rattle.report.specs.Lines.{comment_text}
 use Rattle.report.specs.Pieces.{pieces_text}
 use Rattle.report.proofs.pieces.write_line.Goals as goal
 
-pub returns-in_err-write_comment-clause-front : goal.returns-in_err-write_comment-clause-front
-returns-in_err-write_comment-clause-front g c = on_err _ _ (front_of_first _ _ (comment_text c.args.commented) _ c.in_err-write_comment.ensures.front)
+pub returns-in_err-write_comment : goal.returns-in_err-write_comment
+returns-in_err-write_comment g c =
+    let h = c.in_err-write_comment.ensures.sent in
+    record { sent = fails _ _ _ _ _ (search rules) (front_of_first _ _ (comment_text c.args.commented) _ h.1.0) h.1.1 }
 
-pub returns-clause-front : goal.returns-clause-front
-returns-clause-front g c = err_then c.write_pieces.result _ _ (λ h. front_behind _ _ _ (comment_text c.args.commented) (pieces_text c.args.pieces.now) c.in_ok-write_comment.ensures.ok h) c.write_pieces.ensures.front
+pub returns : goal.returns
+returns g c = record {
+  sent = sends_behind _ _ _ _ _ (comment_text c.args.commented) (pieces_text c.args.pieces.now) c.in_ok-write_comment.ensures.sent.0.0 c.write_pieces.ensures.sent;
+}

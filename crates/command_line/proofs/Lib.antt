@@ -1,0 +1,5 @@
+pub mod Walks
+pub mod Schedules
+pub mod Files
+pub mod Parse
+pub mod Sought

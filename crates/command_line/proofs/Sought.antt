@@ -1,0 +1,54 @@
+-- The values of a check, a search or a run in what clap has found.
+use Rattle.std.proofs.Common.{◌≡◌, ◌∙◌, ℕ, Option, Some, None, sym, subst, codes}
+use Rattle.clap.specs.Walk.{Text, first_of, rows_of}
+use Rattle.clap.specs.Matches.{first_value}
+use Rattle.clap.specs.declared.parser.matches.Found.{Found}
+use Rattle.clap.proofs.WalkLemmas.{first_value-rows}
+use Rattle.order_search.specs.declared.trials.TryFirst.{TryFirst}
+use Rattle.command_line.specs.declared.asking.RunOptions.{RunOptions}
+use Rattle.command_line.specs.Words.{max_workers, AreRunOptions, AreSteps, HasCheck, HasNoCheck, HasNoRun, HasNoSearch, HasSearch, IsFirst, IsNumber}
+
+absent : {X : Type 0} {o p : Option X} {x : X} → o ≡ None → o ≡ p → p ≡ Some x → ⊥
+absent e f g = cc
+
+module _ (inner : Found) where
+  pub no_history : first_value inner (codes "HISTORY") ≡ None → HasNoCheck (rows_of inner)
+  no_history e h c n v = absent e (first_value-rows inner (codes "HISTORY")) v.history_first
+
+  pub no_certs : first_value inner (codes "CERTS") ≡ None → HasNoCheck (rows_of inner)
+  no_certs e h c n v = absent e (first_value-rows inner (codes "CERTS")) v.certs_first
+
+  pub no_workers : ((n : ℕ) → IsNumber 1 max_workers 1 (first_value inner (codes "workers")) n → ⊥) → HasNoCheck (rows_of inner)
+  no_workers none h c n v = none n (subst (λ o. IsNumber 1 max_workers 1 o n) (sym (first_value-rows inner (codes "workers"))) v.workers_first)
+
+  pub has_check : (h c : Text) (n : ℕ) → first_value inner (codes "HISTORY") ≡ Some h → first_value inner (codes "CERTS") ≡ Some c → IsNumber 1 max_workers 1 (first_value inner (codes "workers")) n → HasCheck (rows_of inner) h c n
+  has_check h c n e f w = record {
+    history_first = sym (first_value-rows inner (codes "HISTORY")) ∙ e;
+    certs_first = sym (first_value-rows inner (codes "CERTS")) ∙ f;
+    workers_first = subst (λ o. IsNumber 1 max_workers 1 o n) (first_value-rows inner (codes "workers")) w;
+  }
+
+  pub no_file : first_value inner (codes "HISTORY") ≡ None → HasNoSearch (rows_of inner)
+  no_file e h n first v = absent e (first_value-rows inner (codes "HISTORY")) v.history_first
+
+  pub no_steps : ((n : ℕ) → AreSteps (first_value inner (codes "steps")) n → ⊥) → HasNoSearch (rows_of inner)
+  no_steps none h n first v = none n (subst (λ o. AreSteps o n) (sym (first_value-rows inner (codes "steps"))) v.steps_first)
+
+  pub no_order : ((first : TryFirst) → IsFirst (first_value inner (codes "first")) first → ⊥) → HasNoSearch (rows_of inner)
+  no_order none h n first v = none first (subst (λ o. IsFirst o first) (sym (first_value-rows inner (codes "first"))) v.first_first)
+
+  pub has_search : (h : Text) (n : ℕ) (first : TryFirst) → first_value inner (codes "HISTORY") ≡ Some h → AreSteps (first_value inner (codes "steps")) n → IsFirst (first_value inner (codes "first")) first → HasSearch (rows_of inner) h n first
+  has_search h n first e s f = record {
+    history_first = sym (first_value-rows inner (codes "HISTORY")) ∙ e;
+    steps_first = subst (λ o. AreSteps o n) (first_value-rows inner (codes "steps")) s;
+    first_first = subst (λ o. IsFirst o first) (first_value-rows inner (codes "first")) f;
+  }
+
+  values_are : first_value inner ≡ (λ id. first_of id (rows_of inner))
+  values_are = λ i id. first_value-rows inner id i
+
+  pub has_run : (o : RunOptions) → AreRunOptions (first_value inner) o → AreRunOptions (λ id. first_of id (rows_of inner)) o
+  has_run o = subst (λ (value : Text → Option Text). AreRunOptions value o) values_are
+
+  pub no_run : ((o : RunOptions) → AreRunOptions (first_value inner) o → ⊥) → HasNoRun (rows_of inner)
+  no_run none o h = none o (subst (λ (value : Text → Option Text). AreRunOptions value o) (sym values_are) h)

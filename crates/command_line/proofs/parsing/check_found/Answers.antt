@@ -1,0 +1,27 @@
+use Rattle.std.proofs.Common.{rules, ◌≡◌, None, Some, codes}
+use Rattle.std.specs.String.{string_bytes}
+use Rattle.clap.specs.Words.{first_value, found_of}
+use Rattle.command_line.proofs.Sought.{no_history, no_certs, no_workers, has_check}
+use Rattle.command_line.proofs.parsing.check_found.Goals as goal
+
+pub returns-in_default-clause-lacks : goal.returns-in_default-clause-lacks
+returns-in_default-clause-lacks c other =
+    let inner = found_of c.args.matches.now in
+    let none : first_value inner (codes "HISTORY") ≡ None = search rules in
+    (c.no_check.ensures other, no_history inner none)
+
+pub returns-in_default-get_str-clause-lacks : goal.returns-in_default-get_str-clause-lacks
+returns-in_default-get_str-clause-lacks c other =
+    let inner = found_of c.args.matches.now in
+    let none : first_value inner (codes "CERTS") ≡ None = search rules in
+    (c.no_check-in_default-get_str.ensures other, no_certs inner none)
+
+pub returns-in_default-number_in-clause-lacks : goal.returns-in_default-number_in-clause-lacks
+returns-in_default-number_in-clause-lacks c other = (c.no_check-in_default-number_in.ensures other, no_workers (found_of c.args.matches.now) c.in_default-number_in.ensures.none)
+
+pub returns-clause-found : goal.returns-clause-found
+returns-clause-found c =
+    let inner = found_of c.args.matches.now in
+    let history : first_value inner (codes "HISTORY") ≡ Some (string_bytes c.in_ok-history.history) = search rules in
+    let certs : first_value inner (codes "CERTS") ≡ Some (string_bytes c.in_ok-certs.certs) = search rules in
+    has_check inner (string_bytes c.in_ok-history.history) (string_bytes c.in_ok-certs.certs) c.in-Some-number_in.workers history certs c.in-Some-number_in.ensures.some

@@ -1,0 +1,16 @@
+use Rattle.std.proofs.Common.{rules, ◌≡◌, ◌∙◌, ap, ap₂, codes, true}
+use Rattle.std.proofs.lemmas.Result.{IfOk-weaker}
+use Rattle.clap.specs.Words.{App, app_of, new_app, with_subcommand}
+use Rattle.clap.specs.Simple.{on_top}
+use Rattle.command_line.specs.Words as spec
+use Rattle.command_line.proofs.parsing.judging_commands.Goals as goal
+
+pub returns-clause-shape : goal.returns-clause-shape
+returns-clause-shape c =
+    let check_is : app_of c.in_ok-check.check ≡ spec.check = c.in_ok-check.ensures.shape in
+    let top_is : app_of c.subcommand_required.result ≡ on_top (λ s. record s { subcommand_required = true }) (new_app (codes "fcbench")) = search rules in
+    let search_is : app_of c.in_ok-search.search ≡ spec.search_command = c.in_ok-search.ensures.shape in
+    let find_is : app_of c.in_ok-find.find ≡ spec.find_command = c.in_ok-find.ensures.shape in
+    let first_is = c.in_ok-subcommand.ensures.shape (search rules) ∙ ap₂ with_subcommand top_is (ap (λ (a : App). a.top) check_is) in
+    let second_is = c.in_ok-subcommand-2.ensures.shape (search rules) ∙ ap₂ with_subcommand first_is (ap (λ (a : App). a.top) search_is) in
+    IfOk-weaker c.subcommand-3.result _ _ (λ r h. h.shape (search rules) ∙ ap₂ with_subcommand second_is (ap (λ (a : App). a.top) find_is)) c.subcommand-3.ensures

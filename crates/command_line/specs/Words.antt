@@ -1,0 +1,375 @@
+-- What the words of a command line ask for.
+use Rattle.std.specs.Prelude.{◌≡◌, ◌≢◌, ◌⊎◌, ◌≤◌, ◌∷◌, [], ⊤, ℕ, ℤ, pos, List, true, codes, Option, Some, None, IfSome, if◌then◌else◌}
+use Rattle.std.specs.Str.{bytes_eq}
+use Rattle.std.specs.String.{string_bytes}
+use Rattle.clap.specs.Faults.{fault_of}
+use Rattle.clap.specs.Kinds.{IsAmong}
+use Rattle.clap.specs.Lexer.{long_of}
+use Rattle.std.specs.Str.Parse.{IsNumeral, digits_value, without_leading_plus}
+use Rattle.clap.specs.Simple.{App, new_app, new_rule, on_top, subcommand_of, with_rule, with_subcommand}
+use Rattle.clap.specs.declared.builder.value_parser.ValueParser.TheVariants as vp
+use Rattle.clap.specs.Walk.{Row, Rule, Text, first_of}
+use Rattle.clap.specs.declared.error.kind.ErrorKind.{ErrorKind}
+use Rattle.clap.specs.declared.error.kind.ErrorKind.TheVariants.{DisplayHelp, DisplayVersion, OutOfMemory}
+use Rattle.order_search.specs.declared.trials.TryFirst.{TryFirst}
+use Rattle.order_search.specs.declared.trials.TryFirst.TheVariants.{LeastNumber, LeastReturn}
+use Rattle.kinds.specs.declared.Kinds.{Kinds}
+use Rattle.kinds.specs.declared.Kinds.TheVariants.{One}
+use Rattle.model.specs.declared.Kind.TheVariants.{Queue}
+use Rattle.schedule.specs.Schedules.{kinds_named}
+use Rattle.command_line.specs.declared.asking.RunOptions.{RunOptions}
+use Rattle.command_line.specs.declared.asking.Line.{Line}
+use Rattle.command_line.specs.declared.asking.Line.TheVariants.{Check, Search, Find, Run, Simulate}
+use Rattle.command_line.specs.declared.asking.LineFault.{LineFault}
+use Rattle.command_line.specs.declared.asking.LineFault.TheVariants.{Help, Refused, NoMemory}
+
+-- the most workers that a check may be asked to have
+abbrev pub max_workers : ℕ
+max_workers = 16
+
+-- the most steps that a search may be asked to take
+abbrev pub max_steps : ℕ
+max_steps = 1000000000
+
+-- the steps of a search where the words name no number of them
+abbrev pub default_steps : ℕ
+default_steps = 1000000
+
+-- the most objects, clients and calls of each client that a run may be asked to have, and its greatest seed
+abbrev pub max_objects : ℕ
+max_objects = 16
+
+abbrev pub max_clients : ℕ
+max_clients = 32
+
+abbrev pub max_calls : ℕ
+max_calls = 10000
+
+abbrev pub max_seed : ℕ
+max_seed = 18446744073709551615
+
+-- ---- the command, as clap is told of it
+
+abbrev pub required : Text → Rule
+required name = record (new_rule name) { required = true }
+
+-- an option with a number from one to another
+abbrev pub number_rule : Text → ℤ → ℤ → Rule
+number_rule name least most = record (new_rule name) { long = Some name; parser = Some (vp.Signed least most) }
+
+abbrev pub check : App
+check = with_rule (with_rule (with_rule (new_app (codes "check")) (required (codes "HISTORY"))) (required (codes "CERTS"))) (number_rule (codes "workers") (pos 1) (pos max_workers))
+
+abbrev pub steps_rule : Rule
+steps_rule = record (new_rule (codes "steps")) { long = Some (codes "steps"); parser = Some (vp.Signed (pos 0) (pos max_steps)) }
+
+abbrev pub first_rule : Rule
+first_rule = record (new_rule (codes "first")) { long = Some (codes "first") }
+
+abbrev pub search_command : App
+search_command = with_rule (with_rule (with_rule (new_app (codes "search")) (required (codes "HISTORY"))) steps_rule) first_rule
+
+abbrev pub kind_rule : Rule
+kind_rule = record (new_rule (codes "kind")) { long = Some (codes "kind") }
+
+abbrev pub seed_rule : Rule
+seed_rule = record (new_rule (codes "seed")) { long = Some (codes "seed"); parser = Some (vp.Unsigned 0 max_seed) }
+
+-- a run of so many clients at so many objects of some kinds
+abbrev pub run_on : App
+run_on = with_rule (with_rule (with_rule (new_app (codes "run")) kind_rule) (number_rule (codes "objects") (pos 1) (pos max_objects))) (number_rule (codes "clients") (pos 1) (pos max_clients))
+
+abbrev pub run : App
+run = with_rule (with_rule run_on (number_rule (codes "calls") (pos 0) (pos max_calls))) seed_rule
+
+abbrev pub simulate_command : App
+simulate_command = with_rule (new_app (codes "simulate")) (required (codes "SCHEDULE"))
+
+abbrev pub find_command : App
+find_command = with_rule (new_app (codes "find")) (required (codes "HISTORY"))
+
+abbrev pub judging_commands : App
+judging_commands = with_subcommand (with_subcommand (with_subcommand (on_top (λ s. record s { subcommand_required = true }) (new_app (codes "fcbench"))) check.top) search_command.top) find_command.top
+
+abbrev pub command : App
+command = with_subcommand (with_subcommand judging_commands run.top) simulate_command.top
+
+-- ---- the words of a command
+
+-- the words but for the first `--`, behind which a word may begin with a hyphen
+abbrev pub values : List Text → List Text
+values [] = []
+values (w ∷ ws) = if bytes_eq w (codes "--") then ws else w ∷ values ws
+
+-- The words are the program's name, that of a command, and the name of a file, among which `--` may stand.
+pub record AskOnFile (name : Text) (words : List Text) (file : Text) : Type 0 where
+  pub program : Text
+  pub rest : List Text
+  pub said : words ≡ program ∷ name ∷ rest
+  pub file_is : values rest ≡ file ∷ []
+
+abbrev pub AskToSimulate : List Text → Text → Type 0
+AskToSimulate words schedule = AskOnFile (codes "simulate") words schedule
+
+abbrev pub AskToFind : List Text → Text → Type 0
+AskToFind words history = AskOnFile (codes "find") words history
+
+-- This number is named by a decimal number within these bounds, before which a plus may stand; where none is given, it is
+-- another one.
+abbrev pub IsNumber : ℕ → ℕ → ℕ → Option Text → ℕ → Type 0
+IsNumber least most default None n = n ≡ default
+IsNumber least most default (Some t) n = IsNumeral 10 (without_leading_plus t) × (n ≡ digits_value 10 (without_leading_plus t)) × (least ≤ n) × (n ≤ most)
+
+abbrev pub AreSteps : Option Text → ℕ → Type 0
+AreSteps o n = IsNumber 0 max_steps default_steps o n
+
+-- these are the values of a check
+pub record HasCheck (rows : List Row) (history certs : Text) (workers : ℕ) : Type 0 where
+  pub history_first : first_of (codes "HISTORY") rows ≡ Some history
+  pub certs_first : first_of (codes "CERTS") rows ≡ Some certs
+  pub workers_first : IsNumber 1 max_workers 1 (first_of (codes "workers") rows) workers
+
+-- The parse has found `check`, with these values.
+pub record IsCheckFound (m : Option (Text × List Row)) (history certs : Text) (workers : ℕ) : Type 0 where
+  pub rows : List Row
+  pub entered : m ≡ Some (codes "check", rows)
+  pub values : HasCheck rows history certs workers
+
+-- no word is `--workers`, alone or with a number behind `=`
+abbrev pub AreNoOptions : List Text → Type 0
+AreNoOptions [] = ⊤
+AreNoOptions (w ∷ ws) = IfSome (long_of w) (λ p. p.0 ≢ codes "workers") × AreNoOptions ws
+
+-- The words are the program's name, `check`, and words in which clap finds these values. Where no option stands among them they are
+-- the names of two files, among which `--` may stand, and ask for one worker.
+pub record AskToCheck (words : List Text) (history certs : Text) (workers : ℕ) : Type 0 where
+  pub program : Text
+  pub rest : List Text
+  pub said : words ≡ program ∷ codes "check" ∷ rest
+  pub found : IsCheckFound (subcommand_of command words) history certs workers
+  pub files : AreNoOptions rest → (values rest ≡ history ∷ certs ∷ []) × (workers ≡ 1)
+
+-- these kinds are named; where no name is given, all objects are queues
+abbrev pub IsKinds : Option Text → Kinds → Type 0
+IsKinds None kinds = kinds ≡ One Queue
+IsKinds (Some t) kinds = kinds_named t ≡ Some kinds
+
+-- these are what a run is asked to be of, by the options' values
+pub record AreRunOptions (value : Text → Option Text) (o : RunOptions) : Type 0 where
+  pub kinds : IsKinds (value (codes "kind")) o.kinds
+  pub objects : IsNumber 1 max_objects 1 (value (codes "objects")) o.objects
+  pub clients : IsNumber 1 max_clients 2 (value (codes "clients")) o.clients
+  pub calls : IsNumber 0 max_calls 100 (value (codes "calls")) o.calls
+  pub seed : IsNumber 0 max_seed 0 (value (codes "seed")) o.seed
+
+-- The parse has found `run`, with these options.
+pub record IsRunFound (m : Option (Text × List Row)) (o : RunOptions) : Type 0 where
+  pub rows : List Row
+  pub entered : m ≡ Some (codes "run", rows)
+  pub values : AreRunOptions (λ id. first_of id rows) o
+
+-- which operation is tried first, by a name; where none is given, that with the least number
+abbrev pub IsFirst : Option Text → TryFirst → Type 0
+IsFirst None first = first ≡ LeastNumber
+IsFirst (Some t) first = ((t ≡ codes "number") × (first ≡ LeastNumber)) ⊎ ((t ≡ codes "return") × (first ≡ LeastReturn))
+
+-- these are the values of a search
+pub record HasSearch (rows : List Row) (history : Text) (steps : ℕ) (first : TryFirst) : Type 0 where
+  pub history_first : first_of (codes "HISTORY") rows ≡ Some history
+  pub steps_first : AreSteps (first_of (codes "steps") rows) steps
+  pub first_first : IsFirst (first_of (codes "first") rows) first
+
+-- The parse has found `search`, with these values.
+pub record IsSearchFound (m : Option (Text × List Row)) (history : Text) (steps : ℕ) (first : TryFirst) : Type 0 where
+  pub rows : List Row
+  pub entered : m ≡ Some (codes "search", rows)
+  pub values : HasSearch rows history steps first
+
+abbrev pub AskFor : List Text → Line → Type 0
+AskFor words (Check history certs workers) = AskToCheck words (string_bytes history) (string_bytes certs) workers
+AskFor words (Search history steps first) = IsSearchFound (subcommand_of command words) (string_bytes history) steps first
+AskFor words (Find history) = AskToFind words (string_bytes history)
+AskFor words (Run options) = IsRunFound (subcommand_of command words) options
+AskFor words (Simulate schedule) = AskToSimulate words (string_bytes schedule)
+
+-- the word begins with no hyphen
+abbrev pub IsPlain : Text → Type 0
+IsPlain [] = ⊤
+IsPlain (b ∷ bs) = b ≢ 45
+
+-- the same with no `--`, and no hyphen before the name of a file
+pub record IsPlainCheck (words : List Text) : Type 0 where
+  pub program : Text
+  pub history : Text
+  pub certs : Text
+  pub said : words ≡ program ∷ codes "check" ∷ history ∷ certs ∷ []
+  pub history_plain : IsPlain history
+  pub certs_plain : IsPlain certs
+
+-- the program's name, `search` and the name of a file
+pub record IsPlainSearch (words : List Text) : Type 0 where
+  pub program : Text
+  pub history : Text
+  pub said : words ≡ program ∷ codes "search" ∷ history ∷ []
+  pub history_plain : IsPlain history
+
+-- the program's name, `find` and the name of a file
+pub record IsPlainFind (words : List Text) : Type 0 where
+  pub program : Text
+  pub history : Text
+  pub said : words ≡ program ∷ codes "find" ∷ history ∷ []
+  pub history_plain : IsPlain history
+
+-- the program's name and `run`
+pub record IsPlainRun (words : List Text) : Type 0 where
+  pub program : Text
+  pub said : words ≡ program ∷ codes "run" ∷ []
+
+-- the program's name, `simulate` and the name of a file
+pub record IsPlainSimulate (words : List Text) : Type 0 where
+  pub program : Text
+  pub schedule : Text
+  pub said : words ≡ program ∷ codes "simulate" ∷ schedule ∷ []
+  pub schedule_plain : IsPlain schedule
+
+abbrev pub IsCheck : Line → Type 0
+IsCheck (Check history certs workers) = ⊤
+IsCheck (Search history steps first) = ⊥
+IsCheck (Find history) = ⊥
+IsCheck (Run options) = ⊥
+IsCheck (Simulate schedule) = ⊥
+
+abbrev pub IsSimulate : Line → Type 0
+IsSimulate (Check history certs workers) = ⊥
+IsSimulate (Search history steps first) = ⊥
+IsSimulate (Find history) = ⊥
+IsSimulate (Run options) = ⊥
+IsSimulate (Simulate schedule) = ⊤
+
+abbrev pub IsFind : Line → Type 0
+IsFind (Check history certs workers) = ⊥
+IsFind (Search history steps first) = ⊥
+IsFind (Find history) = ⊤
+IsFind (Run options) = ⊥
+IsFind (Simulate schedule) = ⊥
+
+-- where a search is asked for, with so many steps
+abbrev pub IfSearch : Line → (ℕ → Type 0) → Type 0
+IfSearch (Check history certs workers) P = ⊤
+IfSearch (Search history steps first) P = P steps
+IfSearch (Find history) P = ⊤
+IfSearch (Run options) P = ⊤
+IfSearch (Simulate schedule) P = ⊤
+
+-- where a run is asked for, with these options
+abbrev pub IfRun : Line → (RunOptions → Type 0) → Type 0
+IfRun (Check history certs workers) P = ⊤
+IfRun (Search history steps first) P = ⊤
+IfRun (Find history) P = ⊤
+IfRun (Run options) P = P options
+IfRun (Simulate schedule) P = ⊤
+
+-- ---- what a parse finds
+
+-- the parse has found the command of this name, with this value of its argument
+pub record IsFileFound (name argument : Text) (m : Option (Text × List Row)) (file : Text) : Type 0 where
+  pub rows : List Row
+  pub entered : m ≡ Some (name, rows)
+  pub file_first : first_of argument rows ≡ Some file
+
+abbrev pub IsScheduleFound : Option (Text × List Row) → Text → Type 0
+IsScheduleFound m schedule = IsFileFound (codes "simulate") (codes "SCHEDULE") m schedule
+
+abbrev pub IsHistoryFound : Option (Text × List Row) → Text → Type 0
+IsHistoryFound m history = IsFileFound (codes "find") (codes "HISTORY") m history
+
+-- the parse has found a command
+abbrev pub IsCommand : Option (Text × List Row) → Type 0
+IsCommand m = ((rows : List Row) × (m ≡ Some (codes "check", rows))) ⊎ ((rows : List Row) × (m ≡ Some (codes "search", rows))) ⊎ ((rows : List Row) × (m ≡ Some (codes "run", rows))) ⊎ ((schedule : Text) × IsScheduleFound m schedule) ⊎ ((history : Text) × IsHistoryFound m history)
+
+abbrev pub FindsCheck : List Row → Line → Type 0
+FindsCheck rows (Check history certs workers) = HasCheck rows (string_bytes history) (string_bytes certs) workers
+FindsCheck rows (Search history steps first) = ⊥
+FindsCheck rows (Find history) = ⊥
+FindsCheck rows (Run options) = ⊥
+FindsCheck rows (Simulate schedule) = ⊥
+
+abbrev pub FindsSearch : List Row → Line → Type 0
+FindsSearch rows (Check history certs workers) = ⊥
+FindsSearch rows (Search history steps first) = HasSearch rows (string_bytes history) steps first
+FindsSearch rows (Find history) = ⊥
+FindsSearch rows (Run options) = ⊥
+FindsSearch rows (Simulate schedule) = ⊥
+
+abbrev pub FindsRun : List Row → Line → Type 0
+FindsRun rows (Check history certs workers) = ⊥
+FindsRun rows (Search history steps first) = ⊥
+FindsRun rows (Find history) = ⊥
+FindsRun rows (Run options) = AreRunOptions (λ id. first_of id rows) options
+FindsRun rows (Simulate schedule) = ⊥
+
+abbrev pub FindsSchedule : List Row → Line → Type 0
+FindsSchedule rows (Check history certs workers) = ⊥
+FindsSchedule rows (Search history steps first) = ⊥
+FindsSchedule rows (Find history) = ⊥
+FindsSchedule rows (Run options) = ⊥
+FindsSchedule rows (Simulate schedule) = first_of (codes "SCHEDULE") rows ≡ Some (string_bytes schedule)
+
+abbrev pub FindsHistory : List Row → Line → Type 0
+FindsHistory rows (Check history certs workers) = ⊥
+FindsHistory rows (Search history steps first) = ⊥
+FindsHistory rows (Find history) = first_of (codes "HISTORY") rows ≡ Some (string_bytes history)
+FindsHistory rows (Run options) = ⊥
+FindsHistory rows (Simulate schedule) = ⊥
+
+abbrev pub Finds : Option (Text × List Row) → Line → Type 0
+Finds m (Check history certs workers) = IsCheckFound m (string_bytes history) (string_bytes certs) workers
+Finds m (Search history steps first) = IsSearchFound m (string_bytes history) steps first
+Finds m (Find history) = IsHistoryFound m (string_bytes history)
+Finds m (Run options) = IsRunFound m options
+Finds m (Simulate schedule) = IsScheduleFound m (string_bytes schedule)
+
+-- ---- what is wrong with words that ask for nothing
+
+abbrev pub IsHelp : ErrorKind → Type 0
+IsHelp k = (k ≡ DisplayHelp) ⊎ (k ≡ DisplayVersion)
+
+-- what is answered for an error of this kind, where no memory is refused
+abbrev pub IsFor : ErrorKind → LineFault → Type 0
+IsFor k (Help text) = IsHelp k
+IsFor k (Refused text) = (k ≢ OutOfMemory) × (IsHelp k → ⊥)
+IsFor k NoMemory = ⊤
+
+-- the rows of a check name not both files, or no number of workers that a check may have
+abbrev pub HasNoCheck : List Row → Type 0
+HasNoCheck rows = (history certs : Text) (workers : ℕ) → HasCheck rows history certs workers → ⊥
+
+-- the rows of a search name no file, or no number of steps that a search may take, or no order of trying
+abbrev pub HasNoSearch : List Row → Type 0
+HasNoSearch rows = (history : Text) (steps : ℕ) (first : TryFirst) → HasSearch rows history steps first → ⊥
+
+-- the rows of a run name no kinds, or some number outside its bounds
+abbrev pub HasNoRun : List Row → Type 0
+HasNoRun rows = (o : RunOptions) → AreRunOptions (λ id. first_of id rows) o → ⊥
+
+-- the words are refused
+abbrev pub IsRefused : LineFault → Type 0
+IsRefused (Help text) = ⊥
+IsRefused (Refused text) = ⊤
+IsRefused NoMemory = ⊥
+
+-- The parse has found the command of this name, of whose rows this holds, and the words are refused.
+pub record LacksFor (name : Text) (HasNone : List Row → Type 0) (m : Option (Text × List Row)) (f : LineFault) : Type 0 where
+  pub rows : List Row
+  pub entered : m ≡ Some (name, rows)
+  pub none : HasNone rows
+  pub refused : IsRefused f
+
+-- the parse has found a search, a run or a check without its values
+abbrev pub Lacks : Option (Text × List Row) → LineFault → Type 0
+Lacks m f = LacksFor (codes "search") HasNoSearch m f ⊎ LacksFor (codes "run") HasNoRun m f ⊎ LacksFor (codes "check") HasNoCheck m f
+
+-- The fault is want of memory, or clap refuses the words with an error of a kind for which it is, or it finds a
+-- search, a run or a check without its values.
+abbrev pub IsFault : List Text → LineFault → Type 0
+IsFault words f = (f ≡ NoMemory) ⊎ ((k : ErrorKind) × IsAmong k (fault_of command words) × IsFor k f) ⊎ Lacks (subcommand_of command words) f

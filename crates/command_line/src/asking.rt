@@ -1,0 +1,82 @@
+//! What a command line asks for.
+
+ghost use Rattle.std.specs.Prelude.{◌≡◌, ◌<◌, ◌≤◌};
+ghost use Rattle.command_line.specs.declared.asking.LineFault.TheVariants.{NoMemory};
+
+use kinds::Kinds;
+use order_search::TryFirst;
+use std::alloc::{AllocError, AllocFailed};
+use thiserror::Error as ErrorText;
+
+/// What a run is to be of.
+#[derive(Clone, Copy, Debug, PartialEq, Eq)]
+pub struct RunOptions {
+    pub kinds: Kinds,
+    /// How many objects, from 1 to 16.
+    pub objects: u32,
+    /// How many clients, from 1 to 32.
+    pub clients: u32,
+    /// How many calls each client is to make, at most 10,000.
+    pub calls: u32,
+    /// What the calls are drawn from.
+    pub seed: u64,
+    ghost some_objects: { (0 < objects) × (objects ≤ 16) },
+    ghost some_clients: { (0 < clients) × (clients ≤ 32) },
+    ghost few_calls: { calls ≤ 10000 },
+}
+
+/// What the words ask for.
+#[derive(Debug, PartialEq, Eq, Drop)]
+pub enum Line {
+    /// To judge the history in one file by the certificates in another, with so many workers, from 1 to 16.
+    Check {
+        history: String,
+        certs: String,
+        workers: u32,
+    },
+    /// To search for certificates of the history in a file, with at most so many steps for each object.
+    Search {
+        history: String,
+        steps: u32,
+        first: TryFirst,
+    },
+    /// To find certificates of the history in a file, without a search.
+    Find {
+        history: String,
+    },
+    /// To run clients, and to judge what they did.
+    Run(RunOptions),
+    /// To play the schedule in a file, and to judge what its clients did.
+    Simulate {
+        schedule: String,
+    },
+}
+
+/// Why the words ask for nothing.
+#[derive(Debug, Drop, ErrorText)]
+pub enum LineFault {
+    /// They ask for help: this text.
+    #[error("{0}")]
+    Help(String),
+    /// They are refused, for this reason.
+    #[error("{0}")]
+    Refused(String),
+    #[error("out of memory")]
+    NoMemory,
+}
+
+impl From<AllocError> for LineFault {
+    ghost from_gives = { λ _ e. e ≡ NoMemory };
+
+    fn from(_e: AllocError) -> LineFault {
+        LineFault::NoMemory
+    }
+}
+
+impl<T: Drop> From<AllocFailed<T>> for LineFault {
+    ghost from_gives = { λ _ e. e ≡ NoMemory };
+
+    fn from(_e: AllocFailed<T>) -> LineFault {
+        LineFault::NoMemory
+    }
+}

@@ -1,0 +1,11 @@
+//! The command line: what its words ask for.
+#![tactic(auto)]
+
+mod asking;
+mod parsing;
+
+pub use asking::{Line, LineFault, RunOptions};
+pub use parsing::line;
+
+#[cfg(test)]
+mod tests;

@@ -1,0 +1,414 @@
+//! The command line.
+
+ghost use Rattle.std.specs.Prelude.{◌≡◌, ◌≢◌, ◌≤◌, ℕ, List, [], Some, IsSome, IfOk, IfErr, IfSome, IfNone, false, map, codes};
+ghost use Rattle.clap.specs.Faults.{fault_of};
+ghost use Rattle.clap.specs.Words.{app_of, first_value, found_of, kind_of, rows_of, rule_of, subcommand_rows_of};
+ghost use Rattle.clap.specs.declared.builder.command.Command.TheViews.{out-Command as fields_of};
+ghost use Rattle.clap.specs.Walk.{first_of};
+ghost use Rattle.std.specs.String.{string_bytes};
+ghost use Rattle.order_search.specs.declared.trials.TryFirst.{TryFirst};
+ghost use Rattle.kinds.specs.declared.Kinds.{Kinds};
+ghost use Rattle.command_line.specs.declared.asking.RunOptions.{RunOptions};
+ghost use Rattle.command_line.specs.Words as spec;
+
+use crate::asking::{Line, LineFault, RunOptions};
+use clap::builder::ValueParser;
+use clap::error::ErrorKind;
+use clap::{Arg, ArgMatches, Command, Error, value_parser};
+use kinds::Kinds;
+use model::Kind;
+use order_search::TryFirst;
+use schedule::kinds_named;
+use std::alloc::{AllocError, Global};
+use std::convert::AsStr;
+
+/// The steps of a search where the words name no number of them.
+const DEFAULT_STEPS: u64 = 1_000_000;
+
+/// The most steps of a search.
+const MAX_STEPS: u64 = 1_000_000_000;
+
+/// An option with a number within these bounds.
+fn number_option<'a>(alloc: Global, name: &'a str, help: &'a str, least: i64, most: i64) -> Arg<'a>
+    ensures rule { rule_of result ≡ spec.number_rule name.entry.now least most }
+    ensures local { result.global ≡ false }
+{
+    Arg::new(alloc, name)
+        .long(name)
+        .help(help)
+        .value_parser(ValueParser::signed(least, most))
+}
+
+fn check_command<'a>(alloc: Global) -> Result<Command<'a>, AllocError>
+    ensures shape { IfOk result (λ c. app_of c ≡ spec.check) }
+    ensures globals { IfOk result (λ c. (fields_of c).has_globals ≡ false) }
+{
+    let history = Arg::new(alloc, "HISTORY")
+        .help("a file of Jepsen operation maps")
+        .required(true);
+    let certs = Arg::new(alloc, "CERTS")
+        .help("a file of certificates, one order of operations for each object")
+        .required(true);
+    let workers = number_option(
+        alloc,
+        "workers",
+        "how many threads share the check, 1 to 16, else 1",
+        1,
+        16,
+    );
+    Command::new(alloc, "check")
+        .about("judges a history by its certificates")
+        .arg(history)?
+        .arg(certs)?
+        .arg(workers)
+}
+
+fn search_command<'a>(alloc: Global) -> Result<Command<'a>, AllocError>
+    ensures shape { IfOk result (λ c. app_of c ≡ spec.search_command) }
+    ensures globals { IfOk result (λ c. (fields_of c).has_globals ≡ false) }
+{
+    let history = Arg::new(alloc, "HISTORY")
+        .help("a file of Jepsen operation maps")
+        .required(true);
+    let steps = Arg::new(alloc, "steps")
+        .long("steps")
+        .help("the most steps for each object, 0 to 1000000000, else 1000000")
+        .value_parser(value_parser!(u32).range(..=1_000_000_000));
+    let first = Arg::new(alloc, "first").long("first").help(
+        "which operation is tried first: that of the least number, or of the least return, else number",
+    );
+    Command::new(alloc, "search")
+        .about("searches for certificates of a history")
+        .arg(history)?
+        .arg(steps)?
+        .arg(first)
+}
+
+/// `run` with its options on kinds, objects and clients.
+fn run_on<'a>(alloc: Global) -> Result<Command<'a>, AllocError>
+    ensures shape { IfOk result (λ c. app_of c ≡ spec.run_on) }
+    ensures globals { IfOk result (λ c. (fields_of c).has_globals ≡ false) }
+{
+    let kind = Arg::new(alloc, "kind").long("kind").help(
+        "the kind of all objects: queue, stack, heap, register, map or mutex; or mixed, which is the first five in turn; else queue",
+    );
+    let objects = number_option(alloc, "objects", "how many objects, 1 to 16, else 1", 1, 16);
+    let clients = number_option(alloc, "clients", "how many clients, 1 to 32, else 2", 1, 32);
+    Command::new(alloc, "run")
+        .about("runs clients on objects and judges what they did")
+        .arg(kind)?
+        .arg(objects)?
+        .arg(clients)
+}
+
+fn run_command<'a>(alloc: Global) -> Result<Command<'a>, AllocError>
+    ensures shape { IfOk result (λ c. app_of c ≡ spec.run) }
+    ensures globals { IfOk result (λ c. (fields_of c).has_globals ≡ false) }
+{
+    let calls = number_option(
+        alloc,
+        "calls",
+        "how many calls each client makes, 0 to 10000, else 100",
+        0,
+        10_000,
+    );
+    let seed = Arg::new(alloc, "seed")
+        .long("seed")
+        .help("what the calls are drawn from, else 0")
+        .value_parser(value_parser!(u64));
+    run_on(alloc)?.arg(calls)?.arg(seed)
+}
+
+fn simulate_command<'a>(alloc: Global) -> Result<Command<'a>, AllocError>
+    ensures shape { IfOk result (λ c. app_of c ≡ spec.simulate_command) }
+    ensures globals { IfOk result (λ c. (fields_of c).has_globals ≡ false) }
+{
+    let schedule = Arg::new(alloc, "SCHEDULE")
+        .help("a file of steps of clients")
+        .required(true);
+    Command::new(alloc, "simulate")
+        .about("plays a schedule and judges its record")
+        .arg(schedule)
+}
+
+fn find_command<'a>(alloc: Global) -> Result<Command<'a>, AllocError>
+    ensures shape { IfOk result (λ c. app_of c ≡ spec.find_command) }
+    ensures globals { IfOk result (λ c. (fields_of c).has_globals ≡ false) }
+{
+    let history = Arg::new(alloc, "HISTORY")
+        .help("a file of Jepsen operation maps")
+        .required(true);
+    Command::new(alloc, "find")
+        .about("finds certificates of a history where that needs no search")
+        .arg(history)
+}
+
+/// The program, with the commands that judge a history.
+fn judging_commands<'a>(alloc: Global) -> Result<Command<'a>, AllocError>
+    ensures shape { IfOk result (λ c. app_of c ≡ spec.judging_commands) }
+    ensures globals { IfOk result (λ c. (fields_of c).has_globals ≡ false) }
+{
+    let check = check_command(alloc)?;
+    let search = search_command(alloc)?;
+    let find = find_command(alloc)?;
+    Command::new(alloc, "fcbench")
+        .about("judges histories of concurrent objects")
+        .subcommand_required(true)
+        .subcommand(check)?
+        .subcommand(search)?
+        .subcommand(find)
+}
+
+fn command<'a>(alloc: Global) -> Result<Command<'a>, AllocError>
+    ensures { IfOk result (λ c. app_of c ≡ spec.command) }
+{
+    let run = run_command(alloc)?;
+    let simulate = simulate_command(alloc)?;
+    judging_commands(alloc)?
+        .subcommand(run)?
+        .subcommand(simulate)
+}
+
+fn fault_of(alloc: Global, error: &Error) -> LineFault
+    ensures { spec.IsFor (kind_of error.now) result }
+{
+    if error.kind() == ErrorKind::OutOfMemory {
+        return LineFault::NoMemory;
+    }
+    match format!(in alloc; "{error}") {
+        Ok(text) if error.use_stderr() => LineFault::Refused(text),
+        Ok(text) => LineFault::Help(text),
+        Err(_) => LineFault::NoMemory,
+    }
+}
+
+/// The value of an argument that has one.
+fn value_of(alloc: Global, matches: &ArgMatches<'_>, name: &str) -> Result<String, AllocError>
+    requires { IsSome (first_value (found_of matches.now) name.now) }
+    ensures { IfOk result (λ s. first_value (found_of matches.now) name.now ≡ Some (string_bytes s)) }
+{
+    String::from_str(alloc, matches.get_str(name).unwrap())
+}
+
+/// The simulation whose matches these are.
+fn simulate_found(alloc: Global, matches: &ArgMatches<'_>) -> Result<Line, AllocError>
+    requires { (x : List ℕ) × first_of (codes "SCHEDULE") (rows_of (found_of matches.now)) ≡ Some x }
+    ensures { IfOk result (spec.FindsSchedule (rows_of (found_of matches.now))) }
+{
+    let schedule = value_of(alloc, matches, "SCHEDULE")?;
+    Ok(Line::Simulate { schedule })
+}
+
+/// The finding whose matches these are.
+fn find_found(alloc: Global, matches: &ArgMatches<'_>) -> Result<Line, AllocError>
+    requires { (x : List ℕ) × first_of (codes "HISTORY") (rows_of (found_of matches.now)) ≡ Some x }
+    ensures { IfOk result (spec.FindsHistory (rows_of (found_of matches.now))) }
+{
+    let history = value_of(alloc, matches, "HISTORY")?;
+    Ok(Line::Find { history })
+}
+
+/// The value of an option that is a number within these bounds, or the one that stands for none.
+fn number_in(
+    matches: &ArgMatches<'_>,
+    name: &str,
+    least: u64,
+    most: u64,
+    default: u64,
+) -> Option<u64>
+    requires { (least ≤ default) × (default ≤ most) }
+    ensures some { IfSome result
+        (spec.IsNumber least most default (first_value (found_of matches.now) name.now)) }
+    ensures within { IfSome result (λ n. (least ≤ n) × (n ≤ most)) }
+    ensures none { IfNone result ((n : ℕ) →
+        spec.IsNumber least most default (first_value (found_of matches.now) name.now) n → ⊥) }
+{
+    match matches.get_str(name) {
+        None => Some(default),
+        Some(text) => match text.parse::<u64>() {
+            Ok(number) if least <= number && number <= most => Some(number),
+            _ => None,
+        },
+    }
+}
+
+/// Which operation a search is to try first.
+fn first_in(matches: &ArgMatches<'_>) -> Option<TryFirst>
+    ensures some { IfSome result (spec.IsFirst (first_value (found_of matches.now) (codes "first"))) }
+    ensures none { IfNone result ((first : TryFirst) →
+        spec.IsFirst (first_value (found_of matches.now) (codes "first")) first → ⊥) }
+{
+    match matches.get_str("first") {
+        None => Some(TryFirst::LeastNumber),
+        Some("number") => Some(TryFirst::LeastNumber),
+        Some("return") => Some(TryFirst::LeastReturn),
+        Some(_) => None,
+    }
+}
+
+/// Refuses the words, for this reason.
+fn refusal(alloc: Global, text: &str) -> LineFault
+    ensures { result ≢ LineFault.NoMemory → spec.IsRefused result }
+{
+    match String::from_str(alloc, text) {
+        Ok(text) => LineFault::Refused(text),
+        Err(_) => LineFault::NoMemory,
+    }
+}
+
+/// Says that a search lacks a value. Of its file and its steps clap never lets it come to this.
+fn lacking(alloc: Global) -> LineFault
+    ensures { result ≢ LineFault.NoMemory → spec.IsRefused result }
+{
+    refusal(
+        alloc,
+        "error: a search has no file, no number of steps, or no order of trying (number or return)\n",
+    )
+}
+
+/// Says that a check lacks a value. Of its files clap never lets it come to this.
+fn no_check(alloc: Global) -> LineFault
+    ensures { result ≢ LineFault.NoMemory → spec.IsRefused result }
+{
+    refusal(
+        alloc,
+        "error: a check has not two files, or no number of workers from 1 to 16\n",
+    )
+}
+
+/// The check whose matches these are.
+fn check_found(alloc: Global, matches: &ArgMatches<'_>) -> Result<Line, LineFault>
+    ensures found { IfOk result (spec.FindsCheck (rows_of (found_of matches.now))) }
+    ensures lacks { IfErr result (λ f. f ≢ LineFault.NoMemory →
+        spec.IsRefused f × spec.HasNoCheck (rows_of (found_of matches.now))) }
+{
+    let Some(history) = matches.get_str("HISTORY") else {
+        return Err(no_check(alloc));
+    };
+    let Some(certs) = matches.get_str("CERTS") else {
+        return Err(no_check(alloc));
+    };
+    let Some(workers) = number_in(matches, "workers", 1, 16, 1) else {
+        return Err(no_check(alloc));
+    };
+    let history = String::from_str(alloc, history)?;
+    let certs = String::from_str(alloc, certs)?;
+    Ok(Line::Check {
+        history,
+        certs,
+        workers: workers as u32,
+    })
+}
+
+/// The search whose matches these are.
+fn search_found(alloc: Global, matches: &ArgMatches<'_>) -> Result<Line, LineFault>
+    ensures found { IfOk result (spec.FindsSearch (rows_of (found_of matches.now))) }
+    ensures lacks { IfErr result (λ f. f ≢ LineFault.NoMemory →
+        spec.IsRefused f × spec.HasNoSearch (rows_of (found_of matches.now))) }
+{
+    let Some(history) = matches.get_str("HISTORY") else {
+        return Err(lacking(alloc));
+    };
+    let Some(steps) = number_in(matches, "steps", 0, MAX_STEPS, DEFAULT_STEPS) else {
+        return Err(lacking(alloc));
+    };
+    let Some(first) = first_in(matches) else {
+        return Err(lacking(alloc));
+    };
+    let history = String::from_str(alloc, history)?;
+    Ok(Line::Search {
+        history,
+        steps: steps as u32,
+        first,
+    })
+}
+
+/// The kinds that a run is to have.
+fn kinds_in(matches: &ArgMatches<'_>) -> Option<Kinds>
+    ensures some { IfSome result (spec.IsKinds (first_value (found_of matches.now) (codes "kind"))) }
+    ensures none { IfNone result ((kinds : Kinds) →
+        spec.IsKinds (first_value (found_of matches.now) (codes "kind")) kinds → ⊥) }
+{
+    match matches.get_str("kind") {
+        None => Some(Kinds::One(Kind::Queue)),
+        Some(name) => kinds_named(name.as_bytes()),
+    }
+}
+
+/// What a run is to be of.
+fn options_in(matches: &ArgMatches<'_>) -> Option<RunOptions>
+    ensures some { IfSome result (spec.AreRunOptions (first_value (found_of matches.now))) }
+    ensures none { IfNone result ((o : RunOptions) → spec.AreRunOptions (first_value (found_of matches.now)) o → ⊥) }
+{
+    let kinds = kinds_in(matches)?;
+    let objects = number_in(matches, "objects", 1, 16, 1)?;
+    let clients = number_in(matches, "clients", 1, 32, 2)?;
+    let calls = number_in(matches, "calls", 0, 10_000, 100)?;
+    let seed = number_in(matches, "seed", 0, u64::MAX, 0)?;
+    Some(RunOptions {
+        kinds,
+        objects: objects as u32,
+        clients: clients as u32,
+        calls: calls as u32,
+        seed,
+    })
+}
+
+/// The run whose matches these are. Of its numbers clap lets none come here that is outside its bounds.
+fn run_found(alloc: Global, matches: &ArgMatches<'_>) -> Result<Line, LineFault>
+    ensures found { IfOk result (spec.FindsRun (rows_of (found_of matches.now))) }
+    ensures lacks { IfErr result (λ f. f ≢ LineFault.NoMemory →
+        spec.IsRefused f × spec.HasNoRun (rows_of (found_of matches.now))) }
+{
+    match options_in(matches) {
+        Some(options) => Ok(Line::Run(options)),
+        None => Err(refusal(
+            alloc,
+            "error: a run has no such kind (queue, stack, heap, register, map, mutex or mixed), or a number outside its bounds\n",
+        )),
+    }
+}
+
+/// The command that was found.
+fn found(alloc: Global, matches: &ArgMatches<'_>) -> Result<Line, LineFault>
+    requires { spec.IsCommand (subcommand_rows_of matches.now) }
+    ensures found { IfOk result (spec.Finds (subcommand_rows_of matches.now)) }
+    ensures lacks { IfErr result (λ f. f ≢ LineFault.NoMemory →
+        spec.Lacks (subcommand_rows_of matches.now) f) }
+{
+    if let Some(check) = matches.subcommand_matches("check") {
+        return check_found(alloc, check);
+    }
+    if let Some(simulate) = matches.subcommand_matches("simulate") {
+        return Ok(simulate_found(alloc, simulate)?);
+    }
+    if let Some(search) = matches.subcommand_matches("search") {
+        return search_found(alloc, search);
+    }
+    if let Some(find) = matches.subcommand_matches("find") {
+        return Ok(find_found(alloc, find)?);
+    }
+    match matches.subcommand_matches("run") {
+        Some(run) => run_found(alloc, run),
+        None => unreachable!(),
+    }
+}
+
+/// What the words ask for, the program's name being the first of them.
+pub fn line<S: AsStr>(alloc: Global, words: &[S]) -> Result<Line, LineFault>
+    ensures asked { IfOk result (spec.AskFor (map S.text words.now)) }
+    ensures faultless { IfOk result (λ _. fault_of spec.command (map S.text words.now) ≡ []) }
+    ensures refused { IfErr result (spec.IsFault (map S.text words.now)) }
+    ensures accepts { spec.IsPlainCheck (map S.text words.now) → IfErr result (λ e. e ≡ LineFault.NoMemory) }
+    ensures searches { spec.IsPlainSearch (map S.text words.now) →
+        IfErr result (λ e. e ≡ LineFault.NoMemory) }
+    ensures finds { spec.IsPlainFind (map S.text words.now) → IfErr result (λ e. e ≡ LineFault.NoMemory) }
+    ensures runs { spec.IsPlainRun (map S.text words.now) → IfErr result (λ e. e ≡ LineFault.NoMemory) }
+    ensures simulates { spec.IsPlainSimulate (map S.text words.now) →
+        IfErr result (λ e. e ≡ LineFault.NoMemory) }
+{
+    match command(alloc)?.try_get_matches_from(words) {
+        Ok(matches) => found(alloc, &matches),
+        Err(error) => Err(fault_of(alloc, &error)),
+    }
+}

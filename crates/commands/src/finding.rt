@@ -1,0 +1,122 @@
+//! Certificates of a history that are found without a search.
+
+ghost use Rattle.std.specs.Prelude.{◌≡◌, ◌≢◌, ◌++◌, ℕ, List, false, true, codes, decimal, OnOk, IfOk, IfErr};
+ghost use Rattle.std.specs.Io.KnownBytes.{Appends};
+ghost use Rattle.std.specs.List.{list_all};
+ghost use Rattle.edn.specs.Sent.{SendsFront};
+ghost use Rattle.commands.specs.Findings.{finding_line, findings_text, find_status, has_order, AreFound, AreFoundIn, IsFindOutput};
+ghost use Rattle.commands.specs.Searches.{IsUnsearched};
+ghost use Rattle.commands.specs.Statuses.{failed_status};
+
+use crate::comments::certificates_text;
+use crate::searching::{Output, push_note};
+use crate::statuses::{FAILED, NO_MEMORY, status_of};
+use edn::{Failed, Sink, write_bytes};
+use finder::{Found, find_all};
+use history::History;
+use judging::{Stop, history_in};
+use report::{Verdict, write_verdict};
+use std::alloc::{AllocError, Global};
+
+/// The line of what was found for an object.
+fn push_finding(
+    alloc: Global,
+    text: &mut Vec<u8>,
+    object: u32,
+    found: &Found,
+) -> Result<(), AllocError>
+    ensures { OnOk result (text.new.items ≡ text.old.items ++ finding_line object found.now) }
+{
+    match found {
+        Found::Order(certificate) => {
+            let line = certificates_text(alloc, std::slice::from_ref(certificate))?;
+            text.extend_from_slice(&line)
+        }
+        Found::Open => push_note(text, object, b": open\n"),
+    }
+}
+
+/// The lines for all objects.
+fn text_of(alloc: Global, answers: &[(u32, Found)]) -> Result<Vec<u8>, AllocError>
+    ensures { IfOk result (λ text. text.items ≡ findings_text answers.now) }
+{
+    let mut text = Vec::new(alloc);
+    let mut rest = answers;
+    'answers: while let [(object, found), later @ ..] = rest {
+        push_finding(alloc, &mut text, *object, found)?;
+        rest = later;
+    }
+    Ok(text)
+}
+
+/// Whether each object has a certificate.
+fn are_all_found(answers: &[(u32, Found)]) -> bool
+    ensures { result ≡ list_all (λ a. has_order a.1) answers.now }
+{
+    let mut rest = answers;
+    'answers: while let [(_, found), later @ ..] = rest {
+        if !matches!(found, Found::Order(_)) {
+            return false;
+        }
+        rest = later;
+    }
+    true
+}
+
+/// 0 where a certificate was found for each object, else 3.
+fn status_for(answers: &[(u32, Found)]) -> u8
+    ensures { result ≡ find_status answers.now }
+{
+    if are_all_found(answers) { 0 } else { NO_MEMORY }
+}
+
+/// Finds certificates, and says what was found.
+fn find_history(alloc: Global, history: &History) -> Result<Output, AllocError>
+    ensures { IfOk result (λ s. AreFound history.now s.status s.text.items) }
+{
+    let answers = find_all(alloc, history)?;
+    Ok(Output {
+        status: status_for(&answers),
+        text: text_of(alloc, &answers)?,
+    })
+}
+
+/// The same for the history that a text denotes, or why nothing is looked for.
+fn find_text(alloc: Global, text: &[u8]) -> Result<Output, Verdict>
+    ensures found { IfOk result (λ s. AreFoundIn text.now s.status s.text.items) }
+    ensures unread { IfErr result (IsUnsearched text.now) }
+{
+    let history = match history_in(alloc, text) {
+        Ok(history) => history,
+        Err(Stop::Stopped(fault)) => return Err(Verdict::Malformed(fault)),
+        Err(Stop::NoMemory) => return Err(Verdict::NoMemory),
+    };
+    match find_history(alloc, &history) {
+        Ok(output) => Ok(output),
+        Err(AllocError) => Err(Verdict::NoMemory),
+    }
+}
+
+/// Finds certificates of the history in the text, puts them out, and gives the exit status.
+pub(crate) fn report_find<S: Sink>(alloc: Global, text: &[u8], sink: &mut S) -> u8
+    requires working { S.broken sink.old ≡ false }
+    ensures written { result ≢ failed_status →
+        (out : List ℕ) × IsFindOutput text.now result out
+        × Appends (S.sent sink.old) (S.sent sink.new) out }
+    ensures usable { result ≢ failed_status → S.broken sink.new ≡ false }
+    ensures failed { result ≡ failed_status → S.broken sink.new ≡ true }
+    ensures front { result ≡ failed_status →
+        (status : ℕ) × (out : List ℕ) × IsFindOutput text.now status out
+        × SendsFront (S.sent sink.old) (S.sent sink.new) out }
+{
+    match find_text(alloc, text) {
+        Ok(output) => match write_bytes(&output.text, sink) {
+            Ok(()) => output.status,
+            Err(Failed) => FAILED,
+        },
+        Err(verdict) => match write_verdict(&verdict, false, sink) {
+            Ok(()) => status_of(&verdict),
+            Err(_) => FAILED,
+        },
+    }
+}
