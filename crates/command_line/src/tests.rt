@@ -265,7 +265,7 @@ fn words_of_a_finding(rt: HostRuntime) -> Result<(), Fail> {
     for refused in [
         &["fcbench", "find"][..],
         &["fcbench", "find", "h.edn", "c.edn"],
-        &["fcbench", "find", "-h.edn"],
+        &["fcbench", "find", "-e.edn"],
         &["fcbench", "find", "h.edn", "--steps", "7"],
     ] {
         assert!(rt; matches!(line(rt.alloc(), refused), Err(LineFault::Refused(_))));
