@@ -2,4 +2,5 @@ pub mod Statuses
 pub mod Runs
 pub mod Searches
 pub mod Findings
+pub mod Judged
 pub mod Simulated

@@ -4,6 +4,7 @@
 mod checking;
 mod comments;
 mod finding;
+mod judgement;
 mod program;
 mod running;
 mod searching;

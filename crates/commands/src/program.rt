@@ -9,13 +9,15 @@ ghost use Rattle.commands.specs.Statuses as spec;
 ghost use Rattle.commands.specs.Statuses.{yes_status, no_status, failed_status};
 ghost use Rattle.judging.specs.Texts.{IsLinearizableText};
 ghost use Rattle.commands.specs.Findings.{IsFindOutput};
+ghost use Rattle.commands.specs.Judged.{IsJudgeOutput};
 ghost use Rattle.commands.specs.Runs.{IsAcceptedRun, IsRunOutput};
 ghost use Rattle.commands.specs.Searches.{AreCertificatesFor, IsNotLinearizableText, IsSearchOutput};
 ghost use Rattle.judging.specs.Verdicts.{Holds};
 ghost use Rattle.commands.specs.Simulated.{IsAcceptedSimulation, IsSimulateOutput};
-ghost use Rattle.command_line.specs.Words.{IfRun, IfSearch, IsCheck, IsFind, IsSimulate};
+ghost use Rattle.command_line.specs.Words.{IfJudge, IfRun, IfSearch, IsCheck, IsFind, IsSimulate};
 
 use crate::finding::report_find;
+use crate::judgement::report_judgement;
 use crate::running::run;
 use crate::searching::report_search;
 use crate::simulating::report_simulation;
@@ -95,6 +97,16 @@ pub fn perform<R: Threads + Wait + Sync, S: Sink>(
         × SendsFront (S.sent sink.old) (S.sent sink.new) out }
     ensures found_certified { IsFind line.now → result ≡ yes_status →
         (out : List ℕ) × AreCertificatesFor first.now out × Appends (S.sent sink.old) (S.sent sink.new) out }
+    // A judgement finds valid certificates, or says of which objects it found none; it is never a no but of a history that is not
+    // linearizable.
+    ensures judged_linearizable { IfJudge line.now (λ _. result ≡ yes_status → IsLinearizableText first.now) }
+    ensures judged_refuted { IfJudge line.now (λ _. result ≡ no_status → IsNotLinearizableText first.now) }
+    ensures judge_written { IfJudge line.now (λ steps. result ≢ failed_status →
+        (out : List ℕ) × IsJudgeOutput first.now steps result out
+        × Appends (S.sent sink.old) (S.sent sink.new) out) }
+    ensures judge_front { IfJudge line.now (λ steps. result ≡ failed_status →
+        (status : ℕ) × (out : List ℕ) × IsJudgeOutput first.now steps status out
+        × SendsFront (S.sent sink.old) (S.sent sink.new) out) }
     // A run comes to the record of clients that made the calls asked for, whose certificates are accepted, or to the line that
     // says why not.
     ensures run_written { IfRun line.now (λ o. result ≢ failed_status →
@@ -128,6 +140,7 @@ pub fn perform<R: Threads + Wait + Sync, S: Sink>(
             steps,
             first: order,
         } => report_search(alloc, first, *steps, *order, sink),
+        Line::Judge { history: _, steps } => report_judgement(rt, alloc, first, *steps, sink),
         Line::Find { .. } => report_find(alloc, first, sink),
         Line::Run(options) => run(rt, alloc, *options, sink),
         Line::Simulate { .. } => report_simulation(alloc, first, sink),

@@ -60,7 +60,7 @@ fn push_steps(text: &mut Vec<u8>, object: u32, steps: u64) -> Result<(), AllocEr
 }
 
 /// The line of one answer.
-fn push_answer(
+pub(crate) fn push_answer(
     alloc: Global,
     text: &mut Vec<u8>,
     object: u32,
@@ -109,7 +109,7 @@ fn is_one_impossible(answers: &[(u32, Search)]) -> bool
 }
 
 /// Whether each object has a certificate.
-fn are_all_found(answers: &[(u32, Search)]) -> bool
+pub(crate) fn are_all_found(answers: &[(u32, Search)]) -> bool
     ensures { result ≡ list_all (λ a. is_found a.1.found) answers.now }
 {
     let mut rest = answers;
@@ -123,7 +123,7 @@ fn are_all_found(answers: &[(u32, Search)]) -> bool
 }
 
 /// 1 where some object is impossible, 0 where a certificate was found for each, else 3.
-fn status_for(answers: &[(u32, Search)]) -> u8
+pub(crate) fn status_for(answers: &[(u32, Search)]) -> u8
     ensures { result ≡ search_status answers.now }
 {
     if is_one_impossible(answers) {

@@ -93,6 +93,7 @@ fn run_line<R: Host>(rt: &R, line: &Line) -> io::Result<u8> {
             workers,
         } => run_check(rt, history, certs, *workers),
         Line::Search { history, .. } => run_on_file(rt, line, history),
+        Line::Judge { history, .. } => run_on_file(rt, line, history),
         Line::Find { history } => run_on_file(rt, line, history),
         Line::Run(_) => Ok(do_line(rt, line, b"", b"")),
         Line::Simulate { schedule } => run_on_file(rt, line, schedule),

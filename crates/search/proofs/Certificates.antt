@@ -17,7 +17,7 @@ use Rattle.search.specs.declared.found.Found.TheVariants as found
 use Rattle.search.specs.Answers.{certificate_in, IfFound, IsFor, IsAnswer, IsAnswerOn}
 
 -- what holds of a certificate that was found
-if_found : (f : Found) (P : Certificate → Type 0) (c : Certificate) → IfFound f P → certificate_in f ≡ Some c → P c
+pub if_found : (f : Found) (P : Certificate → Type 0) (c : Certificate) → IfFound f P → certificate_in f ≡ Some c → P c
 if_found (found.Found d) P c h e = subst P (same_Some d c e) h
 if_found Impossible P c h e = absurd (cc e)
 if_found OutOfSteps P c h e = absurd (cc e)

@@ -1,0 +1,190 @@
+//! The judgement of a history without certificates: they are found, and it is judged by them.
+
+ghost use Rattle.std.specs.Prelude.{◌≡◌, ◌≢◌, ◌++◌, ℕ, List, false, true, OnOk, IfOk, IfErr};
+ghost use Rattle.std.specs.Io.KnownBytes.{Appends};
+ghost use Rattle.certificate.specs.Denotes.{AreDistinct};
+ghost use Rattle.checker.specs.Refusals.{AreValid};
+ghost use Rattle.search.specs.Answers.{certificates_in};
+ghost use Rattle.edn.specs.Sent.{SendsFront};
+ghost use Rattle.judging.specs.Texts.{IsLinearizableText};
+ghost use Rattle.commands.specs.Judged.{note_line, notes_text, AreOpen, IsJudgeOutput, IsOpenText, IsVerdictOn, IsVerdictOnText};
+ghost use Rattle.commands.specs.Searches.{search_status, IsNotLinearizableText};
+ghost use Rattle.commands.specs.Statuses.{failed_status, no_status, yes_status};
+
+use crate::searching::{Output, are_all_found, push_answer, status_for};
+use crate::statuses::{FAILED, status_of};
+use certificate::Certificate;
+use checker::Refusal;
+use deciding::{Found, Search, decide_all};
+use edn::{Failed, Sink, write_bytes};
+use history::History;
+use judging::{Stop, history_in, judge_history};
+use report::{Verdict, summary, write_verdict};
+use std::alloc::{AllocError, Global};
+use std::thread::Threads;
+
+/// The line that says why an object has no certificate, where it has none.
+fn push_note_on(
+    alloc: Global,
+    text: &mut Vec<u8>,
+    object: u32,
+    answer: &Search,
+) -> Result<(), AllocError>
+    ensures { OnOk result (text.new.items ≡ text.old.items
+        ++ note_line object answer.now.steps answer.now.found) }
+{
+    match answer.found {
+        Found::Found(_) => Ok(()),
+        _ => push_answer(alloc, text, object, answer),
+    }
+}
+
+/// The lines on all objects that have no certificate.
+fn notes_of(alloc: Global, answers: &[(u32, Search)]) -> Result<Vec<u8>, AllocError>
+    ensures { IfOk result (λ text. text.items ≡ notes_text answers.now) }
+{
+    let mut text = Vec::new(alloc);
+    let mut rest = answers;
+    'answers: while let [(object, answer), later @ ..] = rest {
+        push_note_on(alloc, &mut text, *object, answer)?;
+        rest = later;
+    }
+    Ok(text)
+}
+
+/// What is said of objects of which some have no certificate.
+fn output_of(alloc: Global, answers: &[(u32, Search)]) -> Result<Output, AllocError>
+    ensures status { IfOk result (λ s. s.status ≡ search_status answers.now) }
+    ensures text { IfOk result (λ s. s.text.items ≡ notes_text answers.now) }
+{
+    Ok(Output {
+        status: status_for(answers),
+        text: notes_of(alloc, answers)?,
+    })
+}
+
+/// The certificates that were found.
+fn certificates_of(
+    alloc: Global,
+    answers: Vec<(u32, Search)>,
+) -> Result<Vec<Certificate>, AllocError>
+    ensures { IfOk result (λ cs. cs.items ≡ certificates_in answers.items) }
+{
+    let mut certificates = Vec::new(alloc);
+    for (_, answer) in answers {
+        if let Found::Found(certificate) = answer.found {
+            certificates.push(certificate)?;
+        }
+    }
+    Ok(certificates)
+}
+
+/// The verdict on valid certificates.
+fn verdict_by<R: Threads + Sync>(
+    rt: &R,
+    alloc: Global,
+    history: &History,
+    certificates: &[Certificate],
+) -> Verdict
+    requires distinct { AreDistinct certificates.now }
+    requires valid { AreValid history.now certificates.now }
+    ensures { IsVerdictOn history.now result }
+{
+    match judge_history(rt, alloc, history, certificates, 1) {
+        Ok(()) => match summary(alloc, history) {
+            Ok(summary) => Verdict::Yes(summary),
+            Err(_) => Verdict::NoMemory,
+        },
+        Err(Refusal::NoMemory) => Verdict::NoMemory,
+        Err(refusal) => Verdict::No(refusal),
+    }
+}
+
+/// The verdict on the certificates that were found, one for each object.
+fn verdict_on_found<R: Threads + Sync>(
+    rt: &R,
+    alloc: Global,
+    history: &History,
+    answers: Vec<(u32, Search)>,
+) -> Verdict
+    requires distinct { AreDistinct (certificates_in answers.items) }
+    requires valid { AreValid history.now (certificates_in answers.items) }
+    ensures { IsVerdictOn history.now result }
+{
+    match certificates_of(alloc, answers) {
+        Ok(certificates) => verdict_by(rt, alloc, history, &certificates),
+        Err(AllocError) => Verdict::NoMemory,
+    }
+}
+
+/// Finds certificates, and gives the verdict on them as an error, or else what is said of objects that have none.
+fn judge_events<R: Threads + Sync>(
+    rt: &R,
+    alloc: Global,
+    history: &History,
+    steps: u32,
+) -> Result<Output, Verdict>
+    ensures open { IfOk result (λ s. AreOpen history.now steps s.status s.text.items) }
+    ensures judged { IfErr result (IsVerdictOn history.now) }
+{
+    let Ok(answers) = decide_all(alloc, history, u64::from(steps)) else {
+        return Err(Verdict::NoMemory);
+    };
+    if are_all_found(&answers) {
+        return Err(verdict_on_found(rt, alloc, history, answers));
+    }
+    match output_of(alloc, &answers) {
+        Ok(output) => Ok(output),
+        Err(AllocError) => Err(Verdict::NoMemory),
+    }
+}
+
+/// The same for the history that a text denotes.
+fn judge_text<R: Threads + Sync>(
+    rt: &R,
+    alloc: Global,
+    text: &[u8],
+    steps: u32,
+) -> Result<Output, Verdict>
+    ensures open { IfOk result (λ s. IsOpenText text.now steps s.status s.text.items) }
+    ensures judged { IfErr result (IsVerdictOnText text.now) }
+{
+    match history_in(alloc, text) {
+        Ok(history) => judge_events(rt, alloc, &history, steps),
+        Err(Stop::Stopped(fault)) => Err(Verdict::Malformed(fault)),
+        Err(Stop::NoMemory) => Err(Verdict::NoMemory),
+    }
+}
+
+/// Finds certificates of the history in the text, judges it by them, puts out the verdict, or what is said of objects without a
+/// certificate, and gives the exit status.
+pub(crate) fn report_judgement<R: Threads + Sync, S: Sink>(
+    rt: &R,
+    alloc: Global,
+    text: &[u8],
+    steps: u32,
+    sink: &mut S,
+) -> u8
+    requires working { S.broken sink.old ≡ false }
+    ensures written { result ≢ failed_status →
+        (out : List ℕ) × IsJudgeOutput text.now steps result out
+        × Appends (S.sent sink.old) (S.sent sink.new) out }
+    ensures usable { result ≢ failed_status → S.broken sink.new ≡ false }
+    ensures failed { result ≡ failed_status → S.broken sink.new ≡ true }
+    ensures front { result ≡ failed_status →
+        (status : ℕ) × (out : List ℕ) × IsJudgeOutput text.now steps status out
+        × SendsFront (S.sent sink.old) (S.sent sink.new) out }
+    ensures linearizable { result ≡ yes_status → IsLinearizableText text.now }
+    ensures refuted { result ≡ no_status → IsNotLinearizableText text.now }
+{
+    match judge_text(rt, alloc, text, steps) {
+        Ok(output) => match write_bytes(&output.text, sink) {
+            Ok(()) => output.status,
+            Err(Failed) => FAILED,
+        },
+        Err(verdict) => match write_verdict(&verdict, false, sink) {
+            Ok(()) => status_of(&verdict),
+            Err(_) => FAILED,
+        },
+    }
+}

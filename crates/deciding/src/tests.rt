@@ -1,0 +1,82 @@
+use super::*;
+use checker::check_object;
+use events::split;
+use history::read_history_text;
+use std::alloc::Global;
+use std::test::Fail;
+
+/// A queue that takes out what was put in, one that takes out what never was, and a register that is read before and behind a write.
+const HISTORY: &str = "
+    {:process 0 :type :invoke :f :enqueue :value 5 :object 3}
+    {:process 0 :type :ok :f :enqueue :value 5 :object 3}
+    {:process 0 :type :invoke :f :dequeue :value nil :object 3}
+    {:process 0 :type :ok :f :dequeue :value 5 :object 3}
+    {:process 0 :type :invoke :f :dequeue :value nil :object 4}
+    {:process 0 :type :ok :f :dequeue :value 5 :object 4}
+    {:process 0 :type :invoke :f :write :value 1 :object 9}
+    {:process 1 :type :invoke :f :read :value nil :object 9}
+    {:process 1 :type :ok :f :read :value nil :object 9}
+    {:process 0 :type :ok :f :write :value 1 :object 9}
+    {:process 1 :type :invoke :f :read :value nil :object 9}
+    {:process 1 :type :ok :f :read :value 1 :object 9}";
+
+/// The answer in words, as `[1, 0, 4] after 6`.
+fn words_of(alloc: Global, answer: &Search) -> Result<String, Fail> {
+    let steps = answer.steps;
+    Ok(match &answer.found {
+        Found::Found(certificate) => format!(in alloc; "{:?} after {steps}", certificate.order)?,
+        Found::Impossible => format!(in alloc; "impossible after {steps}")?,
+        Found::OutOfSteps => format!(in alloc; "out of steps after {steps}")?,
+        Found::TooLarge => format!(in alloc; "too large")?,
+        Found::NoMemory => format!(in alloc; "no memory")?,
+    })
+}
+
+/// Compares the decisions on all objects of the history, and those on each alone, with what they must be.
+fn decisions(alloc: Global, limit: u64, wanted: &[(u32, &str)]) -> Result<(), Fail> {
+    let Ok(history) = read_history_text(alloc, HISTORY.as_bytes()) else {
+        return Err(Fail::new("a history is refused"));
+    };
+    let objects = split(alloc, &history)?;
+    let all = decide_all(alloc, &history, limit)?;
+    if all.len() != wanted.len() || objects.len() != wanted.len() {
+        return Err(Fail::new("another number of objects"));
+    }
+    for (k, (number, words)) in wanted.iter().enumerate() {
+        let (object, answer) = &all[k];
+        let alone = decide(alloc, &objects[k], limit);
+        if object != number
+            || words_of(alloc, answer)?.as_str() != *words
+            || words_of(alloc, &alone)?.as_str() != *words
+        {
+            return Err(Fail::new("another decision"));
+        }
+        if let Found::Found(certificate) = &answer.found {
+            if check_object(alloc, &objects[k], certificate).is_err() {
+                return Err(Fail::new("what was found is refused"));
+            }
+        }
+    }
+    Ok(())
+}
+
+/// What the finder finds takes no steps; what it does not find is searched.
+#[test]
+fn found_and_impossible(rt: HostRuntime) -> Result<(), Fail> {
+    let wanted = [
+        (3, "[0, 2] after 0"),
+        (4, "impossible after 1"),
+        (9, "[7, 6, 10] after 0"),
+    ];
+    decisions(rt.alloc(), 100, &wanted)
+}
+
+#[test]
+fn out_of_steps(rt: HostRuntime) -> Result<(), Fail> {
+    let wanted = [
+        (3, "[0, 2] after 0"),
+        (4, "out of steps after 0"),
+        (9, "[7, 6, 10] after 0"),
+    ];
+    decisions(rt.alloc(), 0, &wanted)
+}
