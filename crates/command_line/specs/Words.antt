@@ -19,7 +19,7 @@ use Rattle.model.specs.declared.Kind.TheVariants.{Queue}
 use Rattle.schedule.specs.Schedules.{kinds_named}
 use Rattle.command_line.specs.declared.asking.RunOptions.{RunOptions}
 use Rattle.command_line.specs.declared.asking.Line.{Line}
-use Rattle.command_line.specs.declared.asking.Line.TheVariants.{Check, Search, Find, Run, Simulate}
+use Rattle.command_line.specs.declared.asking.Line.TheVariants.{Check, Search, Find, Judge, Run, Simulate}
 use Rattle.command_line.specs.declared.asking.LineFault.{LineFault}
 use Rattle.command_line.specs.declared.asking.LineFault.TheVariants.{Help, Refused, NoMemory}
 
@@ -69,6 +69,9 @@ first_rule = record (new_rule (codes "first")) { long = Some (codes "first") }
 abbrev pub search_command : App
 search_command = with_rule (with_rule (with_rule (new_app (codes "search")) (required (codes "HISTORY"))) steps_rule) first_rule
 
+abbrev pub judge_command : App
+judge_command = with_rule (with_rule (new_app (codes "judge")) (required (codes "HISTORY"))) steps_rule
+
 abbrev pub kind_rule : Rule
 kind_rule = record (new_rule (codes "kind")) { long = Some (codes "kind") }
 
@@ -89,7 +92,7 @@ abbrev pub find_command : App
 find_command = with_rule (new_app (codes "find")) (required (codes "HISTORY"))
 
 abbrev pub judging_commands : App
-judging_commands = with_subcommand (with_subcommand (with_subcommand (on_top (λ s. record s { subcommand_required = true }) (new_app (codes "fcbench"))) check.top) search_command.top) find_command.top
+judging_commands = with_subcommand (with_subcommand (with_subcommand (with_subcommand (on_top (λ s. record s { subcommand_required = true }) (new_app (codes "fcbench"))) judge_command.top) check.top) search_command.top) find_command.top
 
 abbrev pub command : App
 command = with_subcommand (with_subcommand judging_commands run.top) simulate_command.top
@@ -185,10 +188,22 @@ pub record IsSearchFound (m : Option (Text × List Row)) (history : Text) (steps
   pub entered : m ≡ Some (codes "search", rows)
   pub values : HasSearch rows history steps first
 
+-- these are the values of a judgement
+pub record HasJudge (rows : List Row) (history : Text) (steps : ℕ) : Type 0 where
+  pub history_first : first_of (codes "HISTORY") rows ≡ Some history
+  pub steps_first : AreSteps (first_of (codes "steps") rows) steps
+
+-- The parse has found `judge`, with these values.
+pub record IsJudgeFound (m : Option (Text × List Row)) (history : Text) (steps : ℕ) : Type 0 where
+  pub rows : List Row
+  pub entered : m ≡ Some (codes "judge", rows)
+  pub values : HasJudge rows history steps
+
 abbrev pub AskFor : List Text → Line → Type 0
 AskFor words (Check history certs workers) = AskToCheck words (string_bytes history) (string_bytes certs) workers
 AskFor words (Search history steps first) = IsSearchFound (subcommand_of command words) (string_bytes history) steps first
 AskFor words (Find history) = AskToFind words (string_bytes history)
+AskFor words (Judge history steps) = IsJudgeFound (subcommand_of command words) (string_bytes history) steps
 AskFor words (Run options) = IsRunFound (subcommand_of command words) options
 AskFor words (Simulate schedule) = AskToSimulate words (string_bytes schedule)
 
@@ -220,6 +235,13 @@ pub record IsPlainFind (words : List Text) : Type 0 where
   pub said : words ≡ program ∷ codes "find" ∷ history ∷ []
   pub history_plain : IsPlain history
 
+-- the program's name, `judge` and the name of a file
+pub record IsPlainJudge (words : List Text) : Type 0 where
+  pub program : Text
+  pub history : Text
+  pub said : words ≡ program ∷ codes "judge" ∷ history ∷ []
+  pub history_plain : IsPlain history
+
 -- the program's name and `run`
 pub record IsPlainRun (words : List Text) : Type 0 where
   pub program : Text
@@ -236,6 +258,7 @@ abbrev pub IsCheck : Line → Type 0
 IsCheck (Check history certs workers) = ⊤
 IsCheck (Search history steps first) = ⊥
 IsCheck (Find history) = ⊥
+IsCheck (Judge history steps) = ⊥
 IsCheck (Run options) = ⊥
 IsCheck (Simulate schedule) = ⊥
 
@@ -243,6 +266,7 @@ abbrev pub IsSimulate : Line → Type 0
 IsSimulate (Check history certs workers) = ⊥
 IsSimulate (Search history steps first) = ⊥
 IsSimulate (Find history) = ⊥
+IsSimulate (Judge history steps) = ⊥
 IsSimulate (Run options) = ⊥
 IsSimulate (Simulate schedule) = ⊤
 
@@ -250,6 +274,7 @@ abbrev pub IsFind : Line → Type 0
 IsFind (Check history certs workers) = ⊥
 IsFind (Search history steps first) = ⊥
 IsFind (Find history) = ⊤
+IsFind (Judge history steps) = ⊥
 IsFind (Run options) = ⊥
 IsFind (Simulate schedule) = ⊥
 
@@ -258,14 +283,25 @@ abbrev pub IfSearch : Line → (ℕ → Type 0) → Type 0
 IfSearch (Check history certs workers) P = ⊤
 IfSearch (Search history steps first) P = P steps
 IfSearch (Find history) P = ⊤
+IfSearch (Judge history steps) P = ⊤
 IfSearch (Run options) P = ⊤
 IfSearch (Simulate schedule) P = ⊤
+
+-- where a judgement is asked for, with so many steps
+abbrev pub IfJudge : Line → (ℕ → Type 0) → Type 0
+IfJudge (Check history certs workers) P = ⊤
+IfJudge (Search history steps first) P = ⊤
+IfJudge (Find history) P = ⊤
+IfJudge (Judge history steps) P = P steps
+IfJudge (Run options) P = ⊤
+IfJudge (Simulate schedule) P = ⊤
 
 -- where a run is asked for, with these options
 abbrev pub IfRun : Line → (RunOptions → Type 0) → Type 0
 IfRun (Check history certs workers) P = ⊤
 IfRun (Search history steps first) P = ⊤
 IfRun (Find history) P = ⊤
+IfRun (Judge history steps) P = ⊤
 IfRun (Run options) P = P options
 IfRun (Simulate schedule) P = ⊤
 
@@ -285,12 +321,13 @@ IsHistoryFound m history = IsFileFound (codes "find") (codes "HISTORY") m histor
 
 -- the parse has found a command
 abbrev pub IsCommand : Option (Text × List Row) → Type 0
-IsCommand m = ((rows : List Row) × (m ≡ Some (codes "check", rows))) ⊎ ((rows : List Row) × (m ≡ Some (codes "search", rows))) ⊎ ((rows : List Row) × (m ≡ Some (codes "run", rows))) ⊎ ((schedule : Text) × IsScheduleFound m schedule) ⊎ ((history : Text) × IsHistoryFound m history)
+IsCommand m = ((rows : List Row) × (m ≡ Some (codes "check", rows))) ⊎ ((rows : List Row) × (m ≡ Some (codes "search", rows))) ⊎ ((rows : List Row) × (m ≡ Some (codes "run", rows))) ⊎ ((schedule : Text) × IsScheduleFound m schedule) ⊎ ((history : Text) × IsHistoryFound m history) ⊎ ((rows : List Row) × (m ≡ Some (codes "judge", rows)))
 
 abbrev pub FindsCheck : List Row → Line → Type 0
 FindsCheck rows (Check history certs workers) = HasCheck rows (string_bytes history) (string_bytes certs) workers
 FindsCheck rows (Search history steps first) = ⊥
 FindsCheck rows (Find history) = ⊥
+FindsCheck rows (Judge history steps) = ⊥
 FindsCheck rows (Run options) = ⊥
 FindsCheck rows (Simulate schedule) = ⊥
 
@@ -298,13 +335,23 @@ abbrev pub FindsSearch : List Row → Line → Type 0
 FindsSearch rows (Check history certs workers) = ⊥
 FindsSearch rows (Search history steps first) = HasSearch rows (string_bytes history) steps first
 FindsSearch rows (Find history) = ⊥
+FindsSearch rows (Judge history steps) = ⊥
 FindsSearch rows (Run options) = ⊥
 FindsSearch rows (Simulate schedule) = ⊥
+
+abbrev pub FindsJudge : List Row → Line → Type 0
+FindsJudge rows (Check history certs workers) = ⊥
+FindsJudge rows (Search history steps first) = ⊥
+FindsJudge rows (Find history) = ⊥
+FindsJudge rows (Judge history steps) = HasJudge rows (string_bytes history) steps
+FindsJudge rows (Run options) = ⊥
+FindsJudge rows (Simulate schedule) = ⊥
 
 abbrev pub FindsRun : List Row → Line → Type 0
 FindsRun rows (Check history certs workers) = ⊥
 FindsRun rows (Search history steps first) = ⊥
 FindsRun rows (Find history) = ⊥
+FindsRun rows (Judge history steps) = ⊥
 FindsRun rows (Run options) = AreRunOptions (λ id. first_of id rows) options
 FindsRun rows (Simulate schedule) = ⊥
 
@@ -312,6 +359,7 @@ abbrev pub FindsSchedule : List Row → Line → Type 0
 FindsSchedule rows (Check history certs workers) = ⊥
 FindsSchedule rows (Search history steps first) = ⊥
 FindsSchedule rows (Find history) = ⊥
+FindsSchedule rows (Judge history steps) = ⊥
 FindsSchedule rows (Run options) = ⊥
 FindsSchedule rows (Simulate schedule) = first_of (codes "SCHEDULE") rows ≡ Some (string_bytes schedule)
 
@@ -319,6 +367,7 @@ abbrev pub FindsHistory : List Row → Line → Type 0
 FindsHistory rows (Check history certs workers) = ⊥
 FindsHistory rows (Search history steps first) = ⊥
 FindsHistory rows (Find history) = first_of (codes "HISTORY") rows ≡ Some (string_bytes history)
+FindsHistory rows (Judge history steps) = ⊥
 FindsHistory rows (Run options) = ⊥
 FindsHistory rows (Simulate schedule) = ⊥
 
@@ -326,6 +375,7 @@ abbrev pub Finds : Option (Text × List Row) → Line → Type 0
 Finds m (Check history certs workers) = IsCheckFound m (string_bytes history) (string_bytes certs) workers
 Finds m (Search history steps first) = IsSearchFound m (string_bytes history) steps first
 Finds m (Find history) = IsHistoryFound m (string_bytes history)
+Finds m (Judge history steps) = IsJudgeFound m (string_bytes history) steps
 Finds m (Run options) = IsRunFound m options
 Finds m (Simulate schedule) = IsScheduleFound m (string_bytes schedule)
 
@@ -348,6 +398,10 @@ HasNoCheck rows = (history certs : Text) (workers : ℕ) → HasCheck rows histo
 abbrev pub HasNoSearch : List Row → Type 0
 HasNoSearch rows = (history : Text) (steps : ℕ) (first : TryFirst) → HasSearch rows history steps first → ⊥
 
+-- the rows of a judgement name no file, or no number of steps that a search may take
+abbrev pub HasNoJudge : List Row → Type 0
+HasNoJudge rows = (history : Text) (steps : ℕ) → HasJudge rows history steps → ⊥
+
 -- the rows of a run name no kinds, or some number outside its bounds
 abbrev pub HasNoRun : List Row → Type 0
 HasNoRun rows = (o : RunOptions) → AreRunOptions (λ id. first_of id rows) o → ⊥
@@ -365,11 +419,11 @@ pub record LacksFor (name : Text) (HasNone : List Row → Type 0) (m : Option (T
   pub none : HasNone rows
   pub refused : IsRefused f
 
--- the parse has found a search, a run or a check without its values
+-- the parse has found a search, a run, a check or a judgement without its values
 abbrev pub Lacks : Option (Text × List Row) → LineFault → Type 0
-Lacks m f = LacksFor (codes "search") HasNoSearch m f ⊎ LacksFor (codes "run") HasNoRun m f ⊎ LacksFor (codes "check") HasNoCheck m f
+Lacks m f = LacksFor (codes "search") HasNoSearch m f ⊎ LacksFor (codes "run") HasNoRun m f ⊎ LacksFor (codes "check") HasNoCheck m f ⊎ LacksFor (codes "judge") HasNoJudge m f
 
 -- The fault is want of memory, or clap refuses the words with an error of a kind for which it is, or it finds a
--- search, a run or a check without its values.
+-- search, a run, a check or a judgement without its values.
 abbrev pub IsFault : List Text → LineFault → Type 0
 IsFault words f = (f ≡ NoMemory) ⊎ ((k : ErrorKind) × IsAmong k (fault_of command words) × IsFor k f) ⊎ Lacks (subcommand_of command words) f

@@ -44,6 +44,12 @@ pub enum Line {
     Find {
         history: String,
     },
+    /// To find certificates of the history in a file, with a search of at most so many steps for each object where that finds
+    /// none, and to judge it by them.
+    Judge {
+        history: String,
+        steps: u32,
+    },
     /// To run clients, and to judge what they did.
     Run(RunOptions),
     /// To play the schedule in a file, and to judge what its clients did.

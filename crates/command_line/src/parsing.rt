@@ -39,6 +39,34 @@ fn number_option<'a>(alloc: Global, name: &'a str, help: &'a str, least: i64, mo
         .value_parser(ValueParser::signed(least, most))
 }
 
+/// The option with the most steps of a search.
+fn steps_option<'a>(alloc: Global, help: &'a str) -> Arg<'a>
+    ensures rule { rule_of result ≡ spec.steps_rule }
+    ensures local { result.global ≡ false }
+{
+    Arg::new(alloc, "steps")
+        .long("steps")
+        .help(help)
+        .value_parser(value_parser!(u32).range(..=1_000_000_000))
+}
+
+fn judge_command<'a>(alloc: Global) -> Result<Command<'a>, AllocError>
+    ensures shape { IfOk result (λ c. app_of c ≡ spec.judge_command) }
+    ensures globals { IfOk result (λ c. (fields_of c).has_globals ≡ false) }
+{
+    let history = Arg::new(alloc, "HISTORY")
+        .help("a file of Jepsen operation maps")
+        .required(true);
+    let steps = steps_option(
+        alloc,
+        "the most steps for each object that is searched, 0 to 1000000000, else 1000000",
+    );
+    Command::new(alloc, "judge")
+        .about("finds certificates of a history and judges it by them")
+        .arg(history)?
+        .arg(steps)
+}
+
 fn check_command<'a>(alloc: Global) -> Result<Command<'a>, AllocError>
     ensures shape { IfOk result (λ c. app_of c ≡ spec.check) }
     ensures globals { IfOk result (λ c. (fields_of c).has_globals ≡ false) }
@@ -70,10 +98,10 @@ fn search_command<'a>(alloc: Global) -> Result<Command<'a>, AllocError>
     let history = Arg::new(alloc, "HISTORY")
         .help("a file of Jepsen operation maps")
         .required(true);
-    let steps = Arg::new(alloc, "steps")
-        .long("steps")
-        .help("the most steps for each object, 0 to 1000000000, else 1000000")
-        .value_parser(value_parser!(u32).range(..=1_000_000_000));
+    let steps = steps_option(
+        alloc,
+        "the most steps for each object, 0 to 1000000000, else 1000000",
+    );
     let first = Arg::new(alloc, "first").long("first").help(
         "which operation is tried first: that of the least number, or of the least return, else number",
     );
@@ -148,12 +176,14 @@ fn judging_commands<'a>(alloc: Global) -> Result<Command<'a>, AllocError>
     ensures shape { IfOk result (λ c. app_of c ≡ spec.judging_commands) }
     ensures globals { IfOk result (λ c. (fields_of c).has_globals ≡ false) }
 {
+    let judge = judge_command(alloc)?;
     let check = check_command(alloc)?;
     let search = search_command(alloc)?;
     let find = find_command(alloc)?;
     Command::new(alloc, "fcbench")
         .about("judges histories of concurrent objects")
         .subcommand_required(true)
+        .subcommand(judge)?
         .subcommand(check)?
         .subcommand(search)?
         .subcommand(find)
@@ -266,6 +296,16 @@ fn lacking(alloc: Global) -> LineFault
     )
 }
 
+/// Says that a judgement lacks a value. Of its file and its steps clap never lets it come to this.
+fn no_judgement(alloc: Global) -> LineFault
+    ensures { result ≢ LineFault.NoMemory → spec.IsRefused result }
+{
+    refusal(
+        alloc,
+        "error: a judgement has no file, or no number of steps from 0 to 1000000000\n",
+    )
+}
+
 /// Says that a check lacks a value. Of its files clap never lets it come to this.
 fn no_check(alloc: Global) -> LineFault
     ensures { result ≢ LineFault.NoMemory → spec.IsRefused result }
@@ -321,6 +361,23 @@ fn search_found(alloc: Global, matches: &ArgMatches<'_>) -> Result<Line, LineFau
         steps: steps as u32,
         first,
     })
+}
+
+/// The judgement whose matches these are.
+fn judge_found(alloc: Global, matches: &ArgMatches<'_>) -> Result<Line, LineFault>
+    ensures found { IfOk result (spec.FindsJudge (rows_of (found_of matches.now))) }
+    ensures lacks { IfErr result (λ f. f ≢ LineFault.NoMemory →
+        spec.IsRefused f × spec.HasNoJudge (rows_of (found_of matches.now))) }
+{
+    let Some(history) = matches.get_str("HISTORY") else {
+        return Err(no_judgement(alloc));
+    };
+    let Some(steps) = number_in(matches, "steps", 0, MAX_STEPS, DEFAULT_STEPS) else {
+        return Err(no_judgement(alloc));
+    };
+    let history = String::from_str(alloc, history)?;
+    let steps = steps as u32;
+    Ok(Line::Judge { history, steps })
 }
 
 /// The kinds that a run is to have.
@@ -388,6 +445,9 @@ fn found(alloc: Global, matches: &ArgMatches<'_>) -> Result<Line, LineFault>
     if let Some(find) = matches.subcommand_matches("find") {
         return Ok(find_found(alloc, find)?);
     }
+    if let Some(judge) = matches.subcommand_matches("judge") {
+        return judge_found(alloc, judge);
+    }
     match matches.subcommand_matches("run") {
         Some(run) => run_found(alloc, run),
         None => unreachable!(),
@@ -403,6 +463,7 @@ pub fn line<S: AsStr>(alloc: Global, words: &[S]) -> Result<Line, LineFault>
     ensures searches { spec.IsPlainSearch (map S.text words.now) →
         IfErr result (λ e. e ≡ LineFault.NoMemory) }
     ensures finds { spec.IsPlainFind (map S.text words.now) → IfErr result (λ e. e ≡ LineFault.NoMemory) }
+    ensures judges { spec.IsPlainJudge (map S.text words.now) → IfErr result (λ e. e ≡ LineFault.NoMemory) }
     ensures runs { spec.IsPlainRun (map S.text words.now) → IfErr result (λ e. e ≡ LineFault.NoMemory) }
     ensures simulates { spec.IsPlainSimulate (map S.text words.now) →
         IfErr result (λ e. e ≡ LineFault.NoMemory) }

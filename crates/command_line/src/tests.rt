@@ -274,6 +274,38 @@ fn words_of_a_finding(rt: HostRuntime) -> Result<(), Fail> {
 }
 
 #[test]
+fn words_of_a_judgement(rt: HostRuntime) -> Result<(), Fail> {
+    for (words, name, steps) in [
+        (&["fcbench", "judge", "h.edn"][..], "h.edn", 1_000_000),
+        (&["fcbench", "judge", "h.edn", "--steps", "7"], "h.edn", 7),
+        (&["fcbench", "judge", "--steps=0", "h.edn"], "h.edn", 0),
+        (
+            &["fcbench", "judge", "h.edn", "--steps", "1000000000"],
+            "h.edn",
+            1_000_000_000,
+        ),
+        (&["fcbench", "judge", "--", "-e.edn"], "-e.edn", 1_000_000),
+    ] {
+        let history = String::from_str(rt.alloc(), name)?;
+        assert_eq!(rt; asked(rt.alloc(), words)?, Line::Judge { history, steps });
+    }
+    for refused in [
+        &["fcbench", "judge"][..],
+        &["fcbench", "judge", "h.edn", "c.edn"],
+        &["fcbench", "judge", "-e.edn"],
+        &["fcbench", "judge", "h.edn", "--steps"],
+        &["fcbench", "judge", "h.edn", "--steps", "1000000001"],
+        &["fcbench", "judge", "h.edn", "--steps", "-1"],
+        &["fcbench", "judge", "h.edn", "--steps=7", "--steps=7"],
+        &["fcbench", "judge", "h.edn", "--first", "return"],
+        &["fcbench", "judge", "h.edn", "--workers", "2"],
+    ] {
+        assert!(rt; matches!(line(rt.alloc(), refused), Err(LineFault::Refused(_))));
+    }
+    Ok(())
+}
+
+#[test]
 fn words_of_a_simulation(rt: HostRuntime) -> Result<(), Fail> {
     let expected = Line::Simulate {
         schedule: String::from_str(rt.alloc(), "s.edn")?,
