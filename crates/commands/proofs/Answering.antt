@@ -20,12 +20,12 @@ use Rattle.commands.specs.Searches.{answer_line, answers_text, is_impossible, is
 
 -- ---- by the status
 
-yes_of : (b c : Bool) → (if b then no_status else if c then yes_status else no_memory_status) ≡ yes_status → c ≡ true
+pub yes_of : (b c : Bool) → (if b then no_status else if c then yes_status else no_memory_status) ≡ yes_status → c ≡ true
 yes_of true c e = absurd cc
 yes_of false true e = refl
 yes_of false false e = absurd cc
 
-no_of : (b c : Bool) → (if b then no_status else if c then yes_status else no_memory_status) ≡ no_status → b ≡ true
+pub no_of : (b c : Bool) → (if b then no_status else if c then yes_status else no_memory_status) ≡ no_status → b ≡ true
 no_of true c e = refl
 no_of false true e = absurd cc
 no_of false false e = absurd cc
@@ -37,7 +37,7 @@ both false b e = absurd cc
 
 -- ---- one impossible
 
-one_impossible : (answers : List (ℕ × Search)) → list_any (λ a. is_impossible a.1.found) answers ≡ true → Any (λ a. a.1.found ≡ Impossible) answers
+pub one_impossible : (answers : List (ℕ × Search)) → list_any (λ a. is_impossible a.1.found) answers ≡ true → Any (λ a. a.1.found ≡ Impossible) answers
 one_impossible [] e = absurd cc
 one_impossible (a ∷ rest) e = go a.1.found refl e (one_impossible rest)
   where
@@ -61,7 +61,7 @@ has_one OutOfSteps e = absurd cc
 has_one TooLarge e = absurd cc
 has_one NoMemory e = absurd cc
 
-each_found : (answers : List (ℕ × Search)) → list_all (λ a. is_found a.1.found) answers ≡ true → (a : ℕ × Search) → In a answers → IsFound a.1
+pub each_found : (answers : List (ℕ × Search)) → list_all (λ a. is_found a.1.found) answers ≡ true → (a : ℕ × Search) → In a answers → IsFound a.1
 each_found [] e a i = absurd i
 each_found (b ∷ rest) e a i =
     let parts = both (is_found b.1.found) (list_all (λ a. is_found a.1.found) rest) e in

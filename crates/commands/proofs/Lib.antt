@@ -3,3 +3,4 @@ pub mod Answering
 pub mod Accepted
 pub mod Simulations
 pub mod Findings
+pub mod Judged

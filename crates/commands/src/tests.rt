@@ -1,4 +1,5 @@
 mod findings;
+mod judgements;
 mod runs;
 mod searches;
 mod simulations;

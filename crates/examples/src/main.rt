@@ -1,5 +1,5 @@
-//! Judges each history and plays each schedule in the folder where it runs, and says of each whether lines and exit status are
-//! as expected.
+//! Checks each history, plays each schedule, and judges without certificates each history that has an answer for that, in the folder
+//! where it runs; and says of each whether lines and exit status are as expected.
 #![tactic(auto)]
 
 use commands::{line, perform};
@@ -57,14 +57,20 @@ fn simulated<R: Host>(rt: &R, name: &str) -> io::Result<Vec<u8>> {
     answer(rt, &words, &fs::read(rt, &schedule)?, b"")
 }
 
-/// Says whether the answer of the example is the one that is expected.
-fn compare<R: Host>(rt: &R, name: &str, answer: &[u8]) -> io::Result<bool> {
-    let expected = format!(in rt.alloc(); "{name}.expected")?;
-    let same = answer == fs::read(rt, &expected)?.as_slice();
+/// What a judgement without certificates answers of the history of this name.
+fn judged<R: Host>(rt: &R, name: &str) -> io::Result<Vec<u8>> {
+    let history = format!(in rt.alloc(); "{name}.history.edn")?;
+    let words = ["fcbench", "judge", history.as_str()];
+    answer(rt, &words, &fs::read(rt, &history)?, b"")
+}
+
+/// Says whether the answer is the one that the file of this name has.
+fn compare<R: Host>(rt: &R, expected: &str, answer: &[u8]) -> io::Result<bool> {
+    let same = answer == fs::read(rt, expected)?.as_slice();
     if same {
-        rt.println(format_args!("ok {name}"))?;
+        rt.println(format_args!("ok {expected}"))?;
     } else {
-        rt.println(format_args!("NOT AS EXPECTED {name}"))?;
+        rt.println(format_args!("NOT AS EXPECTED {expected}"))?;
     }
     Ok(same)
 }
@@ -73,10 +79,16 @@ fn compare<R: Host>(rt: &R, name: &str, answer: &[u8]) -> io::Result<bool> {
 fn compare_all<R: Host>(rt: &R) -> io::Result<bool> {
     let mut all = true;
     for name in names(rt, ".history.edn")? {
-        all &= compare(rt, &name, &checked(rt, &name)?)?;
+        let expected = format!(in rt.alloc(); "{name}.expected")?;
+        all &= compare(rt, &expected, &checked(rt, &name)?)?;
     }
     for name in names(rt, ".schedule.edn")? {
-        all &= compare(rt, &name, &simulated(rt, &name)?)?;
+        let expected = format!(in rt.alloc(); "{name}.expected")?;
+        all &= compare(rt, &expected, &simulated(rt, &name)?)?;
+    }
+    for name in names(rt, ".judged")? {
+        let expected = format!(in rt.alloc(); "{name}.judged")?;
+        all &= compare(rt, &expected, &judged(rt, &name)?)?;
     }
     Ok(all)
 }

@@ -10,13 +10,13 @@ struct FindRow {
 }
 
 /// A queue gives what was never put in, and another one is used well.
-const ONE_IS_OPEN: &str = "{:process 0, :type :invoke, :f :enqueue, :value 1, :object 1}\n\
+pub const ONE_IS_OPEN: &str = "{:process 0, :type :invoke, :f :enqueue, :value 1, :object 1}\n\
     {:process 0, :type :ok, :f :enqueue, :value 1, :object 1}\n\
     {:process 0, :type :invoke, :f :dequeue, :object 0}\n\
     {:process 0, :type :ok, :f :dequeue, :value 5, :object 0}";
 
 /// A mutex is acquired by two, the second while it is held.
-const HELD: &str = "{:process 0, :type :invoke, :f :acquire}\n\
+pub const HELD: &str = "{:process 0, :type :invoke, :f :acquire}\n\
     {:process 0, :type :ok, :f :acquire}\n\
     {:process 1, :type :invoke, :f :acquire}\n\
     {:process 0, :type :invoke, :f :release}\n\

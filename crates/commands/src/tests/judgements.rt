@@ -1,0 +1,133 @@
+//! The judgement of a history without certificates: lines and status.
+
+use super::*;
+use findings::{HELD, ONE_IS_OPEN};
+use table::{ONE_BY_ONE, YES};
+
+struct JudgeRow {
+    history: &'static str,
+    steps: u32,
+    output: &'static str,
+    status: u8,
+}
+
+const JUDGEMENTS: [JudgeRow; 7] = [
+    JudgeRow {
+        history: HELD,
+        steps: 0,
+        output: "yes: 3 operations, 1 objects\nmutex: 1 objects, 3 operations\n",
+        status: 0,
+    },
+    JudgeRow {
+        history: ONE_BY_ONE,
+        steps: 1_000,
+        output: "; object 0: impossible\n",
+        status: 1,
+    },
+    // what is found of the other object is not said
+    JudgeRow {
+        history: ONE_IS_OPEN,
+        steps: 1_000,
+        output: "; object 0: impossible\n",
+        status: 1,
+    },
+    JudgeRow {
+        history: ONE_IS_OPEN,
+        steps: 0,
+        output: "; object 0: out of steps after 0\n",
+        status: 3,
+    },
+    JudgeRow {
+        history: "{:process 0, :type :invoke",
+        steps: 7,
+        output: "malformed history: E2 at byte 26\n",
+        status: 2,
+    },
+    JudgeRow {
+        history: "7",
+        steps: 7,
+        output: "malformed history: H1 at map 0\n",
+        status: 2,
+    },
+    // the second map invokes on a process that has not returned
+    JudgeRow {
+        history: "{:process 0, :type :invoke, :f :dequeue} {:process 0, :type :invoke, :f :dequeue}",
+        steps: 7,
+        output: "malformed history: H5 at map 1\n",
+        status: 2,
+    },
+];
+
+fn judging(alloc: Global, steps: u32) -> Result<Line, Fail> {
+    Ok(Line::Judge {
+        history: String::from_str(alloc, "h.edn")?,
+        steps,
+    })
+}
+
+/// What is put out, and the status.
+fn judged<R: AllocGlobal + Threads + Wait + Sync>(
+    rt: &R,
+    history: &[u8],
+    steps: u32,
+) -> Result<(Vec<u8>, u8), Fail> {
+    let line = judging(rt.alloc(), steps)?;
+    let mut sink = Out::new(Vec::new(rt.alloc()));
+    let status = perform(rt, rt.alloc(), &line, history, b"", &mut sink);
+    Ok((sink.into_inner(), status))
+}
+
+#[test]
+fn verdicts_or_notes(rt: HostRuntime) -> Result<(), Fail> {
+    for row in &JUDGEMENTS {
+        let (output, status) = judged(&rt, row.history.as_bytes(), row.steps)?;
+        assert_eq!(rt; output.as_slice(), row.output.as_bytes());
+        assert_eq!(rt; status, row.status);
+    }
+    Ok(())
+}
+
+/// A history that has valid certificates is answered as `check` answers it with them.
+#[test]
+fn yes_as_by_check(rt: HostRuntime) -> Result<(), Fail> {
+    for row in &YES {
+        let (output, status) = judged(&rt, row.history.as_bytes(), 0)?;
+        assert_eq!(rt; output.as_slice(), row.output.as_bytes(), "{}", row.name);
+        assert_eq!(rt; status, 0, "{}", row.name);
+    }
+    Ok(())
+}
+
+/// A register that is written 4,100 times and then read otherwise: no search is made of so many operations.
+#[test]
+fn too_many_for_a_search(rt: HostRuntime) -> Result<(), Fail> {
+    let mut history = Vec::new(rt.alloc());
+    for _ in 0..4_100 {
+        history.extend_from_slice(b"{:process 0, :type :invoke, :f :write, :value 1}")?;
+        history.extend_from_slice(b"{:process 0, :type :ok, :f :write, :value 1}")?;
+    }
+    history.extend_from_slice(b"{:process 0, :type :invoke, :f :read}")?;
+    history.extend_from_slice(b"{:process 0, :type :ok, :f :read, :value 2}")?;
+    let (output, status) = judged(&rt, &history, 1_000)?;
+    assert_eq!(rt; output.as_slice(), b"; object 0: too large\n".as_slice());
+    assert_eq!(rt; status, 3);
+    Ok(())
+}
+
+/// An output that fails after any number of bytes has a beginning of the lines.
+#[test]
+fn failing_output_of_a_judgement(rt: HostRuntime) -> Result<(), Fail> {
+    for row in &JUDGEMENTS {
+        let line = judging(rt.alloc(), row.steps)?;
+        let lines = row.output.as_bytes();
+        for room in 0..lines.len() {
+            let mut bytes = [0; 100];
+            let mut sink = Out::new(&mut bytes[..room]);
+            let history = row.history.as_bytes();
+            let status = perform(&rt, rt.alloc(), &line, history, b"", &mut sink);
+            assert_eq!(rt; status, FAILED);
+            assert_eq!(rt; &bytes[..room], &lines[..room]);
+        }
+    }
+    Ok(())
+}
