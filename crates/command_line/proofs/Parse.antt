@@ -1,4 +1,4 @@
--- The words that clap takes for the command are those of a check, of a search, of a run or of a simulation.
+-- The words that clap takes for the command are those of one of its commands.
 use Rattle.std.proofs.Common.{◌≡◌, ◌⊎◌, ◌∙◌, ℕ, true, false, List, [], ◌∷◌, Option, Some, None, refl, sym, ap, ap₂, subst, inl, inr, codes, arith}
 use Rattle.std.specs.Prelude.{IfOk, Result, Ok, Err, option_map, is_some, ◌≢◌}
 use Rattle.clap.specs.Faults.{check_fault, defaults_fault, entered_fault, fault_of, is_simple_and_free, level_fault, settle_fault, step_fault, turn_fault, walk_fault}
@@ -7,11 +7,13 @@ use Rattle.clap.specs.Matches.{first_value}
 use Rattle.clap.specs.declared.parser.matches.Found.{Found}
 use Rattle.clap.proofs.WalkLemmas.{first_value-rows}
 use Rattle.std.specs.String.{string_bytes}
+use Rattle.std.specs.Str.{bytes_eq}
+use Rattle.std.proofs.lemmas.Slice.Eq.{bytes_eq-Decides}
 use Rattle.kinds.specs.declared.Kinds.TheVariants.{One}
 use Rattle.model.specs.declared.Kind.TheVariants.{Queue}
 use Rattle.command_line.specs.declared.asking.RunOptions.{RunOptions}
 use Rattle.command_line.specs.declared.asking.Line.{Line}
-use Rattle.command_line.specs.declared.asking.Line.TheVariants.{Check, Search, Find, Run, Simulate}
+use Rattle.command_line.specs.declared.asking.Line.TheVariants.{Check, Search, Find, Judge, Run, Simulate}
 use Rattle.clap.specs.Kinds.{HasKind, IsAmong, or_else}
 use Rattle.clap.specs.Values.{kind_of}
 use Rattle.clap.specs.declared.error.Error.{Error}
@@ -22,10 +24,14 @@ use Rattle.clap.specs.Simple.{App, HasMatchesOf, subcommand_rows_of, built, ente
 use Rattle.clap.specs.Walk.{Row, Text, Walk, arg_by_index, settled, finished, first_of, nothing_held, rows_after, rows_of, to_positional, value, walk, walked}
 use Rattle.clap.proofs.OnLiterals.{clap_on_literals}
 use Rattle.order_search.specs.declared.trials.TryFirst.TheVariants.{LeastNumber}
-use Rattle.command_line.specs.Words.{AreNoOptions, AreRunOptions, AreSteps, IsFirst, AskFor, AskToFind, AskToSimulate, Finds, HasCheck, HasNoCheck, HasNoRun, HasNoSearch, HasSearch, IsCheckFound, IsCommand, IsFault, IsFor, IsNumber, IsPlain, IsPlainCheck, IsPlainRun, IsPlainSearch, IsPlainSimulate, IsRunFound, IsHistoryFound, IsPlainFind, IsScheduleFound, IsSearchFound, Lacks, LacksFor, command, default_steps, max_workers, values}
-use Rattle.command_line.proofs.Walks.{after, at, ends0, enters, enters_run, enters_search, held, history_is, level_parts, low, names, not_nil, plain_differs, plain_long, plain_short, running, sought, state0, state2, stops, top, top_words}
+use Rattle.command_line.specs.Words.{AreNoOptions, AreRunOptions, AreSteps, IsFirst, AskFor, AskToFind, AskToSimulate, Finds, HasCheck, HasJudge, HasNoCheck, HasNoJudge, HasNoRun, HasNoSearch, HasSearch, IsCheckFound, IsCommand, IsFault, IsFor, IsNumber, IsPlain, IsPlainCheck, IsPlainRun, IsPlainSearch, IsPlainSimulate, IsRunFound, IsHistoryFound, IsJudgeFound, IsPlainFind, IsPlainJudge, IsScheduleFound, IsSearchFound, Lacks, LacksFor, command, default_steps, max_workers, values}
+use Rattle.command_line.proofs.Walks.{after, at, ends0, enters, enters_judge, enters_run, enters_search, held, history_is, judged, level_parts, low, names, not_nil, plain_differs, plain_long, plain_short, running, sought, state0, state2, stops, top, top_words}
 use Rattle.command_line.proofs.Schedules.{TakenSimulate, enters_simulate, played, simulate_taken, stops_simulate, takes_simulate}
 use Rattle.command_line.proofs.Files.{TakenFind, enters_find, find_taken, looked, stops_find, takes_find}
+
+-- words that are spelled otherwise are not the same
+apart : (v w : Text) → bytes_eq v w ≡ false → v ≡ w → ⊥
+apart v w differ is = let same : bytes_eq v w ≡ true = (bytes_eq-Decides v w).1 is in cc
 
 -- ---- all the words
 
@@ -52,12 +58,19 @@ TakenRun words = (rows : List Row) × (subcommand_of command words ≡ Some (cod
 abbrev TakenSearch : List Text → Type 0
 TakenSearch words = (rows : List Row) × (subcommand_of command words ≡ Some (codes "search", rows))
 
+abbrev TakenJudge : List Text → Type 0
+TakenJudge words = (rows : List Row) × (subcommand_of command words ≡ Some (codes "judge", rows))
+
 abbrev Taken : List Text → Type 0
-Taken words = TakenCheck words ⊎ TakenSearch words ⊎ TakenRun words ⊎ TakenSimulate words ⊎ TakenFind words
+Taken words = TakenCheck words ⊎ TakenSearch words ⊎ TakenRun words ⊎ TakenSimulate words ⊎ TakenFind words ⊎ TakenJudge words
 
 search_taken : (program : Text) (rest : List Text) → TakenSearch (program ∷ codes "search" ∷ rest)
 unfolding clap_on_literals
 search_taken program rest = (rows_after sought.rules [] rest, enters_search rest)
+
+judge_taken : (program : Text) (rest : List Text) → TakenJudge (program ∷ codes "judge" ∷ rest)
+unfolding clap_on_literals
+judge_taken program rest = (rows_after judged.rules [] rest, enters_judge rest)
 
 low_taken : (program : Text) (rest : List Text) → level_fault low [] nothing_held rest false [] ≡ [] → TakenCheck (program ∷ codes "check" ∷ rest)
 unfolding clap_on_literals
@@ -102,7 +115,7 @@ simulate_is_taken program rest e = inr (inr (inr (inl (simulate_taken program re
 
 find_is_taken : (program : Text) (rest : List Text) → fault_of command (program ∷ codes "find" ∷ rest) ≡ [] → Taken (program ∷ codes "find" ∷ rest)
 unfolding clap_on_literals
-find_is_taken program rest e = inr (inr (inr (inr (find_taken program rest (subst (λ o. entered_fault (built command) o ≡ []) (stops_find rest) (below_fault (codes "find") rest program e))))))
+find_is_taken program rest e = inr (inr (inr (inr (inl (find_taken program rest (subst (λ o. entered_fault (built command) o ≡ []) (stops_find rest) (below_fault (codes "find") rest program e)))))))
 
 -- where clap names no kind of error, the words are those of one of the commands, and it has their files
 taken : (words : List Text) → fault_of command words ≡ [] → Taken words
@@ -117,7 +130,8 @@ taken (program ∷ w ∷ rest) e =
       | inr (inl is) ↦ subst (λ x. Taken (program ∷ x ∷ rest)) is (inr (inl (search_taken program rest)))
       | inr (inr (inl is)) ↦ subst (λ x. Taken (program ∷ x ∷ rest)) is (inr (inr (inl (run_taken program rest))))
       | inr (inr (inr (inl is))) ↦ subst (λ x. Taken (program ∷ x ∷ rest)) is (simulate_is_taken program rest (subst (λ x. fault_of command (program ∷ x ∷ rest) ≡ []) (sym is) e))
-      | inr (inr (inr (inr is))) ↦ subst (λ x. Taken (program ∷ x ∷ rest)) is (find_is_taken program rest (subst (λ x. fault_of command (program ∷ x ∷ rest) ≡ []) (sym is) e))
+      | inr (inr (inr (inr (inr is)))) ↦ subst (λ x. Taken (program ∷ x ∷ rest)) is (inr (inr (inr (inr (inr (judge_taken program rest))))))
+      | inr (inr (inr (inr (inl is)))) ↦ subst (λ x. Taken (program ∷ x ∷ rest)) is (find_is_taken program rest (subst (λ x. fault_of command (program ∷ x ∷ rest) ≡ []) (sym is) e))
     ]
 
 -- ---- words that are taken
@@ -177,6 +191,25 @@ takes_search : (program h : Text) → IsPlain h → fault_of command (program �
 unfolding clap_on_literals
 takes_search program h p = ap (λ below. level_fault top names nothing_held (codes "search" ∷ h ∷ []) true below) (sought_takes h p)
 
+judged_word : (word : Text) → IsPlain word
+    → (turn_fault judged [] (at [] None 1 false) word ≡ [])
+    × (walked judged.rules [] (at [] None 1 false) word ≡ at [] (history_is word) 2 false)
+unfolding clap_on_literals
+judged_word [] h = (refl, refl)
+judged_word (b ∷ bs) h = rw (plain_differs b bs h) (rw (plain_long b bs h) (rw (plain_short b bs h) (refl, refl)))
+
+judged_takes : (h : Text) → IsPlain h → level_fault judged [] nothing_held (h ∷ []) false [] ≡ []
+unfolding clap_on_literals
+judged_takes h p =
+    let first = judged_word h p in
+    let walks : walk_fault judged [] (at [] None 1 false) (h ∷ []) ≡ [] = ap (λ a. or_else a []) first.0 in
+    ap₂ (λ f (v : Walk). or_else f (or_else (settle_fault judged.rules judged.args_override_self v.held) (or_else (defaults_fault (settled judged.rules v.held).rows judged.rules)
+    (check_fault judged (finished judged.rules v.held) false)))) walks first.1
+
+takes_judge : (program h : Text) → IsPlain h → fault_of command (program ∷ codes "judge" ∷ h ∷ []) ≡ []
+unfolding clap_on_literals
+takes_judge program h p = ap (λ below. level_fault top names nothing_held (codes "judge" ∷ h ∷ []) true below) (judged_takes h p)
+
 -- where no option is given, a run is of these
 abbrev plain_run : RunOptions
 plain_run = record { kinds = One Queue; objects = 1; clients = 2; calls = 100; seed = 0; some_objects = (omega arith, omega arith); some_clients = (omega arith, omega arith); few_calls = omega arith }
@@ -191,6 +224,12 @@ unfolding clap_on_literals
 sought_values h p =
     let last : rows_after sought.rules [] (h ∷ []) ≡ finished sought.rules (at [] (history_is h) 2 false).held = ap (λ (v : Walk). finished sought.rules v.held) (sought_word h p).1 in
     record { history_first = ap (first_of (codes "HISTORY")) last; steps_first = subst (λ o. AreSteps o default_steps) (sym (ap (first_of (codes "steps")) last)) refl; first_first = subst (λ o. IsFirst o LeastNumber) (sym (ap (first_of (codes "first")) last)) refl }
+
+judged_values : (h : Text) → IsPlain h → HasJudge (rows_after judged.rules [] (h ∷ [])) h default_steps
+unfolding clap_on_literals
+judged_values h p =
+    let last : rows_after judged.rules [] (h ∷ []) ≡ finished judged.rules (at [] (history_is h) 2 false).held = ap (λ (v : Walk). finished judged.rules v.held) (judged_word h p).1 in
+    record { history_first = ap (first_of (codes "HISTORY")) last; steps_first = subst (λ o. AreSteps o default_steps) (sym (ap (first_of (codes "steps")) last)) refl }
 
 -- the walk takes the name of the schedule
 simple : is_simple_and_free command ≡ true
@@ -226,7 +265,7 @@ refused a words e f is h k = elim (subst (λ a. is_simple_and_free a ≡ true �
   | inr among ↦ inr (inl (kind_of e, among, k))
 ]
 
--- words that clap takes, and finds to be no search and no run without values, are refused for want of memory alone
+-- words that clap takes, and finds to be no command without its values, are refused for want of memory alone
 only_memory_of : (words : List Text) (f : LineFault) → fault_of command words ≡ [] → (Lacks (subcommand_of command words) f → ⊥) → IsFault words f → f ≡ NoMemory
 only_memory_of words f none found (inl e) = e
 only_memory_of words f none found (inr (inl k)) = absurd (subst (IsAmong k.0) none k.1)
@@ -235,13 +274,14 @@ only_memory_of words f none found (inr (inr l)) = absurd (found l)
 lacks_no : (name : Text) (P : List Row → Type 0) (m : Option (Text × List Row)) (w : Text) (r : List Row) (f : LineFault) → m ≡ Some (w, r) → (w ≡ name → ⊥) → LacksFor name P m f → ⊥
 lacks_no name P m w r f e other l = other (one_name m w name r e (ap (option_map (λ (p : Text × List Row). p.0)) l.entered))
 
--- what is found is neither a search nor a run nor a check
-lacks_nothing : (m : Option (Text × List Row)) (w : Text) (r : List Row) (f : LineFault) → m ≡ Some (w, r) → (w ≡ codes "search" → ⊥) → (w ≡ codes "run" → ⊥) → (w ≡ codes "check" → ⊥) → Lacks m f → ⊥
-lacks_nothing m w r f e no_search no_run no_check (inl l) = lacks_no (codes "search") HasNoSearch m w r f e no_search l
-lacks_nothing m w r f e no_search no_run no_check (inr (inl l)) = lacks_no (codes "run") HasNoRun m w r f e no_run l
-lacks_nothing m w r f e no_search no_run no_check (inr (inr l)) = lacks_no (codes "check") HasNoCheck m w r f e no_check l
+-- what is found is neither a search nor a run nor a check nor a judgement
+lacks_nothing : (m : Option (Text × List Row)) (w : Text) (r : List Row) (f : LineFault) → m ≡ Some (w, r) → (w ≡ codes "search" → ⊥) → (w ≡ codes "run" → ⊥) → (w ≡ codes "check" → ⊥) → (w ≡ codes "judge" → ⊥) → Lacks m f → ⊥
+lacks_nothing m w r f e no_search no_run no_check no_judge (inl l) = lacks_no (codes "search") HasNoSearch m w r f e no_search l
+lacks_nothing m w r f e no_search no_run no_check no_judge (inr (inl l)) = lacks_no (codes "run") HasNoRun m w r f e no_run l
+lacks_nothing m w r f e no_search no_run no_check no_judge (inr (inr (inl l))) = lacks_no (codes "check") HasNoCheck m w r f e no_check l
+lacks_nothing m w r f e no_search no_run no_check no_judge (inr (inr (inr l))) = lacks_no (codes "judge") HasNoJudge m w r f e no_judge l
 
--- a search or a run without its values is refused so, or memory was
+-- a command without its values is refused so, or memory was
 pub lacking : (words : List Text) (f : LineFault) → (f ≢ NoMemory → Lacks (subcommand_of command words) f) → IsFault words f
 lacking words (Help t) l = inr (inr (l (λ e. cc)))
 lacking words (Refused t) l = inr (inr (l (λ e. cc)))
@@ -258,9 +298,10 @@ only_memory words f p =
     let rows = rows_after low.rules [] rest in
     let is : subcommand_of command words ≡ Some (codes "check", rows) = subst (λ ws. subcommand_of command ws ≡ Some (codes "check", rows)) (sym p.said) (enters rest) in
     only_memory_of words f (subst (λ ws. fault_of command ws ≡ []) (sym p.said) (takes p.program p.history p.certs p.history_plain p.certs_plain)) (λ l. elim l [
-      | inl l ↦ lacks_no (codes "search") HasNoSearch (subcommand_of command words) (codes "check") rows f is (λ e. cc) l
-      | inr (inl l) ↦ lacks_no (codes "run") HasNoRun (subcommand_of command words) (codes "check") rows f is (λ e. cc) l
-      | inr (inr l) ↦ lacks_none (subcommand_of command words) (codes "check") HasNoCheck rows f is (λ none. none p.history p.certs 1 (low_values p.history p.certs p.history_plain p.certs_plain)) l
+      | inl l ↦ lacks_no (codes "search") HasNoSearch (subcommand_of command words) (codes "check") rows f is (apart (codes "check") (codes "search") refl) l
+      | inr (inl l) ↦ lacks_no (codes "run") HasNoRun (subcommand_of command words) (codes "check") rows f is (apart (codes "check") (codes "run") refl) l
+      | inr (inr (inr l)) ↦ lacks_no (codes "judge") HasNoJudge (subcommand_of command words) (codes "check") rows f is (apart (codes "check") (codes "judge") refl) l
+      | inr (inr (inl l)) ↦ lacks_none (subcommand_of command words) (codes "check") HasNoCheck rows f is (λ none. none p.history p.certs 1 (low_values p.history p.certs p.history_plain p.certs_plain)) l
     ])
 
 pub only_memory_run : (words : List Text) (f : LineFault) → IsPlainRun words → IsFault words f → f ≡ NoMemory
@@ -269,9 +310,10 @@ only_memory_run words f p =
     let rows = rows_after running.rules [] [] in
     let is : subcommand_of command words ≡ Some (codes "run", rows) = subst (λ ws. subcommand_of command ws ≡ Some (codes "run", rows)) (sym p.said) (enters_run []) in
     only_memory_of words f (subst (λ ws. fault_of command ws ≡ []) (sym p.said) (takes_run p.program)) (λ l. elim l [
-      | inl l ↦ lacks_no (codes "search") HasNoSearch (subcommand_of command words) (codes "run") rows f is (λ e. cc) l
+      | inl l ↦ lacks_no (codes "search") HasNoSearch (subcommand_of command words) (codes "run") rows f is (apart (codes "run") (codes "search") refl) l
       | inr (inl l) ↦ lacks_none (subcommand_of command words) (codes "run") HasNoRun rows f is (λ none. none plain_run run_values) l
-      | inr (inr l) ↦ lacks_no (codes "check") HasNoCheck (subcommand_of command words) (codes "run") rows f is (λ e. cc) l
+      | inr (inr (inr l)) ↦ lacks_no (codes "judge") HasNoJudge (subcommand_of command words) (codes "run") rows f is (apart (codes "run") (codes "judge") refl) l
+      | inr (inr (inl l)) ↦ lacks_no (codes "check") HasNoCheck (subcommand_of command words) (codes "run") rows f is (apart (codes "run") (codes "check") refl) l
     ])
 
 pub only_memory_search : (words : List Text) (f : LineFault) → IsPlainSearch words → IsFault words f → f ≡ NoMemory
@@ -281,21 +323,34 @@ only_memory_search words f p =
     let is : subcommand_of command words ≡ Some (codes "search", rows) = subst (λ ws. subcommand_of command ws ≡ Some (codes "search", rows)) (sym p.said) (enters_search (p.history ∷ [])) in
     only_memory_of words f (subst (λ ws. fault_of command ws ≡ []) (sym p.said) (takes_search p.program p.history p.history_plain)) (λ l. elim l [
       | inl l ↦ lacks_none (subcommand_of command words) (codes "search") HasNoSearch rows f is (λ none. none p.history default_steps LeastNumber (sought_values p.history p.history_plain)) l
-      | inr (inl l) ↦ lacks_no (codes "run") HasNoRun (subcommand_of command words) (codes "search") rows f is (λ e. cc) l
-      | inr (inr l) ↦ lacks_no (codes "check") HasNoCheck (subcommand_of command words) (codes "search") rows f is (λ e. cc) l
+      | inr (inl l) ↦ lacks_no (codes "run") HasNoRun (subcommand_of command words) (codes "search") rows f is (apart (codes "search") (codes "run") refl) l
+      | inr (inr (inr l)) ↦ lacks_no (codes "judge") HasNoJudge (subcommand_of command words) (codes "search") rows f is (apart (codes "search") (codes "judge") refl) l
+      | inr (inr (inl l)) ↦ lacks_no (codes "check") HasNoCheck (subcommand_of command words) (codes "search") rows f is (apart (codes "search") (codes "check") refl) l
+    ])
+
+pub only_memory_judge : (words : List Text) (f : LineFault) → IsPlainJudge words → IsFault words f → f ≡ NoMemory
+unfolding clap_on_literals
+only_memory_judge words f p =
+    let rows = rows_after judged.rules [] (p.history ∷ []) in
+    let is : subcommand_of command words ≡ Some (codes "judge", rows) = subst (λ ws. subcommand_of command ws ≡ Some (codes "judge", rows)) (sym p.said) (enters_judge (p.history ∷ [])) in
+    only_memory_of words f (subst (λ ws. fault_of command ws ≡ []) (sym p.said) (takes_judge p.program p.history p.history_plain)) (λ l. elim l [
+      | inl l ↦ lacks_no (codes "search") HasNoSearch (subcommand_of command words) (codes "judge") rows f is (apart (codes "judge") (codes "search") refl) l
+      | inr (inl l) ↦ lacks_no (codes "run") HasNoRun (subcommand_of command words) (codes "judge") rows f is (apart (codes "judge") (codes "run") refl) l
+      | inr (inr (inl l)) ↦ lacks_no (codes "check") HasNoCheck (subcommand_of command words) (codes "judge") rows f is (apart (codes "judge") (codes "check") refl) l
+      | inr (inr (inr l)) ↦ lacks_none (subcommand_of command words) (codes "judge") HasNoJudge rows f is (λ none. none p.history default_steps (judged_values p.history p.history_plain)) l
     ])
 
 pub only_memory_simulate : (words : List Text) (f : LineFault) → IsPlainSimulate words → IsFault words f → f ≡ NoMemory
 unfolding clap_on_literals
 only_memory_simulate words f p =
     only_memory_of words f (subst (λ ws. fault_of command ws ≡ []) (sym p.said) (takes_simulate p.program p.schedule p.schedule_plain))
-    (lacks_nothing (subcommand_of command words) (codes "simulate") (rows_after played.rules [] (p.schedule ∷ [])) f (subst (λ ws. subcommand_of command ws ≡ Some (codes "simulate", rows_after played.rules [] (p.schedule ∷ []))) (sym p.said) (enters_simulate (p.schedule ∷ []))) (λ e. cc) (λ e. cc) (λ e. cc))
+    (lacks_nothing (subcommand_of command words) (codes "simulate") (rows_after played.rules [] (p.schedule ∷ [])) f (subst (λ ws. subcommand_of command ws ≡ Some (codes "simulate", rows_after played.rules [] (p.schedule ∷ []))) (sym p.said) (enters_simulate (p.schedule ∷ []))) (apart (codes "simulate") (codes "search") refl) (apart (codes "simulate") (codes "run") refl) (apart (codes "simulate") (codes "check") refl) (apart (codes "simulate") (codes "judge") refl))
 
 pub only_memory_find : (words : List Text) (f : LineFault) → IsPlainFind words → IsFault words f → f ≡ NoMemory
 unfolding clap_on_literals
 only_memory_find words f p =
     only_memory_of words f (subst (λ ws. fault_of command ws ≡ []) (sym p.said) (takes_find p.program p.history p.history_plain))
-    (lacks_nothing (subcommand_of command words) (codes "find") (rows_after looked.rules [] (p.history ∷ [])) f (subst (λ ws. subcommand_of command ws ≡ Some (codes "find", rows_after looked.rules [] (p.history ∷ []))) (sym p.said) (enters_find (p.history ∷ []))) (λ e. cc) (λ e. cc) (λ e. cc))
+    (lacks_nothing (subcommand_of command words) (codes "find") (rows_after looked.rules [] (p.history ∷ [])) f (subst (λ ws. subcommand_of command ws ≡ Some (codes "find", rows_after looked.rules [] (p.history ∷ []))) (sym p.said) (enters_find (p.history ∷ []))) (apart (codes "find") (codes "search") refl) (apart (codes "find") (codes "run") refl) (apart (codes "find") (codes "check") refl) (apart (codes "find") (codes "judge") refl))
 
 -- ---- what is found
 
@@ -326,46 +381,60 @@ asked_check words m t is f (Check history certs workers) g =
           let one : workers ≡ 1 = subst (λ o. IsNumber 1 max_workers 1 o workers) none g.values.workers_first in
           (subst (λ x. values t.rest ≡ x ∷ string_bytes certs ∷ []) same_h (subst (λ x. values t.rest ≡ own.history ∷ x ∷ []) same_c own.files), one);
     }
-asked_check words m t is f (Search history steps first) g = absurd (not_both m (codes "check") (codes "search") t.rows g.rows f g.entered (λ e. cc))
-asked_check words m t is f (Find history) g = absurd (not_both m (codes "check") (codes "find") t.rows g.rows f g.entered (λ e. cc))
-asked_check words m t is f (Run options) g = absurd (not_both m (codes "check") (codes "run") t.rows g.rows f g.entered (λ e. cc))
-asked_check words m t is f (Simulate schedule) g = absurd (not_both m (codes "check") (codes "simulate") t.rows g.rows f g.entered (λ e. cc))
+asked_check words m t is f (Search history steps first) g = absurd (not_both m (codes "check") (codes "search") t.rows g.rows f g.entered (apart (codes "check") (codes "search") refl))
+asked_check words m t is f (Find history) g = absurd (not_both m (codes "check") (codes "find") t.rows g.rows f g.entered (apart (codes "check") (codes "find") refl))
+asked_check words m t is f (Judge history steps) g = absurd (not_both m (codes "check") (codes "judge") t.rows g.rows f g.entered (apart (codes "check") (codes "judge") refl))
+asked_check words m t is f (Run options) g = absurd (not_both m (codes "check") (codes "run") t.rows g.rows f g.entered (apart (codes "check") (codes "run") refl))
+asked_check words m t is f (Simulate schedule) g = absurd (not_both m (codes "check") (codes "simulate") t.rows g.rows f g.entered (apart (codes "check") (codes "simulate") refl))
 
 asked_search : (words : List Text) (m : Option (Text × List Row)) (r : List Row) → m ≡ subcommand_of command words → m ≡ Some (codes "search", r) → Asked words m
 unfolding Asked
-asked_search words m r is f (Check history certs workers) g = absurd (not_both m (codes "search") (codes "check") r g.rows f g.entered (λ e. cc))
+asked_search words m r is f (Check history certs workers) g = absurd (not_both m (codes "search") (codes "check") r g.rows f g.entered (apart (codes "search") (codes "check") refl))
 asked_search words m r is f (Search history steps first) g = subst (λ o. IsSearchFound o (string_bytes history) steps first) is g
-asked_search words m r is f (Find history) g = absurd (not_both m (codes "search") (codes "find") r g.rows f g.entered (λ e. cc))
-asked_search words m r is f (Run options) g = absurd (not_both m (codes "search") (codes "run") r g.rows f g.entered (λ e. cc))
-asked_search words m r is f (Simulate schedule) g = absurd (not_both m (codes "search") (codes "simulate") r g.rows f g.entered (λ e. cc))
+asked_search words m r is f (Find history) g = absurd (not_both m (codes "search") (codes "find") r g.rows f g.entered (apart (codes "search") (codes "find") refl))
+asked_search words m r is f (Judge history steps) g = absurd (not_both m (codes "search") (codes "judge") r g.rows f g.entered (apart (codes "search") (codes "judge") refl))
+asked_search words m r is f (Run options) g = absurd (not_both m (codes "search") (codes "run") r g.rows f g.entered (apart (codes "search") (codes "run") refl))
+asked_search words m r is f (Simulate schedule) g = absurd (not_both m (codes "search") (codes "simulate") r g.rows f g.entered (apart (codes "search") (codes "simulate") refl))
 
 asked_run : (words : List Text) (m : Option (Text × List Row)) (r : List Row) → m ≡ subcommand_of command words → m ≡ Some (codes "run", r) → Asked words m
 unfolding Asked
-asked_run words m r is f (Check history certs workers) g = absurd (not_both m (codes "run") (codes "check") r g.rows f g.entered (λ e. cc))
-asked_run words m r is f (Search history steps first) g = absurd (not_both m (codes "run") (codes "search") r g.rows f g.entered (λ e. cc))
-asked_run words m r is f (Find history) g = absurd (not_both m (codes "run") (codes "find") r g.rows f g.entered (λ e. cc))
+asked_run words m r is f (Check history certs workers) g = absurd (not_both m (codes "run") (codes "check") r g.rows f g.entered (apart (codes "run") (codes "check") refl))
+asked_run words m r is f (Search history steps first) g = absurd (not_both m (codes "run") (codes "search") r g.rows f g.entered (apart (codes "run") (codes "search") refl))
+asked_run words m r is f (Find history) g = absurd (not_both m (codes "run") (codes "find") r g.rows f g.entered (apart (codes "run") (codes "find") refl))
+asked_run words m r is f (Judge history steps) g = absurd (not_both m (codes "run") (codes "judge") r g.rows f g.entered (apart (codes "run") (codes "judge") refl))
 asked_run words m r is f (Run options) g = subst (λ o. IsRunFound o options) is g
-asked_run words m r is f (Simulate schedule) g = absurd (not_both m (codes "run") (codes "simulate") r g.rows f g.entered (λ e. cc))
+asked_run words m r is f (Simulate schedule) g = absurd (not_both m (codes "run") (codes "simulate") r g.rows f g.entered (apart (codes "run") (codes "simulate") refl))
+
+asked_judge : (words : List Text) (m : Option (Text × List Row)) (r : List Row) → m ≡ subcommand_of command words → m ≡ Some (codes "judge", r) → Asked words m
+unfolding Asked
+asked_judge words m r is f (Check history certs workers) g = absurd (not_both m (codes "judge") (codes "check") r g.rows f g.entered (apart (codes "judge") (codes "check") refl))
+asked_judge words m r is f (Search history steps first) g = absurd (not_both m (codes "judge") (codes "search") r g.rows f g.entered (apart (codes "judge") (codes "search") refl))
+asked_judge words m r is f (Find history) g = absurd (not_both m (codes "judge") (codes "find") r g.rows f g.entered (apart (codes "judge") (codes "find") refl))
+asked_judge words m r is f (Judge history steps) g = subst (λ o. IsJudgeFound o (string_bytes history) steps) is g
+asked_judge words m r is f (Run options) g = absurd (not_both m (codes "judge") (codes "run") r g.rows f g.entered (apart (codes "judge") (codes "run") refl))
+asked_judge words m r is f (Simulate schedule) g = absurd (not_both m (codes "judge") (codes "simulate") r g.rows f g.entered (apart (codes "judge") (codes "simulate") refl))
 
 asked_simulate : (words : List Text) (m : Option (Text × List Row)) (x : Text) → AskToSimulate words x → IsScheduleFound m x → Asked words m
 unfolding Asked
-asked_simulate words m x a f (Check history certs workers) g = absurd (not_both m (codes "simulate") (codes "check") f.rows g.rows f.entered g.entered (λ e. cc))
-asked_simulate words m x a f (Search history steps first) g = absurd (not_both m (codes "simulate") (codes "search") f.rows g.rows f.entered g.entered (λ e. cc))
-asked_simulate words m x a f (Find history) g = absurd (not_both m (codes "simulate") (codes "find") f.rows g.rows f.entered g.entered (λ e. cc))
-asked_simulate words m x a f (Run options) g = absurd (not_both m (codes "simulate") (codes "run") f.rows g.rows f.entered g.entered (λ e. cc))
+asked_simulate words m x a f (Check history certs workers) g = absurd (not_both m (codes "simulate") (codes "check") f.rows g.rows f.entered g.entered (apart (codes "simulate") (codes "check") refl))
+asked_simulate words m x a f (Search history steps first) g = absurd (not_both m (codes "simulate") (codes "search") f.rows g.rows f.entered g.entered (apart (codes "simulate") (codes "search") refl))
+asked_simulate words m x a f (Find history) g = absurd (not_both m (codes "simulate") (codes "find") f.rows g.rows f.entered g.entered (apart (codes "simulate") (codes "find") refl))
+asked_simulate words m x a f (Judge history steps) g = absurd (not_both m (codes "simulate") (codes "judge") f.rows g.rows f.entered g.entered (apart (codes "simulate") (codes "judge") refl))
+asked_simulate words m x a f (Run options) g = absurd (not_both m (codes "simulate") (codes "run") f.rows g.rows f.entered g.entered (apart (codes "simulate") (codes "run") refl))
 asked_simulate words m x a f (Simulate schedule) g =
     let rows : f.rows ≡ g.rows = found_rows m (codes "simulate") f.rows g.rows f.entered (ap (option_map (λ (p : Text × List Row). p.1)) g.entered) in
     subst (AskToSimulate words) (same_first f.rows g.rows (codes "SCHEDULE") x (string_bytes schedule) rows f.file_first g.file_first) a
 
 asked_find : (words : List Text) (m : Option (Text × List Row)) (x : Text) → AskToFind words x → IsHistoryFound m x → Asked words m
 unfolding Asked
-asked_find words m x a f (Check history certs workers) g = absurd (not_both m (codes "find") (codes "check") f.rows g.rows f.entered g.entered (λ e. cc))
-asked_find words m x a f (Search history steps first) g = absurd (not_both m (codes "find") (codes "search") f.rows g.rows f.entered g.entered (λ e. cc))
+asked_find words m x a f (Check history certs workers) g = absurd (not_both m (codes "find") (codes "check") f.rows g.rows f.entered g.entered (apart (codes "find") (codes "check") refl))
+asked_find words m x a f (Search history steps first) g = absurd (not_both m (codes "find") (codes "search") f.rows g.rows f.entered g.entered (apart (codes "find") (codes "search") refl))
 asked_find words m x a f (Find history) g =
     let rows : f.rows ≡ g.rows = found_rows m (codes "find") f.rows g.rows f.entered (ap (option_map (λ (p : Text × List Row). p.1)) g.entered) in
     subst (AskToFind words) (same_first f.rows g.rows (codes "HISTORY") x (string_bytes history) rows f.file_first g.file_first) a
-asked_find words m x a f (Run options) g = absurd (not_both m (codes "find") (codes "run") f.rows g.rows f.entered g.entered (λ e. cc))
-asked_find words m x a f (Simulate schedule) g = absurd (not_both m (codes "find") (codes "simulate") f.rows g.rows f.entered g.entered (λ e. cc))
+asked_find words m x a f (Judge history steps) g = absurd (not_both m (codes "find") (codes "judge") f.rows g.rows f.entered g.entered (apart (codes "find") (codes "judge") refl))
+asked_find words m x a f (Run options) g = absurd (not_both m (codes "find") (codes "run") f.rows g.rows f.entered g.entered (apart (codes "find") (codes "run") refl))
+asked_find words m x a f (Simulate schedule) g = absurd (not_both m (codes "find") (codes "simulate") f.rows g.rows f.entered g.entered (apart (codes "find") (codes "simulate") refl))
 
 -- a parse that ends well
 pub found : (a : App) (words : List Text) (m : ArgMatches) → a ≡ command → (is_simple_and_free a ≡ true → fault_of a words ≡ []) → HasMatchesOf a words m
@@ -383,7 +452,8 @@ found a words m is k h = go (taken words none)
     go (inl t) = let f : subcommand_rows_of m ≡ Some (codes "check", t.rows) = same ∙ t.entered in (inl (t.rows, f), asked_check words (subcommand_rows_of m) t same f, same, none)
     go (inr (inl t)) = let f : subcommand_rows_of m ≡ Some (codes "search", t.0) = same ∙ t.1 in (inr (inl (t.0, f)), asked_search words (subcommand_rows_of m) t.0 same f, same, none)
     go (inr (inr (inl t))) = let f : subcommand_rows_of m ≡ Some (codes "run", t.0) = same ∙ t.1 in (inr (inr (inl (t.0, f))), asked_run words (subcommand_rows_of m) t.0 same f, same, none)
-    go (inr (inr (inr (inr t)))) = let f : IsHistoryFound (subcommand_rows_of m) t.history = subst (λ o. IsHistoryFound o t.history) (sym same) t.found in (inr (inr (inr (inr (t.history, f)))), asked_find words (subcommand_rows_of m) t.history t.said f, same, none)
+    go (inr (inr (inr (inr (inr t))))) = let f : subcommand_rows_of m ≡ Some (codes "judge", t.0) = same ∙ t.1 in (inr (inr (inr (inr (inr (t.0, f))))), asked_judge words (subcommand_rows_of m) t.0 same f, same, none)
+    go (inr (inr (inr (inr (inl t))))) = let f : IsHistoryFound (subcommand_rows_of m) t.history = subst (λ o. IsHistoryFound o t.history) (sym same) t.found in (inr (inr (inr (inr (inl (t.history, f))))), asked_find words (subcommand_rows_of m) t.history t.said f, same, none)
     go (inr (inr (inr (inl t)))) = let f : IsScheduleFound (subcommand_rows_of m) t.schedule = subst (λ o. IsScheduleFound o t.schedule) (sym same) t.found in (inr (inr (inr (inl (t.schedule, f)))), asked_simulate words (subcommand_rows_of m) t.schedule t.said f, same, none)
 
 pub schedule_value : (inner : Found) (x : Text) → first_of (codes "SCHEDULE") (rows_of inner) ≡ Some x → first_value inner (codes "SCHEDULE") ≡ Some x

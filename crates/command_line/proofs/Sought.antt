@@ -1,4 +1,4 @@
--- The values of a check, a search or a run in what clap has found.
+-- The values of a check, a search, a judgement or a run in what clap has found.
 use Rattle.std.proofs.Common.{◌≡◌, ◌∙◌, ℕ, Option, Some, None, sym, subst, codes}
 use Rattle.clap.specs.Walk.{Text, first_of, rows_of}
 use Rattle.clap.specs.Matches.{first_value}
@@ -6,7 +6,7 @@ use Rattle.clap.specs.declared.parser.matches.Found.{Found}
 use Rattle.clap.proofs.WalkLemmas.{first_value-rows}
 use Rattle.order_search.specs.declared.trials.TryFirst.{TryFirst}
 use Rattle.command_line.specs.declared.asking.RunOptions.{RunOptions}
-use Rattle.command_line.specs.Words.{max_workers, AreRunOptions, AreSteps, HasCheck, HasNoCheck, HasNoRun, HasNoSearch, HasSearch, IsFirst, IsNumber}
+use Rattle.command_line.specs.Words.{max_workers, AreRunOptions, AreSteps, HasCheck, HasJudge, HasNoCheck, HasNoJudge, HasNoRun, HasNoSearch, HasSearch, IsFirst, IsNumber}
 
 absent : {X : Type 0} {o p : Option X} {x : X} → o ≡ None → o ≡ p → p ≡ Some x → ⊥
 absent e f g = cc
@@ -42,6 +42,18 @@ module _ (inner : Found) where
     history_first = sym (first_value-rows inner (codes "HISTORY")) ∙ e;
     steps_first = subst (λ o. AreSteps o n) (first_value-rows inner (codes "steps")) s;
     first_first = subst (λ o. IsFirst o first) (first_value-rows inner (codes "first")) f;
+  }
+
+  pub judge_no_file : first_value inner (codes "HISTORY") ≡ None → HasNoJudge (rows_of inner)
+  judge_no_file e h n v = absent e (first_value-rows inner (codes "HISTORY")) v.history_first
+
+  pub judge_no_steps : ((n : ℕ) → AreSteps (first_value inner (codes "steps")) n → ⊥) → HasNoJudge (rows_of inner)
+  judge_no_steps none h n v = none n (subst (λ o. AreSteps o n) (sym (first_value-rows inner (codes "steps"))) v.steps_first)
+
+  pub has_judge : (h : Text) (n : ℕ) → first_value inner (codes "HISTORY") ≡ Some h → AreSteps (first_value inner (codes "steps")) n → HasJudge (rows_of inner) h n
+  has_judge h n e s = record {
+    history_first = sym (first_value-rows inner (codes "HISTORY")) ∙ e;
+    steps_first = subst (λ o. AreSteps o n) (first_value-rows inner (codes "steps")) s;
   }
 
   values_are : first_value inner ≡ (λ id. first_of id (rows_of inner))

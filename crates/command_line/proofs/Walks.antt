@@ -15,7 +15,7 @@ use Rattle.clap.specs.Walk.{Held, Names, Outcome, Row, Rule, Step, Text, Walk, a
 use Rattle.clap.proofs.OnLiterals.{clap_on_literals}
 use Rattle.clap.specs.declared.parser.matches.ValueSource.TheVariants.{CommandLine}
 use Rattle.clap.specs.declared.builder.value_parser.Reading.TheVariants.{AsWritten}
-use Rattle.command_line.specs.Words.{AreNoOptions, check, command, run, search_command, values}
+use Rattle.command_line.specs.Words.{AreNoOptions, check, command, judge_command, run, search_command, values}
 
 -- ---- the shapes that are built
 
@@ -163,26 +163,27 @@ dashed [] e last = not_nil last
 dashed (v ∷ vs) e last = not_nil (both_nil (turn_fault top names (at [] None 1 true) v) (walk_fault top names (walked top.rules names (at [] None 1 true) v) vs) e).0
 
 abbrev Entered : Text → Type 0
-Entered w = (codes "check" ≡ w) ⊎ (codes "search" ≡ w) ⊎ (codes "run" ≡ w) ⊎ (codes "simulate" ≡ w) ⊎ (codes "find" ≡ w)
+Entered w = (codes "check" ≡ w) ⊎ (codes "search" ≡ w) ⊎ (codes "run" ≡ w) ⊎ (codes "simulate" ≡ w) ⊎ (codes "find" ≡ w) ⊎ (codes "judge" ≡ w)
 
 pub top_words : (w : Text) (rest : List Text) → walk_fault top names (walk_from nothing_held) (w ∷ rest) ≡ [] → TopCheck w rest ≡ [] → Entered w
 unfolding clap_on_literals
-top_words w rest e last = go (bytes_eq (codes "check") w) refl (bytes_eq (codes "search") w) refl (bytes_eq (codes "find") w) refl (bytes_eq (codes "run") w) refl (bytes_eq (codes "simulate") w) refl (bytes_eq (codes "help") w) refl (bytes_eq w (codes "--")) refl
+top_words w rest e last = go (bytes_eq (codes "judge") w) refl (bytes_eq (codes "check") w) refl (bytes_eq (codes "search") w) refl (bytes_eq (codes "find") w) refl (bytes_eq (codes "run") w) refl (bytes_eq (codes "simulate") w) refl (bytes_eq (codes "help") w) refl (bytes_eq w (codes "--")) refl
   where
     first : turn_fault top names (at [] None 1 false) w ≡ []
     first = (both_nil (turn_fault top names (at [] None 1 false) w) (walk_fault top names (walked top.rules names (at [] None 1 false) w) rest) e).0
 
-    go : (a : Bool) → bytes_eq (codes "check") w ≡ a → (f : Bool) → bytes_eq (codes "search") w ≡ f → (g : Bool) → bytes_eq (codes "find") w ≡ g → (n : Bool) → bytes_eq (codes "run") w ≡ n → (s : Bool) → bytes_eq (codes "simulate") w ≡ s → (b : Bool) → bytes_eq (codes "help") w ≡ b
+    go : (j : Bool) → bytes_eq (codes "judge") w ≡ j → (a : Bool) → bytes_eq (codes "check") w ≡ a → (f : Bool) → bytes_eq (codes "search") w ≡ f → (g : Bool) → bytes_eq (codes "find") w ≡ g → (n : Bool) → bytes_eq (codes "run") w ≡ n → (s : Bool) → bytes_eq (codes "simulate") w ≡ s → (b : Bool) → bytes_eq (codes "help") w ≡ b
         → (d : Bool) → bytes_eq w (codes "--") ≡ d → Entered w
-    go true p f m g l n o s t b q d r = inl ((bytes_eq-Decides (codes "check") w).0 p)
-    go false p true m g l n o s t b q d r = inr (inl ((bytes_eq-Decides (codes "search") w).0 m))
-    go false p false m true l n o s t b q d r = inr (inr (inr (inr ((bytes_eq-Decides (codes "find") w).0 l))))
-    go false p false m false l true o s t b q d r = inr (inr (inl ((bytes_eq-Decides (codes "run") w).0 o)))
-    go false p false m false l false o true t b q d r = inr (inr (inr (inl ((bytes_eq-Decides (codes "simulate") w).0 t))))
-    go false p false m false l false o false t true q d r = absurd (not_nil (rw (p, m, l, o, t, q) at (turn_parts top names [] None 1 w first).0))
-    go false p false m false l false o false t false q true r = let is = (bytes_eq-Decides w (codes "--")).0 r in
+    go true u a p f m g l n o s t b q d r = inr (inr (inr (inr (inr ((bytes_eq-Decides (codes "judge") w).0 u)))))
+    go false u true p f m g l n o s t b q d r = inl ((bytes_eq-Decides (codes "check") w).0 p)
+    go false u false p true m g l n o s t b q d r = inr (inl ((bytes_eq-Decides (codes "search") w).0 m))
+    go false u false p false m true l n o s t b q d r = inr (inr (inr (inr (inl ((bytes_eq-Decides (codes "find") w).0 l)))))
+    go false u false p false m false l true o s t b q d r = inr (inr (inl ((bytes_eq-Decides (codes "run") w).0 o)))
+    go false u false p false m false l false o true t b q d r = inr (inr (inr (inl ((bytes_eq-Decides (codes "simulate") w).0 t))))
+    go false u false p false m false l false o false t true q d r = absurd (not_nil (rw (u, p, m, l, o, t, q) at (turn_parts top names [] None 1 w first).0))
+    go false u false p false m false l false o false t false q true r = let is = (bytes_eq-Decides w (codes "--")).0 r in
         absurd (dashed rest (subst (λ x. walk_fault top names (walk_from nothing_held) (x ∷ rest) ≡ []) is e) (subst (λ x. TopCheck x rest ≡ []) is last))
-    go false p false m false l false o false t false q false r = absurd (not_nil (other_turn top top_help names [] None 1 w (any_name (long_of w)) (rw (p, m, l, o, t, q) refl) r first).1)
+    go false u false p false m false l false o false t false q false r = absurd (not_nil (other_turn top top_help names [] None 1 w (any_name (long_of w)) (rw (u, p, m, l, o, t, q) refl) r first).1)
 
 -- past the subcommand each word is left to it
 pub stopped_walk : (c : List Rule) (ns : Names) (v : Walk) (p : Text × List Text) (rest : List Text) → (fold (walked c ns) (record v { stopped = Some p }) rest).stopped ≡ Some (p.0, p.1 ++ rest)
@@ -309,6 +310,19 @@ stops_search rest = stopped_walk top.rules names (at [] None 1 false) (codes "se
 pub enters_search : (rest : List Text) → entered (built command) (walk top.rules names nothing_held (codes "search" ∷ rest)).stopped ≡ Some (codes "search", rows_after sought.rules [] rest)
 unfolding clap_on_literals
 enters_search rest = ap (entered (built command)) (stops_search rest)
+
+-- ---- the words behind `judge`
+
+abbrev pub judged : Shape
+judged = built_leaf (inherited (with_leaf_noted (marked_built command.top)) judge_command.top)
+
+stops_judge : (rest : List Text) → (walk top.rules names nothing_held (codes "judge" ∷ rest)).stopped ≡ Some (codes "judge", rest)
+unfolding clap_on_literals
+stops_judge rest = stopped_walk top.rules names (at [] None 1 false) (codes "judge", []) rest
+
+pub enters_judge : (rest : List Text) → entered (built command) (walk top.rules names nothing_held (codes "judge" ∷ rest)).stopped ≡ Some (codes "judge", rows_after judged.rules [] rest)
+unfolding clap_on_literals
+enters_judge rest = ap (entered (built command)) (stops_judge rest)
 
 -- ---- words that are plain
 
