@@ -99,7 +99,7 @@ impl<S: SeqObject> Model for Client<S> {
     ghost invariant = { λ c. IsClient S.op_in S.reply_in c.member.number c.member.calls c.member.quota c.member.outstanding c.member.journal c.member.seat.me × ArePlacesOf c.member.number c.member.seat.me.0.lists c.member.places };
 }
 
-/// A client that holds an object. It must be spent.
+/// A combiner: a client that holds an object, from `win` to `release`. It must be spent.
 pub struct Pass<S: SeqObject> {
     pub(crate) member: Member<S>,
     pub(crate) object: u32,
@@ -117,7 +117,7 @@ impl<S: SeqObject> Model for Pass<S> {
     ghost invariant = { λ p. IsPass S.content S.op_in S.reply_in p.member.number p.member.calls p.member.quota p.member.outstanding p.member.journal p.object p.core p.member.seat.me × ArePlacesOf p.member.number p.member.seat.me.0.lists p.member.places };
 }
 
-/// A client that holds an object and the request of a row. It must be spent.
+/// A combiner with the request of one row, which it must answer or put back. It must be spent.
 pub struct Hand<S: SeqObject> {
     pub(crate) member: Member<S>,
     pub(crate) object: u32,
@@ -149,7 +149,9 @@ impl<S: SeqObject> Client<S> {
         self.member.number
     }
 
-    /// Whether a call was posted whose answer was not taken.
+    /// Whether a call was posted whose answer was not taken. Its clauses say at any moment what the client knows of each
+    /// object: a legal log, with just those of its own calls that are over and were not refused, each once and in order, and the
+    /// outstanding one at most once.
     pub fn outstanding(&self) -> bool
         ensures outstanding { result ≡ is_waiting self.now.knows.own }
         // At every moment, what the client has seen of an object is a legal log.

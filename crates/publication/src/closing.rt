@@ -69,7 +69,8 @@ impl<S: SeqObject> Desk<S> {
         }
     }
 
-    /// Tells a client that another has retired.
+    /// Tells a client that another has retired, with its journal: `close` by that client then never names it, and records just this
+    /// journal for it.
     pub fn tell(&self, client: &mut Client<S>, retired: Retired<S>)
         requires client { client.old.desk ≡ self.now.id }
         requires retired { retired.table ≡ self.now.id.table }
@@ -81,7 +82,9 @@ impl<S: SeqObject> Desk<S> {
             .join_seat::<IsTold>(&mut client.member.seat, seat);
     }
 
-    /// Ends the last client and the desk. The error names the least other client that has not retired.
+    /// Closes the desk by its last client. Ok: a journal for each client, and a log for each object that is a valid order of the
+    /// calls on it; so the history is linearizable, outstanding calls being pending. Else desk and client come back, with the
+    /// least other client that has not retired.
     pub fn close(self, mut last: Client<S>) -> Result<Record<S>, Unretired<S>>
         requires { last.desk ≡ self.id }
         ensures closed { IfOk result (Closed S.op_in S.reply_in self last) }

@@ -142,7 +142,8 @@ impl<S: SeqObject> Desk<S> {
         self.has_kind(object, S::kind_of(op))
     }
 
-    /// Posts a call. It takes one ticket, unless it is refused, and then nothing changes.
+    /// Posts a call: its invocation, with its ticket, is the last event of the journal. Where it is refused nothing changes, and
+    /// no ticket is taken. It does not enlist the row. That the ticket is a new one is said by the record of `close`.
     pub fn post(&self, client: &mut Client<S>, object: u32, op: S::Op) -> Result<(), Post>
         requires { client.old.desk ≡ self.now.id }
         ensures desk { client.new.desk ≡ client.old.desk }
@@ -178,7 +179,9 @@ impl<S: SeqObject> Desk<S> {
         Ok(())
     }
 
-    /// Takes the answer of the outstanding call, if there is one. Taking it takes one ticket.
+    /// Tries the own row once. An answer is taken, and the ticket of the return drawn; the client has then seen a legal log of
+    /// the object that goes on from what it had seen, and has the call where the answer is a reply. Where the client knows
+    /// that its row is answered, it is never None.
     pub fn poll(&self, client: &mut Client<S>) -> Option<Answer<S::Reply>>
         requires { client.old.desk ≡ self.now.id }
         ensures desk { client.new.desk ≡ client.old.desk }
@@ -212,7 +215,8 @@ impl<S: SeqObject> Desk<S> {
         }
     }
 
-    /// Tries the lock word of the object once.
+    /// Tries once to become the object's combiner. Won: its log is legal, and goes on from what the client had seen. Held: the
+    /// try missed, and nothing was waited for.
     pub fn win(&self, client: Client<S>, object: u32) -> Win<S>
         requires desk { client.desk ≡ self.now.id }
         requires object { object < length self.now.id.kinds }

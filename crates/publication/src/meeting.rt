@@ -9,7 +9,8 @@ use crate::plays::{Adopts, Hears, Learns, Tells};
 use seq_objects::SeqObject;
 
 impl<S: SeqObject> Desk<S> {
-    /// Afterwards both have seen one log of the object.
+    /// Two clients tell each other what they have seen of the object's log: afterwards both have seen one legal log, which goes on
+    /// from what each had seen.
     pub fn meet(&self, one: Client<S>, other: Client<S>, object: u32) -> (Client<S>, Client<S>)
         requires one { one.desk ≡ self.now.id }
         requires other { other.desk ≡ self.now.id }

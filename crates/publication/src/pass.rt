@@ -26,7 +26,9 @@ impl<S: SeqObject> Pass<S> {
         self.member.number
     }
 
-    /// Tries the row once, for a request for this object. A row past the last client has none.
+    /// Tries once to pick up the row's request for this object. Got: it is of the object's kind; if this pass had put one back
+    /// there it is that one, and at the own row it is the own call. Not: there was none, so this pass had put none back there, and
+    /// at the own row an own call on this object is answered. A row past the last client has none.
     pub fn pick(self, desk: &Desk<S>, row: u32) -> Picked<S>
         requires desk { self.desk ≡ desk.now.id }
         requires row { row < 32 }
@@ -70,7 +72,7 @@ impl<S: SeqObject> Pass<S> {
         }
     }
 
-    /// One more pass over the object: its number, which stays at the greatest once it is there.
+    /// Counts a pass, and gives its number, which stays at 2^64 - 1 once it is there. `set_age` gives it to rows.
     pub fn count_pass(&mut self) -> u64
         ensures counted { self.new ≡ record self.old { state = record self.old.state { passes = result } } }
         ensures raised { result ≡ min (self.old.state.passes + 1) (2 ^ 64 - 1) }
@@ -128,7 +130,7 @@ impl<S: SeqObject> Pass<S> {
         answer
     }
 
-    /// Puts the object back.
+    /// Puts the object back, so that another may win it. The client has seen the log as it then stood.
     pub fn release(self, desk: &Desk<S>) -> Client<S>
         requires { self.desk ≡ desk.now.id }
         ensures desk { result.desk ≡ self.desk }

@@ -11,7 +11,8 @@ use seq_objects::SeqObject;
 use std::alloc::AllocError;
 
 impl<S: SeqObject> Desk<S> {
-    /// Tries once to put the client's row in front of the publication list of the object. Only a step on the list adds a try.
+    /// Tries once to put the client's row at the head of the publication list of the object. Already: it is marked active; Listed:
+    /// it was put in; Missed: another row came first. The places remember the try, which only a step on that list can add.
     pub fn enlist(&self, client: &mut Client<S>, object: u32) -> Enlist
         requires client { client.old.desk ≡ self.now.id }
         requires object { object < length self.now.id.kinds }
@@ -27,7 +28,7 @@ impl<S: SeqObject> Desk<S> {
 
 impl<S: SeqObject> Pass<S> {
     /// Walks the object's publication list: it meets newcomers, and then the rows that the last combiner left, in their
-    /// order. They are the whole list, as a load of its head found it.
+    /// order. They are the whole list at one moment of this walk, as a load of its head found it.
     pub fn walk(&mut self)
         ensures same { self.new ≡ record self.old { state = record self.old.state { list = self.new.state.list } } }
         // It is the list in which clients enlist for this object.
@@ -49,7 +50,8 @@ impl<S: SeqObject> Pass<S> {
         self.core.inside.list.rows()
     }
 
-    /// Takes a row out of the list, which is not the first that was met, and marks it inactive.
+    /// Takes the row at this place, which is not the first that was met, out of the list, and marks it inactive, so that its owner can
+    /// list it again. A later walk meets it only as a newcomer.
     pub fn unlink(&mut self, at: usize)
         requires { (1 ≤ at) × (at < length self.old.state.list.rows) }
         ensures unlinked { self.new ≡ record self.old { state = record self.old.state { list = record self.old.state.list { rows = remove self.old.state.list.rows at } } } }
@@ -58,7 +60,7 @@ impl<S: SeqObject> Pass<S> {
         self.core.inside.list.unlink(at);
     }
 
-    /// The age of a row: 0 at first.
+    /// The number of the pass that last set the row's age, 0 before.
     pub fn age(&self, row: u32) -> u64
         requires { row < 32 }
         ensures { result ≡ slice_index self.now.state.ages row }
@@ -66,7 +68,7 @@ impl<S: SeqObject> Pass<S> {
         self.core.inside.ages[row as usize]
     }
 
-    /// Makes the row as old as this pass.
+    /// Gives the row the number of this pass as its age.
     pub fn set_age(&mut self, row: u32)
         requires { row < 32 }
         ensures { self.new ≡ record self.old { state = record self.old.state { ages = slice_set self.old.state.ages row self.old.state.passes } } }
