@@ -20,7 +20,7 @@ use Rattle.commands.specs.Searches.{answer_line, answers_text, is_impossible, is
 
 -- ---- by the status
 
-pub yes_of : (b c : Bool) → (if b then no_status else if c then yes_status else no_memory_status) ≡ yes_status → c ≡ true
+yes_of : (b c : Bool) → (if b then no_status else if c then yes_status else no_memory_status) ≡ yes_status → c ≡ true
 yes_of true c e = absurd cc
 yes_of false true e = refl
 yes_of false false e = absurd cc
@@ -61,7 +61,7 @@ has_one OutOfSteps e = absurd cc
 has_one TooLarge e = absurd cc
 has_one NoMemory e = absurd cc
 
-pub each_found : (answers : List (ℕ × Search)) → list_all (λ a. is_found a.1.found) answers ≡ true → (a : ℕ × Search) → In a answers → IsFound a.1
+each_found : (answers : List (ℕ × Search)) → list_all (λ a. is_found a.1.found) answers ≡ true → (a : ℕ × Search) → In a answers → IsFound a.1
 each_found [] e a i = absurd i
 each_found (b ∷ rest) e a i =
     let parts = both (is_found b.1.found) (list_all (λ a. is_found a.1.found) rest) e in

@@ -124,7 +124,7 @@ fn judge_events<R: Threads + Sync>(
     history: &History,
     steps: u32,
 ) -> Result<Output, Verdict>
-    ensures open { IfOk result (λ s. AreOpen history.now steps s.status s.text.items) }
+    ensures notes { IfOk result (λ s. AreOpen history.now steps s.status s.text.items) }
     ensures judged { IfErr result (IsVerdictOn history.now) }
 {
     let Ok(answers) = decide_all(alloc, history, u64::from(steps)) else {
@@ -146,7 +146,7 @@ fn judge_text<R: Threads + Sync>(
     text: &[u8],
     steps: u32,
 ) -> Result<Output, Verdict>
-    ensures open { IfOk result (λ s. IsOpenText text.now steps s.status s.text.items) }
+    ensures notes { IfOk result (λ s. IsOpenText text.now steps s.status s.text.items) }
     ensures judged { IfErr result (IsVerdictOnText text.now) }
 {
     match history_in(alloc, text) {

@@ -1,15 +1,17 @@
-use Rattle.std.proofs.Common.{rules, ◌≡◌, ◌≢◌, ◌++◌, ℕ, List, false, true, OnOk, IfOk, IfErr, ◌+◌, ◌-◌, ◌*◌, ◌<◌, ◌≤◌, length, ◌/◌, ◌%◌, Bool, nat_eq, nat_lt, [], ◌∷◌, slice_index_or, slice_set, bit_and, bit_or, Fits, w8, w32, w64, Bor, MutBor}
-use Rattle.std.specs.Io.KnownBytes.{Appends}
-use Rattle.certificate.specs.Denotes.{AreDistinct}
-use Rattle.checker.specs.Refusals.{AreValid}
-use Rattle.search.specs.Answers.{certificates_in}
-use Rattle.edn.specs.Sent.{SendsFront}
-use Rattle.judging.specs.Texts.{IsLinearizableText}
-use Rattle.commands.specs.Judged.{note_line, notes_text, AreOpen, IsJudgeOutput, IsOpenText, IsVerdictOn, IsVerdictOnText}
-use Rattle.commands.specs.Searches.{search_status, IsNotLinearizableText}
-use Rattle.commands.specs.Statuses.{failed_status, no_status, yes_status}
+use Rattle.std.proofs.Common.{◌∙◌, ℕ, ap, sym, subst}
+use Rattle.std.specs.List.{list_all}
+use Rattle.search.specs.declared.found.Search.{Search}
+use Rattle.commands.specs.Judged.{notes_text, AreOpen}
+use Rattle.commands.specs.Searches.{is_found, search_status}
+use Rattle.commands.proofs.Judged.{are_open}
 use Rattle.commands.proofs.judgement.judge_events.Goals as goal
 
--- src/judgement.rt:129:1
-pub returns-in-Ok-output_of-clause-open : goal.returns-in-Ok-output_of-clause-open
-returns-in-Ok-output_of-clause-open g c = ?
+pub returns-in-Ok-output_of-clause-notes : goal.returns-in-Ok-output_of-clause-notes
+returns-in-Ok-output_of-clause-notes g c =
+    let answers = c.in-Ok.answers.items in
+    let e = c.in-Ok.ensures in
+    let o = c.in-Ok-output_of.output in
+    let some = sym (c.are_all_found.ensures ∙ ap (list_all (λ (a : ℕ × Search). is_found a.1.found)) c.deref.ensures.value) ∙ c.if-are_all_found.false in
+    let status = c.in-Ok-output_of.ensures.status ∙ ap search_status c.deref-2.ensures.value in
+    let text = c.in-Ok-output_of.ensures.text ∙ ap notes_text c.deref-2.ensures.value in
+    subst (λ limit. AreOpen c.args.history.now limit o.status o.text.items) c.from.ensures (are_open c.args.history.now c.from.result o.status o.text.items answers e.rising e.named e.decisions e.impossible some status text)

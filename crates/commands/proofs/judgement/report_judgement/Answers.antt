@@ -8,7 +8,7 @@ pub returns-in-Ok-clause-front : goal.returns-in-Ok-clause-front
 returns-in-Ok-clause-front g c e =
     let o = c.in-Ok.output in
     let sent : SendsFront (g.S.Sink.sent c.args.sink.now) (g.S.Sink.sent c.write_bytes.new.sink) o.text.items = search rules in
-    (o.status, o.text.items, inl c.in-Ok.ensures.open, sent)
+    (o.status, o.text.items, inl c.in-Ok.ensures.notes, sent)
 
 pub returns-clause-front : goal.returns-clause-front
 returns-clause-front g c e =
