@@ -3,7 +3,6 @@ pub mod Keys
 pub mod Strings
 pub mod Parts
 pub mod Words
-pub mod Stack
 pub mod Pairs
 pub mod Lexical
 pub mod Consumed
@@ -12,7 +11,6 @@ pub mod Atoms
 pub mod Next
 pub mod Kept
 pub mod Closing
-pub mod Copies
 pub mod Progress
 pub mod Fronts
 pub mod Escapes
@@ -33,3 +31,5 @@ pub mod Turns
 pub mod Tables
 pub mod Runs
 pub mod Following
+pub mod Formed
+pub mod Standing

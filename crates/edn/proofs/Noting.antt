@@ -1,13 +1,13 @@
 -- What is noted of an element's tokens, one by one, is the row of the element.
-use Rattle.std.proofs.Common.{◌≡◌, ℕ, zero, suc, ◌+◌, ◌-◌, Bool, true, false, List, [], ◌∷◌, ◌++◌, Option, Some, None, refl, sym, ap, ◌∙◌, append_assoc, add-one, arith}
+use Rattle.std.proofs.Common.{◌≡◌, ℕ, suc, ◌+◌, ◌-◌, Bool, true, false, List, [], ◌∷◌, ◌++◌, Option, Some, None, refl, sym, ap, ◌∙◌, append_assoc, add-one, arith}
 use Rattle.std.specs.Prelude.{ℤ, ◌==◌, nat_le, if◌then◌else◌, option_map, option_and_then}
 use Rattle.std.specs.Str.{bytes_eq}
 use Rattle.std.proofs.lemmas.Bool.{ne_eqb}
 use Rattle.std.proofs.lemmas.List.{append-nil}
 use Rattle.edn.specs.Datum.{nil, boolean, integer, string, keyword, Datum, atom, vector, dictionary, Items, no_items, item, Entries, no_entries, entry}
-use Rattle.edn.specs.Token.{Token, open_vector, close_vector, open_map, close_map, leaf, tokens_of, items_tokens, entries_tokens}
-use Rattle.edn.specs.Briefs.{integer_in, integers_in, row_of, row_under, row_at, Keeping, row_kept, Keep, nothing_kept, keep_all}
-use Rattle.edn.specs.Rows.{Row, nothing_noted, behind_other, note, note_all, noted, Held, nothing_held, hold, hold_all}
+use Rattle.edn.specs.Token.{Token, open_vector, close_vector, open_map, close_map, tokens_of, items_tokens, entries_tokens}
+use Rattle.edn.specs.Briefs.{integers_in, row_of, row_under, row_at, Keeping, row_kept, Keep, keep_all}
+use Rattle.edn.specs.Rows.{Row, nothing_noted, behind_other, note_all, noted, Held, nothing_held, hold, hold_all}
 use Rattle.edn.specs.declared.row.Stage.{Stage}
 use Rattle.edn.specs.declared.row.Stage.TheVariants.{Start, Key, Value, Other, Numbers, Whole, Over}
 

@@ -1,18 +1,13 @@
 -- How far a text is read: what was read is spelled so, and whatever the text spells goes on from here.
-use Rattle.std.proofs.Common.{◌≡◌, ◌≢◌, ℕ, ◌-◌, ◌≤◌, true, Result, Ok, Err, get_or, ◌<◌, Option, Some, None, List, [], ◌∷◌, ◌++◌, length, refl, sym, ap, subst, ◌∙◌, append_assoc, arith, inl, inr}
-use Rattle.std.specs.Prelude.{option_map, IsSome, ◌==◌, MatchResult, IfOk, IfErr}
-use Rattle.std.specs.Global.{Vec}
+use Rattle.std.proofs.Common.{◌≡◌, ℕ, ◌-◌, ◌≤◌, true, ◌<◌, Option, Some, None, List, [], ◌∷◌, ◌++◌, length, refl, sym, ap, subst, ◌∙◌, append_assoc, arith, inl, inr}
+use Rattle.std.specs.Prelude.{option_map, IsSome, ◌==◌}
 use Rattle.std.proofs.lemmas.Bool.{eqb-true}
 use Rattle.std.proofs.lemmas.List.{append-nil}
 use Rattle.std.specs.Str.{IsUtf8}
-use Rattle.edn.specs.Datum.{string, Datum, atom, items_of}
-use Rattle.edn.specs.View.{views}
-use Rattle.edn.specs.declared.form.Form.{Form}
-use Rattle.edn.specs.declared.fault.Stop.{Stop}
-use Rattle.edn.specs.declared.fault.Cause.TheVariants.{NoMemory}
+use Rattle.edn.specs.Datum.{string, Datum, items_of}
 use Rattle.edn.specs.Token.{Token, open_vector, close_vector, open_map, close_map, leaf}
 use Rattle.edn.specs.Spells.{Begins, IsNext, IsEnding, Lexes, Spells}
-use Rattle.edn.specs.Reading.{Next, after_token, end, bad, got, skip, first, got_string, string_at, next, Frame, in_text, in_vector, in_map, in_pair, put, takes_key, State, step, steps, opening, closed}
+use Rattle.edn.specs.Reading.{Next, after_token, end, bad, got, skip, first, next, in_text, State, step, steps, opening, closed}
 use Rattle.edn.proofs.Consumed.{IsPlain, consumed, step_tokens, list_tokens}
 use Rattle.edn.proofs.Strings.{some_is}
 use Rattle.edn.proofs.Complete.{items_list, steps_items}
@@ -20,8 +15,7 @@ use Rattle.edn.proofs.Splits.{after_gap, after_begins}
 use Rattle.edn.proofs.Kept.{StateFits, step_fits}
 use Rattle.edn.proofs.Closing.{IsGrounded, step_grounded, closable}
 use Rattle.edn.specs.Sound.{BeginWith, IsSoundAt}
-use Rattle.edn.proofs.Lexical.{with_rest, mapped_pair, skip_within, first_shorter}
-use Rattle.std.proofs.lemmas.Str.{IsUtf8-nil}
+use Rattle.edn.proofs.Lexical.{with_rest, skip_within, first_shorter}
 use Rattle.edn.proofs.Next.{gap_of, FirstIs, first_is, IsNextOf, next_is, next_from, ending_next}
 
 pub record Progress (text rest : List ℕ) (s : State) : Type 0 where
@@ -135,15 +129,6 @@ closed_are ds es e = let f : in_text ds ≡ in_text es = ap (λ (s : State). s.i
 
 -- ---- the laws of one turn of the reader's loop
 
--- a token that was taken
-taken : (s : State) (n : Next) (z : State) (r : List ℕ) → after_token s n ≡ Some (z, r) → (t : Token) × (n ≡ got t r) × (step t s ≡ Some z)
-taken s end z r e = absurd cc
-taken s bad z r e = absurd cc
-taken s (got t q) z r e = let p = mapped_pair (step t s) q z r e in (t, ap (got t) p.1, p.0)
-
-pub turns : (text rest here : List ℕ) (s z : State) (r : List ℕ) → here ≡ skip rest → after_token s (first here) ≡ Some (z, r) → Progress text rest s → Progress text r z
-turns text rest here s z r h e p = let k = taken s (first here) z r e in goes_on text rest k.0 r s z (next_at rest here h ∙ k.1) k.2 p
-
 unmapped_pair : (o : Option State) (q : List ℕ) → option_map (with_rest q) o ≡ None → o ≡ None
 unmapped_pair None q e = refl
 unmapped_pair (Some x) q e = absurd cc
@@ -200,43 +185,10 @@ sound text rest here s h u p k = by_first here (first here) h refl k
     by_first here bad h f k = absurd cc
     by_first here (got t r) h f k = by_step here t r (step t s) h f refl k
 
--- ---- a string is no key
-
-not_put : (f : Frame) (s : List ℕ) → takes_key f ≡ true → put f (atom (string s)) ≡ None
-not_put (in_text ds) s e = absurd cc
-not_put (in_vector ds) s e = absurd cc
-not_put (in_map es) s e = refl
-not_put (in_pair es k) s e = absurd cc
-
-quote_not_taken : (s : State) (o : Option (List ℕ × List ℕ)) → takes_key s.inner ≡ true → after_token s (got_string o) ≡ None
-unfolding step
-quote_not_taken s None e = refl
-quote_not_taken s (Some p) e = rw (not_put s.inner p.0 e) refl
-
-pub no_string_key : (bytes : List ℕ) (s : State) → takes_key s.inner ≡ true → get_or bytes 0 0 ≡ 34 → after_token s (first bytes) ≡ None
-unfolding first
-no_string_key [] s e q = absurd cc
-no_string_key (b ∷ bs) s e q = let h : b ≡ 34 = q in rw h (quote_not_taken s (string_at bs) e)
-
 -- ---- the end of the text
 
 pub at_end : (rest here : List ℕ) → here ≡ skip rest → true ≡ (length here == 0) → next rest ≡ end
 at_end rest here h e = next_at_end rest here h (eqb-true (length here) 0 (sym e))
-
-pub end_spelled : (r : Result (Vec Form) Stop) (text rest here : List ℕ) (s : State) → here ≡ skip rest → true ≡ (length here == 0) → Progress text rest s → IsUtf8 text
-    → MatchResult r (λ v. s ≡ closed (views v.items)) (λ _. (ds : List Datum) → s ≡ closed ds → ⊥) → IfOk r (λ v. Spells (views v.items) text)
-end_spelled (Ok v) text rest here s h e p u m = spells_there text rest (views v.items) (at_end rest here h e) (subst (λ (z : State). Progress text rest z) m p) u
-end_spelled (Err x) text rest here s h e p u m = tt
-
-pub end_only : (r : Result (Vec Form) Stop) (text rest here : List ℕ) (s : State) → here ≡ skip rest → true ≡ (length here == 0) → Progress text rest s
-    → MatchResult r (λ v. s ≡ closed (views v.items)) (λ _. (ds : List Datum) → s ≡ closed ds → ⊥) → IfOk r (λ v. (ds : List Datum) → Spells ds text → ds ≡ views v.items)
-end_only (Ok v) text rest here s h e p m = λ ds k. closed_are ds (views v.items) (sym (ends_there text rest s (at_end rest here h e) p ds k) ∙ m)
-end_only (Err x) text rest here s h e p m = tt
-
-pub end_none : (r : Result (Vec Form) Stop) (text rest here : List ℕ) (s : State) → here ≡ skip rest → true ≡ (length here == 0) → Progress text rest s
-    → MatchResult r (λ v. s ≡ closed (views v.items)) (λ _. (ds : List Datum) → s ≡ closed ds → ⊥) → IfErr r (λ x. x.cause ≢ NoMemory → (ds : List Datum) → Spells ds text → ⊥)
-end_none (Ok v) text rest here s h e p m = tt
-end_none (Err x) text rest here s h e p m = λ _ ds k. m ds (ends_there text rest s (at_end rest here h e) p ds k)
 
 -- ---- a text has one reading
 
@@ -253,12 +205,3 @@ pub one_reading_of : (ds es : List Datum) (text : List ℕ) → Spells ds text �
 one_reading_of ds es text h k =
     let ts : list_tokens ds ≡ list_tokens es = same_tokens (list_tokens ds) (list_tokens es) text h.tokens k.tokens in
     closed_are ds es (some_is (closed ds) (closed es) (sym (leads ds text h) ∙ ap (λ (x : List Token). steps x opening) ts ∙ leads es text k))
-
--- ---- what is left is UTF-8 at each token
-
-skipped : (rest here : List ℕ) → skip rest ≡ here → IsUtf8 rest → IsUtf8 here
-skipped rest [] e u = IsUtf8-nil
-skipped rest (b ∷ bs) e u = let g = gap_of rest b bs e in after_gap rest g.0 (b ∷ bs) g.1 g.2 u
-
-pub skip_utf8 : (text rest here : List ℕ) (s : State) → here ≡ skip rest → Progress text rest s → IsUtf8 here
-skip_utf8 text rest here s e p = skipped rest here (sym e) p.utf8

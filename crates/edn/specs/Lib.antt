@@ -15,11 +15,12 @@ pub mod Sent
 pub mod Writing
 pub mod View
 pub mod Reading
-pub mod Inside
 pub mod Results
 pub mod Shapes
 pub mod NameSets
 pub mod Pieces
+pub mod Forming
+pub mod Formings
 pub mod Levels
 pub mod Briefs
 pub mod Rows

@@ -9,6 +9,7 @@ ghost use Rattle.edn.specs.Spells.{Spells};
 ghost use Rattle.edn.specs.Tapes.{open_on};
 
 use crate::fault::{EdnFault, FaultKind};
+use crate::lexer::skip;
 use crate::piece::Piece;
 use crate::reader::MAX_LENGTH;
 use crate::tape::{Keeping, Tape};
@@ -33,6 +34,7 @@ impl<'a> Elements<'a> {
     ghost use Rattle.edn.specs.Left.{left_of, start_of, keeping_in, tokens_in, row_in};
     ghost use Rattle.edn.specs.Briefs.{all_kept, brief_kept, brief_and_row};
     ghost use Rattle.edn.specs.Pieces.{tape_tokens};
+    ghost use Rattle.edn.specs.Reading.{skip};
 
     /// A text that is too long is not looked at; then comes whether it is UTF-8 as a whole. No memory
     /// is taken.
@@ -102,6 +104,13 @@ impl<'a> Elements<'a> {
         ensures unreadable { IfErr result (IsUnreadable text.entry.now) }
     {
         Elements::over(alloc, true, Some(key), text)
+    }
+
+    /// The byte of the text at which the next token begins, or the text's length where there is none.
+    pub(crate) fn place(&self) -> usize
+        ensures { result + length (skip (left_of self.now)) ≡ start_of self.now + length (left_of self.now) }
+    {
+        self.whole - skip(self.rest.as_bytes()).len()
     }
 
     /// Reads the next element, or says that there is none. After an error what is left stays as it

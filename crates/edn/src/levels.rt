@@ -6,10 +6,12 @@ ghost use Rattle.edn.specs.Shapes as spec;
 
 use crate::fault::Cause;
 use crate::piece::Piece;
-use crate::state::MAX_OPEN;
 use std::alloc::{AllocError, Global};
 use std::collections::HashSet;
 use std::mem;
+
+/// How many vectors and maps may be open at once.
+pub const MAX_OPEN: usize = 16;
 
 /// From how many keys on they stand in a set too.
 const MANY: usize = 16;

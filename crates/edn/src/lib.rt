@@ -10,9 +10,9 @@
 mod brief;
 mod bytes;
 mod elements;
-mod entries;
 mod fault;
 mod form;
+mod forming;
 mod laws;
 mod levels;
 mod lexer;
@@ -22,7 +22,6 @@ mod reader;
 mod row;
 mod sink;
 mod source;
-mod state;
 mod string;
 mod tape;
 mod word;

@@ -1,15 +1,10 @@
 //! What a single word stands for.
-ghost use Rattle.std.specs.Prelude.{◌≡◌, ◌≢◌, ◌<◌, ◌≤◌, ◌+◌, ◌-◌, ◌*◌, ◌^◌, option_map, slice_index, IfSome, IfNone, IfErr};
+ghost use Rattle.std.specs.Prelude.{◌≡◌, ◌≢◌, ◌<◌, ◌≤◌, ◌+◌, ◌-◌, ◌*◌, ◌^◌, IfSome, IfNone};
 ghost use Rattle.edn.specs.Spells as spec;
-ghost use Rattle.edn.specs.Reading.{integer_of, positive_of, negative_of, atom_of, literal_of, keyword_of};
-ghost use Rattle.edn.specs.Results.{Gives};
-ghost use Rattle.edn.specs.Datum.{atom};
-ghost use Rattle.edn.specs.View.{view};
+ghost use Rattle.edn.specs.Reading.{integer_of, positive_of, negative_of};
 
-use crate::bytes::{after_digits, are_digits, is_digit, is_name};
+use crate::bytes::{after_digits, are_digits, is_digit};
 use crate::fault::Cause;
-use crate::form::{Form, Name};
-use std::alloc::Global;
 
 fn is_decimal(digits: &[u8]) -> bool
     ensures { result ≡ spec.is_decimal digits.now }
@@ -100,49 +95,5 @@ pub fn fault_of(word: &[u8]) -> Cause
         [b'.', ..] | [b'e', ..] | [b'E', ..] | [b'N', ..] | [b'M', ..] => Cause::NotInProfile,
         [] if is_decimal(digits) => Cause::NumberRange,
         _ => Cause::BadToken,
-    }
-}
-
-#[tactic(auto, unfolding(crate::specs::Reading::keyword_of))]
-fn keyword(alloc: Global, name: &[u8]) -> Result<Form, Cause>
-    ensures { Gives view result (option_map atom (keyword_of name.now)) }
-{
-    if !is_name(name) {
-        return Err(Cause::BadToken);
-    }
-    Ok(Form::Keyword(Name::from_bytes(alloc, name)?))
-}
-
-#[tactic(auto, unfolding(crate::specs::Reading::literal_of))]
-fn literal(word: &[u8]) -> Result<Form, Cause>
-    ensures form { Gives view result (option_map atom (literal_of word.now)) }
-    ensures no_copy { IfErr result (λ e. e ≢ Cause.NoMemory) }
-{
-    if word == b"nil".as_slice() {
-        return Ok(Form::Nil);
-    }
-    if word == b"true".as_slice() {
-        return Ok(Form::Bool(true));
-    }
-    if word == b"false".as_slice() {
-        return Ok(Form::Bool(false));
-    }
-    match integer(word) {
-        Some(number) => Ok(Form::Int(number)),
-        None => Err(fault_of(word)),
-    }
-}
-
-/// The form that a word stands for.
-#[tactic(auto, unfolding(crate::specs::Reading::atom_of))]
-pub fn form_of(alloc: Global, word: &[u8]) -> Result<Form, Cause>
-    ensures form { Gives view result (option_map atom (atom_of word.now)) }
-    // Memory is taken for keywords alone.
-    ensures copied { IfErr result (λ e. e ≡ Cause.NoMemory → slice_index word.now 0 ≡ 58) }
-{
-    match word {
-        [] => Err(Cause::NotInProfile),
-        [b':', name @ ..] => keyword(alloc, name),
-        [_, ..] => literal(word),
     }
 }
