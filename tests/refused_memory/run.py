@@ -80,7 +80,11 @@ def cases():
         certificates = f"{DATA}/{name}.certificates.edn"
         if os.path.exists(certificates):
             yield ["check", f"{DATA}/{name}.history.edn", certificates]
-        yield ["search", f"{DATA}/{name}.history.edn"]
+        # what is never found would take all its steps at each refusal
+        few = ["--steps", "1000"] if name == "never_enqueued" else []
+        yield ["search", *few, f"{DATA}/{name}.history.edn"]
+        yield ["find", f"{DATA}/{name}.history.edn"]
+        yield ["judge", *few, f"{DATA}/{name}.history.edn"]
     for name in ("two_queues", "not_in_order"):
         yield ["check", "--workers", "4", f"{DATA}/{name}.history.edn", f"{DATA}/{name}.certificates.edn"]
     for name in sorted(os.listdir(DATA)):
@@ -114,7 +118,7 @@ def devices(runs):
     """Output that fails, and files that can't be read."""
     wrong = []
     history, certificates = f"{DATA}/queue.history.edn", f"{DATA}/queue.certificates.edn"
-    for words in (["check", history, certificates], ["search", history], ["run"]):
+    for words in (["check", history, certificates], ["search", history], ["find", history], ["judge", history], ["run"]):
         with open("/dev/full", "w") as full:
             ran = subprocess.run([runs.program, *words], stdout=full, stderr=subprocess.PIPE, timeout=60)
         if ran.returncode != 4:
@@ -125,11 +129,11 @@ def devices(runs):
         os.close(ends[1])
         if ran.returncode not in (4, -signal.SIGPIPE):
             wrong.append((words + ["a closed pipe"], 0, ran))
-    for words in (["check", DATA, certificates], ["check", history, DATA], ["search", DATA], ["simulate", "/nowhere"]):
+    for words in (["check", DATA, certificates], ["check", history, DATA], ["search", DATA], ["find", DATA], ["judge", "/nowhere"], ["simulate", "/nowhere"]):
         ran = runs.plain(words)
         if ran.returncode != 4 or b"cannot read" not in ran.stderr or ran.stdout:
             wrong.append((words, 0, ran))
-    print(f"10 runs with a device that fails: {len(wrong)} wrong")
+    print(f"16 runs with a device that fails: {len(wrong)} wrong")
     return wrong
 
 

@@ -40,7 +40,7 @@ pub enum Line {
         steps: u32,
         first: TryFirst,
     },
-    /// To find certificates of the history in a file, without a search.
+    /// To find certificates of the history in a file, in the ways of the finder.
     Find {
         history: String,
     },

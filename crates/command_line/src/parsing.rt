@@ -167,7 +167,7 @@ fn find_command<'a>(alloc: Global) -> Result<Command<'a>, AllocError>
         .help("a file of Jepsen operation maps")
         .required(true);
     Command::new(alloc, "find")
-        .about("finds certificates of a history where that needs no search")
+        .about("finds certificates of a history, also of a long one")
         .arg(history)
 }
 

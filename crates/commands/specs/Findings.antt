@@ -1,4 +1,4 @@
--- What is put out where certificates are found without a search, and its exit status.
+-- What is put out where the finder looks for certificates, and its exit status.
 use Rattle.std.specs.Prelude.{◌≡◌, ◌<◌, ◌↔◌, ◌⊎◌, ℕ, Bool, true, false, List, [], ◌∷◌, ◌++◌, codes, decimal, map, All, AllPairs, Contains, if◌then◌else◌}
 use Rattle.std.specs.List.{list_all}
 use Rattle.events.specs.declared.event.Event.{Event}

@@ -1,4 +1,4 @@
-//! Certificates of a history that are found without a search.
+//! Certificates of a history that the finder finds.
 
 ghost use Rattle.std.specs.Prelude.{◌≡◌, ◌≢◌, ◌++◌, ℕ, List, false, true, codes, decimal, OnOk, IfOk, IfErr};
 ghost use Rattle.std.specs.Io.KnownBytes.{Appends};

@@ -56,8 +56,9 @@ fn check<R: Threads + Sync, S: Sink>(
 }
 
 /// Does the command on the bytes of its first and second file (empty where it has none), writes its output, and gives
-/// the exit status: 0 for yes, 1 for no, 2 where a text is malformed or a client of a schedule has not ended, 3 where
-/// memory was refused or a thread could not be started, 4 where the output failed.
+/// the exit status: 0 for yes, or where each object has a certificate; 1 for no, or where an object is impossible; 2 where a
+/// text is malformed or a client of a schedule has not ended; 3 where memory was refused, a thread could not be started, or some
+/// object stays open; 4 where the output failed.
 pub fn perform<R: Threads + Wait + Sync, S: Sink>(
     rt: &R,
     alloc: Global,
@@ -88,7 +89,7 @@ pub fn perform<R: Threads + Wait + Sync, S: Sink>(
     ensures certified { IfSearch line.now (λ _. result ≡ yes_status →
         (out : List ℕ) × AreCertificatesFor first.now out × Appends (S.sent sink.old) (S.sent sink.new) out) }
     ensures refuted { IfSearch line.now (λ _. result ≡ no_status → IsNotLinearizableText first.now) }
-    // Certificates that are found without a search are valid for the history, or some object stays open.
+    // Certificates that the finder finds are valid for the history, or some object stays open.
     ensures find_written { IsFind line.now → result ≢ failed_status →
         (out : List ℕ) × IsFindOutput first.now result out
         × Appends (S.sent sink.old) (S.sent sink.new) out }

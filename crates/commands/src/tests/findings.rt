@@ -1,4 +1,4 @@
-//! What is put out where certificates are found without a search: lines and status.
+//! What is put out where the finder looks for certificates: lines and status.
 
 use super::*;
 use table::{IN_TURN, ONE_BY_ONE, OVERLAPPING, TWO_QUEUES, YES};
