@@ -119,12 +119,12 @@ fn failing_output_of_certificates(rt: HostRuntime) -> Result<(), Fail> {
     for row in &FINDINGS {
         let lines = row.output.as_bytes();
         for room in 0..lines.len() {
-            let mut bytes = [0; 100];
-            let mut sink = Out::new(&mut bytes[..room]);
+            let mut bytes = vec![in rt.alloc(); 0; room]?;
+            let mut sink = Out::new(bytes.as_mut_slice());
             let history = row.history.as_bytes();
             let status = perform(&rt, rt.alloc(), &line, history, b"", &mut sink);
             assert_eq!(rt; status, FAILED);
-            assert_eq!(rt; &bytes[..room], &lines[..room]);
+            assert_eq!(rt; bytes.as_slice(), &lines[..room]);
         }
     }
     Ok(())
