@@ -1,6 +1,6 @@
 use super::*;
 use checker::check_object;
-use events::split;
+use events::{ObjectHistory, split};
 use history::read_history_text;
 use std::alloc::Global;
 use std::test::Fail;
@@ -32,6 +32,17 @@ fn words_of(alloc: Global, answer: &Search) -> Result<String, Fail> {
     })
 }
 
+/// Whether what was found, if anything was, is accepted by the checker.
+fn is_accepted(alloc: Global, object: &ObjectHistory, answer: &Search) -> bool {
+    match &answer.found {
+        Found::Found(certificate) if certificate.object == object.object() => {
+            check_object(alloc, object, certificate).is_ok()
+        }
+        Found::Found(_) => false,
+        _ => true,
+    }
+}
+
 /// Compares the decisions on all objects of the history, and those on each alone, with what they must be.
 fn decisions(alloc: Global, limit: u64, wanted: &[(u32, &str)]) -> Result<(), Fail> {
     let Ok(history) = read_history_text(alloc, HISTORY.as_bytes()) else {
@@ -51,10 +62,8 @@ fn decisions(alloc: Global, limit: u64, wanted: &[(u32, &str)]) -> Result<(), Fa
         {
             return Err(Fail::new("another decision"));
         }
-        if let Found::Found(certificate) = &answer.found {
-            if check_object(alloc, &objects[k], certificate).is_err() {
-                return Err(Fail::new("what was found is refused"));
-            }
+        if !is_accepted(alloc, &objects[k], answer) {
+            return Err(Fail::new("what was found is not valid"));
         }
     }
     Ok(())
