@@ -25,10 +25,6 @@ begin_both : (ts us : List Token) (text mid rest : List ℕ) → BeginWith ts te
 begin_both [] us text mid rest b k = subst (λ (x : List ℕ). BeginWith us x rest) (sym b) k
 begin_both (t ∷ ts) us text mid rest (q, n, b) k = (q, n, begin_both ts us q mid rest b k)
 
--- nothing is read yet
-pub no_front : (text : List ℕ) → SpellsFront text [] text
-no_front text = record { begins = refl; fits = tt; on = λ es k. k; only = λ es k. (es, refl, k) }
-
 -- a front, and forms behind it
 pub front_more : (text mid rest : List ℕ) (ds more : List Datum) → SpellsFront text ds mid → SpellsFront mid more rest → SpellsFront text (ds ++ more) rest
 front_more text mid rest ds more f g =

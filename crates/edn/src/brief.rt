@@ -45,17 +45,28 @@ impl<'a> Brief<'a> {
         self.room = 0;
     }
 
+    /// One more token, which may ask for room.
+    #[cold]
+    #[inline(never)]
+    fn push_growing(&mut self, piece: Piece<'a>) -> Result<(), AllocError>
+        ensures { OnOk result (kept_in self.new
+            ≡ spec.pushed (piece_token piece.entry) (kept_in self.old)) }
+    {
+        self.pieces.push(piece)?;
+        Ok(())
+    }
+
     #[inline(always)]
     fn push(&mut self, piece: Piece<'a>) -> Result<(), AllocError>
-        ensures { OnOk result (kept_in self.new ≡ spec.pushed (piece_token piece.entry) (kept_in self.old)) }
+        ensures { OnOk result (kept_in self.new
+            ≡ spec.pushed (piece_token piece.entry) (kept_in self.old)) }
     {
         // Most pushes find room: these are made here, and only the others by a call.
         if self.pieces.len() < self.pieces.capacity() {
             self.pieces.push_reserved(piece);
             return Ok(());
         }
-        self.pieces.push(piece)?;
-        Ok(())
+        self.push_growing(piece)
     }
 
     /// An element of a value, where it has room.
@@ -138,7 +149,8 @@ impl<'a> Brief<'a> {
     #[inline(never)]
     fn keep_within(&mut self, piece: Piece<'a>) -> Result<(), AllocError>
         requires { 0 < self.old.below }
-        ensures { OnOk result (kept_in self.new ≡ spec.keep (piece_token piece.entry) (kept_in self.old)) }
+        ensures { OnOk result (kept_in self.new
+            ≡ spec.keep (piece_token piece.entry) (kept_in self.old)) }
     {
         if self.below == 1 {
             return self.keep_inside(piece);
@@ -149,7 +161,8 @@ impl<'a> Brief<'a> {
     /// One more token.
     #[inline(always)]
     pub fn keep(&mut self, piece: Piece<'a>) -> Result<(), AllocError>
-        ensures { OnOk result (kept_in self.new ≡ spec.keep (piece_token piece.entry) (kept_in self.old)) }
+        ensures { OnOk result (kept_in self.new
+            ≡ spec.keep (piece_token piece.entry) (kept_in self.old)) }
     {
         if self.below == 0 {
             return self.keep_outside(piece);

@@ -108,7 +108,8 @@ impl<'a> Elements<'a> {
 
     /// The byte of the text at which the next token begins, or the text's length where there is none.
     pub(crate) fn place(&self) -> usize
-        ensures { result + length (skip (left_of self.now)) ≡ start_of self.now + length (left_of self.now) }
+        ensures { result + length (skip (left_of self.now))
+            ≡ start_of self.now + length (left_of self.now) }
     {
         self.whole - skip(self.rest.as_bytes()).len()
     }
@@ -117,7 +118,8 @@ impl<'a> Elements<'a> {
     /// was, and the next call answers the same, but for want of memory.
     pub fn advance(&mut self) -> Result<bool, EdnFault>
         ensures reads { IfOk result (λ more.
-            ReadsNext (keeping_in self.old) (left_of self.old) (tokens_in self.new) (row_in self.new)
+            ReadsNext (keeping_in self.old) (left_of self.old) (tokens_in self.new)
+            (row_in self.new)
             (if more then Some (left_of self.new) else None)) }
         ensures keeps { keeping_in self.new ≡ keeping_in self.old }
         ensures moves { start_of self.new + length (left_of self.new)
@@ -159,7 +161,8 @@ impl<'a> Elements<'a> {
         ensures gone { row_in self.new ≡ None }
         ensures tokens { tokens_in self.new ≡ tokens_in self.old }
         ensures keeps { keeping_in self.new ≡ keeping_in self.old }
-        ensures left { (left_of self.new ≡ left_of self.old) × (start_of self.new ≡ start_of self.old) }
+        ensures left { (left_of self.new ≡ left_of self.old)
+            × (start_of self.new ≡ start_of self.old) }
     {
         self.tape.take_row(self.alloc)
     }

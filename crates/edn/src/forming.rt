@@ -53,7 +53,8 @@ impl<'p, 'a> Tokens<'p, 'a> {
     /// Whether a vector ends here. Then the bracket that ends it is read.
     fn ends_vector(&mut self) -> bool
         ensures ends { result ≡ true → left_on self.old ≡ close_vector ∷ left_on self.new }
-        ensures goes_on { result ≡ false → (ts : List Token) → left_on self.old ≡ close_vector ∷ ts → ⊥ }
+        ensures goes_on { result ≡ false → (ts : List Token) →
+            left_on self.old ≡ close_vector ∷ ts → ⊥ }
         ensures same { result ≡ false → left_on self.new ≡ left_on self.old }
         ensures within { length self.new.rest.now ≤ length self.old.rest.now }
     {
@@ -83,7 +84,8 @@ impl<'p, 'a> Tokens<'p, 'a> {
     #[cycle(forms)]
     fn form(&mut self, alloc: Global) -> Result<Form, AllocError>
         requires { BeginsForm (left_on self.old) }
-        ensures form { IfOk result (λ form. left_on self.old ≡ tokens_of (view form) ++ left_on self.new) }
+        ensures form { IfOk result (λ form. left_on self.old
+            ≡ tokens_of (view form) ++ left_on self.new) }
         ensures shorter { OnOk result (length self.new.rest.now < length self.old.rest.now) }
     {
         match self.next() {
@@ -130,7 +132,8 @@ impl<'p, 'a> Tokens<'p, 'a> {
 /// The form whose tokens stand at the front.
 pub fn form_at(alloc: Global, pieces: &[Piece]) -> Result<Form, AllocError>
     requires { BeginsForm (tape_tokens pieces.now) }
-    ensures { IfOk result (λ form. (behind : List Token) × (tape_tokens pieces.now ≡ tokens_of (view form) ++ behind)) }
+    ensures { IfOk result (λ form. (behind : List Token)
+        × (tape_tokens pieces.now ≡ tokens_of (view form) ++ behind)) }
 {
     let mut tokens = Tokens { rest: pieces };
     tokens.form(alloc)

@@ -88,6 +88,19 @@ impl<'a> Keys<'a> {
         }
     }
 
+    /// One more name, where there is no set, which may ask for room.
+    #[cold]
+    #[inline(never)]
+    fn push_growing(&mut self, name: &'a str) -> Result<(), AllocError>
+        requires { self.old.set ≡ None }
+        ensures names { OnOk result (spec.name_views self.new.names.items
+            ≡ spec.name_views self.old.names.items ++ name.entry.now ∷ []) }
+        ensures waits { OnOk result (self.new.waits ≡ self.old.waits) }
+    {
+        self.names.push(name)?;
+        Ok(())
+    }
+
     /// One more name, where there is no set.
     #[inline(always)]
     fn push(&mut self, alloc: Global, name: &'a str) -> Result<(), AllocError>
@@ -102,10 +115,9 @@ impl<'a> Keys<'a> {
         // Most pushes find room: these are made here, and only the others by a call.
         if self.names.len() < self.names.capacity() {
             self.names.push_reserved(name);
-        } else {
-            self.names.push(name)?;
+            return Ok(());
         }
-        Ok(())
+        self.push_growing(name)
     }
 
     /// One more name, with which they stand in a set.
@@ -140,7 +152,6 @@ impl<'a> Keys<'a> {
     }
 
     /// The same, where this is the set of the names.
-    #[inline(never)]
     fn put_in_many(&mut self, mut set: Box<HashSet<&'a str>>, name: &'a str) -> Result<(), Cause>
         requires { HasNames set.value (spec.name_views self.old.names.items) }
         ensures { Becomes result
@@ -156,9 +167,10 @@ impl<'a> Keys<'a> {
         Ok(())
     }
 
-    /// A key, which then waits for its value. After an error the keys are of no use.
-    #[inline(always)]
-    fn put_key(&mut self, alloc: Global, name: &'a str) -> Result<(), Cause>
+    /// The same, with a set or without.
+    // Apart from what takes the keys of small maps, so that a set is not moved there.
+    #[inline(never)]
+    fn put_in_any(&mut self, alloc: Global, name: &'a str) -> Result<(), Cause>
         ensures { Becomes result
             (spec.put_key_in (spec.name_views self.old.names.items) (Some name.entry.now))
             (keys_shape self.new) }
@@ -167,6 +179,19 @@ impl<'a> Keys<'a> {
             Some(set) => self.put_in_many(set, name),
             None => self.put_in_few(alloc, name),
         }
+    }
+
+    /// A key, which then waits for its value. After an error the keys are of no use.
+    #[inline(always)]
+    fn put_key(&mut self, alloc: Global, name: &'a str) -> Result<(), Cause>
+        ensures { Becomes result
+            (spec.put_key_in (spec.name_views self.old.names.items) (Some name.entry.now))
+            (keys_shape self.new) }
+    {
+        if self.set.is_none() {
+            return self.put_in_few(alloc, name);
+        }
+        self.put_in_any(alloc, name)
     }
 
     /// A keyword: a key, or the value of the key that waits.

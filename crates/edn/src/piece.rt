@@ -206,7 +206,8 @@ impl<'a> Piece<'a> {
     /// A word at the front, and what follows it.
     fn word_at(text: &'a [u8]) -> Result<(Piece<'a>, &'a [u8]), Stop>
         ensures { GivesPiece result
-            (spec.got_word (spec.atom_of (spec.word text.entry.now)) (spec.after_word text.entry.now)) }
+            (spec.got_word (spec.atom_of (spec.word text.entry.now))
+            (spec.after_word text.entry.now)) }
     {
         let (word, rest) = split_word(text);
         match Piece::of_word(word) {

@@ -116,7 +116,8 @@ impl<'a> Row<'a> {
     /// A token before the vector is whole.
     #[inline(never)]
     fn note_next(&mut self, piece: &Piece) -> Result<(), AllocError>
-        ensures { OnOk result (noted_in self.new ≡ spec.note (piece_token piece.now) (noted_in self.old)) }
+        ensures { OnOk result (noted_in self.new
+            ≡ spec.note (piece_token piece.now) (noted_in self.old)) }
     {
         match self.stage {
             Stage::Start => self.stage = match piece {
@@ -139,7 +140,8 @@ impl<'a> Row<'a> {
     /// One more token.
     #[inline(always)]
     pub fn note(&mut self, piece: &Piece) -> Result<(), AllocError>
-        ensures { OnOk result (noted_in self.new ≡ spec.note (piece_token piece.now) (noted_in self.old)) }
+        ensures { OnOk result (noted_in self.new
+            ≡ spec.note (piece_token piece.now) (noted_in self.old)) }
     {
         if let Stage::Over = self.stage {
             return Ok(());

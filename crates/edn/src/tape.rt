@@ -24,13 +24,15 @@ pub struct Keeping<'a> {
     pub row_key: Option<&'a [u8]>,
 }
 
-/// The tokens of one element that are kept, its row, what is open while they are read, and what follows the last of them.
+/// The tokens of one element that are kept, its row, what is open while they are read, and what follows the last of them;
+/// and, where reading fails, how much of the text was left there.
 #[derive(Drop)]
 pub struct Tape<'a> {
     brief: Brief<'a>,
     row: Row<'a>,
     levels: Levels<'a>,
     behind: &'a [u8],
+    left: usize,
 }
 
 impl<'a> Tape<'a> {
@@ -46,12 +48,13 @@ impl<'a> Tape<'a> {
             row: Row::new(alloc),
             levels: Levels::new(alloc),
             behind: b"",
+            left: 0,
         }
     }
 
     /// Takes this token, which stands at the front, and keeps what follows it.
-    // Put in its callers' place, so that a token whose kind is known there is never copied. What follows is no part of the
-    // result: that would be copied in parts, and the parts read as one.
+    // Put in its callers' place, so that a token whose kind is known there is never copied. What follows, and where reading
+    // fails, are no part of the result: they would be copied in parts, and the parts read as one.
     #[inline(always)]
     fn put(
         &mut self,
@@ -59,59 +62,66 @@ impl<'a> Tape<'a> {
         piece: Piece<'a>,
         here: &'a [u8],
         rest: &'a [u8],
-    ) -> Result<(), Stop>
-        requires { reading.first here.now ≡ reading.got (piece_token piece) rest.now }
+    ) -> Result<(), Cause>
+        requires front { reading.first here.now ≡ reading.got (piece_token piece) rest.now }
+        requires place { self.old.left ≡ length here.now }
         ensures taken { MatchResult result
-            (λ _. after_piece (open_on self.old) (reading.first here.entry.now) ≡ Some (open_on self.new, self.new.behind.now))
-            (λ e. Denies e.cause (after_piece (open_on self.old) (reading.first here.entry.now))) }
-        ensures place { IfErr result (λ e. e.cause ≡ Cause.NoMemory → e.left ≡ length here.entry.now) }
+            (λ _. after_piece (open_on self.old) (reading.first here.entry.now)
+            ≡ Some (open_on self.new, self.new.behind.now))
+            (λ cause. Denies cause (after_piece (open_on self.old) (reading.first here.entry.now))) }
+        ensures place { self.new.left ≡ length here.entry.now }
         ensures kept { OnOk result
             (HoldsToken (held_on self.old) (reading.first here.entry.now) (held_on self.new)) }
     {
-        if let Err(cause) = self.levels.step(alloc, &piece) {
-            return Err(Stop::at(cause, here));
-        }
+        self.levels.step(alloc, &piece)?;
         self.behind = rest;
-        if self.row.note(&piece).is_err() {
-            return Err(Stop::at(Cause::NoMemory, here));
-        }
-        match self.brief.keep(piece) {
-            Ok(()) => Ok(()),
-            Err(_) => Err(Stop::at(Cause::NoMemory, here)),
-        }
+        self.row.note(&piece)?;
+        self.brief.keep(piece)?;
+        Ok(())
     }
 
     /// Takes the token at the front, of whatever kind.
     #[inline(never)]
-    fn take_any(&mut self, alloc: Global, here: &'a [u8]) -> Result<(), Stop>
-        requires { 0 < length here.now }
+    fn take_any(&mut self, alloc: Global, here: &'a [u8]) -> Result<(), Cause>
+        requires some { 0 < length here.now }
+        requires place { self.old.left ≡ length here.now }
         ensures taken { MatchResult result
-            (λ _. after_piece (open_on self.old) (reading.first here.entry.now) ≡ Some (open_on self.new, self.new.behind.now))
-            (λ e. Denies e.cause (after_piece (open_on self.old) (reading.first here.entry.now))) }
-        ensures place { IfErr result (λ e. e.cause ≡ Cause.NoMemory → e.left ≡ length here.entry.now) }
+            (λ _. after_piece (open_on self.old) (reading.first here.entry.now)
+            ≡ Some (open_on self.new, self.new.behind.now))
+            (λ cause. Denies cause (after_piece (open_on self.old) (reading.first here.entry.now))) }
+        ensures place { IfErr result (λ cause. cause ≡ Cause.NoMemory →
+            self.new.left ≡ length here.entry.now) }
         ensures kept { OnOk result
             (HoldsToken (held_on self.old) (reading.first here.entry.now) (held_on self.new)) }
     {
         // A string is no key, whatever it holds.
         if self.levels.takes_key() && here[0] == b'"' {
-            return Err(Stop::at(Cause::KeyKind, here));
+            return Err(Cause::KeyKind);
         }
-        let (piece, rest) = Piece::first(here)?;
-        self.put(alloc, piece, here, rest)
+        match Piece::first(here) {
+            Ok((piece, rest)) => self.put(alloc, piece, here, rest),
+            Err(stop) => {
+                self.left = stop.left;
+                Err(stop.cause)
+            }
+        }
     }
 
     /// Takes the token at the front, and keeps what follows it. After an error the tape is of no use.
     #[inline(always)]
     #[tactic(auto, unfolding(crate::specs::Reading::first))]
-    fn take(&mut self, alloc: Global, here: &'a [u8]) -> Result<(), Stop>
+    fn take(&mut self, alloc: Global, here: &'a [u8]) -> Result<(), Cause>
         requires { 0 < length here.now }
         ensures taken { MatchResult result
-            (λ _. after_piece (open_on self.old) (reading.first here.entry.now) ≡ Some (open_on self.new, self.new.behind.now))
-            (λ e. Denies e.cause (after_piece (open_on self.old) (reading.first here.entry.now))) }
-        ensures place { IfErr result (λ e. e.cause ≡ Cause.NoMemory → e.left ≡ length here.entry.now) }
+            (λ _. after_piece (open_on self.old) (reading.first here.entry.now)
+            ≡ Some (open_on self.new, self.new.behind.now))
+            (λ cause. Denies cause (after_piece (open_on self.old) (reading.first here.entry.now))) }
+        ensures place { IfErr result (λ cause. cause ≡ Cause.NoMemory →
+            self.new.left ≡ length here.entry.now) }
         ensures kept { OnOk result
             (HoldsToken (held_on self.old) (reading.first here.entry.now) (held_on self.new)) }
     {
+        self.left = here.len();
         match here {
             [b':', tail @ ..] => match Piece::usual_keyword(tail) {
                 Some((name, rest)) => self.put(alloc, Piece::Keyword(name), here, rest),
@@ -134,16 +144,19 @@ impl<'a> Tape<'a> {
         alloc: Global,
         keeping: Keeping<'a>,
         text: &'a [u8],
-    ) -> Result<Option<&'a [u8]>, Stop>
+    ) -> Result<Option<&'a [u8]>, Cause>
         requires utf8 { IsUtf8 text.now }
         requires fresh { open_on self.old ≡ nothing_open }
         ensures reads { IfOk result (λ rest.
-            ReadsNext (keeping_of keeping.entry) text.entry.now (tokens_on self.new) (row_on self.new)
+            ReadsNext (keeping_of keeping.entry) text.entry.now (tokens_on self.new)
+            (row_on self.new)
             (option_map (λ r. r.now) rest)) }
-        ensures shorter { IfOk result (λ rest. IfSome rest (λ r. length r.now < length text.entry.now)) }
-        ensures none { IfErr result (λ e. e.cause ≢ Cause.NoMemory → (ds : List Datum) →
+        ensures shorter { IfOk result (λ rest. IfSome rest
+            (λ r. length r.now < length text.entry.now)) }
+        ensures none { IfErr result (λ cause. cause ≢ Cause.NoMemory → (ds : List Datum) →
             Spells ds text.entry.now → ⊥) }
-        ensures memory { IfErr result (λ e. e.cause ≡ Cause.NoMemory → IsSoundBehind e.left text.entry.now) }
+        ensures memory { IfErr result (λ cause. cause ≡ Cause.NoMemory →
+            IsSoundBehind self.new.left text.entry.now) }
         ensures fresh { OnOk result (open_on self.new ≡ nothing_open) }
     {
         self.brief.clear(keeping.cuts);
@@ -156,7 +169,8 @@ impl<'a> Tape<'a> {
         'tokens: while !self.levels.is_outermost() {
             let here = skip(self.behind);
             if here.is_empty() {
-                return Err(Stop::at_end());
+                self.left = 0;
+                return Err(Cause::Unfinished);
             }
             self.take(alloc, here)?;
         }
@@ -175,19 +189,25 @@ impl<'a> Tape<'a> {
         requires utf8 { IsUtf8 text.now }
         requires fresh { open_on self.old ≡ nothing_open }
         ensures reads { IfOk result (λ rest.
-            ReadsNext (keeping_of keeping.entry) text.entry.now (tokens_on self.new) (row_on self.new)
+            ReadsNext (keeping_of keeping.entry) text.entry.now (tokens_on self.new)
+            (row_on self.new)
             (option_map (λ r. r.now) rest)) }
-        ensures shorter { IfOk result (λ rest. IfSome rest (λ r. length r.now < length text.entry.now)) }
+        ensures shorter { IfOk result (λ rest. IfSome rest
+            (λ r. length r.now < length text.entry.now)) }
         ensures none { IfErr result (λ e. e.cause ≢ Cause.NoMemory → (ds : List Datum) →
             Spells ds text.entry.now → ⊥) }
-        ensures memory { IfErr result (λ e. e.cause ≡ Cause.NoMemory → IsSoundBehind e.left text.entry.now) }
+        ensures memory { IfErr result (λ e. e.cause ≡ Cause.NoMemory →
+            IsSoundBehind e.left text.entry.now) }
         ensures fresh { open_on self.new ≡ nothing_open }
     {
         match self.try_read(alloc, keeping, text) {
             Ok(rest) => Ok(rest),
-            Err(stop) => {
+            Err(cause) => {
                 self.levels = Levels::new(alloc);
-                Err(stop)
+                Err(Stop {
+                    cause,
+                    left: self.left,
+                })
             }
         }
     }
