@@ -146,7 +146,9 @@ impl<'a> Row<'a> {
         if let Stage::Over = self.stage {
             return Ok(());
         }
-        self.note_next(piece)
+        // A copy, so that the token need not lie in memory where nothing is looked for.
+        let copy = *piece;
+        self.note_next(&copy)
     }
 
     /// The numbers, where the map has a vector of integers alone for the key. They are gone then.
