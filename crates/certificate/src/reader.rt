@@ -57,7 +57,8 @@ fn order_in(value: Option<&Form>) -> Option<&[Form]>
     ensures none { IfNone result (spec.order_in (option_map (λ f. view f.now) value.entry) ≡ None) }
     ensures some { IfSome result (λ fs. spec.order_in (option_map (λ f. view f.now) value.entry)
         ≡ spec.integers_in (items_of (views fs.now))) }
-    ensures integers { IfSome result (λ fs. is_some (spec.integers_in (items_of (views fs.now))) ≡ true) }
+    ensures integers { IfSome result (λ fs. is_some (spec.integers_in (items_of (views fs.now)))
+        ≡ true) }
 {
     match value {
         Some(Form::Vector(forms)) if are_integers(forms) => Some(forms.as_slice()),
@@ -70,7 +71,8 @@ fn parts_in(form: &Form) -> Option<(u32, &[Form])>
     ensures none { IfNone result (spec.certificate_of (view form.now) ≡ None) }
     ensures some { IfSome result (λ p. spec.certificate_of (view form.now)
         ≡ spec.reading_with (Some p.0) (spec.integers_in (items_of (views p.1.now)))) }
-    ensures integers { IfSome result (λ p. is_some (spec.integers_in (items_of (views p.1.now))) ≡ true) }
+    ensures integers { IfSome result (λ p. is_some (spec.integers_in (items_of (views p.1.now)))
+        ≡ true) }
 {
     let Form::Map(entries) = form else {
         return None;
@@ -91,10 +93,12 @@ fn next_certificate(
     form: &Form,
     objects: &mut BTreeSet<u32>,
 ) -> Result<Certificate, CertFaultKind>
-    ensures own { IfOk result (λ c. spec.certificate_of (view form.now) ≡ Some (spec.reading_of c)) }
+    ensures own { IfOk result (λ c. spec.certificate_of (view form.now)
+        ≡ Some (spec.reading_of c)) }
     ensures new { IfOk result (λ c. contains nat_cmp objects.old c.object ≡ false) }
     ensures among { IfOk result (λ c. (x : ℕ) →
-        contains nat_cmp objects.new x ≡ (if c.object == x then true else contains nat_cmp objects.old x)) }
+        contains nat_cmp objects.new x ≡ (if c.object == x
+        then true else contains nat_cmp objects.old x)) }
     ensures fault { IfErr result (IsFaultAmong (contains nat_cmp objects.old) (view form.now)) }
 {
     let Some((object, entries)) = parts_in(form) else {
@@ -119,7 +123,8 @@ pub fn read_certificates(alloc: Global, forms: Vec<Form>) -> Result<Vec<Certific
     ensures denotes { IfOk result (λ v. Denotes (views forms.items) v.items) }
     ensures distinct { IfOk result (λ v. AreDistinct v.items) }
 
-    ensures fault { IfErr result (λ e. e.kind ≢ CertFaultKind.NoMemory → IsFirstFault (views forms.items) e) }
+    ensures fault { IfErr result (λ e. e.kind ≢ CertFaultKind.NoMemory →
+        IsFirstFault (views forms.items) e) }
     // Memory ran out where nothing was wrong yet, up to this form and with it.
     ensures memory { IfErr result (λ e. e.kind ≡ CertFaultKind.NoMemory →
         IsSoundAt (views forms.items) e.form) }

@@ -96,7 +96,8 @@ fn values_in<'p, 'a>(inside: &'p [Piece<'a>]) -> OperationValues<'p, 'a>
 pub fn values_of<'p, 'a>(pieces: &'p [Piece<'a>]) -> Option<OperationValues<'p, 'a>>
     ensures map { IfSome result (λ v. (d : Datum) → tape_tokens pieces.entry.now ≡ tokens_of d →
         IsMapWith v d) }
-    ensures other { IfNone result ((es : Entries) → tape_tokens pieces.entry.now ≡ tokens_of (dictionary es) →
+    ensures other { IfNone result ((es : Entries) →
+        tape_tokens pieces.entry.now ≡ tokens_of (dictionary es) →
         ⊥) }
 {
     match behind_bracket(pieces) {

@@ -12,7 +12,7 @@ use Rattle.history.specs.declared.fault.HistoryFaultKind.TheVariants.{NoMemory}
 use Rattle.history.specs.declared.text_reader.Reading.{Reading}
 use Rattle.history.specs.Maps.{client_of}
 use Rattle.history.specs.Faults.{IsFaultless, IsFirstFault}
-use Rattle.history.specs.Denotes.{event_of, events_from, Denotes}
+use Rattle.history.specs.Denotes.{event_of, events_from}
 use Rattle.history.specs.Seen.{HasFirst, HasNoFault, IsRead}
 use Rattle.history.specs.Texts.{IsFoundIn, AreRead, IsReadOrFaulty, IsReading}
 use Rattle.history.proofs.Reading.{events_push, faultless_push}
@@ -90,6 +90,3 @@ found seen number ds d es k h first none = (
 
 pub proper_reading : (r : Reading) (ds : List Datum) → r.fault ≡ None → IsReading r ds → IsProper r.events.items
 proper_reading r ds e h = let a = are_read r ds e h in subst IsProper (sym a.events) (proper_events ds a.faultless)
-
-pub denotes_reading : (r : Reading) (ds : List Datum) → r.fault ≡ None → IsReading r ds → Denotes ds r.events.items
-denotes_reading r ds e h = let a = are_read r ds e h in record { faultless = a.faultless; events = a.events }

@@ -33,10 +33,12 @@ pub fn judge_history<R: Threads + Sync>(
 ) -> Result<(), Refusal>
     // no object has two certificates
     requires { AreDistinct certificates.now }
-    ensures linearizable { OnOk result (IsLinearizable (kind_at history.now) (events (denoted history.now))) }
+    ensures linearizable { OnOk result (IsLinearizable (kind_at history.now)
+        (events (denoted history.now))) }
     ensures valid { OnOk result (AreValid history.now certificates.now) }
     ensures refused { IfErr result (IsFirstRefusal history.now certificates.now) }
-    ensures exact { AreValid history.now certificates.now → IfErr result (λ e. e ≡ Refusal.NoMemory) }
+    ensures exact { AreValid history.now certificates.now →
+        IfErr result (λ e. e ≡ Refusal.NoMemory) }
 {
     // These two do nothing. The first says that the events denote a well-formed history, the second is locality.
     history.events();

@@ -10,7 +10,8 @@ use edn::one_reading;
 
 /// A text denotes one history at most.
 pub fn one_history()
-    ensures { (text : List ℕ) (es fs : List Event) → DenotesHistory text es → DenotesHistory text fs →
+    ensures { (text : List ℕ) (es fs : List Event) → DenotesHistory text es →
+        DenotesHistory text fs →
         es ≡ fs }
 {
     one_reading();

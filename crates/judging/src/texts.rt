@@ -52,7 +52,8 @@ pub fn history_in(alloc: Global, text: &[u8]) -> Result<History, Stop>
     ensures only { IfOk result (λ es. (fs : List Event) → DenotesHistory text.now fs → fs ≡ es) }
     ensures short { IfOk result (λ _. IsShort text.now) }
     ensures stop { IfErr result (IsHistoryFault text.now) }
-    ensures accepts { IfErr result (λ s. (es : List Event) → DenotesHistory text.now es → IsShort text.now →
+    ensures accepts { IfErr result (λ s. (es : List Event) → DenotesHistory text.now es →
+        IsShort text.now →
         s ≡ Stop.NoMemory) }
 {
     // This does nothing: it says that the text denotes one history at most.
@@ -94,7 +95,8 @@ pub(crate) fn texts_in<R: Threads + Sync>(
     ensures texts { IfOk result (λ r. DenoteOnly history.now certificates.now r.0 r.1.items) }
     ensures distinct { IfOk result (λ r. AreDistinct r.1.items) }
     ensures stop { IfErr result (λ s. Judges history.now certificates.now (verdict_of s)) }
-    ensures accepts { IfErr result (λ s. AreValidTexts history.now certificates.now → s ≡ Stop.NoMemory) }
+    ensures accepts { IfErr result (λ s. AreValidTexts history.now certificates.now →
+        s ≡ Stop.NoMemory) }
 {
     if workers < 2 {
         let client_events = history_in(alloc, history)?;

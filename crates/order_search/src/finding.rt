@@ -40,7 +40,8 @@ const MOST: usize = 4096;
 /// The numbers of the operations at the places of the levels.
 fn order_of(alloc: Global, items: &[Invocation], levels: &[Level]) -> Result<Vec<i64>, AllocError>
     requires { All (λ l. l.place < length items.now) levels.now }
-    ensures { IfOk result (λ v. v.items ≡ map (λ l. pos (call_at items.now l.place).number) levels.now) }
+    ensures { IfOk result (λ v. v.items ≡ map
+        (λ l. pos (call_at items.now l.place).number) levels.now) }
 {
     let mut order = Vec::new(alloc);
     for level in levels {
@@ -89,7 +90,8 @@ fn searched(
     requires owed { 0 < left }
     requires steps { steps.old ≤ limit }
     ensures steps { steps.new ≤ limit }
-    ensures found { IfOk result (λ o. IfFound o (IsValidOrder history.now.kind (calls_of history.now.ops))) }
+    ensures found { IfOk result (λ o. IfFound o
+        (IsValidOrder history.now.kind (calls_of history.now.ops))) }
     ensures impossible { IfOk result (λ o. o ≡ Outcome.Impossible →
         IsNoneValid history.now.kind (calls_of history.now.ops)) }
     ensures out_of_steps { IfOk result (λ o. o ≡ Outcome.OutOfSteps → steps.new ≡ limit) }

@@ -59,7 +59,8 @@ impl Undone {
         requires small { place < 65535 }
         requires within { AreWithin self.old.next.items self.old.before.items place }
         ensures next { self.new.next.items ≡ next_with self.old.next.items self.old.before.items place }
-        ensures before { self.new.before.items ≡ before_with self.old.next.items self.old.before.items place }
+        ensures before { self.new.before.items
+            ≡ before_with self.old.next.items self.old.before.items place }
     {
         let slot = self.before[place as usize];
         let next = self.next[place as usize + 1];

@@ -33,7 +33,8 @@ pub(crate) enum Ending {
 fn earlier(end: &End, least: u32) -> u32
     ensures below { result ≤ least }
     ensures own { (r : Return) → return_of end.now ≡ Some r → result ≤ r.at }
-    ensures either { (result ≡ least) ⊎ ((r : Return) × (return_of end.now ≡ Some r) × (result ≡ r.at)) }
+    ensures either { (result ≡ least) ⊎ ((r : Return) × (return_of end.now ≡ Some r)
+        × (result ≡ r.at)) }
 {
     match end {
         End::Returned { at, .. } if *at < least => *at,
@@ -67,7 +68,8 @@ fn is_same(a: AnyReply, b: AnyReply) -> bool
 
 /// Whether the operation returned another reply.
 fn differs(end: &End, gives: AnyReply) -> bool
-    ensures { MatchBool result (Differs (return_of end.now) gives) (Agrees (return_of end.now) gives) }
+    ensures { MatchBool result (Differs (return_of end.now) gives)
+        (Agrees (return_of end.now) gives) }
 {
     match end {
         End::Returned { reply, .. } => !is_same(*reply, gives),
@@ -155,11 +157,13 @@ impl State {
         requires search { IsSearchingAt trials.now self.old (content_before self.old step) }
         requires at { self.old.at < length trials.now.items.items }
         requires in_time { (call_at trials.now.items.items self.old.at).number ≤ self.old.least }
-        requires does { next (content_before self.old step) (call_at trials.now.items.items self.old.at).op
+        requires does { next (content_before self.old step)
+            (call_at trials.now.items.items self.old.at).op
             ≡ Some (content_of self.old.object, step.reply) }
         requires agrees { Agrees (call_at trials.now.items.items self.old.at).returned step.reply }
         ensures search { IfOk result (λ over. over ≡ false → IsSearching trials.now self.new) }
-        ensures over { IfOk result (λ over. over ≡ true → IsOrder trials.now (places self.new.levels.items)) }
+        ensures over { IfOk result (λ over. over ≡ true →
+            IsOrder trials.now (places self.new.levels.items)) }
         ensures deep { length self.new.levels.items ≤ length self.old.levels.items + 1 }
     {
         let place = self.at;
@@ -203,7 +207,8 @@ impl State {
         requires possible { IsSome
             (next (content_of self.old.object) (call_at trials.now.items.items self.old.at).op) }
         ensures search { IfOk result (λ over. over ≡ false → IsSearching trials.now self.new) }
-        ensures over { IfOk result (λ over. over ≡ true → IsOrder trials.now (places self.new.levels.items)) }
+        ensures over { IfOk result (λ over. over ≡ true →
+            IsOrder trials.now (places self.new.levels.items)) }
         ensures deep { length self.new.levels.items ≤ length self.old.levels.items + 1 }
     {
         let item = &trials.items[self.at as usize];

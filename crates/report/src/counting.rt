@@ -78,7 +78,8 @@ fn is_failing(failing: &NumberMap<bool>, process: u64) -> bool
 /// Takes in one more event, from the last one back: whether it says that an operation of its process failed.
 fn note_end(failing: &mut NumberMap<bool>, event: &Event) -> Result<(), AllocError>
     ensures { OnOk result ((p : ℕ) → unwrap_or (value_of failing.new p) false
-        ≡ (if event.now.process == p then spec.is_fail event.now.action else unwrap_or (value_of failing.old p) false)) }
+        ≡ (if event.now.process == p then spec.is_fail event.now.action
+        else unwrap_or (value_of failing.old p) false)) }
 {
     failing.insert(event.process, is_fail(&event.action))
 }
@@ -137,7 +138,8 @@ fn count_operations(kind: Option<Kind>, all: &[Invoked]) -> usize
 fn insert_object(objects: &mut NumberMap<()>, object: u32) -> Result<usize, AllocError>
     ensures among { OnOk result ((x : ℕ) → is_some (value_of objects.new x)
         ≡ (if object == x then true else is_some (value_of objects.old x))) }
-    ensures more { IfOk result (λ more. more ≡ (if is_some (value_of objects.old object) then 0 else 1)) }
+    ensures more { IfOk result (λ more. more ≡
+        (if is_some (value_of objects.old object) then 0 else 1)) }
 {
     let object = object as u64;
     if objects.get(object).is_some() {
@@ -155,7 +157,8 @@ fn count_more(
 ) -> Result<usize, AllocError>
     ensures seen { IfOk result (λ more. (n : ℕ) (all : List Invoked)
         → AreSeen (λ x. is_some (value_of objects.old x)) n (named kind all)
-        → AreSeen (λ x. is_some (value_of objects.new x)) (n + more) (named kind (all ++ invoked.now ∷ []))) }
+        → AreSeen (λ x. is_some (value_of objects.new x)) (n + more)
+        (named kind (all ++ invoked.now ∷ []))) }
     ensures few { IfOk result (λ more. more ≤ 1) }
 {
     if is_of(kind, invoked) {

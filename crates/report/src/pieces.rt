@@ -18,7 +18,8 @@ pub(crate) enum Piece {
 
 fn write_natural<S: Sink>(n: usize, sink: &mut S) -> Result<(), Failed>
     requires { S.broken sink.old ≡ false }
-    ensures sent { Sends result (S.sent sink.old) (S.sent sink.new) (S.broken sink.new) (decimal n) }
+    ensures sent { Sends result (S.sent sink.old) (S.sent sink.new) (S.broken sink.new)
+        (decimal n) }
 {
     let mut buffer = Buffer::new();
     let digits = buffer.format(n);
@@ -27,7 +28,8 @@ fn write_natural<S: Sink>(n: usize, sink: &mut S) -> Result<(), Failed>
 
 fn write_piece<S: Sink>(piece: Piece, sink: &mut S) -> Result<(), Failed>
     requires { S.broken sink.old ≡ false }
-    ensures sent { Sends result (S.sent sink.old) (S.sent sink.new) (S.broken sink.new) (piece_text piece) }
+    ensures sent { Sends result (S.sent sink.old) (S.sent sink.new) (S.broken sink.new)
+        (piece_text piece) }
 {
     match piece {
         Piece::Text(text) => write_bytes(text, sink),

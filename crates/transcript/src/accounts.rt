@@ -42,7 +42,8 @@ fn order_of<S: SeqObject>(
     log: &[LogEntry<S::Op, S::Reply>],
 ) -> Result<Vec<i64>, AllocError>
     requires { All (λ e. e.ticket < max_tickets) log.now }
-    ensures { IfOk result (λ v. v.items ≡ world.order_of (map (entry_in S.op_in S.reply_in) log.now)) }
+    ensures { IfOk result (λ v. v.items ≡ world.order_of
+        (map (entry_in S.op_in S.reply_in) log.now)) }
 {
     let mut order = Vec::new(alloc);
     for entry in log {
@@ -74,12 +75,15 @@ pub fn certificates<S: SeqObject>(
 /// Checks the record's history with its certificates. Where the record is sound they are accepted, but for want of memory.
 pub fn check_record<S: SeqObject>(alloc: Global, account: &Record<S>) -> Result<(), Refusal>
     ensures accepted { (kinds : List Kind) (quota : ℕ)
-        → IsSoundRecord kinds quota (journals_in S.op_in S.reply_in account.now) (logs_in S.op_in S.reply_in account.now)
+        → IsSoundRecord kinds quota (journals_in S.op_in S.reply_in account.now)
+        (logs_in S.op_in S.reply_in account.now)
         → IfErr result (λ e. e ≡ Refusal.NoMemory) }
     ensures checked { IfErr result (λ e. e ≢ Refusal.NoMemory →
-        IsRefused (journals_in S.op_in S.reply_in account.now) (logs_in S.op_in S.reply_in account.now) e) }
+        IsRefused (journals_in S.op_in S.reply_in account.now)
+        (logs_in S.op_in S.reply_in account.now) e) }
     ensures valid { OnOk result
-        (IsAccepted (journals_in S.op_in S.reply_in account.now) (logs_in S.op_in S.reply_in account.now)) }
+        (IsAccepted (journals_in S.op_in S.reply_in account.now)
+        (logs_in S.op_in S.reply_in account.now)) }
 {
     let Ok(history) = history(alloc, account) else {
         return Err(Refusal::NoMemory);

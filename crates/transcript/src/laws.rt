@@ -13,7 +13,8 @@ ghost use Rattle.transcript.specs.Reading.{WrittenDenotes};
 
 /// The certificates of a sound record are valid: one for each object of its history, and none besides.
 pub fn sound_record_is_accepted()
-    ensures { (kinds : List Kind) (quota : ℕ) (journals : ℕ → List AnyEvent) (logs : ℕ → List AnyEntry)
+    ensures { (kinds : List Kind) (quota : ℕ) (journals : ℕ → List AnyEvent)
+        (logs : ℕ → List AnyEntry)
         → IsSoundRecord kinds quota journals logs
         → (events : List Event) (certificates : List Certificate)
         → AreEventsOf journals events → AreCertificatesOf journals logs certificates

@@ -135,7 +135,8 @@ pub(crate) fn lines_of<S: SeqObject>(
     alloc: Global,
     account: &Record<S>,
 ) -> Result<Vec<Line>, AllocError>
-    ensures lines { IfOk result (λ v. AreLinesOf (journals_in S.op_in S.reply_in account.now) v.items) }
+    ensures lines { IfOk result (λ v. AreLinesOf
+        (journals_in S.op_in S.reply_in account.now) v.items) }
     ensures events { IfOk result (λ v.
         AreEventsOf (journals_in S.op_in S.reply_in account.now) (events_in v.items)) }
     ensures proper { IfOk result (λ v. IsProper (events_in v.items)) }

@@ -80,7 +80,8 @@ fn write_value<S: Sink>(value: Value, sink: &mut S) -> Result<(), Failed>
 /// The process and the type.
 fn write_process<S: Sink>(line: &Line, sink: &mut S) -> Result<(), Failed>
     requires { S.broken sink.old ≡ false }
-    ensures ok { OnOk result (Appends (S.sent sink.old) (S.sent sink.new) (text.process_text line.now)) }
+    ensures ok { OnOk result (Appends (S.sent sink.old) (S.sent sink.new)
+        (text.process_text line.now)) }
     ensures usable { OnOk result (S.broken sink.new ≡ false) }
 {
     write_bytes(b"{:process ", sink)?;
@@ -92,7 +93,8 @@ fn write_process<S: Sink>(line: &Line, sink: &mut S) -> Result<(), Failed>
 /// The name of the operation and the value.
 fn write_operation<S: Sink>(line: &Line, sink: &mut S) -> Result<(), Failed>
     requires { S.broken sink.old ≡ false }
-    ensures ok { OnOk result (Appends (S.sent sink.old) (S.sent sink.new) (text.operation_text line.now)) }
+    ensures ok { OnOk result (Appends (S.sent sink.old) (S.sent sink.new)
+        (text.operation_text line.now)) }
     ensures in_profile { OnOk result
         (InProfile (spec.value_form (spec.value_of line.now.op line.now.event.action))) }
     ensures usable { OnOk result (S.broken sink.new ≡ false) }
@@ -105,7 +107,8 @@ fn write_operation<S: Sink>(line: &Line, sink: &mut S) -> Result<(), Failed>
 
 fn write_object<S: Sink>(object: u32, sink: &mut S) -> Result<(), Failed>
     requires { S.broken sink.old ≡ false }
-    ensures ok { OnOk result (Appends (S.sent sink.old) (S.sent sink.new) (text.object_text object)) }
+    ensures ok { OnOk result (Appends (S.sent sink.old) (S.sent sink.new)
+        (text.object_text object)) }
     ensures low { object < 2 ^ 63 }
     ensures usable { OnOk result (S.broken sink.new ≡ false) }
 {
@@ -117,7 +120,8 @@ fn write_object<S: Sink>(object: u32, sink: &mut S) -> Result<(), Failed>
 fn write_line<S: Sink>(line: &Line, sink: &mut S) -> Result<(), Failed>
     requires working { S.broken sink.old ≡ false }
     requires low { line.now.event.process < 2 ^ 63 }
-    ensures ok { OnOk result (Appends (S.sent sink.old) (S.sent sink.new) (text.line_text line.now)) }
+    ensures ok { OnOk result (Appends (S.sent sink.old) (S.sent sink.new)
+        (text.line_text line.now)) }
     ensures in_profile { OnOk result (InProfile (spec.form_of line.now)) }
     ensures usable { OnOk result (S.broken sink.new ≡ false) }
 {
@@ -129,7 +133,8 @@ fn write_line<S: Sink>(line: &Line, sink: &mut S) -> Result<(), Failed>
 fn write_lines<S: Sink>(lines: &[Line], sink: &mut S) -> Result<(), Failed>
     requires working { S.broken sink.old ≡ false }
     requires low { All (λ l. l.event.process < 2 ^ 63) lines.now }
-    ensures ok { OnOk result (Appends (S.sent sink.old) (S.sent sink.new) (text.lines_text lines.now)) }
+    ensures ok { OnOk result (Appends (S.sent sink.old) (S.sent sink.new)
+        (text.lines_text lines.now)) }
     ensures in_profile { OnOk result (All (λ l. InProfile (spec.form_of l)) lines.now) }
     ensures usable { OnOk result (S.broken sink.new ≡ false) }
 {
@@ -160,7 +165,8 @@ pub fn write_history<S: SeqObject, K: Sink>(
 ) -> Result<(), WriteFault>
     requires { K.broken sink.old ≡ false }
     ensures ok { OnOk result
-        (AppendsHistory (journals_in S.op_in S.reply_in account.now) (K.sent sink.old) (K.sent sink.new)) }
+        (AppendsHistory (journals_in S.op_in S.reply_in account.now) (K.sent sink.old)
+        (K.sent sink.new)) }
     ensures usable { OnOk result (K.broken sink.new ≡ false) }
 
     ensures front { IfErr result (λ e. e ≡ WriteFault.Device →
