@@ -171,9 +171,10 @@ pub none_besides : (certificates : List Certificate) (os : List ObjectCalls) (le
 none_besides certificates os left h empty = all_from_in (λ (c : Certificate). Contains (map (λ o. o.object) os) c.object) certificates
     (λ c i. let g = h.gone c i (empty c.object) in subst (Contains (map (λ o. o.object) os)) g.2 (number_stands os g.0 g.1))
 
-element : (certificates : List Certificate) (k : ℕ) → k < length certificates → (d : Certificate) × (d ≡ get_or certificates k d)
+-- what stands at a place
+pub element : {X : Type 0} (xs : List X) (k : ℕ) → k < length xs → (d : X) × (d ≡ get_or xs k d)
 element [] k l = absurd (omega arith)
-element (c ∷ cs) k l = let d = get_or (c ∷ cs) k c in (d, get_or_default (c ∷ cs) k c d l)
+element (x ∷ xs) k l = let d = get_or (x ∷ xs) k x in (d, get_or_default (x ∷ xs) k x d l)
 
 -- the least place that is left is that of the least object besides
 pub least_besides : (certificates : List Certificate) (os : List ObjectCalls) (left : BTreeMap ℕ ℕ) (x k : ℕ) → AreLeft certificates os left
@@ -256,7 +257,7 @@ already (q ∷ os) o later r p i l = elim i [
   | inr j ↦ inr (already os o later r.1 p j l)
 ]
 
-pub first_refusal : (es : List Event) (certificates : List Certificate) (all os : List ObjectCalls) (o : ObjectCalls) (later : List ObjectCalls) (r : Refusal) → AllPairs (λ a b. a.object ≢ b.object) certificates → AreObjects es all
+first_refusal : (es : List Event) (certificates : List Certificate) (all os : List ObjectCalls) (o : ObjectCalls) (later : List ObjectCalls) (r : Refusal) → AllPairs (λ a b. a.object ≢ b.object) certificates → AreObjects es all
     → all ≡ os ++ o ∷ later → AreFine es certificates os → IsRefused (kind_at es o.object) (calls_on o.object (denoted es)) certificates o.object r → IsFirstRefusal es certificates r
 first_refusal es certificates all os o later r d objects split h refused = go r refused
   where
@@ -284,7 +285,7 @@ first_refusal es certificates all os o later r d objects split h refused = go r 
     go NoMemory s = tt
 
 -- certificates that are valid are refused by want of memory alone
-pub refused_are_not_valid : (es : List Event) (certificates : List Certificate) (all os : List ObjectCalls) (o : ObjectCalls) (later : List ObjectCalls) (r : Refusal) → AllPairs (λ a b. a.object ≢ b.object) certificates → AreObjects es all
+refused_are_not_valid : (es : List Event) (certificates : List Certificate) (all os : List ObjectCalls) (o : ObjectCalls) (later : List ObjectCalls) (r : Refusal) → AllPairs (λ a b. a.object ≢ b.object) certificates → AreObjects es all
     → all ≡ os ++ o ∷ later → AreFine es certificates os → IsRefused (kind_at es o.object) (calls_on o.object (denoted es)) certificates o.object r → AreValid es certificates → r ≡ NoMemory
 refused_are_not_valid es certificates all os o later r d objects split h refused valid = go r (first_refusal es certificates all os o later r d objects split h refused) refused
   where
@@ -305,7 +306,7 @@ pub are_objects : (es : List Event) (fs os : List ObjectCalls) → fs ≡ os →
     → All (λ o. o.kind ≡ kind_at es o.object) os → All (λ o. calls_of o.ops ≡ calls_on o.object (denoted es)) os → AreObjects es fs
 are_objects es fs os is rising named kinds calls = subst (AreObjects es) (sym is) (record { rising = rising; named = named; kinds = kinds; calls = calls })
 
-pub next_parts : (fs : List ObjectCalls) (i : ℕ) (o : ObjectCalls) → i < length fs → o ≡ get_or fs i o → fs ≡ take i fs ++ o ∷ drop (suc i) fs
+next_parts : (fs : List ObjectCalls) (i : ℕ) (o : ObjectCalls) → i < length fs → o ≡ get_or fs i o → fs ≡ take i fs ++ o ∷ drop (suc i) fs
 next_parts fs i o l is = parts fs i l ∙ ap (λ x. take i fs ++ x ∷ drop (suc i) fs) (sym is)
   where
     parts : (gs : List ObjectCalls) (j : ℕ) → j < length gs → gs ≡ take j gs ++ get_or gs j o ∷ drop (suc j) gs
@@ -322,12 +323,22 @@ next_fine es certificates fs i o h l is fine =
     let its_kind = subst (λ k. IsFine k (calls_of o.ops) certificates o.object) (all_at (λ (o : ObjectCalls). o.kind ≡ kind_at es o.object) fs h.kinds o j) fine in
     subst (λ cs. IsFine (kind_at es o.object) cs certificates o.object) (all_at (λ (o : ObjectCalls). calls_of o.ops ≡ calls_on o.object (denoted es)) fs h.calls o j) its_kind
 
-pub next_refused : (es : List Event) (certificates : List Certificate) (fs : List ObjectCalls) (i : ℕ) (o : ObjectCalls) (r : Refusal) → AreObjects es fs → i < length fs → o ≡ get_or fs i o
+next_refused : (es : List Event) (certificates : List Certificate) (fs : List ObjectCalls) (i : ℕ) (o : ObjectCalls) (r : Refusal) → AreObjects es fs → i < length fs → o ≡ get_or fs i o
     → IsRefused o.kind (calls_of o.ops) certificates o.object r → IsRefused (kind_at es o.object) (calls_on o.object (denoted es)) certificates o.object r
 next_refused es certificates fs i o r h l is refused =
     let j = in_objects fs i o l is in
     let its_kind = subst (λ k. IsRefused k (calls_of o.ops) certificates o.object r) (all_at (λ (o : ObjectCalls). o.kind ≡ kind_at es o.object) fs h.kinds o j) refused in
     subst (λ cs. IsRefused (kind_at es o.object) cs certificates o.object r) (all_at (λ (o : ObjectCalls). calls_of o.ops ≡ calls_on o.object (denoted es)) fs h.calls o j) its_kind
+
+-- Where the next object is refused, that is the first refusal. Certificates that are valid are refused by want of memory alone.
+pub next_is_first : (es : List Event) (certificates : List Certificate) (fs : List ObjectCalls) (i : ℕ) (o : ObjectCalls) (r : Refusal) → AllPairs (λ a b. a.object ≢ b.object) certificates → AreObjects es fs → AreFine es certificates (take i fs)
+    → i < length fs → o ≡ get_or fs i o → IsRefused o.kind (calls_of o.ops) certificates o.object r → IsFirstRefusal es certificates r × (AreValid es certificates → r ≡ NoMemory)
+next_is_first es certificates fs i o r d objects fine l is h =
+    let refused = next_refused es certificates fs i o r objects l is h in
+    let parts = next_parts fs i o l is in (
+      first_refusal es certificates fs (take i fs) o (drop (suc i) fs) r d objects parts fine refused,
+      refused_are_not_valid es certificates fs (take i fs) o (drop (suc i) fs) r d objects parts fine refused,
+    )
 
 pub none_left : (left : BTreeMap ℕ ℕ) → (0 < btree_map_len left → ⊥) → (x : ℕ) → get nat_cmp left x ≡ None
 none_left left h x = go left.entries h

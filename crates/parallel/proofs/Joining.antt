@@ -15,7 +15,7 @@ use Rattle.events.specs.Events.{IsNamed, kind_at, denoted}
 use Rattle.events.specs.Operations.{ObjectCalls, operations_on, calls_of}
 use Rattle.events.proofs.Gathering.{apart_keys, empty_get}
 use Rattle.events.proofs.Splitting.{keys_rising}
-use Rattle.parallel.specs.Parts.{IsPart, ArePartsOf, IsPutIn, IsObjectOf, IsWhole}
+use Rattle.parallel.specs.Parts.{IsPart, ArePartsOf, IsPutIn, IsObjectOf, IsWhole, AreAll}
 
 -- ---- the objects of one part
 
@@ -154,13 +154,6 @@ AreListed all rest objects = map (λ e. e.1) all ≡ objects ++ map (λ e. e.1) 
 
 pub list_more : (all rest later : List (ℕ × ObjectCalls)) (objects : List ObjectCalls) (x : ℕ) (o : ObjectCalls) → AreListed all rest objects → rest ≡ (x, o) ∷ later → AreListed all later (objects ++ o ∷ [])
 list_more all rest later objects x o h is = h ∙ (ap (λ (r : List (ℕ × ObjectCalls)). objects ++ map (λ e. e.1) r) is ∙ sym (append_assoc objects (o ∷ []) (map (λ e. e.1) later)))
-
-pub record AreAll (es : List Event) (os : List ObjectCalls) : Type 0 where
-  pub rising : AllPairs (λ a b. a.object < b.object) os
-  pub named : (x : ℕ) → Contains (map (λ o. o.object) os) x ↔ IsNamed es x
-  pub kinds : All (λ o. o.kind ≡ kind_at es o.object) os
-  pub operations : All (λ o. o.ops ≡ operations_on o.object es) os
-  pub calls : All (λ o. calls_of o.ops ≡ calls_on o.object (denoted es)) os
 
 pub all_listed : (es : List Event) (m : BTreeMap ℕ ObjectCalls) (all rest : List (ℕ × ObjectCalls)) (os : List ObjectCalls) → IsOrdered nat_cmp m → IsWhole es m → all ≡ m.entries → rest ≡ [] → AreListed all rest os → AreAll es os
 all_listed es m all rest os sorted h from over listed = record {

@@ -13,7 +13,7 @@ use Rattle.checker.specs.declared.refusal.Refusal.{Refusal}
 use Rattle.checker.specs.declared.refusal.Refusal.TheVariants.{NoMemory}
 use Rattle.checker.specs.Refusals.{AreValid, IsFirstRefusal}
 use Rattle.checker.specs.Checking.{IsFine, IsRefused}
-use Rattle.checker.proofs.Certificates.{AreObjects, AreFine, IsFineAt, next_parts, next_fine, next_refused, first_refusal, refused_are_not_valid}
+use Rattle.checker.proofs.Certificates.{AreObjects, AreFine, IsFineAt, next_fine, element, next_is_first}
 use Rattle.parallel.specs.declared.share.Found.{Found}
 use Rattle.parallel.specs.Shares.{FallsTo, IsFinePiece, IsRefusedPiece, IsFirstOfShare, IsShare, IsNotBefore, IsEarlier}
 
@@ -151,62 +151,55 @@ fine_at os certificates k o l is h = λ d. subst (λ (q : ObjectCalls). IsFine q
 
 -- ---- what all workers found
 
+-- what so many workers found, each on its share of the objects
+pub record AreShares (count : ℕ) (os : List ObjectCalls) (certificates : List Certificate) (rs : List (Result (Unit {0}) Found)) : Type 0 where
+  pub some : 0 < count
+  pub long : length rs ≡ count
+  pub each : (i : ℕ) (d : Result (Unit {0}) Found) → i < count → IsShare i count os certificates (get_or rs i d)
+
 -- a place below the first that was found is fine
-pub fine_before : (count : ℕ) (os : List ObjectCalls) (certificates : List Certificate) (rs : List (Result (Unit {0}) Found)) (f : Found) → 0 < count → length rs ≡ count
-    → ((i : ℕ) (d : Result (Unit {0}) Found) → i < count → IsShare i count os certificates (get_or rs i d)) → All (IsNotBefore f) rs → (k : ℕ) → k < f.piece → k < length os → IsFinePiece os certificates k
-fine_before count os certificates rs f some long shares least k below inside =
-    let w = its_worker count k some in
+fine_before : (count : ℕ) (os : List ObjectCalls) (certificates : List Certificate) (rs : List (Result (Unit {0}) Found)) (f : Found) → AreShares count os certificates rs → All (IsNotBefore f) rs → (k : ℕ) → k < f.piece → k < length os → IsFinePiece os certificates k
+fine_before count os certificates rs f shares least k below inside =
+    let w = its_worker count k shares.some in
     let i = k % count in
-    let at = least i (Err f) (subst (λ n. i < n) (sym long) w.0) in
-    go (get_or rs i (Err f)) (shares i (Err f) w.0) at w.1
+    let at = least i (Err f) (subst (λ n. i < n) (sym shares.long) w.0) in
+    go (get_or rs i (Err f)) (shares.each i (Err f) w.0) at w.1
   where
     go : (r : Result (Unit {0}) Found) → IsShare (k % count) count os certificates r → IsNotBefore f r → FallsTo (k % count) count k → IsFinePiece os certificates k
     go (Ok u) h n own = h.fine k inside own
     go (Err g) h n own = h.found.before k (omega arith) own
 
 -- where nothing was found, each place is fine
-pub all_fine : (count : ℕ) (os : List ObjectCalls) (certificates : List Certificate) (rs : List (Result (Unit {0}) Found)) → 0 < count → length rs ≡ count
-    → ((i : ℕ) (d : Result (Unit {0}) Found) → i < count → IsShare i count os certificates (get_or rs i d)) → All IsOk rs → (k : ℕ) → k < length os → IsFinePiece os certificates k
-all_fine count os certificates rs some long shares ok k inside =
-    let w = its_worker count k some in
+all_fine : (count : ℕ) (os : List ObjectCalls) (certificates : List Certificate) (rs : List (Result (Unit {0}) Found)) → AreShares count os certificates rs → All IsOk rs → (k : ℕ) → k < length os → IsFinePiece os certificates k
+all_fine count os certificates rs shares ok k inside =
+    let w = its_worker count k shares.some in
     let i = k % count in
     let d = Ok tt in
-    go (get_or rs i d) (shares i d w.0) (ok i d (subst (λ n. i < n) (sym long) w.0)) w.1
+    go (get_or rs i d) (shares.each i d w.0) (ok i d (subst (λ n. i < n) (sym shares.long) w.0)) w.1
   where
     go : (r : Result (Unit {0}) Found) → IsShare (k % count) count os certificates r → IsOk r → FallsTo (k % count) count k → IsFinePiece os certificates k
     go (Ok u) h n own = h.fine k inside own
     go (Err g) h n own = cc n
 
 -- what was found at the least place is what its worker found first
-pub found_first : (count : ℕ) (os : List ObjectCalls) (certificates : List Certificate) (rs : List (Result (Unit {0}) Found)) (f : Found) → length rs ≡ count
-    → ((i : ℕ) (d : Result (Unit {0}) Found) → i < count → IsShare i count os certificates (get_or rs i d)) → Contains rs (Err f) → (f.piece < length os) × IsRefusedPiece os certificates f.piece f.refusal
-found_first count os certificates rs f long shares stands =
+found_first : (count : ℕ) (os : List ObjectCalls) (certificates : List Certificate) (rs : List (Result (Unit {0}) Found)) (f : Found) → AreShares count os certificates rs → Contains rs (Err f) → (f.piece < length os) × IsRefusedPiece os certificates f.piece f.refusal
+found_first count os certificates rs f shares stands =
     let i = stands.0 in
-    let s = shares i (Err f) (subst (λ n. i < n) long stands.1) in
+    let s = shares.each i (Err f) (subst (λ n. i < n) shares.long stands.1) in
     let h = subst (IsShare i count os certificates) stands.2 s in
     (h.found.inside, h.found.refused)
 
-element : (os : List ObjectCalls) (k : ℕ) → k < length os → (d : ObjectCalls) × (d ≡ get_or os k d)
-element [] k l = absurd (omega arith)
-element (o ∷ os) k l = let d = get_or (o ∷ os) k o in (d, get_or_default (o ∷ os) k o d l)
-
 -- What was found at the least place is the first refusal. Certificates that are valid are refused by want of memory alone.
 pub first_of_all : (es : List Event) (count : ℕ) (os : List ObjectCalls) (certificates : List Certificate) (rs : List (Result (Unit {0}) Found)) (f : Found) → AllPairs (λ a b. a.object ≢ b.object) certificates → AreObjects es os
-    → 0 < count → length rs ≡ count → ((i : ℕ) (d : Result (Unit {0}) Found) → i < count → IsShare i count os certificates (get_or rs i d)) → Contains rs (Err f) → All (IsNotBefore f) rs
-    → IsFirstRefusal es certificates f.refusal × (AreValid es certificates → f.refusal ≡ NoMemory)
-first_of_all es count os certificates rs f distinct objects some long shares stands least =
+    → AreShares count os certificates rs → Contains rs (Err f) → All (IsNotBefore f) rs → IsFirstRefusal es certificates f.refusal × (AreValid es certificates → f.refusal ≡ NoMemory)
+first_of_all es count os certificates rs f distinct objects shares stands least =
     let k = f.piece in
-    let below = fine_below es certificates os k objects (fine_before count os certificates rs f some long shares least) in
-    let found = found_first count os certificates rs f long shares stands in
+    let below = fine_below es certificates os k objects (fine_before count os certificates rs f shares least) in
+    let found = found_first count os certificates rs f shares stands in
     let o = element os k found.0 in
     let here = subst (λ (q : ObjectCalls). IsRefused q.kind (calls_of q.ops) certificates q.object f.refusal) (sym o.1) (found.1 o.0) in
-    let refused = next_refused es certificates os k o.0 f.refusal objects found.0 o.1 here in
-    let parts = next_parts os k o.0 found.0 o.1 in (
-      first_refusal es certificates os (take k os) o.0 (drop (suc k) os) f.refusal distinct objects parts below refused,
-      refused_are_not_valid es certificates os (take k os) o.0 (drop (suc k) os) f.refusal distinct objects parts below refused,
-    )
+    next_is_first es certificates os k o.0 f.refusal distinct objects below found.0 o.1 here
 
-pub all_are_fine : (es : List Event) (count : ℕ) (os : List ObjectCalls) (certificates : List Certificate) (rs : List (Result (Unit {0}) Found)) → AreObjects es os
-    → 0 < count → length rs ≡ count → ((i : ℕ) (d : Result (Unit {0}) Found) → i < count → IsShare i count os certificates (get_or rs i d)) → All IsOk rs → AreFine es certificates os
-all_are_fine es count os certificates rs objects some long shares ok =
-    subst (AreFine es certificates) (take_all (length os) os (omega arith)) (fine_below es certificates os (length os) objects (λ k l inside. all_fine count os certificates rs some long shares ok k inside))
+pub all_are_fine : (es : List Event) (count : ℕ) (os : List ObjectCalls) (certificates : List Certificate) (rs : List (Result (Unit {0}) Found)) → AreObjects es os → AreShares count os certificates rs → All IsOk rs → AreFine es certificates os
+all_are_fine es count os certificates rs objects shares ok =
+    subst (AreFine es certificates) (take_all (length os) os (omega arith)) (fine_below es certificates os (length os) objects (λ k l inside. all_fine count os certificates rs shares ok k inside))

@@ -1,5 +1,5 @@
 -- The parts that workers gather, and what they are together.
-use Rattle.std.specs.Prelude.{◌≡◌, ℕ, ◌<◌, ◌↔◌, ◌%◌, ◌⊎◌, List, length, get_or, map, Option, Some, Result, IfOk, All, Contains}
+use Rattle.std.specs.Prelude.{◌≡◌, ℕ, ◌<◌, ◌↔◌, ◌%◌, ◌⊎◌, List, length, get_or, map, Option, Some, Result, IfOk, All, AllPairs, Contains}
 use Rattle.std.specs.Ordering.{nat_cmp}
 use Rattle.std.specs.BTreeMap.{BTreeMap, get}
 use Rattle.model.specs.Orders.{calls_on}
@@ -34,3 +34,13 @@ pub record IsObjectOf (es : List Event) (x : ℕ) (o : ObjectCalls) : Type 0 whe
 pub record IsWhole (es : List Event) (m : BTreeMap ℕ ObjectCalls) : Type 0 where
   pub right : (x : ℕ) (o : ObjectCalls) → get nat_cmp m x ≡ Some o → IsObjectOf es x o
   pub whole : (x : ℕ) → IsNamed es x → (o : ObjectCalls) × (get nat_cmp m x ≡ Some o)
+
+-- what a split of a history gives: the histories of all named objects, in rising object number
+pub record AreAll (es : List Event) (os : List ObjectCalls) : Type 0 where
+  pub rising : AllPairs (λ a b. a.object < b.object) os
+  pub named : (x : ℕ) → Contains (map (λ o. o.object) os) x ↔ IsNamed es x
+  pub kinds : All (λ o. o.kind ≡ kind_at es o.object) os
+  -- each has all its operations, with their ends
+  pub operations : All (λ o. o.ops ≡ operations_on o.object es) os
+  -- those that did not fail are its calls in the history that the events denote
+  pub calls : All (λ o. calls_of o.ops ≡ calls_on o.object (denoted es)) os

@@ -1,13 +1,10 @@
 //! The operations of each object of a history, gathered by several workers.
 
-ghost use Rattle.std.specs.Prelude.{◌≡◌, ◌<◌, ◌↔◌, ℕ, List, length, OnOk, IfOk, All, AllPairs, Contains, map, ◌^◌};
+ghost use Rattle.std.specs.Prelude.{◌<◌, ℕ, List, length, OnOk, IfOk, ◌^◌};
 ghost use Rattle.std.specs.Ordering.{nat_cmp};
 ghost use Rattle.std.specs.BTreeMap.{get};
-ghost use Rattle.model.specs.Orders.{calls_on};
 ghost use Rattle.events.specs.declared.event.Event.{Event};
-ghost use Rattle.events.specs.Events.{IsNamed, kind_at, denoted};
-ghost use Rattle.events.specs.Operations.{operations_on, calls_of};
-ghost use Rattle.parallel.specs.Parts.{IsPart, ArePartsOf, IsPutIn, IsWhole};
+ghost use Rattle.parallel.specs.Parts.{IsPart, ArePartsOf, IsPutIn, IsWhole, AreAll};
 
 use events::{History, ObjectHistory, split_part};
 use std::alloc::{AllocError, Global};
@@ -55,15 +52,7 @@ pub(crate) fn split_by_workers<R: Threads + Sync>(
     workers: u32,
 ) -> Result<Vec<ObjectHistory>, AllocError>
     requires { 0 < workers }
-    ensures rising { IfOk result (λ v. AllPairs (λ a b. a.object < b.object) v.items) }
-    ensures named { IfOk result (λ v. (x : ℕ) →
-        Contains (map (λ o. o.object) v.items) x ↔ IsNamed history.now x) }
-    ensures kinds { IfOk result (λ v. All (λ o. o.kind ≡ kind_at history.now o.object) v.items) }
-    // Each has all its operations, with their ends.
-    ensures operations { IfOk result (λ v. All (λ o. o.ops ≡ operations_on o.object history.now) v.items) }
-    // Those that did not fail are its calls in the history that the events denote.
-    ensures calls { IfOk result (λ v.
-        All (λ o. calls_of o.ops ≡ calls_on o.object (denoted history.now)) v.items) }
+    ensures { IfOk result (λ v. AreAll history.now v.items) }
 {
     let found = map_indices(
         rt,

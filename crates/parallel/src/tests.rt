@@ -127,6 +127,17 @@ fn splits_as_one_worker(rt: HostRuntime) -> Result<(), Fail> {
     Ok(())
 }
 
+/// Waits until so many are counted; what waits too long is counted too.
+fn wait_for(least: u64, counted: &AtomicU64, gave_up: &AtomicU64) {
+    for _ in 0..TURNS {
+        if counted.load(Ordering::SeqCst) >= least {
+            return;
+        }
+        yield_now();
+    }
+    gave_up.fetch_add(1, Ordering::SeqCst);
+}
+
 /// Holds the first piece of each of two workers until both have come to theirs.
 #[derive(Drop)]
 struct Together {
@@ -137,13 +148,7 @@ struct Together {
 impl Gate for Together {
     fn before(&self, _worker: u32, _piece: u32) {
         self.came.fetch_add(1, Ordering::SeqCst);
-        for _ in 0..TURNS {
-            if self.came.load(Ordering::SeqCst) >= 2 {
-                return;
-            }
-            yield_now();
-        }
-        self.gave_up.fetch_add(1, Ordering::SeqCst);
+        wait_for(2, &self.came, &self.gave_up);
     }
 
     fn after(&self, _worker: u32, _piece: u32) {}
@@ -173,16 +178,9 @@ struct SecondFirst {
 
 impl Gate for SecondFirst {
     fn before(&self, _worker: u32, piece: u32) {
-        if piece > 0 {
-            return;
+        if piece == 0 {
+            wait_for(1, &self.checked, &self.gave_up);
         }
-        for _ in 0..TURNS {
-            if self.checked.load(Ordering::SeqCst) > 0 {
-                return;
-            }
-            yield_now();
-        }
-        self.gave_up.fetch_add(1, Ordering::SeqCst);
     }
 
     fn after(&self, worker: u32, piece: u32) {

@@ -1,6 +1,6 @@
 use Rattle.std.proofs.Common.{◌≡◌, ◌<◌, length, get_or, IfOk, refl, sym, subst, arith}
 use Rattle.parallel.specs.Parts.{IsPart, ArePartsOf}
-use Rattle.parallel.proofs.Joining.{AreListed, AreAll, list_more, all_listed}
+use Rattle.parallel.proofs.Joining.{AreListed, list_more, all_listed}
 use Rattle.parallel.proofs.gathering.split_by_workers.Goals as goal
 
 pub joined-requires : goal.joined-requires
@@ -16,8 +16,8 @@ loop-object-init g c = subst (AreListed _ _) (sym c.new-objects.ensures.items) r
 pub loop-object-preserved : goal.loop-object-preserved
 loop-object-preserved g c = subst (AreListed _ _) (sym c.in_ok-push.ensures.items) (list_more _ _ _ _ _ _ c.loop-object.invariant c.in-Some.ensures.steps)
 
-pub returns-clause-rising : goal.returns-clause-rising
-returns-clause-rising g c =
+pub returns : goal.returns
+returns g c =
     let es = c.args.history.now in
     let rs = c.in_ok-found.found.items in
     let ok = c.in_ok-found.found.ok in
@@ -25,48 +25,4 @@ returns-clause-rising g c =
     let long : length rs ≡ c.args.workers = omega (arith, ok, len) in
     let parts : ArePartsOf (λ v. v.items) es rs = λ i d l. subst (λ n. IfOk (get_or rs i d) (λ v. IsPart es i n v.items)) (sym long) (c.in_ok-found.ensures.each i d (subst (λ n. i < n) long l)).1.met in
     let gives = c.into_iter-object-iterator.ensures.into_iter_gives in
-    (all_listed es c.in_ok-sorted.sorted c.into_iter-object-iterator.result _ c.loop-object.objects.items gives.5 (c.in_ok-sorted.ensures es parts) gives.0 c.in-None.ensures.steps.0 c.loop-object.invariant).rising
-
-pub returns-clause-named : goal.returns-clause-named
-returns-clause-named g c =
-    let es = c.args.history.now in
-    let rs = c.in_ok-found.found.items in
-    let ok = c.in_ok-found.found.ok in
-    let len = c.in_ok-found.ensures.len in
-    let long : length rs ≡ c.args.workers = omega (arith, ok, len) in
-    let parts : ArePartsOf (λ v. v.items) es rs = λ i d l. subst (λ n. IfOk (get_or rs i d) (λ v. IsPart es i n v.items)) (sym long) (c.in_ok-found.ensures.each i d (subst (λ n. i < n) long l)).1.met in
-    let gives = c.into_iter-object-iterator.ensures.into_iter_gives in
-    (all_listed es c.in_ok-sorted.sorted c.into_iter-object-iterator.result _ c.loop-object.objects.items gives.5 (c.in_ok-sorted.ensures es parts) gives.0 c.in-None.ensures.steps.0 c.loop-object.invariant).named
-
-pub returns-clause-kinds : goal.returns-clause-kinds
-returns-clause-kinds g c =
-    let es = c.args.history.now in
-    let rs = c.in_ok-found.found.items in
-    let ok = c.in_ok-found.found.ok in
-    let len = c.in_ok-found.ensures.len in
-    let long : length rs ≡ c.args.workers = omega (arith, ok, len) in
-    let parts : ArePartsOf (λ v. v.items) es rs = λ i d l. subst (λ n. IfOk (get_or rs i d) (λ v. IsPart es i n v.items)) (sym long) (c.in_ok-found.ensures.each i d (subst (λ n. i < n) long l)).1.met in
-    let gives = c.into_iter-object-iterator.ensures.into_iter_gives in
-    (all_listed es c.in_ok-sorted.sorted c.into_iter-object-iterator.result _ c.loop-object.objects.items gives.5 (c.in_ok-sorted.ensures es parts) gives.0 c.in-None.ensures.steps.0 c.loop-object.invariant).kinds
-
-pub returns-clause-operations : goal.returns-clause-operations
-returns-clause-operations g c =
-    let es = c.args.history.now in
-    let rs = c.in_ok-found.found.items in
-    let ok = c.in_ok-found.found.ok in
-    let len = c.in_ok-found.ensures.len in
-    let long : length rs ≡ c.args.workers = omega (arith, ok, len) in
-    let parts : ArePartsOf (λ v. v.items) es rs = λ i d l. subst (λ n. IfOk (get_or rs i d) (λ v. IsPart es i n v.items)) (sym long) (c.in_ok-found.ensures.each i d (subst (λ n. i < n) long l)).1.met in
-    let gives = c.into_iter-object-iterator.ensures.into_iter_gives in
-    (all_listed es c.in_ok-sorted.sorted c.into_iter-object-iterator.result _ c.loop-object.objects.items gives.5 (c.in_ok-sorted.ensures es parts) gives.0 c.in-None.ensures.steps.0 c.loop-object.invariant).operations
-
-pub returns-clause-calls : goal.returns-clause-calls
-returns-clause-calls g c =
-    let es = c.args.history.now in
-    let rs = c.in_ok-found.found.items in
-    let ok = c.in_ok-found.found.ok in
-    let len = c.in_ok-found.ensures.len in
-    let long : length rs ≡ c.args.workers = omega (arith, ok, len) in
-    let parts : ArePartsOf (λ v. v.items) es rs = λ i d l. subst (λ n. IfOk (get_or rs i d) (λ v. IsPart es i n v.items)) (sym long) (c.in_ok-found.ensures.each i d (subst (λ n. i < n) long l)).1.met in
-    let gives = c.into_iter-object-iterator.ensures.into_iter_gives in
-    (all_listed es c.in_ok-sorted.sorted c.into_iter-object-iterator.result _ c.loop-object.objects.items gives.5 (c.in_ok-sorted.ensures es parts) gives.0 c.in-None.ensures.steps.0 c.loop-object.invariant).calls
+    all_listed es c.in_ok-sorted.sorted c.into_iter-object-iterator.result _ c.loop-object.objects.items gives.5 (c.in_ok-sorted.ensures es parts) gives.0 c.in-None.ensures.steps.0 c.loop-object.invariant
