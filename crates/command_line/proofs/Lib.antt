@@ -1,5 +1,4 @@
 pub mod Walks
-pub mod Schedules
-pub mod Files
+pub mod OneFile
 pub mod Parse
 pub mod Sought

@@ -1,7 +1,7 @@
 -- The words that clap takes for the command are those of one of its commands.
-use Rattle.std.proofs.Common.{◌≡◌, ◌⊎◌, ◌∙◌, ℕ, true, false, List, [], ◌∷◌, Option, Some, None, refl, sym, ap, ap₂, subst, inl, inr, codes, arith}
+use Rattle.std.proofs.Common.{◌≡◌, ◌∙◌, ℕ, true, false, List, [], ◌∷◌, Option, Some, None, refl, sym, ap, ap₂, subst, inl, inr, codes, arith}
 use Rattle.std.specs.Prelude.{IfOk, Result, Ok, Err, option_map, is_some, ◌≢◌}
-use Rattle.clap.specs.Faults.{check_fault, defaults_fault, entered_fault, fault_of, is_simple_and_free, level_fault, settle_fault, step_fault, turn_fault, walk_fault}
+use Rattle.clap.specs.Faults.{check_fault, defaults_fault, entered_fault, fault_of, is_simple_and_free, level_fault, settle_fault, turn_fault, walk_fault}
 use Rattle.clap.specs.declared.parser.matches.ArgMatches.{ArgMatches}
 use Rattle.clap.specs.Matches.{first_value}
 use Rattle.clap.specs.declared.parser.matches.Found.{Found}
@@ -21,13 +21,12 @@ use Rattle.clap.specs.declared.error.kind.ErrorKind.TheVariants.{OutOfMemory}
 use Rattle.command_line.specs.declared.asking.LineFault.{LineFault}
 use Rattle.command_line.specs.declared.asking.LineFault.TheVariants.{Help, Refused, NoMemory}
 use Rattle.clap.specs.Simple.{App, HasMatchesOf, subcommand_rows_of, built, entered, is_simple, subcommand_of}
-use Rattle.clap.specs.Walk.{Row, Text, Walk, arg_by_index, settled, finished, first_of, nothing_held, rows_after, rows_of, to_positional, value, walk, walked}
+use Rattle.clap.specs.Walk.{Row, Text, Walk, settled, finished, first_of, nothing_held, rows_after, rows_of, walk, walked}
 use Rattle.clap.proofs.OnLiterals.{clap_on_literals}
 use Rattle.order_search.specs.declared.trials.TryFirst.TheVariants.{LeastNumber}
-use Rattle.command_line.specs.Words.{AreNoOptions, AreRunOptions, AreSteps, IsFirst, AskFor, AskToFind, AskToSimulate, Finds, HasCheck, HasJudge, HasNoCheck, HasNoJudge, HasNoRun, HasNoSearch, HasSearch, IsCheckFound, IsCommand, IsFault, IsFor, IsNumber, IsPlain, IsPlainCheck, IsPlainRun, IsPlainSearch, IsPlainSimulate, IsRunFound, IsHistoryFound, IsJudgeFound, IsPlainFind, IsPlainJudge, IsScheduleFound, IsSearchFound, Lacks, LacksFor, command, default_steps, max_workers, values}
-use Rattle.command_line.proofs.Walks.{after, at, ends0, enters, enters_judge, enters_run, enters_search, held, history_is, judged, level_parts, low, names, not_nil, plain_differs, plain_long, plain_short, running, sought, state0, state2, stops, top, top_words}
-use Rattle.command_line.proofs.Schedules.{TakenSimulate, enters_simulate, played, simulate_taken, stops_simulate, takes_simulate}
-use Rattle.command_line.proofs.Files.{TakenFind, enters_find, find_taken, looked, stops_find, takes_find}
+use Rattle.command_line.specs.Words.{AreNoOptions, AreRunOptions, AreSteps, IsFirst, AskFor, AskOnFile, AskToCheck, Finds, HasCheck, HasJudge, HasNoCheck, HasNoJudge, HasNoRun, HasNoSearch, HasSearch, IsCheckFound, IsCommand, IsFault, IsFileFound, IsFor, IsNumber, IsPlain, IsPlainCheck, IsPlainRun, IsPlainSearch, IsPlainSimulate, IsPlainFind, IsPlainJudge, Lacks, LacksFor, command, default_steps, max_workers, values}
+use Rattle.command_line.proofs.Walks.{IsName, Stops, after, ends0, enters, enters_judge, enters_run, enters_search, history_is, judged, level_parts, low, names, not_nil, plain_word, running, sought, state0, state2, stops, top, top_words}
+use Rattle.command_line.proofs.OneFile.{enters_find, enters_simulate, file_taken, file_walked, judged_takes, looked, looked_help, looked_takes, played, played_help, played_takes, sought_takes, stops_find, stops_simulate, takes_find, takes_judge, takes_search, takes_simulate}
 
 -- words that are spelled otherwise are not the same
 apart : (v w : Text) → bytes_eq v w ≡ false → v ≡ w → ⊥
@@ -52,25 +51,19 @@ pub record TakenCheck (words : List Text) : Type 0 where
   pub entered : subcommand_of command words ≡ Some (codes "check", rows)
   pub files : AreNoOptions rest → HasFiles rest rows
 
-abbrev TakenRun : List Text → Type 0
-TakenRun words = (rows : List Row) × (subcommand_of command words ≡ Some (codes "run", rows))
+-- the words are those of the command of this name, and it has this file
+abbrev TakenFile : (name argument : Text) → List Text → Type 0
+TakenFile name argument words = (x : Text) × AskOnFile name words x × IsFileFound name argument (subcommand_of command words) x
 
-abbrev TakenSearch : List Text → Type 0
-TakenSearch words = (rows : List Row) × (subcommand_of command words ≡ Some (codes "search", rows))
-
-abbrev TakenJudge : List Text → Type 0
-TakenJudge words = (rows : List Row) × (subcommand_of command words ≡ Some (codes "judge", rows))
-
-abbrev Taken : List Text → Type 0
-Taken words = TakenCheck words ⊎ TakenSearch words ⊎ TakenRun words ⊎ TakenSimulate words ⊎ TakenFind words ⊎ TakenJudge words
-
-search_taken : (program : Text) (rest : List Text) → TakenSearch (program ∷ codes "search" ∷ rest)
-unfolding clap_on_literals
-search_taken program rest = (rows_after sought.rules [] rest, enters_search rest)
-
-judge_taken : (program : Text) (rest : List Text) → TakenJudge (program ∷ codes "judge" ∷ rest)
-unfolding clap_on_literals
-judge_taken program rest = (rows_after judged.rules [] rest, enters_judge rest)
+-- The words are those of the command of this name.
+pub record Taken (words : List Text) : Type 0 where
+  pub name : Text
+  pub known : IsName name
+  pub rows : List Row
+  pub entered : subcommand_of command words ≡ Some (name, rows)
+  pub check : name ≡ codes "check" → TakenCheck words
+  pub find : name ≡ codes "find" → TakenFile (codes "find") (codes "HISTORY") words
+  pub simulate : name ≡ codes "simulate" → TakenFile (codes "simulate") (codes "SCHEDULE") words
 
 low_taken : (program : Text) (rest : List Text) → level_fault low [] nothing_held rest false [] ≡ [] → TakenCheck (program ∷ codes "check" ∷ rest)
 unfolding clap_on_literals
@@ -84,7 +77,7 @@ low_taken program rest e =
       entered = enters rest;
       files = λ plain.
           let ends = ends0 false rest plain parts.0 parts.2 in
-          let last : finished low.rules (after (state0 false) rest) ≡ finished low.rules (state2 ends.0 ends.1 false).held = ap (finished low.rules) ends.3 in
+          let last : finished low.rules (after low (state0 false) rest) ≡ finished low.rules (state2 ends.0 ends.1 false).held = ap (finished low.rules) ends.3 in
           record {
             history = ends.0;
             certs = ends.1;
@@ -95,27 +88,41 @@ low_taken program rest e =
           };
     }
 
-run_taken : (program : Text) (rest : List Text) → TakenRun (program ∷ codes "run" ∷ rest)
-unfolding clap_on_literals
-run_taken program rest = (rows_after running.rules [] rest, enters_run rest)
-
 below_fault : (w : Text) (rest : List Text) (program : Text) → fault_of command (program ∷ w ∷ rest) ≡ [] → entered_fault (built command) (walk top.rules names nothing_held (w ∷ rest)).stopped ≡ []
 unfolding clap_on_literals
 below_fault w rest program e =
     let stop = (walk top.rules names nothing_held (w ∷ rest)).stopped in
     (level_parts top names (w ∷ rest) (is_some (entered (built command) stop)) (entered_fault (built command) stop) e).1
 
-check_taken : (program : Text) (rest : List Text) → fault_of command (program ∷ codes "check" ∷ rest) ≡ [] → Taken (program ∷ codes "check" ∷ rest)
-unfolding clap_on_literals
-check_taken program rest e = inl (low_taken program rest (subst (λ o. entered_fault (built command) o ≡ []) (stops rest) (below_fault (codes "check") rest program e)))
+-- what is wrong with the words behind the name of a command
+behind : (name : Text) → Stops name → (program : Text) (rest : List Text) → fault_of command (program ∷ name ∷ rest) ≡ [] → entered_fault (built command) (Some (name, rest)) ≡ []
+behind name stop program rest e = subst (λ o. entered_fault (built command) o ≡ []) (stop rest) (below_fault name rest program e)
 
-simulate_is_taken : (program : Text) (rest : List Text) → fault_of command (program ∷ codes "simulate" ∷ rest) ≡ [] → Taken (program ∷ codes "simulate" ∷ rest)
+check_taken : (program : Text) (rest : List Text) → fault_of command (program ∷ codes "check" ∷ rest) ≡ [] → TakenCheck (program ∷ codes "check" ∷ rest)
 unfolding clap_on_literals
-simulate_is_taken program rest e = inr (inr (inr (inl (simulate_taken program rest (subst (λ o. entered_fault (built command) o ≡ []) (stops_simulate rest) (below_fault (codes "simulate") rest program e))))))
+check_taken program rest e = low_taken program rest (behind (codes "check") stops program rest e)
 
-find_is_taken : (program : Text) (rest : List Text) → fault_of command (program ∷ codes "find" ∷ rest) ≡ [] → Taken (program ∷ codes "find" ∷ rest)
+find_taken : (program : Text) (rest : List Text) → fault_of command (program ∷ codes "find" ∷ rest) ≡ [] → TakenFile (codes "find") (codes "HISTORY") (program ∷ codes "find" ∷ rest)
 unfolding clap_on_literals
-find_is_taken program rest e = inr (inr (inr (inr (inl (find_taken program rest (subst (λ o. entered_fault (built command) o ≡ []) (stops_find rest) (below_fault (codes "find") rest program e)))))))
+find_taken program rest e = file_taken looked (codes "HISTORY") looked_takes looked_help (codes "find") program rest enters_find (behind (codes "find") stops_find program rest e)
+
+simulate_taken : (program : Text) (rest : List Text) → fault_of command (program ∷ codes "simulate" ∷ rest) ≡ [] → TakenFile (codes "simulate") (codes "SCHEDULE") (program ∷ codes "simulate" ∷ rest)
+unfolding clap_on_literals
+simulate_taken program rest e = file_taken played (codes "SCHEDULE") played_takes played_help (codes "simulate") program rest enters_simulate (behind (codes "simulate") stops_simulate program rest e)
+
+name_entered : (program w : Text) (rest : List Text) → IsName w → (rows : List Row) × (subcommand_of command (program ∷ w ∷ rest) ≡ Some (w, rows))
+unfolding clap_on_literals
+name_entered program w rest known = elim known [
+  | inl is ↦ subst At is (_, enters rest)
+  | inr (inl is) ↦ subst At is (_, enters_search rest)
+  | inr (inr (inl is)) ↦ subst At is (_, enters_run rest)
+  | inr (inr (inr (inl is))) ↦ subst At is (_, enters_simulate rest)
+  | inr (inr (inr (inr (inl is)))) ↦ subst At is (_, enters_find rest)
+  | inr (inr (inr (inr (inr is)))) ↦ subst At is (_, enters_judge rest)
+]
+  where
+    At : Text → Type 0
+    At w = (rows : List Row) × (subcommand_of command (program ∷ w ∷ rest) ≡ Some (w, rows))
 
 -- where clap names no kind of error, the words are those of one of the commands, and it has their files
 taken : (words : List Text) → fault_of command words ≡ [] → Taken words
@@ -125,30 +132,25 @@ taken (program ∷ []) e = absurd (not_nil e)
 taken (program ∷ w ∷ rest) e =
     let stop = (walk top.rules names nothing_held (w ∷ rest)).stopped in
     let parts = level_parts top names (w ∷ rest) (is_some (entered (built command) stop)) (entered_fault (built command) stop) e in
-    elim (top_words w rest parts.0 parts.2) [
-      | inl is ↦ subst (λ x. Taken (program ∷ x ∷ rest)) is (check_taken program rest (subst (λ x. fault_of command (program ∷ x ∷ rest) ≡ []) (sym is) e))
-      | inr (inl is) ↦ subst (λ x. Taken (program ∷ x ∷ rest)) is (inr (inl (search_taken program rest)))
-      | inr (inr (inl is)) ↦ subst (λ x. Taken (program ∷ x ∷ rest)) is (inr (inr (inl (run_taken program rest))))
-      | inr (inr (inr (inl is))) ↦ subst (λ x. Taken (program ∷ x ∷ rest)) is (simulate_is_taken program rest (subst (λ x. fault_of command (program ∷ x ∷ rest) ≡ []) (sym is) e))
-      | inr (inr (inr (inr (inr is)))) ↦ subst (λ x. Taken (program ∷ x ∷ rest)) is (inr (inr (inr (inr (inr (judge_taken program rest))))))
-      | inr (inr (inr (inr (inl is)))) ↦ subst (λ x. Taken (program ∷ x ∷ rest)) is (find_is_taken program rest (subst (λ x. fault_of command (program ∷ x ∷ rest) ≡ []) (sym is) e))
-    ]
+    let known = top_words w rest parts.0 parts.2 in
+    let inside = name_entered program w rest known in
+    record {
+      name = w;
+      known = known;
+      rows = inside.0;
+      entered = inside.1;
+      check = λ is. subst (λ x. TakenCheck (program ∷ x ∷ rest)) (sym is) (check_taken program rest (subst (λ x. fault_of command (program ∷ x ∷ rest) ≡ []) is e));
+      find = λ is. subst (λ x. TakenFile (codes "find") (codes "HISTORY") (program ∷ x ∷ rest)) (sym is) (find_taken program rest (subst (λ x. fault_of command (program ∷ x ∷ rest) ≡ []) is e));
+      simulate = λ is. subst (λ x. TakenFile (codes "simulate") (codes "SCHEDULE") (program ∷ x ∷ rest)) (sym is) (simulate_taken program rest (subst (λ x. fault_of command (program ∷ x ∷ rest) ≡ []) is e));
+    }
 
 -- ---- words that are taken
-
-plain_word : (rows : List Row) (pending : Option (Text × List Text)) (position : ℕ) (word : Text) → IsPlain word
-    → (turn_fault low [] (at rows pending position false) word ≡ step_fault low position (held rows pending) value)
-    × (walked low.rules [] (at rows pending position false) word ≡ to_positional low.rules (arg_by_index low.rules position) word (at rows pending position false) (held rows pending))
-unfolding walked
-plain_word rows pending position [] h = (refl, refl)
-plain_word rows pending position (b ∷ bs) h =
-    rw (plain_differs b bs h) (rw (plain_long b bs h) (rw (plain_short b bs h) (refl, refl)))
 
 low_takes : (h c : Text) → IsPlain h → IsPlain c → level_fault low [] nothing_held (h ∷ c ∷ []) false [] ≡ []
 unfolding clap_on_literals
 low_takes h c ph pc =
-    let first = plain_word [] None 1 h ph in
-    let second = plain_word [] (history_is h) 2 c pc in
+    let first = plain_word low [] None 1 h ph in
+    let second = plain_word low [] (history_is h) 2 c pc in
     let next : walked low.rules [] (walked low.rules [] (state0 false) h) c ≡ state2 h c false = ap (λ v. walked low.rules [] v c) first.1 ∙ second.1 in
     let turns : turn_fault low [] (walked low.rules [] (state0 false) h) c ≡ [] = ap (λ v. turn_fault low [] v c) first.1 ∙ second.0 in
     let walks : walk_fault low [] (state0 false) (h ∷ c ∷ []) ≡ [] = ap₂ (λ a b. or_else a (or_else b [])) first.0 turns in
@@ -159,7 +161,7 @@ low_takes h c ph pc =
 low_values : (h c : Text) → IsPlain h → IsPlain c → HasCheck (rows_after low.rules [] (h ∷ c ∷ [])) h c 1
 unfolding clap_on_literals
 low_values h c ph pc =
-    let next : walked low.rules [] (walked low.rules [] (state0 false) h) c ≡ state2 h c false = ap (λ v. walked low.rules [] v c) (plain_word [] None 1 h ph).1 ∙ (plain_word [] (history_is h) 2 c pc).1 in
+    let next : walked low.rules [] (walked low.rules [] (state0 false) h) c ≡ state2 h c false = ap (λ v. walked low.rules [] v c) (plain_word low [] None 1 h ph).1 ∙ (plain_word low [] (history_is h) 2 c pc).1 in
     let last : rows_after low.rules [] (h ∷ c ∷ []) ≡ finished low.rules (state2 h c false).held = ap (λ (v : Walk). finished low.rules v.held) next in
     record { history_first = ap (first_of (codes "HISTORY")) last; certs_first = ap (first_of (codes "CERTS")) last; workers_first = subst (λ o. IsNumber 1 max_workers 1 o 1) (sym (ap (first_of (codes "workers")) last)) refl }
 
@@ -170,45 +172,6 @@ takes program h c ph pc = ap (λ below. level_fault top names nothing_held (code
 takes_run : (program : Text) → fault_of command (program ∷ codes "run" ∷ []) ≡ []
 unfolding clap_on_literals
 takes_run program = refl
-
--- the walk takes the name of the file
-sought_word : (word : Text) → IsPlain word
-    → (turn_fault sought [] (at [] None 1 false) word ≡ [])
-    × (walked sought.rules [] (at [] None 1 false) word ≡ at [] (history_is word) 2 false)
-unfolding clap_on_literals
-sought_word [] h = (refl, refl)
-sought_word (b ∷ bs) h = rw (plain_differs b bs h) (rw (plain_long b bs h) (rw (plain_short b bs h) (refl, refl)))
-
-sought_takes : (h : Text) → IsPlain h → level_fault sought [] nothing_held (h ∷ []) false [] ≡ []
-unfolding clap_on_literals
-sought_takes h p =
-    let first = sought_word h p in
-    let walks : walk_fault sought [] (at [] None 1 false) (h ∷ []) ≡ [] = ap (λ a. or_else a []) first.0 in
-    ap₂ (λ f (v : Walk). or_else f (or_else (settle_fault sought.rules sought.args_override_self v.held) (or_else (defaults_fault (settled sought.rules v.held).rows sought.rules)
-    (check_fault sought (finished sought.rules v.held) false)))) walks first.1
-
-takes_search : (program h : Text) → IsPlain h → fault_of command (program ∷ codes "search" ∷ h ∷ []) ≡ []
-unfolding clap_on_literals
-takes_search program h p = ap (λ below. level_fault top names nothing_held (codes "search" ∷ h ∷ []) true below) (sought_takes h p)
-
-judged_word : (word : Text) → IsPlain word
-    → (turn_fault judged [] (at [] None 1 false) word ≡ [])
-    × (walked judged.rules [] (at [] None 1 false) word ≡ at [] (history_is word) 2 false)
-unfolding clap_on_literals
-judged_word [] h = (refl, refl)
-judged_word (b ∷ bs) h = rw (plain_differs b bs h) (rw (plain_long b bs h) (rw (plain_short b bs h) (refl, refl)))
-
-judged_takes : (h : Text) → IsPlain h → level_fault judged [] nothing_held (h ∷ []) false [] ≡ []
-unfolding clap_on_literals
-judged_takes h p =
-    let first = judged_word h p in
-    let walks : walk_fault judged [] (at [] None 1 false) (h ∷ []) ≡ [] = ap (λ a. or_else a []) first.0 in
-    ap₂ (λ f (v : Walk). or_else f (or_else (settle_fault judged.rules judged.args_override_self v.held) (or_else (defaults_fault (settled judged.rules v.held).rows judged.rules)
-    (check_fault judged (finished judged.rules v.held) false)))) walks first.1
-
-takes_judge : (program h : Text) → IsPlain h → fault_of command (program ∷ codes "judge" ∷ h ∷ []) ≡ []
-unfolding clap_on_literals
-takes_judge program h p = ap (λ below. level_fault top names nothing_held (codes "judge" ∷ h ∷ []) true below) (judged_takes h p)
 
 -- where no option is given, a run is of these
 abbrev plain_run : RunOptions
@@ -222,16 +185,15 @@ run_values = record { kinds = refl; objects = refl; clients = refl; calls = refl
 sought_values : (h : Text) → IsPlain h → HasSearch (rows_after sought.rules [] (h ∷ [])) h default_steps LeastNumber
 unfolding clap_on_literals
 sought_values h p =
-    let last : rows_after sought.rules [] (h ∷ []) ≡ finished sought.rules (at [] (history_is h) 2 false).held = ap (λ (v : Walk). finished sought.rules v.held) (sought_word h p).1 in
+    let last = ap (λ (v : Walk). finished sought.rules v.held) (file_walked sought (codes "HISTORY") sought_takes h p) in
     record { history_first = ap (first_of (codes "HISTORY")) last; steps_first = subst (λ o. AreSteps o default_steps) (sym (ap (first_of (codes "steps")) last)) refl; first_first = subst (λ o. IsFirst o LeastNumber) (sym (ap (first_of (codes "first")) last)) refl }
 
 judged_values : (h : Text) → IsPlain h → HasJudge (rows_after judged.rules [] (h ∷ [])) h default_steps
 unfolding clap_on_literals
 judged_values h p =
-    let last : rows_after judged.rules [] (h ∷ []) ≡ finished judged.rules (at [] (history_is h) 2 false).held = ap (λ (v : Walk). finished judged.rules v.held) (judged_word h p).1 in
+    let last = ap (λ (v : Walk). finished judged.rules v.held) (file_walked judged (codes "HISTORY") judged_takes h p) in
     record { history_first = ap (first_of (codes "HISTORY")) last; steps_first = subst (λ o. AreSteps o default_steps) (sym (ap (first_of (codes "steps")) last)) refl }
 
--- the walk takes the name of the schedule
 simple : is_simple_and_free command ≡ true
 unfolding clap_on_literals
 simple = refl
@@ -252,6 +214,9 @@ found_rows m w r s f e = some_same (ap (option_map (λ (p : Text × List Row). p
 one_name : (m : Option (Text × List Row)) (v w : Text) (r : List Row) → m ≡ Some (v, r) → option_map (λ p. p.0) m ≡ Some w → v ≡ w
 one_name m v w r f e = some_same (ap (option_map (λ (p : Text × List Row). p.0)) (sym f) ∙ e)
 
+taken_name : (words : List Text) (t : Taken words) (name : Text) (rows : List Row) → subcommand_of command words ≡ Some (name, rows) → t.name ≡ name
+taken_name words t name rows g = one_name (subcommand_of command words) t.name name t.rows t.entered (ap (option_map (λ (p : Text × List Row). p.0)) g)
+
 -- ---- what clap answers
 
 memory_fault : (f : LineFault) → IsFor OutOfMemory f → f ≡ NoMemory
@@ -271,15 +236,26 @@ only_memory_of words f none found (inl e) = e
 only_memory_of words f none found (inr (inl k)) = absurd (subst (IsAmong k.0) none k.1)
 only_memory_of words f none found (inr (inr l)) = absurd (found l)
 
-lacks_no : (name : Text) (P : List Row → Type 0) (m : Option (Text × List Row)) (w : Text) (r : List Row) (f : LineFault) → m ≡ Some (w, r) → (w ≡ name → ⊥) → LacksFor name P m f → ⊥
-lacks_no name P m w r f e other l = other (one_name m w name r e (ap (option_map (λ (p : Text × List Row). p.0)) l.entered))
+-- the command that is found has its values, where it is one that can lack them
+pub record HasValues (w : Text) (rows : List Row) : Type 0 where
+  pub search : w ≡ codes "search" → HasNoSearch rows → ⊥
+  pub run : w ≡ codes "run" → HasNoRun rows → ⊥
+  pub check : w ≡ codes "check" → HasNoCheck rows → ⊥
+  pub judge : w ≡ codes "judge" → HasNoJudge rows → ⊥
 
--- what is found is neither a search nor a run nor a check nor a judgement
-lacks_nothing : (m : Option (Text × List Row)) (w : Text) (r : List Row) (f : LineFault) → m ≡ Some (w, r) → (w ≡ codes "search" → ⊥) → (w ≡ codes "run" → ⊥) → (w ≡ codes "check" → ⊥) → (w ≡ codes "judge" → ⊥) → Lacks m f → ⊥
-lacks_nothing m w r f e no_search no_run no_check no_judge (inl l) = lacks_no (codes "search") HasNoSearch m w r f e no_search l
-lacks_nothing m w r f e no_search no_run no_check no_judge (inr (inl l)) = lacks_no (codes "run") HasNoRun m w r f e no_run l
-lacks_nothing m w r f e no_search no_run no_check no_judge (inr (inr (inl l))) = lacks_no (codes "check") HasNoCheck m w r f e no_check l
-lacks_nothing m w r f e no_search no_run no_check no_judge (inr (inr (inr l))) = lacks_no (codes "judge") HasNoJudge m w r f e no_judge l
+lacks_not : (name : Text) (P : List Row → Type 0) (m : Option (Text × List Row)) (w : Text) (r : List Row) (f : LineFault) → m ≡ Some (w, r) → (w ≡ name → P r → ⊥) → LacksFor name P m f → ⊥
+lacks_not name P m w r f e has l =
+    has (one_name m w name r e (ap (option_map (λ (p : Text × List Row). p.0)) l.entered)) (subst P (sym (found_rows m w r l.rows e (ap (option_map (λ (p : Text × List Row). p.1)) l.entered))) l.none)
+
+lacks_nothing : (m : Option (Text × List Row)) (w : Text) (r : List Row) (f : LineFault) → m ≡ Some (w, r) → HasValues w r → Lacks m f → ⊥
+lacks_nothing m w r f e has (inl l) = lacks_not (codes "search") HasNoSearch m w r f e has.search l
+lacks_nothing m w r f e has (inr (inl l)) = lacks_not (codes "run") HasNoRun m w r f e has.run l
+lacks_nothing m w r f e has (inr (inr (inl l))) = lacks_not (codes "check") HasNoCheck m w r f e has.check l
+lacks_nothing m w r f e has (inr (inr (inr l))) = lacks_not (codes "judge") HasNoJudge m w r f e has.judge l
+
+-- another name than that of a command that can lack its values
+other : (v w : Text) (P : Type 0) → bytes_eq v w ≡ false → v ≡ w → P → ⊥
+other v w P differ is p = apart v w differ is
 
 -- a command without its values is refused so, or memory was
 pub lacking : (words : List Text) (f : LineFault) → (f ≢ NoMemory → Lacks (subcommand_of command words) f) → IsFault words f
@@ -287,186 +263,137 @@ lacking words (Help t) l = inr (inr (l (λ e. cc)))
 lacking words (Refused t) l = inr (inr (l (λ e. cc)))
 lacking words NoMemory l = inl refl
 
--- the rows that were found have values
-lacks_none : (m : Option (Text × List Row)) (name : Text) (P : List Row → Type 0) (rows : List Row) (f : LineFault) → m ≡ Some (name, rows) → (P rows → ⊥) → LacksFor name P m f → ⊥
-lacks_none m name P rows f is has l = has (subst P (sym (found_rows m name rows l.rows is (ap (option_map (λ (q : Text × List Row). q.1)) l.entered))) l.none)
+-- words that clap takes for a command that has its values are refused for want of memory alone
+only_memory_at : (own words : List Text) (name : Text) (rows : List Row) (f : LineFault) → words ≡ own → fault_of command own ≡ [] → subcommand_of command own ≡ Some (name, rows) → HasValues name rows → IsFault words f → f ≡ NoMemory
+only_memory_at own words name rows f said none is has =
+    subst (λ ws. IsFault ws f → f ≡ NoMemory) (sym said) (only_memory_of own f none (lacks_nothing (subcommand_of command own) name rows f is has))
 
 pub only_memory : (words : List Text) (f : LineFault) → IsPlainCheck words → IsFault words f → f ≡ NoMemory
 unfolding clap_on_literals
 only_memory words f p =
     let rest = p.history ∷ p.certs ∷ [] in
-    let rows = rows_after low.rules [] rest in
-    let is : subcommand_of command words ≡ Some (codes "check", rows) = subst (λ ws. subcommand_of command ws ≡ Some (codes "check", rows)) (sym p.said) (enters rest) in
-    only_memory_of words f (subst (λ ws. fault_of command ws ≡ []) (sym p.said) (takes p.program p.history p.certs p.history_plain p.certs_plain)) (λ l. elim l [
-      | inl l ↦ lacks_no (codes "search") HasNoSearch (subcommand_of command words) (codes "check") rows f is (apart (codes "check") (codes "search") refl) l
-      | inr (inl l) ↦ lacks_no (codes "run") HasNoRun (subcommand_of command words) (codes "check") rows f is (apart (codes "check") (codes "run") refl) l
-      | inr (inr (inr l)) ↦ lacks_no (codes "judge") HasNoJudge (subcommand_of command words) (codes "check") rows f is (apart (codes "check") (codes "judge") refl) l
-      | inr (inr (inl l)) ↦ lacks_none (subcommand_of command words) (codes "check") HasNoCheck rows f is (λ none. none p.history p.certs 1 (low_values p.history p.certs p.history_plain p.certs_plain)) l
-    ])
+    let has : HasValues (codes "check") (rows_after low.rules [] rest) = record {
+      search = other (codes "check") (codes "search") _ refl;
+      run = other (codes "check") (codes "run") _ refl;
+      check = λ is none. none p.history p.certs 1 (low_values p.history p.certs p.history_plain p.certs_plain);
+      judge = other (codes "check") (codes "judge") _ refl;
+    } in
+    only_memory_at (p.program ∷ codes "check" ∷ rest) words (codes "check") _ f p.said (takes p.program p.history p.certs p.history_plain p.certs_plain) (enters rest) has
 
 pub only_memory_run : (words : List Text) (f : LineFault) → IsPlainRun words → IsFault words f → f ≡ NoMemory
 unfolding clap_on_literals
 only_memory_run words f p =
-    let rows = rows_after running.rules [] [] in
-    let is : subcommand_of command words ≡ Some (codes "run", rows) = subst (λ ws. subcommand_of command ws ≡ Some (codes "run", rows)) (sym p.said) (enters_run []) in
-    only_memory_of words f (subst (λ ws. fault_of command ws ≡ []) (sym p.said) (takes_run p.program)) (λ l. elim l [
-      | inl l ↦ lacks_no (codes "search") HasNoSearch (subcommand_of command words) (codes "run") rows f is (apart (codes "run") (codes "search") refl) l
-      | inr (inl l) ↦ lacks_none (subcommand_of command words) (codes "run") HasNoRun rows f is (λ none. none plain_run run_values) l
-      | inr (inr (inr l)) ↦ lacks_no (codes "judge") HasNoJudge (subcommand_of command words) (codes "run") rows f is (apart (codes "run") (codes "judge") refl) l
-      | inr (inr (inl l)) ↦ lacks_no (codes "check") HasNoCheck (subcommand_of command words) (codes "run") rows f is (apart (codes "run") (codes "check") refl) l
-    ])
+    let has : HasValues (codes "run") (rows_after running.rules [] []) = record {
+      search = other (codes "run") (codes "search") _ refl;
+      run = λ is none. none plain_run run_values;
+      check = other (codes "run") (codes "check") _ refl;
+      judge = other (codes "run") (codes "judge") _ refl;
+    } in
+    only_memory_at (p.program ∷ codes "run" ∷ []) words (codes "run") _ f p.said (takes_run p.program) (enters_run []) has
 
 pub only_memory_search : (words : List Text) (f : LineFault) → IsPlainSearch words → IsFault words f → f ≡ NoMemory
 unfolding clap_on_literals
 only_memory_search words f p =
-    let rows = rows_after sought.rules [] (p.history ∷ []) in
-    let is : subcommand_of command words ≡ Some (codes "search", rows) = subst (λ ws. subcommand_of command ws ≡ Some (codes "search", rows)) (sym p.said) (enters_search (p.history ∷ [])) in
-    only_memory_of words f (subst (λ ws. fault_of command ws ≡ []) (sym p.said) (takes_search p.program p.history p.history_plain)) (λ l. elim l [
-      | inl l ↦ lacks_none (subcommand_of command words) (codes "search") HasNoSearch rows f is (λ none. none p.history default_steps LeastNumber (sought_values p.history p.history_plain)) l
-      | inr (inl l) ↦ lacks_no (codes "run") HasNoRun (subcommand_of command words) (codes "search") rows f is (apart (codes "search") (codes "run") refl) l
-      | inr (inr (inr l)) ↦ lacks_no (codes "judge") HasNoJudge (subcommand_of command words) (codes "search") rows f is (apart (codes "search") (codes "judge") refl) l
-      | inr (inr (inl l)) ↦ lacks_no (codes "check") HasNoCheck (subcommand_of command words) (codes "search") rows f is (apart (codes "search") (codes "check") refl) l
-    ])
+    let has : HasValues (codes "search") (rows_after sought.rules [] (p.history ∷ [])) = record {
+      search = λ is none. none p.history default_steps LeastNumber (sought_values p.history p.history_plain);
+      run = other (codes "search") (codes "run") _ refl;
+      check = other (codes "search") (codes "check") _ refl;
+      judge = other (codes "search") (codes "judge") _ refl;
+    } in
+    only_memory_at (p.program ∷ codes "search" ∷ p.history ∷ []) words (codes "search") _ f p.said (takes_search p.program p.history p.history_plain) (enters_search (p.history ∷ [])) has
 
 pub only_memory_judge : (words : List Text) (f : LineFault) → IsPlainJudge words → IsFault words f → f ≡ NoMemory
 unfolding clap_on_literals
 only_memory_judge words f p =
-    let rows = rows_after judged.rules [] (p.history ∷ []) in
-    let is : subcommand_of command words ≡ Some (codes "judge", rows) = subst (λ ws. subcommand_of command ws ≡ Some (codes "judge", rows)) (sym p.said) (enters_judge (p.history ∷ [])) in
-    only_memory_of words f (subst (λ ws. fault_of command ws ≡ []) (sym p.said) (takes_judge p.program p.history p.history_plain)) (λ l. elim l [
-      | inl l ↦ lacks_no (codes "search") HasNoSearch (subcommand_of command words) (codes "judge") rows f is (apart (codes "judge") (codes "search") refl) l
-      | inr (inl l) ↦ lacks_no (codes "run") HasNoRun (subcommand_of command words) (codes "judge") rows f is (apart (codes "judge") (codes "run") refl) l
-      | inr (inr (inl l)) ↦ lacks_no (codes "check") HasNoCheck (subcommand_of command words) (codes "judge") rows f is (apart (codes "judge") (codes "check") refl) l
-      | inr (inr (inr l)) ↦ lacks_none (subcommand_of command words) (codes "judge") HasNoJudge rows f is (λ none. none p.history default_steps (judged_values p.history p.history_plain)) l
-    ])
+    let has : HasValues (codes "judge") (rows_after judged.rules [] (p.history ∷ [])) = record {
+      search = other (codes "judge") (codes "search") _ refl;
+      run = other (codes "judge") (codes "run") _ refl;
+      check = other (codes "judge") (codes "check") _ refl;
+      judge = λ is none. none p.history default_steps (judged_values p.history p.history_plain);
+    } in
+    only_memory_at (p.program ∷ codes "judge" ∷ p.history ∷ []) words (codes "judge") _ f p.said (takes_judge p.program p.history p.history_plain) (enters_judge (p.history ∷ [])) has
+
+-- a command on one file alone has its values
+has_file : (name : Text) (rows : List Row) → bytes_eq name (codes "search") ≡ false → bytes_eq name (codes "run") ≡ false → bytes_eq name (codes "check") ≡ false → bytes_eq name (codes "judge") ≡ false → HasValues name rows
+has_file name rows no_search no_run no_check no_judge = record { search = other name (codes "search") _ no_search; run = other name (codes "run") _ no_run; check = other name (codes "check") _ no_check; judge = other name (codes "judge") _ no_judge }
 
 pub only_memory_simulate : (words : List Text) (f : LineFault) → IsPlainSimulate words → IsFault words f → f ≡ NoMemory
 unfolding clap_on_literals
 only_memory_simulate words f p =
-    only_memory_of words f (subst (λ ws. fault_of command ws ≡ []) (sym p.said) (takes_simulate p.program p.schedule p.schedule_plain))
-    (lacks_nothing (subcommand_of command words) (codes "simulate") (rows_after played.rules [] (p.schedule ∷ [])) f (subst (λ ws. subcommand_of command ws ≡ Some (codes "simulate", rows_after played.rules [] (p.schedule ∷ []))) (sym p.said) (enters_simulate (p.schedule ∷ []))) (apart (codes "simulate") (codes "search") refl) (apart (codes "simulate") (codes "run") refl) (apart (codes "simulate") (codes "check") refl) (apart (codes "simulate") (codes "judge") refl))
+    only_memory_at (p.program ∷ codes "simulate" ∷ p.schedule ∷ []) words (codes "simulate") _ f p.said (takes_simulate p.program p.schedule p.schedule_plain) (enters_simulate (p.schedule ∷ [])) (has_file (codes "simulate") _ refl refl refl refl)
 
 pub only_memory_find : (words : List Text) (f : LineFault) → IsPlainFind words → IsFault words f → f ≡ NoMemory
 unfolding clap_on_literals
 only_memory_find words f p =
-    only_memory_of words f (subst (λ ws. fault_of command ws ≡ []) (sym p.said) (takes_find p.program p.history p.history_plain))
-    (lacks_nothing (subcommand_of command words) (codes "find") (rows_after looked.rules [] (p.history ∷ [])) f (subst (λ ws. subcommand_of command ws ≡ Some (codes "find", rows_after looked.rules [] (p.history ∷ []))) (sym p.said) (enters_find (p.history ∷ []))) (apart (codes "find") (codes "search") refl) (apart (codes "find") (codes "run") refl) (apart (codes "find") (codes "check") refl) (apart (codes "find") (codes "judge") refl))
+    only_memory_at (p.program ∷ codes "find" ∷ p.history ∷ []) words (codes "find") _ f p.said (takes_find p.program p.history p.history_plain) (enters_find (p.history ∷ [])) (has_file (codes "find") _ refl refl refl refl)
 
 -- ---- what is found
-
-not_both : (m : Option (Text × List Row)) (v w : Text) (r s : List Row) → m ≡ Some (v, r) → m ≡ Some (w, s) → (v ≡ w → ⊥) → ⊥
-not_both m v w r s f g other = other (one_name m v w r f (ap (option_map (λ (p : Text × List Row). p.0)) g))
 
 same_first : (r : List Row) (s : List Row) (id x y : Text) → r ≡ s → first_of id r ≡ Some x → first_of id s ≡ Some y → x ≡ y
 same_first r s id x y e p q = some_same (sym p ∙ ap (first_of id) e ∙ q)
 
--- the words asked for what is found
-Asked : List Text → Option (Text × List Row) → Type 0
-Asked words m = (l : Line) → Finds m l → AskFor words l
+same_rows : (m : Option (Text × List Row)) (v w : Text) (r s : List Row) → m ≡ Some (v, r) → m ≡ Some (w, s) → r ≡ s
+same_rows m v w r s f g = found_rows m v r s f (ap (option_map (λ (p : Text × List Row). p.1)) g)
 
-asked_check : (words : List Text) (m : Option (Text × List Row)) (t : TakenCheck words) → m ≡ subcommand_of command words → m ≡ Some (codes "check", t.rows) → Asked words m
-unfolding Asked
-asked_check words m t is f (Check history certs workers) g =
-    let rows : t.rows ≡ g.rows = found_rows m (codes "check") t.rows g.rows f (ap (option_map (λ (p : Text × List Row). p.1)) g.entered) in
+asked_check : (words : List Text) → TakenCheck words → (history certs : Text) (workers : ℕ) → IsCheckFound (subcommand_of command words) history certs workers → AskToCheck words history certs workers
+asked_check words t history certs workers g =
+    let rows : t.rows ≡ g.rows = same_rows (subcommand_of command words) (codes "check") (codes "check") t.rows g.rows t.entered g.entered in
     record {
       program = t.program;
       rest = t.rest;
       said = t.said;
-      found = subst (λ o. IsCheckFound o (string_bytes history) (string_bytes certs) workers) is g;
+      found = g;
       files = λ plain.
           let own = t.files plain in
-          let same_h : own.history ≡ string_bytes history = same_first t.rows g.rows (codes "HISTORY") own.history (string_bytes history) rows own.history_first g.values.history_first in
-          let same_c : own.certs ≡ string_bytes certs = same_first t.rows g.rows (codes "CERTS") own.certs (string_bytes certs) rows own.certs_first g.values.certs_first in
+          let same_h : own.history ≡ history = same_first t.rows g.rows (codes "HISTORY") own.history history rows own.history_first g.values.history_first in
+          let same_c : own.certs ≡ certs = same_first t.rows g.rows (codes "CERTS") own.certs certs rows own.certs_first g.values.certs_first in
           let none : first_of (codes "workers") g.rows ≡ None = sym (ap (first_of (codes "workers")) rows) ∙ own.none in
           let one : workers ≡ 1 = subst (λ o. IsNumber 1 max_workers 1 o workers) none g.values.workers_first in
-          (subst (λ x. values t.rest ≡ x ∷ string_bytes certs ∷ []) same_h (subst (λ x. values t.rest ≡ own.history ∷ x ∷ []) same_c own.files), one);
+          (subst (λ x. values t.rest ≡ x ∷ certs ∷ []) same_h (subst (λ x. values t.rest ≡ own.history ∷ x ∷ []) same_c own.files), one);
     }
-asked_check words m t is f (Search history steps first) g = absurd (not_both m (codes "check") (codes "search") t.rows g.rows f g.entered (apart (codes "check") (codes "search") refl))
-asked_check words m t is f (Find history) g = absurd (not_both m (codes "check") (codes "find") t.rows g.rows f g.entered (apart (codes "check") (codes "find") refl))
-asked_check words m t is f (Judge history steps) g = absurd (not_both m (codes "check") (codes "judge") t.rows g.rows f g.entered (apart (codes "check") (codes "judge") refl))
-asked_check words m t is f (Run options) g = absurd (not_both m (codes "check") (codes "run") t.rows g.rows f g.entered (apart (codes "check") (codes "run") refl))
-asked_check words m t is f (Simulate schedule) g = absurd (not_both m (codes "check") (codes "simulate") t.rows g.rows f g.entered (apart (codes "check") (codes "simulate") refl))
 
-asked_search : (words : List Text) (m : Option (Text × List Row)) (r : List Row) → m ≡ subcommand_of command words → m ≡ Some (codes "search", r) → Asked words m
-unfolding Asked
-asked_search words m r is f (Check history certs workers) g = absurd (not_both m (codes "search") (codes "check") r g.rows f g.entered (apart (codes "search") (codes "check") refl))
-asked_search words m r is f (Search history steps first) g = subst (λ o. IsSearchFound o (string_bytes history) steps first) is g
-asked_search words m r is f (Find history) g = absurd (not_both m (codes "search") (codes "find") r g.rows f g.entered (apart (codes "search") (codes "find") refl))
-asked_search words m r is f (Judge history steps) g = absurd (not_both m (codes "search") (codes "judge") r g.rows f g.entered (apart (codes "search") (codes "judge") refl))
-asked_search words m r is f (Run options) g = absurd (not_both m (codes "search") (codes "run") r g.rows f g.entered (apart (codes "search") (codes "run") refl))
-asked_search words m r is f (Simulate schedule) g = absurd (not_both m (codes "search") (codes "simulate") r g.rows f g.entered (apart (codes "search") (codes "simulate") refl))
+asked_file : (name argument : Text) (words : List Text) → TakenFile name argument words → (x : Text) → IsFileFound name argument (subcommand_of command words) x → AskOnFile name words x
+asked_file name argument words t x g =
+    let f = t.2 in
+    subst (AskOnFile name words) (same_first f.rows g.rows argument t.0 x (same_rows (subcommand_of command words) name name f.rows g.rows f.entered g.entered) f.file_first g.file_first) t.1
 
-asked_run : (words : List Text) (m : Option (Text × List Row)) (r : List Row) → m ≡ subcommand_of command words → m ≡ Some (codes "run", r) → Asked words m
-unfolding Asked
-asked_run words m r is f (Check history certs workers) g = absurd (not_both m (codes "run") (codes "check") r g.rows f g.entered (apart (codes "run") (codes "check") refl))
-asked_run words m r is f (Search history steps first) g = absurd (not_both m (codes "run") (codes "search") r g.rows f g.entered (apart (codes "run") (codes "search") refl))
-asked_run words m r is f (Find history) g = absurd (not_both m (codes "run") (codes "find") r g.rows f g.entered (apart (codes "run") (codes "find") refl))
-asked_run words m r is f (Judge history steps) g = absurd (not_both m (codes "run") (codes "judge") r g.rows f g.entered (apart (codes "run") (codes "judge") refl))
-asked_run words m r is f (Run options) g = subst (λ o. IsRunFound o options) is g
-asked_run words m r is f (Simulate schedule) g = absurd (not_both m (codes "run") (codes "simulate") r g.rows f g.entered (apart (codes "run") (codes "simulate") refl))
+-- the words asked for what is found
+asked : (words : List Text) → Taken words → (l : Line) → Finds (subcommand_of command words) l → AskFor words l
+asked words t (Check history certs workers) g = asked_check words (t.check (taken_name words t (codes "check") g.rows g.entered)) (string_bytes history) (string_bytes certs) workers g
+asked words t (Search history steps first) g = g
+asked words t (Find history) g = asked_file (codes "find") (codes "HISTORY") words (t.find (taken_name words t (codes "find") g.rows g.entered)) (string_bytes history) g
+asked words t (Judge history steps) g = g
+asked words t (Run options) g = g
+asked words t (Simulate schedule) g = asked_file (codes "simulate") (codes "SCHEDULE") words (t.simulate (taken_name words t (codes "simulate") g.rows g.entered)) (string_bytes schedule) g
 
-asked_judge : (words : List Text) (m : Option (Text × List Row)) (r : List Row) → m ≡ subcommand_of command words → m ≡ Some (codes "judge", r) → Asked words m
-unfolding Asked
-asked_judge words m r is f (Check history certs workers) g = absurd (not_both m (codes "judge") (codes "check") r g.rows f g.entered (apart (codes "judge") (codes "check") refl))
-asked_judge words m r is f (Search history steps first) g = absurd (not_both m (codes "judge") (codes "search") r g.rows f g.entered (apart (codes "judge") (codes "search") refl))
-asked_judge words m r is f (Find history) g = absurd (not_both m (codes "judge") (codes "find") r g.rows f g.entered (apart (codes "judge") (codes "find") refl))
-asked_judge words m r is f (Judge history steps) g = subst (λ o. IsJudgeFound o (string_bytes history) steps) is g
-asked_judge words m r is f (Run options) g = absurd (not_both m (codes "judge") (codes "run") r g.rows f g.entered (apart (codes "judge") (codes "run") refl))
-asked_judge words m r is f (Simulate schedule) g = absurd (not_both m (codes "judge") (codes "simulate") r g.rows f g.entered (apart (codes "judge") (codes "simulate") refl))
-
-asked_simulate : (words : List Text) (m : Option (Text × List Row)) (x : Text) → AskToSimulate words x → IsScheduleFound m x → Asked words m
-unfolding Asked
-asked_simulate words m x a f (Check history certs workers) g = absurd (not_both m (codes "simulate") (codes "check") f.rows g.rows f.entered g.entered (apart (codes "simulate") (codes "check") refl))
-asked_simulate words m x a f (Search history steps first) g = absurd (not_both m (codes "simulate") (codes "search") f.rows g.rows f.entered g.entered (apart (codes "simulate") (codes "search") refl))
-asked_simulate words m x a f (Find history) g = absurd (not_both m (codes "simulate") (codes "find") f.rows g.rows f.entered g.entered (apart (codes "simulate") (codes "find") refl))
-asked_simulate words m x a f (Judge history steps) g = absurd (not_both m (codes "simulate") (codes "judge") f.rows g.rows f.entered g.entered (apart (codes "simulate") (codes "judge") refl))
-asked_simulate words m x a f (Run options) g = absurd (not_both m (codes "simulate") (codes "run") f.rows g.rows f.entered g.entered (apart (codes "simulate") (codes "run") refl))
-asked_simulate words m x a f (Simulate schedule) g =
-    let rows : f.rows ≡ g.rows = found_rows m (codes "simulate") f.rows g.rows f.entered (ap (option_map (λ (p : Text × List Row). p.1)) g.entered) in
-    subst (AskToSimulate words) (same_first f.rows g.rows (codes "SCHEDULE") x (string_bytes schedule) rows f.file_first g.file_first) a
-
-asked_find : (words : List Text) (m : Option (Text × List Row)) (x : Text) → AskToFind words x → IsHistoryFound m x → Asked words m
-unfolding Asked
-asked_find words m x a f (Check history certs workers) g = absurd (not_both m (codes "find") (codes "check") f.rows g.rows f.entered g.entered (apart (codes "find") (codes "check") refl))
-asked_find words m x a f (Search history steps first) g = absurd (not_both m (codes "find") (codes "search") f.rows g.rows f.entered g.entered (apart (codes "find") (codes "search") refl))
-asked_find words m x a f (Find history) g =
-    let rows : f.rows ≡ g.rows = found_rows m (codes "find") f.rows g.rows f.entered (ap (option_map (λ (p : Text × List Row). p.1)) g.entered) in
-    subst (AskToFind words) (same_first f.rows g.rows (codes "HISTORY") x (string_bytes history) rows f.file_first g.file_first) a
-asked_find words m x a f (Judge history steps) g = absurd (not_both m (codes "find") (codes "judge") f.rows g.rows f.entered g.entered (apart (codes "find") (codes "judge") refl))
-asked_find words m x a f (Run options) g = absurd (not_both m (codes "find") (codes "run") f.rows g.rows f.entered g.entered (apart (codes "find") (codes "run") refl))
-asked_find words m x a f (Simulate schedule) g = absurd (not_both m (codes "find") (codes "simulate") f.rows g.rows f.entered g.entered (apart (codes "find") (codes "simulate") refl))
+is_command : (words : List Text) → Taken words → IsCommand (subcommand_of command words)
+is_command words t = elim t.known [
+  | inl is ↦ inl (t.rows, at_name is)
+  | inr (inl is) ↦ inr (inl (t.rows, at_name is))
+  | inr (inr (inl is)) ↦ inr (inr (inl (t.rows, at_name is)))
+  | inr (inr (inr (inl is))) ↦ let f = t.simulate (sym is) in inr (inr (inr (inl (f.0, f.2))))
+  | inr (inr (inr (inr (inl is)))) ↦ let f = t.find (sym is) in inr (inr (inr (inr (inl (f.0, f.2)))))
+  | inr (inr (inr (inr (inr is)))) ↦ inr (inr (inr (inr (inr (t.rows, at_name is)))))
+]
+  where
+    at_name : {name : Text} → name ≡ t.name → subcommand_of command words ≡ Some (name, t.rows)
+    at_name is = t.entered ∙ ap (λ w. Some (w, t.rows)) (sym is)
 
 -- a parse that ends well
 pub found : (a : App) (words : List Text) (m : ArgMatches) → a ≡ command → (is_simple_and_free a ≡ true → fault_of a words ≡ []) → HasMatchesOf a words m
     → IsCommand (subcommand_rows_of m) × ((l : Line) → Finds (subcommand_rows_of m) l → AskFor words l) × (subcommand_rows_of m ≡ subcommand_of command words) × (fault_of command words ≡ [])
-unfolding Asked
-found a words m is k h = go (taken words none)
-  where
-    none : fault_of command words ≡ []
-    none = subst (λ a. is_simple_and_free a ≡ true → fault_of a words ≡ []) is k simple
+found a words m is k h =
+    let none = subst (λ a. is_simple_and_free a ≡ true → fault_of a words ≡ []) is k simple in
+    let same = (subst (λ a. HasMatchesOf a words m) is h simply).1 in
+    let t = taken words none in
+    (subst IsCommand (sym same) (is_command words t), λ l g. asked words t l (subst (λ o. Finds o l) same g), same, none)
 
-    same : subcommand_rows_of m ≡ subcommand_of command words
-    same = (subst (λ a. HasMatchesOf a words m) is h simply).1
+-- the value of an argument, in what clap has found
+pub file_value : (inner : Found) (argument x : Text) → first_of argument (rows_of inner) ≡ Some x → first_value inner argument ≡ Some x
+file_value inner argument x e = first_value-rows inner argument ∙ e
 
-    go : Taken words → IsCommand (subcommand_rows_of m) × Asked words (subcommand_rows_of m) × (subcommand_rows_of m ≡ subcommand_of command words) × (fault_of command words ≡ [])
-    go (inl t) = let f : subcommand_rows_of m ≡ Some (codes "check", t.rows) = same ∙ t.entered in (inl (t.rows, f), asked_check words (subcommand_rows_of m) t same f, same, none)
-    go (inr (inl t)) = let f : subcommand_rows_of m ≡ Some (codes "search", t.0) = same ∙ t.1 in (inr (inl (t.0, f)), asked_search words (subcommand_rows_of m) t.0 same f, same, none)
-    go (inr (inr (inl t))) = let f : subcommand_rows_of m ≡ Some (codes "run", t.0) = same ∙ t.1 in (inr (inr (inl (t.0, f))), asked_run words (subcommand_rows_of m) t.0 same f, same, none)
-    go (inr (inr (inr (inr (inr t))))) = let f : subcommand_rows_of m ≡ Some (codes "judge", t.0) = same ∙ t.1 in (inr (inr (inr (inr (inr (t.0, f))))), asked_judge words (subcommand_rows_of m) t.0 same f, same, none)
-    go (inr (inr (inr (inr (inl t))))) = let f : IsHistoryFound (subcommand_rows_of m) t.history = subst (λ o. IsHistoryFound o t.history) (sym same) t.found in (inr (inr (inr (inr (inl (t.history, f))))), asked_find words (subcommand_rows_of m) t.history t.said f, same, none)
-    go (inr (inr (inr (inl t)))) = let f : IsScheduleFound (subcommand_rows_of m) t.schedule = subst (λ o. IsScheduleFound o t.schedule) (sym same) t.found in (inr (inr (inr (inl (t.schedule, f)))), asked_simulate words (subcommand_rows_of m) t.schedule t.said f, same, none)
-
-pub schedule_value : (inner : Found) (x : Text) → first_of (codes "SCHEDULE") (rows_of inner) ≡ Some x → first_value inner (codes "SCHEDULE") ≡ Some x
-schedule_value inner x e = first_value-rows inner (codes "SCHEDULE") ∙ e
-
-pub has_schedule : (inner : Found) (x : Text) → first_value inner (codes "SCHEDULE") ≡ Some x → first_of (codes "SCHEDULE") (rows_of inner) ≡ Some x
-has_schedule inner x e = sym (first_value-rows inner (codes "SCHEDULE")) ∙ e
-
-pub history_value : (inner : Found) (x : Text) → first_of (codes "HISTORY") (rows_of inner) ≡ Some x → first_value inner (codes "HISTORY") ≡ Some x
-history_value inner x e = first_value-rows inner (codes "HISTORY") ∙ e
-
-pub has_history : (inner : Found) (x : Text) → first_value inner (codes "HISTORY") ≡ Some x → first_of (codes "HISTORY") (rows_of inner) ≡ Some x
-has_history inner x e = sym (first_value-rows inner (codes "HISTORY")) ∙ e
+pub has_value : (inner : Found) (argument x : Text) → first_value inner argument ≡ Some x → first_of argument (rows_of inner) ≡ Some x
+has_value inner argument x e = sym (first_value-rows inner argument) ∙ e
 
 pub on_ok : {X E P : Type 0} (r : Result X E) → P → IfOk r (λ x. P)
 on_ok (Ok x) p = p

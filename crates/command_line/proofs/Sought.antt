@@ -28,32 +28,26 @@ module _ (inner : Found) where
     workers_first = subst (λ o. IsNumber 1 max_workers 1 o n) (first_value-rows inner (codes "workers")) w;
   }
 
-  pub no_file : first_value inner (codes "HISTORY") ≡ None → HasNoSearch (rows_of inner)
-  no_file e h n first v = absent e (first_value-rows inner (codes "HISTORY")) v.history_first
+  pub no_file : first_value inner (codes "HISTORY") ≡ None → HasNoJudge (rows_of inner)
+  no_file e h n v = absent e (first_value-rows inner (codes "HISTORY")) v.history_first
 
-  pub no_steps : ((n : ℕ) → AreSteps (first_value inner (codes "steps")) n → ⊥) → HasNoSearch (rows_of inner)
-  no_steps none h n first v = none n (subst (λ o. AreSteps o n) (sym (first_value-rows inner (codes "steps"))) v.steps_first)
-
-  pub no_order : ((first : TryFirst) → IsFirst (first_value inner (codes "first")) first → ⊥) → HasNoSearch (rows_of inner)
-  no_order none h n first v = none first (subst (λ o. IsFirst o first) (sym (first_value-rows inner (codes "first"))) v.first_first)
-
-  pub has_search : (h : Text) (n : ℕ) (first : TryFirst) → first_value inner (codes "HISTORY") ≡ Some h → AreSteps (first_value inner (codes "steps")) n → IsFirst (first_value inner (codes "first")) first → HasSearch (rows_of inner) h n first
-  has_search h n first e s f = record {
-    history_first = sym (first_value-rows inner (codes "HISTORY")) ∙ e;
-    steps_first = subst (λ o. AreSteps o n) (first_value-rows inner (codes "steps")) s;
-    first_first = subst (λ o. IsFirst o first) (first_value-rows inner (codes "first")) f;
-  }
-
-  pub judge_no_file : first_value inner (codes "HISTORY") ≡ None → HasNoJudge (rows_of inner)
-  judge_no_file e h n v = absent e (first_value-rows inner (codes "HISTORY")) v.history_first
-
-  pub judge_no_steps : ((n : ℕ) → AreSteps (first_value inner (codes "steps")) n → ⊥) → HasNoJudge (rows_of inner)
-  judge_no_steps none h n v = none n (subst (λ o. AreSteps o n) (sym (first_value-rows inner (codes "steps"))) v.steps_first)
+  pub no_steps : ((n : ℕ) → AreSteps (first_value inner (codes "steps")) n → ⊥) → HasNoJudge (rows_of inner)
+  no_steps none h n v = none n (subst (λ o. AreSteps o n) (sym (first_value-rows inner (codes "steps"))) v.steps_first)
 
   pub has_judge : (h : Text) (n : ℕ) → first_value inner (codes "HISTORY") ≡ Some h → AreSteps (first_value inner (codes "steps")) n → HasJudge (rows_of inner) h n
   has_judge h n e s = record {
     history_first = sym (first_value-rows inner (codes "HISTORY")) ∙ e;
     steps_first = subst (λ o. AreSteps o n) (first_value-rows inner (codes "steps")) s;
+  }
+
+  pub no_order : ((first : TryFirst) → IsFirst (first_value inner (codes "first")) first → ⊥) → HasNoSearch (rows_of inner)
+  no_order none h n first v = none first (subst (λ o. IsFirst o first) (sym (first_value-rows inner (codes "first"))) v.first_first)
+
+  pub has_search : (h : Text) (n : ℕ) (first : TryFirst) → HasJudge (rows_of inner) h n → IsFirst (first_value inner (codes "first")) first → HasSearch (rows_of inner) h n first
+  has_search h n first j f = record {
+    history_first = j.history_first;
+    steps_first = j.steps_first;
+    first_first = subst (λ o. IsFirst o first) (first_value-rows inner (codes "first")) f;
   }
 
   values_are : first_value inner ≡ (λ id. first_of id (rows_of inner))

@@ -10,12 +10,12 @@ use Rattle.clap.specs.Faults.{bundle_fault, bundle_step_fault, check_fault, defa
 use Rattle.clap.specs.Kinds.{Kinds, or_else}
 use Rattle.clap.specs.declared.error.kind.ErrorKind.{ErrorKind}
 use Rattle.clap.specs.Lexer.{long_of, short_of}
-use Rattle.clap.specs.Simple.{Shape, built, built_leaf, entered, filled, help_rule, inherited, marked_built, names_of, with_index, with_leaf_noted}
+use Rattle.clap.specs.Simple.{App, Shape, built, built_leaf, entered, filled, help_rule, inherited, marked_built, names_of, with_index, with_leaf_noted}
 use Rattle.clap.specs.Walk.{Held, Names, Outcome, Row, Rule, Step, Text, Walk, arg_by_index, arg_by_long, arg_by_short, bundle, bundle_met, bundle_step, after_flag, after_step, reacted, settled, finished, has_long, has_short, idle, long_or_other, nothing_held, plain, rows_after, short_or_plain, subcommand_met, to_positional, value, walk, walk_from, walked, word_met}
 use Rattle.clap.proofs.OnLiterals.{clap_on_literals}
 use Rattle.clap.specs.declared.parser.matches.ValueSource.TheVariants.{CommandLine}
 use Rattle.clap.specs.declared.builder.value_parser.Reading.TheVariants.{AsWritten}
-use Rattle.command_line.specs.Words.{AreNoOptions, check, command, judge_command, run, search_command, values}
+use Rattle.command_line.specs.Words.{AreNoOptions, IsPlain, check, command, judge_command, run, search_command, values}
 
 -- ---- the shapes that are built
 
@@ -25,8 +25,21 @@ top = (built command).top
 abbrev pub names : Names
 names = names_of (built command)
 
+-- a subcommand of it
+abbrev pub leaf : App → Shape
+leaf a = built_leaf (inherited (with_leaf_noted (marked_built command.top)) a.top)
+
 abbrev pub low : Shape
-low = built_leaf (inherited (with_leaf_noted (marked_built command.top)) check.top)
+low = leaf check
+
+abbrev pub running : Shape
+running = leaf run
+
+abbrev pub sought : Shape
+sought = leaf search_command
+
+abbrev pub judged : Shape
+judged = leaf judge_command
 
 abbrev pub help : Rule
 help = with_index 1 (filled help_rule)
@@ -47,10 +60,10 @@ abbrev pub Anything : Text → Type 0
 Anything name = ⊤
 
 -- not the option of a check
-abbrev Other : Text → Type 0
+abbrev pub Other : Text → Type 0
 Other name = name ≢ codes "workers"
 
-abbrev IsNamed : (Text → Type 0) → Text → Type 0
+abbrev pub IsNamed : (Text → Type 0) → Text → Type 0
 IsNamed Named word = IfSome (long_of word) (λ p. Named p.0)
 
 pub any_name : (o : Option (Text × Option Text)) → IfSome o (λ p. ⊤)
@@ -162,10 +175,11 @@ unfolding clap_on_literals
 dashed [] e last = not_nil last
 dashed (v ∷ vs) e last = not_nil (both_nil (turn_fault top names (at [] None 1 true) v) (walk_fault top names (walked top.rules names (at [] None 1 true) v) vs) e).0
 
-abbrev Entered : Text → Type 0
-Entered w = (codes "check" ≡ w) ⊎ (codes "search" ≡ w) ⊎ (codes "run" ≡ w) ⊎ (codes "simulate" ≡ w) ⊎ (codes "find" ≡ w) ⊎ (codes "judge" ≡ w)
+-- it is the name of a command
+abbrev pub IsName : Text → Type 0
+IsName w = (codes "check" ≡ w) ⊎ (codes "search" ≡ w) ⊎ (codes "run" ≡ w) ⊎ (codes "simulate" ≡ w) ⊎ (codes "find" ≡ w) ⊎ (codes "judge" ≡ w)
 
-pub top_words : (w : Text) (rest : List Text) → walk_fault top names (walk_from nothing_held) (w ∷ rest) ≡ [] → TopCheck w rest ≡ [] → Entered w
+pub top_words : (w : Text) (rest : List Text) → walk_fault top names (walk_from nothing_held) (w ∷ rest) ≡ [] → TopCheck w rest ≡ [] → IsName w
 unfolding clap_on_literals
 top_words w rest e last = go (bytes_eq (codes "judge") w) refl (bytes_eq (codes "check") w) refl (bytes_eq (codes "search") w) refl (bytes_eq (codes "find") w) refl (bytes_eq (codes "run") w) refl (bytes_eq (codes "simulate") w) refl (bytes_eq (codes "help") w) refl (bytes_eq w (codes "--")) refl
   where
@@ -173,7 +187,7 @@ top_words w rest e last = go (bytes_eq (codes "judge") w) refl (bytes_eq (codes 
     first = (both_nil (turn_fault top names (at [] None 1 false) w) (walk_fault top names (walked top.rules names (at [] None 1 false) w) rest) e).0
 
     go : (j : Bool) → bytes_eq (codes "judge") w ≡ j → (a : Bool) → bytes_eq (codes "check") w ≡ a → (f : Bool) → bytes_eq (codes "search") w ≡ f → (g : Bool) → bytes_eq (codes "find") w ≡ g → (n : Bool) → bytes_eq (codes "run") w ≡ n → (s : Bool) → bytes_eq (codes "simulate") w ≡ s → (b : Bool) → bytes_eq (codes "help") w ≡ b
-        → (d : Bool) → bytes_eq w (codes "--") ≡ d → Entered w
+        → (d : Bool) → bytes_eq w (codes "--") ≡ d → IsName w
     go true u a p f m g l n o s t b q d r = inr (inr (inr (inr (inr ((bytes_eq-Decides (codes "judge") w).0 u)))))
     go false u true p f m g l n o s t b q d r = inl ((bytes_eq-Decides (codes "check") w).0 p)
     go false u false p true m g l n o s t b q d r = inr (inl ((bytes_eq-Decides (codes "search") w).0 m))
@@ -191,57 +205,80 @@ unfolding walked
 stopped_walk c ns v p [] = ap (λ r. Some (p.0, r)) (sym (append-nil p.1))
 stopped_walk c ns v p (x ∷ xs) = stopped_walk c ns v (p.0, p.1 ++ x ∷ []) xs ∙ ap (λ r. Some (p.0, r)) (append_assoc p.1 (x ∷ []) xs)
 
-pub stops : (rest : List Text) → (walk top.rules names nothing_held (codes "check" ∷ rest)).stopped ≡ Some (codes "check", rest)
+-- the command of this name is met, and its rows are those of this shape
+abbrev pub Stops : Text → Type 0
+Stops name = (rest : List Text) → (walk top.rules names nothing_held (name ∷ rest)).stopped ≡ Some (name, rest)
+
+abbrev pub Enters : Text → Shape → Type 0
+Enters name s = (rest : List Text) → entered (built command) (walk top.rules names nothing_held (name ∷ rest)).stopped ≡ Some (name, rows_after s.rules [] rest)
+
+pub stops : Stops (codes "check")
 unfolding clap_on_literals
 stops rest = stopped_walk top.rules names (at [] None 1 false) (codes "check", []) rest
 
-pub enters : (rest : List Text) → entered (built command) (walk top.rules names nothing_held (codes "check" ∷ rest)).stopped ≡ Some (codes "check", rows_after low.rules [] rest)
+pub enters : Enters (codes "check") low
 enters rest = ap (entered (built command)) (stops rest)
+
+pub enters_run : Enters (codes "run") running
+unfolding clap_on_literals
+enters_run rest = ap (entered (built command)) (stopped_walk top.rules names (at [] None 1 false) (codes "run", []) rest)
+
+pub enters_search : Enters (codes "search") sought
+unfolding clap_on_literals
+enters_search rest = ap (entered (built command)) (stopped_walk top.rules names (at [] None 1 false) (codes "search", []) rest)
+
+pub enters_judge : Enters (codes "judge") judged
+unfolding clap_on_literals
+enters_judge rest = ap (entered (built command)) (stopped_walk top.rules names (at [] None 1 false) (codes "judge", []) rest)
 
 -- ---- the words of the subcommand
 
+-- the argument of this name has this value
+abbrev pub file_is : Text → Text → Option (Text × List Text)
+file_is id x = Some (id, x ∷ [])
+
 abbrev pub history_is : Text → Option (Text × List Text)
-history_is x = Some (codes "HISTORY", x ∷ [])
+history_is = file_is (codes "HISTORY")
 
 abbrev history_row : Text → Row
 history_row x = record { id = codes "HISTORY"; values = x ∷ []; count = None; source = Some CommandLine; reading = AsWritten }
 
-abbrev certs_is : Text → Option (Text × List Text)
-certs_is x = Some (codes "CERTS", x ∷ [])
-
-abbrev left : Bool → List Text → List Text
+abbrev pub left : Bool → List Text → List Text
 left is_trailing ws = if is_trailing then ws else values ws
 
--- the walk takes the words at this place, and goes on past one `--`
-turn : (rows : List Row) (pending : Option (Text × List Text)) (position : ℕ) (word : Text) → IsNamed Other word → (b : Bool) → bytes_eq word (codes "--") ≡ b
-    → turn_fault low [] (at rows pending position false) word ≡ []
-    → ((b ≡ true) × (walked low.rules [] (at rows pending position false) word ≡ at rows pending position true)) ⊎ ((b ≡ false) × ToPositional low [] rows pending position word)
-unfolding walked
-turn rows pending position word named true is e = inl (refl, rw is refl)
-turn rows pending position word named false is e = inr (refl, other_turn low low_help [] rows pending position word named refl is e)
-
-cut : (v : Walk) (word : Text) (rest : List Text) → walk_fault low [] v (word ∷ rest) ≡ [] → (turn_fault low [] v word ≡ []) × (walk_fault low [] (walked low.rules [] v word) rest ≡ [])
+pub cut : (s : Shape) (v : Walk) (word : Text) (rest : List Text) → walk_fault s [] v (word ∷ rest) ≡ [] → (turn_fault s [] v word ≡ []) × (walk_fault s [] (walked s.rules [] v word) rest ≡ [])
 unfolding walk_fault
-cut v word rest e = both_nil (turn_fault low [] v word) (walk_fault low [] (walked low.rules [] v word) rest) e
+cut s v word rest e = both_nil (turn_fault s [] v word) (walk_fault s [] (walked s.rules [] v word) rest) e
 
-abbrev pub after : Walk → List Text → Held
-after v words = (fold (walked low.rules []) v words).held
+abbrev pub after : Shape → Walk → List Text → Held
+after s v words = (fold (walked s.rules []) v words).held
 
-module _ (rows : List Row) (pending : Option (Text × List Text)) (position : ℕ) (word : Text) (rest : List Text) (next : Walk) (P : List Text → Held → Type 0) (named : IsNamed Other word)
-    (goes : to_positional low.rules (arg_by_index low.rules position) word (at rows pending position false) (held rows pending) ≡ next)
-    (passes : walk_fault low [] (at rows pending position false) (word ∷ rest) ≡ [])
-    (mark : walk_fault low [] (at rows pending position true) rest ≡ [] → P rest (after (at rows pending position true) rest))
-    (taken : step_fault low position (held rows pending) value ≡ [] → walk_fault low [] next rest ≡ [] → P (word ∷ values rest) (after next rest)) where
-  one_word : P (values (word ∷ rest)) (after (at rows pending position false) (word ∷ rest))
-  one_word = elim (turn rows pending position word named (bytes_eq word (codes "--")) refl (cut (at rows pending position false) word rest passes).0) [
-    | inl h ↦
-        let r = mark (subst (λ v. walk_fault low [] v rest ≡ []) h.1 (cut (at rows pending position false) word rest passes).1) in
-        subst (λ v. P (values (word ∷ rest)) (after v rest)) (sym h.1) (subst (λ b. P (if b then rest else word ∷ values rest) (after (at rows pending position true) rest)) (sym h.0) r)
-    | inr h ↦
-        let is = h.1.0 ∙ goes in
-        let r = taken h.1.1 (subst (λ v. walk_fault low [] v rest ≡ []) is (cut (at rows pending position false) word rest passes).1) in
-        subst (λ v. P (values (word ∷ rest)) (after v rest)) (sym is) (subst (λ b. P (if b then rest else word ∷ values rest) (after next rest)) (sym h.0) r)
-  ]
+module _ (s : Shape) (Named : Text → Type 0) (only : OnlyHelp s.rules Named) where
+  -- the walk takes the words at this place, and goes on past one `--`
+  turn : (rows : List Row) (pending : Option (Text × List Text)) (position : ℕ) (word : Text) → IsNamed Named word → (b : Bool) → bytes_eq word (codes "--") ≡ b
+      → turn_fault s [] (at rows pending position false) word ≡ []
+      → ((b ≡ true) × (walked s.rules [] (at rows pending position false) word ≡ at rows pending position true)) ⊎ ((b ≡ false) × ToPositional s [] rows pending position word)
+  unfolding walked
+  turn rows pending position word named true is e = inl (refl, rw is refl)
+  turn rows pending position word named false is e = inr (refl, other_turn s only [] rows pending position word named refl is e)
+
+  module _ (rows : List Row) (pending : Option (Text × List Text)) (position : ℕ) (word : Text) (rest : List Text) (next : Walk) (P : List Text → Held → Type 0) (named : IsNamed Named word)
+      (goes : to_positional s.rules (arg_by_index s.rules position) word (at rows pending position false) (held rows pending) ≡ next)
+      (passes : walk_fault s [] (at rows pending position false) (word ∷ rest) ≡ [])
+      (mark : walk_fault s [] (at rows pending position true) rest ≡ [] → P rest (after s (at rows pending position true) rest))
+      (taken : step_fault s position (held rows pending) value ≡ [] → walk_fault s [] next rest ≡ [] → P (word ∷ values rest) (after s next rest)) where
+    pub one_word : P (values (word ∷ rest)) (after s (at rows pending position false) (word ∷ rest))
+    one_word =
+        let parts = cut s (at rows pending position false) word rest passes in
+        elim (turn rows pending position word named (bytes_eq word (codes "--")) refl parts.0) [
+          | inl h ↦
+              let r = mark (subst (λ v. walk_fault s [] v rest ≡ []) h.1 parts.1) in
+              subst (λ v. P (values (word ∷ rest)) (after s v rest)) (sym h.1) (subst (λ b. P (if b then rest else word ∷ values rest) (after s (at rows pending position true) rest)) (sym h.0) r)
+          | inr h ↦
+              let is = h.1.0 ∙ goes in
+              let r = taken h.1.1 (subst (λ v. walk_fault s [] v rest ≡ []) is parts.1) in
+              subst (λ v. P (values (word ∷ rest)) (after s v rest)) (sym is) (subst (λ b. P (if b then rest else word ∷ values rest) (after s next rest)) (sym h.0) r)
+        ]
 
 abbrev pub state0 : Bool → Walk
 state0 t = at [] None 1 t
@@ -250,7 +287,7 @@ abbrev state1 : Text → Bool → Walk
 state1 x t = at [] (history_is x) 2 t
 
 abbrev pub state2 : Text → Text → Bool → Walk
-state2 x y t = at (history_row x ∷ []) (certs_is y) 3 t
+state2 x y t = at (history_row x ∷ []) (file_is (codes "CERTS") y) 3 t
 
 abbrev Last : Held → Type 0
 Last h = check_fault low (finished low.rules h) false ≡ []
@@ -264,65 +301,26 @@ Ends1 x ws h = Last h → (y : Text) × (ws ≡ y ∷ []) × (h ≡ (state2 x y 
 abbrev Ends0 : List Text → Held → Type 0
 Ends0 ws h = Last h → (x y : Text) × (ws ≡ x ∷ y ∷ []) × (h ≡ (state2 x y false).held)
 
-ends2 : (x y : Text) (t : Bool) (ws : List Text) → AreNoOptions ws → walk_fault low [] (state2 x y t) ws ≡ [] → Ends2 x y (left t ws) (after (state2 x y t) ws)
+ends2 : (x y : Text) (t : Bool) (ws : List Text) → AreNoOptions ws → walk_fault low [] (state2 x y t) ws ≡ [] → Ends2 x y (left t ws) (after low (state2 x y t) ws)
 unfolding clap_on_literals
 ends2 x y true [] n e = (refl, refl)
-ends2 x y true (v ∷ vs) n e = absurd (not_nil (cut (state2 x y true) v vs e).0)
+ends2 x y true (v ∷ vs) n e = absurd (not_nil (cut low (state2 x y true) v vs e).0)
 ends2 x y false [] n e = (refl, refl)
-ends2 x y false (v ∷ vs) n e = one_word (history_row x ∷ []) (certs_is y) 3 v vs (state2 x y false) (Ends2 x y) n.0 refl e (ends2 x y true vs n.1) (λ f g. absurd (not_nil f))
+ends2 x y false (v ∷ vs) n e = one_word low Other low_help (history_row x ∷ []) (file_is (codes "CERTS") y) 3 v vs (state2 x y false) (Ends2 x y) n.0 refl e (ends2 x y true vs n.1) (λ f g. absurd (not_nil f))
 
-ends1 : (x : Text) (t : Bool) (ws : List Text) → AreNoOptions ws → walk_fault low [] (state1 x t) ws ≡ [] → Ends1 x (left t ws) (after (state1 x t) ws)
+ends1 : (x : Text) (t : Bool) (ws : List Text) → AreNoOptions ws → walk_fault low [] (state1 x t) ws ≡ [] → Ends1 x (left t ws) (after low (state1 x t) ws)
 unfolding clap_on_literals
 ends1 x true [] n e last = absurd (not_nil last)
-ends1 x true (v ∷ vs) n e last = let r = ends2 x v true vs n.1 (cut (state1 x true) v vs e).1 in (v, ap (λ ws. v ∷ ws) r.0, r.1)
+ends1 x true (v ∷ vs) n e last = let r = ends2 x v true vs n.1 (cut low (state1 x true) v vs e).1 in (v, ap (λ ws. v ∷ ws) r.0, r.1)
 ends1 x false [] n e last = absurd (not_nil last)
-ends1 x false (v ∷ vs) n e last = one_word [] (history_is x) 2 v vs (state2 x v false) (Ends1 x) n.0 refl e (ends1 x true vs n.1) (λ f g l. let r = ends2 x v false vs n.1 g in (v, ap (λ ws. v ∷ ws) r.0, r.1)) last
+ends1 x false (v ∷ vs) n e last = one_word low Other low_help [] (history_is x) 2 v vs (state2 x v false) (Ends1 x) n.0 refl e (ends1 x true vs n.1) (λ f g l. let r = ends2 x v false vs n.1 g in (v, ap (λ ws. v ∷ ws) r.0, r.1)) last
 
-pub ends0 : (t : Bool) (ws : List Text) → AreNoOptions ws → walk_fault low [] (state0 t) ws ≡ [] → Ends0 (left t ws) (after (state0 t) ws)
+pub ends0 : (t : Bool) (ws : List Text) → AreNoOptions ws → walk_fault low [] (state0 t) ws ≡ [] → Ends0 (left t ws) (after low (state0 t) ws)
 unfolding clap_on_literals
 ends0 true [] n e last = absurd (not_nil last)
-ends0 true (v ∷ vs) n e last = let r = ends1 v true vs n.1 (cut (state0 true) v vs e).1 last in (v, r.0, ap (λ ws. v ∷ ws) r.1, r.2)
+ends0 true (v ∷ vs) n e last = let r = ends1 v true vs n.1 (cut low (state0 true) v vs e).1 last in (v, r.0, ap (λ ws. v ∷ ws) r.1, r.2)
 ends0 false [] n e last = absurd (not_nil last)
-ends0 false (v ∷ vs) n e last = one_word [] None 1 v vs (state1 v false) Ends0 n.0 refl e (ends0 true vs n.1) (λ f g l. let r = ends1 v false vs n.1 g l in (v, r.0, ap (λ ws. v ∷ ws) r.1, r.2)) last
-
--- ---- the words behind `run`
-
-abbrev pub running : Shape
-running = built_leaf (inherited (with_leaf_noted (marked_built command.top)) run.top)
-
-stops_run : (rest : List Text) → (walk top.rules names nothing_held (codes "run" ∷ rest)).stopped ≡ Some (codes "run", rest)
-unfolding clap_on_literals
-stops_run rest = stopped_walk top.rules names (at [] None 1 false) (codes "run", []) rest
-
-pub enters_run : (rest : List Text) → entered (built command) (walk top.rules names nothing_held (codes "run" ∷ rest)).stopped ≡ Some (codes "run", rows_after running.rules [] rest)
-unfolding clap_on_literals
-enters_run rest = ap (entered (built command)) (stops_run rest)
-
--- ---- the words behind `search`
-
-abbrev pub sought : Shape
-sought = built_leaf (inherited (with_leaf_noted (marked_built command.top)) search_command.top)
-
-stops_search : (rest : List Text) → (walk top.rules names nothing_held (codes "search" ∷ rest)).stopped ≡ Some (codes "search", rest)
-unfolding clap_on_literals
-stops_search rest = stopped_walk top.rules names (at [] None 1 false) (codes "search", []) rest
-
-pub enters_search : (rest : List Text) → entered (built command) (walk top.rules names nothing_held (codes "search" ∷ rest)).stopped ≡ Some (codes "search", rows_after sought.rules [] rest)
-unfolding clap_on_literals
-enters_search rest = ap (entered (built command)) (stops_search rest)
-
--- ---- the words behind `judge`
-
-abbrev pub judged : Shape
-judged = built_leaf (inherited (with_leaf_noted (marked_built command.top)) judge_command.top)
-
-stops_judge : (rest : List Text) → (walk top.rules names nothing_held (codes "judge" ∷ rest)).stopped ≡ Some (codes "judge", rest)
-unfolding clap_on_literals
-stops_judge rest = stopped_walk top.rules names (at [] None 1 false) (codes "judge", []) rest
-
-pub enters_judge : (rest : List Text) → entered (built command) (walk top.rules names nothing_held (codes "judge" ∷ rest)).stopped ≡ Some (codes "judge", rows_after judged.rules [] rest)
-unfolding clap_on_literals
-enters_judge rest = ap (entered (built command)) (stops_judge rest)
+ends0 false (v ∷ vs) n e last = one_word low Other low_help [] None 1 v vs (state1 v false) Ends0 n.0 refl e (ends0 true vs n.1) (λ f g l. let r = ends1 v false vs n.1 g l in (v, r.0, ap (λ ws. v ∷ ws) r.1, r.2)) last
 
 -- ---- words that are plain
 
@@ -334,6 +332,14 @@ plain_long b bs h = let e : (b == 45) ≡ false = ne_eqb b 45 h in rw e refl
 
 pub plain_short : (b : ℕ) (bs : Text) → b ≢ 45 → short_of (b ∷ bs) ≡ None
 plain_short b bs h = let e : (b == 45) ≡ false = ne_eqb b 45 h in rw e refl
+
+-- it goes to the argument at its place
+pub plain_word : (s : Shape) (rows : List Row) (pending : Option (Text × List Text)) (position : ℕ) (word : Text) → IsPlain word
+    → (turn_fault s [] (at rows pending position false) word ≡ step_fault s position (held rows pending) value)
+    × (walked s.rules [] (at rows pending position false) word ≡ to_positional s.rules (arg_by_index s.rules position) word (at rows pending position false) (held rows pending))
+unfolding walked
+plain_word s rows pending position [] h = (refl, refl)
+plain_word s rows pending position (b ∷ bs) h = rw (plain_differs b bs h) (rw (plain_long b bs h) (rw (plain_short b bs h) (refl, refl)))
 
 -- ---- a level of words
 

@@ -57,20 +57,24 @@ required name = record (new_rule name) { required = true }
 abbrev pub number_rule : Text → ℤ → ℤ → Rule
 number_rule name least most = record (new_rule name) { long = Some name; parser = Some (vp.Signed least most) }
 
+-- a command of this name on the history in a file
+abbrev pub on_history : Text → App
+on_history name = with_rule (new_app name) (required (codes "HISTORY"))
+
 abbrev pub check : App
-check = with_rule (with_rule (with_rule (new_app (codes "check")) (required (codes "HISTORY"))) (required (codes "CERTS"))) (number_rule (codes "workers") (pos 1) (pos max_workers))
+check = with_rule (with_rule (on_history (codes "check")) (required (codes "CERTS"))) (number_rule (codes "workers") (pos 1) (pos max_workers))
 
 abbrev pub steps_rule : Rule
-steps_rule = record (new_rule (codes "steps")) { long = Some (codes "steps"); parser = Some (vp.Signed (pos 0) (pos max_steps)) }
+steps_rule = number_rule (codes "steps") (pos 0) (pos max_steps)
 
 abbrev pub first_rule : Rule
 first_rule = record (new_rule (codes "first")) { long = Some (codes "first") }
 
 abbrev pub search_command : App
-search_command = with_rule (with_rule (with_rule (new_app (codes "search")) (required (codes "HISTORY"))) steps_rule) first_rule
+search_command = with_rule (with_rule (on_history (codes "search")) steps_rule) first_rule
 
 abbrev pub judge_command : App
-judge_command = with_rule (with_rule (new_app (codes "judge")) (required (codes "HISTORY"))) steps_rule
+judge_command = with_rule (on_history (codes "judge")) steps_rule
 
 abbrev pub kind_rule : Rule
 kind_rule = record (new_rule (codes "kind")) { long = Some (codes "kind") }
@@ -89,7 +93,7 @@ abbrev pub simulate_command : App
 simulate_command = with_rule (new_app (codes "simulate")) (required (codes "SCHEDULE"))
 
 abbrev pub find_command : App
-find_command = with_rule (new_app (codes "find")) (required (codes "HISTORY"))
+find_command = on_history (codes "find")
 
 abbrev pub judging_commands : App
 judging_commands = with_subcommand (with_subcommand (with_subcommand (with_subcommand (on_top (λ s. record s { subcommand_required = true }) (new_app (codes "fcbench"))) judge_command.top) check.top) search_command.top) find_command.top

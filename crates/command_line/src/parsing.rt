@@ -28,6 +28,17 @@ const DEFAULT_STEPS: u64 = 1_000_000;
 /// The most steps of a search.
 const MAX_STEPS: u64 = 1_000_000_000;
 
+/// Said of a search that lacks a value. Of its file and its steps clap never lets it come to this.
+const NO_SEARCH: &str =
+    "error: a search has no file, no number of steps, or no order of trying (number or return)\n";
+
+/// Said of a judgement that lacks a value. Of its file and its steps clap never lets it come to this.
+const NO_JUDGEMENT: &str =
+    "error: a judgement has no file, or no number of steps from 0 to 1000000000\n";
+
+/// Said of a check that lacks a value. Of its files clap never lets it come to this.
+const NO_CHECK: &str = "error: a check has not two files, or no number of workers from 1 to 16\n";
+
 /// An option with a number within these bounds.
 fn number_option<'a>(alloc: Global, name: &'a str, help: &'a str, least: i64, most: i64) -> Arg<'a>
     ensures rule { rule_of result ≡ spec.number_rule name.entry.now least most }
@@ -44,39 +55,55 @@ fn steps_option<'a>(alloc: Global, help: &'a str) -> Arg<'a>
     ensures rule { rule_of result ≡ spec.steps_rule }
     ensures local { result.global ≡ false }
 {
-    Arg::new(alloc, "steps")
-        .long("steps")
-        .help(help)
-        .value_parser(value_parser!(u32).range(..=1_000_000_000))
+    number_option(alloc, "steps", help, 0, 1_000_000_000)
+}
+
+/// An argument that is the name of a file.
+fn file_argument<'a>(alloc: Global, name: &'a str, help: &'a str) -> Arg<'a>
+    ensures rule { rule_of result ≡ spec.required name.entry.now }
+    ensures local { result.global ≡ false }
+{
+    Arg::new(alloc, name).help(help).required(true)
+}
+
+/// A command of this name on the history in a file.
+fn history_command<'a>(
+    alloc: Global,
+    name: &'a str,
+    about: &'a str,
+) -> Result<Command<'a>, AllocError>
+    ensures shape { IfOk result (λ c. app_of c ≡ spec.on_history name.entry.now) }
+    ensures globals { IfOk result (λ c. (fields_of c).has_globals ≡ false) }
+{
+    let history = file_argument(alloc, "HISTORY", "a file of Jepsen operation maps");
+    Command::new(alloc, name).about(about).arg(history)
 }
 
 fn judge_command<'a>(alloc: Global) -> Result<Command<'a>, AllocError>
     ensures shape { IfOk result (λ c. app_of c ≡ spec.judge_command) }
     ensures globals { IfOk result (λ c. (fields_of c).has_globals ≡ false) }
 {
-    let history = Arg::new(alloc, "HISTORY")
-        .help("a file of Jepsen operation maps")
-        .required(true);
     let steps = steps_option(
         alloc,
         "the most steps for each object that is searched, 0 to 1000000000, else 1000000",
     );
-    Command::new(alloc, "judge")
-        .about("finds certificates of a history and judges it by them")
-        .arg(history)?
-        .arg(steps)
+    history_command(
+        alloc,
+        "judge",
+        "finds certificates of a history and judges it by them",
+    )?
+    .arg(steps)
 }
 
 fn check_command<'a>(alloc: Global) -> Result<Command<'a>, AllocError>
     ensures shape { IfOk result (λ c. app_of c ≡ spec.check) }
     ensures globals { IfOk result (λ c. (fields_of c).has_globals ≡ false) }
 {
-    let history = Arg::new(alloc, "HISTORY")
-        .help("a file of Jepsen operation maps")
-        .required(true);
-    let certs = Arg::new(alloc, "CERTS")
-        .help("a file of certificates, one order of operations for each object")
-        .required(true);
+    let certs = file_argument(
+        alloc,
+        "CERTS",
+        "a file of certificates, one order of operations for each object",
+    );
     let workers = number_option(
         alloc,
         "workers",
@@ -84,9 +111,7 @@ fn check_command<'a>(alloc: Global) -> Result<Command<'a>, AllocError>
         1,
         16,
     );
-    Command::new(alloc, "check")
-        .about("judges a history by its certificates")
-        .arg(history)?
+    history_command(alloc, "check", "judges a history by its certificates")?
         .arg(certs)?
         .arg(workers)
 }
@@ -95,9 +120,6 @@ fn search_command<'a>(alloc: Global) -> Result<Command<'a>, AllocError>
     ensures shape { IfOk result (λ c. app_of c ≡ spec.search_command) }
     ensures globals { IfOk result (λ c. (fields_of c).has_globals ≡ false) }
 {
-    let history = Arg::new(alloc, "HISTORY")
-        .help("a file of Jepsen operation maps")
-        .required(true);
     let steps = steps_option(
         alloc,
         "the most steps for each object, 0 to 1000000000, else 1000000",
@@ -105,9 +127,7 @@ fn search_command<'a>(alloc: Global) -> Result<Command<'a>, AllocError>
     let first = Arg::new(alloc, "first").long("first").help(
         "which operation is tried first: that of the least number, or of the least return, else number",
     );
-    Command::new(alloc, "search")
-        .about("searches for certificates of a history")
-        .arg(history)?
+    history_command(alloc, "search", "searches for certificates of a history")?
         .arg(steps)?
         .arg(first)
 }
@@ -151,9 +171,7 @@ fn simulate_command<'a>(alloc: Global) -> Result<Command<'a>, AllocError>
     ensures shape { IfOk result (λ c. app_of c ≡ spec.simulate_command) }
     ensures globals { IfOk result (λ c. (fields_of c).has_globals ≡ false) }
 {
-    let schedule = Arg::new(alloc, "SCHEDULE")
-        .help("a file of steps of clients")
-        .required(true);
+    let schedule = file_argument(alloc, "SCHEDULE", "a file of steps of clients");
     Command::new(alloc, "simulate")
         .about("plays a schedule and judges its record")
         .arg(schedule)
@@ -163,12 +181,11 @@ fn find_command<'a>(alloc: Global) -> Result<Command<'a>, AllocError>
     ensures shape { IfOk result (λ c. app_of c ≡ spec.find_command) }
     ensures globals { IfOk result (λ c. (fields_of c).has_globals ≡ false) }
 {
-    let history = Arg::new(alloc, "HISTORY")
-        .help("a file of Jepsen operation maps")
-        .required(true);
-    Command::new(alloc, "find")
-        .about("finds certificates of a history, also of a long one")
-        .arg(history)
+    history_command(
+        alloc,
+        "find",
+        "finds certificates of a history, also of a long one",
+    )
 }
 
 /// The program, with the commands that judge a history.
@@ -286,36 +303,6 @@ fn refusal(alloc: Global, text: &str) -> LineFault
     }
 }
 
-/// Says that a search lacks a value. Of its file and its steps clap never lets it come to this.
-fn lacking(alloc: Global) -> LineFault
-    ensures { result ≢ LineFault.NoMemory → spec.IsRefused result }
-{
-    refusal(
-        alloc,
-        "error: a search has no file, no number of steps, or no order of trying (number or return)\n",
-    )
-}
-
-/// Says that a judgement lacks a value. Of its file and its steps clap never lets it come to this.
-fn no_judgement(alloc: Global) -> LineFault
-    ensures { result ≢ LineFault.NoMemory → spec.IsRefused result }
-{
-    refusal(
-        alloc,
-        "error: a judgement has no file, or no number of steps from 0 to 1000000000\n",
-    )
-}
-
-/// Says that a check lacks a value. Of its files clap never lets it come to this.
-fn no_check(alloc: Global) -> LineFault
-    ensures { result ≢ LineFault.NoMemory → spec.IsRefused result }
-{
-    refusal(
-        alloc,
-        "error: a check has not two files, or no number of workers from 1 to 16\n",
-    )
-}
-
 /// The check whose matches these are.
 fn check_found(alloc: Global, matches: &ArgMatches<'_>) -> Result<Line, LineFault>
     ensures found { IfOk result (spec.FindsCheck (rows_of (found_of matches.now))) }
@@ -323,13 +310,13 @@ fn check_found(alloc: Global, matches: &ArgMatches<'_>) -> Result<Line, LineFaul
         spec.IsRefused f × spec.HasNoCheck (rows_of (found_of matches.now))) }
 {
     let Some(history) = matches.get_str("HISTORY") else {
-        return Err(no_check(alloc));
+        return Err(refusal(alloc, NO_CHECK));
     };
     let Some(certs) = matches.get_str("CERTS") else {
-        return Err(no_check(alloc));
+        return Err(refusal(alloc, NO_CHECK));
     };
     let Some(workers) = number_in(matches, "workers", 1, 16, 1) else {
-        return Err(no_check(alloc));
+        return Err(refusal(alloc, NO_CHECK));
     };
     let history = String::from_str(alloc, history)?;
     let certs = String::from_str(alloc, certs)?;
@@ -340,25 +327,39 @@ fn check_found(alloc: Global, matches: &ArgMatches<'_>) -> Result<Line, LineFaul
     })
 }
 
+/// The history's file and the most steps for an object of it; or the words are refused, for this reason.
+fn history_and_steps(
+    alloc: Global,
+    matches: &ArgMatches<'_>,
+    reason: &str,
+) -> Result<(String, u32), LineFault>
+    ensures found { IfOk result (λ r. spec.HasJudge (rows_of (found_of matches.now)) (string_bytes r.0) r.1) }
+    ensures lacks { IfErr result (λ f. f ≢ LineFault.NoMemory →
+        spec.IsRefused f × spec.HasNoJudge (rows_of (found_of matches.now))) }
+{
+    let Some(history) = matches.get_str("HISTORY") else {
+        return Err(refusal(alloc, reason));
+    };
+    let Some(steps) = number_in(matches, "steps", 0, MAX_STEPS, DEFAULT_STEPS) else {
+        return Err(refusal(alloc, reason));
+    };
+    let history = String::from_str(alloc, history)?;
+    Ok((history, steps as u32))
+}
+
 /// The search whose matches these are.
 fn search_found(alloc: Global, matches: &ArgMatches<'_>) -> Result<Line, LineFault>
     ensures found { IfOk result (spec.FindsSearch (rows_of (found_of matches.now))) }
     ensures lacks { IfErr result (λ f. f ≢ LineFault.NoMemory →
         spec.IsRefused f × spec.HasNoSearch (rows_of (found_of matches.now))) }
 {
-    let Some(history) = matches.get_str("HISTORY") else {
-        return Err(lacking(alloc));
-    };
-    let Some(steps) = number_in(matches, "steps", 0, MAX_STEPS, DEFAULT_STEPS) else {
-        return Err(lacking(alloc));
-    };
+    let (history, steps) = history_and_steps(alloc, matches, NO_SEARCH)?;
     let Some(first) = first_in(matches) else {
-        return Err(lacking(alloc));
+        return Err(refusal(alloc, NO_SEARCH));
     };
-    let history = String::from_str(alloc, history)?;
     Ok(Line::Search {
         history,
-        steps: steps as u32,
+        steps,
         first,
     })
 }
@@ -369,14 +370,7 @@ fn judge_found(alloc: Global, matches: &ArgMatches<'_>) -> Result<Line, LineFaul
     ensures lacks { IfErr result (λ f. f ≢ LineFault.NoMemory →
         spec.IsRefused f × spec.HasNoJudge (rows_of (found_of matches.now))) }
 {
-    let Some(history) = matches.get_str("HISTORY") else {
-        return Err(no_judgement(alloc));
-    };
-    let Some(steps) = number_in(matches, "steps", 0, MAX_STEPS, DEFAULT_STEPS) else {
-        return Err(no_judgement(alloc));
-    };
-    let history = String::from_str(alloc, history)?;
-    let steps = steps as u32;
+    let (history, steps) = history_and_steps(alloc, matches, NO_JUDGEMENT)?;
     Ok(Line::Judge { history, steps })
 }
 

@@ -8,16 +8,16 @@ pub returns-in_default-clause-lacks : goal.returns-in_default-clause-lacks
 returns-in_default-clause-lacks c other =
     let inner = found_of c.args.matches.now in
     let none : first_value inner (codes "HISTORY") ≡ None = search rules in
-    (c.no_check.ensures other, no_history inner none)
+    (c.refusal.ensures other, no_history inner none)
 
 pub returns-in_default-get_str-clause-lacks : goal.returns-in_default-get_str-clause-lacks
 returns-in_default-get_str-clause-lacks c other =
     let inner = found_of c.args.matches.now in
     let none : first_value inner (codes "CERTS") ≡ None = search rules in
-    (c.no_check-in_default-get_str.ensures other, no_certs inner none)
+    (c.refusal-in_default-get_str.ensures other, no_certs inner none)
 
 pub returns-in_default-number_in-clause-lacks : goal.returns-in_default-number_in-clause-lacks
-returns-in_default-number_in-clause-lacks c other = (c.no_check-in_default-number_in.ensures other, no_workers (found_of c.args.matches.now) c.in_default-number_in.ensures.none)
+returns-in_default-number_in-clause-lacks c other = (c.refusal-in_default-number_in.ensures other, no_workers (found_of c.args.matches.now) c.in_default-number_in.ensures.none)
 
 pub returns-clause-found : goal.returns-clause-found
 returns-clause-found c =

@@ -1,23 +1,10 @@
-use Rattle.std.proofs.Common.{rules, ◌≡◌, None, Some, codes}
 use Rattle.std.specs.String.{string_bytes}
-use Rattle.clap.specs.Words.{first_value, found_of}
-use Rattle.command_line.proofs.Sought.{no_file, no_steps, no_order, has_search}
+use Rattle.clap.specs.Words.{found_of}
+use Rattle.command_line.proofs.Sought.{no_order, has_search}
 use Rattle.command_line.proofs.parsing.search_found.Goals as goal
 
 pub returns-in_default-clause-lacks : goal.returns-in_default-clause-lacks
-returns-in_default-clause-lacks c other =
-    let inner = found_of c.args.matches.now in
-    let none : first_value inner (codes "HISTORY") ≡ None = search rules in
-    (c.lacking.ensures other, no_file inner none)
-
-pub returns-in_default-number_in-clause-lacks : goal.returns-in_default-number_in-clause-lacks
-returns-in_default-number_in-clause-lacks c other = (c.lacking-in_default-number_in.ensures other, no_steps (found_of c.args.matches.now) c.in_default-number_in.ensures.none)
-
-pub returns-in_default-first_in-clause-lacks : goal.returns-in_default-first_in-clause-lacks
-returns-in_default-first_in-clause-lacks c other = (c.lacking-in_default-first_in.ensures other, no_order (found_of c.args.matches.now) c.in_default-first_in.ensures.none)
+returns-in_default-clause-lacks c other = (c.refusal.ensures other, no_order (found_of c.args.matches.now) c.in_default.ensures.none)
 
 pub returns-clause-found : goal.returns-clause-found
-returns-clause-found c =
-    let inner = found_of c.args.matches.now in
-    let history : first_value inner (codes "HISTORY") ≡ Some (string_bytes c.in_ok-history.history) = search rules in
-    has_search inner (string_bytes c.in_ok-history.history) c.in-Some-number_in.steps c.in-Some-first_in.first history c.in-Some-number_in.ensures.some c.in-Some-first_in.ensures.some
+returns-clause-found c = has_search (found_of c.args.matches.now) (string_bytes c.in_ok-history.history) c.in_ok-history.steps c.in-Some.first c.in_ok-history.ensures.found c.in-Some.ensures.some

@@ -1,17 +1,17 @@
 use Rattle.std.proofs.Common.{rules, ◌≡◌, None, Some, codes}
 use Rattle.std.specs.String.{string_bytes}
 use Rattle.clap.specs.Words.{first_value, found_of}
-use Rattle.command_line.proofs.Sought.{judge_no_file, judge_no_steps, has_judge}
-use Rattle.command_line.proofs.parsing.judge_found.Goals as goal
+use Rattle.command_line.proofs.Sought.{no_file, no_steps, has_judge}
+use Rattle.command_line.proofs.parsing.history_and_steps.Goals as goal
 
 pub returns-in_default-clause-lacks : goal.returns-in_default-clause-lacks
 returns-in_default-clause-lacks c other =
     let inner = found_of c.args.matches.now in
     let none : first_value inner (codes "HISTORY") ≡ None = search rules in
-    (c.no_judgement.ensures other, judge_no_file inner none)
+    (c.refusal.ensures other, no_file inner none)
 
 pub returns-in_default-number_in-clause-lacks : goal.returns-in_default-number_in-clause-lacks
-returns-in_default-number_in-clause-lacks c other = (c.no_judgement-in_default-number_in.ensures other, judge_no_steps (found_of c.args.matches.now) c.in_default-number_in.ensures.none)
+returns-in_default-number_in-clause-lacks c other = (c.refusal-in_default-number_in.ensures other, no_steps (found_of c.args.matches.now) c.in_default-number_in.ensures.none)
 
 pub returns-clause-found : goal.returns-clause-found
 returns-clause-found c =
