@@ -55,7 +55,8 @@ pub fn strange_object(
 ) -> Option<u32>
     requires { AreAllPlaces places certificates.now }
     ensures none { IfNone result (AreForThese (map (λ o. o.object) objects.now) certificates.now) }
-    ensures least { IfSome result (IsLeastBesides (map (λ o. o.object) objects.now) certificates.now) }
+    ensures least { IfSome result (IsLeastBesides
+        (map (λ o. o.object) objects.now) certificates.now) }
 {
     for object in objects {
         places.remove(&object.object());
@@ -76,7 +77,8 @@ pub fn check_all(
     ensures valid { OnOk result (AreValid history.now certificates.now) }
     ensures refused { IfErr result (IsFirstRefusal history.now certificates.now) }
     // Certificates that are refused, but for want of memory, are not valid.
-    ensures exact { AreValid history.now certificates.now → IfErr result (λ e. e ≡ Refusal.NoMemory) }
+    ensures exact { AreValid history.now certificates.now →
+        IfErr result (λ e. e ≡ Refusal.NoMemory) }
 {
     let Ok(objects) = split(alloc, history) else {
         return Err(Refusal::NoMemory);

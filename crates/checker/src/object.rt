@@ -27,9 +27,11 @@ pub fn check_object(
         (RefusesOrder history.now.object history.now.kind
         (calls_of history.now.ops) certificate.now.order.items) }
     ensures faultless { OnOk result ((fault : OrderFault) →
-        IsFirstFault history.now.kind (calls_of history.now.ops) certificate.now.order.items fault → ⊥) }
+        IsFirstFault history.now.kind (calls_of history.now.ops) certificate.now.order.items fault →
+        ⊥) }
     // An order that is refused, but for want of memory, is not valid.
-    ensures exact { IsValidOrder history.now.kind (calls_of history.now.ops) certificate.now.order.items →
+    ensures exact { IsValidOrder history.now.kind
+        (calls_of history.now.ops) certificate.now.order.items →
         IfErr result (λ e. e ≡ Refusal.NoMemory) }
 {
     let object = AnyObject::empty(alloc, history.kind());

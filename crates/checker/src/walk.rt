@@ -21,7 +21,8 @@ use std::alloc::Global;
 
 /// The greatest number so far, if the operation returned before that was reached.
 fn late_by(end: &End, greatest: Option<u32>) -> Option<u32>
-    ensures { MatchOption result (IsEarly end.now greatest) (λ by. (greatest ≡ Some by) × IsLate end.now by) }
+    ensures { MatchOption result (IsEarly end.now greatest)
+        (λ by. (greatest ≡ Some by) × IsLate end.now by) }
 {
     match (end, greatest) {
         (End::Returned { at, .. }, Some(by)) if *at < by => Some(by),

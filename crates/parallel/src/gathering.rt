@@ -16,7 +16,8 @@ fn put_in(
     sorted: &mut BTreeMap<u32, ObjectHistory>,
     part: Vec<ObjectHistory>,
 ) -> Result<(), AllocError>
-    ensures { OnOk result ((x : ℕ) → IsPutIn part.items x (get nat_cmp sorted.old x) (get nat_cmp sorted.new x)) }
+    ensures { OnOk result ((x : ℕ) → IsPutIn part.items x (get nat_cmp sorted.old x)
+        (get nat_cmp sorted.new x)) }
 {
     for object in part {
         sorted.insert(object.object(), object)?;
@@ -30,7 +31,8 @@ fn joined(
     found: Vec<Result<Vec<ObjectHistory>, AllocError>>,
 ) -> Result<BTreeMap<u32, ObjectHistory>, AllocError>
     requires { 0 < length found.items }
-    ensures { IfOk result (λ m. (es : List Event) → ArePartsOf (λ v. v.items) es found.items → IsWhole es m) }
+    ensures { IfOk result (λ m. (es : List Event) → ArePartsOf (λ v. v.items) es found.items →
+        IsWhole es m) }
 {
     let mut sorted = BTreeMap::new(alloc);
     for part in found {

@@ -37,7 +37,8 @@ pub fn check_parallel<R: Threads + Sync, G: Gate>(
     ensures valid { OnOk result (AreValid history.now certificates.now) }
     ensures refused { IfErr result (IsFirstRefusal history.now certificates.now) }
     // Certificates that are refused, but for want of memory, are not valid.
-    ensures exact { AreValid history.now certificates.now → IfErr result (λ e. e ≡ Refusal.NoMemory) }
+    ensures exact { AreValid history.now certificates.now →
+        IfErr result (λ e. e ≡ Refusal.NoMemory) }
 {
     let Ok(objects) = split_by_workers(rt, alloc, history, workers) else {
         return Err(Refusal::NoMemory);
@@ -52,7 +53,8 @@ pub fn check_parallel<R: Threads + Sync, G: Gate>(
         alloc,
         count,
         &|worker: usize| -> Result<(), Found>
-            requires { (worker < count) × (count < 17) × AllPairs (λ a b. a.object < b.object) pieces.now
+            requires { (worker < count) × (count < 17)
+                × AllPairs (λ a b. a.object < b.object) pieces.now
                 × AreAllPlaces places certificates.now }
             ensures { IsShare worker count pieces.entry.now certificates.entry.now result }
         { check_share(alloc, pieces, &places, certificates, worker, count, gate) },
