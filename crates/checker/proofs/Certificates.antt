@@ -317,24 +317,21 @@ next_parts fs i o l is = parts fs i l ∙ ap (λ x. take i fs ++ x ∷ drop (suc
 in_objects : (fs : List ObjectCalls) (i : ℕ) (o : ObjectCalls) → i < length fs → o ≡ get_or fs i o → In o fs
 in_objects fs i o l is = subst (λ z. In z fs) (sym is) (in_from_get fs i o l)
 
-pub next_fine : (es : List Event) (certificates : List Certificate) (fs : List ObjectCalls) (i : ℕ) (o : ObjectCalls) → AreObjects es fs → i < length fs → o ≡ get_or fs i o → IsFine o.kind (calls_of o.ops) certificates o.object → IsFineAt es certificates o.object
-next_fine es certificates fs i o h l is fine =
+-- what holds of the kind and the calls of an object holds of those in the history
+pub next_is : (es : List Event) (fs : List ObjectCalls) (i : ℕ) (o : ObjectCalls) (P : Kind → List Call → Type 0) → AreObjects es fs → i < length fs → o ≡ get_or fs i o → P o.kind (calls_of o.ops) → P (kind_at es o.object) (calls_on o.object (denoted es))
+next_is es fs i o P h l is p =
     let j = in_objects fs i o l is in
-    let its_kind = subst (λ k. IsFine k (calls_of o.ops) certificates o.object) (all_at (λ (o : ObjectCalls). o.kind ≡ kind_at es o.object) fs h.kinds o j) fine in
-    subst (λ cs. IsFine (kind_at es o.object) cs certificates o.object) (all_at (λ (o : ObjectCalls). calls_of o.ops ≡ calls_on o.object (denoted es)) fs h.calls o j) its_kind
+    let its_kind = subst (λ k. P k (calls_of o.ops)) (all_at (λ (o : ObjectCalls). o.kind ≡ kind_at es o.object) fs h.kinds o j) p in
+    subst (P (kind_at es o.object)) (all_at (λ (o : ObjectCalls). calls_of o.ops ≡ calls_on o.object (denoted es)) fs h.calls o j) its_kind
 
-next_refused : (es : List Event) (certificates : List Certificate) (fs : List ObjectCalls) (i : ℕ) (o : ObjectCalls) (r : Refusal) → AreObjects es fs → i < length fs → o ≡ get_or fs i o
-    → IsRefused o.kind (calls_of o.ops) certificates o.object r → IsRefused (kind_at es o.object) (calls_on o.object (denoted es)) certificates o.object r
-next_refused es certificates fs i o r h l is refused =
-    let j = in_objects fs i o l is in
-    let its_kind = subst (λ k. IsRefused k (calls_of o.ops) certificates o.object r) (all_at (λ (o : ObjectCalls). o.kind ≡ kind_at es o.object) fs h.kinds o j) refused in
-    subst (λ cs. IsRefused (kind_at es o.object) cs certificates o.object r) (all_at (λ (o : ObjectCalls). calls_of o.ops ≡ calls_on o.object (denoted es)) fs h.calls o j) its_kind
+pub next_fine : (es : List Event) (certificates : List Certificate) (fs : List ObjectCalls) (i : ℕ) (o : ObjectCalls) → AreObjects es fs → i < length fs → o ≡ get_or fs i o → IsFine o.kind (calls_of o.ops) certificates o.object → IsFineAt es certificates o.object
+next_fine es certificates fs i o h l is fine = next_is es fs i o (λ kind calls. IsFine kind calls certificates o.object) h l is fine
 
 -- Where the next object is refused, that is the first refusal. Certificates that are valid are refused by want of memory alone.
 pub next_is_first : (es : List Event) (certificates : List Certificate) (fs : List ObjectCalls) (i : ℕ) (o : ObjectCalls) (r : Refusal) → AllPairs (λ a b. a.object ≢ b.object) certificates → AreObjects es fs → AreFine es certificates (take i fs)
     → i < length fs → o ≡ get_or fs i o → IsRefused o.kind (calls_of o.ops) certificates o.object r → IsFirstRefusal es certificates r × (AreValid es certificates → r ≡ NoMemory)
 next_is_first es certificates fs i o r d objects fine l is h =
-    let refused = next_refused es certificates fs i o r objects l is h in
+    let refused = next_is es fs i o (λ kind calls. IsRefused kind calls certificates o.object r) objects l is h in
     let parts = next_parts fs i o l is in (
       first_refusal es certificates fs (take i fs) o (drop (suc i) fs) r d objects parts fine refused,
       refused_are_not_valid es certificates fs (take i fs) o (drop (suc i) fs) r d objects parts fine refused,

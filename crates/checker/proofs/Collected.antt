@@ -3,13 +3,17 @@ use Rattle.std.proofs.Common.{◌≡◌, ◌≢◌, ℕ, ◌<◌, inl, inr, List
 use Rattle.std.specs.Prelude.{◌↔◌}
 use Rattle.std.specs.List.{cons_option, filter_map}
 use Rattle.std.proofs.lemmas.List.{map-append, take_more, take_all}
-use Rattle.model.specs.Orders.{calls_on, IsValidOrder}
+use Rattle.std.proofs.lemmas.List.Elements.{All-push}
+use Rattle.model.specs.declared.Kind.{Kind}
+use Rattle.model.specs.Orders.{Call, calls_on, IsValidOrder}
 use Rattle.model.proofs.Lists.{In, Pairs, in_map, in_map_from, in_from_contains, contains_from_in, all_from_in, all_at, all_from_pairs, pairs_from_all, pairs_map, pairs_from_map}
 use Rattle.events.specs.declared.event.Event.{Event}
 use Rattle.events.specs.Events.{IsNamed, kind_at, denoted}
+use Rattle.events.specs.Operations.{ObjectCalls, calls_of}
 use Rattle.certificate.specs.declared.Certificate.{Certificate}
 use Rattle.certificate.specs.Denotes.{AreDistinct}
 use Rattle.checker.specs.Refusals.{AreValid, HasCertificate}
+use Rattle.checker.proofs.Certificates.{AreObjects, next_is}
 
 -- the certificates among answers, of which each has one or none
 abbrev pub collected : {A : Type 0} → (A → Option Certificate) → List (ℕ × A) → List Certificate
@@ -48,28 +52,63 @@ some_certificate (Some c) i = (c, refl)
 
 -- ---- the answers on all objects
 
+-- What answers are asked to be: of the object with a number, its kind and its calls.
+-- Where one has a certificate, that is for the object, and its order is valid.
+abbrev pub Certifies : {A : Type 0} → (A → Option Certificate) → (ℕ → Kind → List Call → A → Type 0) → Type 0
+Certifies {A} certificate_of Is = (x : ℕ) (kind : Kind) (calls : List Call) (s : A) (c : Certificate) → Is x kind calls s → certificate_of s ≡ Some c → (c.object ≡ x) × IsValidOrder kind calls c.order.items
+
+-- the answers on the objects before a place
+pub record AreAnswers {A : Type 0} (es : List Event) (Is : ℕ → Kind → List Call → A → Type 0) (objects : List ObjectCalls) (k : ℕ) (answers : List (ℕ × A)) : Type 0 where
+  pub objects_are : AreObjects es objects
+  pub numbers : map (λ a. a.0) answers ≡ map (λ o. o.object) (take k objects)
+  pub each : All (λ a. Is a.0 (kind_at es a.0) (calls_on a.0 (denoted es)) a.1) answers
+
+pub no_answers : {A : Type 0} (es : List Event) (Is : ℕ → Kind → List Call → A → Type 0) (objects : List ObjectCalls) (answers : List (ℕ × A)) → AreObjects es objects → answers ≡ [] → AreAnswers es Is objects 0 answers
+no_answers {A} es Is objects answers h none = subst (AreAnswers es Is objects 0) (sym none) (record { objects_are = h; numbers = refl; each = λ i d l. absurd (omega (arith, l)) })
+
 -- one more answer, on the next object
-pub are_more : {O : Type 0} {A : Type 0} (number : O → ℕ) (objects : List O) (k : ℕ) (o : O) (old new : List (ℕ × A)) (n : ℕ) (s : A) → k < length objects → o ≡ get_or objects k o → map (λ a. a.0) old ≡ map number (take k objects) → n ≡ number o → new ≡ old ++ (n, s) ∷ [] → map (λ a. a.0) new ≡ map number (take (k + 1) objects)
-are_more {O} {A} number objects k o old new n s l e are en ex =
-    ap (map (λ a. a.0)) ex ∙ map-append (λ (a : ℕ × A). a.0) old ((n, s) ∷ []) ∙ ap (λ xs. xs ++ n ∷ []) are ∙ ap (λ (x : ℕ). map number (take k objects) ++ x ∷ []) (en ∙ ap number e)
-    ∙ sym (ap (map number) (take_more objects k o l) ∙ map-append number (take k objects) (get_or objects k o ∷ []))
+pub one_more_answer : {A : Type 0} (es : List Event) (Is : ℕ → Kind → List Call → A → Type 0) (objects : List ObjectCalls) (k : ℕ) (o : ObjectCalls) (old new : List (ℕ × A)) (n : ℕ) (s : A) → k < length objects → o ≡ get_or objects k o → n ≡ o.object → new ≡ old ++ (n, s) ∷ []
+    → Is o.object o.kind (calls_of o.ops) s → AreAnswers es Is objects k old → AreAnswers es Is objects (k + 1) new
+one_more_answer {A} es Is objects k o old new n s l is en ex h are = record {
+  objects_are = are.objects_are;
+  numbers =
+      ap (map (λ a. a.0)) ex ∙ map-append (λ (a : ℕ × A). a.0) old ((n, s) ∷ []) ∙ ap (λ xs. xs ++ n ∷ []) are.numbers ∙ ap (λ (x : ℕ). map number (take k objects) ++ x ∷ []) (en ∙ ap number is)
+      ∙ sym (ap (map number) (take_more objects k o l) ∙ map-append number (take k objects) (get_or objects k o ∷ []));
+  each = rw ex (All-push (λ (a : ℕ × A). Is a.0 (kind_at es a.0) (calls_on a.0 (denoted es)) a.1) old (n, s) are.each (subst (λ (y : ℕ). Is y (kind_at es y) (calls_on y (denoted es)) s) (sym en) here));
+}
+  where
+    number : ObjectCalls → ℕ
+    number o = o.object
 
-pub all_numbers : {O : Type 0} {A : Type 0} (number : O → ℕ) (objects : List O) (k : ℕ) (answers : List (ℕ × A)) → length objects ≤ k → map (λ a. a.0) answers ≡ map number (take k objects) → map (λ a. a.0) answers ≡ map number objects
-all_numbers number objects k answers l e = e ∙ ap (map number) (take_all k objects l)
+    here : Is o.object (kind_at es o.object) (calls_on o.object (denoted es)) s
+    here = next_is es objects k o (λ kind calls. Is o.object kind calls s) are.objects_are l is h
 
-pub answers_rise : {O : Type 0} {A : Type 0} (number : O → ℕ) (objects : List O) (answers : List (ℕ × A)) → map (λ a. a.0) answers ≡ map number objects → AllPairs (λ a b. number a < number b) objects → AllPairs (λ a b. a.0 < b.0) answers
-answers_rise number objects answers e up = all_from_pairs (λ a b. a.0 < b.0) answers (pairs_from_map (λ m n. m < n) (λ a. a.0) answers (subst (Pairs (λ m n. m < n)) (sym e) (pairs_map (λ m n. m < n) number objects (pairs_from_all (λ a b. number a < number b) objects up))))
+-- the answers on all objects, in rising number
+pub record AreOnAll {A : Type 0} (es : List Event) (Is : ℕ → Kind → List Call → A → Type 0) (answers : List (ℕ × A)) : Type 0 where
+  pub rising : AllPairs (λ a b. a.0 < b.0) answers
+  pub named : (x : ℕ) → Contains (map (λ a. a.0) answers) x ↔ IsNamed es x
+  pub each : All (λ a. Is a.0 (kind_at es a.0) (calls_on a.0 (denoted es)) a.1) answers
+
+pub on_all : {A : Type 0} (es : List Event) (Is : ℕ → Kind → List Call → A → Type 0) (objects : List ObjectCalls) (k : ℕ) (answers : List (ℕ × A)) → length objects ≤ k → AreAnswers es Is objects k answers → AreOnAll es Is answers
+on_all {A} es Is objects k answers l h = record {
+  rising = all_from_pairs (λ a b. a.0 < b.0) answers (pairs_from_map (λ m n. m < n) (λ a. a.0) answers (subst (Pairs (λ m n. m < n)) (sym numbers) (pairs_map (λ m n. m < n) (λ o. o.object) objects (pairs_from_all (λ a b. a.object < b.object) objects h.objects_are.rising))));
+  named = subst (λ (xs : List ℕ). (x : ℕ) → Contains xs x ↔ IsNamed es x) (sym numbers) h.objects_are.named;
+  each = h.each;
+}
+  where
+    numbers : map (λ (a : ℕ × A). a.0) answers ≡ map (λ (o : ObjectCalls). o.object) objects
+    numbers = h.numbers ∙ ap (map (λ (o : ObjectCalls). o.object)) (take_all k objects l)
 
 -- the answer on an object of this number
 answer_on : {A : Type 0} (answers : List (ℕ × A)) (x : ℕ) → Contains (map (λ a. a.0) answers) x → (a : ℕ × A) × In a answers × (x ≡ a.0)
 answer_on {A} answers x c = in_map (λ (a : ℕ × A). a.0) x answers (in_from_contains (map (λ a. a.0) answers) x c)
 
--- each certificate is one of the object of its answer, and its order is valid for that
-abbrev pub AreForTheirs : {A : Type 0} → (A → Option Certificate) → List Event → List (ℕ × A) → Type 0
-AreForTheirs {A} certificate_of es answers = (a : ℕ × A) (c : Certificate) → In a answers → certificate_of a.1 ≡ Some c → (c.object ≡ a.0) × IsValidOrder (kind_at es a.0) (calls_on a.0 (denoted es)) c.order.items
+-- each certificate is for the object of its answer, and its order is valid
+own : {A : Type 0} (certificate_of : A → Option Certificate) (es : List Event) (Is : ℕ → Kind → List Call → A → Type 0) (answers : List (ℕ × A)) → Certifies certificate_of Is → AreOnAll es Is answers → (a : ℕ × A) (c : Certificate) → In a answers → certificate_of a.1 ≡ Some c → (c.object ≡ a.0) × IsValidOrder (kind_at es a.0) (calls_on a.0 (denoted es)) c.order.items
+own {A} certificate_of es Is answers certifies h a c i e = certifies a.0 (kind_at es a.0) (calls_on a.0 (denoted es)) a.1 c (all_at (λ (a : ℕ × A). Is a.0 (kind_at es a.0) (calls_on a.0 (denoted es)) a.1) answers h.each a i) e
 
-pub distinct : {A : Type 0} (certificate_of : A → Option Certificate) (es : List Event) (answers : List (ℕ × A)) → AreForTheirs certificate_of es answers → AllPairs (λ a b. a.0 < b.0) answers → AreDistinct (collected certificate_of answers)
-distinct {A} certificate_of es answers own rising = all_from_pairs (λ a b. a.object ≢ b.object) (collected certificate_of answers) (go answers (λ a c i e. (own a c i e).0) (pairs_from_all (λ a b. a.0 < b.0) answers rising))
+pub distinct : {A : Type 0} (certificate_of : A → Option Certificate) (es : List Event) (Is : ℕ → Kind → List Call → A → Type 0) (answers : List (ℕ × A)) → Certifies certificate_of Is → AreOnAll es Is answers → AreDistinct (collected certificate_of answers)
+distinct {A} certificate_of es Is answers certifies h = all_from_pairs (λ a b. a.object ≢ b.object) (collected certificate_of answers) (go answers (λ a c i e. (own certificate_of es Is answers certifies h a c i e).0) (pairs_from_all (λ a b. a.0 < b.0) answers h.rising))
   where
     go : (rest_of : List (ℕ × A)) → ((a : ℕ × A) (c : Certificate) → In a rest_of → certificate_of a.1 ≡ Some c → c.object ≡ a.0) → Pairs (λ a b. a.0 < b.0) rest_of → Pairs (λ a b. a.object ≢ b.object) (collected certificate_of rest_of)
     go [] own up = tt
@@ -87,16 +126,16 @@ distinct {A} certificate_of es answers own rising = all_from_pairs (λ a b. a.ob
           rest,
         )
 
-pub valid : {A : Type 0} (certificate_of : A → Option Certificate) (es : List Event) (answers : List (ℕ × A)) → AreForTheirs certificate_of es answers → ((x : ℕ) → Contains (map (λ a. a.0) answers) x ↔ IsNamed es x) → All (λ a. IsSome (certificate_of a.1)) answers → AreValid es (collected certificate_of answers)
-valid {A} certificate_of es answers own named all = record {
+pub valid : {A : Type 0} (certificate_of : A → Option Certificate) (es : List Event) (Is : ℕ → Kind → List Call → A → Type 0) (answers : List (ℕ × A)) → Certifies certificate_of Is → AreOnAll es Is answers → All (λ a. IsSome (certificate_of a.1)) answers → AreValid es (collected certificate_of answers)
+valid {A} certificate_of es Is answers certifies h all = record {
   each = λ x n.
-      let a = answer_on answers x ((named x).1 n) in
+      let a = answer_on answers x ((h.named x).1 n) in
       let c = some_certificate (certificate_of a.0.1) (all_at (λ a. IsSome (certificate_of a.1)) answers all a.0 a.1) in
-      let of_it = own a.0 c.0 a.1 c.1 in
+      let of_it = own certificate_of es Is answers certifies h a.0 c.0 a.1 c.1 in
       let certificate : HasCertificate (collected certificate_of answers) x = record { certificate = c.0; stands = contains_from_in (collected certificate_of answers) c.0 (found_in_answers certificate_of answers a.0 c.0 a.1 c.1); for_object = of_it.0 ∙ sym a.2 } in
       (certificate, subst (λ (y : ℕ). IsValidOrder (kind_at es y) (calls_on y (denoted es)) c.0.order.items) (sym a.2) of_it.1);
   none_besides = all_from_in (λ c. IsNamed es c.object) (collected certificate_of answers) (λ c i.
       let a = in_found certificate_of answers c i in
-      let of_it = own a.0 c a.1 a.2 in
-      subst (IsNamed es) (sym of_it.0) ((named a.0.0).0 (contains_from_in (map (λ a. a.0) answers) a.0.0 (in_map_from (λ (a : ℕ × A). a.0) a.0 answers a.1))));
+      let of_it = own certificate_of es Is answers certifies h a.0 c a.1 a.2 in
+      subst (IsNamed es) (sym of_it.0) ((h.named a.0.0).0 (contains_from_in (map (λ a. a.0) answers) a.0.0 (in_map_from (λ (a : ℕ × A). a.0) a.0 answers a.1))));
 }

@@ -52,9 +52,9 @@ pub(crate) fn cells_order(
         add_cell(&mut merged, cell, &order)?;
     }
     merged.sort_unstable();
-    let mut order = Vec::new(alloc);
-    for (_, _, number) in &merged {
-        order.push(*number as i64)?;
-    }
+    let order = merged
+        .iter()
+        .map(|(_, _, number)| *number as i64)
+        .collect(alloc)?;
     Ok(Some(order))
 }

@@ -118,13 +118,10 @@ fn place_all(
     Ok(true)
 }
 
-/// The values that nobody is known to take and that must be gone: a greater one is extracted, or nothing is found, by a call that
-/// begins when their insert has returned. With each the moment of that return.
-fn must_be_gone(alloc: Global, stays: &Stays) -> Result<Vec<(u32, usize)>, AllocError> {
-    let mut latest = 0;
-    for call in &stays.empties {
-        latest = call.begin.max(latest);
-    }
+/// Gives takings that are pending to the values that nobody is known to take and that must be gone: a greater one is extracted, or
+/// nothing is found, by a call that begins when their insert has returned.
+fn give_takings(alloc: Global, stays: &mut Stays) -> Result<(), AllocError> {
+    let mut latest = stays.last_empty();
     let mut needed = Vec::new(alloc);
     for (place, stay) in stays.stays.iter().enumerate().rev() {
         match stay.take {
@@ -133,7 +130,8 @@ fn must_be_gone(alloc: Global, stays: &Stays) -> Result<Vec<(u32, usize)>, Alloc
             None => (),
         }
     }
-    Ok(needed)
+    stays.give(needed);
+    Ok(())
 }
 
 /// An order of the calls that may be valid.
@@ -142,8 +140,7 @@ pub(crate) fn heap_order(
     calls: &[TimedCall],
     mut stays: Stays,
 ) -> Result<Option<Vec<i64>>, AllocError> {
-    let needed = must_be_gone(alloc, &stays)?;
-    stays.give(needed);
+    give_takings(alloc, &mut stays)?;
     let end = moment_count(calls);
     let mut gaps = Gaps::new(alloc, end)?;
     let mut placed = Vec::new(alloc);
@@ -151,9 +148,6 @@ pub(crate) fn heap_order(
         return Ok(None);
     }
     placed.sort_unstable_by_key(|p| (p.gap, p.phase, p.value, p.extracts));
-    let mut order = Vec::new(alloc);
-    for p in &placed {
-        order.push(p.number as i64)?;
-    }
+    let order = placed.iter().map(|p| p.number as i64).collect(alloc)?;
     Ok(Some(order))
 }

@@ -1,7 +1,7 @@
 //! Mutexes. A call is placed when it returns, or when one that returns needs it: then, of all calls of its kind that are
 //! running, the one that returns first. All acquires are alike, and so are all releases, so nothing better can be chosen.
 
-use crate::calls::{PENDING, TimedCall};
+use crate::calls::{TimedCall, moments_of};
 use seq_objects::AnyOp;
 use std::alloc::{AllocError, Global};
 use std::collections::BTreeSet;
@@ -70,19 +70,6 @@ fn place(
     Ok(true)
 }
 
-/// The invocations and returns in order: the moment, the place of the call, and whether it returns.
-fn moments_of(alloc: Global, calls: &[TimedCall]) -> Result<Vec<(u32, usize, bool)>, AllocError> {
-    let mut moments = Vec::new(alloc);
-    for (place, call) in calls.iter().enumerate() {
-        moments.push((call.begin, place, false))?;
-        if call.end != PENDING {
-            moments.push((call.end, place, true))?;
-        }
-    }
-    moments.sort_unstable();
-    Ok(moments)
-}
-
 fn places_in_order(alloc: Global, calls: &[TimedCall]) -> Result<Option<Vec<usize>>, AllocError> {
     let mut running = Running {
         acquires: BTreeSet::new(alloc),
@@ -90,13 +77,14 @@ fn places_in_order(alloc: Global, calls: &[TimedCall]) -> Result<Option<Vec<usiz
         held: false,
     };
     let mut placed = Vec::new(alloc);
-    for (_, at, returns) in &moments_of(alloc, calls)? {
-        let Some(call) = calls.get(*at) else {
+    for moment in &moments_of(alloc, calls)? {
+        let at = moment.call;
+        let Some(call) = calls.get(at) else {
             return Ok(None);
         };
-        if !*returns {
-            running.begin(call, *at)?;
-        } else if !place(&mut running, &mut placed, call, *at)? {
+        if !moment.returns {
+            running.begin(call, at)?;
+        } else if !place(&mut running, &mut placed, call, at)? {
             return Ok(None);
         }
     }

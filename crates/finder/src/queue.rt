@@ -75,11 +75,10 @@ fn row_of(cuts: &[Cut], stay: Stay) -> Row {
     row
 }
 
-/// What is left to be lined up: for each value which of its two calls wait no more, and whether it is lined up.
+/// What is left to be lined up: for each value how many of its two calls wait for others, and whether it is lined up.
 #[derive(Clone, Copy, Debug)]
 struct Waiting {
-    put: bool,
-    take: bool,
+    calls: u8,
     done: bool,
 }
 
@@ -125,6 +124,28 @@ impl Front {
         self.next = self.next.saturating_add(1);
         Some(place)
     }
+
+    /// Notes the values whose time is at most this: one of their two calls waits no more. Those that wait no more are ready.
+    fn admit_all(
+        &mut self,
+        most: u32,
+        waiting: &mut [Waiting],
+        ready: &mut Vec<usize>,
+    ) -> Result<(), AllocError> {
+        for _ in 0..waiting.len() {
+            let Some(place) = self.admit(most) else {
+                break;
+            };
+            let Some(value) = waiting.get_mut(place) else {
+                break;
+            };
+            value.calls = value.calls.saturating_sub(1);
+            if value.calls == 0 {
+                ready.push(place)?;
+            }
+        }
+        Ok(())
+    }
 }
 
 /// Values that are lined up one by one, each when no other that is left has to go before it.
@@ -140,9 +161,8 @@ struct LineUp {
 
 impl LineUp {
     fn new(alloc: Global, rows: &[Row]) -> Result<LineUp, AllocError> {
-        let none = Waiting {
-            put: true,
-            take: true,
+        let both = Waiting {
+            calls: 2,
             done: false,
         };
         Ok(LineUp {
@@ -150,51 +170,21 @@ impl LineUp {
             takes_by: front_by(alloc, rows, |row| row.take_by)?,
             puts_from: front_by(alloc, rows, |row| row.put_from)?,
             takes_from: front_by(alloc, rows, |row| row.take_from)?,
-            waiting: vec![in alloc; none; rows.len()]?,
+            waiting: vec![in alloc; both; rows.len()]?,
             ready: Vec::new(alloc),
         })
-    }
-
-    /// Notes the values whose put begins no later than this: no other value's calls return before it.
-    fn admit_puts(&mut self, most: u32) -> Result<(), AllocError> {
-        for _ in 0..self.waiting.len() {
-            let Some(place) = self.puts_from.admit(most) else {
-                break;
-            };
-            let Some(waiting) = self.waiting.get_mut(place) else {
-                break;
-            };
-            waiting.put = false;
-            if !waiting.take {
-                self.ready.push(place)?;
-            }
-        }
-        Ok(())
-    }
-
-    /// The same of the values' takings.
-    fn admit_takes(&mut self, most: u32) -> Result<(), AllocError> {
-        for _ in 0..self.waiting.len() {
-            let Some(place) = self.takes_from.admit(most) else {
-                break;
-            };
-            let Some(waiting) = self.waiting.get_mut(place) else {
-                break;
-            };
-            waiting.take = false;
-            if !waiting.put {
-                self.ready.push(place)?;
-            }
-        }
-        Ok(())
     }
 
     /// The place of a value that can be next, if there is one.
     fn next(&mut self) -> Result<Option<usize>, AllocError> {
         let put_by = self.puts_by.least(&self.waiting).unwrap_or(NEVER);
         let take_by = self.takes_by.least(&self.waiting).unwrap_or(NEVER);
-        self.admit_puts(put_by.min(take_by))?;
-        self.admit_takes(take_by)?;
+        // no other value's calls return before these begin
+        let put_from = put_by.min(take_by);
+        self.puts_from
+            .admit_all(put_from, &mut self.waiting, &mut self.ready)?;
+        self.takes_from
+            .admit_all(take_by, &mut self.waiting, &mut self.ready)?;
         let Some(place) = self.ready.pop() else {
             return Ok(None);
         };
@@ -277,25 +267,18 @@ fn add_cuts(steps: &mut Vec<Step>, cuts: &[Cut]) -> Result<(), AllocError> {
     Ok(())
 }
 
-/// The values that nobody is known to take and that must be gone: their put returned before another that is taken was put, or
-/// before a call that finds nothing. With each the moment of that return.
-fn must_be_gone(alloc: Global, stays: &Stays) -> Result<Vec<(u32, usize)>, AllocError> {
-    let mut latest = 0;
+/// Gives takings that are pending to the values that nobody is known to take and that must be gone: their put returned before
+/// another that is taken was put, or before a call that finds nothing.
+fn give_takings(alloc: Global, stays: &mut Stays) -> Result<(), AllocError> {
+    let mut latest = stays.last_empty();
     for stay in &stays.stays {
         if stay.take.is_some() {
             latest = stay.put.begin.max(latest);
         }
     }
-    for call in &stays.empties {
-        latest = call.begin.max(latest);
-    }
-    let mut needed = Vec::new(alloc);
-    for (place, stay) in stays.stays.iter().enumerate() {
-        if stay.take.is_none() && stay.put.end < latest {
-            needed.push((stay.put.end, place))?;
-        }
-    }
-    Ok(needed)
+    let needed = stays.left_before(alloc, |_| latest)?;
+    stays.give(needed);
+    Ok(())
 }
 
 /// An order of the calls that may be valid.
@@ -304,8 +287,7 @@ pub(crate) fn queue_order(
     calls: &[TimedCall],
     mut stays: Stays,
 ) -> Result<Option<Vec<i64>>, AllocError> {
-    let needed = must_be_gone(alloc, &stays)?;
-    stays.give(needed);
+    give_takings(alloc, &mut stays)?;
     let Some(cuts) = cuts_of(alloc, &stays, moment_count(calls))? else {
         return Ok(None);
     };
@@ -319,9 +301,6 @@ pub(crate) fn queue_order(
     let mut steps = steps_of(alloc, &line)?;
     add_cuts(&mut steps, &cuts)?;
     steps.sort_unstable_by_key(|step| (step.phase, step.gap, step.rank, step.turn));
-    let mut order = Vec::new(alloc);
-    for step in &steps {
-        order.push(step.number as i64)?;
-    }
+    let order = steps.iter().map(|step| step.number as i64).collect(alloc)?;
     Ok(Some(order))
 }

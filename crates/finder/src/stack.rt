@@ -45,8 +45,8 @@ struct Values {
     lowest_take: Least,
     /// 0 for values that can be put before all others that are left, and taken behind them.
     lowest: Least,
-    puts_first: Vec<bool>,
-    takes_last: Vec<bool>,
+    /// For each value how many of the two are known: that it can be put before the others, and taken behind them.
+    known: Vec<u8>,
 }
 
 /// A place as a number of 32 bits. There are never more.
@@ -93,26 +93,29 @@ impl Values {
             lowest_put: Least::new(alloc, &put)?,
             lowest_take: Least::new(alloc, &take)?,
             lowest: Least::new(alloc, &none)?,
-            puts_first: vec![in alloc; false; count]?,
-            takes_last: vec![in alloc; false; count]?,
+            known: vec![in alloc; 0; count]?,
             stays,
             end,
         })
     }
 
+    /// Notes that a value can be put before all others, or taken behind them.
+    fn note(&mut self, place: usize) {
+        if let Some(known) = self.known.get_mut(place) {
+            *known = known.saturating_add(1);
+            if *known == 2 {
+                self.lowest.set(place, 0);
+            }
+        }
+    }
+
     /// Notes the values that can be put before this gap.
     fn note_puts(&mut self, from: usize, to: usize, gap: i64) {
         for _ in 0..self.stays.len() {
-            let Some(place) = self.lowest_put.first_at_most(from, to, gap) else {
+            let Some(place) = self.lowest_put.take_at_most(from, to, gap) else {
                 break;
             };
-            self.lowest_put.set(place, ABSENT);
-            if let Some(first) = self.puts_first.get_mut(place) {
-                *first = true;
-            }
-            if self.takes_last.get(place) == Some(&true) {
-                self.lowest.set(place, 0);
-            }
+            self.note(place);
         }
     }
 
@@ -120,16 +123,10 @@ impl Values {
     fn note_takes(&mut self, from: usize, to: usize, gap: i64) {
         let behind = gap.saturating_neg().saturating_sub(1);
         for _ in 0..self.stays.len() {
-            let Some(place) = self.lowest_take.first_at_most(from, to, behind) else {
+            let Some(place) = self.lowest_take.take_at_most(from, to, behind) else {
                 break;
             };
-            self.lowest_take.set(place, ABSENT);
-            if let Some(last) = self.takes_last.get_mut(place) {
-                *last = true;
-            }
-            if self.puts_first.get(place) == Some(&true) {
-                self.lowest.set(place, 0);
-            }
+            self.note(place);
         }
     }
 
@@ -308,13 +305,9 @@ fn merged(alloc: Global, turns: &[Turn], short: &[Stay]) -> Result<Vec<i64>, All
     Ok(order)
 }
 
-/// The values that nobody is known to take and that must be gone: nothing is found by a call that begins when their put has
-/// returned, or a value that was put before them is taken then. With each the moment of that return.
-fn must_be_gone(alloc: Global, stays: &Stays) -> Result<Vec<(u32, usize)>, AllocError> {
-    let mut empty = 0;
-    for call in &stays.empties {
-        empty = call.begin.max(empty);
-    }
+/// Gives takings that are pending to the values that nobody is known to take and that must be gone: nothing is found by a call that
+/// begins when their put has returned, or a value that was put before them is taken then.
+fn give_takings(alloc: Global, stays: &mut Stays) -> Result<(), AllocError> {
     let mut below = Vec::new(alloc);
     for stay in &stays.stays {
         if let Some(take) = stay.take {
@@ -323,20 +316,19 @@ fn must_be_gone(alloc: Global, stays: &Stays) -> Result<Vec<(u32, usize)>, Alloc
     }
     below.sort_unstable();
     raise(&mut below);
-    let mut needed = Vec::new(alloc);
-    for (place, stay) in stays.stays.iter().enumerate() {
-        if stay.take.is_none() {
-            let under = below.partition_point(|(end, _)| *end < stay.put.begin);
-            let taken = under
-                .checked_sub(1)
-                .and_then(|last| below.get(last))
-                .map_or(0, |last| last.1);
-            if stay.put.end < taken.max(empty) {
-                needed.push((stay.put.end, place))?;
-            }
-        }
-    }
-    Ok(needed)
+    let empty = stays.last_empty();
+    let needed = stays.left_before(alloc, |stay| taken_below(&below, stay).max(empty))?;
+    stays.give(needed);
+    Ok(())
+}
+
+/// When the last taking begins of the values that were put before this one; 0 where none is taken.
+fn taken_below(below: &[(u32, u32)], stay: &Stay) -> u32 {
+    let under = below.partition_point(|(end, _)| *end < stay.put.begin);
+    under
+        .checked_sub(1)
+        .and_then(|last| below.get(last))
+        .map_or(0, |last| last.1)
 }
 
 /// Makes each second number the greatest of those up to it.
@@ -370,8 +362,7 @@ pub(crate) fn stack_order(
     calls: &[TimedCall],
     mut stays: Stays,
 ) -> Result<Option<Vec<i64>>, AllocError> {
-    let needed = must_be_gone(alloc, &stays)?;
-    stays.give(needed);
+    give_takings(alloc, &mut stays)?;
     let (long, short) = apart(alloc, &stays.stays)?;
     let mut ordering = Ordering {
         values: Values::new(alloc, long, moment_count(calls))?,

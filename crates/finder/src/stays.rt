@@ -160,6 +160,33 @@ pub(crate) fn stays_of(alloc: Global, calls: &[TimedCall]) -> Result<Option<Stay
 }
 
 impl Stays {
+    /// When the last call that finds nothing begins, and 0 where there is none.
+    pub(crate) fn last_empty(&self) -> u32 {
+        let mut latest = 0;
+        for call in &self.empties {
+            latest = call.begin.max(latest);
+        }
+        latest
+    }
+
+    /// The values that nobody is known to take and whose put returned before the moment that is told of each. With each the
+    /// moment of that return.
+    pub(crate) fn left_before<F: Fn(&Stay) -> u32>(
+        &self,
+        alloc: Global,
+        moment: F,
+    ) -> Result<Vec<(u32, usize)>, AllocError>
+        requires { F.IsAlwaysCallable moment }
+    {
+        let mut left = Vec::new(alloc);
+        for (place, stay) in self.stays.iter().enumerate() {
+            if stay.take.is_none() && stay.put.end < moment(stay) {
+                left.push((stay.put.end, place))?;
+            }
+        }
+        Ok(left)
+    }
+
     /// Gives takings that are pending to these values, of which each has its moment: the least moment and the first taking first.
     pub(crate) fn give(&mut self, mut needed: Vec<(u32, usize)>) {
         needed.sort_unstable();

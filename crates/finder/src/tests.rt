@@ -3,17 +3,22 @@ mod small;
 
 use super::*;
 use checker::check_object;
-use events::split;
+use events::{ObjectHistory, split};
 use history::read_history_text;
 use std::alloc::Global;
 use std::test::Fail;
 
-/// What is found for the first object of a history: the numbers of its order in words, or `open`.
-fn found_in(alloc: Global, text: &str) -> Result<String, Fail> {
+/// The objects of a history.
+fn objects_of(alloc: Global, text: &str) -> Result<Vec<ObjectHistory>, Fail> {
     let Ok(history) = read_history_text(alloc, text.as_bytes()) else {
         return Err(Fail::new("a history is refused"));
     };
-    let objects = split(alloc, &history)?;
+    Ok(split(alloc, &history)?)
+}
+
+/// What is found for the first object of a history: the numbers of its order in words, or `open`.
+fn found_in(alloc: Global, text: &str) -> Result<String, Fail> {
+    let objects = objects_of(alloc, text)?;
     let Some(object) = objects.first() else {
         return Err(Fail::new("no object is named"));
     };

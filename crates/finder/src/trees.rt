@@ -139,6 +139,13 @@ impl Least {
         self.first_in(self.depth, root, from, to, most)
     }
 
+    /// Takes out the first number in a range that is at most this, and gives its place.
+    pub(crate) fn take_at_most(&mut self, from: usize, to: usize, most: i64) -> Option<usize> {
+        let place = self.first_at_most(from, to, most)?;
+        self.set(place, ABSENT);
+        Some(place)
+    }
+
     fn first_in(&self, depth: u32, part: Part, from: usize, to: usize, most: i64) -> Option<usize> {
         if part.is_apart(from, to) || self.at(part.node) > most {
             return None;

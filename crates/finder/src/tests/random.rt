@@ -1,11 +1,11 @@
 //! Small histories at random, in which each value is put in once and each call returns: where the bounded search finds an order, the
 //! way that is made for the kind does.
 
+use super::objects_of;
 use crate::ways::{Way, order_by};
 use certificate::Certificate;
 use checker::check_object;
-use events::{ObjectHistory, split};
-use history::read_history_text;
+use events::ObjectHistory;
 use order_search::{Outcome, TryFirst, find_order};
 use seq_objects::Kind;
 use std::alloc::{AllocError, Global};
@@ -49,6 +49,20 @@ fn number(alloc: Global, value: Option<u32>) -> Result<String, AllocError> {
         Some(value) => format!(in alloc; "{value}"),
         None => String::from_str(alloc, "nil"),
     }
+}
+
+/// A call whose argument and reply are numbers, or nothing.
+fn words_of(
+    alloc: Global,
+    function: &'static str,
+    argument: Option<u32>,
+    reply: Option<u32>,
+) -> Result<Words, AllocError> {
+    Ok(Words {
+        function,
+        argument: number(alloc, argument)?,
+        reply: number(alloc, reply)?,
+    })
 }
 
 /// The place of the least value.
@@ -95,18 +109,10 @@ fn call_of_values(
     let (puts, takes) = names_of(kind);
     if random.below(2) == 0 {
         contents.values.push(fresh)?;
-        return Ok(Words {
-            function: puts,
-            argument: number(alloc, Some(fresh))?,
-            reply: number(alloc, Some(fresh))?,
-        });
+        return words_of(alloc, puts, Some(fresh), Some(fresh));
     }
     let taken = take(&mut contents.values, kind);
-    Ok(Words {
-        function: takes,
-        argument: number(alloc, None)?,
-        reply: number(alloc, taken)?,
-    })
+    words_of(alloc, takes, None, taken)
 }
 
 fn call_of_register(
@@ -117,17 +123,9 @@ fn call_of_register(
 ) -> Result<Words, AllocError> {
     if random.below(2) == 0 {
         contents.first = Some(fresh);
-        return Ok(Words {
-            function: "write",
-            argument: number(alloc, Some(fresh))?,
-            reply: number(alloc, Some(fresh))?,
-        });
+        return words_of(alloc, "write", Some(fresh), Some(fresh));
     }
-    Ok(Words {
-        function: "read",
-        argument: number(alloc, None)?,
-        reply: number(alloc, contents.first)?,
-    })
+    words_of(alloc, "read", None, contents.first)
 }
 
 fn call_of_map(
@@ -142,41 +140,28 @@ fn call_of_map(
     } else {
         &mut contents.second
     };
-    let reply = number(alloc, *cell)?;
-    let argument = number(alloc, Some(key))?;
-    Ok(match random.below(3) {
+    let held = *cell;
+    match random.below(3) {
         0 => {
             *cell = Some(fresh);
-            Words {
+            Ok(Words {
                 function: "put",
                 argument: format!(in alloc; "[{key} {fresh}]")?,
-                reply,
-            }
+                reply: number(alloc, held)?,
+            })
         }
-        1 => Words {
-            function: "get",
-            argument,
-            reply,
-        },
+        1 => words_of(alloc, "get", Some(key), held),
         _ => {
             *cell = None;
-            Words {
-                function: "del",
-                argument,
-                reply,
-            }
+            words_of(alloc, "del", Some(key), held)
         }
-    })
+    }
 }
 
 fn call_of_mutex(alloc: Global, contents: &mut Contents) -> Result<Words, AllocError> {
     let function = if contents.held { "release" } else { "acquire" };
     contents.held = !contents.held;
-    Ok(Words {
-        function,
-        argument: number(alloc, None)?,
-        reply: number(alloc, None)?,
-    })
+    words_of(alloc, function, None, None)
 }
 
 /// The next call, done on the object. `fresh` is a value that no other call puts in.
@@ -274,10 +259,7 @@ fn is_found(alloc: Global, history: &ObjectHistory) -> Result<bool, AllocError> 
 
 /// Whether the search finds an order, and whether the way that is made for the kind does.
 fn both(alloc: Global, text: &str) -> Result<(bool, bool), Fail> {
-    let Ok(history) = read_history_text(alloc, text.as_bytes()) else {
-        return Err(Fail::new("a history is refused"));
-    };
-    let objects = split(alloc, &history)?;
+    let objects = objects_of(alloc, text)?;
     let Some(object) = objects.first() else {
         return Err(Fail::new("no object is named"));
     };

@@ -1,10 +1,10 @@
 //! Small histories of three processes over the values 1 and 2: each one of at most three operations, and some of four and of five.
 //! Histories that differ in the names of processes, or in the order of neighbours that both begin or both return, count as one.
 
+use super::objects_of;
 use super::random::Random;
 use crate::{Found, find};
-use events::{ObjectHistory, split};
-use history::read_history_text;
+use events::ObjectHistory;
 use order_search::{Outcome, TryFirst, find_order};
 use std::alloc::{AllocError, Global};
 use std::test::Fail;
@@ -139,10 +139,7 @@ fn is_found(alloc: Global, object: &ObjectHistory) -> Result<bool, Fail> {
 }
 
 fn try_history(alloc: Global, text: &str, counts: &mut Counts) -> Result<(), Fail> {
-    let Ok(history) = read_history_text(alloc, text.as_bytes()) else {
-        return Err(Fail::new("a history is refused"));
-    };
-    for object in &split(alloc, &history)? {
+    for object in &objects_of(alloc, text)? {
         counts.tried = counts.tried.saturating_add(1);
         if is_found(alloc, object)? {
             counts.found = counts.found.saturating_add(1);

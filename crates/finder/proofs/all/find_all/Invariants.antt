@@ -1,9 +1,6 @@
-use Rattle.std.proofs.Common.{◌≡◌, map, take, All}
-use Rattle.finder.specs.Finds.{IsFoundOn}
+use Rattle.checker.proofs.Collected.{AreAnswers}
+use Rattle.finder.proofs.Founds.{IsForOrder}
 use Rattle.finder.proofs.all.find_all.Given as goal
 
 abbrev pub invariant-loop-object : goal.invariant-loop-object
-invariant-loop-object l = record {
-  are : map (λ a. a.0) l.answers.items ≡ map (λ o. o.object) (take l.object-index l.object-items);
-  each : All (λ a. IsFoundOn l.history a.0 a.1) l.answers.items;
-}
+invariant-loop-object l = AreAnswers l.history IsForOrder l.object-items l.object-index l.answers.items

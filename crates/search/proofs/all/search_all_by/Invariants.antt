@@ -1,9 +1,6 @@
-use Rattle.std.proofs.Common.{◌≡◌, map, take, All}
-use Rattle.search.specs.Answers.{IsAnswerOn}
+use Rattle.checker.proofs.Collected.{AreAnswers}
+use Rattle.search.proofs.Certificates.{IsWithin}
 use Rattle.search.proofs.all.search_all_by.Given as goal
 
 abbrev pub invariant-loop-object : goal.invariant-loop-object
-invariant-loop-object l = record {
-  are : map (λ a. a.0) l.answers.items ≡ map (λ o. o.object) (take l.object-index l.object-items);
-  each : All (λ a. IsAnswerOn l.history l.limit a.0 a.1) l.answers.items;
-}
+invariant-loop-object l = AreAnswers l.history (IsWithin l.limit) l.object-items l.object-index l.answers.items
