@@ -28,7 +28,8 @@ pub fn decide_all(
     // the objects that some invocation names, and no others
     ensures named { IfOk result (λ v. (x : ℕ)
         → Contains (map (λ a. a.0) v.items) x ↔ IsNamed history.now x) }
-    ensures decisions { IfOk result (λ v. All (λ a. IsDecisionOn history.now limit a.0 a.1) v.items) }
+    ensures decisions { IfOk result (λ v. All
+        (λ a. IsDecisionOn history.now limit a.0 a.1) v.items) }
     // Where one is impossible the history is not linearizable.
     ensures impossible { IfOk result (λ v. Any (λ a. a.1.found ≡ Found.Impossible) v.items
         → IsLinearizable (kind_at history.now) (events (denoted history.now)) → ⊥) }
