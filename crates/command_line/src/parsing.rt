@@ -232,14 +232,16 @@ fn fault_of(alloc: Global, error: &Error) -> LineFault
 /// The value of an argument that has one.
 fn value_of(alloc: Global, matches: &ArgMatches<'_>, name: &str) -> Result<String, AllocError>
     requires { IsSome (first_value (found_of matches.now) name.now) }
-    ensures { IfOk result (λ s. first_value (found_of matches.now) name.now ≡ Some (string_bytes s)) }
+    ensures { IfOk result (λ s. first_value (found_of matches.now) name.now
+        ≡ Some (string_bytes s)) }
 {
     String::from_str(alloc, matches.get_str(name).unwrap())
 }
 
 /// The simulation whose matches these are.
 fn simulate_found(alloc: Global, matches: &ArgMatches<'_>) -> Result<Line, AllocError>
-    requires { (x : List ℕ) × first_of (codes "SCHEDULE") (rows_of (found_of matches.now)) ≡ Some x }
+    requires { (x : List ℕ) × first_of (codes "SCHEDULE") (rows_of (found_of matches.now))
+        ≡ Some x }
     ensures { IfOk result (spec.FindsSchedule (rows_of (found_of matches.now))) }
 {
     let schedule = value_of(alloc, matches, "SCHEDULE")?;
@@ -281,7 +283,8 @@ fn number_in(
 
 /// Which operation a search is to try first.
 fn first_in(matches: &ArgMatches<'_>) -> Option<TryFirst>
-    ensures some { IfSome result (spec.IsFirst (first_value (found_of matches.now) (codes "first"))) }
+    ensures some { IfSome result (spec.IsFirst
+        (first_value (found_of matches.now) (codes "first"))) }
     ensures none { IfNone result ((first : TryFirst) →
         spec.IsFirst (first_value (found_of matches.now) (codes "first")) first → ⊥) }
 {
@@ -333,7 +336,8 @@ fn history_and_steps(
     matches: &ArgMatches<'_>,
     reason: &str,
 ) -> Result<(String, u32), LineFault>
-    ensures found { IfOk result (λ r. spec.HasJudge (rows_of (found_of matches.now)) (string_bytes r.0) r.1) }
+    ensures found { IfOk result (λ r. spec.HasJudge (rows_of (found_of matches.now))
+        (string_bytes r.0) r.1) }
     ensures lacks { IfErr result (λ f. f ≢ LineFault.NoMemory →
         spec.IsRefused f × spec.HasNoJudge (rows_of (found_of matches.now))) }
 {
@@ -376,7 +380,8 @@ fn judge_found(alloc: Global, matches: &ArgMatches<'_>) -> Result<Line, LineFaul
 
 /// The kinds that a run is to have.
 fn kinds_in(matches: &ArgMatches<'_>) -> Option<Kinds>
-    ensures some { IfSome result (spec.IsKinds (first_value (found_of matches.now) (codes "kind"))) }
+    ensures some { IfSome result (spec.IsKinds
+        (first_value (found_of matches.now) (codes "kind"))) }
     ensures none { IfNone result ((kinds : Kinds) →
         spec.IsKinds (first_value (found_of matches.now) (codes "kind")) kinds → ⊥) }
 {
@@ -389,7 +394,8 @@ fn kinds_in(matches: &ArgMatches<'_>) -> Option<Kinds>
 /// What a run is to be of.
 fn options_in(matches: &ArgMatches<'_>) -> Option<RunOptions>
     ensures some { IfSome result (spec.AreRunOptions (first_value (found_of matches.now))) }
-    ensures none { IfNone result ((o : RunOptions) → spec.AreRunOptions (first_value (found_of matches.now)) o → ⊥) }
+    ensures none { IfNone result ((o : RunOptions) →
+        spec.AreRunOptions (first_value (found_of matches.now)) o → ⊥) }
 {
     let kinds = kinds_in(matches)?;
     let objects = number_in(matches, "objects", 1, 16, 1)?;
@@ -453,12 +459,16 @@ pub fn line<S: AsStr>(alloc: Global, words: &[S]) -> Result<Line, LineFault>
     ensures asked { IfOk result (spec.AskFor (map S.text words.now)) }
     ensures faultless { IfOk result (λ _. fault_of spec.command (map S.text words.now) ≡ []) }
     ensures refused { IfErr result (spec.IsFault (map S.text words.now)) }
-    ensures accepts { spec.IsPlainCheck (map S.text words.now) → IfErr result (λ e. e ≡ LineFault.NoMemory) }
+    ensures accepts { spec.IsPlainCheck (map S.text words.now) →
+        IfErr result (λ e. e ≡ LineFault.NoMemory) }
     ensures searches { spec.IsPlainSearch (map S.text words.now) →
         IfErr result (λ e. e ≡ LineFault.NoMemory) }
-    ensures finds { spec.IsPlainFind (map S.text words.now) → IfErr result (λ e. e ≡ LineFault.NoMemory) }
-    ensures judges { spec.IsPlainJudge (map S.text words.now) → IfErr result (λ e. e ≡ LineFault.NoMemory) }
-    ensures runs { spec.IsPlainRun (map S.text words.now) → IfErr result (λ e. e ≡ LineFault.NoMemory) }
+    ensures finds { spec.IsPlainFind (map S.text words.now) →
+        IfErr result (λ e. e ≡ LineFault.NoMemory) }
+    ensures judges { spec.IsPlainJudge (map S.text words.now) →
+        IfErr result (λ e. e ≡ LineFault.NoMemory) }
+    ensures runs { spec.IsPlainRun (map S.text words.now) →
+        IfErr result (λ e. e ≡ LineFault.NoMemory) }
     ensures simulates { spec.IsPlainSimulate (map S.text words.now) →
         IfErr result (λ e. e ≡ LineFault.NoMemory) }
 {

@@ -1,6 +1,6 @@
 -- A judgement of a history by certificates that are found.
-use Rattle.std.proofs.Common.{◌≡◌, ◌∙◌, ◌<◌, ℕ, false, List, map, All, AllPairs, Any, Contains, sym}
-use Rattle.std.specs.Prelude.{◌↔◌}
+use Rattle.std.proofs.Common.{◌≡◌, ◌≢◌, ◌∙◌, ◌<◌, ℕ, Bool, true, false, List, map, All, AllPairs, Any, Contains, sym}
+use Rattle.std.specs.Prelude.{◌↔◌, IfOk, IfErr, Result, Ok, Err, if◌then◌else◌}
 use Rattle.std.specs.List.{list_all}
 use Rattle.model.specs.Linearizable.{IsLinearizable}
 use Rattle.model.specs.Orders.{events}
@@ -9,9 +9,16 @@ use Rattle.events.specs.Events.{IsNamed, kind_at, denoted}
 use Rattle.search.specs.declared.found.Search.{Search}
 use Rattle.search.specs.declared.found.Found.TheVariants.{Impossible}
 use Rattle.deciding.specs.Decisions.{IsDecisionOn}
-use Rattle.commands.specs.Searches.{is_found, search_status}
-use Rattle.commands.specs.Judged.{notes_text, AreOpen}
-use Rattle.commands.proofs.Answering.{no_of, one_impossible}
+use Rattle.report.specs.declared.verdict.Verdict.{Verdict}
+use Rattle.report.specs.declared.verdict.Verdict.TheVariants as verdict
+use Rattle.judging.specs.Texts.{IsLinearizableText}
+use Rattle.commands.specs.declared.output.Output.{Output}
+use Rattle.commands.specs.Outputs.{status_in}
+use Rattle.commands.specs.Searches.{is_found, search_status, IsNotLinearizableText, IsUnsearched}
+use Rattle.commands.specs.Judged.{notes_text, AreOpen, IsOpenText, IsVerdictOnText}
+use Rattle.commands.specs.Statuses.{no_memory_status, no_status, yes_status}
+use Rattle.commands.proofs.AllFound.{no_of}
+use Rattle.commands.proofs.Answering.{one_impossible}
 
 -- where some object has no certificate
 pub are_open : (es : List Event) (limit status : ℕ) (text : List ℕ) (answers : List (ℕ × Search)) → AllPairs (λ a b. a.0 < b.0) answers → ((x : ℕ) → Contains (map (λ a. a.0) answers) x ↔ IsNamed es x) → All (λ a. IsDecisionOn es limit a.0 a.1) answers
@@ -26,3 +33,29 @@ are_open es limit status text answers rising named each impossible some s t = re
   text_is = t;
   refuted = λ e. impossible (one_impossible answers (no_of _ _ (sym s ∙ e)));
 }
+
+-- what stops a search stops a judgement
+pub unsearched : (h : List ℕ) (v : Verdict) → IsUnsearched h v → IsVerdictOnText h v
+unsearched h (verdict.Yes s) u = absurd u
+unsearched h (verdict.No r) u = absurd u
+unsearched h (verdict.Malformed f) u = u
+unsearched h verdict.NoMemory u = tt
+
+open_no_yes : (any all : Bool) → all ≡ false → (if any then no_status else if all then yes_status else no_memory_status) ≢ yes_status
+open_no_yes true all e = λ q. absurd cc
+open_no_yes false true e = λ q. absurd cc
+open_no_yes false false e = λ q. absurd cc
+
+pub judged_yes : (h : List ℕ) (limit : ℕ) (made : Result Output Verdict) → IfOk made (λ o. IsOpenText h limit o.status o.text.items) → IfErr made (IsVerdictOnText h) → status_in made ≡ yes_status → IsLinearizableText h
+judged_yes h limit (Ok o) m s e = absurd (open_no_yes _ _ m.2.some_open (sym m.2.status_is ∙ e))
+judged_yes h limit (Err (verdict.Yes counts)) m s e = record { client_events = s.0; history_text = s.1; linearizable = s.2.linearizable }
+judged_yes h limit (Err (verdict.No r)) m s e = absurd s
+judged_yes h limit (Err (verdict.Malformed f)) m s e = absurd cc
+judged_yes h limit (Err verdict.NoMemory) m s e = absurd cc
+
+pub judged_no : (h : List ℕ) (limit : ℕ) (made : Result Output Verdict) → IfOk made (λ o. IsOpenText h limit o.status o.text.items) → IfErr made (IsVerdictOnText h) → status_in made ≡ no_status → IsNotLinearizableText h
+judged_no h limit (Ok o) m s e = record { client_events = m.0; history_text = m.1; not_linearizable = m.2.refuted e }
+judged_no h limit (Err (verdict.Yes counts)) m s e = absurd cc
+judged_no h limit (Err (verdict.No r)) m s e = absurd s
+judged_no h limit (Err (verdict.Malformed f)) m s e = absurd cc
+judged_no h limit (Err verdict.NoMemory) m s e = absurd cc

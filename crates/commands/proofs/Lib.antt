@@ -1,3 +1,5 @@
+pub mod Outputs
+pub mod AllFound
 pub mod Reports
 pub mod Answering
 pub mod Accepted

@@ -13,6 +13,7 @@ use Rattle.report.specs.Lines.{verdict_text}
 use Rattle.report.specs.declared.verdict.Verdict.{Verdict}
 use Rattle.judging.specs.Texts.{DenotesHistory}
 use Rattle.commands.specs.Searches.{IsUnsearched}
+use Rattle.commands.specs.Outputs.{IsOutput}
 use Rattle.commands.specs.Statuses.{yes_status, no_memory_status, status_of}
 
 -- the line of what was found for an object: its certificate, or that it is open
@@ -48,4 +49,4 @@ abbrev pub AreFoundIn : List ℕ → ℕ → List ℕ → Type 0
 AreFoundIn h status text = (es : List Event) × DenotesHistory h es × AreFound es status text
 
 abbrev pub IsFindOutput : List ℕ → ℕ → List ℕ → Type 0
-IsFindOutput h status text = AreFoundIn h status text ⊎ ((v : Verdict) × IsUnsearched h v × (status ≡ status_of v) × (text ≡ verdict_text false v))
+IsFindOutput h status text = IsOutput (AreFoundIn h) (IsUnsearched h) status text

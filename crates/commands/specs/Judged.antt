@@ -17,6 +17,7 @@ use Rattle.report.specs.declared.verdict.Verdict.TheVariants as verdict
 use Rattle.judging.specs.declared.texts.Stop.TheVariants.{Stopped}
 use Rattle.judging.specs.Texts.{AreCountsOf, DenotesHistory, IsHistoryFault}
 use Rattle.commands.specs.Searches.{answer_line, is_found, search_status}
+use Rattle.commands.specs.Outputs.{IsOutput}
 use Rattle.commands.specs.Statuses.{no_status, status_of}
 
 -- the line on an object that has no certificate, and nothing on one that has
@@ -65,4 +66,4 @@ abbrev pub IsOpenText : List ℕ → ℕ → ℕ → List ℕ → Type 0
 IsOpenText h limit status text = (es : List Event) × DenotesHistory h es × AreOpen es limit status text
 
 abbrev pub IsJudgeOutput : List ℕ → ℕ → ℕ → List ℕ → Type 0
-IsJudgeOutput h limit status text = IsOpenText h limit status text ⊎ ((v : Verdict) × IsVerdictOnText h v × (status ≡ status_of v) × (text ≡ verdict_text false v))
+IsJudgeOutput h limit status text = IsOutput (IsOpenText h limit) (IsVerdictOnText h) status text

@@ -1,4 +1,5 @@
 pub mod Statuses
+pub mod Outputs
 pub mod Runs
 pub mod Searches
 pub mod Findings

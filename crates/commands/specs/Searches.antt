@@ -18,6 +18,7 @@ use Rattle.report.specs.declared.verdict.Verdict.{Verdict}
 use Rattle.report.specs.declared.verdict.Verdict.TheVariants as verdict
 use Rattle.judging.specs.declared.texts.Stop.TheVariants.{Stopped}
 use Rattle.judging.specs.Texts.{DenotesHistory, IsHistoryFault}
+use Rattle.commands.specs.Outputs.{IsOutput}
 use Rattle.commands.specs.Statuses.{yes_status, no_status, no_memory_status, status_of}
 
 -- the line of an answer on an object: its certificate, or why it has none
@@ -74,7 +75,7 @@ IsUnsearched h (verdict.Malformed f) = IsHistoryFault h (Stopped f)
 IsUnsearched h verdict.NoMemory = ⊤
 
 abbrev pub IsSearchOutput : List ℕ → ℕ → ℕ → List ℕ → Type 0
-IsSearchOutput h limit status text = IsSearched h limit status text ⊎ ((v : Verdict) × IsUnsearched h v × (status ≡ status_of v) × (text ≡ verdict_text false v))
+IsSearchOutput h limit status text = IsOutput (IsSearched h limit) (IsUnsearched h) status text
 
 -- The text is that of certificates that are valid for the history which the other text denotes.
 pub record AreCertificatesFor (h text : List ℕ) : Type 0 where

@@ -12,7 +12,7 @@ ghost use Rattle.sources.specs.declared.check.Text.TheVariants as unread;
 ghost use Rattle.commands.specs.Statuses as spec;
 ghost use Rattle.commands.specs.Statuses.{failed_status, no_memory_status};
 
-use crate::running::send;
+use crate::output::send;
 use crate::statuses::{FAILED, NO_MEMORY, status_of};
 use edn::{Sink, Source};
 use sources::{Text, ToolFault, check_over};
@@ -36,7 +36,8 @@ pub fn check_sources<R: Threads + Sync, H: Source, C: Source, S: Sink>(
     // its own; or memory was refused before they were judged.
     ensures written { IfOk result (λ status. status ≢ failed_status →
         ((v : Verdict) × (status ≡ spec.status_of v)
-        × IsJudged (H.remaining history.old) (H.remaining history.new) (C.remaining certificates.old)
+        × IsJudged (H.remaining history.old) (H.remaining history.new)
+        (C.remaining certificates.old)
         (C.remaining certificates.new) (S.sent sink.old) (S.sent sink.new) v)
         ⊎ ((status ≡ no_memory_status)
         × Appends (S.sent sink.old) (S.sent sink.new) (codes "out of memory\n"))) }

@@ -39,7 +39,8 @@ fn write_comment<S: Sink>(certificate: &Certificate, sink: &mut S) -> Result<(),
 
 fn write_comments<S: Sink>(certificates: &[Certificate], sink: &mut S) -> Result<(), Failed>
     requires { S.broken sink.old ≡ false }
-    ensures ok { OnOk result (Appends (S.sent sink.old) (S.sent sink.new) (commented certificates.now)) }
+    ensures ok { OnOk result (Appends (S.sent sink.old) (S.sent sink.new)
+        (commented certificates.now)) }
     ensures usable { OnOk result (S.broken sink.new ≡ false) }
 {
     for certificate in certificates {

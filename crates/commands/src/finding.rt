@@ -9,13 +9,14 @@ ghost use Rattle.commands.specs.Searches.{IsUnsearched};
 ghost use Rattle.commands.specs.Statuses.{failed_status};
 
 use crate::comments::certificates_text;
-use crate::searching::{Output, push_note};
-use crate::statuses::{FAILED, NO_MEMORY, status_of};
-use edn::{Failed, Sink, write_bytes};
+use crate::output::{Output, put_out};
+use crate::searching::push_note;
+use crate::statuses::NO_MEMORY;
+use crate::texts::history_of;
+use edn::Sink;
 use finder::{Found, find_all};
 use history::History;
-use judging::{Stop, history_in};
-use report::{Verdict, write_verdict};
+use report::Verdict;
 use std::alloc::{AllocError, Global};
 
 /// The line of what was found for an object.
@@ -49,18 +50,17 @@ fn text_of(alloc: Global, answers: &[(u32, Found)]) -> Result<Vec<u8>, AllocErro
     Ok(text)
 }
 
+fn is_found(answer: &(u32, Found)) -> bool
+    ensures { result ≡ has_order answer.now.1 }
+{
+    matches!(answer.1, Found::Order(_))
+}
+
 /// Whether each object has a certificate.
 fn are_all_found(answers: &[(u32, Found)]) -> bool
     ensures { result ≡ list_all (λ a. has_order a.1) answers.now }
 {
-    let mut rest = answers;
-    'answers: while let [(_, found), later @ ..] = rest {
-        if !matches!(found, Found::Order(_)) {
-            return false;
-        }
-        rest = later;
-    }
-    true
+    answers.iter().all(|answer| is_found(answer))
 }
 
 /// 0 where a certificate was found for each object, else 3.
@@ -86,11 +86,7 @@ fn find_text(alloc: Global, text: &[u8]) -> Result<Output, Verdict>
     ensures found { IfOk result (λ s. AreFoundIn text.now s.status s.text.items) }
     ensures unread { IfErr result (IsUnsearched text.now) }
 {
-    let history = match history_in(alloc, text) {
-        Ok(history) => history,
-        Err(Stop::Stopped(fault)) => return Err(Verdict::Malformed(fault)),
-        Err(Stop::NoMemory) => return Err(Verdict::NoMemory),
-    };
+    let history = history_of(alloc, text)?;
     match find_history(alloc, &history) {
         Ok(output) => Ok(output),
         Err(AllocError) => Err(Verdict::NoMemory),
@@ -109,14 +105,5 @@ pub(crate) fn report_find<S: Sink>(alloc: Global, text: &[u8], sink: &mut S) -> 
         (status : ℕ) × (out : List ℕ) × IsFindOutput text.now status out
         × SendsFront (S.sent sink.old) (S.sent sink.new) out }
 {
-    match find_text(alloc, text) {
-        Ok(output) => match write_bytes(&output.text, sink) {
-            Ok(()) => output.status,
-            Err(Failed) => FAILED,
-        },
-        Err(verdict) => match write_verdict(&verdict, false, sink) {
-            Ok(()) => status_of(&verdict),
-            Err(_) => FAILED,
-        },
-    }
+    put_out(find_text(alloc, text), sink)
 }

@@ -11,15 +11,16 @@ ghost use Rattle.commands.specs.Judged.{note_line, notes_text, AreOpen, IsJudgeO
 ghost use Rattle.commands.specs.Searches.{search_status, IsNotLinearizableText};
 ghost use Rattle.commands.specs.Statuses.{failed_status, no_status, yes_status};
 
-use crate::searching::{Output, are_all_found, push_answer, status_for};
-use crate::statuses::{FAILED, status_of};
+use crate::output::{Output, put_out};
+use crate::searching::{are_all_found, push_answer, status_for};
+use crate::texts::history_of;
 use certificate::Certificate;
 use checker::Refusal;
 use deciding::{Found, Search, decide_all};
-use edn::{Failed, Sink, write_bytes};
+use edn::Sink;
 use history::History;
-use judging::{Stop, history_in, judge_history};
-use report::{Verdict, summary, write_verdict};
+use judging::judge_history;
+use report::{Verdict, summary};
 use std::alloc::{AllocError, Global};
 use std::thread::Threads;
 
@@ -140,6 +141,7 @@ fn judge_events<R: Threads + Sync>(
 }
 
 /// The same for the history that a text denotes.
+#[tactic(auto, using(crate::proofs::Judged::unsearched))]
 fn judge_text<R: Threads + Sync>(
     rt: &R,
     alloc: Global,
@@ -149,11 +151,8 @@ fn judge_text<R: Threads + Sync>(
     ensures notes { IfOk result (λ s. IsOpenText text.now steps s.status s.text.items) }
     ensures judged { IfErr result (IsVerdictOnText text.now) }
 {
-    match history_in(alloc, text) {
-        Ok(history) => judge_events(rt, alloc, &history, steps),
-        Err(Stop::Stopped(fault)) => Err(Verdict::Malformed(fault)),
-        Err(Stop::NoMemory) => Err(Verdict::NoMemory),
-    }
+    let history = history_of(alloc, text)?;
+    judge_events(rt, alloc, &history, steps)
 }
 
 /// Finds certificates of the history in the text, judges it by them, puts out the verdict, or what is said of objects without a
@@ -177,14 +176,5 @@ pub(crate) fn report_judgement<R: Threads + Sync, S: Sink>(
     ensures linearizable { result ≡ yes_status → IsLinearizableText text.now }
     ensures refuted { result ≡ no_status → IsNotLinearizableText text.now }
 {
-    match judge_text(rt, alloc, text, steps) {
-        Ok(output) => match write_bytes(&output.text, sink) {
-            Ok(()) => output.status,
-            Err(Failed) => FAILED,
-        },
-        Err(verdict) => match write_verdict(&verdict, false, sink) {
-            Ok(()) => status_of(&verdict),
-            Err(_) => FAILED,
-        },
-    }
+    put_out(judge_text(rt, alloc, text, steps), sink)
 }

@@ -5,11 +5,13 @@ mod checking;
 mod comments;
 mod finding;
 mod judgement;
+mod output;
 mod program;
 mod running;
 mod searching;
 mod simulating;
 mod statuses;
+mod texts;
 
 pub use checking::check_sources;
 pub use command_line::{Line, LineFault, RunOptions, line};

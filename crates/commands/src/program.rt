@@ -87,8 +87,10 @@ pub fn perform<R: Threads + Wait + Sync, S: Sink>(
         (status : ℕ) × (out : List ℕ) × IsSearchOutput first.now steps status out
         × SendsFront (S.sent sink.old) (S.sent sink.new) out) }
     ensures certified { IfSearch line.now (λ _. result ≡ yes_status →
-        (out : List ℕ) × AreCertificatesFor first.now out × Appends (S.sent sink.old) (S.sent sink.new) out) }
-    ensures refuted { IfSearch line.now (λ _. result ≡ no_status → IsNotLinearizableText first.now) }
+        (out : List ℕ) × AreCertificatesFor first.now out
+        × Appends (S.sent sink.old) (S.sent sink.new) out) }
+    ensures refuted { IfSearch line.now (λ _. result ≡ no_status →
+        IsNotLinearizableText first.now) }
     // Certificates that the finder finds are valid for the history, or some object stays open.
     ensures find_written { IsFind line.now → result ≢ failed_status →
         (out : List ℕ) × IsFindOutput first.now result out
@@ -97,11 +99,14 @@ pub fn perform<R: Threads + Wait + Sync, S: Sink>(
         (status : ℕ) × (out : List ℕ) × IsFindOutput first.now status out
         × SendsFront (S.sent sink.old) (S.sent sink.new) out }
     ensures found_certified { IsFind line.now → result ≡ yes_status →
-        (out : List ℕ) × AreCertificatesFor first.now out × Appends (S.sent sink.old) (S.sent sink.new) out }
+        (out : List ℕ) × AreCertificatesFor first.now out
+        × Appends (S.sent sink.old) (S.sent sink.new) out }
     // A judgement finds valid certificates, or says of which objects it found none; it is never a no but of a history that is not
     // linearizable.
-    ensures judged_linearizable { IfJudge line.now (λ _. result ≡ yes_status → IsLinearizableText first.now) }
-    ensures judged_refuted { IfJudge line.now (λ _. result ≡ no_status → IsNotLinearizableText first.now) }
+    ensures judged_linearizable { IfJudge line.now
+        (λ _. result ≡ yes_status → IsLinearizableText first.now) }
+    ensures judged_refuted { IfJudge line.now
+        (λ _. result ≡ no_status → IsNotLinearizableText first.now) }
     ensures judge_written { IfJudge line.now (λ steps. result ≢ failed_status →
         (out : List ℕ) × IsJudgeOutput first.now steps result out
         × Appends (S.sent sink.old) (S.sent sink.new) out) }
@@ -111,7 +116,8 @@ pub fn perform<R: Threads + Wait + Sync, S: Sink>(
     // A run comes to the record of clients that made the calls asked for, whose certificates are accepted, or to the line that
     // says why not.
     ensures run_written { IfRun line.now (λ o. result ≢ failed_status →
-        (text : List ℕ) × IsRunOutput o result text × Appends (S.sent sink.old) (S.sent sink.new) text) }
+        (text : List ℕ) × IsRunOutput o result text
+        × Appends (S.sent sink.old) (S.sent sink.new) text) }
     ensures run_front { IfRun line.now (λ o. result ≡ failed_status →
         (status : ℕ) × (text : List ℕ) × IsRunOutput o status text
         × SendsFront (S.sent sink.old) (S.sent sink.new) text) }

@@ -13,13 +13,14 @@ ghost use Rattle.commands.specs.Statuses.{failed_status, no_status, yes_status};
 ghost use Rattle.clients.specs.Made.{Ran};
 
 use crate::comments::comments_text;
-use crate::statuses::{FAILED, NO_MEMORY, status_of};
+use crate::output::{send, send_verdict};
+use crate::statuses::{FAILED, NO_MEMORY};
 use checker::Refusal;
 use clients::{RunFault, run_workers};
 use command_line::RunOptions;
-use edn::{Failed, Out, Sink, write_bytes};
+use edn::{Out, Sink, write_bytes};
 use recorder::Record;
-use report::{Summary, Verdict, summary, write_verdict};
+use report::{Summary, Verdict, summary};
 use seq_objects::{AnyObject, Open};
 use std::alloc::{AllocError, Global};
 use std::sync::Wait;
@@ -56,7 +57,8 @@ fn counts_of(alloc: Global, record: &Record<AnyObject>) -> Result<Summary, Alloc
 fn verdict_on(alloc: Global, record: &Record<AnyObject>) -> Verdict
     ensures says { Says (journals_of record.now) (logs_of record.now) result }
     ensures accepted { (kinds : List Kind) (quota : ℕ) →
-        IsSoundRecord kinds quota (journals_of record.now) (logs_of record.now) → IsYesUnlessMemory result }
+        IsSoundRecord kinds quota (journals_of record.now) (logs_of record.now) →
+        IsYesUnlessMemory result }
 {
     match check_record(alloc, record) {
         Ok(()) => match counts_of(alloc, record) {
@@ -69,7 +71,7 @@ fn verdict_on(alloc: Global, record: &Record<AnyObject>) -> Verdict
 }
 
 /// Sends the text, and then the verdict.
-fn put_out<S: Sink>(text: &[u8], verdict: &Verdict, sink: &mut S) -> u8
+fn send_both<S: Sink>(text: &[u8], verdict: &Verdict, sink: &mut S) -> u8
     requires { S.broken sink.old ≡ false }
     ensures written { result ≢ failed_status →
         (result ≡ spec.status_of verdict.now)
@@ -82,26 +84,7 @@ fn put_out<S: Sink>(text: &[u8], verdict: &Verdict, sink: &mut S) -> u8
     if write_bytes(text, sink).is_err() {
         return FAILED;
     }
-    match write_verdict(verdict, true, sink) {
-        Ok(()) => status_of(verdict),
-        Err(_) => FAILED,
-    }
-}
-
-/// Sends the line, and answers its exit status.
-pub(crate) fn send<S: Sink>(line: &[u8], status: u8, sink: &mut S) -> u8
-    requires working { S.broken sink.old ≡ false }
-    requires other { status ≢ failed_status }
-    ensures written { result ≢ failed_status →
-        (result ≡ status) × Appends (S.sent sink.old) (S.sent sink.new) line.now }
-    ensures usable { result ≢ failed_status → S.broken sink.new ≡ false }
-    ensures failed { result ≡ failed_status → S.broken sink.new ≡ true }
-    ensures front { result ≡ failed_status → SendsFront (S.sent sink.old) (S.sent sink.new) line.now }
-{
-    match write_bytes(line, sink) {
-        Ok(()) => status,
-        Err(Failed) => FAILED,
-    }
+    send_verdict(verdict, true, sink)
 }
 
 /// Puts out the history of the record, this text, its certificates and the verdict on it, and gives the exit status.
@@ -113,7 +96,8 @@ pub(crate) fn report_record<S: Sink>(
 ) -> u8
     requires working { S.broken sink.old ≡ false }
     ensures written { result ≢ failed_status →
-        (text : List ℕ) × IsRecordOutput (journals_of record.now) (logs_of record.now) between.now result text
+        (text : List ℕ) × IsRecordOutput (journals_of record.now)
+        (logs_of record.now) between.now result text
         × Appends (S.sent sink.old) (S.sent sink.new) text }
     ensures usable { result ≢ failed_status → S.broken sink.new ≡ false }
     ensures failed { result ≡ failed_status → S.broken sink.new ≡ true }
@@ -126,7 +110,7 @@ pub(crate) fn report_record<S: Sink>(
         return send(b"out of memory\n", NO_MEMORY, sink);
     };
     let verdict = verdict_on(alloc, record);
-    put_out(&text, &verdict, sink)
+    send_both(&text, &verdict, sink)
 }
 
 /// What the clients did, each in a thread of its own.
@@ -159,14 +143,16 @@ pub(crate) fn run<R: Threads + Wait + Sync, S: Sink>(
 ) -> u8
     requires working { S.broken sink.old ≡ false }
     ensures written { result ≢ failed_status →
-        (text : List ℕ) × IsRunOutput options result text × Appends (S.sent sink.old) (S.sent sink.new) text }
+        (text : List ℕ) × IsRunOutput options result text
+        × Appends (S.sent sink.old) (S.sent sink.new) text }
     ensures usable { result ≢ failed_status → S.broken sink.new ≡ false }
     ensures failed { result ≡ failed_status → S.broken sink.new ≡ true }
     ensures front { result ≡ failed_status →
         (status : ℕ) × (text : List ℕ) × IsRunOutput options status text
         × SendsFront (S.sent sink.old) (S.sent sink.new) text }
     ensures accepted { result ≡ yes_status →
-        (out : List ℕ) × IsAcceptedRun options out × Appends (S.sent sink.old) (S.sent sink.new) out }
+        (out : List ℕ) × IsAcceptedRun options out
+        × Appends (S.sent sink.old) (S.sent sink.new) out }
     ensures never_no { result ≢ no_status }
 {
     match recorded(rt, alloc, options) {

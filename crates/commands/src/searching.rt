@@ -8,21 +8,15 @@ ghost use Rattle.commands.specs.Searches.{answer_line, answers_text, search_stat
 ghost use Rattle.commands.specs.Statuses.{failed_status};
 
 use crate::comments::certificates_text;
-use crate::statuses::{FAILED, NO_MEMORY, status_of};
-use edn::{Failed, Sink, write_bytes};
+use crate::output::{Output, put_out};
+use crate::statuses::NO_MEMORY;
+use crate::texts::history_of;
+use edn::Sink;
 use history::History;
 use itoa::Buffer;
-use judging::{Stop, history_in};
-use report::{Verdict, write_verdict};
+use report::Verdict;
 use search::{Found, Search, TryFirst, search_all_by};
 use std::alloc::{AllocError, Global};
-
-/// What is put out, and the exit status.
-#[derive(Drop)]
-pub(crate) struct Output {
-    pub(crate) status: u8,
-    pub(crate) text: Vec<u8>,
-}
 
 pub(crate) fn push_decimal(text: &mut Vec<u8>, n: u64) -> Result<(), AllocError>
     ensures { OnOk result (text.new.items ≡ text.old.items ++ decimal n) }
@@ -32,7 +26,8 @@ pub(crate) fn push_decimal(text: &mut Vec<u8>, n: u64) -> Result<(), AllocError>
 }
 
 fn push_object(text: &mut Vec<u8>, object: u32) -> Result<(), AllocError>
-    ensures { OnOk result (text.new.items ≡ text.old.items ++ (codes "; object " ++ decimal object)) }
+    ensures { OnOk result (text.new.items ≡ text.old.items
+        ++ (codes "; object " ++ decimal object)) }
 {
     text.extend_from_slice(b"; object ")?;
     push_decimal(text, u64::from(object))
@@ -94,32 +89,30 @@ fn text_of(alloc: Global, answers: &[(u32, Search)]) -> Result<Vec<u8>, AllocErr
     Ok(text)
 }
 
+fn is_impossible(answer: &(u32, Search)) -> bool
+    ensures { result ≡ is_impossible answer.now.1.found }
+{
+    matches!(answer.1.found, Found::Impossible)
+}
+
+fn is_found(answer: &(u32, Search)) -> bool
+    ensures { result ≡ is_found answer.now.1.found }
+{
+    matches!(answer.1.found, Found::Found(_))
+}
+
 /// Whether some object is impossible.
 fn is_one_impossible(answers: &[(u32, Search)]) -> bool
     ensures { result ≡ list_any (λ a. is_impossible a.1.found) answers.now }
 {
-    let mut rest = answers;
-    'answers: while let [(_, answer), later @ ..] = rest {
-        if matches!(answer.found, Found::Impossible) {
-            return true;
-        }
-        rest = later;
-    }
-    false
+    answers.iter().any(|answer| is_impossible(answer))
 }
 
 /// Whether each object has a certificate.
 pub(crate) fn are_all_found(answers: &[(u32, Search)]) -> bool
     ensures { result ≡ list_all (λ a. is_found a.1.found) answers.now }
 {
-    let mut rest = answers;
-    'answers: while let [(_, answer), later @ ..] = rest {
-        if !matches!(answer.found, Found::Found(_)) {
-            return false;
-        }
-        rest = later;
-    }
-    true
+    answers.iter().all(|answer| is_found(answer))
 }
 
 /// 1 where some object is impossible, 0 where a certificate was found for each, else 3.
@@ -156,11 +149,7 @@ fn search_text(alloc: Global, text: &[u8], steps: u32, first: TryFirst) -> Resul
     ensures searched { IfOk result (λ s. IsSearched text.now steps s.status s.text.items) }
     ensures unsearched { IfErr result (IsUnsearched text.now) }
 {
-    let history = match history_in(alloc, text) {
-        Ok(history) => history,
-        Err(Stop::Stopped(fault)) => return Err(Verdict::Malformed(fault)),
-        Err(Stop::NoMemory) => return Err(Verdict::NoMemory),
-    };
+    let history = history_of(alloc, text)?;
     match search_history(alloc, &history, steps, first) {
         Ok(output) => Ok(output),
         Err(AllocError) => Err(Verdict::NoMemory),
@@ -185,14 +174,5 @@ pub(crate) fn report_search<S: Sink>(
         (status : ℕ) × (out : List ℕ) × IsSearchOutput text.now steps status out
         × SendsFront (S.sent sink.old) (S.sent sink.new) out }
 {
-    match search_text(alloc, text, steps, first) {
-        Ok(output) => match write_bytes(&output.text, sink) {
-            Ok(()) => output.status,
-            Err(Failed) => FAILED,
-        },
-        Err(verdict) => match write_verdict(&verdict, false, sink) {
-            Ok(()) => status_of(&verdict),
-            Err(_) => FAILED,
-        },
-    }
+    put_out(search_text(alloc, text, steps, first), sink)
 }

@@ -8,7 +8,8 @@ ghost use Rattle.commands.specs.Simulated as spec;
 ghost use Rattle.commands.specs.Simulated.{IsAcceptedSimulation, IsFaultOutput, IsSimulateOutput};
 ghost use Rattle.commands.specs.Statuses.{failed_status, no_status, yes_status};
 
-use crate::running::{report_record, send};
+use crate::output::send;
+use crate::running::report_record;
 use crate::searching::push_decimal;
 use crate::statuses::NO_MEMORY;
 use edn::Sink;
@@ -88,7 +89,8 @@ fn fault_status(fault: SimulationFault) -> u8
 fn report_fault<S: Sink>(alloc: Global, fault: SimulationFault, sink: &mut S) -> u8
     requires working { S.broken sink.old ≡ false }
     ensures written { result ≢ failed_status →
-        (out : List ℕ) × IsFaultOutput fault result out × Appends (S.sent sink.old) (S.sent sink.new) out }
+        (out : List ℕ) × IsFaultOutput fault result out
+        × Appends (S.sent sink.old) (S.sent sink.new) out }
     ensures usable { result ≢ failed_status → S.broken sink.new ≡ false }
     ensures failed { result ≡ failed_status → S.broken sink.new ≡ true }
     ensures front { result ≡ failed_status →
@@ -106,7 +108,8 @@ fn report_played<S: Sink>(alloc: Global, played: &Played, sink: &mut S) -> u8
     requires working { S.broken sink.old ≡ false }
     ensures written { result ≢ failed_status →
         (out : List ℕ) × IsRecordOutput (journals_of played.now.record) (logs_of played.now.record)
-        (spec.refused_line played.now.refused) result out × Appends (S.sent sink.old) (S.sent sink.new) out }
+        (spec.refused_line played.now.refused) result out
+        × Appends (S.sent sink.old) (S.sent sink.new) out }
     ensures usable { result ≢ failed_status → S.broken sink.new ≡ false }
     ensures failed { result ≡ failed_status → S.broken sink.new ≡ true }
     ensures front { result ≡ failed_status →
@@ -133,7 +136,8 @@ pub(crate) fn report_simulation<S: Sink>(alloc: Global, text: &[u8], sink: &mut 
         (status : ℕ) × (out : List ℕ) × IsSimulateOutput text.now status out
         × SendsFront (S.sent sink.old) (S.sent sink.new) out }
     ensures simulated { result ≡ yes_status →
-        (out : List ℕ) × IsAcceptedSimulation text.now out × Appends (S.sent sink.old) (S.sent sink.new) out }
+        (out : List ℕ) × IsAcceptedSimulation text.now out
+        × Appends (S.sent sink.old) (S.sent sink.new) out }
     ensures never_no { result ≢ no_status }
 {
     match simulate(alloc, text) {

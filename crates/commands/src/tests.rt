@@ -17,11 +17,75 @@ use std::test::Fail;
 use std::thread::Threads;
 use table::{MALFORMED, NO, Row, TWO_ORDERS, TWO_QUEUES, YES};
 
-fn checking(alloc: Global) -> Result<Line, Fail> {
-    match line(alloc, &["fcbench", "check", "h.edn", "c.edn"]) {
+/// The line that the words ask for.
+fn asked(alloc: Global, words: &[&str]) -> Result<Line, Fail> {
+    match line(alloc, words) {
         Ok(line) => Ok(line),
-        Err(_) => Err(Fail::new("the words of a check are refused")),
+        Err(_) => Err(Fail::new("the words are refused")),
     }
+}
+
+fn checking(alloc: Global) -> Result<Line, Fail> {
+    asked(alloc, &["fcbench", "check", "h.edn", "c.edn"])
+}
+
+/// What is put out for the line on these texts, and the status.
+fn performed<R: AllocGlobal + Threads + Wait + Sync>(
+    rt: &R,
+    line: &Line,
+    first: &[u8],
+    second: &[u8],
+) -> (Vec<u8>, u8) {
+    let mut sink = Out::new(Vec::new(rt.alloc()));
+    let status = perform(rt, rt.alloc(), line, first, second, &mut sink);
+    (sink.into_inner(), status)
+}
+
+/// Checks that the line on this text is answered with these lines and this exit status.
+fn check_output<R: AllocGlobal + Abort + Threads + Wait + Sync>(
+    rt: &R,
+    line: &Line,
+    text: &str,
+    lines: &str,
+    expected: u8,
+) {
+    let (output, status) = performed(rt, line, text.as_bytes(), b"");
+    assert_eq!(rt; output.as_slice(), lines.as_bytes());
+    assert_eq!(rt; status, expected);
+}
+
+/// Checks that an output which fails after any number of bytes has a beginning of these lines.
+fn check_failing_output<R: AllocGlobal + Abort + Threads + Wait + Sync>(
+    rt: &R,
+    line: &Line,
+    text: &str,
+    lines: &str,
+) -> Result<(), Fail> {
+    for room in 0..lines.len() {
+        let mut bytes = vec![in rt.alloc(); 0; room]?;
+        let mut sink = Out::new(bytes.as_mut_slice());
+        let status = perform(rt, rt.alloc(), line, text.as_bytes(), b"", &mut sink);
+        assert_eq!(rt; status, FAILED);
+        assert_eq!(rt; bytes.as_slice(), &lines.as_bytes()[..room]);
+    }
+    Ok(())
+}
+
+/// Checks that the line finds certificates of each history that a check answers yes, and that a check answers yes to those too.
+fn check_certificates<R: AllocGlobal + Abort + Threads + Wait + Sync>(
+    rt: &R,
+    line: &Line,
+) -> Result<(), Fail> {
+    let check = checking(rt.alloc())?;
+    for row in &YES {
+        let history = row.history.as_bytes();
+        let (certificates, status) = performed(rt, line, history, b"");
+        assert_eq!(rt; status, 0, "{}", row.name);
+        let (output, status) = performed(rt, &check, history, &certificates);
+        assert_eq!(rt; status, 0, "{}", row.name);
+        assert_eq!(rt; output.as_slice(), row.output.as_bytes());
+    }
+    Ok(())
 }
 
 /// Checks that the texts of each row are answered as it says, with this exit status.
@@ -32,15 +96,9 @@ fn check_rows<R: AllocGlobal + Abort + Threads + Wait + Sync>(
 ) -> Result<(), Fail> {
     let check = checking(rt.alloc())?;
     for row in rows {
-        let mut sink = Out::new(Vec::new(rt.alloc()));
         let (history, certificates) = (row.history.as_bytes(), row.certificates.as_bytes());
-        let status = perform(rt, rt.alloc(), &check, history, certificates, &mut sink);
-        assert_eq!(rt;
-            sink.into_inner().as_slice(),
-            row.output.as_bytes(),
-            "{}",
-            row.name
-        );
+        let (output, status) = performed(rt, &check, history, certificates);
+        assert_eq!(rt; output.as_slice(), row.output.as_bytes(), "{}", row.name);
         assert_eq!(rt; status, expected, "{}", row.name);
     }
     Ok(())
@@ -68,9 +126,8 @@ fn is_answered<R: AllocGlobal + Threads + Wait + Sync>(
     history: &[u8],
     certificates: &[u8],
 ) -> bool {
-    let mut sink = Out::new(Vec::new(rt.alloc()));
-    let status = perform(rt, rt.alloc(), check, history, certificates, &mut sink);
-    status < 3 && sink.into_inner().as_slice().ends_with(b"\n")
+    let (output, status) = performed(rt, check, history, certificates);
+    status < 3 && output.as_slice().ends_with(b"\n")
 }
 
 #[test]
@@ -101,9 +158,7 @@ fn too_many_maps(rt: HostRuntime) -> Result<(), Fail> {
         history.extend_from_slice(b"{:process 0, :type :ok, :f :enqueue, :value 1}\n")?;
     }
     history.extend_from_slice(b"{:process 0, :type :invoke, :f :enqueue, :value 1}\n")?;
-    let mut sink = Out::new(Vec::new(rt.alloc()));
-    let status = perform(&rt, rt.alloc(), &check, &history, b"", &mut sink);
-    let output = sink.into_inner();
+    let (output, status) = performed(&rt, &check, &history, b"");
     assert_eq!(rt;
         output.as_slice(),
         b"malformed history: H9 at map 1000000\n".as_slice()
@@ -129,9 +184,8 @@ fn too_long(rt: HostRuntime) -> Result<(), Fail> {
             "malformed certificates: E10 at byte 0\n",
         ),
     ] {
-        let mut sink = Out::new(Vec::new(rt.alloc()));
-        let status = perform(&rt, rt.alloc(), &check, history, certificates, &mut sink);
-        assert_eq!(rt; sink.into_inner().as_slice(), expected.as_bytes());
+        let (output, status) = performed(&rt, &check, history, certificates);
+        assert_eq!(rt; output.as_slice(), expected.as_bytes());
         assert_eq!(rt; status, 2);
     }
     Ok(())

@@ -1,8 +1,8 @@
 //! The judgement of a history without certificates: lines and status.
 
 use super::*;
-use findings::{HELD, ONE_IS_OPEN};
-use table::{ONE_BY_ONE, YES};
+use findings::ONE_IS_OPEN;
+use table::{HELD, ONE_BY_ONE};
 
 struct JudgeRow {
     history: &'static str,
@@ -65,24 +65,11 @@ fn judging(alloc: Global, steps: u32) -> Result<Line, Fail> {
     })
 }
 
-/// What is put out, and the status.
-fn judged<R: AllocGlobal + Threads + Wait + Sync>(
-    rt: &R,
-    history: &[u8],
-    steps: u32,
-) -> Result<(Vec<u8>, u8), Fail> {
-    let line = judging(rt.alloc(), steps)?;
-    let mut sink = Out::new(Vec::new(rt.alloc()));
-    let status = perform(rt, rt.alloc(), &line, history, b"", &mut sink);
-    Ok((sink.into_inner(), status))
-}
-
 #[test]
 fn verdicts_or_notes(rt: HostRuntime) -> Result<(), Fail> {
     for row in &JUDGEMENTS {
-        let (output, status) = judged(&rt, row.history.as_bytes(), row.steps)?;
-        assert_eq!(rt; output.as_slice(), row.output.as_bytes());
-        assert_eq!(rt; status, row.status);
+        let line = judging(rt.alloc(), row.steps)?;
+        check_output(&rt, &line, row.history, row.output, row.status);
     }
     Ok(())
 }
@@ -90,8 +77,9 @@ fn verdicts_or_notes(rt: HostRuntime) -> Result<(), Fail> {
 /// A history that has valid certificates is answered as `check` answers it with them.
 #[test]
 fn yes_as_by_check(rt: HostRuntime) -> Result<(), Fail> {
+    let line = judging(rt.alloc(), 0)?;
     for row in &YES {
-        let (output, status) = judged(&rt, row.history.as_bytes(), 0)?;
+        let (output, status) = performed(&rt, &line, row.history.as_bytes(), b"");
         assert_eq!(rt; output.as_slice(), row.output.as_bytes(), "{}", row.name);
         assert_eq!(rt; status, 0, "{}", row.name);
     }
@@ -108,7 +96,8 @@ fn too_many_for_a_search(rt: HostRuntime) -> Result<(), Fail> {
     }
     history.extend_from_slice(b"{:process 0, :type :invoke, :f :read}")?;
     history.extend_from_slice(b"{:process 0, :type :ok, :f :read, :value 2}")?;
-    let (output, status) = judged(&rt, &history, 1_000)?;
+    let line = judging(rt.alloc(), 1_000)?;
+    let (output, status) = performed(&rt, &line, &history, b"");
     assert_eq!(rt; output.as_slice(), b"; object 0: too large\n".as_slice());
     assert_eq!(rt; status, 3);
     Ok(())
@@ -119,15 +108,7 @@ fn too_many_for_a_search(rt: HostRuntime) -> Result<(), Fail> {
 fn failing_output_of_a_judgement(rt: HostRuntime) -> Result<(), Fail> {
     for row in &JUDGEMENTS {
         let line = judging(rt.alloc(), row.steps)?;
-        let lines = row.output.as_bytes();
-        for room in 0..lines.len() {
-            let mut bytes = vec![in rt.alloc(); 0; room]?;
-            let mut sink = Out::new(bytes.as_mut_slice());
-            let history = row.history.as_bytes();
-            let status = perform(&rt, rt.alloc(), &line, history, b"", &mut sink);
-            assert_eq!(rt; status, FAILED);
-            assert_eq!(rt; bytes.as_slice(), &lines[..room]);
-        }
+        check_failing_output(&rt, &line, row.history, row.output)?;
     }
     Ok(())
 }

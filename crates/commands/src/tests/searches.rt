@@ -2,7 +2,7 @@
 
 use super::*;
 use search::TryFirst;
-use table::{ONE_BY_ONE, OVERLAPPING, TWO_QUEUES, YES};
+use table::{HELD, ONE_BY_ONE, OVERLAPPING, TWO_QUEUES};
 
 struct SearchRow {
     history: &'static str,
@@ -23,14 +23,6 @@ const NEVER_ENQUEUED: &str = "{:process 0, :type :invoke, :f :enqueue, :value 1}
 
 const ENQUEUED: &str = "{:process 0, :type :invoke, :f :enqueue, :value 1}\n\
     {:process 0, :type :ok, :f :enqueue, :value 1}\n";
-
-/// A mutex is acquired by two, the second while it is held.
-const HELD: &str = "{:process 0, :type :invoke, :f :acquire}\n\
-    {:process 0, :type :ok, :f :acquire}\n\
-    {:process 1, :type :invoke, :f :acquire}\n\
-    {:process 0, :type :invoke, :f :release}\n\
-    {:process 0, :type :ok, :f :release}\n\
-    {:process 1, :type :ok, :f :acquire}";
 
 const RELEASED: &str = "{:process 0, :type :invoke, :f :release}\n\
     {:process 0, :type :ok, :f :release}";
@@ -149,24 +141,11 @@ fn search_line(alloc: Global, steps: u32) -> Result<Line, Fail> {
     })
 }
 
-/// What a search puts out, and its status.
-fn found<R: AllocGlobal + Threads + Wait + Sync>(
-    rt: &R,
-    history: &[u8],
-    steps: u32,
-) -> Result<(Vec<u8>, u8), Fail> {
-    let line = search_line(rt.alloc(), steps)?;
-    let mut sink = Out::new(Vec::new(rt.alloc()));
-    let status = perform(rt, rt.alloc(), &line, history, b"", &mut sink);
-    Ok((sink.into_inner(), status))
-}
-
 #[test]
 fn answers(rt: HostRuntime) -> Result<(), Fail> {
-    for search in &SEARCHES {
-        let (output, status) = found(&rt, search.history.as_bytes(), search.steps)?;
-        assert_eq!(rt; output.as_slice(), search.output.as_bytes());
-        assert_eq!(rt; status, search.status);
+    for row in &SEARCHES {
+        let line = search_line(rt.alloc(), row.steps)?;
+        check_output(&rt, &line, row.history, row.output, row.status);
     }
     Ok(())
 }
@@ -174,17 +153,7 @@ fn answers(rt: HostRuntime) -> Result<(), Fail> {
 /// Certificates are found for each history that a check answers yes, and a check answers yes to those too.
 #[test]
 fn found_certificates_are_accepted(rt: HostRuntime) -> Result<(), Fail> {
-    let check = checking(rt.alloc())?;
-    for row in &YES {
-        let history = row.history.as_bytes();
-        let (certificates, status) = found(&rt, history, AMPLE)?;
-        assert_eq!(rt; status, 0, "{}", row.name);
-        let mut sink = Out::new(Vec::new(rt.alloc()));
-        let status = perform(&rt, rt.alloc(), &check, history, &certificates, &mut sink);
-        assert_eq!(rt; status, 0, "{}", row.name);
-        assert_eq!(rt; sink.into_inner().as_slice(), row.output.as_bytes());
-    }
-    Ok(())
+    check_certificates(&rt, &search_line(rt.alloc(), AMPLE)?)
 }
 
 /// What is invoked first returns last.
@@ -196,22 +165,12 @@ const RETURNS_CROSSED: &str = "{:process 0, :type :invoke, :f :enqueue, :value 1
 #[test]
 fn first_in_words(rt: HostRuntime) -> Result<(), Fail> {
     for (word, order) in [
-        ("number", b"{:object 0, :order [0 1]}\n"),
-        ("return", b"{:object 0, :order [1 0]}\n"),
+        ("number", "{:object 0, :order [0 1]}\n"),
+        ("return", "{:object 0, :order [1 0]}\n"),
     ] {
         let words = ["fcbench", "search", "h.edn", "--first", word];
         let line = asked(rt.alloc(), &words)?;
-        let mut sink = Out::new(Vec::new(rt.alloc()));
-        let status = perform(
-            &rt,
-            rt.alloc(),
-            &line,
-            RETURNS_CROSSED.as_bytes(),
-            b"",
-            &mut sink,
-        );
-        assert_eq!(rt; status, 0);
-        assert_eq!(rt; sink.into_inner().as_slice(), order.as_slice());
+        check_output(&rt, &line, RETURNS_CROSSED, order, 0);
     }
     let refused = ["fcbench", "search", "h.edn", "--first", "value"];
     assert!(rt; matches!(line(rt.alloc(), &refused), Err(LineFault::Refused(_))));
@@ -224,16 +183,9 @@ fn too_large(rt: HostRuntime) -> Result<(), Fail> {
     for _ in 0..4_097 {
         history.extend_from_slice(ENQUEUED.as_bytes())?;
     }
-    let (output, status) = found(&rt, &history, AMPLE)?;
+    let line = search_line(rt.alloc(), AMPLE)?;
+    let (output, status) = performed(&rt, &line, &history, b"");
     assert_eq!(rt; output.as_slice(), b"; object 0: too large\n".as_slice());
     assert_eq!(rt; status, 3);
     Ok(())
-}
-
-/// The line that words ask for a search with.
-fn asked(alloc: Global, words: &[&str]) -> Result<Line, Fail> {
-    match line(alloc, words) {
-        Ok(line) => Ok(line),
-        Err(_) => Err(Fail::new("the words of a search are refused")),
-    }
 }

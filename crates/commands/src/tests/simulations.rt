@@ -179,31 +179,15 @@ const SCHEDULES: [ScheduleRow; 20] = [
 ];
 
 fn simulate_line(alloc: Global) -> Result<Line, Fail> {
-    match line(alloc, &["fcbench", "simulate", "s.edn"]) {
-        Ok(line) => Ok(line),
-        Err(_) => Err(Fail::new("the words of a simulation are refused")),
-    }
+    asked(alloc, &["fcbench", "simulate", "s.edn"])
 }
 
 #[test]
 fn schedules(rt: HostRuntime) -> Result<(), Fail> {
     let simulate = simulate_line(rt.alloc())?;
     for row in &SCHEDULES {
-        let mut sink = Out::new(Vec::new(rt.alloc()));
-        let status = perform(
-            &rt,
-            rt.alloc(),
-            &simulate,
-            row.text.as_bytes(),
-            b"",
-            &mut sink,
-        );
-        assert_eq!(rt;
-            sink.into_inner().as_slice(),
-            row.output.as_bytes(),
-            "{}",
-            row.name
-        );
+        let (output, status) = performed(&rt, &simulate, row.text.as_bytes(), b"");
+        assert_eq!(rt; output.as_slice(), row.output.as_bytes(), "{}", row.name);
         assert_eq!(rt; status, row.status, "{}", row.name);
     }
     Ok(())
@@ -225,10 +209,9 @@ fn played_schedules_are_checked(rt: HostRuntime) -> Result<(), Fail> {
             "yes: 3 operations, 1 objects\nmutex: 1 objects, 3 operations\n",
         ),
     ] {
-        let mut sink = Out::new(Vec::new(rt.alloc()));
         let (first, second) = (history.as_bytes(), certificates.as_bytes());
-        let status = perform(&rt, rt.alloc(), &check, first, second, &mut sink);
-        assert_eq!(rt; sink.into_inner().as_slice(), verdict.as_bytes());
+        let (output, status) = performed(&rt, &check, first, second);
+        assert_eq!(rt; output.as_slice(), verdict.as_bytes());
         assert_eq!(rt; status, 0);
     }
     Ok(())
@@ -239,10 +222,9 @@ fn played_schedules_are_checked(rt: HostRuntime) -> Result<(), Fail> {
 fn a_schedule_that_is_too_long(rt: HostRuntime) -> Result<(), Fail> {
     let simulate = simulate_line(rt.alloc())?;
     let long = vec![in rt.alloc(); 0xff; 268_435_457]?;
-    let mut sink = Out::new(Vec::new(rt.alloc()));
-    let status = perform(&rt, rt.alloc(), &simulate, &long, b"", &mut sink);
+    let (output, status) = performed(&rt, &simulate, &long, b"");
     let expected = b"malformed schedule: E10 at byte 0\n".as_slice();
-    assert_eq!(rt; sink.into_inner().as_slice(), expected);
+    assert_eq!(rt; output.as_slice(), expected);
     assert_eq!(rt; status, 2);
     Ok(())
 }
@@ -255,13 +237,7 @@ fn a_schedule_with_failing_output(rt: HostRuntime) -> Result<(), Fail> {
         (SERVED, SERVED_LINES),
         ("", "malformed schedule: S1 at form 0\n"),
     ] {
-        for room in 0..lines.len() {
-            let mut bytes = [0; 400];
-            let mut sink = Out::new(&mut bytes[..room]);
-            let status = perform(&rt, rt.alloc(), &simulate, text.as_bytes(), b"", &mut sink);
-            assert_eq!(rt; status, FAILED);
-            assert_eq!(rt; &bytes[..room], &lines.as_bytes()[..room]);
-        }
+        check_failing_output(&rt, &simulate, text, lines)?;
     }
     Ok(())
 }

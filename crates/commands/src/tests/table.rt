@@ -29,6 +29,14 @@ pub const ONE_BY_ONE: &str = "{:process 0, :type :invoke, :f :enqueue, :value 1}
     {:process 0, :type :invoke, :f :dequeue}\n\
     {:process 0, :type :ok, :f :dequeue, :value 2}";
 
+/// A mutex is acquired by two, the second while it is held.
+pub const HELD: &str = "{:process 0, :type :invoke, :f :acquire}\n\
+    {:process 0, :type :ok, :f :acquire}\n\
+    {:process 1, :type :invoke, :f :acquire}\n\
+    {:process 0, :type :invoke, :f :release}\n\
+    {:process 0, :type :ok, :f :release}\n\
+    {:process 1, :type :ok, :f :acquire}";
+
 /// Two queues, used by two processes each.
 pub const TWO_QUEUES: &str = "{:process 0, :type :invoke, :f :dequeue, :object 0}\n\
     {:process 1, :type :invoke, :f :dequeue, :object 1}\n\

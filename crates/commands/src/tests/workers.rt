@@ -10,10 +10,9 @@ fn run_with<R: AllocGlobal + Abort + Threads + Wait + Sync>(
     rt: &R,
     options: RunOptions,
 ) -> Result<Vec<u8>, Fail> {
-    let mut sink = Out::new(Vec::new(rt.alloc()));
-    let status = perform(rt, rt.alloc(), &Line::Run(options), b"", b"", &mut sink);
+    let (output, status) = performed(rt, &Line::Run(options), b"", b"");
     assert_eq!(rt; status, 0);
-    Ok(sink.into_inner())
+    Ok(output)
 }
 
 #[test]
@@ -143,8 +142,7 @@ fn check_run<R: AllocGlobal + Abort + Threads + Wait + Sync>(
     }
     let certificates = lines_with(rt.alloc(), &output, b"; {:object", 2)?;
     let check = checking(rt.alloc())?;
-    let mut sink = Out::new(Vec::new(rt.alloc()));
-    let status = perform(rt, rt.alloc(), &check, &output, &certificates, &mut sink);
+    let (_, status) = performed(rt, &check, &output, &certificates);
     assert_eq!(rt; status, 0);
     Ok(output)
 }

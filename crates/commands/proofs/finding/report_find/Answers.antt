@@ -1,17 +1,17 @@
-use Rattle.std.proofs.Common.{rules, inl, inr, refl, false}
+use Rattle.std.specs.Io.KnownBytes.{Appends}
+use Rattle.std.proofs.lemmas.Result.{IfOk-weaker}
 use Rattle.edn.specs.Sent.{SendsFront}
-use Rattle.report.specs.Lines.{verdict_text}
-use Rattle.commands.specs.Statuses.{status_of}
+use Rattle.commands.specs.Findings.{AreFoundIn}
+use Rattle.commands.specs.Searches.{IsUnsearched}
+use Rattle.commands.proofs.Outputs.{front, written}
+use Rattle.commands.proofs.Findings.{never_failed}
 use Rattle.commands.proofs.finding.report_find.Goals as goal
 
-pub returns-in-Ok-clause-front : goal.returns-in-Ok-clause-front
-returns-in-Ok-clause-front g c e =
-    let o = c.in-Ok.output in
-    let sent : SendsFront (g.S.Sink.sent c.args.sink.now) (g.S.Sink.sent c.write_bytes.new.sink) o.text.items = search rules in
-    (o.status, o.text.items, inl c.in-Ok.ensures.found, sent)
+pub put_out-requires-clause-other : goal.put_out-requires-clause-other
+put_out-requires-clause-other g c = IfOk-weaker c.find_text.result _ _ (λ o h. never_failed h.2.answers h.2.status_is) c.find_text.ensures.found
+
+pub returns-clause-written : goal.returns-clause-written
+returns-clause-written g c e = written (AreFoundIn c.args.text.now) (IsUnsearched c.args.text.now) c.find_text.result c.find_text.ensures.found c.find_text.ensures.unread (Appends (g.S.Sink.sent c.args.sink.now) (g.S.Sink.sent c.put_out.new.sink)) c.put_out.result (c.put_out.ensures.written e)
 
 pub returns-clause-front : goal.returns-clause-front
-returns-clause-front g c e =
-    let v = c.in-Err.verdict in
-    let sent : SendsFront (g.S.Sink.sent c.args.sink.now) (g.S.Sink.sent c.write_verdict.new.sink) (verdict_text false v) = search rules in
-    (status_of v, verdict_text false v, inr (v, c.in-Err.ensures.unread, refl, refl), sent)
+returns-clause-front g c e = front (AreFoundIn c.args.text.now) (IsUnsearched c.args.text.now) c.find_text.result c.find_text.ensures.found c.find_text.ensures.unread (SendsFront (g.S.Sink.sent c.args.sink.now) (g.S.Sink.sent c.put_out.new.sink)) (c.put_out.ensures.front e)

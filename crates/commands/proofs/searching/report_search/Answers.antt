@@ -1,17 +1,16 @@
-use Rattle.std.proofs.Common.{rules, inl, inr, refl, false}
+use Rattle.std.specs.Io.KnownBytes.{Appends}
+use Rattle.std.proofs.lemmas.Result.{IfOk-weaker}
 use Rattle.edn.specs.Sent.{SendsFront}
-use Rattle.report.specs.Lines.{verdict_text}
-use Rattle.commands.specs.Statuses.{status_of}
+use Rattle.commands.specs.Searches.{IsSearched, IsUnsearched}
+use Rattle.commands.proofs.Outputs.{front, written}
+use Rattle.commands.proofs.Answering.{never_failed}
 use Rattle.commands.proofs.searching.report_search.Goals as goal
 
-pub returns-in-Ok-clause-front : goal.returns-in-Ok-clause-front
-returns-in-Ok-clause-front g c e =
-    let o = c.in-Ok.output in
-    let sent : SendsFront (g.S.Sink.sent c.args.sink.now) (g.S.Sink.sent c.write_bytes.new.sink) o.text.items = search rules in
-    (o.status, o.text.items, inl c.in-Ok.ensures.searched, sent)
+pub put_out-requires-clause-other : goal.put_out-requires-clause-other
+put_out-requires-clause-other g c = IfOk-weaker c.search_text.result _ _ (λ o h. never_failed h.2.answers h.2.status_is) c.search_text.ensures.searched
+
+pub returns-clause-written : goal.returns-clause-written
+returns-clause-written g c e = written (IsSearched c.args.text.now c.args.steps) (IsUnsearched c.args.text.now) c.search_text.result c.search_text.ensures.searched c.search_text.ensures.unsearched (Appends (g.S.Sink.sent c.args.sink.now) (g.S.Sink.sent c.put_out.new.sink)) c.put_out.result (c.put_out.ensures.written e)
 
 pub returns-clause-front : goal.returns-clause-front
-returns-clause-front g c e =
-    let v = c.in-Err.verdict in
-    let sent : SendsFront (g.S.Sink.sent c.args.sink.now) (g.S.Sink.sent c.write_verdict.new.sink) (verdict_text false v) = search rules in
-    (status_of v, verdict_text false v, inr (v, c.in-Err.ensures.unsearched, refl, refl), sent)
+returns-clause-front g c e = front (IsSearched c.args.text.now c.args.steps) (IsUnsearched c.args.text.now) c.search_text.result c.search_text.ensures.searched c.search_text.ensures.unsearched (SendsFront (g.S.Sink.sent c.args.sink.now) (g.S.Sink.sent c.put_out.new.sink)) (c.put_out.ensures.front e)

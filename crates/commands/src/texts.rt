@@ -1,0 +1,22 @@
+//! The history that a text denotes.
+
+ghost use Rattle.std.specs.Prelude.{IfOk, IfErr};
+ghost use Rattle.judging.specs.Texts.{DenotesHistory};
+ghost use Rattle.commands.specs.Searches.{IsUnsearched};
+
+use history::History;
+use judging::{Stop, history_in};
+use report::Verdict;
+use std::alloc::Global;
+
+/// The history that the text denotes, or the verdict that says why there is none.
+pub(crate) fn history_of(alloc: Global, text: &[u8]) -> Result<History, Verdict>
+    ensures denotes { IfOk result (λ es. DenotesHistory text.now es) }
+    ensures unread { IfErr result (IsUnsearched text.now) }
+{
+    match history_in(alloc, text) {
+        Ok(history) => Ok(history),
+        Err(Stop::Stopped(fault)) => Err(Verdict::Malformed(fault)),
+        Err(Stop::NoMemory) => Err(Verdict::NoMemory),
+    }
+}
