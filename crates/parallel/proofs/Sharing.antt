@@ -1,21 +1,19 @@
 -- Places that are shared among workers.
-use Rattle.std.proofs.Common.{◌≡◌, ◌≢◌, ℕ, zero, suc, ◌+◌, ◌*◌, ◌/◌, ◌%◌, ◌<◌, ◌≤◌, ◌⊎◌, ◌++◌, ◌∷◌, [], List, All, AllPairs, Contains, length, get_or, take, drop, Result, Ok, Err, IsOk, IfErr, OnOk, Option, Some, None, IfSome, IfNone, inl, inr, refl, ap, sym, ◌∙◌, subst, arith}
+use Rattle.std.proofs.Common.{◌≡◌, ◌≢◌, ℕ, zero, suc, ◌+◌, ◌*◌, ◌/◌, ◌%◌, ◌<◌, ◌≤◌, ◌++◌, ◌∷◌, [], List, All, AllPairs, Contains, length, get_or, take, Result, Ok, Err, IsOk, Option, Some, None, IfSome, IfNone, inl, inr, refl, ap, sym, ◌∙◌, subst, arith}
 use Rattle.std.proofs.Math.Nat.{lt_of_mul-lt-mul_right, mul-lt-mul_of_pos_right, mod-lt, mod-add-div'}
 use Rattle.std.proofs.lemmas.Bool.{cases_order}
 use Rattle.std.proofs.lemmas.List.{get_or_default, take_all}
 use Rattle.model.proofs.Lists.{In, in_append, in_left, in_right, in_from_contains, contains_from_in, all_from_in, all_at}
-use Rattle.model.specs.Orders.{calls_on}
 use Rattle.events.specs.declared.event.Event.{Event}
-use Rattle.events.specs.Events.{kind_at, denoted}
 use Rattle.events.specs.Operations.{ObjectCalls, calls_of}
 use Rattle.certificate.specs.declared.Certificate.{Certificate}
 use Rattle.checker.specs.declared.refusal.Refusal.{Refusal}
 use Rattle.checker.specs.declared.refusal.Refusal.TheVariants.{NoMemory}
 use Rattle.checker.specs.Refusals.{AreValid, IsFirstRefusal}
 use Rattle.checker.specs.Checking.{IsFine, IsRefused}
-use Rattle.checker.proofs.Certificates.{AreObjects, AreFine, IsFineAt, next_fine, element, next_is_first}
+use Rattle.checker.proofs.Certificates.{AreObjects, AreFine, next_fine, element, next_is_first}
 use Rattle.parallel.specs.declared.share.Found.{Found}
-use Rattle.parallel.specs.Shares.{FallsTo, IsFinePiece, IsRefusedPiece, IsFirstOfShare, IsShare, IsNotBefore, IsEarlier}
+use Rattle.parallel.specs.Shares.{FallsTo, IsFinePiece, IsRefusedPiece, IsShare, IsNotBefore, IsEarlier}
 
 -- numbers that rise are no less than their places
 pub at_least_its_place : (os : List ObjectCalls) (k : ℕ) (d : ObjectCalls) → AllPairs (λ a b. a.object < b.object) os → k < length os → k ≤ (get_or os k d).object

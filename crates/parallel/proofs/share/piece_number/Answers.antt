@@ -1,4 +1,4 @@
-use Rattle.std.proofs.Common.{◌∙◌, subst, ap, sym}
+use Rattle.std.proofs.Common.{◌∙◌, ap, sym}
 use Rattle.std.proofs.Math.Nat.{min-eq_left}
 use Rattle.events.specs.Operations.{ObjectCalls}
 use Rattle.parallel.proofs.Sharing.{at_least_its_place, no_greater}

@@ -1,4 +1,4 @@
-use Rattle.std.proofs.Common.{◌<◌, length, get_or, subst, ap, sym, ◌∙◌}
+use Rattle.std.proofs.Common.{◌<◌, get_or, subst, sym, ◌∙◌}
 use Rattle.std.proofs.Math.Nat.{le-max_left}
 use Rattle.checker.proofs.Certificates.{AreObjects, are_objects, all_valid, least_strange, strange_is_not_valid}
 use Rattle.parallel.specs.Shares.{IsShare}
