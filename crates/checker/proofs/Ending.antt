@@ -43,9 +43,6 @@ pub record IsHere (kind : Kind) (ops : List Invocation) (order : List ℤ) (i : 
   pub hand : AtHand ops z k c
   pub fresh : get_or seen k false ≡ false
 
-pub is_here : (kind : Kind) (ops : List Invocation) (order : List ℤ) (i : ℕ) (seen : List Bool) (content : Content) (greatest : Option ℕ) (z : ℤ) (k : ℕ) (c : Call) → Walk kind ops (take i order) seen content greatest → slice_get order i ≡ Some z → AtHand ops z k c → get_or seen k false ≡ false → IsHere kind ops order i seen content greatest z k c
-is_here kind ops order i seen content greatest z k c w at hand fresh = record { walk = w; at = at; hand = hand; fresh = fresh }
-
 reaches : (kind : Kind) (ops : List Invocation) (order : List ℤ) (i : ℕ) (seen : List Bool) (content : Content) (greatest : Option ℕ) (z : ℤ) (k : ℕ) (c : Call) (d : Invocation) → IsHere kind ops order i seen content greatest z k c → Reaches kind (calls_of ops) order i z c content
 reaches kind ops order i seen content greatest z k c d h = record {
   so_far = h.walk.so_far;

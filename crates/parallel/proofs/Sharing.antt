@@ -135,10 +135,6 @@ pub none_found : (rs : List (Result (Unit {0}) Found)) (least : Option Found) �
 none_found rs None h = h
 none_found rs (Some f) h = tt
 
-pub least_found : (rs : List (Result (Unit {0}) Found)) (least : Option Found) → IsLeastOf rs least → IfSome least (λ f. Contains rs (Err f) × All (IsNotBefore f) rs)
-least_found rs None h = tt
-least_found rs (Some f) h = h
-
 -- ---- one piece
 
 pub refused_at : (os : List ObjectCalls) (certificates : List Certificate) (k : ℕ) (o : ObjectCalls) (r : Refusal) → k < length os → o ≡ get_or os k o → IsRefused o.kind (calls_of o.ops) certificates o.object r → IsRefusedPiece os certificates k r
