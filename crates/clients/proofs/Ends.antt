@@ -16,7 +16,7 @@ use Rattle.world.specs.World.{AnyEntry, AnyEvent, StartsWith}
 use Rattle.world.proofs.Entries.{starts_longer, starts_same}
 use Rattle.world.specs.Records.{IsSoundRecord}
 use Rattle.desk_rule.specs.declared.board.Leaving.{Leaving}
-use Rattle.desk_rule.specs.Views.{journal, leaving, seen_of, IsAccount}
+use Rattle.desk_rule.specs.Views.{journal, end_notice, seen_of, IsAccount}
 use Rattle.publication.specs.Handles.{DeskSeen, Known, begun}
 use Rattle.recorder.specs.Records.{Recorded, journal_at, log_at}
 use Rattle.workload.specs.Workloads.{Work, Call, IsCall, calls_at}
@@ -50,7 +50,7 @@ has_worked d w k after cs n calls desk v = record {
 pub have_told : (d : DeskSeen) (w : Work) (k : Known) → IsDone d w k → HaveTold d k
 have_told d w k e c low other =
     let zero_is = e.worked.number in
-    let m = e.met c (above_zero c (λ z. other (z ∙ sym zero_is))) low in (leaving m.other, m.told, m.number)
+    let m = e.met c (above_zero c (λ z. other (z ∙ sym zero_is))) low in (end_notice m.other, m.told, m.number)
   where
     above_zero : (c : ℕ) → c ≢ 0 → 0 < c
     above_zero zero other = absurd (other refl)
@@ -107,7 +107,7 @@ module _ (d : DeskSeen) (w : Work) (k : Known) (r : Recorded AnyOp AnyReply) (de
   told : (c : ℕ) (m : HasMet w k.knows c) → journal_at r c ≡ journal m.other
   told c m =
       let journals : ℕ → List AnyEvent = λ n. map (event_in (λ (op : AnyOp). op) (λ (r : AnyReply). r)) (journal_at r n) in
-      let left = All-contains (λ (l : Leaving). journals l.client ≡ l.journal) k.knows.left (leaving m.other) closed.left m.told in
+      let left = All-contains (λ (l : Leaving). journals l.client ≡ l.journal) k.knows.left (end_notice m.other) closed.left m.told in
       sym (events c) ∙ (ap journals (sym m.number) ∙ left)
 
   has_run : (c : ℕ) → c < length w.calls → HasRun w r k.knows c

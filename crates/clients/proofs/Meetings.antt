@@ -9,7 +9,7 @@ use Rattle.world.proofs.Entries.{starts_longer, starts_same}
 use Rattle.desk_rule.specs.declared.board.Own.{Own}
 use Rattle.desk_rule.specs.declared.board.Leaving.{Leaving}
 use Rattle.desk_rule.specs.declared.board.View.{View}
-use Rattle.desk_rule.specs.Views.{journal, leaving, own_request, seeing, seen_of, told_of, IsAccount, MayHold}
+use Rattle.desk_rule.specs.Views.{journal, end_notice, own_request, after_meet, seen_of, after_notice, IsAccount, MayHold}
 use Rattle.combiner.specs.Passes.{KeepsCalls}
 use Rattle.combiner.proofs.Served.{seen_on}
 use Rattle.publication.specs.Handles.{DeskSeen, Known}
@@ -36,7 +36,7 @@ keeps_on v w u a b = record {
 }
 
 -- more of the object x was seen
-pub keeps_seeing : (v w : View) (x : ℕ) (l : List AnyEntry) → w ≡ seeing x l (record v { heard = w.heard }) → StartsWith l (seen_of v x) → Keeps v w
+pub keeps_seeing : (v w : View) (x : ℕ) (l : List AnyEntry) → w ≡ after_meet x l (record v { received = w.received }) → StartsWith l (seen_of v x) → Keeps v w
 keeps_seeing v w x l e begins = record {
   calls = record {
     number = ap (λ z. z.number) e;
@@ -69,7 +69,7 @@ still_met w v u c k m = record {
   other = m.other;
   number = m.number;
   made = m.made;
-  told = k.left (leaving m.other) m.told;
+  told = k.left (end_notice m.other) m.told;
   met = λ x low. let h = m.met x low in record {
     seen = h.seen;
     begins = starts_longer (seen_of u x) (seen_of v x) h.seen (k.calls.seen x) h.begins;
@@ -93,19 +93,19 @@ met_more w v u n before k last c some low = dite (ℕ_discrete c n)
     (λ differ. still_met w v.knows u.knows c k (before c some (omega arith)))
 
 -- told of the other's end
-pub keeps_told : (v : View) (l : Leaving) → Keeps v (told_of (l ∷ []) v)
+pub keeps_told : (v : View) (l : Leaving) → Keeps v (after_notice (l ∷ []) v)
 keeps_told v l = record {
   calls = record { number = refl; kinds = refl; own = refl; done = refl; seen = λ x. starts_same (seen_of v x) };
   left = λ m c. Contains-append_left v.left (l ∷ []) m c;
 }
 
 pub has_met : (d : DeskSeen) (w : Work) (n : ℕ) (k : Known) (v u : View) → HasWorked d w n k → Keeps k.knows u → d.id.kinds ≡ w.kinds → HaveSeenAlike (length d.id.kinds) v u
-    → ((x : ℕ) → IsAccount x v (seen_of v x)) → ((x : ℕ) → IsAccount x u (seen_of u x)) → HasMet w (told_of (leaving u ∷ []) v) n
+    → ((x : ℕ) → IsAccount x v (seen_of v x)) → ((x : ℕ) → IsAccount x u (seen_of u x)) → HasMet w (after_notice (end_notice u ∷ []) v) n
 has_met d w n k v u h kept kinds alike first second = record {
   other = u;
   number = kept.calls.number ∙ h.number;
   made = subst (MadeOrStopped (calls_at w n)) (sym (same_journal k.knows u kept.calls)) h.made;
-  told = Contains-push v.left (leaving u);
+  told = Contains-push v.left (end_notice u);
   met = λ x low. record {
     seen = seen_of v x;
     begins = starts_same (seen_of v x);

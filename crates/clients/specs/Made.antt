@@ -8,7 +8,7 @@ use Rattle.world.specs.Records.{IsSoundRecord}
 use Rattle.desk_rule.specs.declared.board.Own.TheVariants as own
 use Rattle.desk_rule.specs.declared.board.Leaving.{Leaving}
 use Rattle.desk_rule.specs.declared.board.View.{View}
-use Rattle.desk_rule.specs.Views.{journal, leaving, seen_of, IsAccount}
+use Rattle.desk_rule.specs.Views.{journal, end_notice, seen_of, IsAccount}
 use Rattle.combiner.specs.Passes.{KeepsCalls}
 use Rattle.publication.specs.Handles.{DeskSeen, Known, begun}
 use Rattle.publication.specs.Calls.{Closed}
@@ -93,7 +93,7 @@ pub record HasMet (w : Work) (v : View) (c : ℕ) : Type 0 where
   pub other : View
   pub number : other.number ≡ c
   pub made : MadeOrStopped (calls_at w c) (journal other)
-  pub told : Contains v.left (leaving other)
+  pub told : Contains v.left (end_notice other)
   pub met : (x : ℕ) → x < length w.kinds → HaveMet x v other (seen_of v x)
 
 -- the client was told that this other has retired

@@ -12,7 +12,7 @@ use Rattle.desk_rule.specs.declared.board.PutBack.{PutBack}
 use Rattle.desk_rule.specs.declared.board.Own.{Own}
 use Rattle.desk_rule.specs.declared.board.Own.TheVariants as own
 use Rattle.desk_rule.specs.declared.board.View.{View}
-use Rattle.desk_rule.specs.Views.{seen_of, is_waiting, waits_on, missing, holding, learnt}
+use Rattle.desk_rule.specs.Views.{row_place, seen_of, is_waiting, waits_on, after_miss, after_win, after_release}
 use Rattle.publication.specs.Handles.{Holding, Handling}
 use Rattle.publication.specs.Calls.{NotPolled, Got, NotGot, CanDo, kind_held, Answered, IsPutBack}
 use Rattle.combiner.specs.declared.passes.Tried.{Tried}
@@ -62,12 +62,12 @@ pub goes_room : (p q : Holding) (n : ℕ) → q ≡ record p { state = record p.
 goes_room p q n is = subst (Goes p) (sym is) record { desk = refl; object = refl; places = refl; log = starts_same p.log; seen = refl; calls = keeps_all p.knows; ready = λ e. e }
 
 -- the client after its pass, which served nothing, was put back
-pub only_learnt : (c : View) (x : ℕ) (p q : Holding) (v : View) (n : ℕ) → p.knows ≡ holding x p.log c → p.object ≡ x → q ≡ record p { state = record p.state { room = n } } → v ≡ learnt q.object q.log q.knows → seen_of v q.object ≡ q.log → HasLearnt x c v
+pub only_learnt : (c : View) (x : ℕ) (p q : Holding) (v : View) (n : ℕ) → p.knows ≡ after_win x p.log c → p.object ≡ x → q ≡ record p { state = record p.state { room = n } } → v ≡ after_release q.object q.log q.knows → seen_of v q.object ≡ q.log → HasLearnt x c v
 only_learnt c x p q v n opened on is knows seen =
     let at : q.object ≡ x = ap (λ z. z.object) is ∙ on in
     let log : seen_of v x ≡ q.log = subst (λ y. seen_of v y ≡ q.log) at seen in
-    let held : q.knows ≡ holding x p.log c = ap (λ z. z.knows) is ∙ opened in
-    knows ∙ λ i. learnt (at i) (sym log i) (held i)
+    let held : q.knows ≡ after_win x p.log c = ap (λ z. z.knows) is ∙ opened in
+    knows ∙ λ i. after_release (at i) (sym log i) (held i)
 
 pub same_on : (p q r : Holding) → IsSameBut p q → IsSameBut q r → IsSameBut p r
 same_on p q r a b = (b.0, b.1, b.2 ∙ ap (λ (z : Holding). record z { state = record z.state { list = b.0; ages = b.1 } }) a.2)
@@ -100,7 +100,7 @@ waits x o q e on = ap (waits_on x) e ∙ eq-eqb q.object x on
 pub not_tried : (p q : Holding) (row : ℕ) → NotGot p row q → row ≡ p.knows.number → IsTried q tried.Nothing
 not_tried p q row n here r waiting on =
     let k = n.knows in let waiting' : p.knows.own ≡ own.Waiting r = sym (ap (λ z. z.own) k) ∙ waiting in let on' : r.object ≡ p.object = on ∙ n.object in
-    ap (λ z. z.ready) k ∙ ((λ i. p.knows.ready || (eq-eqb (16 + row) (16 + p.knows.number) (ap (λ z. 16 + z) here) i && waits p.object p.knows.own r waiting' on' i)) ∙ or-true p.knows.ready)
+    ap (λ z. z.ready) k ∙ ((λ i. p.knows.ready || (eq-eqb (row_place row) (row_place p.knows.number) (ap row_place here) i && waits p.object p.knows.own r waiting' on' i)) ∙ or-true p.knows.ready)
 
 pub answered_goes : (p : Holding) (h : Handling) (q : Holding) (row : ℕ) (a : AnyAnswer) → h.desk ≡ p.desk → q.desk ≡ h.desk → h.state ≡ p.state → q.state.places ≡ h.state.places → Got p row h → Answered h a q → Goes p q
 answered_goes p h q row a d d' s s' g k = record {
@@ -150,7 +150,7 @@ settled_last q tried.Answered own p waiting on = inl (own p waiting on)
 settled_last q tried.PutBack own p waiting on = inr (own p waiting)
 
 -- the client after the pass q was put back
-pub settled_after : (x : ℕ) (q : Holding) (v : View) → q.object ≡ x → v ≡ learnt q.object q.log q.knows → seen_of v q.object ≡ q.log → IsSettledNow q → IsSettled x v
+pub settled_after : (x : ℕ) (q : Holding) (v : View) → q.object ≡ x → v ≡ after_release q.object q.log q.knows → seen_of v q.object ≡ q.log → IsSettledNow q → IsSettled x v
 settled_after x q v on is seen s =
     subst (λ y. IsSettled y v) on (subst (λ l. IsSettledBy q.object l v) (sym seen) (subst (IsSettledBy q.object q.log) (sym is) (λ p waiting at. s p waiting at)))
 
@@ -164,15 +164,15 @@ seen_on s x l begins y = dite (ℕ_discrete y x)
     (λ other. subst (λ z. StartsWith z (get_or s y [])) (sym (get_or-set_other s x y l [] other)) (starts_same (get_or s y [])))
 
 -- the client after its pass, which began as p, was put back as q
-pub keeps_learnt : (c : View) (x : ℕ) (p q : Holding) (v : View) → p.knows ≡ holding x p.log c → p.object ≡ x → StartsWith p.log (seen_of c x) → Goes p q → v ≡ learnt q.object q.log q.knows → KeepsCalls c v
+pub keeps_learnt : (c : View) (x : ℕ) (p q : Holding) (v : View) → p.knows ≡ after_win x p.log c → p.object ≡ x → StartsWith p.log (seen_of c x) → Goes p q → v ≡ after_release q.object q.log q.knows → KeepsCalls c v
 keeps_learnt c x p q v opened on begins g is =
     let longer : StartsWith q.log (seen_of q.knows q.object) = subst (λ z. StartsWith q.log (get_or z q.object [])) (sym (g.seen ∙ ap (λ z. z.seen) opened))
     (subst (λ y. StartsWith q.log (seen_of c y)) (sym (g.object ∙ on)) (starts_longer q.log p.log (seen_of c x) g.log begins)) in
     keeps_on c q.knows v (keeps_on c p.knows q.knows (keeps_same c p.knows _ opened (keeps_held c)) g.calls)
     (keeps_same q.knows v _ is record { number = refl; kinds = refl; own = refl; done = refl; seen = seen_on q.knows.seen q.object q.log longer })
 
-pub keeps_missed : (x : ℕ) (v w : View) → w ≡ missing x v → KeepsCalls v w
+pub keeps_missed : (x : ℕ) (v w : View) → w ≡ after_miss x v → KeepsCalls v w
 keeps_missed x v w is = keeps_same v w _ is (keeps_held v)
 
 pub keeps_unpolled : (v w : View) → NotPolled v w → KeepsCalls v w
-keeps_unpolled v w n = ⊎_elim (λ (a : (is_waiting v.own ≡ false) × (w ≡ v)). keeps_same v w v a.1 (keeps_all v)) (λ (b : (w ≡ missing (16 + v.number) v) × (v.ready ≡ false)). keeps_same v w _ b.0 (keeps_held v)) n
+keeps_unpolled v w n = ⊎_elim (λ (a : (is_waiting v.own ≡ false) × (w ≡ v)). keeps_same v w v a.1 (keeps_all v)) (λ (b : (w ≡ after_miss (row_place v.number) v) × (v.ready ≡ false)). keeps_same v w _ b.0 (keeps_held v)) n

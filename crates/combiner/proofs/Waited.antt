@@ -7,7 +7,7 @@ use Rattle.world.proofs.Entries.{starts_longer, starts_same}
 use Rattle.world.specs.declared.JournalEvent.TheVariants.{Invoked, Returned}
 use Rattle.desk_rule.specs.declared.board.View.{View}
 use Rattle.desk_rule.specs.declared.board.Own.TheVariants as own
-use Rattle.desk_rule.specs.Views.{journal, own_request, seen_of, calling, performing, holding, learnt}
+use Rattle.desk_rule.specs.Views.{journal, own_request, seen_of, with_own, after_perform, after_win, after_release}
 use Rattle.publication.specs.Handles.{Holding}
 use Rattle.publication.specs.Calls.{Posted, Performed, Polled, NotPolled}
 use Rattle.combiner.specs.Passes.{KeepsCalls, Goes}
@@ -74,14 +74,14 @@ keeps_round v u p e w before none same after = keeps_on v u w before (keeps_on u
 
 -- The client made the call at once: p is the pass that was opened, q the one after the other rows, r the one after the call, and w
 -- the client after it was put back.
-pub called_at_once : (v : View) (x : ℕ) (op : AnyOp) (a : AnyAnswer) (p q r : Holding) (w : View) → p.knows ≡ holding x p.log v → p.object ≡ x → StartsWith p.log (seen_of v x) → p.knows.kinds ≡ p.desk.kinds → Goes p q → Performed q op a r
-    → w ≡ learnt r.object r.log r.knows → seen_of w r.object ≡ r.log → Called v x op a w
+pub called_at_once : (v : View) (x : ℕ) (op : AnyOp) (a : AnyAnswer) (p q r : Holding) (w : View) → p.knows ≡ after_win x p.log v → p.object ≡ x → StartsWith p.log (seen_of v x) → p.knows.kinds ≡ p.desk.kinds → Goes p q → Performed q op a r
+    → w ≡ after_release r.object r.log r.knows → seen_of w r.object ≡ r.log → Called v x op a w
 called_at_once v x op a p q r w opened on begins kinds goes made is seen =
     let k : KeepsCalls v q.knows = keeps_on v p.knows q.knows (keeps_same v p.knows _ opened (keeps_held v)) goes.calls in
     let at : q.object ≡ x = goes.object ∙ on in let at' : r.object ≡ x = made.object ∙ at in
     let request : made.request ≡ record { object = x; ticket = made.request.ticket; op = op } = λ i. record { object = (made.asked.0 ∙ at) i; ticket = made.request.ticket; op = made.asked.1 i } in
     let seen' : seen_of w x ≡ r.log = ap (seen_of w) (sym at') ∙ seen in
-    let knows : w ≡ learnt r.object r.log (performing made.request a r.log made.returned q.knows) = is ∙ ap (learnt r.object r.log) made.knows in record {
+    let knows : w ≡ after_release r.object r.log (after_perform made.request a r.log made.returned q.knows) = is ∙ ap (after_release r.object r.log) made.knows in record {
       invoked = made.request.ticket;
       returned = made.returned;
       was_idle = sym k.own ∙ made.was_idle;
@@ -123,8 +123,8 @@ called_before v u w object op a k c = record {
 -- the same, where the call is outstanding
 pub outstanding_before : (v u p w : View) (object : ℕ) (op : AnyOp) → KeepsCalls v u → Posted u object op p → KeepsCalls p w → IsOutstanding v object op w
 outstanding_before v u p w object op k posted after =
-    let q : AnyRequest = record { object = object; ticket = posted.ticket; op = op } in let z : View = calling (own.Waiting q) v in
-    let kept : KeepsCalls z (calling (own.Waiting q) u) = record { number = k.number; kinds = k.kinds; own = refl; done = k.done; seen = k.seen } in (
+    let q : AnyRequest = record { object = object; ticket = posted.ticket; op = op } in let z : View = with_own (own.Waiting q) v in
+    let kept : KeepsCalls z (with_own (own.Waiting q) u) = record { number = k.number; kinds = k.kinds; own = refl; done = k.done; seen = k.seen } in (
       z,
       record {
         ticket = posted.ticket;

@@ -4,7 +4,7 @@ ghost use Rattle.std.specs.Prelude.{◌≡◌, ◌<◌, ◌≤◌, length, IfSom
 ghost use Rattle.model.specs.Objects.{kind_of};
 ghost use Rattle.world.specs.World.{kind_at};
 ghost use Rattle.world.specs.Images.{answer_in};
-ghost use Rattle.desk_rule.specs.Views.{missing};
+ghost use Rattle.desk_rule.specs.Views.{after_miss};
 ghost use Rattle.publication.specs.Calls.{MayPost};
 ghost use Rattle.combiner.specs.Waits.{Called};
 ghost use Rattle.combiner.specs.Passes.{Goes, KeepsCalls, IsTried, IsSettled, IsSettledNow, IsSameBut, HasLearnt, IfServed, IfBusy, IfNoMemory};
@@ -57,7 +57,7 @@ pub fn combine<S: SeqObject>(
     // A call of its own on the object that is outstanding is answered, so that the next poll is Some; or the object cannot
     // do it after the log that the client has then seen.
     ensures served { IfServed result.1 (IsSettled object result.0.knows) }
-    ensures busy { IfBusy result.1 (result.0.knows ≡ missing object client.knows) }
+    ensures busy { IfBusy result.1 (result.0.knows ≡ after_miss object client.knows) }
     // Nothing was served: the client has seen the log, and knows nothing else.
     ensures memory { IfNoMemory result.1 (HasLearnt object client.knows result.0.knows) }
 {

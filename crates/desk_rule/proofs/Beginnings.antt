@@ -18,12 +18,12 @@ use Rattle.desk_rule.specs.declared.board.Own.TheVariants as own
 use Rattle.desk_rule.specs.declared.board.Held.TheVariants as held
 use Rattle.desk_rule.specs.declared.board.PutBack.{PutBack}
 use Rattle.desk_rule.specs.declared.board.View.{View}
-use Rattle.world.specs.World.{AnyRequest, absent, idle, posted, picked, World, opening_world, kind_at, entries_of, request_of}
-use Rattle.world.specs.Moves.{changed, staged}
+use Rattle.world.specs.World.{AnyRequest, absent, idle, posted, picked, World, initial_world, kind_at, entries_of, request_of}
+use Rattle.world.specs.Transitions.{changed, staged}
 use Rattle.world.proofs.Changed.{changed_here, changed_else}
-use Rattle.world.proofs.Opening.{sound_opening, sound_come}
-use Rattle.desk_rule.specs.Views.{newcomer, founder, one_made, seen_of, calling}
-use Rattle.desk_rule.specs.Rule.{row_word, OwnOk, SeatOk, HasLeft, ViewOk, Fits, MessageAt}
+use Rattle.world.proofs.Initial.{sound_initial, sound_coming}
+use Rattle.desk_rule.specs.Views.{row_place, end_place, clock_place, new_client, first_maker, after_making, seen_of, with_own}
+use Rattle.desk_rule.specs.Rule.{row_word, OwnOk, SeatOk, HasLeft, ViewOk, Fits, CallAt}
 use Rattle.desk_rule.specs.Plays as play
 use Rattle.desk_rule.proofs.Seats.{row_leaves, alike, kept_after, come_after, mine, Rule}
 use Rattle.desk_rule.proofs.Ties.{tied_coming}
@@ -40,60 +40,60 @@ at_end [] a b (suc j) e = absurd (some-ne-none b (sym e))
 at_end (x ∷ xs) a b zero e = inl e
 at_end (x ∷ xs) a b (suc j) e = ⊎_elim (λ t. inl t) (λ (t : (j ≡ length xs) × (a ≡ b)). inr (ap suc t.0, t.1)) (at_end xs a b j e)
 
-unseen : (kinds : List Kind) (lists : List TableId) (c x : ℕ) → seen_of (newcomer kinds lists c) x ≡ []
+unseen : (kinds : List Kind) (lists : List TableId) (c x : ℕ) → seen_of (new_client kinds lists c) x ≡ []
 unseen kinds lists c x = get_or-replicate_same [] 16 x
 
 module _ {S O R : Type 0} (content : S → Content) (op_in : O → AnyOp) (reply_in : R → AnyReply) (kinds : List Kind) (clients quota : ℕ) where
   abbrev K : State (Slot S O R) View → Type 0
   K = Rule content op_in reply_in kinds clients quota
 
-  pub opens : (lists : List TableId) (words : List ℕ) (slots : List (Slot S O R)) → length kinds < 17 → clients < 33 → quota < 10001 → length words ≡ 81 → ((i : ℕ) → get_or words i 0 ≡ 0) → length slots ≡ 80
+  pub opening_keeps_rule : (lists : List TableId) (words : List ℕ) (slots : List (Slot S O R)) → length kinds < 17 → clients < 33 → quota < 10001 → length words ≡ 81 → ((i : ℕ) → get_or words i 0 ≡ 0) → length slots ≡ 80
       → ((x : ℕ) → x < length kinds → (k : Core S O R) × (get_elem? slots x ≡ some (slot.Core k)) × Fits content op_in reply_in (kind_at kinds x) (get_elem? lists x) k [])
-      → ((i : ℕ) → 16 ≤ i → i < 80 → get_elem? slots i ≡ some slot.Nothing) → K (opening words slots (founder kinds lists))
-  opens lists words slots few people small wide zeros deep cores others = record {
-    world = opening_world;
+      → ((i : ℕ) → 16 ≤ i → i < 80 → get_elem? slots i ≡ some slot.Nothing) → K (opening words slots (first_maker kinds lists))
+  opening_keeps_rule lists words slots few people small wide zeros deep cores others = record {
+    world = initial_world;
     seat_of = λ _. 0;
     lists = lists;
     few_calls = small;
     few_clients = people;
     holders = λ x c e. absurd (cc);
     come = λ c came. absurd (came refl);
-    sound = sound_opening kinds quota;
+    sound = sound_initial kinds quota;
     tied = record {
       wide = wide;
       deep = length-map slots (λ (x : Slot S O R). some x) ∙ deep;
       objects = few;
       locks = λ x l. zeros x;
-      rows = λ r l. zeros (16 + r);
-      ends = λ c l. zeros (48 + c);
-      clock = zeros 80;
+      rows = λ r l. zeros (row_place r);
+      ends = λ c l. zeros (end_place c);
+      clock = zeros clock_place;
       cores = λ x l e. let k = cores x l in (k.0, at_map some slots x (slot.Core k.0) k.1, k.2);
-      messages = λ r l. at_map some slots (16 + r) slot.Nothing (others (16 + r) (omega arith) (omega arith));
+      calls = λ r l. at_map some slots (16 + r) slot.Nothing (others (16 + r) (omega arith) (omega arith));
       journals = λ c l. record { at_first = λ e. at_map some slots (48 + c) slot.Nothing (others (48 + c) (omega arith) (omega arith)); at_last = λ e. absurd (cc) };
     };
-    seats = λ j v e. ⊎_elim (λ (t : get_elem? [] j ≡ some v). absurd (some-ne-none v (sym t))) (λ (t : founder kinds lists ≡ v). subst (λ z. ViewOk kinds lists opening_world (λ _. 0) j z) t record {
-      told = λ x. ([], ap (λ z. z ++ []) (sym (get_or-replicate_same [] 16 x)));
-      heard = λ x. ([], refl);
-      left = All-nil (HasLeft opening_world);
+    seats = λ j v e. ⊎_elim (λ (t : get_elem? [] j ≡ some v). absurd (some-ne-none v (sym t))) (λ (t : first_maker kinds lists ≡ v). subst (λ z. ViewOk kinds lists initial_world (λ _. 0) j z) t record {
+      seen = λ x. ([], ap (λ z. z ++ []) (sym (get_or-replicate_same [] 16 x)));
+      received = λ x. ([], refl);
+      left = All-nil (HasLeft initial_world);
       client = λ is. absurd (cc);
       unmade = λ is c l. (refl, refl, refl, λ x f. cc);
       maker_kinds = λ is. refl;
       lists_are = λ is. refl;
       maker_lists = λ is. refl;
-    }) (at_snoc [] (founder kinds lists) v j e);
+    }) (at_snoc [] (first_maker kinds lists) v j e);
     makers = record {
       made = λ j v e is i u f. (
-        (λ tc. ⊎_elim (λ (t : get_elem? [] i ≡ some u). absurd (some-ne-none u (sym t))) (λ (t : founder kinds lists ≡ u). let g = ap (λ z. z.client) t in absurd (cc)) (at_snoc [] (founder kinds lists) u i f)),
-        λ tm. ⊎_elim (λ (t : get_elem? [] i ≡ some u). absurd (some-ne-none u (sym t))) (λ (t : (i ≡ 0) × (founder kinds lists ≡ u)).
-            ⊎_elim (λ (h : get_elem? [] j ≡ some v). absurd (some-ne-none v (sym h))) (λ (h : (j ≡ 0) × (founder kinds lists ≡ v)). t.0 ∙ sym h.0) (at_end [] (founder kinds lists) v j e)) (at_end [] (founder kinds lists) u i f),
+        (λ tc. ⊎_elim (λ (t : get_elem? [] i ≡ some u). absurd (some-ne-none u (sym t))) (λ (t : first_maker kinds lists ≡ u). let g = ap (λ z. z.client) t in absurd (cc)) (at_snoc [] (first_maker kinds lists) u i f)),
+        λ tm. ⊎_elim (λ (t : get_elem? [] i ≡ some u). absurd (some-ne-none u (sym t))) (λ (t : (i ≡ 0) × (first_maker kinds lists ≡ u)).
+            ⊎_elim (λ (h : get_elem? [] j ≡ some v). absurd (some-ne-none v (sym h))) (λ (h : (j ≡ 0) × (first_maker kinds lists ≡ v)). t.0 ∙ sym h.0) (at_end [] (first_maker kinds lists) v j e)) (at_end [] (first_maker kinds lists) u i f),
       );
-      numbers = λ j v e is. ⊎_elim (λ (t : get_elem? [] j ≡ some v). absurd (some-ne-none v (sym t))) (λ (t : founder kinds lists ≡ v). let g = ap (λ z. z.client) t in absurd (cc)) (at_snoc [] (founder kinds lists) v j e);
+      numbers = λ j v e is. ⊎_elim (λ (t : get_elem? [] j ≡ some v). absurd (some-ne-none v (sym t))) (λ (t : first_maker kinds lists ≡ v). let g = ap (λ z. z.client) t in absurd (cc)) (at_snoc [] (first_maker kinds lists) v j e);
     };
   }
 
-  pub makes_client : (id : ℕ) (v : View) → v.maker ≡ true → v.client ≡ false → v.made < clients → Splits K id v (one_made v) (newcomer v.kinds v.lists v.made)
-  makes_client id v is un low s k at =
-      let w : World = k.world in let c : ℕ = v.made in let l : View = one_made v in let new : View = newcomer v.kinds v.lists c in let here : ℕ = length (set s.views id l) in
+  pub making_keeps_rule : (id : ℕ) (v : View) → v.maker ≡ true → v.client ≡ false → v.made < clients → Splits K id v (after_making v) (new_client v.kinds v.lists v.made)
+  making_keeps_rule id v is un low s k at =
+      let w : World = k.world in let c : ℕ = v.made in let l : View = after_making v in let new : View = new_client v.kinds v.lists c in let here : ℕ = length (set s.views id l) in
       let so' : ℕ → ℕ = changed k.seat_of c here in let old = k.seats id v at in let none_yet = old.unmade is c (omega arith) in let few = k.few_clients in record {
         world = w;
         seat_of = so';
@@ -107,8 +107,8 @@ module _ {S O R : Type 0} (content : S → Content) (op_in : O → AnyOp) (reply
         seats = λ j u e. ⊎_elim
             (λ (t : get_elem? (set s.views id l) j ≡ some u). ⊎_elim
             (λ (h : (j ≡ id) × (l ≡ u)). subst (λ z. ViewOk kinds k.lists w so' j z) h.1 record {
-              told = old.told;
-              heard = old.heard;
+              seen = old.seen;
+              received = old.received;
               left = old.left;
               client = λ f. absurd (cc);
               unmade = λ _ d g. old.unmade is d (omega arith);
@@ -117,8 +117,8 @@ module _ {S O R : Type 0} (content : S → Content) (op_in : O → AnyOp) (reply
               maker_lists = λ _. old.maker_lists is;
             })
             (λ (h : (j ≢ id) × (get_elem? s.views j ≡ some u)). let b = k.seats j u h.1 in record {
-              told = b.told;
-              heard = b.heard;
+              seen = b.seen;
+              received = b.received;
               left = b.left;
               client = λ f. let low' = (k.makers.made id v at is j u h.1).0 f in let g = b.client f in (changed_else k.seat_of c here u.number (λ x. omega arith) ∙ g.0, g.1);
               unmade = b.unmade;
@@ -128,8 +128,8 @@ module _ {S O R : Type 0} (content : S → Content) (op_in : O → AnyOp) (reply
             })
             (at_set s.views id j l u t))
             (λ (t : (j ≡ here) × (new ≡ u)). subst (λ z. ViewOk kinds k.lists w so' j z) t.1 record {
-              told = λ x. (w.log x, ap (λ z. z ++ w.log x) (sym (unseen v.kinds v.lists c x)));
-              heard = λ x. (w.log x, refl);
+              seen = λ x. (w.log x, ap (λ z. z ++ w.log x) (sym (unseen v.kinds v.lists c x)));
+              received = λ x. (w.log x, refl);
               left = All-nil (HasLeft w);
               client = λ _. (
                 changed_here k.seat_of c here ∙ sym t.0,
@@ -173,13 +173,13 @@ module _ {S O R : Type 0} (content : S → Content) (op_in : O → AnyOp) (reply
         };
       }
 
-  pub begins_it : (slots id c : ℕ) (m : Me (Slot S O R) View) → m.0.client ≡ true → m.0.number ≡ c → c < 32 → m.0.own ≡ own.Absent → m.0.held ≡ held.Free → m.0.ended ≡ false
-      → Allows K slots id m (16 + c) (λ f. f) (play.begins content op_in reply_in (step slots (16 + c) 0 0 maybe.none) m)
-  begins_it slots id c m cl number low is free going s k deep at small =
-      let w : World = k.world in let ok = subst (λ z. SeatOk kinds w z m.0) number (mine content op_in reply_in kinds clients quota s k id m.0 cl at) in let v' : View = calling own.Idle m.0 in
+  pub begin_keeps_rule : (slots id c : ℕ) (m : Me (Slot S O R) View) → m.0.client ≡ true → m.0.number ≡ c → c < 32 → m.0.own ≡ own.Absent → m.0.held ≡ held.Free → m.0.ended ≡ false
+      → Allows K slots id m (row_place c) (λ f. f) (play.begins content op_in reply_in (step slots (row_place c) 0 0 maybe.none) m)
+  begin_keeps_rule slots id c m cl number low is free going s k deep at small =
+      let w : World = k.world in let ok = subst (λ z. SeatOk kinds w z m.0) number (mine content op_in reply_in kinds clients quota s k id m.0 cl at) in let v' : View = with_own own.Idle m.0 in
       let was : w.stage c ≡ absent = subst (λ o. OwnOk o (w.stage c)) is ok.own in let word = k.tied.rows c low in
       let before : (p : AnyRequest) → w.stage c ≢ picked p = λ p e. let g = sym was ∙ e in absurd (cc) in
-      let message : get_elem? s.homes (16 + c) ≡ some (some slot.Nothing) = subst (MessageAt content op_in reply_in (get_elem? s.homes (16 + c))) was (k.tied.messages c low) in
+      let message : get_elem? s.homes (16 + c) ≡ some (some slot.Nothing) = subst (CallAt content op_in reply_in (get_elem? s.homes (16 + c))) was (k.tied.calls c low) in
       let journal = (k.tied.journals c low).at_first was in (
         v',
         chain (takes (48 + c) slot.Nothing) (takes (16 + c) slot.Nothing),
@@ -188,8 +188,8 @@ module _ {S O R : Type 0} (content : S → Content) (op_in : O → AnyOp) (reply
           world = staged w c idle;
           holders = k.holders;
           come = come_after clients w c idle (subst (λ z. z < clients) number (k.makers.numbers id m.0 at cl)) k.come;
-          sound = sound_come kinds quota w c was k.sound;
-          tied = tied_coming content op_in reply_in kinds k.lists w c (get_or s.words (16 + c) 0) idle s.words s.homes low (λ e. absurd (cc)) (ok.ended ∙ going) (word ∙ ap row_word was) (λ home. tt) k.tied;
+          sound = sound_coming kinds quota w c was k.sound;
+          tied = tied_coming content op_in reply_in kinds k.lists w c (get_or s.words (row_place c) 0) idle s.words s.homes low (λ e. absurd (cc)) (ok.ended ∙ going) (word ∙ ap row_word was) (λ home. tt) k.tied;
           leave = row_leaves w c idle (ap request_of was);
           others = λ d other. later_gone w w.clock c d idle w.done before (λ p e. let g = sym was ∙ e in absurd (cc)) refl (λ e. other (e ∙ sym number));
           own = subst (λ z. SeatOk kinds (staged w c idle) z v') (sym number)

@@ -23,13 +23,13 @@ use Rattle.desk_rule.specs.declared.board.View.{View}
 use Rattle.world.specs.declared.Request.{Request}
 use Rattle.world.specs.declared.Answer.{Answer}
 use Rattle.world.specs.World.{AnyEntry, AnyRequest, AnyAnswer, AnyDone, Stage, idle, drawn, posted, picked, answered, taken, World, kind_at, logged, logged_on, entries_of, served, served_now, request_of, calls_made, journal_of, IsLegal, StartsWith}
-use Rattle.world.specs.Moves.{changed, staged, ticked}
+use Rattle.world.specs.Transitions.{changed, staged, ticked}
 use Rattle.world.specs.Images.{request_in, answer_in}
 use Rattle.world.proofs.Changed.{changed_here, changed_else}
 use Rattle.world.proofs.Entries.{starts_same, logged_here, logged_else, served_more}
-use Rattle.world.proofs.Moved.{sound_staged, sound_called, sound_returned, clock_low}
-use Rattle.desk_rule.specs.Views.{seen_of, owed, missing, calling, taking, done_with, seeing}
-use Rattle.desk_rule.specs.Rule.{row_word, OwnOk, HeldOk, SeatOk, MessageAt}
+use Rattle.world.proofs.Effects.{sound_staged, sound_called, sound_returned, clock_low}
+use Rattle.desk_rule.specs.Views.{row_place, clock_place, seen_of, owed, after_miss, with_own, after_take, after_return, after_meet}
+use Rattle.desk_rule.specs.Rule.{row_word, OwnOk, HeldOk, SeatOk, CallAt}
 use Rattle.desk_rule.specs.Plays as play
 use Rattle.desk_rule.proofs.Seats.{Later, Leaves, row_leaves, alike, kept_after, come_after, looks, mine, misses, Rule}
 use Rattle.desk_rule.proofs.Seeing.{all_covered, saw, seen_all}
@@ -107,16 +107,16 @@ module _ {S O R : Type 0} (content : S → Content) (op_in : O → AnyOp) (reply
   request_carried d ys = d
 
   -- the clock goes on by one
-  pub more_by_one : (s : State (Slot S O R) View) (k : K s) → (get_or s.words 80 0 + 1) % 2 ^ 64 ≡ k.world.clock + 1
+  pub more_by_one : (s : State (Slot S O R) View) (k : K s) → (get_or s.words clock_place 0 + 1) % 2 ^ 64 ≡ k.world.clock + 1
   more_by_one s k = let low = clock_low kinds quota k.world k.few_calls k.sound in let is = k.tied.clock in omega arith
 
   -- where the object of the request is there in each state
   draws_where : (slots id i : ℕ) (m : Me (Slot S O R) View) (p : Request O) (tl : List (ℕ × Slot S O R)) → m.0.client ≡ true → m.0.own ≡ own.Idle → m.0.ended ≡ false → m.1 ≡ (i, slot.Request p) ∷ tl
       → ((s : State (Slot S O R) View) → K s → get_elem? s.views id ≡ some m.0 → p.object < length kinds) → kind_of (op_in p.op) ≡ kind_at kinds p.object → length m.0.done < quota
-      → Allows K slots id m 80 (λ x. (x + 1) % 2 ^ 64) (play.draws content op_in reply_in (step slots 80 1 0 maybe.none) m)
+      → Allows K slots id m clock_place (λ x. (x + 1) % 2 ^ 64) (play.draws content op_in reply_in (step slots clock_place 1 0 maybe.none) m)
   draws_where slots id i m p tl cl is going carried on fits few s k deep at small =
-      let w : World = k.world in let c : ℕ = m.0.number in let ok = mine content op_in reply_in kinds clients quota s k id m.0 cl at in let found : ℕ = get_or s.words 80 0 in
-      let q : AnyRequest = request_in op_in (record p { ticket = found }) in let t : Stage = drawn q in let v' : View = calling (own.Drawn q) m.0 in
+      let w : World = k.world in let c : ℕ = m.0.number in let ok = mine content op_in reply_in kinds clients quota s k id m.0 cl at in let found : ℕ = get_or s.words clock_place 0 in
+      let q : AnyRequest = request_in op_in (record p { ticket = found }) in let t : Stage = drawn q in let v' : View = with_own (own.Drawn q) m.0 in
       let was : w.stage c ≡ idle = subst (λ o. OwnOk o (w.stage c)) is ok.own in let before : (r : AnyRequest) → w.stage c ≢ picked r = λ r e. let g = sym was ∙ e in absurd (cc) in
       let never : (r : AnyRequest) (a : AnyAnswer) → w.stage c ≢ answered r a = λ r a e. let g = sym was ∙ e in absurd (cc) in
       let ticket : found ≡ w.clock = k.tied.clock in let over = ok.done in let few' : calls_made (w.done c) None < quota = subst (λ z. calls_made z None < quota) over (omega arith) in (
@@ -133,18 +133,18 @@ module _ {S O R : Type 0} (content : S → Content) (op_in : O → AnyOp) (reply
           others = λ d other. later_gone w (w.clock + 1) c d t (changed w.done c (w.done c)) before (λ r e. let g = sym was ∙ e in absurd (cc)) (changed_else w.done c (w.done c) d other) other;
           own = seat_unanswered kinds w (w.clock + 1) c t (changed w.done c (w.done c)) m.0 (own.Drawn q) m.0.done before (λ r e. let g = sym was ∙ e in absurd (cc)) never refl (over ∙ sym (changed_here w.done c (w.done c))) (covers_own kinds w c m.0 own.Idle is ok) ok;
         },
-        λ i' p' tl' carried'. ap (λ (z : Request O). (calling (own.Drawn (request_in op_in (record z { ticket = found }))) m.0, m.1)) (ap (request_carried p) (sym carried ∙ carried')),
+        λ i' p' tl' carried'. ap (λ (z : Request O). (with_own (own.Drawn (request_in op_in (record z { ticket = found }))) m.0, m.1)) (ap (request_carried p) (sym carried ∙ carried')),
       )
 
-  pub draws_it : (slots id i : ℕ) (m : Me (Slot S O R) View) (p : Request O) (tl : List (ℕ × Slot S O R)) → m.0.client ≡ true → m.0.own ≡ own.Idle → m.0.ended ≡ false → m.1 ≡ (i, slot.Request p) ∷ tl
+  pub draw_keeps_rule : (slots id i : ℕ) (m : Me (Slot S O R) View) (p : Request O) (tl : List (ℕ × Slot S O R)) → m.0.client ≡ true → m.0.own ≡ own.Idle → m.0.ended ≡ false → m.1 ≡ (i, slot.Request p) ∷ tl
       → p.object < length kinds → kind_of (op_in p.op) ≡ kind_at kinds p.object → length m.0.done < quota
-      → Allows K slots id m 80 (λ x. (x + 1) % 2 ^ 64) (play.draws content op_in reply_in (step slots 80 1 0 maybe.none) m)
-  draws_it slots id i m p tl cl is going carried on fits few = draws_where slots id i m p tl cl is going carried (λ s k at. on) fits few
+      → Allows K slots id m clock_place (λ x. (x + 1) % 2 ^ 64) (play.draws content op_in reply_in (step slots clock_place 1 0 maybe.none) m)
+  draw_keeps_rule slots id i m p tl cl is going carried on fits few = draws_where slots id i m p tl cl is going carried (λ s k at. on) fits few
 
   -- who holds an object knows that it is there
   pub draws_holding : (slots id i : ℕ) (m : Me (Slot S O R) View) (p : Request O) (l : List AnyEntry) (tl : List (ℕ × Slot S O R)) → m.0.client ≡ true → m.0.own ≡ own.Idle → m.0.held ≡ held.Pass p.object l → m.0.ended ≡ false
       → m.1 ≡ (i, slot.Request p) ∷ tl → kind_of (op_in p.op) ≡ kind_at kinds p.object → length m.0.done < quota
-      → Allows K slots id m 80 (λ x. (x + 1) % 2 ^ 64) (play.draws content op_in reply_in (step slots 80 1 0 maybe.none) m)
+      → Allows K slots id m clock_place (λ x. (x + 1) % 2 ^ 64) (play.draws content op_in reply_in (step slots clock_place 1 0 maybe.none) m)
   draws_holding slots id i m p l tl cl is pass going carried fits few = draws_where slots id i m p tl cl is going carried
       (λ s k at. (subst (HeldOk (length kinds) k.world m.0.number) pass (mine content op_in reply_in kinds clients quota s k id m.0 cl at).held).0) fits few
 
@@ -154,18 +154,18 @@ module _ {S O R : Type 0} (content : S → Content) (op_in : O → AnyOp) (reply
   request_known d (own.Taken q a) = q
   request_known d o = d
 
-  pub posts_it : (slots id j n : ℕ) (m : Me (Slot S O R) View) (q : AnyRequest) (p : Request O) (tl : List (ℕ × Slot S O R)) → m.0.client ≡ true → m.0.number ≡ j → m.0.own ≡ own.Drawn q → m.0.held ≡ held.Free
+  pub post_keeps_rule : (slots id j n : ℕ) (m : Me (Slot S O R) View) (q : AnyRequest) (p : Request O) (tl : List (ℕ × Slot S O R)) → m.0.client ≡ true → m.0.number ≡ j → m.0.own ≡ own.Drawn q → m.0.held ≡ held.Free
       → request_in op_in p ≡ q → n ≡ 1 + q.object → m.1 ≡ (16 + j, slot.Request p) ∷ tl
-      → Allows K slots id m (16 + j) (λ _. n) (λ _. play.posts content op_in reply_in (step slots (16 + j) n 0 maybe.none) m n)
-  posts_it slots id c n m q p tl cl number is free same word carried s k deep at small =
+      → Allows K slots id m (row_place j) (λ _. n) (λ _. play.posts content op_in reply_in (step slots (row_place j) n 0 maybe.none) m n)
+  post_keeps_rule slots id c n m q p tl cl number is free same word carried s k deep at small =
       let w : World = k.world in let ok = subst (λ z. SeatOk kinds w z m.0) number (mine content op_in reply_in kinds clients quota s k id m.0 cl at) in let t : Stage = posted q in
-      let v' : View = calling (own.Waiting q) m.0 in let was : w.stage c ≡ drawn q = subst (λ o. OwnOk o (w.stage c)) is ok.own in
+      let v' : View = with_own (own.Waiting q) m.0 in let was : w.stage c ≡ drawn q = subst (λ o. OwnOk o (w.stage c)) is ok.own in
       let before : (r : AnyRequest) → w.stage c ≢ picked r = λ r e. let g = sym was ∙ e in absurd (cc) in
       let never : (r : AnyRequest) (a : AnyAnswer) → w.stage c ≢ answered r a = λ r a e. let g = sym was ∙ e in absurd (cc) in (
         v',
         gives,
         tt,
-        subst (λ cs. K record { words = set s.words (16 + c) n; homes = put_back s.homes cs; views = set s.views id v' }) (sym carried) (kept_after content op_in reply_in kinds clients quota s k id m.0 v' at cl alike record {
+        subst (λ cs. K record { words = set s.words (row_place c) n; homes = put_back s.homes cs; views = set s.views id v' }) (sym carried) (kept_after content op_in reply_in kinds clients quota s k id m.0 v' at cl alike record {
           world = staged w c t;
           holders = k.holders;
           come = come_after clients w c t (subst (λ z. z < clients) number (k.makers.numbers id m.0 at cl)) k.come;
@@ -176,7 +176,7 @@ module _ {S O R : Type 0} (content : S → Content) (op_in : O → AnyOp) (reply
           own = subst (λ z. SeatOk kinds (staged w c t) z v') (sym number)
               (seat_unanswered kinds w w.clock c t w.done m.0 (own.Waiting q) m.0.done before (λ r e. let g = sym was ∙ e in absurd (cc)) never (inl refl) ok.done (covers_own kinds w c m.0 (own.Drawn q) is ok) ok);
         }),
-        λ r is'. ap (λ (z : AnyRequest). (calling (own.Waiting z) m.0, rest m.1)) (ap (request_known q) (sym is ∙ is')),
+        λ r is'. ap (λ (z : AnyRequest). (with_own (own.Waiting z) m.0, rest m.1)) (ap (request_known q) (sym is ∙ is')),
       )
 
   is_answered : (o : Own) (t : Stage) (q : AnyRequest) → o ≡ own.Waiting q → q.object < 16 → OwnOk o t → row_word t ≡ 33 → (a : AnyAnswer) × (t ≡ answered q a)
@@ -186,43 +186,43 @@ module _ {S O R : Type 0} (content : S → Content) (op_in : O → AnyOp) (reply
   -- what the client has seen of each object, with the answer, after it has taken it
   covers_taken : (kinds : List Kind) (w : World) (c : ℕ) (v : View) (q : AnyRequest) (a : AnyAnswer) (l : List AnyEntry) → v.own ≡ own.Waiting q → q.object < length v.seen
       → entries_of c l ≡ served q.object c v.done ++ logged_on q.object c q a → SeatOk kinds w c v
-      → (y : ℕ) → StartsWith (entries_of c (seen_of (seeing q.object l v) y)) (served y c v.done ++ owed y c (own.Taken q a))
+      → (y : ℕ) → StartsWith (entries_of c (seen_of (after_meet q.object l v) y)) (served y c v.done ++ owed y c (own.Taken q a))
   covers_taken kinds w c v q a l is low e ok = seen_all (λ y z. StartsWith (entries_of c z) (served y c v.done ++ logged_on y c q a)) v.seen q.object l low
       ([], e ∙ sym (append-nil (served q.object c v.done ++ logged_on q.object c q a)))
       (λ y other. subst (λ z. StartsWith (entries_of c (seen_of v y)) (served y c v.done ++ z)) (sym (logged_else y c q a (λ f. other (sym f)))) (covers_own kinds w c v (own.Waiting q) is ok y))
 
-  pub looks_for_it : (slots id j : ℕ) (m : Me (Slot S O R) View) → m.0.client ≡ true → m.0.number ≡ j → j < 32
-      → Allows K slots id m (16 + j) (λ f. f) (play.looks_for_answer content op_in reply_in (step slots (16 + j) 0 0 maybe.none) m)
-  looks_for_it slots id c m cl number few s k deep at small =
+  pub look_for_answer_keeps_rule : (slots id j : ℕ) (m : Me (Slot S O R) View) → m.0.client ≡ true → m.0.number ≡ j → j < 32
+      → Allows K slots id m (row_place j) (λ f. f) (play.looks_for_answer content op_in reply_in (step slots (row_place j) 0 0 maybe.none) m)
+  look_for_answer_keeps_rule slots id c m cl number few s k deep at small =
       let w : World = k.world in let ok = subst (λ z. SeatOk kinds w z m.0) number (mine content op_in reply_in kinds clients quota s k id m.0 cl at) in
-      let word : get_or s.words (16 + c) 0 ≡ row_word (w.stage c) = k.tied.rows c few in
-      dite (ℕ_discrete (get_or s.words (16 + c) 0) 33)
-      (λ hit. (m.0, keeps, tt, looks content op_in reply_in kinds clients quota s k (16 + c) id m.0 m.1 cl at, λ p is. ((λ _. refl), λ miss. absurd (miss hit))))
+      let word : get_or s.words (row_place c) 0 ≡ row_word (w.stage c) = k.tied.rows c few in
+      dite (ℕ_discrete (get_or s.words (row_place c) 0) 33)
+      (λ hit. (m.0, keeps, tt, looks content op_in reply_in kinds clients quota s k (row_place c) id m.0 m.1 cl at, λ p is. ((λ _. refl), λ miss. absurd (miss hit))))
       (λ miss. (
-        missing (16 + c) m.0,
+        after_miss (row_place c) m.0,
         keeps,
         tt,
-        misses content op_in reply_in kinds clients quota s k (16 + c) id m.0 m.1 cl at,
+        misses content op_in reply_in kinds clients quota s k (row_place c) id m.0 m.1 cl at,
         λ p is. ((λ hit. absurd (miss hit)), λ _. (refl, false_from_ne_true m.0.ready (λ e. let a = ok.ready e in miss (word ∙ ap row_word a.2)))),
       ))
 
-  pub takes_it : (slots id j : ℕ) (m : Me (Slot S O R) View) (q : AnyRequest) → m.0.client ≡ true → m.0.number ≡ j → m.0.own ≡ own.Waiting q → m.0.held ≡ held.Free → q.object < 16 → j < 32
-      → Allows K slots id m (16 + j) (λ f. either (eqb f 33) 0 f) (play.takes_answer content op_in reply_in (step slots (16 + j) 33 0 maybe.none) m)
-  takes_it slots id c m q cl number is free low few s k deep at small =
+  pub take_keeps_rule : (slots id j : ℕ) (m : Me (Slot S O R) View) (q : AnyRequest) → m.0.client ≡ true → m.0.number ≡ j → m.0.own ≡ own.Waiting q → m.0.held ≡ held.Free → q.object < 16 → j < 32
+      → Allows K slots id m (row_place j) (λ f. either (eqb f 33) 0 f) (play.takes_answer content op_in reply_in (step slots (row_place j) 33 0 maybe.none) m)
+  take_keeps_rule slots id c m q cl number is free low few s k deep at small =
       let w : World = k.world in let ok = subst (λ z. SeatOk kinds w z m.0) number (mine content op_in reply_in kinds clients quota s k id m.0 cl at) in
-      let word : get_or s.words (16 + c) 0 ≡ row_word (w.stage c) = k.tied.rows c few in let wide = ok.wide_seen in
-      dite (ℕ_discrete (get_or s.words (16 + c) 0) 33)
+      let word : get_or s.words (row_place c) 0 ≡ row_word (w.stage c) = k.tied.rows c few in let wide = ok.wide_seen in
+      dite (ℕ_discrete (get_or s.words (row_place c) 0) 33)
       (λ hit.
       let f = is_answered m.0.own (w.stage c) q is low ok.own (sym word ∙ hit) in let was = f.1 in let x : ℕ = q.object in let l : List AnyEntry = w.log x in
-      let home = subst (MessageAt content op_in reply_in (get_elem? s.homes (16 + c))) was (k.tied.messages c few) in let b : Answer R = home.0 in let a : AnyAnswer = f.0 in let image : answer_in reply_in b ≡ a = home.2 in
-      let t : Stage = taken q a in let v' : View = taking q (answer_in reply_in b) l m.0 in
+      let home = subst (CallAt content op_in reply_in (get_elem? s.homes (16 + c))) was (k.tied.calls c few) in let b : Answer R = home.0 in let a : AnyAnswer = f.0 in let image : answer_in reply_in b ≡ a = home.2 in
+      let t : Stage = taken q a in let v' : View = after_take q (answer_in reply_in b) l m.0 in
       let before : (p : AnyRequest) → w.stage c ≢ picked p = λ p e. let g = sym was ∙ e in absurd (cc) in
       let calls : entries_of c l ≡ served x c m.0.done ++ logged_on x c q a = k.sound.counted c x ∙ λ i. served x c (sym ok.done i) ++ served_now x c (was i) in
       let begins = saw kinds w c x m.0 l low (starts_same l) (all_covered kinds quota w c x m.0.done m.0.own ok.done ok.own k.sound) ok in (
         v',
         takes (16 + c) (slot.Answer b),
         home.1,
-        subst (λ z. K (stepped s (16 + c) (either z 0 (get_or s.words (16 + c) 0)) id m.1 v' (takes (16 + c) (slot.Answer b)))) (sym (eq-eqb (get_or s.words (16 + c) 0) 33 hit)) (kept_after content op_in reply_in kinds clients quota s k id m.0 v' at cl alike record {
+        subst (λ z. K (stepped s (row_place c) (either z 0 (get_or s.words (row_place c) 0)) id m.1 v' (takes (16 + c) (slot.Answer b)))) (sym (eq-eqb (get_or s.words (row_place c) 0) 33 hit)) (kept_after content op_in reply_in kinds clients quota s k id m.0 v' at cl alike record {
           world = staged w c t;
           holders = k.holders;
           come = come_after clients w c t (subst (λ z. z < clients) number (k.makers.numbers id m.0 at cl)) k.come;
@@ -230,14 +230,14 @@ module _ {S O R : Type 0} (content : S → Content) (op_in : O → AnyOp) (reply
           tied = tied_row content op_in reply_in kinds k.lists w c 0 t w.hand w.log s.words s.homes maybe.none few (λ y _. refl) (λ e. absurd (cc)) (ap request_of (sym was)) refl tt k.tied;
           leave = row_leaves w c t (ap request_of was);
           others = λ d other. later_gone w w.clock c d t w.done before (λ r e. let g = sym was ∙ e in absurd (cc)) refl (λ e. other (e ∙ sym number));
-          own = subst (λ z. SeatOk kinds (staged w c t) z v') (sym number) (subst (λ z. SeatOk kinds (staged w c t) c (taking q z l m.0)) (sym image)
-              (seat_gone kinds w w.clock c t w.done (seeing x l m.0) (own.Taken q a) m.0.done before (λ p e. let g = sym was ∙ e in absurd (cc)) refl ok.done (covers_taken kinds w c m.0 q a l is (omega arith) calls ok) begins));
+          own = subst (λ z. SeatOk kinds (staged w c t) z v') (sym number) (subst (λ z. SeatOk kinds (staged w c t) c (after_take q z l m.0)) (sym image)
+              (seat_gone kinds w w.clock c t w.done (after_meet x l m.0) (own.Taken q a) m.0.done before (λ p e. let g = sym was ∙ e in absurd (cc)) refl ok.done (covers_taken kinds w c m.0 q a l is (omega arith) calls ok) begins));
         }),
-        λ p is'. let same = ap (request_known q) (sym is ∙ is') in (
+        λ d p here is'. let row : c ≡ d = omega arith in let same = ap (request_known q) (sym is ∙ is') in (
           (λ _. (
             b,
             l,
-            (λ i. (taking (same i) (answer_in reply_in b) l m.0, (16 + c, slot.Answer b) ∷ m.1)),
+            (λ i. (after_take (same i) (answer_in reply_in b) l m.0, (16 + row i, slot.Answer b) ∷ m.1)),
             subst (λ z. IsLegal (kind_at m.0.kinds z.object) l) same (subst (λ z. IsLegal (kind_at z x) l) (sym ok.kinds_are) (k.sound.legal x)),
             subst (λ z. StartsWith l (seen_of m.0 z.object)) same (ok.seen x),
             subst (λ z. entries_of m.0.number l ≡ served z.object m.0.number m.0.done ++ logged m.0.number z (answer_in reply_in b)) same
@@ -247,22 +247,22 @@ module _ {S O R : Type 0} (content : S → Content) (op_in : O → AnyOp) (reply
         ),
       ))
       (λ miss. (
-        missing (16 + c) m.0,
+        after_miss (row_place c) m.0,
         keeps,
         tt,
-        subst (λ z. K (stepped s (16 + c) (either z 0 (get_or s.words (16 + c) 0)) id m.1 (missing (16 + c) m.0) keeps)) (sym (ne_eqb (get_or s.words (16 + c) 0) 33 miss)) (misses content op_in reply_in kinds clients quota s k (16 + c) id m.0 m.1 cl at),
-        λ p is'. ((λ hit. absurd (miss hit)), λ _. (refl, false_from_ne_true m.0.ready (λ e. let a = ok.ready e in miss (word ∙ ap row_word a.2)))),
+        subst (λ z. K (stepped s (row_place c) (either z 0 (get_or s.words (row_place c) 0)) id m.1 (after_miss (row_place c) m.0) keeps)) (sym (ne_eqb (get_or s.words (row_place c) 0) 33 miss)) (misses content op_in reply_in kinds clients quota s k (row_place c) id m.0 m.1 cl at),
+        λ d p here is'. ((λ hit. absurd (miss hit)), λ _. (refl, false_from_ne_true m.0.ready (λ e. let a = ok.ready e in miss (word ∙ ap row_word a.2)))),
       ))
 
   abbrev answer_known : AnyAnswer → Own → AnyAnswer
   answer_known d (own.Taken q a) = a
   answer_known d o = d
 
-  pub returns_it : (slots id : ℕ) (m : Me (Slot S O R) View) (q : AnyRequest) (a : AnyAnswer) → m.0.client ≡ true → m.0.own ≡ own.Taken q a → m.0.held ≡ held.Free → m.0.ended ≡ false
-      → Allows K slots id m 80 (λ x. (x + 1) % 2 ^ 64) (play.returns content op_in reply_in (step slots 80 1 0 maybe.none) m)
-  returns_it slots id m q a cl is free going s k deep at small =
-      let w : World = k.world in let c : ℕ = m.0.number in let ok = mine content op_in reply_in kinds clients quota s k id m.0 cl at in let found : ℕ = get_or s.words 80 0 in
-      let d : AnyDone = record { request = q; answer = a; returned = found } in let ds : List AnyDone = w.done c ++ d ∷ [] in let v' : View = done_with q a found m.0 in
+  pub return_keeps_rule : (slots id : ℕ) (m : Me (Slot S O R) View) (q : AnyRequest) (a : AnyAnswer) → m.0.client ≡ true → m.0.own ≡ own.Taken q a → m.0.held ≡ held.Free → m.0.ended ≡ false
+      → Allows K slots id m clock_place (λ x. (x + 1) % 2 ^ 64) (play.returns content op_in reply_in (step slots clock_place 1 0 maybe.none) m)
+  return_keeps_rule slots id m q a cl is free going s k deep at small =
+      let w : World = k.world in let c : ℕ = m.0.number in let ok = mine content op_in reply_in kinds clients quota s k id m.0 cl at in let found : ℕ = get_or s.words clock_place 0 in
+      let d : AnyDone = record { request = q; answer = a; returned = found } in let ds : List AnyDone = w.done c ++ d ∷ [] in let v' : View = after_return q a found m.0 in
       let was : w.stage c ≡ taken q a = subst (λ o. OwnOk o (w.stage c)) is ok.own in let before : (r : AnyRequest) → w.stage c ≢ picked r = λ r e. let g = sym was ∙ e in absurd (cc) in
       let never : (r : AnyRequest) (a : AnyAnswer) → w.stage c ≢ answered r a = λ r a e. let g = sym was ∙ e in absurd (cc) in
       let prefix = ok.seen q.object in (
@@ -281,7 +281,7 @@ module _ {S O R : Type 0} (content : S → Content) (op_in : O → AnyOp) (reply
               (λ y. subst (StartsWith (entries_of c (seen_of m.0 y))) (sym (append-nil (served y c (m.0.done ++ d ∷ [])) ∙ served_more y c found m.0.done q a)) (covers_own kinds w c m.0 (own.Taken q a) is ok y)) ok;
         },
         λ p b is'. let e = sym is ∙ is' in (
-          (λ i. (done_with (ap (request_known q) e i) (ap (answer_known a) e i) found m.0, m.1)),
+          (λ i. (after_return (ap (request_known q) e i) (ap (answer_known a) e i) found m.0, m.1)),
           subst (λ z. All (λ (y : AnyEntry). y.ticket < found) (seen_of m.0 z.object)) (ap (request_known q) e)
               (all_start (λ (y : AnyEntry). y.ticket < found) (seen_of m.0 q.object) prefix.0 (subst (All (λ (y : AnyEntry). y.ticket < found)) prefix.1
               (subst (λ n. All (λ (y : AnyEntry). y.ticket < n) (w.log q.object)) (sym k.tied.clock) (k.sound.early q.object)))),

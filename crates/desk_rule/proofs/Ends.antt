@@ -18,12 +18,12 @@ use Rattle.desk_rule.specs.declared.board.Own.TheVariants as own
 use Rattle.desk_rule.specs.declared.board.Held.TheVariants as held
 use Rattle.desk_rule.specs.declared.board.View.{View}
 use Rattle.world.specs.World.{AnyAnswer, Stage, absent, posted, picked, answered, World, request_of, journal_of}
-use Rattle.world.specs.Moves.{changed, ended_by}
+use Rattle.world.specs.Transitions.{changed, ended_by}
 use Rattle.world.specs.Images.{event_in}
 use Rattle.world.proofs.Changed.{changed_here, changed_else, changed_all}
 use Rattle.world.proofs.Entries.{starts_same}
-use Rattle.world.proofs.Moved.{sound_ended}
-use Rattle.desk_rule.specs.Views.{own_request, journal, IsAtRest, ending, knowing_end, finding_there}
+use Rattle.world.proofs.Effects.{sound_ended}
+use Rattle.desk_rule.specs.Views.{end_place, own_request, journal, IsAtRest, after_end, after_end_seen, after_end_unset}
 use Rattle.desk_rule.specs.Rule.{end_word, OwnOk, HeldOk, SeatOk}
 use Rattle.desk_rule.specs.Plays as play
 use Rattle.desk_rule.proofs.Seats.{Later, alike, kept_after, seat_knowing, mine, unmoved, Rule}
@@ -70,16 +70,16 @@ module _ {S O R : Type 0} (content : S → Content) (op_in : O → AnyOp) (reply
   abbrev K : State (Slot S O R) View → Type 0
   K = Rule content op_in reply_in kinds clients quota
 
-  pub ends_it : (slots id c : ℕ) (m : Me (Slot S O R) View) (j : Journal O R) (tl : List (ℕ × Slot S O R)) → m.0.client ≡ true → m.0.number ≡ c → IsAtRest m.0.own → m.0.held ≡ held.Free
+  pub end_keeps_rule : (slots id c : ℕ) (m : Me (Slot S O R) View) (j : Journal O R) (tl : List (ℕ × Slot S O R)) → m.0.client ≡ true → m.0.number ≡ c → IsAtRest m.0.own → m.0.held ≡ held.Free
       → map (event_in op_in reply_in) j.events.items ≡ journal m.0 → m.1 ≡ (48 + c, slot.Journal j) ∷ tl
-      → Allows K slots id m (48 + c) (λ _. 1) (λ _. play.ends content op_in reply_in (step slots (48 + c) 1 0 maybe.none) m 1)
-  ends_it slots id c m j tl cl number calm free says carried s k deep at small =
-      let w : World = k.world in let ok = subst (λ z. SeatOk kinds w z m.0) number (mine content op_in reply_in kinds clients quota s k id m.0 cl at) in let v' : View = ending m.0 in
+      → Allows K slots id m (end_place c) (λ _. 1) (λ _. play.ends content op_in reply_in (step slots (end_place c) 1 0 maybe.none) m 1)
+  end_keeps_rule slots id c m j tl cl number calm free says carried s k deep at small =
+      let w : World = k.world in let ok = subst (λ z. SeatOk kinds w z m.0) number (mine content op_in reply_in kinds clients quota s k id m.0 cl at) in let v' : View = after_end m.0 in
       let says' : map (event_in op_in reply_in) j.events.items ≡ journal_of (w.done c) (request_of (w.stage c)) = says ∙ λ i. journal_of (ok.done i) (own_is m.0.own (w.stage c) ok.own i) in (
         v',
         gives,
         tt,
-        subst (λ cs. K record { words = set s.words (48 + c) 1; homes = put_back s.homes cs; views = set s.views id v' }) (sym carried) (kept_after content op_in reply_in kinds clients quota s k id m.0 v' at cl alike record {
+        subst (λ cs. K record { words = set s.words (end_place c) 1; homes = put_back s.homes cs; views = set s.views id v' }) (sym carried) (kept_after content op_in reply_in kinds clients quota s k id m.0 v' at cl alike record {
           world = ended_by w c;
           holders = λ x d e. let b = k.holders x d e in (b.0, changed_else w.ended c true d (λ same. subst (HeldOk (length kinds) w c) free ok.held x (e ∙ ap Some same)) ∙ b.1);
           come = k.come;
@@ -106,25 +106,25 @@ module _ {S O R : Type 0} (content : S → Content) (op_in : O → AnyOp) (reply
         refl,
       )
 
-  pub sees_it : (slots id d : ℕ) (m : Me (Slot S O R) View) → m.0.client ≡ true → d < 32
-      → Allows K slots id m (48 + d) (λ f. f) (play.sees_end content op_in reply_in (step slots (48 + d) 0 0 maybe.none) m)
-  sees_it slots id d m cl low s k deep at small =
-      let w : World = k.world in let ok = mine content op_in reply_in kinds clients quota s k id m.0 cl at in let word = k.tied.ends d low in dite (ℕ_discrete (get_or s.words (48 + d) 0) 1)
+  pub look_at_end_keeps_rule : (slots id d : ℕ) (m : Me (Slot S O R) View) → m.0.client ≡ true → d < 32
+      → Allows K slots id m (end_place d) (λ f. f) (play.sees_end content op_in reply_in (step slots (end_place d) 0 0 maybe.none) m)
+  look_at_end_keeps_rule slots id d m cl low s k deep at small =
+      let w : World = k.world in let ok = mine content op_in reply_in kinds clients quota s k id m.0 cl at in let word = k.tied.ends d low in dite (ℕ_discrete (get_or s.words (end_place d) 0) 1)
       (λ hit. let is : w.ended d ≡ true = is_ended (w.ended d) (sym word ∙ hit) in (
-        knowing_end d m.0,
+        after_end_seen d m.0,
         keeps,
         tt,
-        unmoved content op_in reply_in kinds clients quota s k (48 + d) id m.0 (knowing_end d m.0) m.1 at cl
+        unmoved content op_in reply_in kinds clients quota s k (end_place d) id m.0 (after_end_seen d m.0) m.1 at cl
             alike (seat_knowing ok.ready (All-push (λ e. w.ended e ≡ true) m.0.retired d ok.retired is) ok),
-        λ e same. let f : d ≡ e = omega arith in ((λ _. ap (λ z. (knowing_end z m.0, m.1)) f), λ miss. absurd (miss hit)),
+        λ e same. let f : d ≡ e = omega arith in ((λ _. ap (λ z. (after_end_seen z m.0, m.1)) f), λ miss. absurd (miss hit)),
       ))
       (λ miss. (
-        finding_there d m.0,
+        after_end_unset d m.0,
         keeps,
         tt,
-        unmoved content op_in reply_in kinds clients quota s k (48 + d) id m.0 (finding_there d m.0) m.1 at cl alike (seat_knowing ok.ready ok.retired ok),
+        unmoved content op_in reply_in kinds clients quota s k (end_place d) id m.0 (after_end_unset d m.0) m.1 at cl alike (seat_knowing ok.ready ok.retired ok),
         λ e same. let f : d ≡ e = omega arith in (
           (λ hit. absurd (miss hit)),
-          λ _. (ap (λ z. (finding_there z m.0, m.1)) f, λ i z l g. miss (word ∙ ap end_word (ap w.ended (f ∙ sym g) ∙ ((k.seats id m.0 at).left i z l).0))),
+          λ _. (ap (λ z. (after_end_unset z m.0, m.1)) f, λ i z l g. miss (word ∙ ap end_word (ap w.ended (f ∙ sym g) ∙ ((k.seats id m.0 at).left i z l).0))),
         ),
       ))

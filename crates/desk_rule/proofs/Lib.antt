@@ -6,6 +6,7 @@ pub mod Rows
 pub mod Calls
 pub mod Performs
 pub mod Beginnings
+pub mod Messages
 pub mod Ends
 pub mod Meets
-pub mod Farewells
+pub mod Notices

@@ -22,11 +22,11 @@ use Rattle.desk_rule.specs.declared.board.Held.TheVariants as held
 use Rattle.desk_rule.specs.declared.board.PutBack.{PutBack}
 use Rattle.desk_rule.specs.declared.board.View.{View}
 use Rattle.world.specs.World.{AnyEntry, posted, World, kind_at}
-use Rattle.world.specs.Moves.{changed, held_by}
+use Rattle.world.specs.Transitions.{changed, held_by}
 use Rattle.world.proofs.Changed.{changed_here, changed_else, changed_all}
 use Rattle.world.proofs.Entries.{starts_same}
-use Rattle.world.proofs.Moved.{sound_held}
-use Rattle.desk_rule.specs.Views.{missing, holding, learnt, seeing, IsAtRest, IsAccount}
+use Rattle.world.proofs.Effects.{sound_held}
+use Rattle.desk_rule.specs.Views.{after_miss, after_win, after_release, after_meet, IsAtRest, IsAccount}
 use Rattle.desk_rule.specs.Rule.{lock_word, Fits, HeldOk, SeatOk}
 use Rattle.desk_rule.specs.Plays as play
 use Rattle.desk_rule.proofs.Seats.{Later, alike, kept_after, looks, mine, misses, Rule}
@@ -84,18 +84,18 @@ module _ {S O R : Type 0} (content : S → Content) (op_in : O → AnyOp) (reply
   abbrev K : State (Slot S O R) View → Type 0
   K = Rule content op_in reply_in kinds clients quota
 
-  pub looks_at_lock : (slots id x : ℕ) (m : Me (Slot S O R) View) → m.0.client ≡ true → Allows K slots id m x (λ f. f) (play.looks_at_lock content op_in reply_in (step slots x 0 0 maybe.none) m)
-  looks_at_lock slots id x m cl s k deep at small = dite (ℕ_discrete (get_or s.words x 0) 0)
+  pub look_at_lock_keeps_rule : (slots id x : ℕ) (m : Me (Slot S O R) View) → m.0.client ≡ true → Allows K slots id m x (λ f. f) (play.looks_at_lock content op_in reply_in (step slots x 0 0 maybe.none) m)
+  look_at_lock_keeps_rule slots id x m cl s k deep at small = dite (ℕ_discrete (get_or s.words x 0) 0)
       (λ hit. (m.0, keeps, tt, looks content op_in reply_in kinds clients quota s k x id m.0 m.1 cl at, ((λ _. refl), λ miss. absurd (miss hit))))
-      (λ miss. (missing x m.0, keeps, tt, misses content op_in reply_in kinds clients quota s k x id m.0 m.1 cl at, ((λ hit. absurd (miss hit)), λ _. refl)))
+      (λ miss. (after_miss x m.0, keeps, tt, misses content op_in reply_in kinds clients quota s k x id m.0 m.1 cl at, ((λ hit. absurd (miss hit)), λ _. refl)))
 
-  pub wins : (slots id x n : ℕ) (m : Me (Slot S O R) View) → m.0.client ≡ true → x < length kinds → n ≡ 1 + m.0.number → m.0.held ≡ held.Free → m.0.ended ≡ false
+  pub win_keeps_rule : (slots id x n : ℕ) (m : Me (Slot S O R) View) → m.0.client ≡ true → x < length kinds → n ≡ 1 + m.0.number → m.0.held ≡ held.Free → m.0.ended ≡ false
       → Allows K slots id m x (λ f. either (eqb f 0) n f) (play.wins content op_in reply_in (step slots x 0 n maybe.none) m)
-  wins slots id x n m cl inside is free going s k deep at small = dite (ℕ_discrete (get_or s.words x 0) 0)
+  win_keeps_rule slots id x n m cl inside is free going s k deep at small = dite (ℕ_discrete (get_or s.words x 0) 0)
       (λ hit.
       let w : World = k.world in let c : ℕ = m.0.number in let ok = mine content op_in reply_in kinds clients quota s k id m.0 cl at in
       let none_holds : w.holder x ≡ None = free_lock (w.holder x) (sym (k.tied.locks x inside) ∙ hit) in
-      let home = k.tied.cores x inside none_holds in let v' : View = holding x (w.log x) m.0 in
+      let home = k.tied.cores x inside none_holds in let v' : View = after_win x (w.log x) m.0 in
       let nothing : (y : ℕ) → w.holder y ≢ Some c = subst (HeldOk (length kinds) w c) free ok.held in (
         v',
         takes x (slot.Core home.0),
@@ -121,18 +121,18 @@ module _ {S O R : Type 0} (content : S → Content) (op_in : O → AnyOp) (reply
         ((λ _. (home.0, w.log x, refl, subst (λ (z : List Kind × List TableId). Fits content op_in reply_in (kind_at z.0 x) (get_elem? z.1 x) home.0 (w.log x)) (λ i. (sym ok.kinds_are i, sym ((k.seats id m.0 at).lists_are cl) i)) home.2, ok.seen x)), λ miss. absurd (miss hit)),
       ))
       (λ miss. (
-        missing x m.0,
+        after_miss x m.0,
         keeps,
         tt,
-        subst (λ b. K (stepped s x (either b n (get_or s.words x 0)) id m.1 (missing x m.0) keeps)) (sym (ne_eqb (get_or s.words x 0) 0 miss)) (misses content op_in reply_in kinds clients quota s k x id m.0 m.1 cl at),
+        subst (λ b. K (stepped s x (either b n (get_or s.words x 0)) id m.1 (after_miss x m.0) keeps)) (sym (ne_eqb (get_or s.words x 0) 0 miss)) (misses content op_in reply_in kinds clients quota s k x id m.0 m.1 cl at),
         ((λ hit. absurd (miss hit)), λ _. refl),
       ))
 
-  pub releases : (slots id x : ℕ) (m : Me (Slot S O R) View) (l : List AnyEntry) (k : Core S O R) (tl : List (ℕ × Slot S O R)) → m.0.client ≡ true → m.0.held ≡ held.Pass x l → m.1 ≡ (x, slot.Core k) ∷ tl
+  pub release_keeps_rule : (slots id x : ℕ) (m : Me (Slot S O R) View) (l : List AnyEntry) (k : Core S O R) (tl : List (ℕ × Slot S O R)) → m.0.client ≡ true → m.0.held ≡ held.Pass x l → m.1 ≡ (x, slot.Core k) ∷ tl
       → Fits content op_in reply_in (kind_at m.0.kinds x) (get_elem? m.0.lists x) k l → IsAtRest m.0.own → Allows K slots id m x (λ _. 0) (λ _. play.releases content op_in reply_in (step slots x 0 0 maybe.none) m 0)
-  releases slots id x m l core tl cl pass carried fits calm s k deep at small =
+  release_keeps_rule slots id x m l core tl cl pass carried fits calm s k deep at small =
       let w : World = k.world in let c : ℕ = m.0.number in let ok = mine content op_in reply_in kinds clients quota s k id m.0 cl at in let few = k.tied.objects in
-      let h = subst (HeldOk (length kinds) w c) pass ok.held in let v' : View = learnt x l m.0 in let inside : x < length kinds = h.0 in let low : x < 16 = omega arith in
+      let h = subst (HeldOk (length kinds) w c) pass ok.held in let v' : View = after_release x l m.0 in let inside : x < length kinds = h.0 in let low : x < 16 = omega arith in
       let fits' : Fits content op_in reply_in (kind_at kinds x) (get_elem? k.lists x) core (w.log x) = subst (λ (z : List Kind × List TableId × List AnyEntry). Fits content op_in reply_in (kind_at z.0 x) (get_elem? z.1 x) core z.2) (λ i. (ok.kinds_are i, (k.seats id m.0 at).lists_are cl i, sym h.3 i)) fits in
       let covers = all_covered kinds quota w c x m.0.done m.0.own ok.done ok.own k.sound in let seat = saw kinds w c x m.0 (w.log x) low (starts_same (w.log x)) covers ok in (
         v',
@@ -146,11 +146,11 @@ module _ {S O R : Type 0} (content : S → Content) (op_in : O → AnyOp) (reply
           tied = tied_lock content op_in reply_in kinds k.lists w x 0 None s.words s.homes (some (slot.Core core)) inside refl (λ _. (core, refl, fits')) k.tied;
           leave = λ d e. (e, refl);
           others = λ d other. later_held w x d None (λ e. other (sym (same_Some c d (sym h.1 ∙ e)))) (λ e. absurd (cc));
-          own = subst (λ z. SeatOk kinds (held_by w x None) c (learnt x z m.0)) h.3 (seat_held kinds w c x None (seeing x (w.log x) m.0) held.Free [] (All-nil (λ (b : PutBack). (w.stage b.row ≡ posted b.request) × (changed w.holder x None b.request.object ≡ Some c))) seat
+          own = subst (λ z. SeatOk kinds (held_by w x None) c (after_release x z m.0)) h.3 (seat_held kinds w c x None (after_meet x (w.log x) m.0) held.Free [] (All-nil (λ (b : PutBack). (w.stage b.row ≡ posted b.request) × (changed w.holder x None b.request.object ≡ Some c))) seat
               (changed_all (λ y h'. h' ≢ Some c) w.holder x None (λ e. absurd (cc)) (λ y other e. other (h.4 y e))));
         }),
         λ l' pass'. let same = ap held_log (sym pass ∙ pass') in (
-          ap (λ z. (learnt x z m.0, rest m.1)) same,
+          ap (λ z. (after_release x z m.0, rest m.1)) same,
           subst (IsAccount x m.0) (h.3 ∙ same) (accounts kinds quota w x m.0 (w.log x) calm ok.done ok.own k.sound (starts_same (w.log x)) covers),
         ),
       )

@@ -14,13 +14,13 @@ use Rattle.desk_rule.specs.declared.board.Held.TheVariants as held
 use Rattle.desk_rule.specs.declared.board.View.{View}
 use Rattle.world.specs.declared.Answer.{Answer}
 use Rattle.world.specs.World.{AnyEntry, AnyRequest, AnyAnswer, AnyDone, idle, drawn, posted, picked, answered, taken, World, kind_at, logged, entries_of, served, request_of, served_now, IsLegal, StartsWith}
-use Rattle.world.specs.Moves.{changed, staged, handed, served_by}
+use Rattle.world.specs.Transitions.{changed, staged, handed, served_by}
 use Rattle.world.specs.Sound.{Sound}
 use Rattle.world.specs.Images.{answer_in}
 use Rattle.world.proofs.Changed.{changed_here, changed_else, changed_all}
 use Rattle.world.proofs.Entries.{starts_same, starts_longer, logged_here, logged_else, served_more}
-use Rattle.world.proofs.Moved.{sound_staged, sound_picked, sound_served, sound_returned}
-use Rattle.desk_rule.specs.Views.{seen_of, performing}
+use Rattle.world.proofs.Effects.{sound_staged, sound_picked, sound_served, sound_returned}
+use Rattle.desk_rule.specs.Views.{clock_place, seen_of, after_perform}
 use Rattle.desk_rule.specs.Rule.{row_word, OwnOk, HeldOk, SeatOk, CoreAt}
 use Rattle.desk_rule.specs.Plays as play
 use Rattle.desk_rule.proofs.Seats.{Later, alike, kept_after, come_after, mine, Rule}
@@ -60,7 +60,7 @@ abbrev took : World → ℕ → ℕ → AnyRequest → AnyAnswer → World
 took w x c q a = staged (done_at w x c q a) c (taken q a)
 
 module _ (kinds : List Kind) (quota : ℕ) (w : World) (x c : ℕ) (q : AnyRequest) (a : AnyAnswer) (was : w.stage c ≡ drawn q) (on : q.object ≡ x) (holds : w.holder x ≡ Some c) (free : w.hand x ≡ None) (legal : IsLegal (kind_at kinds x) (w.log x ++ logged c q a)) (k : Sound kinds quota w) where
-  -- the four moves in front of the ticket
+  -- the four transitions in front of the ticket
   pub sound_took : Sound kinds quota (took w x c q a)
   sound_took =
       let k₁ : Sound kinds quota (put w c q) = sound_staged kinds quota w c (posted q) (λ r e. let g = sym was ∙ e in absurd (cc)) (λ r e. absurd (cc)) (ap request_of (sym was)) (λ e. absurd (cc)) (λ y. ap (served_now y c) (sym was)) k in
@@ -99,7 +99,7 @@ later_performed w x c d q a was holds other =
 
 -- the client itself
 seat_performed : (kinds : List Kind) (quota : ℕ) (w : World) (c : ℕ) (v : View) (q : AnyRequest) (a : AnyAnswer) (l : List AnyEntry) → v.own ≡ own.Drawn q → w.stage c ≡ drawn q → v.held ≡ held.Pass q.object l → q.object < 16
-    → Sound kinds quota (performed w q.object c q a) → SeatOk kinds w c v → SeatOk kinds (performed w q.object c q a) c (performing q a (l ++ logged c q a) w.clock v)
+    → Sound kinds quota (performed w q.object c q a) → SeatOk kinds w c v → SeatOk kinds (performed w q.object c q a) c (after_perform q a (l ++ logged c q a) w.clock v)
 seat_performed kinds quota w c v q a l mine was pass low k ok =
     let x : ℕ = q.object in let h = subst (HeldOk (length kinds) w c) pass ok.held in let wide = ok.wide_seen in let l' : List AnyEntry = l ++ logged c q a in
     let ds : List AnyDone = w.done c ++ over w q a ∷ [] in
@@ -133,27 +133,27 @@ module _ {S O R : Type 0} (content : S → Content) (op_in : O → AnyOp) (reply
   Told v t q b l = All (λ e. e.ticket < t) (l ++ logged v.number q (answer_in reply_in b)) × StartsWith (l ++ logged v.number q (answer_in reply_in b)) (seen_of v q.object)
       × (entries_of v.number (l ++ logged v.number q (answer_in reply_in b)) ≡ served q.object v.number v.done ++ logged v.number q (answer_in reply_in b))
 
-  told_of_it : (w : World) (v : View) (q : AnyRequest) (b : Answer R) (l : List AnyEntry) → w.log q.object ≡ l → Sound kinds quota (took w q.object v.number q (answer_in reply_in b)) → SeatOk kinds w v.number v → Told v w.clock q b l
-  told_of_it w v q b l at k ok = let x : ℕ = q.object in let c : ℕ = v.number in let a : AnyAnswer = answer_in reply_in b in
+  told_by_log : (w : World) (v : View) (q : AnyRequest) (b : Answer R) (l : List AnyEntry) → w.log q.object ≡ l → Sound kinds quota (took w q.object v.number q (answer_in reply_in b)) → SeatOk kinds w v.number v → Told v w.clock q b l
+  told_by_log w v q b l at k ok = let x : ℕ = q.object in let c : ℕ = v.number in let a : AnyAnswer = answer_in reply_in b in
       let is : changed w.log x (w.log x ++ logged c q a) x ≡ l ++ logged c q a = changed_here w.log x (w.log x ++ logged c q a) ∙ ap (λ z. z ++ logged c q a) at in (
         subst (All (λ (e : AnyEntry). e.ticket < w.clock)) is (k.early x),
         starts_longer (l ++ logged c q a) l (seen_of v x) (logged c q a, refl) (subst (λ z. StartsWith z (seen_of v x)) at (ok.seen x)),
         ap (entries_of c) (sym is) ∙ (k.counted c x ∙ ((λ i. served x c (sym ok.done i) ++ served_now x c (changed_here (done_at w x c q a).stage c (taken q a) i)) ∙ ap (λ z. served x c v.done ++ z) (logged_here x c q a refl))),
       )
 
-  pub performs_it : (slots id i : ℕ) (m : Me (Slot S O R) View) (l : List AnyEntry) (q : AnyRequest) (b : Answer R) (tl : List (ℕ × Slot S O R)) → m.0.client ≡ true → m.0.held ≡ held.Pass q.object l → m.0.own ≡ own.Drawn q → m.0.ended ≡ false
+  pub perform_keeps_rule : (slots id i : ℕ) (m : Me (Slot S O R) View) (l : List AnyEntry) (q : AnyRequest) (b : Answer R) (tl : List (ℕ × Slot S O R)) → m.0.client ≡ true → m.0.held ≡ held.Pass q.object l → m.0.own ≡ own.Drawn q → m.0.ended ≡ false
       → m.1 ≡ (i, slot.Answer b) ∷ tl → IsLegal (kind_at m.0.kinds q.object) (l ++ logged m.0.number q (answer_in reply_in b))
-      → Allows K slots id m 80 (λ x. (x + 1) % 2 ^ 64) (play.performs content op_in reply_in (step slots 80 1 0 maybe.none) m)
-  performs_it slots id i m l q b tl cl pass is going carried legal s k deep at small =
-      let w : World = k.world in let c : ℕ = m.0.number in let ok = mine content op_in reply_in kinds clients quota s k id m.0 cl at in let found : ℕ = get_or s.words 80 0 in let x : ℕ = q.object in
+      → Allows K slots id m clock_place (λ x. (x + 1) % 2 ^ 64) (play.performs content op_in reply_in (step slots clock_place 1 0 maybe.none) m)
+  perform_keeps_rule slots id i m l q b tl cl pass is going carried legal s k deep at small =
+      let w : World = k.world in let c : ℕ = m.0.number in let ok = mine content op_in reply_in kinds clients quota s k id m.0 cl at in let found : ℕ = get_or s.words clock_place 0 in let x : ℕ = q.object in
       let a : AnyAnswer = answer_in reply_in b in let h = subst (HeldOk (length kinds) w c) pass ok.held in let ticket : found ≡ w.clock = k.tied.clock in
       let few = k.tied.objects in let low : x < 16 = (let inside : x < length kinds = h.0 in omega arith) in
       let was : w.stage c ≡ drawn q = subst (λ o. OwnOk o (w.stage c)) is ok.own in let ds : List AnyDone = w.done c ++ over w q a ∷ [] in
       let legal' : IsLegal (kind_at kinds x) (w.log x ++ logged c q a) = subst (λ (z : List Kind × List AnyEntry). IsLegal (kind_at z.0 x) (z.1 ++ logged c q a)) (λ i. (ok.kinds_are i, sym h.3 i)) legal in
       let sound = sound_performed kinds quota w x c q a was refl h.1 h.2 legal' k.sound ok.small in
       let ties = tied_clock content op_in reply_in kinds k.lists w c ((found + 1) % 2 ^ 64) idle ds s.words s.homes (λ e. absurd (cc)) (ok.ended ∙ going) (ap row_word was) (λ home. tt) (more_by_one content op_in reply_in kinds clients quota s k) k.tied in
-      let v' : View = performing q a (l ++ logged c q a) found m.0 in
-      let told = subst (λ t. Told m.0 t q b l) (sym ticket) (told_of_it w m.0 q b l h.3 (sound_took kinds quota w x c q a was refl h.1 h.2 legal' k.sound) ok) in (
+      let v' : View = after_perform q a (l ++ logged c q a) found m.0 in
+      let told = subst (λ t. Told m.0 t q b l) (sym ticket) (told_by_log w m.0 q b l h.3 (sound_took kinds quota w x c q a was refl h.1 h.2 legal' k.sound) ok) in (
         v',
         keeps,
         tt,
@@ -171,17 +171,17 @@ module _ {S O R : Type 0} (content : S → Content) (op_in : O → AnyOp) (reply
             ends = ties.ends;
             clock = ties.clock;
             cores = λ y e f. subst (CoreAt content op_in reply_in (kind_at kinds y) _ _) (sym (changed_else w.log x (w.log x ++ logged c q a) y (λ same. let g = sym h.1 ∙ (ap w.holder (sym same) ∙ f) in absurd (cc)))) (ties.cores y e f);
-            messages = ties.messages;
+            calls = ties.calls;
             journals = ties.journals;
           };
           leave = gone_leaves w (w.clock + 1) c idle (changed w.done c ds) (ok.ended ∙ going) (changed_else w.done c ds);
           others = λ d other. later_performed w x c d q a was h.1 other;
-          own = subst (λ t. SeatOk kinds (performed w x c q a) c (performing q a (l ++ logged c q a) t m.0)) (sym ticket) (seat_performed kinds quota w c m.0 q a l is was pass low sound ok);
+          own = subst (λ t. SeatOk kinds (performed w x c q a) c (after_perform q a (l ++ logged c q a) t m.0)) (sym ticket) (seat_performed kinds quota w c m.0 q a l is was pass low sound ok);
         },
         λ i' l' q' b' tl' pass' is' carried'.
             let eq : q ≡ q' = ap (request_known content op_in reply_in kinds clients quota q) (sym is ∙ is') in let el : l ≡ l' = ap held_log (sym pass ∙ pass') in let eb : b ≡ b' = ap (answer_carried content op_in reply_in kinds clients quota b) (sym carried ∙ carried') in
             let t = subst (λ (z : AnyRequest × Answer R × List AnyEntry). Told m.0 found z.0 z.1 z.2) (λ j. (eq j, eb j, el j)) told in (
-              (λ j. (performing (eq j) (answer_in reply_in (eb j)) (el j ++ logged c (eq j) (answer_in reply_in (eb j))) found m.0, m.1)),
+              (λ j. (after_perform (eq j) (answer_in reply_in (eb j)) (el j ++ logged c (eq j) (answer_in reply_in (eb j))) found m.0, m.1)),
               t.0,
               t.1,
               t.2,

@@ -25,14 +25,14 @@ use Rattle.desk_rule.specs.declared.board.View.{View}
 use Rattle.world.specs.declared.Request.{Request}
 use Rattle.world.specs.declared.Answer.{Answer}
 use Rattle.world.specs.World.{AnyEntry, AnyRequest, AnyAnswer, Stage, absent, idle, drawn, posted, picked, answered, taken, World, kind_at, logged, request_of, IsLegal, StartsWith}
-use Rattle.world.specs.Moves.{changed, handed, served_by}
+use Rattle.world.specs.Transitions.{changed, handed, served_by}
 use Rattle.world.specs.Sound.{Sound}
 use Rattle.world.specs.Images.{request_in, answer_in}
 use Rattle.world.proofs.Changed.{changed_here, changed_else, changed_all}
 use Rattle.world.proofs.Entries.{starts_same, starts_longer}
-use Rattle.world.proofs.Moved.{sound_picked, sound_put_back, sound_served}
-use Rattle.desk_rule.specs.Views.{seen_of, waits_on, noting, handling, putting_back, answering}
-use Rattle.desk_rule.specs.Rule.{row_word, OwnOk, HeldOk, SeatOk, MessageAt}
+use Rattle.world.proofs.Effects.{sound_picked, sound_put_back, sound_served}
+use Rattle.desk_rule.specs.Views.{row_place, seen_of, waits_on, after_row_miss, after_pick, after_put_back, after_answer}
+use Rattle.desk_rule.specs.Rule.{row_word, OwnOk, HeldOk, SeatOk, CallAt}
 use Rattle.desk_rule.specs.Plays as play
 use Rattle.desk_rule.proofs.Seats.{Later, row_leaves, alike, kept_after, looks, come_after, seat_knowing, mine, unmoved, Rule}
 use Rattle.desk_rule.proofs.Ties.{tied_row}
@@ -149,11 +149,11 @@ noted kinds quota c x w (own.Waiting q) k free miss e ok = let at : q.object ≡
     (λ (d : (a : AnyAnswer) × (w.stage c ≡ answered q a)). (q, d.0, d.1)) b) ok
 noted kinds quota c x w (own.Taken q a) k free miss e ok = absurd (cc)
 
-noting_ok : (kinds : List Kind) (quota c x r : ℕ) (w : World) (v : View) (l : List AnyEntry) → v.held ≡ held.Pass x l → Sound kinds quota w → row_word (w.stage r) ≢ 1 + x → SeatOk kinds w c v → SeatOk kinds w c (noting (16 + r) x v)
+noting_ok : (kinds : List Kind) (quota c x r : ℕ) (w : World) (v : View) (l : List AnyEntry) → v.held ≡ held.Pass x l → Sound kinds quota w → row_word (w.stage r) ≢ 1 + x → SeatOk kinds w c v → SeatOk kinds w c (after_row_miss (row_place r) x v)
 noting_ok kinds quota c x r w v l pass k miss ok =
-    let free = (subst (HeldOk (length kinds) w c) pass ok.held).2 in let own_row : Bool = eqb (16 + r) (16 + v.number) in let number = ok.number in
+    let free = (subst (HeldOk (length kinds) w c) pass ok.held).2 in let own_row : Bool = eqb (row_place r) (row_place v.number) in let number = ok.number in
     let now : (own_row && waits_on x v.own) ≡ true → (q : AnyRequest) × (a : AnyAnswer) × (w.stage c ≡ answered q a) = λ b.
-    let both = and_parts own_row (waits_on x v.own) b in let eq = eqb-true (16 + r) (16 + v.number) both.0 in let same : r ≡ c = omega arith in
+    let both = and_parts own_row (waits_on x v.own) b in let eq = eqb-true (row_place r) (row_place v.number) both.0 in let same : r ≡ c = omega arith in
     noted kinds quota c x w v.own k free (subst (λ z. row_word (w.stage z) ≢ 1 + x) same miss) both.1 ok.own in
     seat_knowing (λ e. ⊎_elim ok.ready now (or_cases v.ready (own_row && waits_on x v.own) e)) ok.retired ok
 
@@ -171,51 +171,51 @@ module _ {S O R : Type 0} (content : S → Content) (op_in : O → AnyOp) (reply
 
   -- what a miss at the row r tells
   row_missed : (c x x' r r' : ℕ) (w : World) (m : Me (Slot S O R) View) (l l' : List AnyEntry) → m.0.held ≡ held.Pass x l → m.0.held ≡ held.Pass x' l' → r ≡ r' → row_word (w.stage r) ≢ 1 + x → SeatOk kinds w c m.0
-      → (◌≡◌ {A = Me (Slot S O R) View} (noting (16 + r) x m.0, m.1) (noting (16 + r) x' m.0, m.1)) × All (λ b. b.row ≢ r') m.0.back
+      → (◌≡◌ {A = Me (Slot S O R) View} (after_row_miss (row_place r) x m.0, m.1) (after_row_miss (row_place r) x' m.0, m.1)) × All (λ b. b.row ≢ r') m.0.back
   row_missed c x x' r r' w m l l' pass pass' er miss ok = let h = subst (HeldOk (length kinds) w c) pass ok.held in (
-    ap (λ z. (noting (16 + r) z m.0, m.1)) (ap held_object (sym pass ∙ pass')),
+    ap (λ z. (after_row_miss (row_place r) z m.0, m.1)) (ap held_object (sym pass ∙ pass')),
     λ i d l row. let z = ok.back i d l in let p = get_or m.0.back i d in let on : p.request.object ≡ x = h.4 p.request.object z.1 in
         miss (ap (λ j. row_word (w.stage j)) (er ∙ sym row) ∙ (ap row_word z.0 ∙ ap (λ n. 1 + n) on)),
   )
 
-  pub looks_at_it : (slots id x r : ℕ) (m : Me (Slot S O R) View) (l : List AnyEntry) → m.0.client ≡ true → r < 32 → m.0.held ≡ held.Pass x l
-      → Allows K slots id m (16 + r) (λ f. f) (play.looks_at_row content op_in reply_in (step slots (16 + r) 0 0 maybe.none) m)
-  looks_at_it slots id x r m l cl inside pass s k deep at small =
+  pub look_at_row_keeps_rule : (slots id x r : ℕ) (m : Me (Slot S O R) View) (l : List AnyEntry) → m.0.client ≡ true → r < 32 → m.0.held ≡ held.Pass x l
+      → Allows K slots id m (row_place r) (λ f. f) (play.looks_at_row content op_in reply_in (step slots (row_place r) 0 0 maybe.none) m)
+  look_at_row_keeps_rule slots id x r m l cl inside pass s k deep at small =
       let w : World = k.world in let c : ℕ = m.0.number in let ok = mine content op_in reply_in kinds clients quota s k id m.0 cl at in
-      let word : get_or s.words (16 + r) 0 ≡ row_word (w.stage r) = k.tied.rows r inside in dite (ℕ_discrete (get_or s.words (16 + r) 0) (1 + x))
+      let word : get_or s.words (row_place r) 0 ≡ row_word (w.stage r) = k.tied.rows r inside in dite (ℕ_discrete (get_or s.words (row_place r) 0) (1 + x))
       (λ hit. (
         m.0,
         keeps,
         tt,
-        looks content op_in reply_in kinds clients quota s k (16 + r) id m.0 m.1 cl at,
+        looks content op_in reply_in kinds clients quota s k (row_place r) id m.0 m.1 cl at,
         λ x' r' l' pass' e. let ex = ap held_object (sym pass ∙ pass') in ((λ _. refl), λ miss. absurd (miss (hit ∙ ap (λ z. 1 + z) ex))),
       ))
       (λ miss. (
-        noting (16 + r) x m.0,
+        after_row_miss (row_place r) x m.0,
         keeps,
         tt,
-        unmoved content op_in reply_in kinds clients quota s k (16 + r) id m.0 (noting (16 + r) x m.0) m.1 at cl alike (noting_ok kinds quota c x r w m.0 l pass k.sound (λ e. miss (word ∙ e)) ok),
+        unmoved content op_in reply_in kinds clients quota s k (row_place r) id m.0 (after_row_miss (row_place r) x m.0) m.1 at cl alike (noting_ok kinds quota c x r w m.0 l pass k.sound (λ e. miss (word ∙ e)) ok),
         λ x' r' l' pass' e. let ex = ap held_object (sym pass ∙ pass') in let er : r ≡ r' = omega arith in (
           (λ hit. absurd (miss (hit ∙ ap (λ z. 1 + z) (sym ex)))),
           λ _. row_missed c x x' r r' w m l l' pass pass' er (λ f. miss (word ∙ f)) ok,
         ),
       ))
 
-  pub picks_up : (slots id x r : ℕ) (m : Me (Slot S O R) View) (l : List AnyEntry) → m.0.client ≡ true → r < 32 → m.0.held ≡ held.Pass x l
-      → Allows K slots id m (16 + r) (λ f. either (eqb f (1 + x)) (17 + x) f) (play.picks content op_in reply_in (step slots (16 + r) (1 + x) (17 + x) maybe.none) m)
-  picks_up slots id x r m l cl inside pass s k deep at small =
+  pub pick_keeps_rule : (slots id x r : ℕ) (m : Me (Slot S O R) View) (l : List AnyEntry) → m.0.client ≡ true → r < 32 → m.0.held ≡ held.Pass x l
+      → Allows K slots id m (row_place r) (λ f. either (eqb f (1 + x)) (17 + x) f) (play.picks content op_in reply_in (step slots (row_place r) (1 + x) (17 + x) maybe.none) m)
+  pick_keeps_rule slots id x r m l cl inside pass s k deep at small =
       let w : World = k.world in let c : ℕ = m.0.number in let ok = mine content op_in reply_in kinds clients quota s k id m.0 cl at in let h = subst (HeldOk (length kinds) w c) pass ok.held in
       let few = k.tied.objects in let low : x < 16 = (let l₀ : x < length kinds = h.0 in omega arith) in
-      let word : get_or s.words (16 + r) 0 ≡ row_word (w.stage r) = k.tied.rows r inside in dite (ℕ_discrete (get_or s.words (16 + r) 0) (1 + x))
+      let word : get_or s.words (row_place r) 0 ≡ row_word (w.stage r) = k.tied.rows r inside in dite (ℕ_discrete (get_or s.words (row_place r) 0) (1 + x))
       (λ hit.
       let b = is_posted (w.stage r) x low (sym word ∙ hit) in let q : AnyRequest = b.0 in let t : Stage = picked q in
       let from : Waits q (w.stage r) = inl b.1 in let to : Waits q t = inr (inl refl) in let never : (p : AnyRequest) (a : AnyAnswer) → w.stage r ≢ answered p a = λ p a e. let f = sym b.1 ∙ e in absurd (cc) in
-      let home = subst (MessageAt content op_in reply_in (get_elem? s.homes (16 + r))) b.1 (k.tied.messages r inside) in
-      let v' : View = handling x l r q m.0 in let bs : List PutBack = v'.back in let fits = k.sound.fitting r q (ap request_of b.1) in (
+      let home = subst (CallAt content op_in reply_in (get_elem? s.homes (16 + r))) b.1 (k.tied.calls r inside) in
+      let v' : View = after_pick x l r q m.0 in let bs : List PutBack = v'.back in let fits = k.sound.fitting r q (ap request_of b.1) in (
         v',
         takes (16 + r) (slot.Request home.0),
         home.1,
-        subst (λ z. K (stepped s (16 + r) (either z (17 + x) (get_or s.words (16 + r) 0)) id m.1 v' (takes (16 + r) (slot.Request home.0)))) (sym (eq-eqb (get_or s.words (16 + r) 0) (1 + x) hit)) (kept_after content op_in reply_in kinds clients quota s k id m.0 v' at cl alike record {
+        subst (λ z. K (stepped s (row_place r) (either z (17 + x) (get_or s.words (row_place r) 0)) id m.1 v' (takes (16 + r) (slot.Request home.0)))) (sym (eq-eqb (get_or s.words (row_place r) 0) (1 + x) hit)) (kept_after content op_in reply_in kinds clients quota s k id m.0 v' at cl alike record {
           world = handed w x (Some r) r t;
           holders = k.holders;
           come = come_after clients w r t (k.come r (λ e. let f = sym b.1 ∙ e in absurd (cc))) k.come;
@@ -232,7 +232,7 @@ module _ {S O R : Type 0} (content : S → Content) (op_in : O → AnyOp) (reply
             home.0,
             ap (λ z. z.object) home.2 ∙ (b.2 ∙ ex),
             ap (λ z. kind_of z.op) home.2 ∙ (fits.0 ∙ (λ i. kind_at (sym ok.kinds_are i) ((b.2 ∙ ex) i))),
-            (λ i. (handling (ex i) (el i) (er i) (sym home.2 i) m.0, (16 + r, slot.Request home.0) ∷ m.1)),
+            (λ i. (after_pick (ex i) (el i) (er i) (sym home.2 i) m.0, (16 + er i, slot.Request home.0) ∷ m.1)),
             λ i d l row. let z = ok.back i d l in let p = get_or m.0.back i d in let f : posted p.request ≡ posted q = sym z.0 ∙ (ap w.stage (row ∙ sym er) ∙ b.1) in let same : p.request ≡ q = cc in same ∙ sym home.2,
             λ p here mine. home.2 ∙ own_posted p q m.0.own (w.stage c) ok.own mine (ap w.stage (sym here ∙ sym er) ∙ b.1),
           )),
@@ -240,11 +240,11 @@ module _ {S O R : Type 0} (content : S → Content) (op_in : O → AnyOp) (reply
         ),
       ))
       (λ miss. (
-        noting (16 + r) x m.0,
+        after_row_miss (row_place r) x m.0,
         keeps,
         tt,
-        subst (λ z. K (stepped s (16 + r) (either z (17 + x) (get_or s.words (16 + r) 0)) id m.1 (noting (16 + r) x m.0) keeps)) (sym (ne_eqb (get_or s.words (16 + r) 0) (1 + x) miss))
-            (unmoved content op_in reply_in kinds clients quota s k (16 + r) id m.0 (noting (16 + r) x m.0) m.1 at cl alike
+        subst (λ z. K (stepped s (row_place r) (either z (17 + x) (get_or s.words (row_place r) 0)) id m.1 (after_row_miss (row_place r) x m.0) keeps)) (sym (ne_eqb (get_or s.words (row_place r) 0) (1 + x) miss))
+            (unmoved content op_in reply_in kinds clients quota s k (row_place r) id m.0 (after_row_miss (row_place r) x m.0) m.1 at cl alike
             (noting_ok kinds quota c x r w m.0 l pass k.sound (λ e. miss (word ∙ e)) ok)),
         λ x' r' l' pass' e. let ex = ap held_object (sym pass ∙ pass') in let er : r ≡ r' = omega arith in (
           (λ hit. absurd (miss (hit ∙ ap (λ z. 1 + z) (sym ex)))),
@@ -259,17 +259,17 @@ module _ {S O R : Type 0} (content : S → Content) (op_in : O → AnyOp) (reply
       let b = k.in_hand y r e in let z : picked q ≡ picked b.0 = sym is ∙ b.1 in let same : q ≡ b.0 = cc in let here : y ≡ x = sym b.2 ∙ (ap (λ u. u.object) (sym same) ∙ on) in
       other (sym (same_Some c d (sym holds ∙ (ap w.holder (sym here) ∙ g))))
 
-  pub puts_back_it : (slots id x r n : ℕ) (m : Me (Slot S O R) View) (l : List AnyEntry) (q : AnyRequest) (p : Request O) (tl : List (ℕ × Slot S O R)) → m.0.client ≡ true → m.0.held ≡ held.Hand x l r q
+  pub put_back_keeps_rule : (slots id x r n : ℕ) (m : Me (Slot S O R) View) (l : List AnyEntry) (q : AnyRequest) (p : Request O) (tl : List (ℕ × Slot S O R)) → m.0.client ≡ true → m.0.held ≡ held.Hand x l r q
       → m.1 ≡ (16 + r, slot.Request p) ∷ tl → request_in op_in p ≡ q → q.object ≡ x → n ≡ 1 + x
-      → Allows K slots id m (16 + r) (λ _. n) (λ _. play.puts_back content op_in reply_in (step slots (16 + r) n 0 maybe.none) m n)
-  puts_back_it slots id x r n m l q p tl cl hand carried is on word s k deep at small =
+      → Allows K slots id m (row_place r) (λ _. n) (λ _. play.puts_back content op_in reply_in (step slots (row_place r) n 0 maybe.none) m n)
+  put_back_keeps_rule slots id x r n m l q p tl cl hand carried is on word s k deep at small =
       let w : World = k.world in let c : ℕ = m.0.number in let ok = mine content op_in reply_in kinds clients quota s k id m.0 cl at in let h = subst (HeldOk (length kinds) w c) hand ok.held in let t : Stage = posted q in
       let from : Waits q (w.stage r) = inr (inl h.6) in let to : Waits q t = inl refl in let never : (p : AnyRequest) (a : AnyAnswer) → w.stage r ≢ answered p a = λ p a e. let f = sym h.6 ∙ e in absurd (cc) in
-      let v' : View = putting_back x l r q m.0 in let bs : List PutBack = v'.back in let unposted : (p : AnyRequest) → w.stage r ≢ posted p = λ p e. let f = sym h.6 ∙ e in absurd (cc) in (
+      let v' : View = after_put_back x l r q m.0 in let bs : List PutBack = v'.back in let unposted : (p : AnyRequest) → w.stage r ≢ posted p = λ p e. let f = sym h.6 ∙ e in absurd (cc) in (
         v',
         gives,
         tt,
-        subst (λ cs. K record { words = set s.words (16 + r) n; homes = put_back s.homes cs; views = set s.views id v' }) (sym carried) (kept_after content op_in reply_in kinds clients quota s k id m.0 v' at cl alike record {
+        subst (λ cs. K record { words = set s.words (row_place r) n; homes = put_back s.homes cs; views = set s.views id v' }) (sym carried) (kept_after content op_in reply_in kinds clients quota s k id m.0 v' at cl alike record {
           world = handed w x None r t;
           holders = k.holders;
           come = come_after clients w r t (k.come r (λ e. let f = sym h.6 ∙ e in absurd (cc))) k.come;
@@ -280,7 +280,7 @@ module _ {S O R : Type 0} (content : S → Content) (op_in : O → AnyOp) (reply
           own = seat_row kinds w c r q t (changed w.hand x None) w.log m.0 (held.Pass x l) bs
               (All-push (InRow (changed w.stage r t) w.holder c) m.0.back (record { row = r; request = q }) (rows_stay w c r t m.0.back unposted ok.back) (changed_here w.stage r t, ap w.holder on ∙ h.1)) from to never (λ y. starts_same (w.log y)) ok (h.0, h.1, changed_here w.hand x None, h.3, h.4);
         }),
-        λ x' r' l' q' hand'. let e = sym hand ∙ hand' in λ i. (putting_back (ap held_object e i) (ap held_log e i) (ap held_row e i) (ap (held_request q) e i) m.0, rest m.1),
+        λ x' r' l' q' hand'. let e = sym hand ∙ hand' in λ i. (after_put_back (ap held_object e i) (ap held_log e i) (ap held_row e i) (ap (held_request q) e i) m.0, rest m.1),
       )
 
   grows : (w : World) (x : ℕ) (more : List AnyEntry) (y : ℕ) → StartsWith (changed w.log x (w.log x ++ more) y) (w.log y)
@@ -304,18 +304,18 @@ module _ {S O R : Type 0} (content : S → Content) (op_in : O → AnyOp) (reply
   answer_carried d (y ∷ ys) = answer_or d y.1
   answer_carried d [] = d
 
-  pub answers_it : (slots id x r : ℕ) (m : Me (Slot S O R) View) (l : List AnyEntry) (q : AnyRequest) (b : Answer R) (tl : List (ℕ × Slot S O R)) → m.0.client ≡ true → m.0.held ≡ held.Hand x l r q
+  pub answer_keeps_rule : (slots id x r : ℕ) (m : Me (Slot S O R) View) (l : List AnyEntry) (q : AnyRequest) (b : Answer R) (tl : List (ℕ × Slot S O R)) → m.0.client ≡ true → m.0.held ≡ held.Hand x l r q
       → m.1 ≡ (16 + r, slot.Answer b) ∷ tl → q.object ≡ x → IsLegal (kind_at m.0.kinds x) (l ++ logged r q (answer_in reply_in b))
-      → Allows K slots id m (16 + r) (λ _. 33) (λ _. play.answers content op_in reply_in (step slots (16 + r) 33 0 maybe.none) m 33)
-  answers_it slots id x r m l q b tl cl hand carried on legal s k deep at small =
+      → Allows K slots id m (row_place r) (λ _. 33) (λ _. play.answers content op_in reply_in (step slots (row_place r) 33 0 maybe.none) m 33)
+  answer_keeps_rule slots id x r m l q b tl cl hand carried on legal s k deep at small =
       let w : World = k.world in let c : ℕ = m.0.number in let ok = mine content op_in reply_in kinds clients quota s k id m.0 cl at in let h = subst (HeldOk (length kinds) w c) hand ok.held in
       let a : AnyAnswer = answer_in reply_in b in let t : Stage = answered q a in let more : List AnyEntry = logged r q a in
       let from : Waits q (w.stage r) = inr (inl h.6) in let to : Waits q t = inr (inr (a, refl)) in let never : (p : AnyRequest) (a : AnyAnswer) → w.stage r ≢ answered p a = λ p a e. let f = sym h.6 ∙ e in absurd (cc) in
       let legal' : IsLegal (kind_at kinds x) (w.log x ++ more) = subst (λ (z : List Kind × List AnyEntry). IsLegal (kind_at z.0 x) (z.1 ++ more)) (λ i. (ok.kinds_are i, sym h.3 i)) legal in (
-        answering r x (l ++ more) m.0,
+        after_answer r x (l ++ more) m.0,
         gives,
         tt,
-        subst (λ cs. K record { words = set s.words (16 + r) 33; homes = put_back s.homes cs; views = set s.views id (answering r x (l ++ more) m.0) }) (sym carried) (kept_after content op_in reply_in kinds clients quota s k id m.0 (answering r x (l ++ more) m.0) at cl alike record {
+        subst (λ cs. K record { words = set s.words (row_place r) 33; homes = put_back s.homes cs; views = set s.views id (after_answer r x (l ++ more) m.0) }) (sym carried) (kept_after content op_in reply_in kinds clients quota s k id m.0 (after_answer r x (l ++ more) m.0) at cl alike record {
           world = served_by w x r q a;
           holders = k.holders;
           come = come_after clients w r t (k.come r (λ e. let f = sym h.6 ∙ e in absurd (cc))) k.come;
@@ -327,5 +327,5 @@ module _ {S O R : Type 0} (content : S → Content) (op_in : O → AnyOp) (reply
           own = seat_answered w c x r q a m.0 (held.Pass x (l ++ more)) h.6 ok (h.0, h.1, changed_here w.hand x None, changed_here w.log x (w.log x ++ more) ∙ ap (λ z. z ++ more) h.3, h.4);
         }),
         λ x' r' i l' q' b' tl' hand' carried'. let e = sym hand ∙ hand' in let f = sym carried ∙ carried' in λ j.
-            (answering (ap held_row e j) (ap held_object e j) (ap held_log e j ++ logged (ap held_row e j) (ap (held_request q) e j) (answer_in reply_in (ap (answer_carried b) f j))) m.0, rest (carried' j)),
+            (after_answer (ap held_row e j) (ap held_object e j) (ap held_log e j ++ logged (ap held_row e j) (ap (held_request q) e j) (answer_in reply_in (ap (answer_carried b) f j))) m.0, rest (carried' j)),
       )

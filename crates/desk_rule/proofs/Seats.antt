@@ -20,11 +20,11 @@ use Rattle.desk_rule.specs.declared.board.Leaving.{Leaving}
 use Rattle.desk_rule.specs.declared.board.PutBack.{PutBack}
 use Rattle.desk_rule.specs.declared.board.View.{View}
 use Rattle.world.specs.World.{AnyEntry, AnyRequest, AnyAnswer, AnyDone, Stage, absent, posted, picked, answered, World, request_of, journal_of, journal_in, StartsWith}
-use Rattle.world.specs.Moves.{changed}
+use Rattle.world.specs.Transitions.{changed}
 use Rattle.world.specs.Sound.{Sound}
 use Rattle.world.proofs.Changed.{changed_all}
 use Rattle.world.proofs.Entries.{starts_longer, starts_same}
-use Rattle.desk_rule.specs.Views.{seen_of, heard_of, missing}
+use Rattle.desk_rule.specs.Views.{seen_of, received_of, after_miss}
 use Rattle.desk_rule.specs.Rule.{OwnOk, HeldOk, SeatOk, HasLeft, ViewOk, Makers, Tied, Kept}
 
 -- what the client c, which knows what it knows in w, needs of a step of another to w'
@@ -91,19 +91,19 @@ pub record Alike (v v' : View) : Type 0 where
   pub number : v'.number ≡ v.number
   pub maker : v'.maker ≡ v.maker
   pub made : v'.made ≡ v.made
-  pub heard : v'.heard ≡ v.heard
+  pub received : v'.received ≡ v.received
   pub left : v'.left ≡ v.left
   pub lists : v'.lists ≡ v.lists
 
 -- a view in which none of these changed
 pub alike : {v : View} {kinds : List Kind} {done : List AnyDone} {own : Own} {ready : Bool} {seen : List (List AnyEntry)} {back : List PutBack} {missed : List ℕ} {held : Held} {ended : Bool} {retired still_there : List ℕ}
     → Alike v (record v { kinds = kinds; done = done; own = own; ready = ready; seen = seen; back = back; missed = missed; held = held; ended = ended; retired = retired; still_there = still_there })
-alike = record { client = refl; number = refl; maker = refl; made = refl; heard = refl; left = refl; lists = refl }
+alike = record { client = refl; number = refl; maker = refl; made = refl; received = refl; left = refl; lists = refl }
 
 -- A client that was told more, missed more, and knows more of its row and of the ends of others. What it was told, has
 -- missed and has found there does not matter.
-pub seat_knowing : {kinds : List Kind} {w : World} {c : ℕ} {v : View} {ready : Bool} {heard : List (List AnyEntry)} {missed : List ℕ} {retired still_there : List ℕ} → (ready ≡ true → (q : AnyRequest) × (a : AnyAnswer) × (w.stage c ≡ answered q a))
-    → All (λ d. w.ended d ≡ true) retired → SeatOk kinds w c v → SeatOk kinds w c (record v { ready = ready; heard = heard; missed = missed; retired = retired; still_there = still_there })
+pub seat_knowing : {kinds : List Kind} {w : World} {c : ℕ} {v : View} {ready : Bool} {received : List (List AnyEntry)} {missed : List ℕ} {left : List Leaving} {retired still_there : List ℕ} → (ready ≡ true → (q : AnyRequest) × (a : AnyAnswer) × (w.stage c ≡ answered q a))
+    → All (λ d. w.ended d ≡ true) retired → SeatOk kinds w c v → SeatOk kinds w c (record v { ready = ready; received = received; missed = missed; left = left; retired = retired; still_there = still_there })
 seat_knowing ready retired ok = record {
   number = ok.number;
   small = ok.small;
@@ -130,8 +130,8 @@ seats_after kinds lists clients w w' so vs id v v' at cl alike makers before lea
     let unmade : (c : ℕ) → c ≢ v.number → (w.stage c ≡ absent) × (w.done c ≡ []) × (w.ended c ≡ false) × ((x : ℕ) → w.holder x ≢ Some c) → (w'.stage c ≡ absent) × (w'.done c ≡ []) × (w'.ended c ≡ false) × ((x : ℕ) → w'.holder x ≢ Some c) =
     λ c apart b. let o = others c apart in (o.own own.Absent b.0, o.done ∙ b.1, o.ended ∙ b.2, λ x f. b.3 x (o.holds x f)) in
     ⊎_elim (λ (t : (j ≡ id) × (v' ≡ u)). subst (λ (z : ℕ × View). ViewOk kinds lists w' so z.0 z.1) (λ i. (sym t.0 i, t.1 i)) record {
-      told = ok.seen;
-      heard = λ x. subst (λ z. StartsWith (w'.log x) (get_or z x [])) (sym alike.heard) (starts_longer (w'.log x) (w.log x) (heard_of v x) (logs x) ((before id v at).heard x));
+      seen = ok.seen;
+      received = λ x. subst (λ z. StartsWith (w'.log x) (get_or z x [])) (sym alike.received) (starts_longer (w'.log x) (w.log x) (received_of v x) (logs x) ((before id v at).received x));
       left = subst (All (HasLeft w')) (sym alike.left) (left_stays w w' v.left leave (before id v at).left);
       client = λ _. (ap so alike.number ∙ here.0, subst (λ z. SeatOk kinds w' z v') (sym alike.number) ok);
       unmade = λ is c l. let is' : v.maker ≡ true = sym alike.maker ∙ is in let l' : v.made ≤ c = subst (λ z. z ≤ c) alike.made l in unmade c (is_made c v id at is' l') ((before id v at).unmade is' c l');
@@ -140,8 +140,8 @@ seats_after kinds lists clients w w' so vs id v v' at cl alike makers before lea
       maker_lists = λ is. alike.lists ∙ (before id v at).lists_are cl;
     })
     (λ (t : (j ≢ id) × (get_elem? vs j ≡ some u)). let b = before j u t.1 in record {
-      told = λ x. starts_longer (w'.log x) (w.log x) (seen_of u x) (logs x) (b.told x);
-      heard = λ x. starts_longer (w'.log x) (w.log x) (heard_of u x) (logs x) (b.heard x);
+      seen = λ x. starts_longer (w'.log x) (w.log x) (seen_of u x) (logs x) (b.seen x);
+      received = λ x. starts_longer (w'.log x) (w.log x) (received_of u x) (logs x) (b.received x);
       left = left_stays w w' u.left leave b.left;
       client = λ is. let c = b.client is in (c.0, seat_stays kinds w w' u.number u leave (others u.number (λ g. t.0 (sym c.0 ∙ (ap so g ∙ here.0)))) c.1);
       unmade = λ is c l. unmade c (is_made c u j t.1 is l) (b.unmade is c l);
@@ -211,9 +211,9 @@ module _ {S O R : Type 0} (content : S → Content) (op_in : O → AnyOp) (reply
   unmoved s k i id v v' cs at cl alike ok = subst (λ (ws : List ℕ). Rule record { words = ws; homes = s.homes; views = set s.views id v' }) (sym (set-get_or s.words i 0))
       (kept_after s k id v v' at cl alike record { world = k.world; holders = k.holders; come = k.come; sound = k.sound; tied = k.tied; leave = λ d e. (e, refl); others = λ c _. same_later k.world c; own = ok })
 
-  pub misses : (s : St) (k : Rule s) (i id : ℕ) (v : View) (cs : List (ℕ × Slot S O R)) → v.client ≡ true → get_elem? s.views id ≡ some v → Rule (stepped s i (get_or s.words i 0) id cs (missing i v) keeps)
-  misses s k i id v cs cl at = let ok = mine s k id v cl at in unmoved s k i id v (missing i v) cs at cl alike (seat_knowing ok.ready ok.retired ok)
+  pub misses : (s : St) (k : Rule s) (i id : ℕ) (v : View) (cs : List (ℕ × Slot S O R)) → v.client ≡ true → get_elem? s.views id ≡ some v → Rule (stepped s i (get_or s.words i 0) id cs (after_miss i v) keeps)
+  misses s k i id v cs cl at = let ok = mine s k id v cl at in unmoved s k i id v (after_miss i v) cs at cl alike (seat_knowing ok.ready ok.retired ok)
 
   -- a look that tells nothing
   pub looks : (s : St) (k : Rule s) (i id : ℕ) (v : View) (cs : List (ℕ × Slot S O R)) → v.client ≡ true → get_elem? s.views id ≡ some v → Rule (stepped s i (get_or s.words i 0) id cs v keeps)
-  looks s k i id v cs cl at = unmoved s k i id v v cs at cl record { client = refl; number = refl; maker = refl; made = refl; heard = refl; left = refl; lists = refl } (mine s k id v cl at)
+  looks s k i id v cs cl at = unmoved s k i id v v cs at cl record { client = refl; number = refl; maker = refl; made = refl; received = refl; left = refl; lists = refl } (mine s k id v cl at)

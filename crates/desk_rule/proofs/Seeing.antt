@@ -11,7 +11,7 @@ use Rattle.world.specs.declared.Answer.TheVariants.{Reply, Refused}
 use Rattle.world.specs.World.{AnyEntry, AnyRequest, AnyAnswer, AnyDone, Stage, posted, picked, answered, World, logged, logged_on, entries_of, served, served_now, StartsWith}
 use Rattle.world.specs.Sound.{Sound}
 use Rattle.world.proofs.Entries.{entries-append}
-use Rattle.desk_rule.specs.Views.{owed, seeing, IsAtRest, MayHold, IsAccount}
+use Rattle.desk_rule.specs.Views.{owed, after_meet, IsAtRest, MayHold, IsAccount}
 use Rattle.desk_rule.specs.Rule.{OwnOk, SeatOk}
 
 -- what is owed to a client stands in the log
@@ -38,7 +38,7 @@ seen_all P seen x l low here others y = dite (ℕ_discrete y x)
 
 -- the client sees the list l of the object x
 pub saw : (kinds : List Kind) (w : World) (c x : ℕ) (v : View) (l : List AnyEntry) → x < 16 → StartsWith (w.log x) l → StartsWith (entries_of c l) (served x c v.done ++ owed x c v.own)
-    → SeatOk kinds w c v → SeatOk kinds w c (seeing x l v)
+    → SeatOk kinds w c v → SeatOk kinds w c (after_meet x l v)
 saw kinds w c x v l low begins covers ok = let wide = ok.wide_seen in record {
   number = ok.number;
   small = ok.small;

@@ -1,5 +1,5 @@
--- The rule of the desk's table. Word x is the lock of object x, 16 + c the row of client c, 48 + c its end, and 80 the
--- clock. Slot x is the core of object x, 16 + c the request or answer of client c, and 48 + c its journal.
+-- The rule of the desk's table. Word x is the lock of object x; the places of the rows, the ends and the clock have names.
+-- Slot x is the core of object x, 16 + c the request or answer of client c, and 48 + c its journal.
 use Rattle.std.specs.Prelude.{◌≡◌, ◌≢◌, ◌⊎◌, ℕ, ◌+◌, ◌<◌, ◌≤◌, Bool, true, false, List, [], ◌++◌, map, length, slice_index, Option, Some, None, All}
 use mathlib.Core.Option.{some}
 use mathlib.Core.Option as maybe
@@ -25,7 +25,7 @@ use Rattle.world.specs.declared.Answer.{Answer}
 use Rattle.world.specs.World.{AnyEntry, AnyRequest, AnyAnswer, AnyDone, Stage, absent, idle, drawn, posted, picked, answered, taken, World, kind_at, entries_of, served, request_of, journal_of, journal_in, Replays, StartsWith}
 use Rattle.world.specs.Sound.{Sound}
 use Rattle.world.specs.Images.{request_in, answer_in, entry_in, event_in}
-use Rattle.desk_rule.specs.Views.{seen_of, heard_of, owed}
+use Rattle.desk_rule.specs.Views.{row_place, end_place, clock_place, seen_of, received_of, owed}
 
 -- a place for a slot's value, which may be out
 abbrev pub Home : (S O R : Type 0) → Type 0
@@ -85,10 +85,10 @@ pub record SeatOk (kinds : List Kind) (w : World) (c : ℕ) (v : View) : Type 0 
 abbrev pub HasLeft : World → Leaving → Type 0
 HasLeft w l = (w.ended l.client ≡ true) × (journal_in w l.client ≡ l.journal)
 
--- any view: a client's, the maker's, or a letter
+-- any view: a client's, the maker's, or a message
 pub record ViewOk (kinds : List Kind) (lists : List TableId) (w : World) (seat_of : ℕ → ℕ) (j : ℕ) (v : View) : Type 0 where
-  pub told : (x : ℕ) → StartsWith (w.log x) (seen_of v x)
-  pub heard : (x : ℕ) → StartsWith (w.log x) (heard_of v x)
+  pub seen : (x : ℕ) → StartsWith (w.log x) (seen_of v x)
+  pub received : (x : ℕ) → StartsWith (w.log x) (received_of v x)
   pub left : All (HasLeft w) v.left
   pub client : v.client ≡ true → (seat_of v.number ≡ j) × SeatOk kinds w v.number v
   pub unmade : v.maker ≡ true → (c : ℕ) → v.made ≤ c → (w.stage c ≡ absent) × (w.done c ≡ []) × (w.ended c ≡ false) × ((x : ℕ) → w.holder x ≢ Some c)
@@ -112,11 +112,11 @@ module _ {S O R : Type 0} (content : S → Content) (op_in : O → AnyOp) (reply
   CoreAt kind list home log = (k : Core S O R) × (home ≡ some (some (slot.Core k))) × Fits kind list k log
 
   -- the slot of a client's request or answer
-  abbrev pub MessageAt : Home S O R → Stage → Type 0
-  MessageAt home absent = home ≡ some (some slot.Nothing)
-  MessageAt home (posted q) = (p : Request O) × (home ≡ some (some (slot.Request p))) × (request_in op_in p ≡ q)
-  MessageAt home (answered q a) = (b : Answer R) × (home ≡ some (some (slot.Answer b))) × (answer_in reply_in b ≡ a)
-  MessageAt home t = Unit {0}
+  abbrev pub CallAt : Home S O R → Stage → Type 0
+  CallAt home absent = home ≡ some (some slot.Nothing)
+  CallAt home (posted q) = (p : Request O) × (home ≡ some (some (slot.Request p))) × (request_in op_in p ≡ q)
+  CallAt home (answered q a) = (b : Answer R) × (home ≡ some (some (slot.Answer b))) × (answer_in reply_in b ≡ a)
+  CallAt home t = Unit {0}
 
   -- the slot of a client's journal: empty until the client has come, and out until it has ended
   pub record JournalAt (home : Home S O R) (t : Stage) (ds : List AnyDone) (ended : Bool) : Type 0 where
@@ -129,11 +129,11 @@ module _ {S O R : Type 0} (content : S → Content) (op_in : O → AnyOp) (reply
     pub deep : length homes ≡ 80
     pub objects : length kinds < 17
     pub locks : (x : ℕ) → x < length kinds → slice_index words x ≡ lock_word (w.holder x)
-    pub rows : (r : ℕ) → r < 32 → slice_index words (16 + r) ≡ row_word (w.stage r)
-    pub ends : (c : ℕ) → c < 32 → slice_index words (48 + c) ≡ end_word (w.ended c)
-    pub clock : slice_index words 80 ≡ w.clock
+    pub rows : (r : ℕ) → r < 32 → slice_index words (row_place r) ≡ row_word (w.stage r)
+    pub ends : (c : ℕ) → c < 32 → slice_index words (end_place c) ≡ end_word (w.ended c)
+    pub clock : slice_index words clock_place ≡ w.clock
     pub cores : (x : ℕ) → x < length kinds → w.holder x ≡ None → CoreAt (kind_at kinds x) (get_elem? lists x) (get_elem? homes x) (w.log x)
-    pub messages : (r : ℕ) → r < 32 → MessageAt (get_elem? homes (16 + r)) (w.stage r)
+    pub calls : (r : ℕ) → r < 32 → CallAt (get_elem? homes (16 + r)) (w.stage r)
     pub journals : (c : ℕ) → c < 32 → JournalAt (get_elem? homes (48 + c)) (w.stage c) (w.done c) (w.ended c)
 
   -- the rule: there is a sound world to which words, slots and views are tied

@@ -9,26 +9,39 @@ use Rattle.desk_rule.specs.declared.board.Leaving.{Leaving}
 use Rattle.desk_rule.specs.declared.board.View.{View}
 use Rattle.world.specs.World.{AnyEntry, AnyRequest, AnyAnswer, AnyEvent, logged_on, entries_of, served, journal_of}
 
+-- Where the words of the table stand: first the locks, by the number of the object, then the rows and the ends of the
+-- clients, and the clock last.
+abbrev pub row_place : ℕ → ℕ
+row_place c = 16 + c
+
+abbrev pub end_place : ℕ → ℕ
+end_place c = 48 + c
+
+abbrev pub clock_place : ℕ
+clock_place = 80
+
 -- a client that has not come yet
-abbrev pub newcomer : List Kind → List TableId → ℕ → View
-newcomer kinds lists c = record { client = true; number = c; maker = false; made = 0; kinds = kinds; lists = lists; done = []; own = own.Absent; ready = false; seen = replicate 16 []; heard = []; back = []; missed = []; held = held.Free; ended = false; left = []; retired = []; still_there = [] }
+abbrev pub new_client : List Kind → List TableId → ℕ → View
+new_client kinds lists c = record { client = true; number = c; maker = false; made = 0; kinds = kinds; lists = lists; done = []; own = own.Absent; ready = false; seen = replicate 16 []; received = []; back = []; missed = []; held = held.Free; ended = false; left = []; retired = []; still_there = [] }
 
 -- the first view is no client's, and makes the clients
-abbrev pub founder_of : List Kind → List TableId → ℕ → View
-founder_of kinds lists n = record (newcomer kinds lists 0) { client = false; maker = true; made = n }
+abbrev pub maker_of : List Kind → List TableId → ℕ → View
+maker_of kinds lists n = record (new_client kinds lists 0) { client = false; maker = true; made = n }
 
-abbrev pub founder : List Kind → List TableId → View
-founder kinds lists = founder_of kinds lists 0
+abbrev pub first_maker : List Kind → List TableId → View
+first_maker kinds lists = maker_of kinds lists 0
 
-abbrev pub one_made : View → View
-one_made v = record v { made = v.made + 1 }
+-- one client more is made
+abbrev pub after_making : View → View
+after_making v = record v { made = v.made + 1 }
 
 -- what the client has seen of the object x: a beginning of its log
 abbrev pub seen_of : View → ℕ → List AnyEntry
 seen_of v x = slice_index_or v.seen x []
 
-abbrev pub heard_of : View → ℕ → List AnyEntry
-heard_of v x = slice_index_or v.heard x []
+-- what another client had seen of the object x, by its message
+abbrev pub received_of : View → ℕ → List AnyEntry
+received_of v x = slice_index_or v.received x []
 
 -- the call that is not over, as the client knows it
 abbrev pub own_request : Own → Option AnyRequest
@@ -73,81 +86,86 @@ is_waiting (own.Waiting q) = true
 is_waiting o = false
 
 -- one more exchange missed at this word
-abbrev pub missing : ℕ → View → View
-missing i v = record v { missed = v.missed ++ i ∷ [] }
+abbrev pub after_miss : ℕ → View → View
+after_miss i v = record v { missed = v.missed ++ i ∷ [] }
 
 -- The row word i had no request for x. At the own row, a request for x is then answered.
-abbrev pub noting : ℕ → ℕ → View → View
-noting i x v = record v { missed = v.missed ++ i ∷ []; ready = v.ready || ((i == 16 + v.number) && waits_on x v.own) }
+abbrev pub after_row_miss : ℕ → ℕ → View → View
+after_row_miss i x v = record v { missed = v.missed ++ i ∷ []; ready = v.ready || ((i == row_place v.number) && waits_on x v.own) }
 
 -- the object x is held, and this is its log
-abbrev pub holding : ℕ → List AnyEntry → View → View
-holding x l v = record v { held = held.Pass x l }
+abbrev pub after_win : ℕ → List AnyEntry → View → View
+after_win x l v = record v { held = held.Pass x l }
 
 -- the request q of the row r is in hand
-abbrev pub handling : ℕ → List AnyEntry → ℕ → AnyRequest → View → View
-handling x l r q v = record v { held = held.Hand x l r q; back = filter (λ b. not (b.row == r)) v.back }
+abbrev pub after_pick : ℕ → List AnyEntry → ℕ → AnyRequest → View → View
+after_pick x l r q v = record v { held = held.Hand x l r q; back = filter (λ b. not (b.row == r)) v.back }
 
 -- the request q of the row r was put back, and x is held with this log
-abbrev pub putting_back : ℕ → List AnyEntry → ℕ → AnyRequest → View → View
-putting_back x l r q v = record v { held = held.Pass x l; back = v.back ++ record { row = r; request = q } ∷ [] }
+abbrev pub after_put_back : ℕ → List AnyEntry → ℕ → AnyRequest → View → View
+after_put_back x l r q v = record v { held = held.Pass x l; back = v.back ++ record { row = r; request = q } ∷ [] }
 
 -- the row r is answered, and the object x has this log
-abbrev pub answering : ℕ → ℕ → List AnyEntry → View → View
-answering r x l v = record v { held = held.Pass x l; ready = v.ready || (r == v.number) }
+abbrev pub after_answer : ℕ → ℕ → List AnyEntry → View → View
+after_answer r x l v = record v { held = held.Pass x l; ready = v.ready || (r == v.number) }
 
 -- the object x is put back with this log
-abbrev pub learnt : ℕ → List AnyEntry → View → View
-learnt x l v = record v { held = held.Free; back = []; seen = slice_set v.seen x l }
+abbrev pub after_release : ℕ → List AnyEntry → View → View
+after_release x l v = record v { held = held.Free; back = []; seen = slice_set v.seen x l }
 
-abbrev pub calling : Own → View → View
-calling o v = record v { own = o }
+-- the own call has come to this point
+abbrev pub with_own : Own → View → View
+with_own o v = record v { own = o }
 
 -- the own call is answered, and this log of its object was seen
-abbrev pub taking : AnyRequest → AnyAnswer → List AnyEntry → View → View
-taking q a l v = record v { own = own.Taken q a; ready = false; seen = slice_set v.seen q.object l }
+abbrev pub after_take : AnyRequest → AnyAnswer → List AnyEntry → View → View
+after_take q a l v = record v { own = own.Taken q a; ready = false; seen = slice_set v.seen q.object l }
 
 -- the own call is over, and its return has the ticket t
-abbrev pub done_with : AnyRequest → AnyAnswer → ℕ → View → View
-done_with q a t v = record v { own = own.Idle; done = v.done ++ record { request = q; answer = a; returned = t } ∷ [] }
+abbrev pub after_return : AnyRequest → AnyAnswer → ℕ → View → View
+after_return q a t v = record v { own = own.Idle; done = v.done ++ record { request = q; answer = a; returned = t } ∷ [] }
 
 -- The own call, which had its ticket, was served by the client itself while it held the object, whose log is this now: it is
 -- over, and its return has the ticket t.
-abbrev pub performing : AnyRequest → AnyAnswer → List AnyEntry → ℕ → View → View
-performing q a l t v = record (done_with q a t (taking q a l v)) { held = held.Pass q.object l }
+abbrev pub after_perform : AnyRequest → AnyAnswer → List AnyEntry → ℕ → View → View
+after_perform q a l t v = record (after_return q a t (after_take q a l v)) { held = held.Pass q.object l }
 
-abbrev pub seeing : ℕ → List AnyEntry → View → View
-seeing x l v = record v { seen = slice_set v.seen x l }
+-- this log of the object x was seen
+abbrev pub after_meet : ℕ → List AnyEntry → View → View
+after_meet x l v = record v { seen = slice_set v.seen x l }
 
-abbrev pub ending : View → View
-ending v = record v { ended = true }
+-- the client has ended
+abbrev pub after_end : View → View
+after_end v = record v { ended = true }
 
 -- what the client says of its own end
-abbrev pub leaving : View → Leaving
-leaving v = record { client = v.number; journal = journal v }
+abbrev pub end_notice : View → Leaving
+end_notice v = record { client = v.number; journal = journal v }
 
--- clients that have ended told of it
-abbrev pub told_of : List Leaving → View → View
-told_of ls v = record v { left = v.left ++ ls }
+-- what clients that have ended said of it has come
+abbrev pub after_notice : List Leaving → View → View
+after_notice ls v = record v { left = v.left ++ ls }
 
 -- the client d was found to have ended
-abbrev pub knowing_end : ℕ → View → View
-knowing_end d v = record v { retired = v.retired ++ d ∷ [] }
+abbrev pub after_end_seen : ℕ → View → View
+after_end_seen d v = record v { retired = v.retired ++ d ∷ [] }
 
 -- the client d was looked for, and had not ended
-abbrev pub finding_there : ℕ → View → View
-finding_there d v = record v { still_there = v.still_there ++ d ∷ [] }
+abbrev pub after_end_unset : ℕ → View → View
+after_end_unset d v = record v { still_there = v.still_there ++ d ∷ [] }
 
 -- a view that only carries what v has seen
-abbrev pub letter : View → View
-letter v = record (newcomer [] [] 0) { client = false; seen = v.seen }
+abbrev pub seen_message : View → View
+seen_message v = record (new_client [] [] 0) { client = false; seen = v.seen }
 
-abbrev pub hearing : View → View → View
-hearing v t = record v { heard = t.seen }
+-- the message t has come
+abbrev pub after_message : View → View → View
+after_message v t = record v { received = t.seen }
 
-abbrev pub silent : View
-silent = record (newcomer [] [] 0) { client = false }
+-- a message that says nothing, as each is after it has come
+abbrev pub empty_message : View
+empty_message = record (new_client [] [] 0) { client = false }
 
 -- a view that only carries the end of v
-abbrev pub farewell : View → View
-farewell v = record silent { left = leaving v ∷ [] }
+abbrev pub end_message : View → View
+end_message v = record empty_message { left = end_notice v ∷ [] }

@@ -71,7 +71,7 @@ pub struct PutBack {
     pub request: Request<AnyOp>,
 }
 
-/// What a client that has ended told of it.
+/// What a client that has ended says of it.
 pub struct Leaving {
     pub client: u32,
     pub journal: LinkedList<JournalEvent<AnyOp, AnyReply>>,
@@ -97,15 +97,15 @@ pub struct View {
     pub ready: bool,
     /// Of each object, by its number, a beginning of its log.
     pub seen: LinkedList<LinkedList<LogEntry<AnyOp, AnyReply>>>,
-    /// The same, as another client told it.
-    pub heard: LinkedList<LinkedList<LogEntry<AnyOp, AnyReply>>>,
+    /// The same, of another client, from its message.
+    pub received: LinkedList<LinkedList<LogEntry<AnyOp, AnyReply>>>,
     /// The requests that were put back into their rows while the object is held.
     pub back: LinkedList<PutBack>,
     /// The words at which an exchange missed.
     pub missed: LinkedList<u64>,
     pub held: Held,
     pub ended: bool,
-    /// What clients that have ended told.
+    /// What clients that have ended said of it.
     pub left: LinkedList<Leaving>,
     /// The clients that were found to have ended.
     pub retired: LinkedList<u32>,
@@ -127,9 +127,9 @@ pub struct DeskRule;
 
 impl<S: SeqObject> TableRule<Slot<S, S::Op, S::Reply>, View, Plan> for DeskRule {
     ghost use Rattle.desk_rule.specs.Rule.{Kept};
-    ghost use Rattle.desk_rule.specs.Views.{founder};
+    ghost use Rattle.desk_rule.specs.Views.{first_maker};
 
     ghost holds = { λ k. Kept S.content S.op_in S.reply_in k.kinds.items k.clients k.quota };
 
-    ghost first = { λ k. founder k.kinds.items k.lists.items };
+    ghost first = { λ k. first_maker k.kinds.items k.lists.items };
 }

@@ -11,7 +11,7 @@ use Rattle.world.specs.World as world
 use Rattle.model.specs.declared.AnyOp.{AnyOp}
 use Rattle.world.specs.declared.JournalEvent.TheVariants.{Returned}
 use Rattle.world.specs.World.{AnyRequest, AnyAnswer, AnyDone, AnyEvent, World, Stage, AnyEntry, kind_at, logged, Serves, request_of, invoked, calls_made, journal_of, journal_in, Replays}
-use Rattle.world.specs.Moves.{Step, Takes, Moves, MayEnd, HoldsNothing, changed, staged, ticked, held_by, handed, ended_by, served_by, draw_call, draw_return, answer, win, release, end}
+use Rattle.world.specs.Transitions.{Step, Takes, Transition, MayEnd, HoldsNothing, changed, staged, ticked, held_by, handed, ended_by, served_by, draw_call, draw_return, answer, win, release, end}
 use Rattle.world.proofs.Changed.{changed_here, changed_else, changed_all}
 use Rattle.machine.specs.declared.step.Stage.TheVariants.{Idle, Drawn, Posted, Picked, Answered, Taken}
 use Rattle.machine.specs.Machines.{State, AnyStage, HasRun, IsMachine, clients_of, world_of, stage_of, done_in}
@@ -22,8 +22,8 @@ use Rattle.machine.proofs.Lists.{get_or-set, slice_get-set_same, slice_get-set_o
 use Rattle.machine.proofs.States.{world-staged, world-ticked, world-held, world-handed, world-served, world-ended}
 use Rattle.machine.proofs.Journals.{done_in-journal_of, journal_called, journal_returned}
 
-leads_more : (kinds : List Kind) (quota : ℕ) (w : World) (ms : List (ℕ × Step)) (m : ℕ × Step) (between after : World) → Leads kinds quota w ms between → Moves kinds quota m.1 between m.0 after → Leads kinds quota w (ms ++ m ∷ []) after
-leads_more kinds quota w [] m between after l h = (after, subst (λ z. Moves kinds quota m.1 z m.0 after) l h, refl)
+leads_more : (kinds : List Kind) (quota : ℕ) (w : World) (ms : List (ℕ × Step)) (m : ℕ × Step) (between after : World) → Leads kinds quota w ms between → Transition kinds quota m.1 between m.0 after → Leads kinds quota w (ms ++ m ∷ []) after
+leads_more kinds quota w [] m between after l h = (after, subst (λ z. Transition kinds quota m.1 z m.0 after) l h, refl)
 leads_more kinds quota w (n ∷ ns) m between after l h = (l.0, l.1, leads_more kinds quota l.0 ns m between after l.2 h)
 
 -- what is said of one state is said of the same under another name
@@ -37,7 +37,7 @@ pub going_of : (s t : State) (c : ℕ) → s ≡ t → IsGoing t c → IsGoing s
 going_of s t c e h = subst (λ (z : State). IsGoing z c) (sym e) h
 
 -- one more transition of a run
-pub run_more : (kinds : List Kind) (n quota : ℕ) (step : Step) (w after : World) (c : ℕ) → IsWorldOfRun kinds n quota w → Moves kinds quota step w c after → IsWorldOfRun kinds n quota after
+pub run_more : (kinds : List Kind) (n quota : ℕ) (step : Step) (w after : World) (c : ℕ) → IsWorldOfRun kinds n quota w → Transition kinds quota step w c after → IsWorldOfRun kinds n quota after
 run_more kinds n quota step w after c r h = (r.0 ++ (c, step) ∷ [], leads_more kinds quota _ r.0 (c, step) w after r.1 h)
 
 -- a step of a machine is one
@@ -81,12 +81,12 @@ pub record Keeps (contents : List Content) (s : State) : Type 0 where
 
 module _ (contents : List Content) (s : State) (m : IsMachine contents s) (c : ℕ) (go : IsGoing s c) where
   -- what a client that is going takes is a transition
-  moves_on : (w : Step) (after : World) → Takes s.kinds s.quota w (world_of s) c after → Moves s.kinds s.quota w (world_of s) c after
+  moves_on : (w : Step) (after : World) → Takes s.kinds s.quota w (world_of s) c after → Transition s.kinds s.quota w (world_of s) c after
   moves_on w after t = let low = go.0 in let few = m.few_clients in (omega arith, go.1, is_there s.stages c low, t)
 
   pub kept : (contents' : List Content) (s' : State) (w : Step) → IsLike s s' → Takes s.kinds s.quota w (world_of s) c (world_of s') → Keeps contents' s' → IsMachine contents' s' × IsTaken s c w s'
   kept contents' s' w like takes keeps =
-      let moved : Moves s.kinds s.quota w (world_of s) c (world_of s') = moves_on w (world_of s') takes in
+      let moved : Transition s.kinds s.quota w (world_of s) c (world_of s') = moves_on w (world_of s') takes in
       let ek = like.kinds in let eq = like.quota in let el = like.logs in let eh = like.holders in let ea = like.hands in let es = like.stages in let ej = like.journals in let ee = like.ended in
       let ml = m.logs in let mh = m.holders in let ma = m.hands in let mj = m.journals in let me = m.ended in let fo = m.few_objects in let fc = m.few_clients in let fq = m.few_calls in
       let same_kinds : length s'.kinds ≡ length s.kinds = ap (λ (ks : List Kind). length ks) ek in

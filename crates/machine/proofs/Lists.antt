@@ -5,7 +5,7 @@ use Rattle.std.proofs.lemmas.Option.{same_Some}
 use mathlib.Core.Logic.{dite}
 use native.Mathlib.Decide.{ℕ_discrete}
 use Rattle.std.proofs.lemmas.Bool.{cases_order}
-use Rattle.world.specs.Moves.{changed}
+use Rattle.world.specs.Transitions.{changed}
 use Rattle.world.proofs.Changed.{changed_here, changed_else}
 
 -- what no number below the length finds, no number finds

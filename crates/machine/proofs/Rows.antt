@@ -11,7 +11,7 @@ use Rattle.model.specs.Objects.{Content, kind_of, kind_with, next}
 use Rattle.recorder.specs.Records.{items_of}
 use Rattle.world.specs.World as world
 use Rattle.world.specs.World.{AnyRequest, AnyAnswer, World, kind_at, calls_made, logged, Serves, request_of}
-use Rattle.world.specs.Moves.{Step, Takes, MayEnd, HoldsNothing, staged, draw_call, draw_return, post, take, win, release, end, pick, put_back, answer}
+use Rattle.world.specs.Transitions.{Step, Takes, MayEnd, HoldsNothing, staged, draw_call, draw_return, post, take, win, release, end, pick, put_back, answer}
 use Rattle.world.specs.Images.{request_in, answer_in, entry_in, event_in}
 use Rattle.world.specs.declared.LogEntry.{LogEntry}
 use Rattle.world.specs.declared.JournalEvent.{JournalEvent}

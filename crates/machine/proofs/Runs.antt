@@ -4,10 +4,10 @@ use Rattle.std.proofs.lemmas.List.Elements.{All-nil}
 use Rattle.model.specs.declared.Kind.{Kind}
 use Rattle.model.specs.Objects.{empty}
 use Rattle.world.specs.World.{AnyEntry, AnyRequest, Stage, absent, idle, picked, World, kind_at, request_of, served_now, journal_of, ticket_of, tickets_drawn, calls_made}
-use Rattle.world.specs.Moves.{Step}
+use Rattle.world.specs.Transitions.{Step}
 use Rattle.world.specs.Sound.{Sound, IsAmong, IsInTime}
-use Rattle.world.proofs.Moving.{moves_sound}
-use Rattle.world.proofs.Moved.{clock_few}
+use Rattle.world.proofs.Transitions.{transition_keeps_soundness}
+use Rattle.world.proofs.Effects.{clock_few}
 use Rattle.world.proofs.Totals.{total_le}
 use Rattle.machine.specs.Runs.{start_of, Leads, IsWorldOfRun}
 
@@ -53,7 +53,7 @@ start_sound kinds quota n = record {
 
 leads_sound : (kinds : List Kind) (quota : ℕ) (w : World) (ms : List (ℕ × Step)) (after : World) → Leads kinds quota w ms after → Sound kinds quota w → Sound kinds quota after
 leads_sound kinds quota w [] after l k = subst (Sound kinds quota) (sym l) k
-leads_sound kinds quota w (m ∷ ms) after l k = leads_sound kinds quota l.0 ms after l.2 (moves_sound kinds quota m.1 w l.0 m.0 l.1 k)
+leads_sound kinds quota w (m ∷ ms) after l k = leads_sound kinds quota l.0 ms after l.2 (transition_keeps_soundness kinds quota m.1 w l.0 m.0 l.1 k)
 
 pub run_sound : (kinds : List Kind) (n quota : ℕ) (w : World) → IsWorldOfRun kinds n quota w → Sound kinds quota w
 run_sound kinds n quota w r = leads_sound kinds quota (start_of n) r.0 w r.1 (start_sound kinds quota n)

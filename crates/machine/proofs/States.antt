@@ -3,7 +3,7 @@ use Rattle.std.proofs.Common.{◌≡◌, ℕ, ◌+◌, ◌<◌, List, [], ◌++�
 use Rattle.std.proofs.lemmas.List.{map-set, length-map}
 use Rattle.world.specs.World as world
 use Rattle.world.specs.World.{AnyEntry, AnyRequest, AnyAnswer, AnyEvent, World, logged}
-use Rattle.world.specs.Moves.{changed, staged, ticked, held_by, handed, served_by, ended_by}
+use Rattle.world.specs.Transitions.{changed, staged, ticked, held_by, handed, served_by, ended_by}
 use Rattle.machine.specs.declared.step.Stage.TheVariants.{Answered}
 use Rattle.machine.specs.Machines.{State, AnyStage, world_of, stage_of, done_in}
 use Rattle.machine.proofs.Lists.{get_or-set, get_or-set_by}

@@ -4,8 +4,8 @@ use Rattle.model.specs.declared.AnyOp.{AnyOp}
 use Rattle.model.specs.declared.AnyReply.{AnyReply}
 use Rattle.model.specs.Objects.{Content, empty, kind_of, next}
 use Rattle.world.specs.World.{World, AnyRequest, picked, answered, kind_at, Replays}
-use Rattle.world.specs.Moves as world
-use Rattle.world.specs.Moves.{Moves}
+use Rattle.world.specs.Transitions as world
+use Rattle.world.specs.Transitions.{Transition}
 use Rattle.world.specs.Images.{answer_in}
 use Rattle.machine.specs.declared.step.Step.{Step}
 use Rattle.machine.specs.declared.step.Step.TheVariants as step
@@ -46,7 +46,7 @@ CanDo s x op = (content : Content) × Replays (empty (kind_at s.kinds x)) ((worl
 
 -- the client c can take the step
 abbrev pub IsPossible : State → ℕ → world.Step → Type 0
-IsPossible s c w = (after : World) × Moves s.kinds s.quota w (world_of s) c after
+IsPossible s c w = (after : World) × Transition s.kinds s.quota w (world_of s) c after
 
 -- the client c has left
 abbrev pub HasEnded : State → ℕ → Type 0
@@ -60,7 +60,7 @@ pub record IsLike (s s' : State) : Type 0 where
 
 -- the client c took the step, and objects, clients and quota are the same
 pub record IsTaken (s : State) (c : ℕ) (w : world.Step) (s' : State) : Type 0 where
-  pub moves : Moves s.kinds s.quota w (world_of s) c (world_of s')
+  pub moves : Transition s.kinds s.quota w (world_of s) c (world_of s')
   pub kinds : s'.kinds ≡ s.kinds
   pub clients : clients_of s' ≡ clients_of s
   pub quota : s'.quota ≡ s.quota

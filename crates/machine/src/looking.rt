@@ -3,7 +3,7 @@
 ghost use Rattle.std.specs.Prelude.{◌≡◌, ◌≢◌, ◌↔◌, ℕ, ◌+◌, ◌<◌, false, [], length, slice_index_or, IsTrue, IfSome, IfNone, Some, None};
 ghost use Rattle.model.specs.Objects.{kind_of};
 ghost use Rattle.world.specs.World.{AnyRequest, idle, posted, picked, kind_at, calls_made};
-ghost use Rattle.world.specs.Moves.{HoldsNothing, MayEnd};
+ghost use Rattle.world.specs.Transitions.{HoldsNothing, MayEnd};
 ghost use Rattle.world.specs.Images.{request_in};
 ghost use Rattle.machine.specs.Machines.{HasRun, clients_of, stage_in, stage_of, world_of};
 ghost use Rattle.machine.specs.Steps.{CanDo, HasContent, HasPicked, IsInHand};

@@ -4,7 +4,7 @@ ghost use Rattle.std.specs.Prelude.{◌≡◌, ◌++◌, map, Some, IsSome};
 ghost use Rattle.model.specs.Objects.{kind_with, next};
 ghost use Rattle.world.specs.World.{logged, Serves};
 ghost use Rattle.world.specs.Images.{request_in, answer_in, entry_in};
-ghost use Rattle.world.specs.Moves.{win, pick, answer, put_back, release};
+ghost use Rattle.world.specs.Transitions.{win, pick, answer, put_back, release};
 ghost use Rattle.machine.specs.Steps.{IsGoing, Tries};
 
 use crate::machine::Machine;

@@ -2,7 +2,7 @@
 
 ghost use Rattle.std.specs.Prelude.{◌≡◌, ◌<◌, [], ◌∷◌, ◌++◌, length, slice_set, slice_index_or, OnOk, IfErr};
 ghost use Rattle.recorder.specs.Records.{items_of};
-ghost use Rattle.world.specs.Moves.{post, take, end, draw_call, draw_return};
+ghost use Rattle.world.specs.Transitions.{post, take, end, draw_call, draw_return};
 ghost use Rattle.machine.specs.declared.step.Step.TheVariants.{Draw};
 ghost use Rattle.machine.specs.Steps.{IsGoing, Tries, step_in};
 

@@ -9,7 +9,7 @@ use Rattle.roster.specs.Calls.{PlaceSeen}
 use Rattle.desk_rule.specs.declared.board.Journal.{Journal}
 use Rattle.desk_rule.specs.declared.board.Slot.{Slot}
 use Rattle.desk_rule.specs.declared.board.View.{View}
-use Rattle.desk_rule.specs.Views.{seen_of, seeing, IsAccount}
+use Rattle.desk_rule.specs.Views.{seen_of, after_meet, IsAccount}
 use Rattle.publication.specs.Handles.{DeskId, Known, IsClient}
 use Rattle.publication.specs.Calls.{Met}
 use Rattle.publication.proofs.Holds.{agrees_light, agrees_seeing}
@@ -19,16 +19,16 @@ module _ {S O R : Type 0} (op_in : O → AnyOp) (reply_in : R → AnyReply) (num
   TheClient = IsClient op_in reply_in number calls quota outstanding j
 
   -- a client that was told h, and then saw l: d is its seat after both
-  pub met_ok : (x : ℕ) (l : List AnyEntry) (h : List (List AnyEntry)) (m d : Me (Slot S O R) View) → TheClient m → x < 16 → IsLegal (kind_at m.0.kinds x) l → IsAccount x (record m.0 { heard = h }) l → d ≡ (seeing x l (record m.0 { heard = h }), m.1) → TheClient d
+  pub met_ok : (x : ℕ) (l : List AnyEntry) (h : List (List AnyEntry)) (m d : Me (Slot S O R) View) → TheClient m → x < 16 → IsLegal (kind_at m.0.kinds x) l → IsAccount x (record m.0 { received = h }) l → d ≡ (after_meet x l (record m.0 { received = h }), m.1) → TheClient d
   met_ok x l h m d k low legal account e = subst TheClient (sym e) record { agrees = agrees_seeing x l low legal account (agrees_light k.agrees); free = k.free; in_hand = k.in_hand }
 
 -- what the meeting says: a and b before, a' and b' after
-pub met : (x : ℕ) (one other : Known) (d e : DeskId) (s t : List PlaceSeen) (a b a' b' : View) (l : List AnyEntry) (h i : List (List AnyEntry)) → one.desk.kinds ≡ a.kinds → one.knows ≡ a → other.knows ≡ b → a' ≡ seeing x l (record a { heard = h }) → b' ≡ seeing x l (record b { heard = i })
+pub met : (x : ℕ) (one other : Known) (d e : DeskId) (s t : List PlaceSeen) (a b a' b' : View) (l : List AnyEntry) (h i : List (List AnyEntry)) → one.desk.kinds ≡ a.kinds → one.knows ≡ a → other.knows ≡ b → a' ≡ after_meet x l (record a { received = h }) → b' ≡ after_meet x l (record b { received = i })
     → x < length a.seen → x < length b.seen → IsLegal (kind_at a.kinds x) l → StartsWith l (seen_of a x) → StartsWith l (seen_of b x) → Met x one other (record { desk = d; knows = a'; places = s }) (record { desk = e; knows = b'; places = t })
 met x one other d e s t a b a' b' l h i kinds p q f g there there' legal first second = record {
   log = l;
-  first = f ∙ λ k. seeing x l (record (sym p k) { heard = sym (ap (λ z. z.heard) f) k });
-  second = g ∙ λ k. seeing x l (record (sym q k) { heard = sym (ap (λ z. z.heard) g) k });
+  first = f ∙ λ k. after_meet x l (record (sym p k) { received = sym (ap (λ z. z.received) f) k });
+  second = g ∙ λ k. after_meet x l (record (sym q k) { received = sym (ap (λ z. z.received) g) k });
   seen_first = ap (λ z. seen_of z x) f ∙ get_or-set_same a.seen x l [] there;
   seen_second = ap (λ z. seen_of z x) g ∙ get_or-set_same b.seen x l [] there';
   legal = subst (λ z. IsLegal (kind_at z x) l) (sym kinds) legal;

@@ -10,33 +10,33 @@ use Rattle.desk_rule.specs.declared.board.Journal.{Journal}
 use Rattle.desk_rule.specs.declared.board.Leaving.{Leaving}
 use Rattle.desk_rule.specs.declared.board.Slot.{Slot}
 use Rattle.desk_rule.specs.declared.board.View.{View}
-use Rattle.desk_rule.specs.Views.{knowing_end, finding_there}
+use Rattle.desk_rule.specs.Views.{after_end_seen, after_end_unset}
 use Rattle.publication.specs.Handles.{DeskSeen, Known, IsClient}
 use Rattle.publication.specs.Calls.{StillThere}
 use Rattle.publication.specs.Closing.{HaveEnded, HasLearntEnds}
 use Rattle.publication.proofs.Holds.{agrees_light}
 
 -- one of two views, as the word was 1 or not
-pub either_view : (found d : ℕ) (v v' w : View) → v ≡ v' → (found ≡ 1 → w ≡ knowing_end d v) → (found ≢ 1 → w ≡ finding_there d v) → w ≡ (if eqb found 1 then knowing_end d v' else finding_there d v')
+pub either_view : (found d : ℕ) (v v' w : View) → v ≡ v' → (found ≡ 1 → w ≡ after_end_seen d v) → (found ≢ 1 → w ≡ after_end_unset d v) → w ≡ (if eqb found 1 then after_end_seen d v' else after_end_unset d v')
 either_view found d v v' w same hit miss = dite (ℕ_discrete found 1)
-    (λ e. hit e ∙ (ap (knowing_end d) same ∙ ap (λ (b : Bool). if b then knowing_end d v' else finding_there d v') (sym (eq-eqb found 1 e))))
-    (λ n. miss n ∙ (ap (finding_there d) same ∙ ap (λ (b : Bool). if b then knowing_end d v' else finding_there d v') (sym (ne_eqb found 1 n))))
+    (λ e. hit e ∙ (ap (after_end_seen d) same ∙ ap (λ (b : Bool). if b then after_end_seen d v' else after_end_unset d v') (sym (eq-eqb found 1 e))))
+    (λ n. miss n ∙ (ap (after_end_unset d) same ∙ ap (λ (b : Bool). if b then after_end_seen d v' else after_end_unset d v') (sym (ne_eqb found 1 n))))
 
 -- the client is the last one itself
 pub own_number : (n : ℕ) (b : Known) → n ≡ b.knows.number → HaveEnded n b → HaveEnded (n + 1) b
 own_number n b e before c l other = before c (let d : c ≢ n = λ f. other (f ∙ e) in omega arith) other
 
 -- one more has ended
-pub one_ended : (n : ℕ) (a b b' : Known) → b'.desk ≡ b.desk → b'.places ≡ b.places → b'.knows ≡ knowing_end n b.knows → HaveEnded n b → HasLearntEnds a b → HaveEnded (n + 1) b' × HasLearntEnds a b'
+pub one_ended : (n : ℕ) (a b b' : Known) → b'.desk ≡ b.desk → b'.places ≡ b.places → b'.knows ≡ after_end_seen n b.knows → HaveEnded n b → HasLearntEnds a b → HaveEnded (n + 1) b' × HasLearntEnds a b'
 one_ended n a b b' e t f before is = subst (λ z. HaveEnded (n + 1) z × HasLearntEnds a z) (λ i. record { desk = sym e i; knows = sym f i; places = sym t i }) (
   (λ c l other. dite (ℕ_discrete c n)
       (λ same. subst (Contains (b.knows.retired ++ n ∷ [])) (sym same) (Contains-push b.knows.retired n))
       (λ apart. Contains-append_left b.knows.retired (n ∷ []) c (before c (omega arith) other))),
-  ap (λ (z : Known). record z { knows = knowing_end n z.knows }) is,
+  ap (λ (z : Known). record z { knows = after_end_seen n z.knows }) is,
 )
 
 -- this one has not
-pub there_still : (d : DeskSeen) (n : ℕ) (a b b' : Known) → n < d.clients → n ≢ b.knows.number → b'.knows ≡ finding_there n b.knows → HaveEnded n b → HasLearntEnds a b → All (λ l. l.client ≢ n) b.knows.left → StillThere d a n b'
+pub there_still : (d : DeskSeen) (n : ℕ) (a b b' : Known) → n < d.clients → n ≢ b.knows.number → b'.knows ≡ after_end_unset n b.knows → HaveEnded n b → HasLearntEnds a b → All (λ l. l.client ≢ n) b.knows.left → StillThere d a n b'
 there_still d n a b b' low other e before is untold = let same = ap (λ z. z.knows.number) is in record {
   client_low = low;
   other = λ f. other (f ∙ sym same);
@@ -52,7 +52,7 @@ module _ {S O R : Type 0} (op_in : O → AnyOp) (reply_in : R → AnyReply) wher
   watching number calls quota outstanding j m m' retired still_there k e = subst (IsClient op_in reply_in number calls quota outstanding j) (sym e) record { agrees = agrees_light k.agrees; free = k.free; in_hand = k.in_hand }
 
   pub watching_ok : (number calls quota : ℕ) (outstanding : Bool) (j : Journal O R) (found d : ℕ) (m m' : Me (Slot S O R) View) → IsClient op_in reply_in number calls quota outstanding j m
-      → (found ≡ 1 → m' ≡ (knowing_end d m.0, m.1)) → (found ≢ 1 → m' ≡ (finding_there d m.0, m.1)) → IsClient op_in reply_in number calls quota outstanding j m'
+      → (found ≡ 1 → m' ≡ (after_end_seen d m.0, m.1)) → (found ≢ 1 → m' ≡ (after_end_unset d m.0, m.1)) → IsClient op_in reply_in number calls quota outstanding j m'
   watching_ok number calls quota outstanding j found d m m' k hit miss = dite (ℕ_discrete found 1)
-      (λ e. watching number calls quota outstanding j m m' (knowing_end d m.0).retired m.0.still_there k (hit e))
-      (λ n. watching number calls quota outstanding j m m' m.0.retired (finding_there d m.0).still_there k (miss n))
+      (λ e. watching number calls quota outstanding j m m' (after_end_seen d m.0).retired m.0.still_there k (hit e))
+      (λ n. watching number calls quota outstanding j m m' m.0.retired (after_end_unset d m.0).still_there k (miss n))

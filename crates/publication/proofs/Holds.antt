@@ -24,15 +24,15 @@ use Rattle.desk_rule.specs.declared.board.Slot.TheVariants as slot
 use Rattle.desk_rule.specs.declared.board.Held.{Held}
 use Rattle.desk_rule.specs.declared.board.Held.TheVariants as held
 use Rattle.desk_rule.specs.declared.board.View.{View}
-use Rattle.desk_rule.specs.Views.{missing, noting, holding, handling, putting_back, answering, learnt, seeing, IsAtRest, IsAccount}
+use Rattle.desk_rule.specs.Views.{after_miss, after_row_miss, after_win, after_pick, after_put_back, after_answer, after_release, after_meet, IsAtRest, IsAccount}
 use Rattle.desk_rule.specs.Rule.{Fits}
 use Rattle.desk_rule.proofs.Seeing.{seen_all}
 use Rattle.publication.specs.Handles.{Agrees, log_of, IsClient, IsPass, IsHand}
 
 module _ {O R : Type 0} {op_in : O → AnyOp} {reply_in : R → AnyReply} {number calls quota : ℕ} {outstanding : Bool} {j : Journal O R} {v : View} where
   -- the client has seen other lists
-  agrees_seen : {seen heard : List (List AnyEntry)} {h : Held} {back : List PutBack} {left : List Leaving} {missed retired still_there : List ℕ} {ready : Bool} → length seen ≡ 16 → ((x : ℕ) → IsLegal (kind_at v.kinds x) (get_or seen x [])) → ((x : ℕ) → IsAccount x v (get_or seen x [])) → Agrees op_in reply_in number calls quota outstanding j v
-      → Agrees op_in reply_in number calls quota outstanding j (record v { seen = seen; heard = heard; held = h; back = back; left = left; missed = missed; retired = retired; still_there = still_there; ready = ready })
+  agrees_seen : {seen received : List (List AnyEntry)} {h : Held} {back : List PutBack} {left : List Leaving} {missed retired still_there : List ℕ} {ready : Bool} → length seen ≡ 16 → ((x : ℕ) → IsLegal (kind_at v.kinds x) (get_or seen x [])) → ((x : ℕ) → IsAccount x v (get_or seen x [])) → Agrees op_in reply_in number calls quota outstanding j v
+      → Agrees op_in reply_in number calls quota outstanding j (record v { seen = seen; received = received; held = h; back = back; left = left; missed = missed; retired = retired; still_there = still_there; ready = ready })
   agrees_seen wide legal accounts k = record {
     client_is = k.client_is;
     number_is = k.number_is;
@@ -51,12 +51,12 @@ module _ {O R : Type 0} {op_in : O → AnyOp} {reply_in : R → AnyReply} {numbe
   }
 
   -- what a client was told, holds, has put back, has missed, and knows of ends and of its row does not matter
-  pub agrees_light : {heard : List (List AnyEntry)} {h : Held} {back : List PutBack} {left : List Leaving} {missed retired still_there : List ℕ} {ready : Bool} → Agrees op_in reply_in number calls quota outstanding j v
-      → Agrees op_in reply_in number calls quota outstanding j (record v { heard = heard; held = h; back = back; left = left; missed = missed; retired = retired; still_there = still_there; ready = ready })
+  pub agrees_light : {received : List (List AnyEntry)} {h : Held} {back : List PutBack} {left : List Leaving} {missed retired still_there : List ℕ} {ready : Bool} → Agrees op_in reply_in number calls quota outstanding j v
+      → Agrees op_in reply_in number calls quota outstanding j (record v { received = received; held = h; back = back; left = left; missed = missed; retired = retired; still_there = still_there; ready = ready })
   agrees_light k = agrees_seen k.wide k.legal k.accounts k
 
   -- the client sees the list l of x
-  pub agrees_seeing : (x : ℕ) (l : List AnyEntry) → x < 16 → IsLegal (kind_at v.kinds x) l → IsAccount x v l → Agrees op_in reply_in number calls quota outstanding j v → Agrees op_in reply_in number calls quota outstanding j (seeing x l v)
+  pub agrees_seeing : (x : ℕ) (l : List AnyEntry) → x < 16 → IsLegal (kind_at v.kinds x) l → IsAccount x v l → Agrees op_in reply_in number calls quota outstanding j v → Agrees op_in reply_in number calls quota outstanding j (after_meet x l v)
   agrees_seeing x l low legal account k = let wide = k.wide in agrees_seen (length-set v.seen x l ∙ wide) (seen_all (λ y z. IsLegal (kind_at v.kinds y) z) v.seen x l (omega arith) legal (λ y _. k.legal y)) (seen_all (λ y z. IsAccount y v z) v.seen x l (omega arith) account (λ y _. k.accounts y)) k
 
 module _ {S O R : Type 0} (op_in : O → AnyOp) (reply_in : R → AnyReply) where
@@ -92,15 +92,15 @@ module _ {S O R : Type 0} (content : S → Content) (op_in : O → AnyOp) (reply
   abbrev TheHand : ℕ → Core S O R → ℕ → Request O → M → Type 0
   TheHand = IsHand content op_in reply_in number calls quota outstanding j
 
-  pub missed_ok : (i : ℕ) (m d : M) → TheClient m → d ≡ (missing i m.0, m.1) → TheClient d
+  pub missed_ok : (i : ℕ) (m d : M) → TheClient m → d ≡ (after_miss i m.0, m.1) → TheClient d
   missed_ok i m d k e = subst TheClient (sym e) record { agrees = agrees_light k.agrees; free = k.free; in_hand = k.in_hand }
 
   -- the core is out of its slot: m before, a after the win, b with nothing in the slot
-  pub pass_ok : (x : ℕ) (k core : Core S O R) (l : List AnyEntry) (m a b : M) → TheClient m → a ≡ (holding x l m.0, (x, slot.Core k) ∷ m.1) → b ≡ (a.0, (x, slot.Nothing) ∷ rest a.1) → core ≡ k
+  pub pass_ok : (x : ℕ) (k core : Core S O R) (l : List AnyEntry) (m a b : M) → TheClient m → a ≡ (after_win x l m.0, (x, slot.Core k) ∷ m.1) → b ≡ (a.0, (x, slot.Nothing) ∷ rest a.1) → core ≡ k
       → Fits content op_in reply_in (kind_at m.0.kinds x) (get_elem? m.0.lists x) k l → x < 16 → ThePass x core b
   pass_ok x k core l m a b c e f same fits low =
       let log : log_of op_in reply_in core ≡ l = ap (log_of op_in reply_in) same ∙ fits.0 in
-      let is : b ≡ (holding x (log_of op_in reply_in core) m.0, (x, slot.Nothing) ∷ m.1) = f ∙ (ap (λ z. (z.0, (x, slot.Nothing) ∷ rest z.1)) e ∙ ap (λ z. (holding x z m.0, (x, slot.Nothing) ∷ m.1)) (sym log)) in
+      let is : b ≡ (after_win x (log_of op_in reply_in core) m.0, (x, slot.Nothing) ∷ m.1) = f ∙ (ap (λ z. (z.0, (x, slot.Nothing) ∷ rest z.1)) e ∙ ap (λ z. (after_win x z m.0, (x, slot.Nothing) ∷ m.1)) (sym log)) in
       subst (ThePass x core) (sym is) record {
         agrees = agrees_light c.agrees;
         holds = refl;
@@ -110,10 +110,10 @@ module _ {S O R : Type 0} (content : S → Content) (op_in : O → AnyOp) (reply
       }
 
   -- the client after its pass was put back: m before, a with the core in hand, b after the step
-  pub released_ok : (x : ℕ) (core : Core S O R) (m a b : M) → ThePass x core m → a ≡ (m.0, (x, slot.Core core) ∷ rest m.1) → b ≡ (learnt x (log_of op_in reply_in core) a.0, rest a.1)
+  pub released_ok : (x : ℕ) (core : Core S O R) (m a b : M) → ThePass x core m → a ≡ (m.0, (x, slot.Core core) ∷ rest m.1) → b ≡ (after_release x (log_of op_in reply_in core) a.0, rest a.1)
       → IsAccount x a.0 (log_of op_in reply_in core) → TheClient b
   released_ok x core m a b p e f account =
-      let l : List AnyEntry = log_of op_in reply_in core in let is : b ≡ (learnt x l m.0, rest m.1) = f ∙ ap (λ z. (learnt x l z.0, rest z.1)) e in
+      let l : List AnyEntry = log_of op_in reply_in core in let is : b ≡ (after_release x l m.0, rest m.1) = f ∙ ap (λ z. (after_release x l z.0, rest z.1)) e in
       let account' : IsAccount x m.0 l = subst (λ (z : M). IsAccount x z.0 l) e account in
       subst TheClient (sym is) record {
         agrees = agrees_light (agrees_seeing x l p.low (content core.object, p.fits.1) account' p.agrees);
@@ -143,7 +143,7 @@ module _ {S O R : Type 0} (content : S → Content) (op_in : O → AnyOp) (reply
       (h.agrees.client_is, h.holds, refl, (content k'.object, replays_more (empty (kind_at m.0.kinds x)) (content k.object) (content k'.object) (log_of op_in reply_in k) r (request_in op_in q) (answer_in reply_in a) h.fits.1 did))
 
   -- a pass after a miss at a row
-  pub noted_ok : (x : ℕ) (core : Core S O R) (i : ℕ) (m b : M) → ThePass x core m → b ≡ (noting i x m.0, m.1) → ThePass x core b
+  pub noted_ok : (x : ℕ) (core : Core S O R) (i : ℕ) (m b : M) → ThePass x core m → b ≡ (after_row_miss i x m.0, m.1) → ThePass x core b
   noted_ok x core i m b p f = subst (ThePass x core) (sym f) record {
     agrees = agrees_light p.agrees;
     holds = p.holds;
@@ -153,11 +153,11 @@ module _ {S O R : Type 0} (content : S → Content) (op_in : O → AnyOp) (reply
   }
 
   -- the request q is out of its slot: a after the pick, b with nothing in the slot
-  pub hand_ok : (x : ℕ) (core : Core S O R) (r : ℕ) (q p : Request O) (m a b : M) → ThePass x core m → a ≡ (handling x (log_of op_in reply_in core) r (request_in op_in q) m.0, (16 + r, slot.Request q) ∷ m.1)
+  pub hand_ok : (x : ℕ) (core : Core S O R) (r : ℕ) (q p : Request O) (m a b : M) → ThePass x core m → a ≡ (after_pick x (log_of op_in reply_in core) r (request_in op_in q) m.0, (16 + r, slot.Request q) ∷ m.1)
       → b ≡ (a.0, (16 + r, slot.Nothing) ∷ rest a.1) → q ≡ p → q.object ≡ x → kind_of (op_in q.op) ≡ kind_at m.0.kinds x → r < 32 → TheHand x core r p b
   hand_ok x core r q p m a b k e f same on of_kind low =
       let l : List AnyEntry = log_of op_in reply_in core in
-      let is : b ≡ (handling x l r (request_in op_in p) m.0, (16 + r, slot.Nothing) ∷ m.1) = f ∙ (ap (λ z. (z.0, (16 + r, slot.Nothing) ∷ rest z.1)) e ∙ ap (λ z. (handling x l r (request_in op_in z) m.0, (16 + r, slot.Nothing) ∷ m.1)) same) in
+      let is : b ≡ (after_pick x l r (request_in op_in p) m.0, (16 + r, slot.Nothing) ∷ m.1) = f ∙ (ap (λ z. (z.0, (16 + r, slot.Nothing) ∷ rest z.1)) e ∙ ap (λ z. (after_pick x l r (request_in op_in z) m.0, (16 + r, slot.Nothing) ∷ m.1)) same) in
       subst (TheHand x core r p) (sym is) record {
         agrees = agrees_light k.agrees;
         holds = refl;
@@ -171,10 +171,10 @@ module _ {S O R : Type 0} (content : S → Content) (op_in : O → AnyOp) (reply
 
   -- the request is back in its row: b with the request in its slot, d after the step
   pub back_ok : (x : ℕ) (core : Core S O R) (r : ℕ) (p : Request O) (m b d : M) → TheHand x core r p m → b ≡ (m.0, (16 + r, slot.Request p) ∷ rest m.1)
-      → d ≡ (putting_back x (log_of op_in reply_in core) r (request_in op_in p) b.0, rest b.1) → ThePass x core d
+      → d ≡ (after_put_back x (log_of op_in reply_in core) r (request_in op_in p) b.0, rest b.1) → ThePass x core d
   back_ok x core r p m b d h e f =
       let l : List AnyEntry = log_of op_in reply_in core in let q : AnyRequest = request_in op_in p in
-      let is : d ≡ (putting_back x l r q m.0, rest m.1) = f ∙ ap (λ z. (putting_back x l r q z.0, rest z.1)) e in
+      let is : d ≡ (after_put_back x l r q m.0, rest m.1) = f ∙ ap (λ z. (after_put_back x l r q z.0, rest z.1)) e in
       subst (ThePass x core) (sym is) record {
         agrees = agrees_light h.agrees;
         holds = refl;
@@ -186,9 +186,9 @@ module _ {S O R : Type 0} (content : S → Content) (op_in : O → AnyOp) (reply
   -- the pass after an answer: b with the answer in hand, d after the step
   pub answered_ok : (x r : ℕ) (k k' : Core S O R) (q : Request O) (a : Answer R) (m b d : M) → TheHand x k r q m → Fits content op_in reply_in (kind_at m.0.kinds x) (get_elem? m.0.lists x) k' (log_of op_in reply_in k')
       → log_of op_in reply_in k' ≡ log_of op_in reply_in k ++ logged r (request_in op_in q) (answer_in reply_in a) → b ≡ (m.0, (16 + r, slot.Answer a) ∷ rest m.1)
-      → d ≡ (answering r x (log_of op_in reply_in k ++ logged r (request_in op_in q) (answer_in reply_in a)) b.0, rest m.1) → ThePass x k' d
+      → d ≡ (after_answer r x (log_of op_in reply_in k ++ logged r (request_in op_in q) (answer_in reply_in a)) b.0, rest m.1) → ThePass x k' d
   answered_ok x r k k' q a m b d h fits log e f =
-      let is : d ≡ (answering r x (log_of op_in reply_in k') m.0, rest m.1) = f ∙ λ i. (answering r x (sym log i) (e i).0, rest m.1) in
+      let is : d ≡ (after_answer r x (log_of op_in reply_in k') m.0, rest m.1) = f ∙ λ i. (after_answer r x (sym log i) (e i).0, rest m.1) in
       subst (ThePass x k') (sym is) record {
         agrees = agrees_light h.agrees;
         holds = refl;

@@ -5,7 +5,7 @@ pub mod Turns
 pub mod Performing
 pub mod Encounters
 pub mod Growing
-pub mod Newcomers
+pub mod NewClients
 pub mod Endings
 pub mod Gathering
 pub mod Leavings

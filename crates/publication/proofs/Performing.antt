@@ -19,7 +19,7 @@ use Rattle.desk_rule.specs.declared.board.Slot.{Slot}
 use Rattle.desk_rule.specs.declared.board.Slot.TheVariants as slot
 use Rattle.desk_rule.specs.declared.board.Own.TheVariants as own
 use Rattle.desk_rule.specs.declared.board.View.{View}
-use Rattle.desk_rule.specs.Views.{seen_of, own_request, is_waiting, calling, performing, MayHold, IsAccount}
+use Rattle.desk_rule.specs.Views.{seen_of, own_request, is_waiting, with_own, after_perform, MayHold, IsAccount}
 use Rattle.desk_rule.specs.Plays.{draws, performs}
 use Rattle.desk_rule.specs.Rule.{Fits}
 use Rattle.desk_rule.proofs.Seeing.{seen_all}
@@ -64,7 +64,7 @@ module _ {S O R : Type 0} (content : S → Content) (op_in : O → AnyOp) (reply
 
   -- d after the draw
   pub drawn_there : (n x t : ℕ) (p : Request O) (v : View) (b d : M) → b ≡ (v, (16 + n, slot.Request p) ∷ others n x) → draws content op_in reply_in any_step b t d
-      → d ≡ (calling (own.Drawn (request_in op_in (record p { ticket = t }))) v, (16 + n, slot.Request p) ∷ others n x)
+      → d ≡ (with_own (own.Drawn (request_in op_in (record p { ticket = t }))) v, (16 + n, slot.Request p) ∷ others n x)
   drawn_there n x t p v b d eb told = subst (λ z. draws content op_in reply_in any_step z t d) eb told (16 + n) p (others n x) refl
 
   -- e with the answer in its slot
@@ -86,8 +86,8 @@ module _ {S O R : Type 0} (content : S → Content) (op_in : O → AnyOp) (reply
   The l = All (λ e. e.ticket < r) l × StartsWith l (seen_of m.0 x) × (entries_of m.0.number l ≡ served x m.0.number m.0.done ++ logged m.0.number Q A)
 
   -- f after the ticket of the return
-  pub performed_there : (e f : Me (Slot S O R) View) → IsPass content op_in reply_in number calls quota outstanding j x k m → e ≡ (calling (own.Drawn Q) m.0, (16 + number, slot.Answer a) ∷ others content op_in reply_in number x)
-      → performs content op_in reply_in (any_step content op_in reply_in) e r f → (f ≡ (performing Q A L r m.0, (16 + number, slot.Answer a) ∷ others content op_in reply_in number x)) × The L
+  pub performed_there : (e f : Me (Slot S O R) View) → IsPass content op_in reply_in number calls quota outstanding j x k m → e ≡ (with_own (own.Drawn Q) m.0, (16 + number, slot.Answer a) ∷ others content op_in reply_in number x)
+      → performs content op_in reply_in (any_step content op_in reply_in) e r f → (f ≡ (after_perform Q A L r m.0, (16 + number, slot.Answer a) ∷ others content op_in reply_in number x)) × The L
   performed_there e f p ee told =
       let t = subst (λ z. performs content op_in reply_in (any_step content op_in reply_in) z r f) ee told (16 + number) (log_of op_in reply_in k) Q a (others content op_in reply_in number x) p.holds refl refl in (t.0, (t.1, t.2, t.3))
 
@@ -97,11 +97,11 @@ module _ {S O R : Type 0} (content : S → Content) (op_in : O → AnyOp) (reply
 
   -- g with nothing in its slot, h and i after the turns
   pub performed_turn : (f g h i : Me (Slot S O R) View) → IsPass content op_in reply_in number calls quota outstanding j x k m → log_of op_in reply_in k' ≡ log_of op_in reply_in k ++ logged number Q A
-      → f ≡ (performing Q A L r m.0, (16 + number, slot.Answer a) ∷ others content op_in reply_in number x) → g ≡ (f.0, (16 + number, slot.Nothing) ∷ rest f.1) → h ≡ (g.0, turned g.1) → i ≡ (h.0, turned h.1)
-      → i ≡ (performing Q A (log_of op_in reply_in k') r m.0, (x, slot.Nothing) ∷ (16 + number, slot.Nothing) ∷ (48 + number, slot.Nothing) ∷ [])
+      → f ≡ (after_perform Q A L r m.0, (16 + number, slot.Answer a) ∷ others content op_in reply_in number x) → g ≡ (f.0, (16 + number, slot.Nothing) ∷ rest f.1) → h ≡ (g.0, turned g.1) → i ≡ (h.0, turned h.1)
+      → i ≡ (after_perform Q A (log_of op_in reply_in k') r m.0, (x, slot.Nothing) ∷ (16 + number, slot.Nothing) ∷ (48 + number, slot.Nothing) ∷ [])
   performed_turn f g h i p log ef eg eh ei =
       ei ∙ (ap (λ z. (z.0, turned z.1)) eh ∙ (ap (λ z. (z.0, turned (turned z.1))) eg ∙ (ap (λ z. (z.0, turned (turned ((16 + number, slot.Nothing) ∷ rest z.1)))) ef
-      ∙ ap (λ z. (performing Q A z r m.0, (x, slot.Nothing) ∷ (16 + number, slot.Nothing) ∷ (48 + number, slot.Nothing) ∷ [])) (log_now p log))))
+      ∙ ap (λ z. (after_perform Q A z r m.0, (x, slot.Nothing) ∷ (16 + number, slot.Nothing) ∷ (48 + number, slot.Nothing) ∷ [])) (log_now p log))))
 
   -- what the step told, of the log that the core has
   pub told_now : IsPass content op_in reply_in number calls quota outstanding j x k m → log_of op_in reply_in k' ≡ log_of op_in reply_in k ++ logged number Q A → The L → The (log_of op_in reply_in k')
@@ -109,7 +109,7 @@ module _ {S O R : Type 0} (content : S → Content) (op_in : O → AnyOp) (reply
 
   -- the pass after the call
   pub performed_ok : (j' : Journal O R) (i : Me (Slot S O R) View) → IsPass content op_in reply_in number calls quota outstanding j x k m → m.0.own ≡ own.Idle → Fits content op_in reply_in (kind_at m.0.kinds x) (get_elem? m.0.lists x) k' (log_of op_in reply_in k')
-      → The (log_of op_in reply_in k') → i ≡ (performing Q A (log_of op_in reply_in k') r m.0, (x, slot.Nothing) ∷ (16 + number, slot.Nothing) ∷ (48 + number, slot.Nothing) ∷ []) → calls < quota
+      → The (log_of op_in reply_in k') → i ≡ (after_perform Q A (log_of op_in reply_in k') r m.0, (x, slot.Nothing) ∷ (16 + number, slot.Nothing) ∷ (48 + number, slot.Nothing) ∷ []) → calls < quota
       → j'.events.items ≡ j.events.items ++ Invoked t x op ∷ Returned r a ∷ [] → vec_capacity j'.events ≡ vec_capacity j.events → IsPass content op_in reply_in number (calls + 1) quota outstanding j' x k' i
   performed_ok j' i p is fits told e few more same =
       let h = p.agrees in let n = h.calls_is in let room = h.room in let wide = h.wide in let low = p.low in let l : List AnyEntry = log_of op_in reply_in k' in
@@ -131,7 +131,7 @@ module _ {S O R : Type 0} (content : S → Content) (op_in : O → AnyOp) (reply
           room = omega arith;
           wide = length-set m.0.seen x l ∙ wide;
           legal = seen_all (λ y z. IsLegal (kind_at m.0.kinds y) z) m.0.seen x l (omega arith) (content k'.object, fits.1) (λ y _. h.legal y);
-          accounts = seen_all (λ y z. IsAccount y (performing Q A l r m.0) z) m.0.seen x l (omega arith)
+          accounts = seen_all (λ y z. IsAccount y (after_perform Q A l r m.0) z) m.0.seen x l (omega arith)
               ([], told.2 ∙ (ap (λ z. served x m.0.number m.0.done ++ z) (sym (logged_here x m.0.number Q A refl)) ∙ (sym (served_more x m.0.number r m.0.done Q A) ∙ sym (append-nil (served x m.0.number ds)))), refl)
               (λ y other. let b = h.accounts y in let nothing : logged_on y m.0.number Q A ≡ [] = logged_else y m.0.number Q A (λ g. other (sym g)) in
               let none_now : b.0 ≡ [] = subst (λ o. MayHold y m.0.number o b.0) is b.2 in
@@ -147,11 +147,11 @@ module _ {S O R : Type 0} (content : S → Content) (op_in : O → AnyOp) (reply
   pub performed : (p v : Holding) (z : DeskId) (s : PassState) (i : Me (Slot S O R) View) → p ≡ v → v ≡ record { desk = v.desk; knows = m.0; object = x; log = log_of op_in reply_in k; state = v.state } → v.desk.kinds ≡ m.0.kinds
       → IsPass content op_in reply_in number calls quota outstanding j x k m → m.0.own ≡ own.Idle → Fits content op_in reply_in (kind_at m.0.kinds x) (get_elem? m.0.lists x) k' (log_of op_in reply_in k')
       → log_of op_in reply_in k' ≡ log_of op_in reply_in k ++ logged number Q A → The (log_of op_in reply_in k')
-      → i ≡ (performing Q A (log_of op_in reply_in k') r m.0, (x, slot.Nothing) ∷ (16 + number, slot.Nothing) ∷ (48 + number, slot.Nothing) ∷ [])
+      → i ≡ (after_perform Q A (log_of op_in reply_in k') r m.0, (x, slot.Nothing) ∷ (16 + number, slot.Nothing) ∷ (48 + number, slot.Nothing) ∷ [])
       → Performed p (op_in op) A (record { desk = z; knows = i.0; object = x; log = log_of op_in reply_in k'; state = s })
   performed p v z s i is looks kinds pass idle fits log told e =
       let l : List AnyEntry = log_of op_in reply_in k' in let low = pass.low in let wide = pass.agrees.wide in
-      let knows : i.0 ≡ performing Q A l r m.0 = ap (λ y. y.0) e in
+      let knows : i.0 ≡ after_perform Q A l r m.0 = ap (λ y. y.0) e in
       subst (λ u. Performed u (op_in op) A (record { desk = z; knows = i.0; object = x; log = l; state = s })) (sym (is ∙ looks)) record {
         request = Q;
         returned = r;

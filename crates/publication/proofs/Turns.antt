@@ -18,7 +18,7 @@ use Rattle.desk_rule.specs.declared.board.Slot.TheVariants as slot
 use Rattle.desk_rule.specs.declared.board.Own.{Own}
 use Rattle.desk_rule.specs.declared.board.Own.TheVariants as own
 use Rattle.desk_rule.specs.declared.board.View.{View}
-use Rattle.desk_rule.specs.Views.{seen_of, own_request, is_waiting, calling, taking, done_with, MayHold, IsAccount, IsAtRest}
+use Rattle.desk_rule.specs.Views.{seen_of, own_request, is_waiting, with_own, after_take, after_return, MayHold, IsAccount, IsAtRest}
 use Rattle.desk_rule.proofs.Seeing.{seen_all}
 use Rattle.publication.specs.Handles.{Agrees, IsClient, at_hand}
 use Rattle.publication.specs.Calls.{Posted, Polled}
@@ -80,15 +80,15 @@ module _ {O R : Type 0} (op_in : O → AnyOp) (reply_in : R → AnyReply) where
 module _ {S O R : Type 0} (op_in : O → AnyOp) (reply_in : R → AnyReply) where
   -- a after the request is in the slot, b after the draw, c after the request has its ticket, d after the post
   pub post_turn : (number calls quota : ℕ) (j : Journal O R) (p q : Request O) (m a b c d : Me (Slot S O R) View) → IsClient op_in reply_in number calls quota false j m → a ≡ (m.0, (16 + number, slot.Request p) ∷ rest m.1)
-      → b ≡ (calling (own.Drawn (request_in op_in q)) a.0, a.1) → c ≡ (b.0, (16 + number, slot.Request q) ∷ rest b.1) → d ≡ (calling (own.Waiting (request_in op_in q)) c.0, rest c.1)
-      → d ≡ (calling (own.Waiting (request_in op_in q)) m.0, (48 + number, slot.Nothing) ∷ [])
+      → b ≡ (with_own (own.Drawn (request_in op_in q)) a.0, a.1) → c ≡ (b.0, (16 + number, slot.Request q) ∷ rest b.1) → d ≡ (with_own (own.Waiting (request_in op_in q)) c.0, rest c.1)
+      → d ≡ (with_own (own.Waiting (request_in op_in q)) m.0, (48 + number, slot.Nothing) ∷ [])
   post_turn number calls quota j p q m a b c d k ea eb ec ed =
       let is = own_idle m.0.own k.agrees.at_rest (sym k.agrees.outstanding_is) in let w : AnyRequest = request_in op_in q in
-      ed ∙ (ap (λ z. (calling (own.Waiting w) z.0, rest z.1)) ec ∙ (ap (λ z. (calling (own.Waiting w) z.0, rest z.1)) eb ∙ (ap (λ z. (calling (own.Waiting w) z.0, rest z.1)) ea
-      ∙ ap (λ z. (calling (own.Waiting w) m.0, rest z)) (k.in_hand ∙ ap (at_hand number) is))))
+      ed ∙ (ap (λ z. (with_own (own.Waiting w) z.0, rest z.1)) ec ∙ (ap (λ z. (with_own (own.Waiting w) z.0, rest z.1)) eb ∙ (ap (λ z. (with_own (own.Waiting w) z.0, rest z.1)) ea
+      ∙ ap (λ z. (with_own (own.Waiting w) m.0, rest z)) (k.in_hand ∙ ap (at_hand number) is))))
 
   -- the client after a post
-  pub post_ok : (number calls quota : ℕ) (j j' : Journal O R) (q : Request O) (m d : Me (Slot S O R) View) → IsClient op_in reply_in number calls quota false j m → d ≡ (calling (own.Waiting (request_in op_in q)) m.0, (48 + number, slot.Nothing) ∷ [])
+  pub post_ok : (number calls quota : ℕ) (j j' : Journal O R) (q : Request O) (m d : Me (Slot S O R) View) → IsClient op_in reply_in number calls quota false j m → d ≡ (with_own (own.Waiting (request_in op_in q)) m.0, (48 + number, slot.Nothing) ∷ [])
       → q.object < 16 → calls < quota → j'.events.items ≡ j.events.items ++ Invoked q.ticket q.object q.op ∷ [] → vec_capacity j'.events ≡ vec_capacity j.events
       → IsClient op_in reply_in number (calls + 1) quota true j' d
   post_ok number calls quota j j' q m d k e low few more same = let h = k.agrees in let w : AnyRequest = request_in op_in q in let is = own_idle m.0.own h.at_rest (sym h.outstanding_is) in let n = h.calls_is in
@@ -116,7 +116,7 @@ module _ {S O R : Type 0} (op_in : O → AnyOp) (reply_in : R → AnyReply) wher
 
   -- what a post says
   pub posted : (number calls quota x t : ℕ) (j : Journal O R) (op : O) (v : View) (m d : Me (Slot S O R) View) → IsClient op_in reply_in number calls quota false j m → v ≡ m.0
-      → d ≡ (calling (own.Waiting record { object = x; ticket = t; op = op_in op }) m.0, (48 + number, slot.Nothing) ∷ []) → Posted v x (op_in op) d.0
+      → d ≡ (with_own (own.Waiting record { object = x; ticket = t; op = op_in op }) m.0, (48 + number, slot.Nothing) ∷ []) → Posted v x (op_in op) d.0
   posted number calls quota x t j op v m d k is e = let same = own_idle m.0.own k.agrees.at_rest (sym k.agrees.outstanding_is) in let q : AnyRequest = record { object = x; ticket = t; op = op_in op } in
       subst (λ z. Posted z x (op_in op) d.0) (sym is) (subst (λ z. Posted m.0 x (op_in op) z) (sym (ap (λ z. z.0) e)) record {
         ticket = t;
@@ -127,16 +127,16 @@ module _ {S O R : Type 0} (op_in : O → AnyOp) (reply_in : R → AnyReply) wher
 
   -- a after the take, b with nothing in the slot, d after the draw of the return
   pub poll_turn : (number calls quota t : ℕ) (j : Journal O R) (q : AnyRequest) (e : Answer R) (l : List AnyEntry) (m a b d : Me (Slot S O R) View) → IsClient op_in reply_in number calls quota true j m → m.0.own ≡ own.Waiting q
-      → a ≡ (taking q (answer_in reply_in e) l m.0, (16 + number, slot.Answer e) ∷ m.1) → b ≡ (a.0, (16 + number, slot.Nothing) ∷ rest a.1) → d ≡ (done_with q (answer_in reply_in e) t b.0, b.1)
-      → d ≡ (done_with q (answer_in reply_in e) t (taking q (answer_in reply_in e) l m.0), (16 + number, slot.Nothing) ∷ (48 + number, slot.Nothing) ∷ [])
+      → a ≡ (after_take q (answer_in reply_in e) l m.0, (16 + number, slot.Answer e) ∷ m.1) → b ≡ (a.0, (16 + number, slot.Nothing) ∷ rest a.1) → d ≡ (after_return q (answer_in reply_in e) t b.0, b.1)
+      → d ≡ (after_return q (answer_in reply_in e) t (after_take q (answer_in reply_in e) l m.0), (16 + number, slot.Nothing) ∷ (48 + number, slot.Nothing) ∷ [])
   poll_turn number calls quota t j q e l m a b d k is ea eb ed = let w : AnyAnswer = answer_in reply_in e in
-      ed ∙ (ap (λ z. (done_with q w t z.0, z.1)) eb ∙ (ap (λ z. (done_with q w t z.0, (16 + number, slot.Nothing) ∷ rest z.1)) ea
-      ∙ ap (λ z. (done_with q w t (taking q w l m.0), (16 + number, slot.Nothing) ∷ z)) (k.in_hand ∙ ap (at_hand number) is)))
+      ed ∙ (ap (λ z. (after_return q w t z.0, z.1)) eb ∙ (ap (λ z. (after_return q w t z.0, (16 + number, slot.Nothing) ∷ rest z.1)) ea
+      ∙ ap (λ z. (after_return q w t (after_take q w l m.0), (16 + number, slot.Nothing) ∷ z)) (k.in_hand ∙ ap (at_hand number) is)))
 
   -- the client after a poll that took the answer
   pub poll_ok : (number calls quota t : ℕ) (j j' : Journal O R) (q : AnyRequest) (e : Answer R) (l : List AnyEntry) (m d : Me (Slot S O R) View) → IsClient op_in reply_in number calls quota true j m → m.0.own ≡ own.Waiting q → q.object < 16 → IsLegal (kind_at m.0.kinds q.object) l
       → entries_of m.0.number l ≡ served q.object m.0.number m.0.done ++ logged m.0.number q (answer_in reply_in e)
-      → d ≡ (done_with q (answer_in reply_in e) t (taking q (answer_in reply_in e) l m.0), (16 + number, slot.Nothing) ∷ (48 + number, slot.Nothing) ∷ [])
+      → d ≡ (after_return q (answer_in reply_in e) t (after_take q (answer_in reply_in e) l m.0), (16 + number, slot.Nothing) ∷ (48 + number, slot.Nothing) ∷ [])
       → j'.events.items ≡ j.events.items ++ Returned t e ∷ [] → vec_capacity j'.events ≡ vec_capacity j.events → IsClient op_in reply_in number calls quota false j' d
   poll_ok number calls quota t j j' q e l m d k is low legal counted f more same = let h = k.agrees in let n = h.calls_is in let w : AnyAnswer = answer_in reply_in e in let room = h.room in let wide = h.wide in
       let ds : List AnyDone = m.0.done ++ record { request = q; answer = w; returned = t } ∷ [] in let long : length ds ≡ length m.0.done + 1 = length-append m.0.done (record { request = q; answer = w; returned = t } ∷ []) in
@@ -156,7 +156,7 @@ module _ {S O R : Type 0} (op_in : O → AnyOp) (reply_in : R → AnyReply) wher
           room = omega arith;
           wide = length-set m.0.seen q.object l ∙ wide;
           legal = seen_all (λ x z. IsLegal (kind_at m.0.kinds x) z) m.0.seen q.object l (omega arith) legal (λ x _. h.legal x);
-          accounts = seen_all (λ x z. IsAccount x (done_with q w t (taking q w l m.0)) z) m.0.seen q.object l (omega arith)
+          accounts = seen_all (λ x z. IsAccount x (after_return q w t (after_take q w l m.0)) z) m.0.seen q.object l (omega arith)
               ([], counted ∙ (ap (λ z. served q.object m.0.number m.0.done ++ z) (sym (logged_here q.object m.0.number q w refl)) ∙ (sym (served_more q.object m.0.number t m.0.done q w) ∙ sym (append-nil (served q.object m.0.number ds)))), refl)
               (λ x other. let a = h.accounts x in let nothing : logged_on x m.0.number q w ≡ [] = logged_else x m.0.number q w (λ g. other (sym g)) in
               let none_now : a.0 ≡ [] = ⊎_elim (λ g. g) (λ (g : (b : AnyAnswer) × (a.0 ≡ logged_on x m.0.number q b)). g.1 ∙ logged_else x m.0.number q g.0 (λ z. other (sym z))) (subst (λ o. MayHold x m.0.number o a.0) is a.2) in
@@ -169,8 +169,8 @@ module _ {S O R : Type 0} (op_in : O → AnyOp) (reply_in : R → AnyReply) wher
   -- what a poll that took the answer says
   pub polled : (number calls quota t : ℕ) (j : Journal O R) (q : AnyRequest) (e : Answer R) (l : List AnyEntry) (v u : View) (m d : Me (Slot S O R) View) → IsClient op_in reply_in number calls quota true j m → v ≡ m.0 → m.0.own ≡ own.Waiting q → q.object < 16
       → IsLegal (kind_at m.0.kinds q.object) l → StartsWith l (seen_of m.0 q.object) → entries_of m.0.number l ≡ served q.object m.0.number m.0.done ++ logged m.0.number q (answer_in reply_in e)
-      → u ≡ taking q (answer_in reply_in e) l m.0 → All (λ y. y.ticket < t) (seen_of u q.object)
-      → d ≡ (done_with q (answer_in reply_in e) t (taking q (answer_in reply_in e) l m.0), (16 + number, slot.Nothing) ∷ (48 + number, slot.Nothing) ∷ []) → Polled v (answer_in reply_in e) d.0
+      → u ≡ after_take q (answer_in reply_in e) l m.0 → All (λ y. y.ticket < t) (seen_of u q.object)
+      → d ≡ (after_return q (answer_in reply_in e) t (after_take q (answer_in reply_in e) l m.0), (16 + number, slot.Nothing) ∷ (48 + number, slot.Nothing) ∷ []) → Polled v (answer_in reply_in e) d.0
   polled number calls quota t j q e l v u m d k is waits low legal begins counted took later f = let w : AnyAnswer = answer_in reply_in e in let wide = k.agrees.wide in
       let now : seen_of u q.object ≡ l = ap (λ z. seen_of z q.object) took ∙ get_or-set_same m.0.seen q.object l [] (omega arith) in
       subst (λ z. Polled z w d.0) (sym is) (subst (Polled m.0 w) (sym (ap (λ z. z.0) f)) record {

@@ -8,7 +8,7 @@ use Rattle.world.specs.declared.JournalEvent.TheVariants.{Invoked, Returned}
 use Rattle.world.specs.World.{AnyEntry, AnyRequest, AnyAnswer, kind_at, logged, entries_of, served, calls_made, Replays, IsLegal, StartsWith}
 use Rattle.desk_rule.specs.declared.board.Own.TheVariants as own
 use Rattle.desk_rule.specs.declared.board.View.{View}
-use Rattle.desk_rule.specs.Views.{seen_of, own_request, journal, is_waiting, missing, noting, holding, handling, putting_back, answering, calling, taking, done_with, performing, seeing, finding_there, IsAccount}
+use Rattle.desk_rule.specs.Views.{row_place, seen_of, own_request, journal, is_waiting, after_miss, after_row_miss, after_win, after_pick, after_put_back, after_answer, with_own, after_take, after_return, after_perform, after_meet, after_end_unset, IsAccount}
 use Rattle.world.specs.Images.{entry_in, event_in}
 use Rattle.world.specs.Records.{IsSoundRecord}
 use Rattle.recorder.specs.Records.{Recorded, journal_at, log_at}
@@ -25,7 +25,7 @@ use Rattle.publication.specs.Handles.{DeskId, DeskSeen, Known, PassState, Holdin
 pub record Posted (v : View) (object : ℕ) (op : AnyOp) (w : View) : Type 0 where
   pub ticket : ℕ
   pub was_idle : v.own ≡ own.Idle
-  pub knows : w ≡ calling (own.Waiting record { object = object; ticket = ticket; op = op }) v
+  pub knows : w ≡ with_own (own.Waiting record { object = object; ticket = ticket; op = op }) v
   pub journal : journal w ≡ journal v ++ Invoked ticket object op ∷ []
 
 -- of the client that knows this no call is outstanding, and it may make one more
@@ -56,7 +56,7 @@ pub record Polled (v : View) (a : AnyAnswer) (w : View) : Type 0 where
   pub log : List AnyEntry
   pub ticket : ℕ
   pub waited : v.own ≡ own.Waiting request
-  pub knows : w ≡ done_with request a ticket (taking request a log v)
+  pub knows : w ≡ after_return request a ticket (after_take request a log v)
   pub seen : seen_of w request.object ≡ log
   pub legal : IsLegal (kind_at v.kinds request.object) log
   pub begins : StartsWith log (seen_of v request.object)
@@ -66,12 +66,12 @@ pub record Polled (v : View) (a : AnyAnswer) (w : View) : Type 0 where
 
 -- nothing was outstanding, or the row was tried once, and the client did not know that it was answered
 abbrev pub NotPolled : View → View → Type 0
-NotPolled v w = ((is_waiting v.own ≡ false) × (w ≡ v)) ⊎ ((w ≡ missing (16 + v.number) v) × (v.ready ≡ false))
+NotPolled v w = ((is_waiting v.own ≡ false) × (w ≡ v)) ⊎ ((w ≡ after_miss (row_place v.number) v) × (v.ready ≡ false))
 
 -- The object x is held. Its log is legal, and begins with all that was seen of it.
 pub record Opened (c : Known) (x : ℕ) (p : Holding) : Type 0 where
   pub object : p.object ≡ x
-  pub knows : p.knows ≡ holding x p.log c.knows
+  pub knows : p.knows ≡ after_win x p.log c.knows
   pub legal : IsLegal (kind_at c.desk.kinds x) p.log
   pub begins : StartsWith p.log (seen_of c.knows x)
 
@@ -81,7 +81,7 @@ pub record Got (p : Holding) (r : ℕ) (h : Handling) : Type 0 where
   pub object : h.object ≡ p.object
   pub log : h.log ≡ p.log
   pub row : h.row ≡ r
-  pub knows : h.knows ≡ handling p.object p.log r h.request p.knows
+  pub knows : h.knows ≡ after_pick p.object p.log r h.request p.knows
   pub on : h.request.object ≡ p.object
   pub of_kind : kind_of h.request.op ≡ kind_at p.knows.kinds p.object
   pub again : All (λ b. b.row ≡ r → b.request ≡ h.request) p.knows.back
@@ -91,7 +91,7 @@ pub record Got (p : Holding) (r : ℕ) (h : Handling) : Type 0 where
 pub record NotGot (p : Holding) (r : ℕ) (q : Holding) : Type 0 where
   pub object : q.object ≡ p.object
   pub log : q.log ≡ p.log
-  pub knows : q.knows ≡ noting (16 + r) p.object p.knows
+  pub knows : q.knows ≡ after_row_miss (row_place r) p.object p.knows
   pub none_back : All (λ b. b.row ≢ r) p.knows.back
 
 -- after the log, the object can do the operation
@@ -108,7 +108,7 @@ pub record Answered (h : Handling) (a : AnyAnswer) (p : Holding) : Type 0 where
   pub object : p.object ≡ h.object
   pub log : p.log ≡ h.log ++ logged h.row h.request a
   pub legal : IsLegal (kind_held h) p.log
-  pub knows : p.knows ≡ answering h.row h.object p.log h.knows
+  pub knows : p.knows ≡ after_answer h.row h.object p.log h.knows
 
 -- the kind of the object of a pass
 abbrev pub kind_in : Holding → Kind
@@ -125,7 +125,7 @@ pub record Performed (p : Holding) (op : AnyOp) (a : AnyAnswer) (r : Holding) : 
   pub asked : (request.object ≡ p.object) × (request.op ≡ op)
   pub object : r.object ≡ p.object
   pub log : r.log ≡ p.log ++ logged p.knows.number request a
-  pub knows : r.knows ≡ performing request a r.log returned p.knows
+  pub knows : r.knows ≡ after_perform request a r.log returned p.knows
   pub seen : seen_of r.knows p.object ≡ r.log
   pub legal : IsLegal (kind_in p) r.log
   pub begins : StartsWith r.log (seen_of p.knows p.object)
@@ -137,14 +137,14 @@ pub record Performed (p : Holding) (op : AnyOp) (a : AnyAnswer) (r : Holding) : 
 pub record IsPutBack (h : Handling) (p : Holding) : Type 0 where
   pub object : p.object ≡ h.object
   pub log : p.log ≡ h.log
-  pub knows : p.knows ≡ putting_back h.object h.log h.row h.request h.knows
+  pub knows : p.knows ≡ after_put_back h.object h.log h.row h.request h.knows
 
 -- Both have seen one legal log of the object x, which begins with what each had seen, and nothing else of theirs has
 -- changed but what they were told.
 pub record Met (x : ℕ) (one other one' other' : Known) : Type 0 where
   pub log : List AnyEntry
-  pub first : one'.knows ≡ seeing x log (record one.knows { heard = one'.knows.heard })
-  pub second : other'.knows ≡ seeing x log (record other.knows { heard = other'.knows.heard })
+  pub first : one'.knows ≡ after_meet x log (record one.knows { received = one'.knows.received })
+  pub second : other'.knows ≡ after_meet x log (record other.knows { received = other'.knows.received })
   pub seen_first : seen_of one'.knows x ≡ log
   pub seen_second : seen_of other'.knows x ≡ log
   pub legal : IsLegal (kind_at one.desk.kinds x) log
@@ -159,7 +159,7 @@ pub record StillThere (d : DeskSeen) (last : Known) (client : ℕ) (after : Know
   pub untold : All (λ l. l.client ≢ client) last.knows.left
   pub least : (c : ℕ) → c < client → c ≢ last.knows.number → Contains after.knows.retired c
   -- of the last client nothing else has changed: it knows who has retired, and found this one there
-  pub looked : (v : View) × (after.knows ≡ finding_there client v) × (v ≡ record last.knows { retired = v.retired })
+  pub looked : (v : View) × (after.knows ≡ after_end_unset client v) × (v ≡ record last.knows { retired = v.retired })
 
 module _ {O R : Type 0} (op_in : O → AnyOp) (reply_in : R → AnyReply) where
   -- The record has a journal for each client and a log for each object, and is sound: its history is well-formed, and each

@@ -24,7 +24,7 @@ use Rattle.desk_rule.specs.declared.board.Own.{Own}
 use Rattle.desk_rule.specs.declared.board.Own.TheVariants as own
 use Rattle.desk_rule.specs.declared.board.Held.TheVariants as held
 use Rattle.desk_rule.specs.declared.board.View.{View}
-use Rattle.desk_rule.specs.Views.{newcomer, calling, own_request, journal, is_waiting, seen_of, IsAtRest, IsAccount}
+use Rattle.desk_rule.specs.Views.{new_client, with_own, own_request, journal, is_waiting, seen_of, IsAtRest, IsAccount}
 use Rattle.desk_rule.specs.Rule.{Fits}
 
 -- which desk: its table, the quota of each of its clients, the kind of each of its objects, and which roster the
@@ -166,7 +166,7 @@ fresh_places c lists = map (λ id. record { roster = id; row = c; tries = [] }) 
 
 -- a client that has made no call, and has not tried to enlist its row
 abbrev pub begun : DeskId → ℕ → Known
-begun d c = record { desk = d; knows = calling own.Idle (newcomer d.kinds d.lists c); places = fresh_places c d.lists }
+begun d c = record { desk = d; knows = with_own own.Idle (new_client d.kinds d.lists c); places = fresh_places c d.lists }
 
 abbrev pub AllBegun : DeskId → List Known → Type 0
 AllBegun d cs = (c : ℕ) → c < length cs → get_elem? cs c ≡ some (begun d c)

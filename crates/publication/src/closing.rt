@@ -2,7 +2,7 @@
 
 ghost use Rattle.std.specs.Prelude.{◌≡◌, ◌≢◌, ℕ, ◌+◌, ◌<◌, ◌≤◌, ◌∷◌, [], All, false, length, slice_index_or, vec_len, vec_capacity, IfOk, IfErr, IfSome, IfNone, if◌then◌else◌};
 ghost use Rattle.recorder.specs.Records.{items_of};
-ghost use Rattle.desk_rule.specs.Views.{knowing_end, finding_there, leaving, told_of};
+ghost use Rattle.desk_rule.specs.Views.{after_end_seen, after_end_unset, end_notice, after_notice};
 ghost use Rattle.publication.specs.Handles.{IsRoom};
 ghost use Rattle.publication.specs.Calls.{Closed, StillThere};
 ghost use Rattle.publication.specs.Closing.{values_of, IsTakenTo, HasCore, HasJournal, IsLogOf, IsJournalOf, AreLogs, AreJournals, IsSameBelow, HaveEnded, HasLearntEnds};
@@ -10,7 +10,7 @@ ghost use Rattle.publication.specs.Closing.{values_of, IsTakenTo, HasCore, HasJo
 use crate::client::{Client, Member, Place};
 use crate::desk::{Desk, ENDS};
 use crate::making::SLOTS;
-use crate::plays::{BidsFarewell, Ends, IsTold, SeesEnd};
+use crate::plays::{Ends, SeesEnd, SendsEnd, TakesNotice};
 use desk_rule::{Journal, Slot};
 use recorder::{JournalEvent, LogEntry, Record};
 use seq_objects::SeqObject;
@@ -50,7 +50,7 @@ impl<S: SeqObject> Desk<S> {
     /// the journal that was told of.
     pub fn retire(&self, client: Client<S>) -> Retired<S>
         requires { client.desk ≡ self.now.id }
-        ensures { result ≡ record { table = client.desk.table; left = leaving client.knows ∷ [] } }
+        ensures { result ≡ record { table = client.desk.table; left = end_notice client.knows ∷ [] } }
     {
         let Client { member } = client;
         let Member {
@@ -65,7 +65,7 @@ impl<S: SeqObject> Desk<S> {
         let _ = shared.exchange(&mut seat, slot, Slot::Journal(journal));
         shared.store::<Ends>(&mut seat, slot, 1);
         Retired {
-            seat: shared.split_seat::<BidsFarewell>(&mut seat),
+            seat: shared.split_seat::<SendsEnd>(&mut seat),
         }
     }
 
@@ -74,12 +74,12 @@ impl<S: SeqObject> Desk<S> {
     pub fn tell(&self, client: &mut Client<S>, retired: Retired<S>)
         requires client { client.old.desk ≡ self.now.id }
         requires retired { retired.table ≡ self.now.id.table }
-        ensures { client.new ≡ record client.old { knows = told_of retired.left client.old.knows } }
+        ensures { client.new ≡ record client.old { knows = after_notice retired.left client.old.knows } }
     {
         let Retired { seat } = retired;
         self.table
             .shared
-            .join_seat::<IsTold>(&mut client.member.seat, seat);
+            .join_seat::<TakesNotice>(&mut client.member.seat, seat);
     }
 
     /// Closes the desk by its last client. Ok: a journal for each client, and a log for each object that is a valid order of the
@@ -109,7 +109,7 @@ fn sees_end<S: SeqObject>(desk: &Desk<S>, last: &mut Client<S>, client: u32) -> 
     ensures desk { last.new.desk ≡ last.old.desk }
     ensures places { last.new.places ≡ last.old.places }
     ensures seen { last.new.knows
-        ≡ (if result then knowing_end client last.old.knows else finding_there client last.old.knows) }
+        ≡ (if result then after_end_seen client last.old.knows else after_end_unset client last.old.knows) }
     ensures untold { result ≡ false → All (λ l. l.client ≢ client) last.old.knows.left }
 {
     let shared = &desk.table.shared;

@@ -4,7 +4,7 @@ ghost use Rattle.std.specs.Prelude.{◌≡◌, ◌<◌, length, IfOk, IfErr, IfS
 ghost use Rattle.model.specs.Objects.{kind_of};
 ghost use Rattle.world.specs.World.{kind_at};
 ghost use Rattle.world.specs.Images.{answer_in};
-ghost use Rattle.desk_rule.specs.Views.{missing};
+ghost use Rattle.desk_rule.specs.Views.{after_miss};
 
 use crate::client::{Client, Hand, Member, Pass};
 use crate::looking::look_and_exchange;
@@ -21,7 +21,7 @@ use world::Request;
 
 pub(crate) type Board<S, O, R> = Table<Slot<S, O, R>, View, Plan, DeskRule, Global>;
 
-/// Word x is the lock of object x, and slot x its core. This is the row of client 0, and the slot of its message.
+/// Word x is the lock of object x, and slot x its core. This is the row of client 0, and the slot of its call.
 pub(crate) const ROWS: usize = 16;
 
 /// The end word of client 0, and the slot of its journal.
@@ -223,7 +223,7 @@ impl<S: SeqObject> Desk<S> {
         ensures desk { desk_after_win result ≡ client.desk }
         ensures places { places_after_win result ≡ client.places }
         ensures won { IfWon result (Opened client object) }
-        ensures held { IfHeld result (λ c. c.knows ≡ missing object client.knows) }
+        ensures held { IfHeld result (λ c. c.knows ≡ after_miss object client.knows) }
     {
         let Client { mut member } = client;
         let shared = &self.table.shared;

@@ -2,7 +2,7 @@
 
 ghost use Rattle.std.specs.Prelude.{◌≡◌, ◌+◌, ◌<◌, ◌≤◌, [], length, map, All, IfOk, vec_len, vec_capacity};
 ghost use Rattle.model.specs.Objects.{empty, kind_with};
-ghost use Rattle.desk_rule.specs.Views.{founder_of};
+ghost use Rattle.desk_rule.specs.Views.{maker_of};
 ghost use Rattle.publication.specs.Handles.{AllBegun, IsRoom, begun, fresh_places};
 ghost use Rattle.publication.specs.Making.{AreCores, IsLaid, AreEmpty, kinds_with, HasRoom, IsSmall, AreDealt, rosters_of, AreWalkersOf};
 
@@ -125,7 +125,7 @@ fn open<S: SeqObject>(
     requires plan { (plan.now.kinds.items ≡ kinds_with S.content objects.items) × IsSmall plan.now }
     ensures { IfOk result (λ r. (r.1.table_id ≡ r.0.shared.table_id) × (r.0.shared.table_id.words ≡ 81)
         × (r.0.shared.table_id.slots ≡ 80) × (r.0.shared.key ≡ plan.now)
-        × (r.1.me ≡ (founder_of plan.now.kinds.items plan.now.lists.items 0, []))) }
+        × (r.1.me ≡ (maker_of plan.now.kinds.items plan.now.lists.items 0, []))) }
 {
     let slots = lay(alloc, objects, lists)?;
     let words = [0; 81];
@@ -155,31 +155,31 @@ fn journals<O: Drop, R: Drop>(
 // A client more.
 fn make<S: SeqObject>(
     table: &Board<S, S::Op, S::Reply>,
-    founder: &mut Place<S, S::Op, S::Reply>,
+    maker: &mut Place<S, S::Op, S::Reply>,
     journal: Journal<S::Op, S::Reply>,
     places: Places,
     number: u32,
     quota: u32,
 ) -> Client<S>
-    requires table { (founder.old.table_id ≡ table.now.shared.table_id)
+    requires table { (maker.old.table_id ≡ table.now.shared.table_id)
         × (table.now.shared.table_id.words ≡ 81) }
     requires plan { IsSmall table.now.shared.key × (number < table.now.shared.key.clients)
         × (quota ≡ table.now.shared.key.quota) }
-    requires founder { founder.old.me
-        ≡ (founder_of table.now.shared.key.kinds.items table.now.shared.key.lists.items number, []) }
+    requires maker { maker.old.me
+        ≡ (maker_of table.now.shared.key.kinds.items table.now.shared.key.lists.items number, []) }
     requires journal { HasRoom quota journal }
     requires places { (places ≡ fresh_places number table.now.shared.key.lists.items)
         × (length table.now.shared.key.lists.items ≡ 16) }
-    ensures founder { (founder.new.table_id ≡ founder.old.table_id)
-        × (founder.new.me ≡ (
-          founder_of table.now.shared.key.kinds.items table.now.shared.key.lists.items
+    ensures maker { (maker.new.table_id ≡ maker.old.table_id)
+        × (maker.new.me ≡ (
+          maker_of table.now.shared.key.kinds.items table.now.shared.key.lists.items
               (number + 1),
           [],
         )) }
     ensures client { result ≡ begun (record { table = table.now.shared.table_id; quota = quota; kinds = table.now.shared.key.kinds.items; lists = table.now.shared.key.lists.items }) number }
 {
     let shared = &table.shared;
-    let mut seat = shared.split_seat::<Makes>(founder);
+    let mut seat = shared.split_seat::<Makes>(maker);
     shared.load::<Begins>(&mut seat, ROWS + number as usize);
     let member = Member {
         seat,
@@ -196,16 +196,16 @@ fn make<S: SeqObject>(
 // The clients, each with a journal and its places.
 fn make_all<S: SeqObject>(
     table: &Board<S, S::Op, S::Reply>,
-    mut founder: Place<S, S::Op, S::Reply>,
+    mut maker: Place<S, S::Op, S::Reply>,
     mut journals: Vec<Journal<S::Op, S::Reply>>,
     mut owners: Vec<Vec<SharedPlace>>,
     made: &mut Vec<Client<S>>,
     quota: u32,
 )
-    requires table { (founder.table_id ≡ table.now.shared.table_id) × (table.now.shared.table_id.words ≡ 81) }
+    requires table { (maker.table_id ≡ table.now.shared.table_id) × (table.now.shared.table_id.words ≡ 81) }
     requires plan { IsSmall table.now.shared.key × (quota ≡ table.now.shared.key.quota) }
-    requires founder { founder.me
-        ≡ (founder_of table.now.shared.key.kinds.items table.now.shared.key.lists.items 0, []) }
+    requires maker { maker.me
+        ≡ (maker_of table.now.shared.key.kinds.items table.now.shared.key.lists.items 0, []) }
     requires journals { (vec_len journals ≡ table.now.shared.key.clients)
         × All (HasRoom quota) journals.items }
     requires owners { AreDealt 0 table.now.shared.key.clients table.now.shared.key.lists.items owners.items
@@ -218,7 +218,7 @@ fn make_all<S: SeqObject>(
         let places = Places {
             all: owners.remove(0),
         };
-        made.push_reserved(make(table, &mut founder, journal, places, number, quota));
+        made.push_reserved(make(table, &mut maker, journal, places, number, quota));
         number += 1;
     }
 }
@@ -255,8 +255,8 @@ impl<S: SeqObject> Desk<S> {
             clients,
             quota,
         };
-        let (table, founder) = open(alloc, objects, walkers, &plan)?;
-        make_all(&table, founder, room, owners, &mut made, quota);
+        let (table, maker) = open(alloc, objects, walkers, &plan)?;
+        make_all(&table, maker, room, owners, &mut made, quota);
         let Plan { kinds, lists, .. } = plan;
         let desk = Desk {
             table,

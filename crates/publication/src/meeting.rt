@@ -5,7 +5,7 @@ ghost use Rattle.publication.specs.Calls.{Met};
 
 use crate::client::Client;
 use crate::desk::Desk;
-use crate::plays::{Adopts, Hears, Learns, Tells};
+use crate::plays::{Adopts, Learns, SendsSeen, TakesMessage};
 use seq_objects::SeqObject;
 
 impl<S: SeqObject> Desk<S> {
@@ -23,11 +23,11 @@ impl<S: SeqObject> Desk<S> {
         let Client { member: mut second } = other;
         let shared = &self.table.shared;
         let word = object as usize;
-        let letter = shared.split_seat::<Tells>(&mut second.seat);
-        shared.join_seat::<Hears>(&mut first.seat, letter);
+        let message = shared.split_seat::<SendsSeen>(&mut second.seat);
+        shared.join_seat::<TakesMessage>(&mut first.seat, message);
         shared.load::<Learns>(&mut first.seat, word);
-        let letter = shared.split_seat::<Tells>(&mut first.seat);
-        shared.join_seat::<Hears>(&mut second.seat, letter);
+        let message = shared.split_seat::<SendsSeen>(&mut first.seat);
+        shared.join_seat::<TakesMessage>(&mut second.seat, message);
         shared.load::<Adopts>(&mut second.seat, word);
         (Client { member: first }, Client { member: second })
     }

@@ -4,7 +4,7 @@ ghost use Rattle.std.specs.Prelude.{◌≡◌, ◌+◌, ◌-◌, ◌^◌, ◌<�
 ghost use Rattle.model.specs.Objects.{kind_of, kind_with, next};
 ghost use Rattle.world.specs.World.{logged, Serves};
 ghost use Rattle.world.specs.Images.{request_in, answer_in, entry_in};
-ghost use Rattle.desk_rule.specs.Views.{learnt, seen_of};
+ghost use Rattle.desk_rule.specs.Views.{after_release, seen_of};
 ghost use Rattle.publication.specs.Calls.{Got, NotGot, HasCallLeft, CanDo, kind_held, kind_in, Performed, Answered, IsPutBack, desk_after_pick, state_after_pick, IfGot, IfNot};
 
 use crate::client::{Client, Hand, Pass};
@@ -136,7 +136,7 @@ impl<S: SeqObject> Pass<S> {
         ensures desk { result.desk ≡ self.desk }
         ensures places { result.places ≡ self.state.places }
         // The client has seen the log.
-        ensures learnt { result.knows ≡ learnt self.object self.log self.knows }
+        ensures released { result.knows ≡ after_release self.object self.log self.knows }
         ensures seen { seen_of result.knows self.object ≡ self.log }
     {
         let Pass {

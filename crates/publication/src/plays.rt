@@ -149,54 +149,54 @@ impl<S: SeqObject> Play<Slot<S, S::Op, S::Reply>, View> for SeesEnd {
 }
 
 /// The end of a client, for another.
-pub(crate) struct BidsFarewell;
+pub(crate) struct SendsEnd;
 
-impl Split<View> for BidsFarewell {
-    ghost use Rattle.desk_rule.specs.Views.{farewell};
+impl Split<View> for SendsEnd {
+    ghost use Rattle.desk_rule.specs.Views.{end_message};
 
     ghost left = { λ v. v };
 
-    ghost right = { farewell };
+    ghost right = { end_message };
 }
 
-pub(crate) struct IsTold;
+pub(crate) struct TakesNotice;
 
-impl Join<View> for IsTold {
-    ghost use Rattle.desk_rule.specs.Views.{told_of, silent};
+impl Join<View> for TakesNotice {
+    ghost use Rattle.desk_rule.specs.Views.{after_notice, empty_message};
 
-    ghost both = { λ v t. told_of t.left v };
+    ghost both = { λ v t. after_notice t.left v };
 
-    ghost spent = { silent };
+    ghost spent = { empty_message };
 }
 
 /// A client more.
 pub(crate) struct Makes;
 
 impl Split<View> for Makes {
-    ghost use Rattle.desk_rule.specs.Views.{one_made, newcomer};
+    ghost use Rattle.desk_rule.specs.Views.{after_making, new_client};
 
-    ghost left = { one_made };
+    ghost left = { after_making };
 
-    ghost right = { λ v. newcomer v.kinds v.lists v.made };
+    ghost right = { λ v. new_client v.kinds v.lists v.made };
 }
 
 /// What a client has seen, for another.
-pub(crate) struct Tells;
+pub(crate) struct SendsSeen;
 
-impl Split<View> for Tells {
-    ghost use Rattle.desk_rule.specs.Views.{letter};
+impl Split<View> for SendsSeen {
+    ghost use Rattle.desk_rule.specs.Views.{seen_message};
 
     ghost left = { λ v. v };
 
-    ghost right = { letter };
+    ghost right = { seen_message };
 }
 
-pub(crate) struct Hears;
+pub(crate) struct TakesMessage;
 
-impl Join<View> for Hears {
-    ghost use Rattle.desk_rule.specs.Views.{hearing, silent};
+impl Join<View> for TakesMessage {
+    ghost use Rattle.desk_rule.specs.Views.{after_message, empty_message};
 
-    ghost both = { hearing };
+    ghost both = { after_message };
 
-    ghost spent = { silent };
+    ghost spent = { empty_message };
 }

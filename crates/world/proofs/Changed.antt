@@ -2,7 +2,7 @@
 use Rattle.std.proofs.Common.{◌≡◌, ◌≢◌, ℕ, eq-eqb, ne_eqb, refl, ap, sym, subst, cond}
 use mathlib.Core.Logic.{dite}
 use native.Mathlib.Decide.{ℕ_discrete}
-use Rattle.world.specs.Moves.{changed}
+use Rattle.world.specs.Transitions.{changed}
 
 module _ {A : Type 0} where
   pub changed_here : (f : ℕ → A) (i : ℕ) (v : A) → changed f i v i ≡ v

@@ -3,10 +3,10 @@ pub mod Entries
 pub mod Totals
 pub mod Tickets
 pub mod Beyond
-pub mod Moved
+pub mod Effects
 pub mod SameKind
-pub mod Opening
-pub mod Moving
+pub mod Initial
+pub mod Transitions
 pub mod Shares
 pub mod Owners
 pub mod Denoted

@@ -10,7 +10,7 @@ use Rattle.world.specs.Sound.{Sound, IsInTime}
 use Rattle.world.specs.Records.{order_of, IsSoundRecord}
 use Rattle.locality.proofs.Entries.{number_of}
 use Rattle.locality.proofs.Merge.{one_number}
-use Rattle.world.proofs.Moved.{clock_few}
+use Rattle.world.proofs.Effects.{clock_few}
 use Rattle.world.proofs.Shares.{in_after}
 use Rattle.world.proofs.Sources.{put_in, served_is, IsOf, is_of, put_rises, IsOver, is_over}
 use Rattle.world.proofs.Chosen.{Along, chosen, entry_beside, call_beside, pairs_beside, SaysSame, numbers_beside, replies_beside, once_in_order, in_own_entries, tickets_once, in_front}

@@ -9,7 +9,7 @@ use Rattle.model.specs.Objects.{kind_of}
 use Rattle.world.specs.declared.Answer.TheVariants.{Reply, Refused}
 use Rattle.world.specs.declared.JournalEvent.TheVariants.{Returned}
 use Rattle.world.specs.World.{AnyEntry, AnyRequest, AnyAnswer, AnyEvent, AnyDone, Stage, absent, idle, drawn, taken, World, kind_at, logged, entries_of, served, served_now, request_of, invoked, journal_of, journal_in, ticket_of, tickets_in, StartsWith}
-use Rattle.world.specs.Moves.{changed, ticked}
+use Rattle.world.specs.Transitions.{changed, ticked}
 use Rattle.world.specs.Sound.{ShareOut, IsAmong, IsInTime, SoundJournals, Sound}
 use Rattle.world.proofs.Entries.{logged_here}
 use Rattle.world.proofs.Changed.{changed_here, changed_else, changed_all}

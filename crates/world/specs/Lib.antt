@@ -1,5 +1,5 @@
 pub mod World
-pub mod Moves
+pub mod Transitions
 pub mod Sound
 pub mod Images
 pub mod Records

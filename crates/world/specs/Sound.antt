@@ -1,4 +1,4 @@
--- What holds of the world between any two moves.
+-- The invariant of the world: what holds of it between any two transitions.
 use Rattle.std.specs.Prelude.{◌≡◌, ℕ, zero, suc, ◌+◌, ◌<◌, ◌≤◌, ⊤, List, [], ◌++◌, length, Some, None, All, AllPairs, Contains}
 use Rattle.model.specs.declared.Kind.{Kind}
 use Rattle.model.specs.Objects.{kind_of}

@@ -61,8 +61,8 @@ pub record World : Type 0 where
   pub ended : ℕ → Bool
 
 -- at the start no ticket was drawn, and no client has come
-abbrev pub opening_world : World
-opening_world = record { clock = 0; holder = λ _. None; hand = λ _. None; log = λ _. []; stage = λ _. absent; done = λ _. []; ended = λ _. false }
+abbrev pub initial_world : World
+initial_world = record { clock = 0; holder = λ _. None; hand = λ _. None; log = λ _. []; stage = λ _. absent; done = λ _. []; ended = λ _. false }
 
 -- the kind of an object
 abbrev pub kind_at : List Kind → ℕ → Kind

@@ -4,26 +4,26 @@ ghost use Rattle.std.specs.Prelude.{◌≡◌, ℕ, List};
 ghost use Rattle.model.specs.declared.Kind.{Kind};
 ghost use Rattle.model.specs.Orders.{events};
 ghost use Rattle.model.specs.Linearizable.{IsLinearizable};
-ghost use Rattle.world.specs.World.{AnyEntry, AnyEvent, absent, idle, World, opening_world, kind_at, journal_in};
-ghost use Rattle.world.specs.Moves.{Step, Moves, staged};
+ghost use Rattle.world.specs.World.{AnyEntry, AnyEvent, absent, idle, World, initial_world, kind_at, journal_in};
+ghost use Rattle.world.specs.Transitions.{Step, Transition, staged};
 ghost use Rattle.world.specs.Sound.{Sound};
 ghost use Rattle.world.specs.Records.{IsSoundRecord};
 
-/// The world is sound at the start.
-pub fn opening_is_sound()
-    ensures { (kinds : List Kind) (quota : ℕ) → Sound kinds quota opening_world }
+/// The invariant holds of the initial world.
+pub fn initial_world_is_sound()
+    ensures { (kinds : List Kind) (quota : ℕ) → Sound kinds quota initial_world }
 {}
 
-/// A sound world is sound still when a client has come.
-pub fn coming_keeps_it_sound()
+/// It still holds when a client has come.
+pub fn coming_keeps_soundness()
     ensures { (kinds : List Kind) (quota : ℕ) (w : World) (client : ℕ) → w.stage client ≡ absent →
         Sound kinds quota w → Sound kinds quota (staged w client idle) }
 {}
 
-/// Each move of each client leaves a sound world sound, for all objects and quotas.
-pub fn each_move_keeps_it_sound()
+/// Each transition of each client keeps it, for all objects and quotas.
+pub fn transitions_keep_soundness()
     ensures { (kinds : List Kind) (quota : ℕ) (step : Step) (w w' : World) (client : ℕ) →
-        Moves kinds quota step w client w' → Sound kinds quota w → Sound kinds quota w' }
+        Transition kinds quota step w client w' → Sound kinds quota w → Sound kinds quota w' }
 {}
 
 /// The record of a sound world is sound: its history is well-formed, and each log is a valid order. Calls may be under way.

@@ -1,6 +1,6 @@
 //! The world of flat combining as plain data: what the logs of objects, the requests and answers of clients, and
-//! their journals say. The world, its moves, and what holds of it between any two moves are in `specs/`; that each
-//! move keeps it sound is proved in `proofs/`.
+//! their journals say. The initial world, the transitions and the invariant are in `specs/`; that each transition keeps the
+//! invariant is proved in `proofs/`.
 //!
 //! After Hendler, Incze, Shavit, Tzafrir, "Flat Combining and the Synchronization-Parallelism Tradeoff", SPAA 2010.
 #![tactic(auto)]
@@ -8,8 +8,8 @@
 mod laws;
 
 pub use laws::{
-    coming_keeps_it_sound, each_move_keeps_it_sound, opening_is_sound, record_is_sound,
-    sound_record_is_linearizable,
+    coming_keeps_soundness, initial_world_is_sound, record_is_sound, sound_record_is_linearizable,
+    transitions_keep_soundness,
 };
 
 /// What the log of an object says of one operation: whose it was, the ticket of its invocation, the operation, and

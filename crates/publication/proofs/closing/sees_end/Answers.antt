@@ -4,7 +4,7 @@ use Rattle.publication.specs.Handles.{Known}
 use mathlib.Core.Logic.{dite}
 use native.Mathlib.Decide.{ℕ_discrete}
 use Rattle.roster.specs.Calls.{PlaceSeen}
-use Rattle.desk_rule.proofs.Ends.{sees_it}
+use Rattle.desk_rule.proofs.Ends.{look_at_end_keeps_rule}
 use Rattle.publication.proofs.Endings.{either_view, watching_ok}
 use Rattle.publication.proofs.closing.sees_end.Goals as goal
 
@@ -12,7 +12,7 @@ pub load-requires : goal.load-requires
 load-requires g c = let d = c.desk.invariant.0 in let wide = d.0 in let few = d.6 in let low = c.requires.client in let count = ap (λ s. s.clients) c.desk.view_is in (
   ap (λ k. k.desk.table) c.last.view_is ∙ (ap (λ s. s.table) c.requires.desk ∙ sym (ap (λ s. s.id.table) c.desk.view_is)),
   omega arith,
-  sees_it _ _ _ _ _ _ _ _ _ _ c.last.invariant.0.agrees.client_is (omega arith),
+  look_at_end_keeps_rule _ _ _ _ _ _ _ _ _ _ c.last.invariant.0.agrees.client_is (omega arith),
 )
 
 pub invariant_of-last : goal.invariant_of-last

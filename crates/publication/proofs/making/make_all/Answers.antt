@@ -10,8 +10,8 @@ pub loop-journal-preserved : goal.loop-journal-preserved
 loop-journal-preserved g c = let i = c.loop-journal.invariant in let p = c.push_reserved.ensures in let popped = All-pop (HasRoom c.args.quota) c.loop-journal.journals.items c.pop.new.self.items c.pop.result c.pop.ensures.items i.3 in
     let long : length c.push_reserved.new.self.items ≡ length c.loop-journal.made.items + 1 = ap length p.items ∙ length-append c.loop-journal.made.items (c.make.result ∷ []) in let n = p.len in let count = i.2 in let one = c.in-Some.ensures.cases in let m = i.5 in let made = i.7 in let lists = c.args.table.now.shared.key.lists.items in
     let owners = first_gone c.loop-journal.number (vec_len c.pop.new.self) lists c.loop-journal.owners.items c.remove.new.self.items c.remove.ensures.items (subst (λ z. AreDealt c.loop-journal.number z lists c.loop-journal.owners.items) (let one = c.in-Some.ensures.cases in omega arith) i.4) in (
-      c.make.ensures.founder.0 ∙ i.0,
-      c.make.ensures.founder.1,
+      c.make.ensures.maker.0 ∙ i.0,
+      c.make.ensures.maker.1,
       omega arith,
       popped.0,
       owners,

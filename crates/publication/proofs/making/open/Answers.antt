@@ -1,6 +1,6 @@
 use Rattle.std.proofs.Common.{subst}
 use Rattle.publication.specs.Making.{IsLaid}
-use Rattle.publication.proofs.Newcomers.{opens_on}
+use Rattle.publication.proofs.NewClients.{opens_on}
 use Rattle.publication.proofs.making.open.Goals as goal
 
 pub new-requires : goal.new-requires

@@ -1,7 +1,7 @@
 use Rattle.std.proofs.Common.{◌≡◌, ◌+◌, refl, sym, subst, ◌∙◌, ap}
 use Rattle.machine.specs.Machines.{State, world_of, stage_of, stage_in}
 use Rattle.machine.specs.declared.step.Stage.TheVariants.{Taken}
-use Rattle.world.specs.Moves.{draw_return}
+use Rattle.world.specs.Transitions.{draw_return}
 use Rattle.machine.proofs.Kept.{going_of, not_of}
 use Rattle.std.proofs.Common.{◌++◌, ◌∷◌, [], set, get_or}
 use Rattle.recorder.specs.Records.{items_of}

@@ -4,7 +4,7 @@ use Rattle.world.specs.Images.{answer_in}
 use Rattle.roster.specs.Calls.{PlaceSeen}
 use Rattle.publication.proofs.Dealing.{own_still}
 use Rattle.publication.specs.Handles.{Handling}
-use Rattle.desk_rule.proofs.Rows.{answers_it}
+use Rattle.desk_rule.proofs.Rows.{answer_keeps_rule}
 use Rattle.publication.proofs.Holds.{answer_ready, room_taken, core_grows, answered_ok}
 use Rattle.publication.proofs.Said.{may_serve, answered}
 use Rattle.publication.proofs.client.Hand.answer.Goals as goal
@@ -17,7 +17,7 @@ store-requires g c = let h = c.self.invariant.0 in let low = h.row_low in let wi
     let r = answer_ready g.S.SeqObject.content g.S.SeqObject.op_in g.S.SeqObject.reply_in _ _ _ _ _ _ c.self.inside.core c.serve-answer.new.core _ c.self.inside.request c.serve-answer.result _ _ h c.exchange.ensures.3 e.log e.content in (
       search rules,
       omega arith,
-      answers_it _ _ _ _ _ _ _ _ _ _ _ _ _ _ _ r.0 r.1 r.2 h.on r.3,
+      answer_keeps_rule _ _ _ _ _ _ _ _ _ _ _ _ _ _ _ r.0 r.1 r.2 h.on r.3,
     )
 
 pub invariant_of-result : goal.invariant_of-result

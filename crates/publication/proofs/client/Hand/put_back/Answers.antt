@@ -1,6 +1,6 @@
 use Rattle.std.proofs.Common.{map, ◌≡◌, rules, arith, refl, sym, ap, ◌∙◌}
 use Rattle.roster.specs.Calls.{PlaceSeen}
-use Rattle.desk_rule.proofs.Rows.{puts_back_it}
+use Rattle.desk_rule.proofs.Rows.{put_back_keeps_rule}
 use Rattle.publication.proofs.Dealing.{own_still}
 use Rattle.publication.proofs.Holds.{back_ready, back_ok}
 use Rattle.publication.proofs.Said.{is_put_back}
@@ -10,7 +10,7 @@ pub store-requires : goal.store-requires
 store-requires g c = let h = c.self.invariant.0 in let low = h.row_low in let wide = c.desk.invariant.0.0 in let r = back_ready g.S.SeqObject.content g.S.SeqObject.op_in g.S.SeqObject.reply_in _ _ _ _ _ _ c.self.inside.core _ c.self.inside.request _ _ h c.exchange.ensures.3 in (
   search rules,
   omega arith,
-  puts_back_it _ _ _ _ _ _ _ _ _ _ _ _ _ _ c.self.inside.request _ r.0 r.1 r.2 refl h.on refl,
+  put_back_keeps_rule _ _ _ _ _ _ _ _ _ _ _ _ _ _ c.self.inside.request _ r.0 r.1 r.2 refl h.on refl,
 )
 
 pub invariant_of-result : goal.invariant_of-result

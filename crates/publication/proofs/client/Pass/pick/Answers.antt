@@ -1,7 +1,7 @@
 use Rattle.std.proofs.Common.{map, ◌≡◌, ◌+◌, rules, refl, sym, ap, ◌∙◌}
 use Rattle.roster.specs.Calls.{PlaceSeen}
 use Rattle.desk_rule.proofs.Locks.{held_object}
-use Rattle.desk_rule.proofs.Rows.{looks_at_it, picks_up}
+use Rattle.desk_rule.proofs.Rows.{look_at_row_keeps_rule, pick_keeps_rule}
 use Rattle.publication.proofs.Dealing.{own_still}
 use Rattle.publication.proofs.Slots.{came_out, same_request, can_exchange}
 use Rattle.publication.proofs.Holds.{noted_ok, hand_ok}
@@ -9,10 +9,10 @@ use Rattle.publication.proofs.Said.{got, not_got}
 use Rattle.publication.proofs.client.Pass.pick.Goals as goal
 
 pub look_and_exchange-found-requires-clause-look : goal.look_and_exchange-found-requires-clause-look
-look_and_exchange-found-requires-clause-look g c = let p = c.self.invariant.0 in looks_at_it _ _ _ _ _ _ _ _ _ _ _ _ p.agrees.client_is c.requires.row p.holds
+look_and_exchange-found-requires-clause-look g c = let p = c.self.invariant.0 in look_at_row_keeps_rule _ _ _ _ _ _ _ _ _ _ _ _ p.agrees.client_is c.requires.row p.holds
 
 pub look_and_exchange-found-requires-clause-exchange : goal.look_and_exchange-found-requires-clause-exchange
-look_and_exchange-found-requires-clause-exchange g c = let p = c.self.invariant.0 in picks_up _ _ _ _ _ _ _ _ _ _ _ _ p.agrees.client_is c.requires.row p.holds
+look_and_exchange-found-requires-clause-exchange g c = let p = c.self.invariant.0 in pick_keeps_rule _ _ _ _ _ _ _ _ _ _ _ _ p.agrees.client_is c.requires.row p.holds
 
 pub look_and_exchange-found-requires-clause-found : goal.look_and_exchange-found-requires-clause-found
 look_and_exchange-found-requires-clause-found g c = λ m told. (told _ c.args.row _ c.self.invariant.0.holds refl).0 refl

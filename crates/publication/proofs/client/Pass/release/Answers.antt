@@ -1,6 +1,6 @@
 use Rattle.std.proofs.Common.{map, ◌≡◌, rules, arith, sym, ap, ◌∙◌}
 use Rattle.roster.specs.Calls.{PlaceSeen}
-use Rattle.desk_rule.proofs.Locks.{releases}
+use Rattle.desk_rule.proofs.Locks.{release_keeps_rule}
 use Rattle.publication.proofs.Dealing.{own_still}
 use Rattle.publication.proofs.Holds.{release_ready, released_ok}
 use Rattle.publication.proofs.Said.{is_released, log_is_seen}
@@ -10,7 +10,7 @@ pub store-requires : goal.store-requires
 store-requires g c = let p = c.self.invariant.0 in let low = p.low in let wide = c.desk.invariant.0.0 in let r = release_ready g.S.SeqObject.content g.S.SeqObject.op_in g.S.SeqObject.reply_in _ _ _ _ _ _ c.self.inside.core _ _ p c.exchange.ensures.3 in (
   search rules,
   omega arith,
-  releases _ _ _ _ _ _ _ _ _ _ _ _ _ r.0 r.1 r.2 r.3 r.4,
+  release_keeps_rule _ _ _ _ _ _ _ _ _ _ _ _ _ r.0 r.1 r.2 r.3 r.4,
 )
 
 pub invariant_of-result : goal.invariant_of-result
@@ -19,8 +19,8 @@ invariant_of-result g c = let p = c.self.invariant.0 in let r = release_ready g.
   own_still _ _ _ _ (ap (λ m. m.0.lists) t.0 ∙ ap (λ m. m.0.lists) c.exchange.ensures.3) c.self.invariant.1,
 )
 
-pub returns-clause-learnt : goal.returns-clause-learnt
-returns-clause-learnt g c = let p = c.self.invariant.0 in let r = release_ready g.S.SeqObject.content g.S.SeqObject.op_in g.S.SeqObject.reply_in _ _ _ _ _ _ c.self.inside.core _ _ p c.exchange.ensures.3 in let t = c.store.ensures.2 _ r.1 in
+pub returns-clause-released : goal.returns-clause-released
+returns-clause-released g c = let p = c.self.invariant.0 in let r = release_ready g.S.SeqObject.content g.S.SeqObject.op_in g.S.SeqObject.reply_in _ _ _ _ _ _ c.self.inside.core _ _ p c.exchange.ensures.3 in let t = c.store.ensures.2 _ r.1 in
     is_released c.args.self _ _ _ _ _ _ (sym c.self.view_is) c.exchange.ensures.3 t.0
 
 pub returns-clause-seen : goal.returns-clause-seen

@@ -1,8 +1,8 @@
 use Rattle.std.proofs.Common.{rules, arith, ◌∷◌, [], sym, ap, subst, ◌∙◌}
 use Rattle.desk_rule.specs.declared.board.View.{View}
-use Rattle.desk_rule.specs.Views.{journal, leaving, ending, IsAtRest}
-use Rattle.desk_rule.proofs.Ends.{ends_it}
-use Rattle.desk_rule.proofs.Farewells.{bids_farewell}
+use Rattle.desk_rule.specs.Views.{journal, end_notice, after_end, IsAtRest}
+use Rattle.desk_rule.proofs.Ends.{end_keeps_rule}
+use Rattle.desk_rule.proofs.Notices.{end_message_keeps_rule}
 use Rattle.publication.proofs.desk.Desk.retire.Goals as goal
 
 pub store-requires : goal.store-requires
@@ -11,21 +11,21 @@ store-requires g c = let d = c.self.invariant.0 in let wide = d.0 in let k = c.c
     let calm = subst (λ (v : View). IsAtRest v.own) (sym same) k.agrees.at_rest in (
       e.0 ∙ (t.0 ∙ (ap (λ k. k.desk.table) c.client.view_is ∙ (ap (λ s. s.table) c.requires ∙ sym (ap (λ s. s.id.table) c.self.view_is)))),
       omega arith,
-      ends_it _ _ _ _ _ _ _ _ _ _ c.client.inside.member.journal _ (ap (λ v. v.client) same ∙ k.agrees.client_is) (ap (λ v. v.number) same ∙ k.agrees.number_is) calm (ap (λ v. v.held) same ∙ k.free)
+      end_keeps_rule _ _ _ _ _ _ _ _ _ _ c.client.inside.member.journal _ (ap (λ v. v.client) same ∙ k.agrees.client_is) (ap (λ v. v.number) same ∙ k.agrees.number_is) calm (ap (λ v. v.held) same ∙ k.free)
           (k.agrees.journal_is ∙ sym (ap journal same)) (ap (λ m. m.1) e.3),
     )
 
 pub split_seat-requires : goal.split_seat-requires
 split_seat-requires g c = let d = c.self.invariant.0 in let wide = d.0 in let k = c.client.invariant.0 in
-    let same = ap (λ m. m.0) c.store.ensures.2 ∙ ap (λ m. ending m.0) c.exchange.ensures.3 ∙ ap (λ m. ending m.0) c.turn.ensures.2 in (
+    let same = ap (λ m. m.0) c.store.ensures.2 ∙ ap (λ m. after_end m.0) c.exchange.ensures.3 ∙ ap (λ m. after_end m.0) c.turn.ensures.2 in (
       search rules,
       omega arith,
-      bids_farewell _ _ _ _ _ _ _ _ (ap (λ v. v.client) same ∙ k.agrees.client_is) (ap (λ v. v.ended) same),
+      end_message_keeps_rule _ _ _ _ _ _ _ _ (ap (λ v. v.client) same ∙ k.agrees.client_is) (ap (λ v. v.ended) same),
     )
 
 pub returns : goal.returns
 returns g c = let k = c.client.invariant.0 in let s = c.split_seat.ensures in
-    let same = ap (λ m. m.0) c.store.ensures.2 ∙ ap (λ m. ending m.0) c.exchange.ensures.3 ∙ ap (λ m. ending m.0) c.turn.ensures.2 in
+    let same = ap (λ m. m.0) c.store.ensures.2 ∙ ap (λ m. after_end m.0) c.exchange.ensures.3 ∙ ap (λ m. after_end m.0) c.turn.ensures.2 in
     let table = s.3 ∙ (c.store.ensures.0 ∙ (c.exchange.ensures.0 ∙ (c.turn.ensures.0 ∙ ap (λ k. k.desk.table) c.client.view_is))) in
-    let left = ap (λ m. m.0.left) s.4 ∙ (ap (λ v. leaving v ∷ []) same ∙ ap (λ k. leaving k.knows ∷ []) c.client.view_is) in
+    let left = ap (λ m. m.0.left) s.4 ∙ (ap (λ v. end_notice v ∷ []) same ∙ ap (λ k. end_notice k.knows ∷ []) c.client.view_is) in
     λ i. record { table = table i; left = left i }

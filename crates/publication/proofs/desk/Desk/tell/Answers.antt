@@ -1,5 +1,5 @@
 use Rattle.std.proofs.Common.{arith, sym, ap, subst, ◌∙◌}
-use Rattle.desk_rule.proofs.Farewells.{is_told}
+use Rattle.desk_rule.proofs.Notices.{notice_keeps_rule}
 use Rattle.publication.proofs.Dealing.{own_still}
 use Rattle.publication.specs.Handles.{IsClient}
 use Rattle.publication.proofs.Holds.{agrees_light}
@@ -11,7 +11,7 @@ join_seat-requires g c = let wide = c.self.invariant.0.0 in let table = sym (ap 
   ap (λ r. r.table) c.retired.view_is ∙ (c.requires.retired ∙ table),
   c.retired.invariant,
   omega arith,
-  is_told _ _ _ _ _ _ _ _ _ _,
+  notice_keeps_rule _ _ _ _ _ _ _ _ _ _,
 )
 
 pub invariant_of-client : goal.invariant_of-client

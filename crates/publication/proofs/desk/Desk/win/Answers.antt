@@ -1,5 +1,5 @@
 use Rattle.std.proofs.Common.{rules, arith, ◌≡◌, ◌<◌, ℕ, ◌+◌, length, sym, ap, ◌∙◌, subst}
-use Rattle.desk_rule.proofs.Locks.{looks_at_lock, wins}
+use Rattle.desk_rule.proofs.Locks.{look_at_lock_keeps_rule, win_keeps_rule}
 use Rattle.publication.proofs.Dealing.{own_still}
 use Rattle.publication.proofs.Slots.{came_out, same_core, can_exchange}
 use Rattle.publication.proofs.Holds.{missed_ok, pass_ok}
@@ -7,14 +7,14 @@ use Rattle.publication.proofs.Said.{opened}
 use Rattle.publication.proofs.desk.Desk.win.Goals as goal
 
 pub look_and_exchange-found-requires-clause-look : goal.look_and_exchange-found-requires-clause-look
-look_and_exchange-found-requires-clause-look g c = looks_at_lock _ _ _ _ _ _ _ _ _ _ c.client.invariant.0.agrees.client_is
+look_and_exchange-found-requires-clause-look g c = look_at_lock_keeps_rule _ _ _ _ _ _ _ _ _ _ c.client.invariant.0.agrees.client_is
 
 pub look_and_exchange-found-requires-clause-exchange : goal.look_and_exchange-found-requires-clause-exchange
 look_and_exchange-found-requires-clause-exchange g c = let d = c.self.invariant in let m = c.client.invariant.0 in
     let inside : c.args.object < length c.self.inside.kinds.items = search rules in
     let inside' : c.args.object < length c.self.inside.table.shared.key.kinds.items = subst (λ (z : ℕ). c.args.object < z) (ap length (sym d.0.2)) inside in
     let is : 1 + c.client.inside.member.number ≡ 1 + c.client.inside.member.seat.me.0.number = ap (λ (z : ℕ). 1 + z) (sym m.agrees.number_is) in
-    wins _ _ _ _ _ _ _ _ _ _ _ m.agrees.client_is inside' is m.free m.agrees.going
+    win_keeps_rule _ _ _ _ _ _ _ _ _ _ _ m.agrees.client_is inside' is m.free m.agrees.going
 
 pub invariant_of-result : goal.invariant_of-result
 invariant_of-result g c = let t = c.look_and_exchange-found.ensures.tried.1 c.if-found-ne0.true in

@@ -1,4 +1,4 @@
--- The moves of the world: one step of one client, where it is possible, and what it changes.
+-- The transitions of the world: one step of one client, where it is possible, and what it changes.
 -- Hendler, Incze, Shavit, Tzafrir, SPAA 2010, section 2, step by step; put back is this project's.
 use Rattle.std.specs.Prelude.{◌≡◌, ◌≢◌, ℕ, ◌+◌, ◌<◌, ◌==◌, true, false, List, [], ◌∷◌, ◌++◌, length, Option, Some, None, IsSome, if◌then◌else◌}
 use Rattle.model.specs.declared.Kind.{Kind}
@@ -10,7 +10,7 @@ use Rattle.world.specs.World.{AnyRequest, AnyAnswer, AnyDone, Stage, absent, idl
 unfoldable pub changed : {A : Type 0} → (ℕ → A) → ℕ → A → ℕ → A
 changed f i v j = if j == i then v else f j
 
--- What the moves change. The client c goes to the stage t.
+-- What the transitions change. The client c goes to the stage t.
 abbrev pub staged : World → ℕ → Stage → World
 staged w c t = record w { stage = changed w.stage c t }
 
@@ -75,5 +75,6 @@ module _ (kinds : List Kind) (quota : ℕ) where
   Takes release w c w' = (x : ℕ) × (w.holder x ≡ Some c) × (w.hand x ≡ None) × (w' ≡ held_by w x None)
   Takes end w c w' = MayEnd (w.stage c) × HoldsNothing w c × (w' ≡ ended_by w c)
 
-  abbrev pub Moves : Step → World → ℕ → World → Type 0
-  Moves step w c w' = (c < 32) × (w.ended c ≡ false) × (w.stage c ≢ absent) × Takes step w c w'
+  -- the step of the client c, which has come and has not ended, leads from w to w'
+  abbrev pub Transition : Step → World → ℕ → World → Type 0
+  Transition step w c w' = (c < 32) × (w.ended c ≡ false) × (w.stage c ≢ absent) × Takes step w c w'

@@ -1,12 +1,12 @@
--- Each move leaves the world sound.
+-- Each transition keeps the invariant.
 use Rattle.std.proofs.Common.{◌≡◌, ℕ, ◌<◌, List, Some, None, refl, sym, ap, subst, ◌∙◌}
 use Rattle.model.specs.declared.Kind.{Kind}
 use Rattle.model.specs.Objects.{empty}
 use Rattle.world.specs.World.{AnyRequest, posted, picked, taken, World, kind_at, served_now, request_of}
-use Rattle.world.specs.Moves.{Step, draw_call, draw_return, post, win, pick, answer, put_back, take, release, end, Takes, Moves}
+use Rattle.world.specs.Transitions.{Step, draw_call, draw_return, post, win, pick, answer, put_back, take, release, end, Takes, Transition}
 use Rattle.world.specs.Sound.{Sound}
 use Rattle.world.proofs.Entries.{replays_more}
-use Rattle.world.proofs.Moved.{sound_held, sound_ended, sound_staged, sound_called, sound_returned, sound_picked, sound_put_back, sound_served}
+use Rattle.world.proofs.Effects.{sound_held, sound_ended, sound_staged, sound_called, sound_returned, sound_picked, sound_put_back, sound_served}
 
 module _ (kinds : List Kind) (quota : ℕ) where
   abbrev S : World → Type 0
@@ -29,5 +29,5 @@ module _ (kinds : List Kind) (quota : ℕ) where
   takes_sound release w w' c low t k = subst S (sym t.3) (sound_held kinds quota w t.0 None (λ _. t.2) k)
   takes_sound end w w' c low t k = subst S (sym t.2) (sound_ended kinds quota w c k)
 
-  pub moves_sound : (s : Step) (w w' : World) (c : ℕ) → Moves kinds quota s w c w' → S w → S w'
-  moves_sound s w w' c m k = takes_sound s w w' c m.0 m.3 k
+  pub transition_keeps_soundness : (s : Step) (w w' : World) (c : ℕ) → Transition kinds quota s w c w' → S w → S w'
+  transition_keeps_soundness s w w' c m k = takes_sound s w w' c m.0 m.3 k

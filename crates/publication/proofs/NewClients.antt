@@ -16,9 +16,9 @@ use Rattle.desk_rule.specs.declared.board.Slot.{Slot}
 use Rattle.desk_rule.specs.declared.board.Slot.TheVariants as slot
 use Rattle.desk_rule.specs.declared.board.Own.TheVariants as own
 use Rattle.desk_rule.specs.declared.board.View.{View}
-use Rattle.desk_rule.specs.Views.{newcomer, founder, founder_of, calling}
+use Rattle.desk_rule.specs.Views.{new_client, first_maker, maker_of, with_own}
 use Rattle.desk_rule.specs.Rule.{Kept}
-use Rattle.desk_rule.proofs.Beginnings.{get_or-replicate_same, opens}
+use Rattle.desk_rule.proofs.Beginnings.{get_or-replicate_same, opening_keeps_rule}
 use Rattle.publication.specs.Handles.{IsClient, at_hand}
 use Rattle.publication.proofs.Growing.{there}
 use Rattle.publication.specs.Making.{IsLaid, AreEmpty, kinds_with, HasRoom, IsSmall}
@@ -36,9 +36,9 @@ module _ {A : Type 0} where
 
 module _ {S O R : Type 0} (content : S → Content) (op_in : O → AnyOp) (reply_in : R → AnyReply) where
   pub opens_on : (plan : Plan) (objects : List S) (slots : List (Slot S O R)) → IsSmall plan → plan.kinds.items ≡ kinds_with content objects → AreEmpty content objects → IsLaid objects plan.lists.items slots
-      → Kept content op_in reply_in plan.kinds.items plan.clients plan.quota (opening (replicate 81 0) slots (founder plan.kinds.items plan.lists.items))
+      → Kept content op_in reply_in plan.kinds.items plan.clients plan.quota (opening (replicate 81 0) slots (first_maker plan.kinds.items plan.lists.items))
   opens_on plan objects slots small are clean laid = let count : length plan.kinds.items ≡ length objects = ap length are ∙ length-map objects (λ o. kind_with (content o)) in let few = small.0 in
-      opens content op_in reply_in plan.kinds.items plan.clients plan.quota plan.lists.items (replicate 81 0) slots small.0 small.1 small.2 refl (get_or-replicate_same 0 81) laid.long
+      opening_keeps_rule content op_in reply_in plan.kinds.items plan.clients plan.quota plan.lists.items (replicate 81 0) slots small.0 small.1 small.2 refl (get_or-replicate_same 0 81) laid.long
       (λ x l. let o = there objects x (omega arith) in let k = laid.cores x o.0 o.1 in
       let kind : kind_at plan.kinds.items x ≡ kind_with (content o.0) = ap (λ z. kind_at z x) are ∙ kind_there (λ o. kind_with (content o)) objects x o.0 o.1 in
       let is : content o.0 ≡ empty (kind_with (content o.0)) = holds_there (λ o. content o ≡ empty (kind_with (content o))) objects x o.0 o.1 clean in
@@ -47,7 +47,7 @@ module _ {S O R : Type 0} (content : S → Content) (op_in : O → AnyOp) (reply
 
 module _ {S O R : Type 0} (op_in : O → AnyOp) (reply_in : R → AnyReply) where
   -- a client after its first step
-  pub begun_ok : (kinds : List Kind) (lists : List TableId) (number quota : ℕ) (j : Journal O R) (m : Me (Slot S O R) View) → number < 32 → quota < 10001 → HasRoom quota j → m ≡ (calling own.Idle (newcomer kinds lists number), at_hand number own.Idle)
+  pub begun_ok : (kinds : List Kind) (lists : List TableId) (number quota : ℕ) (j : Journal O R) (m : Me (Slot S O R) View) → number < 32 → quota < 10001 → HasRoom quota j → m ≡ (with_own own.Idle (new_client kinds lists number), at_hand number own.Idle)
       → IsClient op_in reply_in number 0 quota false j m
   begun_ok kinds lists number quota j m low few room is = subst (IsClient op_in reply_in number 0 quota false j) (sym is) record {
     agrees = record {
@@ -71,8 +71,8 @@ module _ {S O R : Type 0} (op_in : O → AnyOp) (reply_in : R → AnyReply) wher
   }
 
 module _ {S O R : Type 0} where
-  -- its seat: the founder's, then split off, then after its first step
-  pub entered : (kinds : List Kind) (lists : List TableId) (number : ℕ) (f new m : Me (Slot S O R) View) → f ≡ (founder_of kinds lists number, []) → new ≡ (newcomer f.0.kinds f.0.lists f.0.made, [])
-      → m ≡ (calling own.Idle new.0, (16 + number, slot.Nothing) ∷ (48 + number, slot.Nothing) ∷ new.1) → m ≡ (calling own.Idle (newcomer kinds lists number), at_hand number own.Idle)
-  entered kinds lists number f new m a b e = e ∙ (ap (λ (z : Me (Slot S O R) View). (calling own.Idle z.0, (16 + number, slot.Nothing) ∷ (48 + number, slot.Nothing) ∷ z.1)) b
-      ∙ ap (λ (z : Me (Slot S O R) View). (calling own.Idle (newcomer z.0.kinds z.0.lists z.0.made), at_hand number own.Idle)) a)
+  -- its seat: the maker's, then split off, then after its first step
+  pub entered : (kinds : List Kind) (lists : List TableId) (number : ℕ) (f new m : Me (Slot S O R) View) → f ≡ (maker_of kinds lists number, []) → new ≡ (new_client f.0.kinds f.0.lists f.0.made, [])
+      → m ≡ (with_own own.Idle new.0, (16 + number, slot.Nothing) ∷ (48 + number, slot.Nothing) ∷ new.1) → m ≡ (with_own own.Idle (new_client kinds lists number), at_hand number own.Idle)
+  entered kinds lists number f new m a b e = e ∙ (ap (λ (z : Me (Slot S O R) View). (with_own own.Idle z.0, (16 + number, slot.Nothing) ∷ (48 + number, slot.Nothing) ∷ z.1)) b
+      ∙ ap (λ (z : Me (Slot S O R) View). (with_own own.Idle (new_client z.0.kinds z.0.lists z.0.made), at_hand number own.Idle)) a)

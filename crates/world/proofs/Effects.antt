@@ -1,4 +1,4 @@
--- What each move changes leaves the world sound.
+-- What each transition changes keeps the invariant.
 use Rattle.std.proofs.Common.{◌≡◌, ◌≢◌, ℕ, ◌+◌, ◌*◌, ◌<◌, ◌≤◌, List, [], ◌∷◌, ◌++◌, Option, Some, None, All, length, refl, sym, ap, subst, ◌∙◌, arith, append-nil, length-append}
 use mathlib.Core.Logic.{dite}
 use native.Mathlib.Decide.{ℕ_discrete}
@@ -8,7 +8,7 @@ use Rattle.model.specs.declared.Kind.{Kind}
 use Rattle.model.specs.Objects.{kind_of}
 use Rattle.world.specs.declared.Answer.TheVariants.{Reply, Refused}
 use Rattle.world.specs.World.{AnyEntry, AnyRequest, AnyAnswer, AnyDone, Stage, absent, idle, drawn, posted, picked, answered, taken, World, kind_at, logged, logged_on, entries_of, served, served_now, request_of, calls_made, tickets_drawn, IsLegal, StartsWith}
-use Rattle.world.specs.Moves.{changed, staged, ticked, held_by, handed, served_by, ended_by}
+use Rattle.world.specs.Transitions.{changed, staged, ticked, held_by, handed, served_by, ended_by}
 use Rattle.world.specs.Sound.{Sound, SoundJournals, total}
 use Rattle.world.proofs.Changed.{changed_here, changed_else, changed_all}
 use Rattle.world.proofs.Entries.{entries-append, own_entries, others_entries, logged_here, logged_else, served_more, starts_same}

@@ -1,15 +1,15 @@
--- The opening world is sound, and stays so when a client comes.
+-- The initial world is sound, and stays so when a client comes.
 use Rattle.std.proofs.Common.{◌≡◌, ℕ, ◌<◌, List, refl, sym, ap, ◌∙◌, arith}
 use Rattle.std.proofs.lemmas.List.Elements.{All-nil}
 use Rattle.model.specs.declared.Kind.{Kind}
 use Rattle.model.specs.Objects.{empty}
-use Rattle.world.specs.World.{AnyEntry, absent, idle, World, opening_world, kind_at, request_of, served_now}
-use Rattle.world.specs.Moves.{staged}
+use Rattle.world.specs.World.{AnyEntry, absent, idle, World, initial_world, kind_at, request_of, served_now}
+use Rattle.world.specs.Transitions.{staged}
 use Rattle.world.specs.Sound.{Sound, IsAmong, IsInTime}
-use Rattle.world.proofs.Moved.{sound_staged}
+use Rattle.world.proofs.Effects.{sound_staged}
 
-pub sound_opening : (kinds : List Kind) (quota : ℕ) → Sound kinds quota opening_world
-sound_opening kinds quota = record {
+pub sound_initial : (kinds : List Kind) (quota : ℕ) → Sound kinds quota initial_world
+sound_initial kinds quota = record {
   legal = λ x. (empty (kind_at kinds x), refl);
   counted = λ c x. refl;
   in_hand = λ x r e. absurd (cc);
@@ -27,10 +27,10 @@ sound_opening kinds quota = record {
       each = λ t l. absurd (omega arith);
     };
     on_objects = λ c. All-nil (IsAmong kinds);
-    in_time = λ c. All-nil (IsInTime opening_world c);
+    in_time = λ c. All-nil (IsInTime initial_world c);
     not_come = λ c e. refl;
   };
 }
 
-pub sound_come : (kinds : List Kind) (quota : ℕ) (w : World) (c : ℕ) → w.stage c ≡ absent → Sound kinds quota w → Sound kinds quota (staged w c idle)
-sound_come kinds quota w c was = sound_staged kinds quota w c idle (λ q e. let f = sym was ∙ e in absurd (cc)) (λ q e. absurd (cc)) (ap request_of (sym was)) (λ e. absurd (cc)) (λ x. ap (served_now x c) (sym was))
+pub sound_coming : (kinds : List Kind) (quota : ℕ) (w : World) (c : ℕ) → w.stage c ≡ absent → Sound kinds quota w → Sound kinds quota (staged w c idle)
+sound_coming kinds quota w c was = sound_staged kinds quota w c idle (λ q e. let f = sym was ∙ e in absurd (cc)) (λ q e. absurd (cc)) (ap request_of (sym was)) (λ e. absurd (cc)) (λ x. ap (served_now x c) (sym was))

@@ -1,0 +1,101 @@
+-- Views that are no client's and only carry what one client tells another: such a view comes, and is spent.
+use Rattle.std.proofs.Common.{◌≡◌, ◌≢◌, ℕ, true, false, List, [], ◌∷◌, ◌++◌, length, set, All, refl, sym, ap, ◌∙◌, subst, ◌⊎◌, ⊎_elim, inl, inr}
+use mathlib.Core.Option.{some}
+use lib.ListN.{get_elem?}
+use Rattle.std.proofs.lemmas.List.Elements.{All-nil}
+use Rattle.atomic_table.specs.Table.{State, Splits, Joins}
+use Rattle.atomic_table.specs.Seated.{TableId}
+use Rattle.atomic_table.proofs.Lists.{at_set, set_again, set_else}
+use Rattle.model.specs.declared.Kind.{Kind}
+use Rattle.model.specs.declared.AnyOp.{AnyOp}
+use Rattle.model.specs.declared.AnyReply.{AnyReply}
+use Rattle.model.specs.Objects.{Content}
+use Rattle.desk_rule.specs.declared.board.Slot.{Slot}
+use Rattle.desk_rule.specs.declared.board.View.{View}
+use Rattle.world.specs.World.{World, StartsWith}
+use Rattle.desk_rule.specs.Views.{seen_of, received_of, empty_message}
+use Rattle.desk_rule.specs.Rule.{HasLeft, ViewOk, Makers}
+use Rattle.desk_rule.proofs.Seats.{makers_stay, Rule}
+use Rattle.desk_rule.proofs.Beginnings.{get_or-replicate_same, at_end}
+
+-- a list whose views are those of another list, and one that is no client's and no maker's
+makers_with : (clients : ℕ) (vs us : List View) (b : View) → b.client ≡ false → b.maker ≡ false → ((a : ℕ) (z : View) → get_elem? us a ≡ some z → (get_elem? vs a ≡ some z) ⊎ (b ≡ z)) → Makers clients vs → Makers clients us
+makers_with clients vs us b idle_client idle_maker old k = record {
+  made = λ j v e is i u f. ⊎_elim (λ (p : get_elem? vs j ≡ some v). ⊎_elim (λ (q : get_elem? vs i ≡ some u). k.made j v p is i u q)
+      (λ (q : b ≡ u). ((λ tc. let h = sym idle_client ∙ (ap (λ z. z.client) q ∙ tc) in absurd (cc)), λ tm. let h = sym idle_maker ∙ (ap (λ z. z.maker) q ∙ tm) in absurd (cc))) (old i u f))
+      (λ (p : b ≡ v). let h = sym idle_maker ∙ (ap (λ z. z.maker) p ∙ is) in absurd (cc)) (old j v e);
+  numbers = λ j v e is. ⊎_elim (λ (p : get_elem? vs j ≡ some v). k.numbers j v p is) (λ (p : b ≡ v). let h = sym idle_client ∙ (ap (λ z. z.client) p ∙ is) in absurd (cc)) (old j v e);
+}
+
+pub makers_more : (clients : ℕ) (vs : List View) (b : View) → b.client ≡ false → b.maker ≡ false → Makers clients vs → Makers clients (vs ++ b ∷ [])
+makers_more clients vs b idle_client idle_maker = makers_with clients vs (vs ++ b ∷ []) b idle_client idle_maker
+    (λ a z q. ⊎_elim (λ t. inl t) (λ (t : (a ≡ length vs) × (b ≡ z)). inr t.1) (at_end vs b z a q))
+
+pub makers_drop : (clients : ℕ) (vs : List View) (id : ℕ) (b : View) → b.client ≡ false → b.maker ≡ false → Makers clients vs → Makers clients (set vs id b)
+makers_drop clients vs id b idle_client idle_maker = makers_with clients vs (set vs id b) b idle_client idle_maker
+    (λ a z q. ⊎_elim (λ (t : (a ≡ id) × (b ≡ z)). inr t.1) (λ (t : (a ≢ id) × (get_elem? vs a ≡ some z)). inl t.1) (at_set vs id a b z q))
+
+-- a view that is no client's and no maker's owes the truth of what it carries, and nothing more
+pub message_ok : (kinds : List Kind) (lists : List TableId) (w : World) (so : ℕ → ℕ) (j : ℕ) (v : View) → v.client ≡ false → v.maker ≡ false
+    → ((x : ℕ) → StartsWith (w.log x) (seen_of v x)) → ((x : ℕ) → StartsWith (w.log x) (received_of v x)) → All (HasLeft w) v.left → ViewOk kinds lists w so j v
+message_ok kinds lists w so j v no_client no_maker seen received left = record {
+  seen = seen;
+  received = received;
+  left = left;
+  client = λ f. let e = sym no_client ∙ f in absurd (cc);
+  unmade = λ f. let e = sym no_maker ∙ f in absurd (cc);
+  maker_kinds = λ f. let e = sym no_maker ∙ f in absurd (cc);
+  lists_are = λ f. let e = sym no_client ∙ f in absurd (cc);
+  maker_lists = λ f. let e = sym no_maker ∙ f in absurd (cc);
+}
+
+-- nothing was seen, which each log begins with
+pub nothing_seen : (w : World) (x : ℕ) → StartsWith (w.log x) (seen_of empty_message x)
+nothing_seen w x = (w.log x, ap (λ z. z ++ w.log x) (sym (get_or-replicate_same [] 16 x)))
+
+empty_message_ok : (kinds : List Kind) (lists : List TableId) (w : World) (so : ℕ → ℕ) (j : ℕ) → ViewOk kinds lists w so j empty_message
+empty_message_ok kinds lists w so j = message_ok kinds lists w so j empty_message refl refl (nothing_seen w) (λ x. (w.log x, refl)) (All-nil (HasLeft w))
+
+module _ {S O R : Type 0} (content : S → Content) (op_in : O → AnyOp) (reply_in : R → AnyReply) (kinds : List Kind) (clients quota : ℕ) where
+  abbrev K : State (Slot S O R) View → Type 0
+  K = Rule content op_in reply_in kinds clients quota
+
+  -- a message b more
+  pub sending_keeps_rule : (id : ℕ) (v b : View) → b.client ≡ false → b.maker ≡ false
+      → ((s : State (Slot S O R) View) (k : K s) → get_elem? s.views id ≡ some v → (j : ℕ) → ViewOk kinds k.lists k.world k.seat_of j b) → Splits K id v v b
+  sending_keeps_rule id v b no_client no_maker ok s k at = subst (λ (z : List View). K record { words = s.words; homes = s.homes; views = z ++ b ∷ [] }) (sym (set_again s.views id v at)) record {
+    world = k.world;
+    seat_of = k.seat_of;
+    lists = k.lists;
+    few_calls = k.few_calls;
+    few_clients = k.few_clients;
+    holders = k.holders;
+    come = k.come;
+    sound = k.sound;
+    tied = k.tied;
+    seats = λ j u e. ⊎_elim (k.seats j u) (λ (t : (j ≡ length s.views) × (b ≡ u)). subst (λ z. ViewOk kinds k.lists k.world k.seat_of j z) t.1 (ok s k at j)) (at_end s.views b u j e);
+    makers = makers_more clients s.views b no_client no_maker k.makers;
+  }
+
+  -- the view v takes in the message t, which is spent, and becomes v'
+  pub receiving_keeps_rule : (id : ℕ) (v v' : View) (other : ℕ) (t : View) → v'.client ≡ v.client → v'.number ≡ v.number → v'.maker ≡ v.maker → v'.made ≡ v.made
+      → ((s : State (Slot S O R) View) (k : K s) → get_elem? s.views id ≡ some v → get_elem? s.views other ≡ some t → ViewOk kinds k.lists k.world k.seat_of id v') → Joins K id v other t v' empty_message
+  receiving_keeps_rule id v v' other t client number maker made ok s k at apart there = let mid : List View = set s.views id v' in record {
+    world = k.world;
+    seat_of = k.seat_of;
+    lists = k.lists;
+    few_calls = k.few_calls;
+    few_clients = k.few_clients;
+    holders = k.holders;
+    come = k.come;
+    sound = k.sound;
+    tied = k.tied;
+    seats = λ j u e. ⊎_elim
+        (λ (h : (j ≡ other) × (empty_message ≡ u)). subst (λ z. ViewOk kinds k.lists k.world k.seat_of j z) h.1 (empty_message_ok kinds k.lists k.world k.seat_of j))
+        (λ (h : (j ≢ other) × (get_elem? mid j ≡ some u)). ⊎_elim
+        (λ (g : (j ≡ id) × (v' ≡ u)). subst (λ (z : ℕ × View). ViewOk kinds k.lists k.world k.seat_of z.0 z.1) (λ i. (sym g.0 i, g.1 i)) (ok s k at (sym (set_else s.views id other v' apart) ∙ there)))
+        (λ (g : (j ≢ id) × (get_elem? s.views j ≡ some u)). k.seats j u g.1)
+        (at_set s.views id j v' u h.1))
+        (at_set mid other j empty_message u e);
+    makers = makers_drop clients mid other empty_message refl refl (makers_stay clients s.views id v v' at client number maker made k.makers);
+  }
