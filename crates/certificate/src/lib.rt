@@ -17,6 +17,3 @@ pub struct Certificate {
     pub object: u32,
     pub order: Vec<i64>,
 }
-
-#[cfg(test)]
-mod tests;

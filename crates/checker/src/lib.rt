@@ -11,6 +11,3 @@ pub use all::{check_all, check_piece, places, strange_object};
 pub use object::check_object;
 pub use refusal::{OrderFault, Refusal};
 pub use walk::check_order;
-
-#[cfg(test)]
-mod tests;

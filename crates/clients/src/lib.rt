@@ -6,6 +6,3 @@ mod run;
 mod worker;
 
 pub use run::{RunFault, run_workers};
-
-#[cfg(test)]
-mod tests;

@@ -9,6 +9,3 @@ mod waiting;
 
 pub use passes::{Combined, combine};
 pub use waiting::{CallFault, call, wait_for};
-
-#[cfg(test)]
-mod tests;

@@ -6,6 +6,3 @@ mod parsing;
 
 pub use asking::{Line, LineFault, RunOptions};
 pub use parsing::line;
-
-#[cfg(test)]
-mod tests;

@@ -18,6 +18,3 @@ pub use command_line::{Line, LineFault, RunOptions, line};
 pub use program::perform;
 pub use sources::{NamedFile, Text};
 pub use statuses::{FAILED, NO_MEMORY, USAGE, status_of_fault};
-
-#[cfg(test)]
-mod tests;

@@ -8,6 +8,3 @@ mod object;
 pub use all::decide_all;
 pub use object::decide;
 pub use search::{Found, Search};
-
-#[cfg(test)]
-mod tests;

@@ -37,6 +37,3 @@ pub use reader::{MAX_LENGTH, read_forms};
 pub use sink::{Device, Failed, Out, Sink};
 pub use source::{In, Source};
 pub use writer::{WriteFault, write_bytes, write_form, write_integer};
-
-#[cfg(test)]
-mod tests;

@@ -10,6 +10,3 @@ pub use by_object::{split, split_part};
 pub use event::{Action, Event};
 pub use history::History;
 pub use operations::{End, Invocation, ObjectHistory};
-
-#[cfg(test)]
-mod tests;

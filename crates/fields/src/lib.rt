@@ -69,6 +69,3 @@ pub fn object(number: Option<u64>) -> Option<u32>
         _ => None,
     }
 }
-
-#[cfg(test)]
-mod tests;

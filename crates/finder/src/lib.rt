@@ -26,6 +26,3 @@ mod ways;
 
 pub use all::find_all;
 pub use finding::{Found, find};
-
-#[cfg(test)]
-mod tests;

@@ -13,6 +13,3 @@ pub use events::{Action, End, Event, History, Invocation, ObjectHistory, split};
 pub use fault::{HistoryFault, HistoryFaultKind, TextFault};
 pub use reader::read_history;
 pub use text_reader::read_history_text;
-
-#[cfg(test)]
-mod tests;

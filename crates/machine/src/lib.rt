@@ -15,6 +15,3 @@ mod taking;
 pub use machine::Machine;
 pub use running::{NoMemoryAt, Ran};
 pub use step::{Outcome, Step, StepFault};
-
-#[cfg(test)]
-mod tests;

@@ -96,6 +96,3 @@ impl<V: Drop> NumberMap<V> {
         None
     }
 }
-
-#[cfg(test)]
-mod tests;

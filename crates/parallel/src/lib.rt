@@ -6,6 +6,3 @@ mod share;
 mod workers;
 
 pub use workers::check_parallel;
-
-#[cfg(test)]
-mod tests;

@@ -22,6 +22,3 @@ pub use desk::{Desk, Picked, Post, Win};
 pub use recorder::{Answer, JournalEvent, LogEntry, Record};
 pub use roster::Enlist;
 pub use world::Request;
-
-#[cfg(test)]
-mod tests;

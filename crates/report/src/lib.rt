@@ -10,6 +10,3 @@ mod writing;
 pub use counting::summary;
 pub use verdict::{Fault, KindCount, Summary, Verdict};
 pub use writing::write_verdict;
-
-#[cfg(test)]
-mod tests;

@@ -28,10 +28,10 @@ at_end [] a b (suc j) e = absurd (some-ne-none b (sym e))
 at_end (x ∷ xs) a b zero e = inl e
 at_end (x ∷ xs) a b (suc j) e = ⊎_elim (λ t. inl t) (λ (t : (j ≡ length xs) × (a ≡ b)). inr (ap suc t.0, t.1)) (at_end xs a b j e)
 
-abbrev founder : View
-founder = view.Walker 0 [] None []
+abbrev first_walker : View
+first_walker = view.Walker 0 [] None []
 
-pub opening_keeps_rule : (words : List ℕ) → length words ≡ 65 → ((i : ℕ) → get_or words i 0 ≡ 0) → Holds (opening words [] founder)
+pub opening_keeps_rule : (words : List ℕ) → length words ≡ 65 → ((i : ℕ) → get_or words i 0 ≡ 0) → Holds (opening words [] first_walker)
 opening_keeps_rule words wide zeros = record {
   list = empty_list;
   sound = record { few = omega arith; low = λ k l. absurd (omega arith); distinct = λ i j l m e. absurd (omega arith); listed = λ k l. absurd (omega arith); stands = λ r e. absurd (cc) };
@@ -39,7 +39,7 @@ opening_keeps_rule words wide zeros = record {
   count = refl;
   unmade = λ r l. refl;
   seats = λ j v e. ⊎_elim (λ (t : get_elem? [] j ≡ some v). absurd (some-ne-none v (sym t)))
-      (λ (t : (j ≡ 0) × (founder ≡ v)). subst (λ z. ViewOk empty_list j z) t.1 (t.0, refl, ([], refl), λ q e. absurd (cc))) (at_end [] founder v j e);
+      (λ (t : (j ≡ 0) × (first_walker ≡ v)). subst (λ z. ViewOk empty_list j z) t.1 (t.0, refl, ([], refl), λ q e. absurd (cc))) (at_end [] first_walker v j e);
 }
 
 out_later : (w : PublicationList) (o : Option ℕ) → TakenOutOk w o → TakenOutOk (record w { made = w.made + 1 }) o
@@ -80,8 +80,8 @@ zeros zero i = refl
 zeros (suc n) zero = refl
 zeros (suc n) (suc i) = zeros n i
 
-pub split_allowed : (id row : ℕ) (m : Hands) → row < 32 → m ≡ (view.Walker row [] None [], []) → Splits Holds id m.0 (play.one_made m.0) (play.newcomer m.0)
-split_allowed id row m low is = subst (λ (z : Hands). Splits Holds id z.0 (play.one_made z.0) (play.newcomer z.0)) (sym is) (split_keeps_rule id row [] None [] low)
+pub split_allowed : (id row : ℕ) (m : Hands) → row < 32 → m ≡ (view.Walker row [] None [], []) → Splits Holds id m.0 (play.after_making m.0) (play.new_place m.0)
+split_allowed id row m low is = subst (λ (z : Hands). Splits Holds id z.0 (play.after_making z.0) (play.new_place z.0)) (sym is) (split_keeps_rule id row [] None [] low)
 
 pub ArePlaces-more : (id : TableId) (n : ℕ) (xs ys : List PlaceSeen) (p : PlaceSeen) → ArePlaces id n xs → ys ≡ xs ++ p ∷ [] → p ≡ record { roster = id; row = n; tries = [] } → ArePlaces id (n + 1) ys
 ArePlaces-more id n xs ys p k more is = (

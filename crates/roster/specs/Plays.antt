@@ -10,13 +10,13 @@ use Rattle.roster.specs.declared.board.View.TheVariants as view
 use Rattle.roster.specs.PublicationList.{WalkMeets, word_at}
 
 -- the walker's view once it has made a place more, and that of the place
-abbrev pub one_made : View → View
-one_made (view.Walker made left out walks) = view.Walker (made + 1) left out walks
-one_made v = v
+abbrev pub after_making : View → View
+after_making (view.Walker made left out walks) = view.Walker (made + 1) left out walks
+after_making v = v
 
-abbrev pub newcomer : View → View
-newcomer (view.Walker made left out walks) = view.Place made own.Unknown []
-newcomer v = v
+abbrev pub new_place : View → View
+new_place (view.Walker made left out walks) = view.Place made own.Unknown []
+new_place v = v
 
 -- what a seat has in its hands: its view, and no slots
 abbrev pub Hands : Type 0

@@ -16,6 +16,3 @@ pub use place::Place;
 pub use roster::Roster;
 pub use shared::{SharedPlace, SharedRoster, SharedWalker};
 pub use walker::Walker;
-
-#[cfg(test)]
-mod tests;

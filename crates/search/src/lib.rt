@@ -9,6 +9,3 @@ pub use all::{search_all, search_all_by};
 pub use found::{Found, Search};
 pub use object::{search, search_by};
 pub use order_search::TryFirst;
-
-#[cfg(test)]
-mod tests;

@@ -26,6 +26,3 @@ pub use queue::{Queue, QueueOp};
 pub use register::{Register, RegisterOp, RegisterReply};
 pub use stack::{Stack, StackOp};
 pub use value::{Value, function_of, op_of, reply_of, value_of_op, value_of_reply};
-
-#[cfg(test)]
-mod tests;

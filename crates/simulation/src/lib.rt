@@ -6,6 +6,3 @@ mod simulating;
 
 pub use playing::{PlayFault, Played, play};
 pub use simulating::{SimulationFault, simulate};
-
-#[cfg(test)]
-mod tests;

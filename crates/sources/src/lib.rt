@@ -11,6 +11,3 @@ pub use check::{Text, ToolFault, check_bytes, check_over};
 pub use edn::{In, Source};
 pub use file::NamedFile;
 pub use reading::{ReadFault, read_text};
-
-#[cfg(test)]
-mod tests;

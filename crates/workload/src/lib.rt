@@ -8,6 +8,3 @@ mod work;
 
 pub use drawn::workload;
 pub use work::Workload;
-
-#[cfg(test)]
-mod tests;

@@ -1,7 +1,7 @@
 use Rattle.std.proofs.Common.{arith, ◌≡◌, ◌≤◌, ℕ, [], length, None, refl, sym, ap, ◌∙◌, subst}
 use Rattle.roster.specs.declared.board.View.TheVariants as view
 use Rattle.roster.specs.declared.board.Own.TheVariants as own
-use Rattle.roster.specs.Plays.{Hands, one_made, newcomer}
+use Rattle.roster.specs.Plays.{Hands, after_making, new_place}
 use Rattle.roster.specs.Calls.{ArePlaces}
 use Rattle.roster.specs.Inside.{tries_of}
 use Rattle.roster.proofs.RosterMaking.{split_allowed, ArePlaces-more}
@@ -25,7 +25,7 @@ invariant_of-push_reserved c =
     let i = c.loop-row.invariant in
     let few = c.requires.rows in
     let low = c.loop-row-test.true in
-    let e = c.split_seat-chair.ensures.4 ∙ ap (λ (m : Hands). (newcomer m.0, [])) i.seat in
+    let e = c.split_seat-chair.ensures.4 ∙ ap (λ (m : Hands). (new_place m.0, [])) i.seat in
     (omega arith, (own.Unknown, e ∙ (λ j. (view.Place c.loop-row.row own.Unknown (tries_of (sym e j).0), [])), refl))
 
 pub push_reserved-requires : goal.push_reserved-requires
@@ -45,10 +45,10 @@ loop-row-preserved c =
     let room = i.room in
     let len = p.len in
     let cap = p.capacity in
-    let new = s.4 ∙ ap (λ (m : Hands). (newcomer m.0, [])) i.seat in
+    let new = s.4 ∙ ap (λ (m : Hands). (new_place m.0, [])) i.seat in
     record {
       table = s.0 ∙ i.table;
-      seat = s.2 ∙ ap (λ (m : Hands). (one_made m.0, m.1)) i.seat;
+      seat = s.2 ∙ ap (λ (m : Hands). (after_making m.0, m.1)) i.seat;
       long = omega arith;
       room = omega arith;
       made = ArePlaces-more c.args.seat.now.table_id c.loop-row.row c.loop-row.made.items c.push_reserved.new.self.items _ i.made p.items (λ j. record { roster = (s.3 ∙ i.table) j; row = c.loop-row.row; tries = tries_of (new j).0 });

@@ -1,0 +1,6 @@
+#![tactic(auto)]
+
+#[cfg(test)]
+mod edn;
+#[cfg(test)]
+mod fields;
