@@ -17,6 +17,7 @@ use Rattle.desk_rule.specs.declared.board.Slot.TheVariants as slot
 use Rattle.desk_rule.specs.declared.board.Own.TheVariants as own
 use Rattle.desk_rule.specs.declared.board.Held.TheVariants as held
 use Rattle.desk_rule.specs.declared.board.PutBack.{PutBack}
+use Rattle.desk_rule.specs.declared.board.Role.TheVariants as role
 use Rattle.desk_rule.specs.declared.board.View.{View}
 use Rattle.world.specs.World.{AnyRequest, absent, idle, posted, picked, World, initial_world, kind_at, entries_of, request_of}
 use Rattle.world.specs.Transitions.{changed, staged}
@@ -83,16 +84,16 @@ module _ {S O R : Type 0} (content : S → Content) (op_in : O → AnyOp) (reply
     }) (at_snoc [] (first_maker kinds lists) v j e);
     makers = record {
       made = λ j v e is i u f. (
-        (λ tc. ⊎_elim (λ (t : get_elem? [] i ≡ some u). absurd (some-ne-none u (sym t))) (λ (t : first_maker kinds lists ≡ u). let g = ap (λ z. z.client) t in absurd (cc)) (at_snoc [] (first_maker kinds lists) u i f)),
+        (λ tc. ⊎_elim (λ (t : get_elem? [] i ≡ some u). absurd (some-ne-none u (sym t))) (λ (t : first_maker kinds lists ≡ u). let g = ap (λ z. z.role) t in absurd (cc)) (at_snoc [] (first_maker kinds lists) u i f)),
         λ tm. ⊎_elim (λ (t : get_elem? [] i ≡ some u). absurd (some-ne-none u (sym t))) (λ (t : (i ≡ 0) × (first_maker kinds lists ≡ u)).
             ⊎_elim (λ (h : get_elem? [] j ≡ some v). absurd (some-ne-none v (sym h))) (λ (h : (j ≡ 0) × (first_maker kinds lists ≡ v)). t.0 ∙ sym h.0) (at_end [] (first_maker kinds lists) v j e)) (at_end [] (first_maker kinds lists) u i f),
       );
-      numbers = λ j v e is. ⊎_elim (λ (t : get_elem? [] j ≡ some v). absurd (some-ne-none v (sym t))) (λ (t : first_maker kinds lists ≡ v). let g = ap (λ z. z.client) t in absurd (cc)) (at_snoc [] (first_maker kinds lists) v j e);
+      numbers = λ j v e is. ⊎_elim (λ (t : get_elem? [] j ≡ some v). absurd (some-ne-none v (sym t))) (λ (t : first_maker kinds lists ≡ v). let g = ap (λ z. z.role) t in absurd (cc)) (at_snoc [] (first_maker kinds lists) v j e);
     };
   }
 
-  pub making_keeps_rule : (id : ℕ) (v : View) → v.maker ≡ true → v.client ≡ false → v.made < clients → Splits K id v (after_making v) (new_client v.kinds v.lists v.made)
-  making_keeps_rule id v is un low s k at =
+  pub making_keeps_rule : (id : ℕ) (v : View) → v.role ≡ role.Maker → v.made < clients → Splits K id v (after_making v) (new_client v.kinds v.lists v.made)
+  making_keeps_rule id v is low s k at =
       let w : World = k.world in let c : ℕ = v.made in let l : View = after_making v in let new : View = new_client v.kinds v.lists c in let here : ℕ = length (set s.views id l) in
       let so' : ℕ → ℕ = changed k.seat_of c here in let old = k.seats id v at in let none_yet = old.unmade is c (omega arith) in let few = k.few_clients in record {
         world = w;
@@ -160,20 +161,20 @@ module _ {S O R : Type 0} (content : S → Content) (op_in : O → AnyOp) (reply
               let known : (a : ℕ) (z : View) → get_elem? (set s.views id l ++ new ∷ []) a ≡ some z → ((a ≡ id) × (l ≡ z)) ⊎ (((a ≢ id) × (get_elem? s.views a ≡ some z)) ⊎ (new ≡ z)) = λ a z q. ⊎_elim
               (λ (t : get_elem? (set s.views id l) a ≡ some z). ⊎_elim (λ (h : (a ≡ id) × (l ≡ z)). inl h) (λ (h : (a ≢ id) × (get_elem? s.views a ≡ some z)). inr (inl h)) (at_set s.views id a l z t))
               (λ (t : (a ≡ here) × (new ≡ z)). inr (inr t.1)) (at_end (set s.views id l) new z a q) in
-              let at_id : (a : ℕ) (z : View) → get_elem? (set s.views id l ++ new ∷ []) a ≡ some z → z.maker ≡ true → (a ≡ id) × (z.made ≡ c + 1) = λ a z q tm. ⊎_elim (λ (h : (a ≡ id) × (l ≡ z)). (h.0, ap (λ p. p.made) (sym h.1)))
-              (λ (h : ((a ≢ id) × (get_elem? s.views a ≡ some z)) ⊎ (new ≡ z)). ⊎_elim (λ (r : (a ≢ id) × (get_elem? s.views a ≡ some z)). absurd (r.0 ((k.makers.made id v at is a z r.1).1 tm))) (λ (r : new ≡ z). let o = ap (λ p. p.maker) r in absurd (cc)) h) (known a z q) in
+              let at_id : (a : ℕ) (z : View) → get_elem? (set s.views id l ++ new ∷ []) a ≡ some z → z.role ≡ role.Maker → (a ≡ id) × (z.made ≡ c + 1) = λ a z q tm. ⊎_elim (λ (h : (a ≡ id) × (l ≡ z)). (h.0, ap (λ p. p.made) (sym h.1)))
+              (λ (h : ((a ≢ id) × (get_elem? s.views a ≡ some z)) ⊎ (new ≡ z)). ⊎_elim (λ (r : (a ≢ id) × (get_elem? s.views a ≡ some z)). absurd (r.0 ((k.makers.made id v at is a z r.1).1 tm))) (λ (r : new ≡ z). let o = ap (λ p. p.role) r in absurd (cc)) h) (known a z q) in
               let a = at_id j u e f in (
-                (λ tc. ⊎_elim (λ (h : (i ≡ id) × (l ≡ y)). let o = ap (λ p. p.client) h.1 in absurd (cc))
+                (λ tc. ⊎_elim (λ (h : (i ≡ id) × (l ≡ y)). let o = ap (λ p. p.role) h.1 in absurd (cc))
                     (λ (h : ((i ≢ id) × (get_elem? s.views i ≡ some y)) ⊎ (new ≡ y)). ⊎_elim (λ (r : (i ≢ id) × (get_elem? s.views i ≡ some y)). let o = (k.makers.made id v at is i y r.1).0 tc in let b = a.1 in omega arith) (λ (r : new ≡ y). let o = ap (λ p. p.number) r in let b = a.1 in omega arith) h) (known i y g)),
                 λ tm. (at_id i y g tm).0 ∙ sym a.0,
               );
           numbers = λ j u e is'. ⊎_elim
-              (λ (t : get_elem? (set s.views id l) j ≡ some u). ⊎_elim (λ (h : (j ≡ id) × (l ≡ u)). let o = ap (λ p. p.client) h.1 in absurd (cc)) (λ (h : (j ≢ id) × (get_elem? s.views j ≡ some u)). k.makers.numbers j u h.1 is') (at_set s.views id j l u t))
+              (λ (t : get_elem? (set s.views id l) j ≡ some u). ⊎_elim (λ (h : (j ≡ id) × (l ≡ u)). let o = ap (λ p. p.role) h.1 in absurd (cc)) (λ (h : (j ≢ id) × (get_elem? s.views j ≡ some u)). k.makers.numbers j u h.1 is') (at_set s.views id j l u t))
               (λ (t : (j ≡ here) × (new ≡ u)). let o = ap (λ p. p.number) t.1 in omega arith) (at_end (set s.views id l) new u j e);
         };
       }
 
-  pub begin_keeps_rule : (slots id c : ℕ) (m : Me (Slot S O R) View) → m.0.client ≡ true → m.0.number ≡ c → c < 32 → m.0.own ≡ own.Absent → m.0.held ≡ held.Free → m.0.ended ≡ false
+  pub begin_keeps_rule : (slots id c : ℕ) (m : Me (Slot S O R) View) → m.0.role ≡ role.Client → m.0.number ≡ c → c < 32 → m.0.own ≡ own.Absent → m.0.held ≡ held.Free → m.0.ended ≡ false
       → Allows K slots id m (row_place c) (λ f. f) (play.begins content op_in reply_in (step slots (row_place c) 0 0 maybe.none) m)
   begin_keeps_rule slots id c m cl number low is free going s k deep at small =
       let w : World = k.world in let ok = subst (λ z. SeatOk kinds w z m.0) number (mine content op_in reply_in kinds clients quota s k id m.0 cl at) in let v' : View = with_own own.Idle m.0 in

@@ -19,6 +19,7 @@ use Rattle.desk_rule.specs.declared.board.Own.{Own}
 use Rattle.desk_rule.specs.declared.board.Own.TheVariants as own
 use Rattle.desk_rule.specs.declared.board.Held.{Held}
 use Rattle.desk_rule.specs.declared.board.Held.TheVariants as held
+use Rattle.desk_rule.specs.declared.board.Role.TheVariants as role
 use Rattle.desk_rule.specs.declared.board.View.{View}
 use Rattle.world.specs.declared.Request.{Request}
 use Rattle.world.specs.declared.Answer.{Answer}
@@ -111,7 +112,7 @@ module _ {S O R : Type 0} (content : S → Content) (op_in : O → AnyOp) (reply
   more_by_one s k = let low = clock_low kinds quota k.world k.few_calls k.sound in let is = k.tied.clock in omega arith
 
   -- where the object of the request is there in each state
-  draws_where : (slots id i : ℕ) (m : Me (Slot S O R) View) (p : Request O) (tl : List (ℕ × Slot S O R)) → m.0.client ≡ true → m.0.own ≡ own.Idle → m.0.ended ≡ false → m.1 ≡ (i, slot.Request p) ∷ tl
+  draws_where : (slots id i : ℕ) (m : Me (Slot S O R) View) (p : Request O) (tl : List (ℕ × Slot S O R)) → m.0.role ≡ role.Client → m.0.own ≡ own.Idle → m.0.ended ≡ false → m.1 ≡ (i, slot.Request p) ∷ tl
       → ((s : State (Slot S O R) View) → K s → get_elem? s.views id ≡ some m.0 → p.object < length kinds) → kind_of (op_in p.op) ≡ kind_at kinds p.object → length m.0.done < quota
       → Allows K slots id m clock_place (λ x. (x + 1) % 2 ^ 64) (play.draws content op_in reply_in (step slots clock_place 1 0 maybe.none) m)
   draws_where slots id i m p tl cl is going carried on fits few s k deep at small =
@@ -136,13 +137,13 @@ module _ {S O R : Type 0} (content : S → Content) (op_in : O → AnyOp) (reply
         λ i' p' tl' carried'. ap (λ (z : Request O). (with_own (own.Drawn (request_in op_in (record z { ticket = found }))) m.0, m.1)) (ap (request_carried p) (sym carried ∙ carried')),
       )
 
-  pub draw_keeps_rule : (slots id i : ℕ) (m : Me (Slot S O R) View) (p : Request O) (tl : List (ℕ × Slot S O R)) → m.0.client ≡ true → m.0.own ≡ own.Idle → m.0.ended ≡ false → m.1 ≡ (i, slot.Request p) ∷ tl
+  pub draw_keeps_rule : (slots id i : ℕ) (m : Me (Slot S O R) View) (p : Request O) (tl : List (ℕ × Slot S O R)) → m.0.role ≡ role.Client → m.0.own ≡ own.Idle → m.0.ended ≡ false → m.1 ≡ (i, slot.Request p) ∷ tl
       → p.object < length kinds → kind_of (op_in p.op) ≡ kind_at kinds p.object → length m.0.done < quota
       → Allows K slots id m clock_place (λ x. (x + 1) % 2 ^ 64) (play.draws content op_in reply_in (step slots clock_place 1 0 maybe.none) m)
   draw_keeps_rule slots id i m p tl cl is going carried on fits few = draws_where slots id i m p tl cl is going carried (λ s k at. on) fits few
 
   -- who holds an object knows that it is there
-  pub draws_holding : (slots id i : ℕ) (m : Me (Slot S O R) View) (p : Request O) (l : List AnyEntry) (tl : List (ℕ × Slot S O R)) → m.0.client ≡ true → m.0.own ≡ own.Idle → m.0.held ≡ held.Pass p.object l → m.0.ended ≡ false
+  pub draws_holding : (slots id i : ℕ) (m : Me (Slot S O R) View) (p : Request O) (l : List AnyEntry) (tl : List (ℕ × Slot S O R)) → m.0.role ≡ role.Client → m.0.own ≡ own.Idle → m.0.held ≡ held.Pass p.object l → m.0.ended ≡ false
       → m.1 ≡ (i, slot.Request p) ∷ tl → kind_of (op_in p.op) ≡ kind_at kinds p.object → length m.0.done < quota
       → Allows K slots id m clock_place (λ x. (x + 1) % 2 ^ 64) (play.draws content op_in reply_in (step slots clock_place 1 0 maybe.none) m)
   draws_holding slots id i m p l tl cl is pass going carried fits few = draws_where slots id i m p tl cl is going carried
@@ -154,7 +155,7 @@ module _ {S O R : Type 0} (content : S → Content) (op_in : O → AnyOp) (reply
   request_known d (own.Taken q a) = q
   request_known d o = d
 
-  pub post_keeps_rule : (slots id j n : ℕ) (m : Me (Slot S O R) View) (q : AnyRequest) (p : Request O) (tl : List (ℕ × Slot S O R)) → m.0.client ≡ true → m.0.number ≡ j → m.0.own ≡ own.Drawn q → m.0.held ≡ held.Free
+  pub post_keeps_rule : (slots id j n : ℕ) (m : Me (Slot S O R) View) (q : AnyRequest) (p : Request O) (tl : List (ℕ × Slot S O R)) → m.0.role ≡ role.Client → m.0.number ≡ j → m.0.own ≡ own.Drawn q → m.0.held ≡ held.Free
       → request_in op_in p ≡ q → n ≡ 1 + q.object → m.1 ≡ (16 + j, slot.Request p) ∷ tl
       → Allows K slots id m (row_place j) (λ _. n) (λ _. play.posts content op_in reply_in (step slots (row_place j) n 0 maybe.none) m n)
   post_keeps_rule slots id c n m q p tl cl number is free same word carried s k deep at small =
@@ -191,7 +192,7 @@ module _ {S O R : Type 0} (content : S → Content) (op_in : O → AnyOp) (reply
       ([], e ∙ sym (append-nil (served q.object c v.done ++ logged_on q.object c q a)))
       (λ y other. subst (λ z. StartsWith (entries_of c (seen_of v y)) (served y c v.done ++ z)) (sym (logged_else y c q a (λ f. other (sym f)))) (covers_own kinds w c v (own.Waiting q) is ok y))
 
-  pub look_for_answer_keeps_rule : (slots id j : ℕ) (m : Me (Slot S O R) View) → m.0.client ≡ true → m.0.number ≡ j → j < 32
+  pub look_for_answer_keeps_rule : (slots id j : ℕ) (m : Me (Slot S O R) View) → m.0.role ≡ role.Client → m.0.number ≡ j → j < 32
       → Allows K slots id m (row_place j) (λ f. f) (play.looks_for_answer content op_in reply_in (step slots (row_place j) 0 0 maybe.none) m)
   look_for_answer_keeps_rule slots id c m cl number few s k deep at small =
       let w : World = k.world in let ok = subst (λ z. SeatOk kinds w z m.0) number (mine content op_in reply_in kinds clients quota s k id m.0 cl at) in
@@ -206,7 +207,7 @@ module _ {S O R : Type 0} (content : S → Content) (op_in : O → AnyOp) (reply
         λ p is. ((λ hit. absurd (miss hit)), λ _. (refl, false_from_ne_true m.0.ready (λ e. let a = ok.ready e in miss (word ∙ ap row_word a.2)))),
       ))
 
-  pub take_keeps_rule : (slots id j : ℕ) (m : Me (Slot S O R) View) (q : AnyRequest) → m.0.client ≡ true → m.0.number ≡ j → m.0.own ≡ own.Waiting q → m.0.held ≡ held.Free → q.object < 16 → j < 32
+  pub take_keeps_rule : (slots id j : ℕ) (m : Me (Slot S O R) View) (q : AnyRequest) → m.0.role ≡ role.Client → m.0.number ≡ j → m.0.own ≡ own.Waiting q → m.0.held ≡ held.Free → q.object < 16 → j < 32
       → Allows K slots id m (row_place j) (λ f. either (eqb f 33) 0 f) (play.takes_answer content op_in reply_in (step slots (row_place j) 33 0 maybe.none) m)
   take_keeps_rule slots id c m q cl number is free low few s k deep at small =
       let w : World = k.world in let ok = subst (λ z. SeatOk kinds w z m.0) number (mine content op_in reply_in kinds clients quota s k id m.0 cl at) in
@@ -258,7 +259,7 @@ module _ {S O R : Type 0} (content : S → Content) (op_in : O → AnyOp) (reply
   answer_known d (own.Taken q a) = a
   answer_known d o = d
 
-  pub return_keeps_rule : (slots id : ℕ) (m : Me (Slot S O R) View) (q : AnyRequest) (a : AnyAnswer) → m.0.client ≡ true → m.0.own ≡ own.Taken q a → m.0.held ≡ held.Free → m.0.ended ≡ false
+  pub return_keeps_rule : (slots id : ℕ) (m : Me (Slot S O R) View) (q : AnyRequest) (a : AnyAnswer) → m.0.role ≡ role.Client → m.0.own ≡ own.Taken q a → m.0.held ≡ held.Free → m.0.ended ≡ false
       → Allows K slots id m clock_place (λ x. (x + 1) % 2 ^ 64) (play.returns content op_in reply_in (step slots clock_place 1 0 maybe.none) m)
   return_keeps_rule slots id m q a cl is free going s k deep at small =
       let w : World = k.world in let c : ℕ = m.0.number in let ok = mine content op_in reply_in kinds clients quota s k id m.0 cl at in let found : ℕ = get_or s.words clock_place 0 in

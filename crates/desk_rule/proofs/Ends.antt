@@ -15,6 +15,7 @@ use Rattle.desk_rule.specs.declared.board.Slot.TheVariants as slot
 use Rattle.desk_rule.specs.declared.board.Own.{Own}
 use Rattle.desk_rule.specs.declared.board.Own.TheVariants as own
 use Rattle.desk_rule.specs.declared.board.Held.TheVariants as held
+use Rattle.desk_rule.specs.declared.board.Role.TheVariants as role
 use Rattle.desk_rule.specs.declared.board.View.{View}
 use Rattle.world.specs.World.{AnyAnswer, Stage, absent, posted, picked, answered, World, request_of, journal_of}
 use Rattle.world.specs.Transitions.{changed, ended_by}
@@ -69,7 +70,7 @@ module _ {S O R : Type 0} (content : S → Content) (op_in : O → AnyOp) (reply
   abbrev K : State (Slot S O R) View → Type 0
   K = Rule content op_in reply_in kinds clients quota
 
-  pub end_keeps_rule : (slots id c : ℕ) (m : Me (Slot S O R) View) (j : Journal O R) (tl : List (ℕ × Slot S O R)) → m.0.client ≡ true → m.0.number ≡ c → IsAtRest m.0.own → m.0.held ≡ held.Free
+  pub end_keeps_rule : (slots id c : ℕ) (m : Me (Slot S O R) View) (j : Journal O R) (tl : List (ℕ × Slot S O R)) → m.0.role ≡ role.Client → m.0.number ≡ c → IsAtRest m.0.own → m.0.held ≡ held.Free
       → map (event_in op_in reply_in) j.events.items ≡ journal m.0 → m.1 ≡ (48 + c, slot.Journal j) ∷ tl
       → Allows K slots id m (end_place c) (λ _. 1) (λ _. play.ends content op_in reply_in (step slots (end_place c) 1 0 maybe.none) m 1)
   end_keeps_rule slots id c m j tl cl number calm free says carried s k deep at small =
@@ -105,7 +106,7 @@ module _ {S O R : Type 0} (content : S → Content) (op_in : O → AnyOp) (reply
         refl,
       )
 
-  pub look_at_end_keeps_rule : (slots id d : ℕ) (m : Me (Slot S O R) View) → m.0.client ≡ true → d < 32
+  pub look_at_end_keeps_rule : (slots id d : ℕ) (m : Me (Slot S O R) View) → m.0.role ≡ role.Client → d < 32
       → Allows K slots id m (end_place d) (λ f. f) (play.sees_end content op_in reply_in (step slots (end_place d) 0 0 maybe.none) m)
   look_at_end_keeps_rule slots id d m cl low s k deep at small =
       let w : World = k.world in let ok = mine content op_in reply_in kinds clients quota s k id m.0 cl at in let word = k.tied.ends d low in dite (ℕ_discrete (get_or s.words (end_place d) 0) 1)

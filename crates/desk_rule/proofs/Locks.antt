@@ -20,6 +20,7 @@ use Rattle.desk_rule.specs.declared.board.Slot.TheVariants as slot
 use Rattle.desk_rule.specs.declared.board.Held.{Held}
 use Rattle.desk_rule.specs.declared.board.Held.TheVariants as held
 use Rattle.desk_rule.specs.declared.board.PutBack.{PutBack}
+use Rattle.desk_rule.specs.declared.board.Role.TheVariants as role
 use Rattle.desk_rule.specs.declared.board.View.{View}
 use Rattle.world.specs.World.{AnyEntry, posted, World, kind_at}
 use Rattle.world.specs.Transitions.{changed, held_by}
@@ -84,12 +85,12 @@ module _ {S O R : Type 0} (content : S → Content) (op_in : O → AnyOp) (reply
   abbrev K : State (Slot S O R) View → Type 0
   K = Rule content op_in reply_in kinds clients quota
 
-  pub look_at_lock_keeps_rule : (slots id x : ℕ) (m : Me (Slot S O R) View) → m.0.client ≡ true → Allows K slots id m x (λ f. f) (play.looks_at_lock content op_in reply_in (step slots x 0 0 maybe.none) m)
+  pub look_at_lock_keeps_rule : (slots id x : ℕ) (m : Me (Slot S O R) View) → m.0.role ≡ role.Client → Allows K slots id m x (λ f. f) (play.looks_at_lock content op_in reply_in (step slots x 0 0 maybe.none) m)
   look_at_lock_keeps_rule slots id x m cl s k deep at small = dite (ℕ_discrete (get_or s.words x 0) 0)
       (λ hit. (m.0, keeps, tt, looks content op_in reply_in kinds clients quota s k x id m.0 m.1 cl at, ((λ _. refl), λ miss. absurd (miss hit))))
       (λ miss. (after_miss x m.0, keeps, tt, misses content op_in reply_in kinds clients quota s k x id m.0 m.1 cl at, ((λ hit. absurd (miss hit)), λ _. refl)))
 
-  pub win_keeps_rule : (slots id x n : ℕ) (m : Me (Slot S O R) View) → m.0.client ≡ true → x < length kinds → n ≡ 1 + m.0.number → m.0.held ≡ held.Free → m.0.ended ≡ false
+  pub win_keeps_rule : (slots id x n : ℕ) (m : Me (Slot S O R) View) → m.0.role ≡ role.Client → x < length kinds → n ≡ 1 + m.0.number → m.0.held ≡ held.Free → m.0.ended ≡ false
       → Allows K slots id m x (λ f. either (eqb f 0) n f) (play.wins content op_in reply_in (step slots x 0 n maybe.none) m)
   win_keeps_rule slots id x n m cl inside is free going s k deep at small = dite (ℕ_discrete (get_or s.words x 0) 0)
       (λ hit.
@@ -128,7 +129,7 @@ module _ {S O R : Type 0} (content : S → Content) (op_in : O → AnyOp) (reply
         ((λ hit. absurd (miss hit)), λ _. refl),
       ))
 
-  pub release_keeps_rule : (slots id x : ℕ) (m : Me (Slot S O R) View) (l : List AnyEntry) (k : Core S O R) (tl : List (ℕ × Slot S O R)) → m.0.client ≡ true → m.0.held ≡ held.Pass x l → m.1 ≡ (x, slot.Core k) ∷ tl
+  pub release_keeps_rule : (slots id x : ℕ) (m : Me (Slot S O R) View) (l : List AnyEntry) (k : Core S O R) (tl : List (ℕ × Slot S O R)) → m.0.role ≡ role.Client → m.0.held ≡ held.Pass x l → m.1 ≡ (x, slot.Core k) ∷ tl
       → Fits content op_in reply_in (kind_at m.0.kinds x) (get_elem? m.0.lists x) k l → IsAtRest m.0.own → Allows K slots id m x (λ _. 0) (λ _. play.releases content op_in reply_in (step slots x 0 0 maybe.none) m 0)
   release_keeps_rule slots id x m l core tl cl pass carried fits calm s k deep at small =
       let w : World = k.world in let c : ℕ = m.0.number in let ok = mine content op_in reply_in kinds clients quota s k id m.0 cl at in let few = k.tied.objects in

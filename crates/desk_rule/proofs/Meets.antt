@@ -8,6 +8,7 @@ use Rattle.model.specs.declared.AnyOp.{AnyOp}
 use Rattle.model.specs.declared.AnyReply.{AnyReply}
 use Rattle.model.specs.Objects.{Content}
 use Rattle.desk_rule.specs.declared.board.Slot.{Slot}
+use Rattle.desk_rule.specs.declared.board.Role.TheVariants as role
 use Rattle.desk_rule.specs.declared.board.View.{View}
 use Rattle.world.specs.World.{AnyEntry, World, kind_at, entries_of, IsLegal, StartsWith}
 use Rattle.world.proofs.Entries.{legal_front, starts_same, starts_longer}
@@ -23,11 +24,11 @@ module _ {S O R : Type 0} (content : S → Content) (op_in : O → AnyOp) (reply
   K = Rule content op_in reply_in kinds clients quota
 
   pub seen_message_keeps_rule : (id : ℕ) (v : View) → Splits K id v v (seen_message v)
-  seen_message_keeps_rule id v = sending_keeps_rule content op_in reply_in kinds clients quota id v (seen_message v) refl refl
-      (λ s k at j. message_ok kinds k.lists k.world k.seat_of j (seen_message v) refl refl (k.seats id v at).seen (λ x. (k.world.log x, refl)) (All-nil (HasLeft k.world)))
+  seen_message_keeps_rule id v = sending_keeps_rule content op_in reply_in kinds clients quota id v (seen_message v) refl
+      (λ s k at j. message_ok kinds k.lists k.world k.seat_of j (seen_message v) refl (k.seats id v at).seen (λ x. (k.world.log x, refl)) (All-nil (HasLeft k.world)))
 
   pub message_keeps_rule : (id : ℕ) (v : View) (other : ℕ) (t : View) → Joins K id v other t (after_message v t) empty_message
-  message_keeps_rule id v other t = receiving_keeps_rule content op_in reply_in kinds clients quota id v (after_message v t) other t refl refl refl refl (λ s k at there. let old = k.seats id v at in record {
+  message_keeps_rule id v other t = receiving_keeps_rule content op_in reply_in kinds clients quota id v (after_message v t) other t refl refl refl (λ s k at there. let old = k.seats id v at in record {
     seen = old.seen;
     received = (k.seats other t there).seen;
     left = old.left;
@@ -38,7 +39,7 @@ module _ {S O R : Type 0} (content : S → Content) (op_in : O → AnyOp) (reply
     maker_lists = old.maker_lists;
   })
 
-  pub learn_keeps_rule : (slots id x : ℕ) (m : Me (Slot S O R) View) → m.0.client ≡ true → x < 16 → IsAtRest m.0.own → Allows K slots id m x (λ f. f) (play.learns content op_in reply_in (step slots x 0 0 maybe.none) m)
+  pub learn_keeps_rule : (slots id x : ℕ) (m : Me (Slot S O R) View) → m.0.role ≡ role.Client → x < 16 → IsAtRest m.0.own → Allows K slots id m x (λ f. f) (play.learns content op_in reply_in (step slots x 0 0 maybe.none) m)
   learn_keeps_rule slots id x m cl low calm s k deep at small =
       let w : World = k.world in let c : ℕ = m.0.number in let ok = mine content op_in reply_in kinds clients quota s k id m.0 cl at in let l : List AnyEntry = w.log x in
       let covers = all_covered kinds quota w c x m.0.done m.0.own ok.done ok.own k.sound in (
@@ -50,7 +51,7 @@ module _ {S O R : Type 0} (content : S → Content) (op_in : O → AnyOp) (reply
         (l, refl, subst (λ z. IsLegal (kind_at z x) l) (sym ok.kinds_are) (k.sound.legal x), ok.seen x, (k.seats id m.0 at).received x, ok.wide_seen, accounts kinds quota w x m.0 l calm ok.done ok.own k.sound (starts_same l) covers),
       )
 
-  pub adopt_keeps_rule : (slots id x : ℕ) (m : Me (Slot S O R) View) → m.0.client ≡ true → x < 16 → StartsWith (received_of m.0 x) (seen_of m.0 x) → IsAtRest m.0.own
+  pub adopt_keeps_rule : (slots id x : ℕ) (m : Me (Slot S O R) View) → m.0.role ≡ role.Client → x < 16 → StartsWith (received_of m.0 x) (seen_of m.0 x) → IsAtRest m.0.own
       → Allows K slots id m x (λ f. f) (play.adopts content op_in reply_in (step slots x 0 0 maybe.none) m)
   adopt_keeps_rule slots id x m cl low later calm s k deep at small =
       let w : World = k.world in let c : ℕ = m.0.number in let ok = mine content op_in reply_in kinds clients quota s k id m.0 cl at in let l : List AnyEntry = received_of m.0 x in

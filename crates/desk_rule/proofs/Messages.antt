@@ -11,6 +11,7 @@ use Rattle.model.specs.declared.AnyOp.{AnyOp}
 use Rattle.model.specs.declared.AnyReply.{AnyReply}
 use Rattle.model.specs.Objects.{Content}
 use Rattle.desk_rule.specs.declared.board.Slot.{Slot}
+use Rattle.desk_rule.specs.declared.board.Role.TheVariants as role
 use Rattle.desk_rule.specs.declared.board.View.{View}
 use Rattle.world.specs.World.{World, StartsWith}
 use Rattle.desk_rule.specs.Views.{seen_of, received_of, empty_message}
@@ -19,34 +20,34 @@ use Rattle.desk_rule.proofs.Seats.{makers_stay, Rule}
 use Rattle.desk_rule.proofs.Beginnings.{get_or-replicate_same, at_end}
 
 -- a list whose views are those of another list, and one that is no client's and no maker's
-makers_with : (clients : ℕ) (vs us : List View) (b : View) → b.client ≡ false → b.maker ≡ false → ((a : ℕ) (z : View) → get_elem? us a ≡ some z → (get_elem? vs a ≡ some z) ⊎ (b ≡ z)) → Makers clients vs → Makers clients us
-makers_with clients vs us b idle_client idle_maker old k = record {
+makers_with : (clients : ℕ) (vs us : List View) (b : View) → b.role ≡ role.Message → ((a : ℕ) (z : View) → get_elem? us a ≡ some z → (get_elem? vs a ≡ some z) ⊎ (b ≡ z)) → Makers clients vs → Makers clients us
+makers_with clients vs us b idle old k = record {
   made = λ j v e is i u f. ⊎_elim (λ (p : get_elem? vs j ≡ some v). ⊎_elim (λ (q : get_elem? vs i ≡ some u). k.made j v p is i u q)
-      (λ (q : b ≡ u). ((λ tc. let h = sym idle_client ∙ (ap (λ z. z.client) q ∙ tc) in absurd (cc)), λ tm. let h = sym idle_maker ∙ (ap (λ z. z.maker) q ∙ tm) in absurd (cc))) (old i u f))
-      (λ (p : b ≡ v). let h = sym idle_maker ∙ (ap (λ z. z.maker) p ∙ is) in absurd (cc)) (old j v e);
-  numbers = λ j v e is. ⊎_elim (λ (p : get_elem? vs j ≡ some v). k.numbers j v p is) (λ (p : b ≡ v). let h = sym idle_client ∙ (ap (λ z. z.client) p ∙ is) in absurd (cc)) (old j v e);
+      (λ (q : b ≡ u). ((λ tc. let h = sym idle ∙ (ap (λ z. z.role) q ∙ tc) in absurd (cc)), λ tm. let h = sym idle ∙ (ap (λ z. z.role) q ∙ tm) in absurd (cc))) (old i u f))
+      (λ (p : b ≡ v). let h = sym idle ∙ (ap (λ z. z.role) p ∙ is) in absurd (cc)) (old j v e);
+  numbers = λ j v e is. ⊎_elim (λ (p : get_elem? vs j ≡ some v). k.numbers j v p is) (λ (p : b ≡ v). let h = sym idle ∙ (ap (λ z. z.role) p ∙ is) in absurd (cc)) (old j v e);
 }
 
-pub makers_more : (clients : ℕ) (vs : List View) (b : View) → b.client ≡ false → b.maker ≡ false → Makers clients vs → Makers clients (vs ++ b ∷ [])
-makers_more clients vs b idle_client idle_maker = makers_with clients vs (vs ++ b ∷ []) b idle_client idle_maker
+pub makers_more : (clients : ℕ) (vs : List View) (b : View) → b.role ≡ role.Message → Makers clients vs → Makers clients (vs ++ b ∷ [])
+makers_more clients vs b idle = makers_with clients vs (vs ++ b ∷ []) b idle
     (λ a z q. ⊎_elim (λ t. inl t) (λ (t : (a ≡ length vs) × (b ≡ z)). inr t.1) (at_end vs b z a q))
 
-pub makers_drop : (clients : ℕ) (vs : List View) (id : ℕ) (b : View) → b.client ≡ false → b.maker ≡ false → Makers clients vs → Makers clients (set vs id b)
-makers_drop clients vs id b idle_client idle_maker = makers_with clients vs (set vs id b) b idle_client idle_maker
+pub makers_drop : (clients : ℕ) (vs : List View) (id : ℕ) (b : View) → b.role ≡ role.Message → Makers clients vs → Makers clients (set vs id b)
+makers_drop clients vs id b idle = makers_with clients vs (set vs id b) b idle
     (λ a z q. ⊎_elim (λ (t : (a ≡ id) × (b ≡ z)). inr t.1) (λ (t : (a ≢ id) × (get_elem? vs a ≡ some z)). inl t.1) (at_set vs id a b z q))
 
 -- a view that is no client's and no maker's owes the truth of what it carries, and nothing more
-pub message_ok : (kinds : List Kind) (lists : List TableId) (w : World) (so : ℕ → ℕ) (j : ℕ) (v : View) → v.client ≡ false → v.maker ≡ false
+pub message_ok : (kinds : List Kind) (lists : List TableId) (w : World) (so : ℕ → ℕ) (j : ℕ) (v : View) → v.role ≡ role.Message
     → ((x : ℕ) → StartsWith (w.log x) (seen_of v x)) → ((x : ℕ) → StartsWith (w.log x) (received_of v x)) → All (HasLeft w) v.left → ViewOk kinds lists w so j v
-message_ok kinds lists w so j v no_client no_maker seen received left = record {
+message_ok kinds lists w so j v none seen received left = record {
   seen = seen;
   received = received;
   left = left;
-  client = λ f. let e = sym no_client ∙ f in absurd (cc);
-  unmade = λ f. let e = sym no_maker ∙ f in absurd (cc);
-  maker_kinds = λ f. let e = sym no_maker ∙ f in absurd (cc);
-  lists_are = λ f. let e = sym no_client ∙ f in absurd (cc);
-  maker_lists = λ f. let e = sym no_maker ∙ f in absurd (cc);
+  client = λ f. let e = sym none ∙ f in absurd (cc);
+  unmade = λ f. let e = sym none ∙ f in absurd (cc);
+  maker_kinds = λ f. let e = sym none ∙ f in absurd (cc);
+  lists_are = λ f. let e = sym none ∙ f in absurd (cc);
+  maker_lists = λ f. let e = sym none ∙ f in absurd (cc);
 }
 
 -- nothing was seen, which each log begins with
@@ -54,16 +55,16 @@ pub nothing_seen : (w : World) (x : ℕ) → StartsWith (w.log x) (seen_of empty
 nothing_seen w x = (w.log x, ap (λ z. z ++ w.log x) (sym (get_or-replicate_same [] 16 x)))
 
 empty_message_ok : (kinds : List Kind) (lists : List TableId) (w : World) (so : ℕ → ℕ) (j : ℕ) → ViewOk kinds lists w so j empty_message
-empty_message_ok kinds lists w so j = message_ok kinds lists w so j empty_message refl refl (nothing_seen w) (λ x. (w.log x, refl)) (All-nil (HasLeft w))
+empty_message_ok kinds lists w so j = message_ok kinds lists w so j empty_message refl (nothing_seen w) (λ x. (w.log x, refl)) (All-nil (HasLeft w))
 
 module _ {S O R : Type 0} (content : S → Content) (op_in : O → AnyOp) (reply_in : R → AnyReply) (kinds : List Kind) (clients quota : ℕ) where
   abbrev K : State (Slot S O R) View → Type 0
   K = Rule content op_in reply_in kinds clients quota
 
   -- a message b more
-  pub sending_keeps_rule : (id : ℕ) (v b : View) → b.client ≡ false → b.maker ≡ false
+  pub sending_keeps_rule : (id : ℕ) (v b : View) → b.role ≡ role.Message
       → ((s : State (Slot S O R) View) (k : K s) → get_elem? s.views id ≡ some v → (j : ℕ) → ViewOk kinds k.lists k.world k.seat_of j b) → Splits K id v v b
-  sending_keeps_rule id v b no_client no_maker ok s k at = subst (λ (z : List View). K record { words = s.words; homes = s.homes; views = z ++ b ∷ [] }) (sym (set_again s.views id v at)) record {
+  sending_keeps_rule id v b idle ok s k at = subst (λ (z : List View). K record { words = s.words; homes = s.homes; views = z ++ b ∷ [] }) (sym (set_again s.views id v at)) record {
     world = k.world;
     seat_of = k.seat_of;
     lists = k.lists;
@@ -74,13 +75,13 @@ module _ {S O R : Type 0} (content : S → Content) (op_in : O → AnyOp) (reply
     sound = k.sound;
     tied = k.tied;
     seats = λ j u e. ⊎_elim (k.seats j u) (λ (t : (j ≡ length s.views) × (b ≡ u)). subst (λ z. ViewOk kinds k.lists k.world k.seat_of j z) t.1 (ok s k at j)) (at_end s.views b u j e);
-    makers = makers_more clients s.views b no_client no_maker k.makers;
+    makers = makers_more clients s.views b idle k.makers;
   }
 
   -- the view v takes in the message t, which is spent, and becomes v'
-  pub receiving_keeps_rule : (id : ℕ) (v v' : View) (other : ℕ) (t : View) → v'.client ≡ v.client → v'.number ≡ v.number → v'.maker ≡ v.maker → v'.made ≡ v.made
+  pub receiving_keeps_rule : (id : ℕ) (v v' : View) (other : ℕ) (t : View) → v'.role ≡ v.role → v'.number ≡ v.number → v'.made ≡ v.made
       → ((s : State (Slot S O R) View) (k : K s) → get_elem? s.views id ≡ some v → get_elem? s.views other ≡ some t → ViewOk kinds k.lists k.world k.seat_of id v') → Joins K id v other t v' empty_message
-  receiving_keeps_rule id v v' other t client number maker made ok s k at apart there = let mid : List View = set s.views id v' in record {
+  receiving_keeps_rule id v v' other t alike number made ok s k at apart there = let mid : List View = set s.views id v' in record {
     world = k.world;
     seat_of = k.seat_of;
     lists = k.lists;
@@ -97,5 +98,5 @@ module _ {S O R : Type 0} (content : S → Content) (op_in : O → AnyOp) (reply
         (λ (g : (j ≢ id) × (get_elem? s.views j ≡ some u)). k.seats j u g.1)
         (at_set s.views id j v' u h.1))
         (at_set mid other j empty_message u e);
-    makers = makers_drop clients mid other empty_message refl refl (makers_stay clients s.views id v v' at client number maker made k.makers);
+    makers = makers_drop clients mid other empty_message refl (makers_stay clients s.views id v v' at alike number made k.makers);
   }

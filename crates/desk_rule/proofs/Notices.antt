@@ -7,6 +7,7 @@ use Rattle.model.specs.declared.AnyOp.{AnyOp}
 use Rattle.model.specs.declared.AnyReply.{AnyReply}
 use Rattle.model.specs.Objects.{Content}
 use Rattle.desk_rule.specs.declared.board.Slot.{Slot}
+use Rattle.desk_rule.specs.declared.board.Role.TheVariants as role
 use Rattle.desk_rule.specs.declared.board.View.{View}
 use Rattle.world.specs.World.{journal_of}
 use Rattle.desk_rule.specs.Views.{end_notice, after_notice, empty_message, end_message}
@@ -19,14 +20,14 @@ module _ {S O R : Type 0} (content : S → Content) (op_in : O → AnyOp) (reply
   abbrev K : State (Slot S O R) View → Type 0
   K = Rule content op_in reply_in kinds clients quota
 
-  pub end_message_keeps_rule : (id : ℕ) (v : View) → v.client ≡ true → v.ended ≡ true → Splits K id v v (end_message v)
-  end_message_keeps_rule id v cl over = sending_keeps_rule content op_in reply_in kinds clients quota id v (end_message v) refl refl
+  pub end_message_keeps_rule : (id : ℕ) (v : View) → v.role ≡ role.Client → v.ended ≡ true → Splits K id v v (end_message v)
+  end_message_keeps_rule id v cl over = sending_keeps_rule content op_in reply_in kinds clients quota id v (end_message v) refl
       (λ s k at j. let ok = mine content op_in reply_in kinds clients quota s k id v cl at in
-      message_ok kinds k.lists k.world k.seat_of j (end_message v) refl refl (nothing_seen k.world) (λ x. (k.world.log x, refl))
+      message_ok kinds k.lists k.world k.seat_of j (end_message v) refl (nothing_seen k.world) (λ x. (k.world.log x, refl))
       (All-cons (HasLeft k.world) (end_notice v) [] (ok.ended ∙ over, λ i. journal_of (sym ok.done i) (sym (own_is v.own (k.world.stage v.number) ok.own) i)) (All-nil (HasLeft k.world))))
 
   pub notice_keeps_rule : (id : ℕ) (v : View) (other : ℕ) (t : View) → Joins K id v other t (after_notice t.left v) empty_message
-  notice_keeps_rule id v other t = receiving_keeps_rule content op_in reply_in kinds clients quota id v (after_notice t.left v) other t refl refl refl refl (λ s k at there. let old = k.seats id v at in record {
+  notice_keeps_rule id v other t = receiving_keeps_rule content op_in reply_in kinds clients quota id v (after_notice t.left v) other t refl refl refl (λ s k at there. let old = k.seats id v at in record {
     seen = old.seen;
     received = old.received;
     left = All-append (HasLeft k.world) v.left t.left old.left (k.seats other t there).left;

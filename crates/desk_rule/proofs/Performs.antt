@@ -11,6 +11,7 @@ use Rattle.desk_rule.specs.declared.board.Slot.{Slot}
 use Rattle.desk_rule.specs.declared.board.Slot.TheVariants as slot
 use Rattle.desk_rule.specs.declared.board.Own.TheVariants as own
 use Rattle.desk_rule.specs.declared.board.Held.TheVariants as held
+use Rattle.desk_rule.specs.declared.board.Role.TheVariants as role
 use Rattle.desk_rule.specs.declared.board.View.{View}
 use Rattle.world.specs.declared.Answer.{Answer}
 use Rattle.world.specs.World.{AnyEntry, AnyRequest, AnyAnswer, AnyDone, idle, drawn, posted, picked, answered, taken, World, kind_at, logged, entries_of, served, request_of, served_now, IsLegal, StartsWith}
@@ -141,7 +142,7 @@ module _ {S O R : Type 0} (content : S → Content) (op_in : O → AnyOp) (reply
         ap (entries_of c) (sym is) ∙ (k.counted c x ∙ ((λ i. served x c (sym ok.done i) ++ served_now x c (changed_here (done_at w x c q a).stage c (taken q a) i)) ∙ ap (λ z. served x c v.done ++ z) (logged_here x c q a refl))),
       )
 
-  pub perform_keeps_rule : (slots id i : ℕ) (m : Me (Slot S O R) View) (l : List AnyEntry) (q : AnyRequest) (b : Answer R) (tl : List (ℕ × Slot S O R)) → m.0.client ≡ true → m.0.held ≡ held.Pass q.object l → m.0.own ≡ own.Drawn q → m.0.ended ≡ false
+  pub perform_keeps_rule : (slots id i : ℕ) (m : Me (Slot S O R) View) (l : List AnyEntry) (q : AnyRequest) (b : Answer R) (tl : List (ℕ × Slot S O R)) → m.0.role ≡ role.Client → m.0.held ≡ held.Pass q.object l → m.0.own ≡ own.Drawn q → m.0.ended ≡ false
       → m.1 ≡ (i, slot.Answer b) ∷ tl → IsLegal (kind_at m.0.kinds q.object) (l ++ logged m.0.number q (answer_in reply_in b))
       → Allows K slots id m clock_place (λ x. (x + 1) % 2 ^ 64) (play.performs content op_in reply_in (step slots clock_place 1 0 maybe.none) m)
   perform_keeps_rule slots id i m l q b tl cl pass is going carried legal s k deep at small =

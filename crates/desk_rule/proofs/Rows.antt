@@ -21,6 +21,7 @@ use Rattle.desk_rule.specs.declared.board.Own.TheVariants as own
 use Rattle.desk_rule.specs.declared.board.Held.{Held}
 use Rattle.desk_rule.specs.declared.board.Held.TheVariants as held
 use Rattle.desk_rule.specs.declared.board.PutBack.{PutBack}
+use Rattle.desk_rule.specs.declared.board.Role.TheVariants as role
 use Rattle.desk_rule.specs.declared.board.View.{View}
 use Rattle.world.specs.declared.Request.{Request}
 use Rattle.world.specs.declared.Answer.{Answer}
@@ -178,7 +179,7 @@ module _ {S O R : Type 0} (content : S → Content) (op_in : O → AnyOp) (reply
         miss (ap (λ j. row_word (w.stage j)) (er ∙ sym row) ∙ (ap row_word z.0 ∙ ap (λ n. 1 + n) on)),
   )
 
-  pub look_at_row_keeps_rule : (slots id x r : ℕ) (m : Me (Slot S O R) View) (l : List AnyEntry) → m.0.client ≡ true → r < 32 → m.0.held ≡ held.Pass x l
+  pub look_at_row_keeps_rule : (slots id x r : ℕ) (m : Me (Slot S O R) View) (l : List AnyEntry) → m.0.role ≡ role.Client → r < 32 → m.0.held ≡ held.Pass x l
       → Allows K slots id m (row_place r) (λ f. f) (play.looks_at_row content op_in reply_in (step slots (row_place r) 0 0 maybe.none) m)
   look_at_row_keeps_rule slots id x r m l cl inside pass s k deep at small =
       let w : World = k.world in let c : ℕ = m.0.number in let ok = mine content op_in reply_in kinds clients quota s k id m.0 cl at in
@@ -201,7 +202,7 @@ module _ {S O R : Type 0} (content : S → Content) (op_in : O → AnyOp) (reply
         ),
       ))
 
-  pub pick_keeps_rule : (slots id x r : ℕ) (m : Me (Slot S O R) View) (l : List AnyEntry) → m.0.client ≡ true → r < 32 → m.0.held ≡ held.Pass x l
+  pub pick_keeps_rule : (slots id x r : ℕ) (m : Me (Slot S O R) View) (l : List AnyEntry) → m.0.role ≡ role.Client → r < 32 → m.0.held ≡ held.Pass x l
       → Allows K slots id m (row_place r) (λ f. either (eqb f (1 + x)) (17 + x) f) (play.picks content op_in reply_in (step slots (row_place r) (1 + x) (17 + x) maybe.none) m)
   pick_keeps_rule slots id x r m l cl inside pass s k deep at small =
       let w : World = k.world in let c : ℕ = m.0.number in let ok = mine content op_in reply_in kinds clients quota s k id m.0 cl at in let h = subst (HeldOk (length kinds) w c) pass ok.held in
@@ -259,7 +260,7 @@ module _ {S O R : Type 0} (content : S → Content) (op_in : O → AnyOp) (reply
       let b = k.in_hand y r e in let z : picked q ≡ picked b.0 = sym is ∙ b.1 in let same : q ≡ b.0 = cc in let here : y ≡ x = sym b.2 ∙ (ap (λ u. u.object) (sym same) ∙ on) in
       other (sym (same_Some c d (sym holds ∙ (ap w.holder (sym here) ∙ g))))
 
-  pub put_back_keeps_rule : (slots id x r n : ℕ) (m : Me (Slot S O R) View) (l : List AnyEntry) (q : AnyRequest) (p : Request O) (tl : List (ℕ × Slot S O R)) → m.0.client ≡ true → m.0.held ≡ held.Hand x l r q
+  pub put_back_keeps_rule : (slots id x r n : ℕ) (m : Me (Slot S O R) View) (l : List AnyEntry) (q : AnyRequest) (p : Request O) (tl : List (ℕ × Slot S O R)) → m.0.role ≡ role.Client → m.0.held ≡ held.Hand x l r q
       → m.1 ≡ (16 + r, slot.Request p) ∷ tl → request_in op_in p ≡ q → q.object ≡ x → n ≡ 1 + x
       → Allows K slots id m (row_place r) (λ _. n) (λ _. play.puts_back content op_in reply_in (step slots (row_place r) n 0 maybe.none) m n)
   put_back_keeps_rule slots id x r n m l q p tl cl hand carried is on word s k deep at small =
@@ -304,7 +305,7 @@ module _ {S O R : Type 0} (content : S → Content) (op_in : O → AnyOp) (reply
   answer_carried d (y ∷ ys) = answer_or d y.1
   answer_carried d [] = d
 
-  pub answer_keeps_rule : (slots id x r : ℕ) (m : Me (Slot S O R) View) (l : List AnyEntry) (q : AnyRequest) (b : Answer R) (tl : List (ℕ × Slot S O R)) → m.0.client ≡ true → m.0.held ≡ held.Hand x l r q
+  pub answer_keeps_rule : (slots id x r : ℕ) (m : Me (Slot S O R) View) (l : List AnyEntry) (q : AnyRequest) (b : Answer R) (tl : List (ℕ × Slot S O R)) → m.0.role ≡ role.Client → m.0.held ≡ held.Hand x l r q
       → m.1 ≡ (16 + r, slot.Answer b) ∷ tl → q.object ≡ x → IsLegal (kind_at m.0.kinds x) (l ++ logged r q (answer_in reply_in b))
       → Allows K slots id m (row_place r) (λ _. 33) (λ _. play.answers content op_in reply_in (step slots (row_place r) 33 0 maybe.none) m 33)
   answer_keeps_rule slots id x r m l q b tl cl hand carried on legal s k deep at small =

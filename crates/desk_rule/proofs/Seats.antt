@@ -18,6 +18,7 @@ use Rattle.desk_rule.specs.declared.board.Held.{Held}
 use Rattle.desk_rule.specs.declared.board.Held.TheVariants as held
 use Rattle.desk_rule.specs.declared.board.Leaving.{Leaving}
 use Rattle.desk_rule.specs.declared.board.PutBack.{PutBack}
+use Rattle.desk_rule.specs.declared.board.Role.TheVariants as role
 use Rattle.desk_rule.specs.declared.board.View.{View}
 use Rattle.world.specs.World.{AnyEntry, AnyRequest, AnyAnswer, AnyDone, Stage, absent, posted, picked, answered, World, request_of, journal_of, journal_in, StartsWith}
 use Rattle.world.specs.Transitions.{changed}
@@ -87,9 +88,8 @@ seat_stays kinds w w' c v leave t k = record {
 
 -- what no step of a client's own changes in its view
 pub record Alike (v v' : View) : Type 0 where
-  pub client : v'.client ≡ v.client
+  pub role : v'.role ≡ v.role
   pub number : v'.number ≡ v.number
-  pub maker : v'.maker ≡ v.maker
   pub made : v'.made ≡ v.made
   pub received : v'.received ≡ v.received
   pub left : v'.left ≡ v.left
@@ -98,7 +98,7 @@ pub record Alike (v v' : View) : Type 0 where
 -- a view in which none of these changed
 pub alike : {v : View} {kinds : List Kind} {done : List AnyDone} {own : Own} {ready : Bool} {seen : List (List AnyEntry)} {back : List PutBack} {missed : List ℕ} {held : Held} {ended : Bool} {retired still_there : List ℕ}
     → Alike v (record v { kinds = kinds; done = done; own = own; ready = ready; seen = seen; back = back; missed = missed; held = held; ended = ended; retired = retired; still_there = still_there })
-alike = record { client = refl; number = refl; maker = refl; made = refl; received = refl; left = refl; lists = refl }
+alike = record { role = refl; number = refl; made = refl; received = refl; left = refl; lists = refl }
 
 -- A client that was told more, missed more, and knows more of its row and of the ends of others. What it was told, has
 -- missed and has found there does not matter.
@@ -121,12 +121,12 @@ seat_knowing ready retired ok = record {
 }
 
 -- after a step to w', in which the client's view v becomes v', each view is true
-seats_after : (kinds : List Kind) (lists : List TableId) (clients : ℕ) (w w' : World) (so : ℕ → ℕ) (vs : List View) (id : ℕ) (v v' : View) → get_elem? vs id ≡ some v → v.client ≡ true → Alike v v' → Makers clients vs
+seats_after : (kinds : List Kind) (lists : List TableId) (clients : ℕ) (w w' : World) (so : ℕ → ℕ) (vs : List View) (id : ℕ) (v v' : View) → get_elem? vs id ≡ some v → v.role ≡ role.Client → Alike v v' → Makers clients vs
     → ((j : ℕ) (u : View) → get_elem? vs j ≡ some u → ViewOk kinds lists w so j u) → Leaves w w' → ((c : ℕ) → c ≢ v.number → Later w w' c) → SeatOk kinds w' v.number v'
     → (j : ℕ) (u : View) → get_elem? (set vs id v') j ≡ some u → ViewOk kinds lists w' so j u
 seats_after kinds lists clients w w' so vs id v v' at cl alike makers before leave others ok j u e =
     let here = (before id v at).client cl in let next : 1 + v.number ≢ v.number = λ h. omega arith in let logs = (others (1 + v.number) next).logs in
-    let is_made : (c : ℕ) (z : View) (i : ℕ) → get_elem? vs i ≡ some z → z.maker ≡ true → z.made ≤ c → c ≢ v.number = λ c z i g is l same. let low = (makers.made i z g is id v at).0 cl in omega arith in
+    let is_made : (c : ℕ) (z : View) (i : ℕ) → get_elem? vs i ≡ some z → z.role ≡ role.Maker → z.made ≤ c → c ≢ v.number = λ c z i g is l same. let low = (makers.made i z g is id v at).0 cl in omega arith in
     let unmade : (c : ℕ) → c ≢ v.number → (w.stage c ≡ absent) × (w.done c ≡ []) × (w.ended c ≡ false) × ((x : ℕ) → w.holder x ≢ Some c) → (w'.stage c ≡ absent) × (w'.done c ≡ []) × (w'.ended c ≡ false) × ((x : ℕ) → w'.holder x ≢ Some c) =
     λ c apart b. let o = others c apart in (o.own own.Absent b.0, o.done ∙ b.1, o.ended ∙ b.2, λ x f. b.3 x (o.holds x f)) in
     ⊎_elim (λ (t : (j ≡ id) × (v' ≡ u)). subst (λ (z : ℕ × View). ViewOk kinds lists w' so z.0 z.1) (λ i. (sym t.0 i, t.1 i)) record {
@@ -134,7 +134,7 @@ seats_after kinds lists clients w w' so vs id v v' at cl alike makers before lea
       received = λ x. subst (λ z. StartsWith (w'.log x) (get_or z x [])) (sym alike.received) (starts_longer (w'.log x) (w.log x) (received_of v x) (logs x) ((before id v at).received x));
       left = subst (All (HasLeft w')) (sym alike.left) (left_stays w w' v.left leave (before id v at).left);
       client = λ _. (ap so alike.number ∙ here.0, subst (λ z. SeatOk kinds w' z v') (sym alike.number) ok);
-      unmade = λ is c l. let is' : v.maker ≡ true = sym alike.maker ∙ is in let l' : v.made ≤ c = subst (λ z. z ≤ c) alike.made l in unmade c (is_made c v id at is' l') ((before id v at).unmade is' c l');
+      unmade = λ is c l. let is' : v.role ≡ role.Maker = sym alike.role ∙ is in let l' : v.made ≤ c = subst (λ z. z ≤ c) alike.made l in unmade c (is_made c v id at is' l') ((before id v at).unmade is' c l');
       maker_kinds = λ is. ok.kinds_are;
       lists_are = λ is. alike.lists ∙ (before id v at).lists_are cl;
       maker_lists = λ is. alike.lists ∙ (before id v at).lists_are cl;
@@ -150,14 +150,14 @@ seats_after kinds lists clients w w' so vs id v v' at cl alike makers before lea
       maker_lists = b.maker_lists;
     }) (at_set vs id j v' u e)
 
-pub makers_stay : (clients : ℕ) (vs : List View) (id : ℕ) (v v' : View) → get_elem? vs id ≡ some v → v'.client ≡ v.client → v'.number ≡ v.number → v'.maker ≡ v.maker → v'.made ≡ v.made → Makers clients vs → Makers clients (set vs id v')
-makers_stay clients vs id v v' at client number maker made before =
-    let back : (a : ℕ) (z : View) → get_elem? (set vs id v') a ≡ some z → (y : View) × (get_elem? vs a ≡ some y) × (z.client ≡ y.client) × (z.number ≡ y.number) × (z.maker ≡ y.maker) × (z.made ≡ y.made)
-    = λ a z g. ⊎_elim (λ (h : (a ≡ id) × (v' ≡ z)). (v, ap (get_elem? vs) h.0 ∙ at, ap (λ q. q.client) (sym h.1) ∙ client, ap (λ q. q.number) (sym h.1) ∙ number, ap (λ q. q.maker) (sym h.1) ∙ maker, ap (λ q. q.made) (sym h.1) ∙ made))
-    (λ (h : (a ≢ id) × (get_elem? vs a ≡ some z)). (z, h.1, refl, refl, refl, refl)) (at_set vs id a v' z g) in
+pub makers_stay : (clients : ℕ) (vs : List View) (id : ℕ) (v v' : View) → get_elem? vs id ≡ some v → v'.role ≡ v.role → v'.number ≡ v.number → v'.made ≡ v.made → Makers clients vs → Makers clients (set vs id v')
+makers_stay clients vs id v v' at role number made before =
+    let back : (a : ℕ) (z : View) → get_elem? (set vs id v') a ≡ some z → (y : View) × (get_elem? vs a ≡ some y) × (z.role ≡ y.role) × (z.number ≡ y.number) × (z.made ≡ y.made)
+    = λ a z g. ⊎_elim (λ (h : (a ≡ id) × (v' ≡ z)). (v, ap (get_elem? vs) h.0 ∙ at, ap (λ q. q.role) (sym h.1) ∙ role, ap (λ q. q.number) (sym h.1) ∙ number, ap (λ q. q.made) (sym h.1) ∙ made))
+    (λ (h : (a ≢ id) × (get_elem? vs a ≡ some z)). (z, h.1, refl, refl, refl)) (at_set vs id a v' z g) in
     record {
-      made = λ j u e is i t f. let a = back j u e in let b = back i t f in let low = before.made j a.0 a.1 (sym a.4 ∙ is) i b.0 b.1 in let n₁ = b.3 in let n₂ = a.5 in
-          ((λ tc. let l = low.0 (sym b.2 ∙ tc) in omega arith), λ tm. low.1 (sym b.4 ∙ tm));
+      made = λ j u e is i t f. let a = back j u e in let b = back i t f in let low = before.made j a.0 a.1 (sym a.2 ∙ is) i b.0 b.1 in let n₁ = b.3 in let n₂ = a.4 in
+          ((λ tc. let l = low.0 (sym b.2 ∙ tc) in omega arith), λ tm. low.1 (sym b.2 ∙ tm));
       numbers = λ j u e is. let a = back j u e in let low = before.numbers j a.0 a.1 (sym a.2 ∙ is) in let n = a.3 in omega arith;
     }
 
@@ -166,7 +166,7 @@ pub come_after : (clients : ℕ) (w : World) (c : ℕ) (t : Stage) → c < clien
 come_after clients w c t low all = changed_all (λ d s. s ≢ absent → d < clients) w.stage c t (λ _. low) (λ d _. all d)
 
 makers_after : (clients : ℕ) (vs : List View) (id : ℕ) (v v' : View) → get_elem? vs id ≡ some v → Alike v v' → Makers clients vs → Makers clients (set vs id v')
-makers_after clients vs id v v' at alike = makers_stay clients vs id v v' at alike.client alike.number alike.maker alike.made
+makers_after clients vs id v v' at alike = makers_stay clients vs id v v' at alike.role alike.number alike.made
 
 module _ {S O R : Type 0} (content : S → Content) (op_in : O → AnyOp) (reply_in : R → AnyReply) (kinds : List Kind) (clients quota : ℕ) where
   abbrev pub St : Type 0
@@ -175,7 +175,7 @@ module _ {S O R : Type 0} (content : S → Content) (op_in : O → AnyOp) (reply
   abbrev pub Rule : St → Type 0
   Rule = Kept content op_in reply_in kinds clients quota
 
-  pub mine : (s : St) (k : Rule s) (id : ℕ) (v : View) → v.client ≡ true → get_elem? s.views id ≡ some v → SeatOk kinds k.world v.number v
+  pub mine : (s : St) (k : Rule s) (id : ℕ) (v : View) → v.role ≡ role.Client → get_elem? s.views id ≡ some v → SeatOk kinds k.world v.number v
   mine s k id v cl at = ((k.seats id v at).client cl).1
 
   -- the world after a step of the client whose view v becomes v', with what the rule asks of it
@@ -189,7 +189,7 @@ module _ {S O R : Type 0} (content : S → Content) (op_in : O → AnyOp) (reply
     pub others : (d : ℕ) → d ≢ v.number → Later k.world world d
     pub own : SeatOk kinds world v.number v'
 
-  pub kept_after : {words : List ℕ} {homes : List (maybe.Option (Slot S O R))} (s : St) (k : Rule s) (id : ℕ) (v v' : View) → get_elem? s.views id ≡ some v → v.client ≡ true → Alike v v' → After s k v v' words homes
+  pub kept_after : {words : List ℕ} {homes : List (maybe.Option (Slot S O R))} (s : St) (k : Rule s) (id : ℕ) (v v' : View) → get_elem? s.views id ≡ some v → v.role ≡ role.Client → Alike v v' → After s k v v' words homes
       → Rule record { words = words; homes = homes; views = set s.views id v' }
   kept_after s k id v v' at cl alike a = record {
     world = a.world;
@@ -206,14 +206,14 @@ module _ {S O R : Type 0} (content : S → Content) (op_in : O → AnyOp) (reply
   }
 
   -- a step that changes no word
-  pub unmoved : (s : St) (k : Rule s) (i id : ℕ) (v v' : View) (cs : List (ℕ × Slot S O R)) → get_elem? s.views id ≡ some v → v.client ≡ true → Alike v v' → SeatOk kinds k.world v.number v'
+  pub unmoved : (s : St) (k : Rule s) (i id : ℕ) (v v' : View) (cs : List (ℕ × Slot S O R)) → get_elem? s.views id ≡ some v → v.role ≡ role.Client → Alike v v' → SeatOk kinds k.world v.number v'
       → Rule (stepped s i (get_or s.words i 0) id cs v' keeps)
   unmoved s k i id v v' cs at cl alike ok = subst (λ (ws : List ℕ). Rule record { words = ws; homes = s.homes; views = set s.views id v' }) (sym (set-get_or s.words i 0))
       (kept_after s k id v v' at cl alike record { world = k.world; holders = k.holders; come = k.come; sound = k.sound; tied = k.tied; leave = λ d e. (e, refl); others = λ c _. same_later k.world c; own = ok })
 
-  pub misses : (s : St) (k : Rule s) (i id : ℕ) (v : View) (cs : List (ℕ × Slot S O R)) → v.client ≡ true → get_elem? s.views id ≡ some v → Rule (stepped s i (get_or s.words i 0) id cs (after_miss i v) keeps)
+  pub misses : (s : St) (k : Rule s) (i id : ℕ) (v : View) (cs : List (ℕ × Slot S O R)) → v.role ≡ role.Client → get_elem? s.views id ≡ some v → Rule (stepped s i (get_or s.words i 0) id cs (after_miss i v) keeps)
   misses s k i id v cs cl at = let ok = mine s k id v cl at in unmoved s k i id v (after_miss i v) cs at cl alike (seat_knowing ok.ready ok.retired ok)
 
   -- a look that tells nothing
-  pub looks : (s : St) (k : Rule s) (i id : ℕ) (v : View) (cs : List (ℕ × Slot S O R)) → v.client ≡ true → get_elem? s.views id ≡ some v → Rule (stepped s i (get_or s.words i 0) id cs v keeps)
-  looks s k i id v cs cl at = unmoved s k i id v v cs at cl record { client = refl; number = refl; maker = refl; made = refl; received = refl; left = refl; lists = refl } (mine s k id v cl at)
+  pub looks : (s : St) (k : Rule s) (i id : ℕ) (v : View) (cs : List (ℕ × Slot S O R)) → v.role ≡ role.Client → get_elem? s.views id ≡ some v → Rule (stepped s i (get_or s.words i 0) id cs v keeps)
+  looks s k i id v cs cl at = unmoved s k i id v v cs at cl alike (mine s k id v cl at)

@@ -19,6 +19,7 @@ use Rattle.desk_rule.specs.declared.board.Own.TheVariants as own
 use Rattle.desk_rule.specs.declared.board.Held.{Held}
 use Rattle.desk_rule.specs.declared.board.Held.TheVariants as held
 use Rattle.desk_rule.specs.declared.board.Leaving.{Leaving}
+use Rattle.desk_rule.specs.declared.board.Role.TheVariants as role
 use Rattle.desk_rule.specs.declared.board.View.{View}
 use Rattle.world.specs.declared.Request.{Request}
 use Rattle.world.specs.declared.Answer.{Answer}
@@ -90,17 +91,17 @@ pub record ViewOk (kinds : List Kind) (lists : List TableId) (w : World) (seat_o
   pub seen : (x : ℕ) → StartsWith (w.log x) (seen_of v x)
   pub received : (x : ℕ) → StartsWith (w.log x) (received_of v x)
   pub left : All (HasLeft w) v.left
-  pub client : v.client ≡ true → (seat_of v.number ≡ j) × SeatOk kinds w v.number v
-  pub unmade : v.maker ≡ true → (c : ℕ) → v.made ≤ c → (w.stage c ≡ absent) × (w.done c ≡ []) × (w.ended c ≡ false) × ((x : ℕ) → w.holder x ≢ Some c)
-  pub maker_kinds : v.maker ≡ true → v.kinds ≡ kinds
+  pub client : v.role ≡ role.Client → (seat_of v.number ≡ j) × SeatOk kinds w v.number v
+  pub unmade : v.role ≡ role.Maker → (c : ℕ) → v.made ≤ c → (w.stage c ≡ absent) × (w.done c ≡ []) × (w.ended c ≡ false) × ((x : ℕ) → w.holder x ≢ Some c)
+  pub maker_kinds : v.role ≡ role.Maker → v.kinds ≡ kinds
   -- which roster the publication list of each object is
-  pub lists_are : v.client ≡ true → v.lists ≡ lists
-  pub maker_lists : v.maker ≡ true → v.lists ≡ lists
+  pub lists_are : v.role ≡ role.Client → v.lists ≡ lists
+  pub maker_lists : v.role ≡ role.Maker → v.lists ≡ lists
 
 -- the maker is one, and has made every client, and no more than there are to be
 pub record Makers (clients : ℕ) (views : List View) : Type 0 where
-  pub made : (j : ℕ) (v : View) → get_elem? views j ≡ some v → v.maker ≡ true → (i : ℕ) (u : View) → get_elem? views i ≡ some u → (u.client ≡ true → u.number < v.made) × (u.maker ≡ true → i ≡ j)
-  pub numbers : (j : ℕ) (v : View) → get_elem? views j ≡ some v → v.client ≡ true → v.number < clients
+  pub made : (j : ℕ) (v : View) → get_elem? views j ≡ some v → v.role ≡ role.Maker → (i : ℕ) (u : View) → get_elem? views i ≡ some u → (u.role ≡ role.Client → u.number < v.made) × (u.role ≡ role.Maker → i ≡ j)
+  pub numbers : (j : ℕ) (v : View) → get_elem? views j ≡ some v → v.role ≡ role.Client → v.number < clients
 
 module _ {S O R : Type 0} (content : S → Content) (op_in : O → AnyOp) (reply_in : R → AnyReply) where
   -- The core has this log, its object what the log leaves, and its walker walks this list: the one of the object, if the

@@ -6,6 +6,7 @@ use Rattle.desk_rule.specs.declared.board.Own.{Own}
 use Rattle.desk_rule.specs.declared.board.Own.TheVariants as own
 use Rattle.desk_rule.specs.declared.board.Held.TheVariants as held
 use Rattle.desk_rule.specs.declared.board.Leaving.{Leaving}
+use Rattle.desk_rule.specs.declared.board.Role.TheVariants as role
 use Rattle.desk_rule.specs.declared.board.View.{View}
 use Rattle.world.specs.World.{AnyEntry, AnyRequest, AnyAnswer, AnyEvent, logged_on, entries_of, served, journal_of}
 
@@ -22,11 +23,11 @@ clock_place = 80
 
 -- a client that has not come yet
 abbrev pub new_client : List Kind → List TableId → ℕ → View
-new_client kinds lists c = record { client = true; number = c; maker = false; made = 0; kinds = kinds; lists = lists; done = []; own = own.Absent; ready = false; seen = replicate 16 []; received = []; back = []; missed = []; held = held.Free; ended = false; left = []; retired = []; still_there = [] }
+new_client kinds lists c = record { role = role.Client; number = c; made = 0; kinds = kinds; lists = lists; done = []; own = own.Absent; ready = false; seen = replicate 16 []; received = []; back = []; missed = []; held = held.Free; ended = false; left = []; retired = []; still_there = [] }
 
 -- the first view is no client's, and makes the clients
 abbrev pub maker_of : List Kind → List TableId → ℕ → View
-maker_of kinds lists n = record (new_client kinds lists 0) { client = false; maker = true; made = n }
+maker_of kinds lists n = record (new_client kinds lists 0) { role = role.Maker; made = n }
 
 abbrev pub first_maker : List Kind → List TableId → View
 first_maker kinds lists = maker_of kinds lists 0
@@ -156,7 +157,7 @@ after_end_unset d v = record v { still_there = v.still_there ++ d ∷ [] }
 
 -- a view that only carries what v has seen
 abbrev pub seen_message : View → View
-seen_message v = record (new_client [] [] 0) { client = false; seen = v.seen }
+seen_message v = record (new_client [] [] 0) { role = role.Message; seen = v.seen }
 
 -- the message t has come
 abbrev pub after_message : View → View → View
@@ -164,7 +165,7 @@ after_message v t = record v { received = t.seen }
 
 -- a message that says nothing, as each is after it has come
 abbrev pub empty_message : View
-empty_message = record (new_client [] [] 0) { client = false }
+empty_message = record (new_client [] [] 0) { role = role.Message }
 
 -- a view that only carries the end of v
 abbrev pub end_message : View → View

@@ -77,14 +77,20 @@ pub struct Leaving {
     pub journal: LinkedList<JournalEvent<AnyOp, AnyReply>>,
 }
 
+/// Whose view it is.
+pub enum Role {
+    /// A client's, which has a number.
+    Client,
+    /// That of the one that makes the clients: those below `made` are made.
+    Maker,
+    /// A message's, which carries what one client tells another.
+    Message,
+}
+
 /// What a client knows. No value of it is made.
 pub struct View {
-    /// False of a view that only carries what was seen from one client to another, and of the one that makes the
-    /// clients.
-    pub client: bool,
+    pub role: Role,
     pub number: u32,
-    /// It makes the clients, whose numbers are below `made`.
-    pub maker: bool,
     pub made: u32,
     /// The kind of each object.
     pub kinds: LinkedList<Kind>,

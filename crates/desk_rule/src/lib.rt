@@ -5,5 +5,5 @@
 mod board;
 
 pub use board::{
-    BoxedCore, Core, DeskRule, Held, Journal, Leaving, Own, Plan, PutBack, Slot, View,
+    BoxedCore, Core, DeskRule, Held, Journal, Leaving, Own, Plan, PutBack, Role, Slot, View,
 };

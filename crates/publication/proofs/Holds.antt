@@ -23,6 +23,7 @@ use Rattle.desk_rule.specs.declared.board.Slot.{Slot}
 use Rattle.desk_rule.specs.declared.board.Slot.TheVariants as slot
 use Rattle.desk_rule.specs.declared.board.Held.{Held}
 use Rattle.desk_rule.specs.declared.board.Held.TheVariants as held
+use Rattle.desk_rule.specs.declared.board.Role.TheVariants as role
 use Rattle.desk_rule.specs.declared.board.View.{View}
 use Rattle.desk_rule.specs.Views.{after_miss, after_row_miss, after_win, after_pick, after_put_back, after_answer, after_release, after_meet, IsAtRest, IsAccount}
 use Rattle.desk_rule.specs.Rule.{Fits}
@@ -123,22 +124,22 @@ module _ {S O R : Type 0} (content : S → Content) (op_in : O → AnyOp) (reply
 
   -- with the core in hand, the client may release
   pub release_ready : (x : ℕ) (core : Core S O R) (m a : M) → ThePass x core m → a ≡ (m.0, (x, slot.Core core) ∷ rest m.1)
-      → (a.0.client ≡ true) × (a.0.held ≡ held.Pass x (log_of op_in reply_in core)) × (a.1 ≡ (x, slot.Core core) ∷ rest m.1) × Fits content op_in reply_in (kind_at a.0.kinds x) (get_elem? a.0.lists x) core (log_of op_in reply_in core) × IsAtRest a.0.own
-  release_ready x core m a p e = subst (λ (z : M). (z.0.client ≡ true) × (z.0.held ≡ held.Pass x (log_of op_in reply_in core)) × (z.1 ≡ (x, slot.Core core) ∷ rest m.1) × Fits content op_in reply_in (kind_at z.0.kinds x) (get_elem? z.0.lists x) core (log_of op_in reply_in core) × IsAtRest z.0.own)
+      → (a.0.role ≡ role.Client) × (a.0.held ≡ held.Pass x (log_of op_in reply_in core)) × (a.1 ≡ (x, slot.Core core) ∷ rest m.1) × Fits content op_in reply_in (kind_at a.0.kinds x) (get_elem? a.0.lists x) core (log_of op_in reply_in core) × IsAtRest a.0.own
+  release_ready x core m a p e = subst (λ (z : M). (z.0.role ≡ role.Client) × (z.0.held ≡ held.Pass x (log_of op_in reply_in core)) × (z.1 ≡ (x, slot.Core core) ∷ rest m.1) × Fits content op_in reply_in (kind_at z.0.kinds x) (get_elem? z.0.lists x) core (log_of op_in reply_in core) × IsAtRest z.0.own)
       (sym e) (p.agrees.client_is, p.holds, refl, p.fits, p.agrees.at_rest)
 
   -- with the request in hand again, the client may put it back
   pub back_ready : (x : ℕ) (core : Core S O R) (r : ℕ) (p : Request O) (m b : M) → TheHand x core r p m → b ≡ (m.0, (16 + r, slot.Request p) ∷ rest m.1)
-      → (b.0.client ≡ true) × (b.0.held ≡ held.Hand x (log_of op_in reply_in core) r (request_in op_in p)) × (b.1 ≡ (16 + r, slot.Request p) ∷ rest m.1)
-  back_ready x core r p m b h e = subst (λ (z : M). (z.0.client ≡ true) × (z.0.held ≡ held.Hand x (log_of op_in reply_in core) r (request_in op_in p)) × (z.1 ≡ (16 + r, slot.Request p) ∷ rest m.1)) (sym e) (h.agrees.client_is, h.holds, refl)
+      → (b.0.role ≡ role.Client) × (b.0.held ≡ held.Hand x (log_of op_in reply_in core) r (request_in op_in p)) × (b.1 ≡ (16 + r, slot.Request p) ∷ rest m.1)
+  back_ready x core r p m b h e = subst (λ (z : M). (z.0.role ≡ role.Client) × (z.0.held ≡ held.Hand x (log_of op_in reply_in core) r (request_in op_in p)) × (z.1 ≡ (16 + r, slot.Request p) ∷ rest m.1)) (sym e) (h.agrees.client_is, h.holds, refl)
 
   -- with the answer in hand, the client may answer
   pub answer_ready : (x : ℕ) (k k' : Core S O R) (r : ℕ) (q : Request O) (a : Answer R) (m b : M) → TheHand x k r q m → b ≡ (m.0, (16 + r, slot.Answer a) ∷ rest m.1)
       → log_of op_in reply_in k' ≡ log_of op_in reply_in k ++ logged r (request_in op_in q) (answer_in reply_in a) → Serves (content k.object) (op_in q.op) (answer_in reply_in a) (content k'.object)
-      → (b.0.client ≡ true) × (b.0.held ≡ held.Hand x (log_of op_in reply_in k) r (request_in op_in q)) × (b.1 ≡ (16 + r, slot.Answer a) ∷ rest m.1)
+      → (b.0.role ≡ role.Client) × (b.0.held ≡ held.Hand x (log_of op_in reply_in k) r (request_in op_in q)) × (b.1 ≡ (16 + r, slot.Answer a) ∷ rest m.1)
       × IsLegal (kind_at b.0.kinds x) (log_of op_in reply_in k ++ logged r (request_in op_in q) (answer_in reply_in a))
   answer_ready x k k' r q a m b h e log did =
-      subst (λ (z : M). (z.0.client ≡ true) × (z.0.held ≡ held.Hand x (log_of op_in reply_in k) r (request_in op_in q)) × (z.1 ≡ (16 + r, slot.Answer a) ∷ rest m.1)
+      subst (λ (z : M). (z.0.role ≡ role.Client) × (z.0.held ≡ held.Hand x (log_of op_in reply_in k) r (request_in op_in q)) × (z.1 ≡ (16 + r, slot.Answer a) ∷ rest m.1)
       × IsLegal (kind_at z.0.kinds x) (log_of op_in reply_in k ++ logged r (request_in op_in q) (answer_in reply_in a))) (sym e)
       (h.agrees.client_is, h.holds, refl, (content k'.object, replays_more (empty (kind_at m.0.kinds x)) (content k.object) (content k'.object) (log_of op_in reply_in k) r (request_in op_in q) (answer_in reply_in a) h.fits.1 did))
 

@@ -25,6 +25,7 @@ use Rattle.desk_rule.specs.declared.board.Plan.{Plan}
 use Rattle.desk_rule.specs.declared.board.Slot.{Slot}
 use Rattle.desk_rule.specs.declared.board.Slot.TheVariants as slot
 use Rattle.desk_rule.specs.declared.board.Held.TheVariants as held
+use Rattle.desk_rule.specs.declared.board.Role.TheVariants as role
 use Rattle.desk_rule.specs.declared.board.View.{View}
 use Rattle.desk_rule.specs.Views.{seen_of, journal, IsAtRest, IsAccount}
 use Rattle.desk_rule.specs.Rule.{HeldOk, Kept}
@@ -54,7 +55,7 @@ none_held None never = refl
 none_held (Some c) never = absurd (never c refl)
 
 module _ {S O R : Type 0} (content : S → Content) (op_in : O → AnyOp) (reply_in : R → AnyReply) (kinds : List Kind) (clients quota : ℕ) where
-  leavings : (id : ℕ) (v : View) (words : List ℕ) (xs : List (Slot S O R)) → v.client ≡ true → v.held ≡ held.Free → IsAtRest v.own → ((c : ℕ) → c < clients → c ≢ v.number → Contains v.retired c)
+  leavings : (id : ℕ) (v : View) (words : List ℕ) (xs : List (Slot S O R)) → v.role ≡ role.Client → v.held ≡ held.Free → IsAtRest v.own → ((c : ℕ) → c < clients → c ≢ v.number → Contains v.retired c)
       → Final (Seen (Kept content op_in reply_in kinds clients quota) id v) words xs → Leavings op_in reply_in kinds clients quota v xs
   leavings id v words xs cl free rest all f =
       let s = f.0 in let k = f.1.0 in let at = f.1.1 in let home = f.4 in let w : World = k.world in let ok = mine content op_in reply_in kinds clients quota s k id v cl at in let few = k.few_clients in
@@ -126,7 +127,7 @@ module _ {O R : Type 0} (op_in : O → AnyOp) (reply_in : R → AnyReply) where
 
 module _ {S O R : Type 0} (content : S → Content) (op_in : O → AnyOp) (reply_in : R → AnyReply) where
   -- the same of a desk and its last client, as they are seen
-  pub left_by : (plan : Plan) (d : DeskSeen) (last : Known) (id : ℕ) (v : View) (words : List ℕ) (xs : List (Slot S O R)) → plan.kinds.items ≡ d.id.kinds → plan.clients ≡ d.clients → plan.quota ≡ d.id.quota → v ≡ last.knows → v.client ≡ true → v.held ≡ held.Free → IsAtRest v.own
+  pub left_by : (plan : Plan) (d : DeskSeen) (last : Known) (id : ℕ) (v : View) (words : List ℕ) (xs : List (Slot S O R)) → plan.kinds.items ≡ d.id.kinds → plan.clients ≡ d.clients → plan.quota ≡ d.id.quota → v ≡ last.knows → v.role ≡ role.Client → v.held ≡ held.Free → IsAtRest v.own
       → HaveEnded d.clients last → Final (Seen (Kept content op_in reply_in plan.kinds.items plan.clients plan.quota) id v) words xs → Leavings op_in reply_in d.id.kinds d.clients d.id.quota last.knows xs
   left_by plan d last id v words xs kinds clients quota same cl free rest all f = subst (λ (t : List Kind × ℕ × ℕ × View). Leavings op_in reply_in t.0 t.1 t.2 t.3 xs) (λ i. (kinds i, clients i, quota i, same i))
       (leavings content op_in reply_in plan.kinds.items plan.clients plan.quota id v words xs cl free rest

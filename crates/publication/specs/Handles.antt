@@ -23,6 +23,7 @@ use Rattle.desk_rule.specs.declared.board.Slot.TheVariants as slot
 use Rattle.desk_rule.specs.declared.board.Own.{Own}
 use Rattle.desk_rule.specs.declared.board.Own.TheVariants as own
 use Rattle.desk_rule.specs.declared.board.Held.TheVariants as held
+use Rattle.desk_rule.specs.declared.board.Role.TheVariants as role
 use Rattle.desk_rule.specs.declared.board.View.{View}
 use Rattle.desk_rule.specs.Views.{new_client, with_own, own_request, journal, is_waiting, seen_of, IsAtRest, IsAccount}
 use Rattle.desk_rule.specs.Rule.{Fits}
@@ -107,7 +108,7 @@ IsDesk table plan d = (table.words ≡ 81) × (table.slots ≡ 80) × (plan.kind
 module _ {O R : Type 0} (op_in : O → AnyOp) (reply_in : R → AnyReply) where
   -- what the client's fields say of what it knows
   pub record Agrees (number calls quota : ℕ) (outstanding : Bool) (j : Journal O R) (v : View) : Type 0 where
-    pub client_is : v.client ≡ true
+    pub client_is : v.role ≡ role.Client
     pub number_is : v.number ≡ number
     pub number_low : number < 32
     pub at_rest : IsAtRest v.own

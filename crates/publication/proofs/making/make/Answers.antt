@@ -6,11 +6,11 @@ use Rattle.publication.proofs.making.make.Goals as goal
 
 pub split_seat-seat-requires : goal.split_seat-seat-requires
 split_seat-seat-requires g c = let me = c.requires.maker in let made = ap (λ m. m.0.made) me in let low = c.requires.plan.1 in let wide = c.requires.table.1 in
-    (c.requires.table.0, omega arith, making_keeps_rule _ _ _ _ _ _ _ _ (ap (λ m. m.0.maker) me) (ap (λ m. m.0.client) me) (omega arith))
+    (c.requires.table.0, omega arith, making_keeps_rule _ _ _ _ _ _ _ _ (ap (λ m. m.0.role) me) (omega arith))
 
 pub load-requires : goal.load-requires
 load-requires g c = let me = c.requires.maker in let made = ap (λ m. m.0.made) me in let low = c.requires.plan.1 in let few = c.requires.plan.0.1 in let wide = c.requires.table.1 in let seat = c.split_seat-seat.ensures.4 in
-    (c.split_seat-seat.ensures.3 ∙ c.requires.table.0, omega arith, begin_keeps_rule _ _ _ _ _ _ _ _ c.args.number _ (ap (λ m. m.0.client) seat) (ap (λ m. m.0.number) seat ∙ made) (omega arith) (ap (λ m. m.0.own) seat) (ap (λ m. m.0.held) seat) (ap (λ m. m.0.ended) seat))
+    (c.split_seat-seat.ensures.3 ∙ c.requires.table.0, omega arith, begin_keeps_rule _ _ _ _ _ _ _ _ c.args.number _ (ap (λ m. m.0.role) seat) (ap (λ m. m.0.number) seat ∙ made) (omega arith) (ap (λ m. m.0.own) seat) (ap (λ m. m.0.held) seat) (ap (λ m. m.0.ended) seat))
 
 pub invariant_of-result : goal.invariant_of-result
 invariant_of-result g c = let few = c.requires.plan.0.1 in let low = c.requires.plan.1 in let quota = c.requires.plan.0.2 in let is = c.requires.plan.2 in

@@ -24,7 +24,7 @@ fetch_add-ticket-requires g c = let p = c.self.invariant.0 in let v = c.self.vie
     let done : length c.exchange.new.seat.me.0.done ≡ length c.self.inside.member.seat.me.0.done = ap (λ z. length z.0.done) b in (
       search rules,
       omega arith,
-      draws_holding _ _ _ _ _ _ _ _ _ _ _ _ _ (ap (λ z. z.0.client) b ∙ p.agrees.client_is) (ap (λ z. z.0.own) b ∙ idle) (ap (λ z. z.0.held) b ∙ p.holds) (ap (λ z. z.0.ended) b ∙ p.agrees.going) (ap (λ z. z.1) b)
+      draws_holding _ _ _ _ _ _ _ _ _ _ _ _ _ (ap (λ z. z.0.role) b ∙ p.agrees.client_is) (ap (λ z. z.0.own) b ∙ idle) (ap (λ z. z.0.held) b ∙ p.holds) (ap (λ z. z.0.ended) b ∙ p.agrees.going) (ap (λ z. z.1) b)
           (c.requires.possible.0 ∙ (ap kind_in (sym v) ∙ ap (λ ks. kind_at ks c.self.inside.object) kinds)) (omega arith),
     )
 
@@ -46,7 +46,7 @@ fetch_add-returned-requires g c = let p = c.self.invariant.0 in let v = c.self.v
     let legal = subst (IsLegal (kind_at c.self.inside.member.seat.me.0.kinds c.self.inside.object)) (sym (log_now g.S.SeqObject.content g.S.SeqObject.op_in g.S.SeqObject.reply_in c.self.inside.member.number c.self.inside.member.calls c.self.inside.member.quota c.self.inside.member.outstanding c.self.inside.member.journal c.self.inside.object c.fetch_add-ticket.result 0 c.args.op c.self.inside.core c.serve-answer.new.core c.serve-answer.result c.self.inside.member.seat.me p s.log)) (_, fits.1) in (
       search rules,
       omega arith,
-      perform_keeps_rule _ _ _ _ _ _ _ _ _ _ _ _ _ _ (ap (λ z. z.0.client) e ∙ p.agrees.client_is) (ap (λ z. z.0.held) e ∙ p.holds) (ap (λ z. z.0.own) e) (ap (λ z. z.0.ended) e ∙ p.agrees.going) (ap (λ z. z.1) e)
+      perform_keeps_rule _ _ _ _ _ _ _ _ _ _ _ _ _ _ (ap (λ z. z.0.role) e ∙ p.agrees.client_is) (ap (λ z. z.0.held) e ∙ p.holds) (ap (λ z. z.0.own) e) (ap (λ z. z.0.ended) e ∙ p.agrees.going) (ap (λ z. z.1) e)
           (subst (λ z. IsLegal (kind_at z.0.kinds c.self.inside.object) (log_of g.S.SeqObject.op_in g.S.SeqObject.reply_in c.self.inside.core ++ logged z.0.number (Q g.S.SeqObject.content g.S.SeqObject.op_in g.S.SeqObject.reply_in c.self.inside.member.number c.self.inside.member.calls c.self.inside.member.quota c.self.inside.member.outstanding c.self.inside.member.journal c.self.inside.object c.fetch_add-ticket.result 0 c.args.op c.self.inside.core c.serve-answer.new.core c.serve-answer.result c.self.inside.member.seat.me) (A g.S.SeqObject.content g.S.SeqObject.op_in g.S.SeqObject.reply_in c.self.inside.member.number c.self.inside.member.calls c.self.inside.member.quota c.self.inside.member.outstanding c.self.inside.member.journal c.self.inside.object c.fetch_add-ticket.result 0 c.args.op c.self.inside.core c.serve-answer.new.core c.serve-answer.result c.self.inside.member.seat.me))) (sym e) legal),
     )
 

@@ -16,7 +16,7 @@ join_seat-requires g c = let wide = c.self.invariant.0.0 in (search rules, searc
 pub load-requires : goal.load-requires
 load-requires g c = let d = c.self.invariant.0 in let wide = d.0 in let few = d.5 in let low : c.args.object < length c.self.inside.kinds.items = search rules in
     let e = c.join_seat.ensures.2 in let k = c.one.invariant.0.agrees in
-    (search rules, omega arith, learn_keeps_rule _ _ _ _ _ _ _ _ _ _ (ap (λ z. z.0.client) e ∙ k.client_is) (omega arith) (subst (λ (v : View). IsAtRest v.own) (sym (ap (λ z. z.0) e)) k.at_rest))
+    (search rules, omega arith, learn_keeps_rule _ _ _ _ _ _ _ _ _ _ (ap (λ z. z.0.role) e ∙ k.client_is) (omega arith) (subst (λ (v : View). IsAtRest v.own) (sym (ap (λ z. z.0) e)) k.at_rest))
 
 pub split_seat-message-requires-2 : goal.split_seat-message-requires-2
 split_seat-message-requires-2 g c = let wide = c.self.invariant.0.0 in (search rules, omega arith, seen_message_keeps_rule _ _ _ _ _ _ _ _)
@@ -32,7 +32,7 @@ load-requires-2 g c = let d = c.self.invariant.0 in let wide = d.0 in let few = 
     let is = told_back c.args.object c.one.inside.member.seat.me.0 c.other.inside.member.seat.me.0 c.join_seat.new.seat.me.0 c.load.new.seat.me.0 c.join_seat-2.new.seat.me.0 t.0 low' received (ap (λ z. z.0) t.1) t.5 back in (
       search rules,
       omega arith,
-      adopt_keeps_rule _ _ _ _ _ _ _ _ _ _ (ap (λ z. z.client) back ∙ k.client_is) low'
+      adopt_keeps_rule _ _ _ _ _ _ _ _ _ _ (ap (λ z. z.role) back ∙ k.client_is) low'
           (subst (λ l. StartsWith l (seen_of c.join_seat-2.new.seat.me.0 c.args.object)) (sym is)
           (begins_there c.args.object c.one.inside.member.seat.me.0 c.other.inside.member.seat.me.0 c.join_seat.new.seat.me.0 c.join_seat-2.new.seat.me.0 t.0 received (ap (λ z. z.seen) back) t.4))
           (subst (λ (v : View). IsAtRest v.own) (sym back) k.at_rest),

@@ -46,7 +46,7 @@ fetch_add-ticket-requires g c = let k = outstanding_is c.if-not-member.false c.c
     let wide = c.self.invariant.0.0 in let took = ap (λ z. z.0) c.exchange.ensures.3 ∙ ap (λ z. z.0) t.2 in (
       search rules,
       omega arith,
-      return_keeps_rule _ _ _ _ _ _ _ _ _ _ _ (ap (λ z. z.client) took ∙ k.agrees.client_is) (ap (λ z. z.own) took) (ap (λ z. z.held) took ∙ k.free) (ap (λ z. z.ended) took ∙ k.agrees.going),
+      return_keeps_rule _ _ _ _ _ _ _ _ _ _ _ (ap (λ z. z.role) took ∙ k.agrees.client_is) (ap (λ z. z.own) took) (ap (λ z. z.held) took ∙ k.free) (ap (λ z. z.ended) took ∙ k.agrees.going),
     )
 
 pub push_reserved-requires : goal.push_reserved-requires

@@ -25,7 +25,7 @@ fetch_add-ticket-requires g c = let may = c.in_default.ensures.may in let k = ou
     let count : length c.exchange.new.seat.me.0.done < c.self.inside.table.shared.key.quota = omega arith in (
       search rules,
       omega arith,
-      draw_keeps_rule _ _ _ _ _ _ _ _ _ _ _ _ (ap (λ z. z.0.client) e ∙ k.agrees.client_is) (ap (λ z. z.0.own) e ∙ is) (ap (λ z. z.0.ended) e ∙ k.agrees.going) (ap (λ z. z.1) e) on fits count,
+      draw_keeps_rule _ _ _ _ _ _ _ _ _ _ _ _ (ap (λ z. z.0.role) e ∙ k.agrees.client_is) (ap (λ z. z.0.own) e ∙ is) (ap (λ z. z.0.ended) e ∙ k.agrees.going) (ap (λ z. z.1) e) on fits count,
     )
 
 pub exchange-requires-2 : goal.exchange-requires-2
@@ -37,7 +37,7 @@ store-requires g c = let may = c.in_default.ensures.may in let k = outstanding_i
     let wide = c.self.invariant.0.0 in let low = k.agrees.number_low in let e = c.exchange.ensures.3 in let f = c.fetch_add-ticket.ensures.2 _ _ _ (ap (λ z. z.1) e) in let h = c.exchange-2.ensures.3 in (
       search rules,
       omega arith,
-      post_keeps_rule _ _ _ _ _ _ _ _ _ _ _ _ _ _ (ap (λ z. z.0.client) h ∙ (ap (λ z. z.0.client) f ∙ (ap (λ z. z.0.client) e ∙ k.agrees.client_is))) (ap (λ z. z.0.number) h ∙ (ap (λ z. z.0.number) f ∙ (ap (λ z. z.0.number) e ∙ k.agrees.number_is)))
+      post_keeps_rule _ _ _ _ _ _ _ _ _ _ _ _ _ _ (ap (λ z. z.0.role) h ∙ (ap (λ z. z.0.role) f ∙ (ap (λ z. z.0.role) e ∙ k.agrees.client_is))) (ap (λ z. z.0.number) h ∙ (ap (λ z. z.0.number) f ∙ (ap (λ z. z.0.number) e ∙ k.agrees.number_is)))
           (ap (λ z. z.0.own) h ∙ ap (λ z. z.0.own) f) (ap (λ z. z.0.held) h ∙ (ap (λ z. z.0.held) f ∙ (ap (λ z. z.0.held) e ∙ k.free))) refl refl (ap (λ z. z.1) h),
     )
 
