@@ -1,14 +1,16 @@
+//! Tests of the public calls of `roster`, `publication`, `workload`, `clients`, `machine` and `simulation`. They are a
+//! crate of their own, so that each library is proved once, and not again for its tests.
 #![tactic(auto)]
 
 #[cfg(test)]
-mod roster;
+mod desks;
 #[cfg(test)]
-mod publication;
+mod enlisting;
 #[cfg(test)]
-mod workload;
+mod generated;
 #[cfg(test)]
-mod clients;
+mod schedules;
 #[cfg(test)]
-mod machine;
+mod steps;
 #[cfg(test)]
-mod simulation;
+mod workers;
