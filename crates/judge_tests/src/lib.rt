@@ -1,16 +1,20 @@
+//! Tests of the public calls of `history`, `certificate`, `checker`, `parallel`, `report`, `judging` and `sources`.
+//! They stand in a crate of their own, so that each of these libraries is proved once, and not again for its tests.
 #![tactic(auto)]
 
 #[cfg(test)]
-mod history;
+mod checking;
 #[cfg(test)]
-mod certificate;
+mod from_sources;
 #[cfg(test)]
-mod checker;
+mod histories;
 #[cfg(test)]
-mod parallel;
+mod judgements;
 #[cfg(test)]
-mod report;
+mod orders;
 #[cfg(test)]
-mod judging;
+mod reading;
 #[cfg(test)]
-mod sources;
+mod verdicts;
+#[cfg(test)]
+mod workers;

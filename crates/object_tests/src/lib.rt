@@ -1,8 +1,10 @@
+//! Tests of the public calls of `numbers`, `seq_objects` and `events`. They stand in a crate of their own, so that
+//! each of these libraries is proved once, and not again for its tests.
 #![tactic(auto)]
 
 #[cfg(test)]
-mod numbers;
+mod number_maps;
 #[cfg(test)]
-mod seq_objects;
+mod objects;
 #[cfg(test)]
-mod events;
+mod splitting;

@@ -1,6 +1,8 @@
+//! Tests of the public calls of `edn` and `fields`. They stand in a crate of their own, so that each of these
+//! libraries is proved once, and not again for its tests.
 #![tactic(auto)]
 
 #[cfg(test)]
-mod edn;
+mod forms;
 #[cfg(test)]
-mod fields;
+mod map_values;

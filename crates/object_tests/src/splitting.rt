@@ -1,4 +1,4 @@
-use super::*;
+use events::{Action, End, Event, History, Invocation, split, split_part};
 use seq_objects::{AnyOp, AnyReply, Kind};
 use std::alloc::Global;
 use std::test::Fail;

@@ -1,4 +1,4 @@
-use super::*;
+use numbers::NumberMap;
 use std::test::Fail;
 
 #[test]

@@ -1,18 +1,11 @@
-ghost use Rattle.std.specs.Prelude.{All, IsTrue};
-ghost use Rattle.edn.specs.Datum.{Fits, max_open};
-ghost use Rattle.edn.specs.View.{view};
-
-use super::*;
-use edn::{EdnFault, FaultKind, Form, Out, WriteFault, fits, read_forms};
+use crate::reading::all_fit;
+use certificate::{
+    CertFault, CertFaultKind, CertTextFault, Certificate, read_certificates,
+    read_certificates_text, write_certificates,
+};
+use edn::{EdnFault, FaultKind, Out, WriteFault, read_forms};
 use std::alloc::Global;
 use std::test::Fail;
-
-/// Whether each form fits, which is what the reader of certificates asks.
-fn all_fit(forms: &[Form]) -> bool
-    ensures { IsTrue result → All (λ f. Fits max_open (view f)) forms.now }
-{
-    forms.iter().all(|f| fits(f))
-}
 
 /// What the text reads as, by way of forms and without them.
 fn read(alloc: Global, text: &[u8]) -> Result<Result<Vec<Certificate>, CertFault>, Fail> {

@@ -1,6 +1,8 @@
-use super::*;
-use crate::texts::{certificates_in, history_in};
+use crate::reading::certificates_of;
 use checker::{OrderFault, Refusal};
+use judging::{
+    Fault, KindCount, Verdict, history_in, judge, judge_history, one_history, one_list_of_orders,
+};
 use seq_objects::{AnyReply, Kind};
 use std::alloc::Global;
 use std::test::Fail;
@@ -67,20 +69,27 @@ fn malformed_texts(rt: HostRuntime) -> Result<(), Fail> {
     Ok(())
 }
 
-/// What is wrong with the certificates of a text, for the history above.
+/// What is wrong with the certificates of a text, for the history above. The verdict on both texts says the same.
 fn refusal<R: Threads + Sync>(
     rt: &R,
     alloc: Global,
-    certificates: &[u8],
+    certificates: &str,
     workers: u32,
 ) -> Result<Option<Refusal>, Fail> {
     let Ok(history) = history_in(alloc, HISTORY) else {
         return Err(Fail::new("no history"));
     };
-    let Ok(orders) = certificates_in(alloc, certificates) else {
-        return Err(Fail::new("no certificates"));
+    let orders = certificates_of(alloc, certificates)?;
+    let refusal = judge_history(rt, alloc, &history, &orders, workers).err();
+    let of_texts = match judge(rt, alloc, HISTORY, certificates.as_bytes(), workers) {
+        Verdict::Yes(_) => None,
+        Verdict::No(refusal) => Some(refusal),
+        _ => return Err(Fail::new("texts that are read one by one are not judged")),
     };
-    Ok(judge_history(rt, alloc, &history, &orders, workers).err())
+    if of_texts != refusal {
+        return Err(Fail::new("texts are judged otherwise than what they denote"));
+    }
+    Ok(refusal)
 }
 
 #[test]
@@ -88,11 +97,11 @@ fn certificates(rt: HostRuntime) -> Result<(), Fail> {
     // no worker counts as one, and more than 16 as 16
     for workers in 0..18 {
         assert_eq!(rt;
-            refusal(&rt, rt.alloc(), b"{:object 0, :order [0 2]}", workers)?,
+            refusal(&rt, rt.alloc(), "{:object 0, :order [0 2]}", workers)?,
             None
         );
         assert_eq!(rt;
-            refusal(&rt, rt.alloc(), b"{:object 0, :order [2 0]}", workers)?,
+            refusal(&rt, rt.alloc(), "{:object 0, :order [2 0]}", workers)?,
             Some(DEQUEUE_FIRST)
         );
     }

@@ -1,17 +1,12 @@
-ghost use Rattle.std.specs.Prelude.{IfOk};
-ghost use Rattle.certificate.specs.Denotes.{AreDistinct};
-
-use crate::check_parallel;
-use crate::gathering::split_by_workers;
-use certificate::{Certificate, read_certificates_text};
+use crate::reading::{certificates_of, history_of};
 use checker::{OrderFault, Refusal, check_all};
-use events::{History, split};
-use history::read_history_text;
+use events::History;
+use parallel::check_parallel;
 use seq_objects::{AnyReply, Gate, Open};
 use std::alloc::Global;
 use std::sync::atomic::{AtomicU64, Ordering};
 use std::test::Fail;
-use std::thread::yield_now;
+use std::thread::{Threads, yield_now};
 
 /// Two queues: on each, a value is taken out and put in by two processes at once.
 const TWO_QUEUES: &str = "
@@ -26,19 +21,6 @@ const TWO_QUEUES: &str = "
 
 /// How long a gate waits, each turn a yield.
 const TURNS: u32 = 10_000_000;
-
-fn history_of(alloc: Global, text: &str) -> Result<History, Fail> {
-    read_history_text(alloc, text.as_bytes()).map_err(|_| Fail::new("a history is refused"))
-}
-
-fn certificates_of(alloc: Global, text: &str) -> Result<Vec<Certificate>, Fail>
-    ensures { IfOk result (λ v. AreDistinct v.items) }
-{
-    let Ok(certificates) = read_certificates_text(alloc, text.as_bytes()) else {
-        return Err(Fail::new("certificates are refused"));
-    };
-    Ok(certificates)
-}
 
 /// The refusal of a dequeue on object 0 that comes before the enqueue.
 const ZERO_GIVES_NIL: Refusal = Refusal::BadOrder {
@@ -80,16 +62,31 @@ const ROWS: [(&str, Result<(), Refusal>); 6] = [
     ),
 ];
 
+/// Whether one check and each number of workers answer so.
+fn all_answer<R: Threads + Sync>(
+    rt: &R,
+    alloc: Global,
+    history: &History,
+    orders: &str,
+    answer: Result<(), Refusal>,
+) -> Result<bool, Fail> {
+    let certificates = certificates_of(alloc, orders)?;
+    let mut same = check_all(alloc, history, &certificates) == answer;
+    for workers in 1..17 {
+        let given = check_parallel(rt, alloc, history, &certificates, workers, &Open);
+        same = same && given == answer;
+    }
+    Ok(same)
+}
+
 #[test]
 fn any_number_of_workers(rt: HostRuntime) -> Result<(), Fail> {
     let history = history_of(rt.alloc(), TWO_QUEUES)?;
-    for (text, answer) in &ROWS {
-        let certificates = certificates_of(rt.alloc(), text)?;
-        assert_eq!(rt; check_all(rt.alloc(), &history, &certificates), *answer);
-        for workers in 1..17 {
-            let given = check_parallel(&rt, rt.alloc(), &history, &certificates, workers, &Open);
-            assert_eq!(rt; given, *answer);
-        }
+    for (orders, answer) in ROWS {
+        assert!(rt;
+            all_answer(&rt, rt.alloc(), &history, orders, answer)?,
+            "at {orders:?}"
+        );
     }
     Ok(())
 }
@@ -109,21 +106,121 @@ const FOUR_MUTEXES: &str = "
     {:process 0, :type :ok, :f :release, :object 8}
     {:process 3, :type :info, :f :acquire, :object 12}";
 
+/// Certificates of the four mutexes, and the answer. Each object, and each of its operations, is told from any other.
+const MUTEX_ROWS: [(&str, Result<(), Refusal>); 16] = [
+    // What is pending on 4 and 12 is left out, and put in.
+    (
+        "{:object 0, :order [0]} {:object 4, :order []} {:object 8, :order [1 7]} {:object 12, :order []}",
+        Ok(()),
+    ),
+    (
+        "{:object 0, :order [0]} {:object 4, :order [2]} {:object 8, :order [1 7]} {:object 12, :order [8]}",
+        Ok(()),
+    ),
+    // No object is forgotten.
+    (
+        "{:object 4, :order []} {:object 8, :order [1 7]} {:object 12, :order []}",
+        Err(Refusal::NoCertificate { object: 0 }),
+    ),
+    (
+        "{:object 0, :order [0]} {:object 8, :order [1 7]} {:object 12, :order []}",
+        Err(Refusal::NoCertificate { object: 4 }),
+    ),
+    (
+        "{:object 0, :order [0]} {:object 4, :order []} {:object 12, :order []}",
+        Err(Refusal::NoCertificate { object: 8 }),
+    ),
+    (
+        "{:object 0, :order [0]} {:object 4, :order []} {:object 8, :order [1 7]}",
+        Err(Refusal::NoCertificate { object: 12 }),
+    ),
+    // None is made up.
+    (
+        "{:object 0, :order [0]} {:object 4, :order []} {:object 8, :order [1 7]} {:object 12, :order []} {:object 2, :order []}",
+        Err(Refusal::StrangeObject { object: 2 }),
+    ),
+    // No operation that returned is forgotten.
+    (
+        "{:object 0, :order []} {:object 4, :order []} {:object 8, :order []} {:object 12, :order []}",
+        Err(Refusal::BadOrder {
+            object: 0,
+            fault: OrderFault::Omitted { op: 0 },
+        }),
+    ),
+    (
+        "{:object 0, :order [0]} {:object 4, :order []} {:object 8, :order []} {:object 12, :order []}",
+        Err(Refusal::BadOrder {
+            object: 8,
+            fault: OrderFault::Omitted { op: 1 },
+        }),
+    ),
+    (
+        "{:object 0, :order [0]} {:object 4, :order []} {:object 8, :order [1]} {:object 12, :order []}",
+        Err(Refusal::BadOrder {
+            object: 8,
+            fault: OrderFault::Omitted { op: 7 },
+        }),
+    ),
+    // Operations of another object, and one that failed.
+    (
+        "{:object 0, :order [0 1]} {:object 4, :order []} {:object 8, :order [1 7]} {:object 12, :order []}",
+        Err(Refusal::BadOrder {
+            object: 0,
+            fault: OrderFault::UnknownOperation { op: 1 },
+        }),
+    ),
+    (
+        "{:object 0, :order [0]} {:object 4, :order [0]} {:object 8, :order [1 7]} {:object 12, :order []}",
+        Err(Refusal::BadOrder {
+            object: 4,
+            fault: OrderFault::UnknownOperation { op: 0 },
+        }),
+    ),
+    (
+        "{:object 0, :order [0]} {:object 4, :order []} {:object 8, :order [1 7]} {:object 12, :order [3]}",
+        Err(Refusal::BadOrder {
+            object: 12,
+            fault: OrderFault::UnknownOperation { op: 3 },
+        }),
+    ),
+    // What each operation is.
+    (
+        "{:object 0, :order [0]} {:object 4, :order []} {:object 8, :order [7 1]} {:object 12, :order []}",
+        Err(Refusal::BadOrder {
+            object: 8,
+            fault: OrderFault::NotPossible { op: 7 },
+        }),
+    ),
+    (
+        "{:object 0, :order [0]} {:object 4, :order [2 2]} {:object 8, :order [1 7]} {:object 12, :order []}",
+        Err(Refusal::BadOrder {
+            object: 4,
+            fault: OrderFault::Repeated { op: 2 },
+        }),
+    ),
+    (
+        "{:object 0, :order [0]} {:object 4, :order []} {:object 8, :order [1 7]} {:object 12, :order [8 8]}",
+        Err(Refusal::BadOrder {
+            object: 12,
+            fault: OrderFault::Repeated { op: 8 },
+        }),
+    ),
+];
+
+/// However many workers gather the operations, each object is checked with all of its own, and with no other.
 #[test]
 fn splits_as_one_worker(rt: HostRuntime) -> Result<(), Fail> {
-    for text in [TWO_QUEUES, FOUR_MUTEXES, ""] {
-        let history = history_of(rt.alloc(), text)?;
-        let whole = split(rt.alloc(), &history)?;
-        for workers in 1..17 {
-            let objects = split_by_workers(&rt, rt.alloc(), &history, workers)?;
-            assert_eq!(rt; objects.len(), whole.len());
-            for (object, own) in objects.iter().zip(whole.iter()) {
-                assert_eq!(rt; object.object(), own.object());
-                assert_eq!(rt; object.kind(), own.kind());
-                assert_eq!(rt; object.ops(), own.ops());
-            }
-        }
+    let history = history_of(rt.alloc(), FOUR_MUTEXES)?;
+    for (orders, answer) in MUTEX_ROWS {
+        assert!(rt;
+            all_answer(&rt, rt.alloc(), &history, orders, answer)?,
+            "at {orders:?}"
+        );
     }
+    let empty = history_of(rt.alloc(), "")?;
+    assert!(rt; all_answer(&rt, rt.alloc(), &empty, "", Ok(()))?);
+    let strange = Err(Refusal::StrangeObject { object: 0 });
+    assert!(rt; all_answer(&rt, rt.alloc(), &empty, "{:object 0, :order []}", strange)?);
     Ok(())
 }
 

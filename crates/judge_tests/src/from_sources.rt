@@ -1,8 +1,8 @@
 ghost use Rattle.std.specs.Prelude.{◌≡◌, None, false};
 
-use crate::{Bytes, In, NamedFile, Source, Text, ToolFault, check_over, read_text};
 use edn::{Failed, MAX_LENGTH, Out};
 use report::Verdict;
+use sources::{Bytes, In, NamedFile, Source, Text, ToolFault, check_over, read_text};
 use std::test::Fail;
 
 /// One process enqueues 1 and dequeues it.

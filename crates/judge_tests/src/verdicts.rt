@@ -1,12 +1,12 @@
-use super::*;
-use crate::counting::summary_of;
+use crate::reading::history_of;
 use certificate::{CertFault, CertFaultKind};
 use checker::{OrderFault, Refusal};
 use edn::{EdnFault, FaultKind, Out, WriteFault};
-use events::{Action, Event, History};
-use history::{HistoryFault, HistoryFaultKind};
-use seq_objects::{AnyOp, AnyReply, Kind};
-use std::alloc::{AllocError, Global};
+use events::History;
+use history::{HistoryFault, HistoryFaultKind, TextFault, read_history_text};
+use report::{Fault, Verdict, summary, write_verdict};
+use seq_objects::AnyReply;
+use std::alloc::Global;
 use std::test::Fail;
 
 /// The lines of the verdict.
@@ -127,53 +127,35 @@ fn faults(rt: HostRuntime) -> Result<(), Fail> {
     Ok(())
 }
 
-fn event(number: u32, process: u64, object: u32, action: Action) -> Event {
-    Event {
-        number,
-        process,
-        object,
-        action,
-    }
-}
-
-fn value(v: i64) -> Action {
-    Action::Ok(AnyReply::Value(Some(v)))
-}
-
 /// One process puts in 1, and takes it out.
-fn put_and_taken() -> [Event; 4] {
-    [
-        event(0, 0, 0, Action::Invoke(AnyOp::Enqueue(1))),
-        event(1, 0, 0, value(1)),
-        event(2, 0, 0, Action::Invoke(AnyOp::Dequeue)),
-        event(3, 0, 0, value(1)),
-    ]
-}
+const PUT_AND_TAKEN: &str = "
+    {:process 0, :type :invoke, :f :enqueue, :value 1}
+    {:process 0, :type :ok, :f :enqueue, :value 1}
+    {:process 0, :type :invoke, :f :dequeue}
+    {:process 0, :type :ok, :f :dequeue, :value 1}";
 
 /// Operations on three objects: one failed, which was alone on its object, one returned, and one is left open.
-fn on_three_objects() -> [Event; 5] {
-    [
-        event(0, 0, 9, Action::Invoke(AnyOp::Push(5))),
-        event(1, 1, 2, Action::Invoke(AnyOp::Write(5))),
-        event(2, 0, 9, Action::Fail),
-        event(3, 0, 65_535, Action::Invoke(AnyOp::Read)),
-        event(4, 1, 2, value(5)),
-    ]
-}
+const ON_THREE_OBJECTS: &str = "
+    {:process 0, :type :invoke, :f :push, :value 5, :object 9}
+    {:process 1, :type :invoke, :f :write, :value 5, :object 2}
+    {:process 0, :type :fail, :f :push, :value 5, :object 9}
+    {:process 0, :type :invoke, :f :read, :object 65535}
+    {:process 1, :type :ok, :f :write, :value 5, :object 2}";
 
-fn yes(alloc: Global, events: &[Event]) -> Result<Verdict, AllocError> {
-    Ok(Verdict::Yes(summary_of(alloc, events)?))
+fn yes(alloc: Global, text: &str) -> Result<Verdict, Fail> {
+    let history = history_of(alloc, text)?;
+    Ok(Verdict::Yes(summary(alloc, &history)?))
 }
 
 #[test]
 fn summaries(rt: HostRuntime) -> Result<(), Fail> {
-    let verdict = yes(rt.alloc(), &put_and_taken())?;
+    let verdict = yes(rt.alloc(), PUT_AND_TAKEN)?;
     let want = b"yes: 2 operations, 1 objects\nqueue: 1 objects, 2 operations\n";
     assert_eq!(rt;
         lines(rt.alloc(), &verdict, false)?.as_slice(),
         want.as_slice()
     );
-    let verdict = yes(rt.alloc(), &on_three_objects())?;
+    let verdict = yes(rt.alloc(), ON_THREE_OBJECTS)?;
     let want =
         b"; yes: 2 operations, 3 objects\n; stack: 1 objects, 0 operations\n; register: 2 objects, 2 operations\n";
     assert_eq!(rt;
@@ -197,7 +179,7 @@ fn empty_history(rt: HostRuntime) -> Result<(), Fail> {
 
 #[test]
 fn failing_sink(rt: HostRuntime) -> Result<(), Fail> {
-    let verdict = yes(rt.alloc(), &put_and_taken())?;
+    let verdict = yes(rt.alloc(), PUT_AND_TAKEN)?;
     let mut room = [0; 20];
     let mut sink = Out::new(room.as_mut_slice());
     assert_eq!(rt;
@@ -208,10 +190,25 @@ fn failing_sink(rt: HostRuntime) -> Result<(), Fail> {
     Ok(())
 }
 
+/// Whether the reading stopped since memory was refused.
+fn wants_memory(fault: &TextFault) -> bool {
+    match fault {
+        TextFault::Text(fault) => fault.kind == FaultKind::NoMemory,
+        TextFault::Maps(fault) => fault.kind == HistoryFaultKind::NoMemory,
+    }
+}
+
 /// Passes whichever allocation is refused: the counts are right, or memory ran out.
 #[test]
 fn refused_memory(rt: HostRuntime) -> Result<(), Fail> {
-    if let Ok(counts) = summary_of(rt.alloc(), &on_three_objects()) {
+    let history = match read_history_text(rt.alloc(), ON_THREE_OBJECTS.as_bytes()) {
+        Ok(history) => history,
+        Err(fault) => {
+            assert!(rt; wants_memory(&fault));
+            return Ok(());
+        }
+    };
+    if let Ok(counts) = summary(rt.alloc(), &history) {
         assert_eq!(rt; counts.operations, 2);
         assert_eq!(rt; counts.objects, 3);
         assert_eq!(rt; counts.kinds.len(), 2);

@@ -10,7 +10,7 @@ use Rattle.events.specs.declared.event.Action.{Action}
 use Rattle.events.specs.declared.event.Action.TheVariants.{Invoke, Ok, Fail, Info}
 use Rattle.events.specs.declared.event.Event.{Event}
 use Rattle.events.specs.Events.{Follows, IsOfKindAt, IsProper}
-use Rattle.events.proofs.tests.three_operations.Goals as goal
+use Rattle.object_tests.proofs.splitting.three_operations.Goals as goal
 
 -- each event fits behind those before it
 abbrev AllFollow : List Event → List Event → Type 0

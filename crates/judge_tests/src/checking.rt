@@ -1,26 +1,10 @@
-ghost use Rattle.std.specs.Prelude.{IfOk};
-ghost use Rattle.certificate.specs.Denotes.{AreDistinct};
-
-use super::*;
-use certificate::{Certificate, read_certificates_text};
-use events::{History, split};
-use history::read_history_text;
+use crate::reading::{certificates_of, history_of};
+use certificate::Certificate;
+use checker::{OrderFault, Refusal, check_all, check_object, check_order};
+use events::split;
 use seq_objects::{AnyObject, AnyReply};
 use std::alloc::Global;
 use std::test::Fail;
-
-fn history_of(alloc: Global, text: &str) -> Result<History, Fail> {
-    read_history_text(alloc, text.as_bytes()).map_err(|_| Fail::new("a history is refused"))
-}
-
-fn certificates_of(alloc: Global, text: &str) -> Result<Vec<Certificate>, Fail>
-    ensures { IfOk result (λ v. AreDistinct v.items) }
-{
-    let Ok(certificates) = read_certificates_text(alloc, text.as_bytes()) else {
-        return Err(Fail::new("certificates are refused"));
-    };
-    Ok(certificates)
-}
 
 /// The answers of the three checks on an order of the operations of a history's only object.
 fn answers(alloc: Global, text: &str, order: &[i64]) -> Result<[Result<(), Refusal>; 3], Fail> {

@@ -1,7 +1,11 @@
 ghost use Rattle.std.specs.Prelude.{◌≡◌, Some, None, IfOk, MatchOption};
 ghost use Rattle.model.specs.Objects.{kind_of, kind_with, next};
 
-use super::*;
+use seq_objects::{
+    AnyObject, AnyOp, AnyReply, Function, Heap, HeapOp, Kind, MapObject, MapOp, Mutex, MutexOp,
+    Queue, QueueOp, Register, RegisterOp, SeqObject, Stack, StackOp, Value, function_of, kind_name,
+    op_of, reply_of, value_of_op, value_of_reply,
+};
 use std::alloc::AllocError;
 use std::process::Abort;
 use std::test::Fail;
