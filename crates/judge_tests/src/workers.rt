@@ -207,6 +207,34 @@ const MUTEX_ROWS: [(&str, Result<(), Refusal>); 16] = [
     ),
 ];
 
+/// Two values are put into a queue, the second after the first was in.
+const ONE_AFTER_ANOTHER: &str = "
+    {:process 0, :type :invoke, :f :enqueue, :value 1, :object 4}
+    {:process 0, :type :ok, :f :enqueue, :value 1, :object 4}
+    {:process 1, :type :invoke, :f :enqueue, :value 2, :object 4}
+    {:process 1, :type :ok, :f :enqueue, :value 2, :object 4}";
+
+/// However many workers gather the operations, it is known when each returned.
+#[test]
+fn returns_are_known_to_each_worker(rt: HostRuntime) -> Result<(), Fail> {
+    let history = history_of(rt.alloc(), ONE_AFTER_ANOTHER)?;
+    assert!(rt;
+        all_answer(
+            &rt,
+            rt.alloc(),
+            &history,
+            "{:object 4, :order [0 2]}",
+            Ok(())
+        )?
+    );
+    let late = Err(Refusal::BadOrder {
+        object: 4,
+        fault: OrderFault::TooLate { op: 0, by: 2 },
+    });
+    assert!(rt; all_answer(&rt, rt.alloc(), &history, "{:object 4, :order [2 0]}", late)?);
+    Ok(())
+}
+
 /// However many workers gather the operations, each object is checked with all of its own, and with no other.
 #[test]
 fn splits_as_one_worker(rt: HostRuntime) -> Result<(), Fail> {
