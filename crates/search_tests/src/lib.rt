@@ -1,8 +1,10 @@
+//! Tests of the public calls of `search`, `finder` and `deciding`. They stand in a crate of their own, so that each of these libraries
+//! is proved once, and not again for its tests.
 #![tactic(auto)]
 
 #[cfg(test)]
-mod search;
+mod decisions;
 #[cfg(test)]
-mod finder;
+mod finding;
 #[cfg(test)]
-mod deciding;
+mod searching;

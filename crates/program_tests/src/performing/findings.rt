@@ -1,7 +1,10 @@
 //! What is put out where the finder looks for certificates: lines and status.
 
-use super::*;
-use table::{HELD, IN_TURN, ONE_BY_ONE, OVERLAPPING, TWO_QUEUES};
+use super::table::{HELD, IN_TURN, ONE_BY_ONE, OVERLAPPING, TWO_QUEUES};
+use super::{check_certificates, check_failing_output, check_output};
+use commands::Line;
+use std::alloc::Global;
+use std::test::Fail;
 
 struct FindRow {
     history: &'static str,

@@ -1,3 +1,5 @@
+//! What the program puts out for a line and the texts of its files, and the status that it gives.
+
 mod findings;
 mod judgements;
 mod runs;
@@ -6,11 +8,9 @@ mod simulations;
 mod table;
 mod workers;
 
-use super::*;
-use edn::{Out, Sink};
-use std::alloc::{AllocError, Global};
-use std::io;
-use std::io::Write;
+use commands::{FAILED, Line, line, perform};
+use edn::Out;
+use std::alloc::Global;
 use std::process::Abort;
 use std::sync::Wait;
 use std::test::Fail;

@@ -1,8 +1,11 @@
 //! What a search puts out: lines and status.
 
-use super::*;
-use search::TryFirst;
-use table::{HELD, ONE_BY_ONE, OVERLAPPING, TWO_QUEUES};
+use super::table::{HELD, ONE_BY_ONE, OVERLAPPING, TWO_QUEUES};
+use super::{asked, check_certificates, check_output, performed};
+use commands::{Line, LineFault, line};
+use order_search::TryFirst;
+use std::alloc::Global;
+use std::test::Fail;
 
 struct SearchRow {
     history: &'static str,

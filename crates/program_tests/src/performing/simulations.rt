@@ -1,6 +1,9 @@
 //! What is put out of schedules: lines and status.
 
-use super::*;
+use super::{asked, check_failing_output, checking, performed};
+use commands::Line;
+use std::alloc::Global;
+use std::test::Fail;
 
 struct ScheduleRow {
     name: &'static str,

@@ -1,8 +1,12 @@
 //! Small histories, each searched and compared with a search by brute force.
 
-use super::*;
+use super::{AMPLE, history_of, is_accepted};
 use certificate::Certificate;
-use std::alloc::AllocError;
+use checker::check_object;
+use events::{ObjectHistory, split};
+use search::{Found, TryFirst, search_by};
+use std::alloc::{AllocError, Global};
+use std::test::Fail;
 
 /// What an invocation says, and its completion.
 type Words = [(&'static str, &'static str); 7];

@@ -1,6 +1,6 @@
 //! Words and what they ask for.
 
-use super::*;
+use command_line::{Line, LineFault, RunOptions, line};
 use kinds::Kinds;
 use model::Kind;
 use order_search::TryFirst;

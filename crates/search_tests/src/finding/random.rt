@@ -1,14 +1,14 @@
-//! Small histories at random, in which each value is put in once and each call returns: where the bounded search finds an order, the
-//! way that is made for the kind does.
+//! Histories at random, in which each value is put in once and each call returns: where the bounded search finds an order of a small
+//! one, the finder does. Behind so many calls that the finder makes no search, only its way for the kind is left to find it.
 
 use super::objects_of;
-use crate::ways::{Way, order_by};
-use certificate::Certificate;
 use checker::check_object;
 use events::ObjectHistory;
+use finder::{Found, find};
 use order_search::{Outcome, TryFirst, find_order};
 use seq_objects::Kind;
 use std::alloc::{AllocError, Global};
+use std::process::Abort;
 use std::test::Fail;
 
 /// Numbers by the multiplier and increment of Knuth's MMIX.
@@ -180,8 +180,8 @@ fn call_of(
     }
 }
 
-/// Calls in the order in which the object did them; half of all times one of them begins or returns elsewhere.
-fn calls_of(
+/// Calls in the order in which the object did them.
+fn calls_in_order(
     alloc: Global,
     random: &mut Random,
     kind: Kind,
@@ -198,6 +198,17 @@ fn calls_of(
         let fresh = k.saturating_add(10);
         calls.push(call_of(alloc, random, &mut contents, kind, fresh)?)?;
     }
+    Ok(calls)
+}
+
+/// The same; half of all times the first of them comes last.
+fn calls_of(
+    alloc: Global,
+    random: &mut Random,
+    kind: Kind,
+    count: u32,
+) -> Result<Vec<Words>, AllocError> {
+    let mut calls = calls_in_order(alloc, random, kind, count)?;
     if random.below(2) == 0 && calls.len() > 1 {
         let call = calls.remove(0);
         calls.push(call)?;
@@ -222,14 +233,8 @@ fn moments_of(
     Ok(moments)
 }
 
-/// A history of so many calls, each by a process of its own.
-fn history_text(
-    alloc: Global,
-    random: &mut Random,
-    kind: Kind,
-    count: u32,
-) -> Result<String, AllocError> {
-    let calls = calls_of(alloc, random, kind, count)?;
+/// A history of these calls, each by a process of its own.
+fn history_text(alloc: Global, random: &mut Random, calls: &[Words]) -> Result<String, AllocError> {
     let mut text = String::new(alloc);
     for (_, place, returns) in &moments_of(alloc, random, calls.len())? {
         if let Some(call) = calls.get(*place) {
@@ -247,49 +252,165 @@ fn history_text(
     Ok(text)
 }
 
-/// Whether an order is found by the way that is made for the kind.
-fn is_found(alloc: Global, history: &ObjectHistory) -> Result<bool, AllocError> {
-    let Some(order) = order_by(alloc, Way::OfTheKind, history)? else {
-        return Ok(false);
+/// Two calls, one after the other, that leave a new object as it is.
+fn idle_pair(alloc: Global, kind: Kind) -> Result<String, AllocError> {
+    let (first, second, argument) = match kind {
+        Kind::Queue => ("dequeue", "dequeue", "nil"),
+        Kind::Stack => ("pop", "pop", "nil"),
+        Kind::Heap => ("extract-min", "extract-min", "nil"),
+        Kind::Register => ("read", "read", "nil"),
+        Kind::Map => ("get", "get", "0"),
+        Kind::Mutex => ("acquire", "release", "nil"),
     };
-    let object = history.object();
-    let certificate = Certificate { object, order };
-    Ok(check_object(alloc, history, &certificate).is_ok())
+    format!(in alloc;
+        "{{:process 100, :type :invoke, :f :{first}, :value {argument}}}\n\
+         {{:process 100, :type :ok, :f :{first}, :value nil}}\n\
+         {{:process 100, :type :invoke, :f :{second}, :value {argument}}}\n\
+         {{:process 100, :type :ok, :f :{second}, :value nil}}\n"
+    )
 }
 
-/// Whether the search finds an order, and whether the way that is made for the kind does.
-fn both(alloc: Global, text: &str) -> Result<(bool, bool), Fail> {
-    let objects = objects_of(alloc, text)?;
-    let Some(object) = objects.first() else {
-        return Err(Fail::new("no object is named"));
-    };
-    let searched = find_order(alloc, object, TryFirst::LeastNumber, 1_000_000);
-    let found = is_found(alloc, object)?;
-    Ok((matches!(searched.outcome, Outcome::Found(_)), found))
+/// This history behind 4,098 calls that leave the object as it is.
+fn behind_idle_calls(alloc: Global, kind: Kind, text: &str) -> Result<String, AllocError> {
+    let pair = idle_pair(alloc, kind)?;
+    let mut long = String::new(alloc);
+    for _ in 0..2_049 {
+        long.push_str(&pair)?;
+    }
+    long.push_str(text)?;
+    Ok(long)
 }
+
+/// The one object of a history.
+fn object_of(alloc: Global, text: &str) -> Result<ObjectHistory, Fail> {
+    match objects_of(alloc, text)?.pop() {
+        Some(object) => Ok(object),
+        None => Err(Fail::new("no object is named")),
+    }
+}
+
+/// Whether a search finds an order of the object; `None` where it has too many operations for one.
+fn searched(alloc: Global, history: &ObjectHistory) -> Result<Option<bool>, Fail> {
+    match find_order(alloc, history, TryFirst::LeastNumber, 1_000_000).outcome {
+        Outcome::Found(_) => Ok(Some(true)),
+        Outcome::Impossible => Ok(Some(false)),
+        Outcome::TooLarge => Ok(None),
+        Outcome::OutOfSteps | Outcome::NoMemory => Err(Fail::new("a search does not end")),
+    }
+}
+
+/// Whether the finder finds an order of the object, which the checker accepts.
+fn found(alloc: Global, history: &ObjectHistory) -> Result<bool, Fail> {
+    match find(alloc, history)? {
+        Found::Order(certificate) => {
+            if check_object(alloc, history, &certificate).is_err() {
+                return Err(Fail::new("what is found is refused"));
+            }
+            Ok(true)
+        }
+        Found::Open => Ok(false),
+    }
+}
+
+/// Whether an order is found of a history that is too long for a search.
+fn found_without_search(alloc: Global, text: &str) -> Result<bool, Fail> {
+    let object = object_of(alloc, text)?;
+    if searched(alloc, &object)?.is_some() {
+        return Err(Fail::new("a history is short enough for a search"));
+    }
+    found(alloc, &object)
+}
+
+const KINDS: [Kind; 6] = [
+    Kind::Queue,
+    Kind::Stack,
+    Kind::Heap,
+    Kind::Register,
+    Kind::Map,
+    Kind::Mutex,
+];
 
 #[test]
 fn what_a_search_finds_is_found(rt: HostRuntime) -> Result<(), Fail> {
+    let alloc = rt.alloc();
     let mut random = Random { state: 2026 };
-    for kind in [
-        Kind::Queue,
-        Kind::Stack,
-        Kind::Heap,
-        Kind::Register,
-        Kind::Map,
-        Kind::Mutex,
-    ] {
+    for kind in KINDS {
         let mut valid: u32 = 0;
         for turn in 0..150u32 {
-            let text = history_text(rt.alloc(), &mut random, kind, 3 + turn % 6)?;
-            let (searched, found) = both(rt.alloc(), &text)?;
-            assert_eq!(rt; found, searched, "{text}");
+            let calls = calls_of(alloc, &mut random, kind, 3 + turn % 6)?;
+            let text = history_text(alloc, &mut random, &calls)?;
+            let object = object_of(alloc, &text)?;
+            let found = found(alloc, &object)?;
+            assert_eq!(rt; Some(found), searched(alloc, &object)?, "{text}");
             if found {
                 valid = valid.saturating_add(1);
             }
         }
         // some have an order, and some have none
         assert!(rt; valid > 40 && valid < 150, "{valid}");
+    }
+    Ok(())
+}
+
+/// Nothing but the way for the kind can find an order behind the idle calls, and it finds one wherever there is one.
+fn check_behind_idle_calls<R: AllocGlobal + Abort>(rt: &R, kind: Kind) -> Result<(), Fail> {
+    let alloc = rt.alloc();
+    let mut random = Random { state: 2026 };
+    let mut valid: u32 = 0;
+    for turn in 0..20u32 {
+        let calls = calls_of(alloc, &mut random, kind, 3 + turn % 6)?;
+        let text = history_text(alloc, &mut random, &calls)?;
+        let long = behind_idle_calls(alloc, kind, &text)?;
+        let found = found_without_search(alloc, &long)?;
+        let object = object_of(alloc, &text)?;
+        assert_eq!(rt; Some(found), searched(alloc, &object)?, "{text}");
+        if found {
+            valid = valid.saturating_add(1);
+        }
+    }
+    // some have an order, and some have none
+    assert!(rt; valid > 2 && valid < 20, "{valid}");
+    Ok(())
+}
+
+#[test]
+fn a_queue_behind_idle_calls(rt: HostRuntime) -> Result<(), Fail> {
+    check_behind_idle_calls(&rt, Kind::Queue)
+}
+
+#[test]
+fn a_stack_behind_idle_calls(rt: HostRuntime) -> Result<(), Fail> {
+    check_behind_idle_calls(&rt, Kind::Stack)
+}
+
+#[test]
+fn a_heap_behind_idle_calls(rt: HostRuntime) -> Result<(), Fail> {
+    check_behind_idle_calls(&rt, Kind::Heap)
+}
+
+#[test]
+fn a_register_behind_idle_calls(rt: HostRuntime) -> Result<(), Fail> {
+    check_behind_idle_calls(&rt, Kind::Register)
+}
+
+#[test]
+fn a_map_behind_idle_calls(rt: HostRuntime) -> Result<(), Fail> {
+    check_behind_idle_calls(&rt, Kind::Map)
+}
+
+#[test]
+fn a_mutex_behind_idle_calls(rt: HostRuntime) -> Result<(), Fail> {
+    check_behind_idle_calls(&rt, Kind::Mutex)
+}
+
+#[test]
+fn five_thousand_calls(rt: HostRuntime) -> Result<(), Fail> {
+    let alloc = rt.alloc();
+    let mut random = Random { state: 2026 };
+    for kind in KINDS {
+        let calls = calls_in_order(alloc, &mut random, kind, 5_000)?;
+        let text = history_text(alloc, &mut random, &calls)?;
+        assert!(rt; found_without_search(alloc, &text)?);
     }
     Ok(())
 }

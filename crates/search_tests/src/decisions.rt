@@ -1,5 +1,7 @@
-use super::*;
+//! Decisions on the objects of a history: found, impossible or out of steps.
+
 use checker::check_object;
+use deciding::{Found, Search, decide, decide_all};
 use events::{ObjectHistory, split};
 use history::read_history_text;
 use std::alloc::Global;

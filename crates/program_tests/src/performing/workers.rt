@@ -1,8 +1,14 @@
 //! Runs of clients in threads: what the words ask for, and what is put out.
 
-use super::*;
+use super::{checking, performed};
+use commands::{Line, RunOptions};
 use kinds::Kinds;
 use model::{AnyOp, Kind};
+use std::alloc::{AllocError, Global};
+use std::process::Abort;
+use std::sync::Wait;
+use std::test::Fail;
+use std::thread::Threads;
 use workload::{Workload, workload};
 
 /// What a run puts out, and its exit status.
@@ -30,29 +36,31 @@ fn no_calls(rt: HostRuntime) -> Result<(), Fail> {
     Ok(())
 }
 
-/// The last call of five is left out.
+/// One client, whose last call of five is left out, and what it puts out.
+pub const ALONE: RunOptions = RunOptions {
+    kinds: Kinds::One(Kind::Mutex),
+    objects: 1,
+    clients: 1,
+    calls: 5,
+    seed: 0,
+};
+
+pub const ALONE_LINES: &str = "{:process 0, :type :invoke, :f :acquire, :value nil, :object 0}\n\
+    {:process 0, :type :ok, :f :acquire, :value nil, :object 0}\n\
+    {:process 0, :type :invoke, :f :release, :value nil, :object 0}\n\
+    {:process 0, :type :ok, :f :release, :value nil, :object 0}\n\
+    {:process 0, :type :invoke, :f :acquire, :value nil, :object 0}\n\
+    {:process 0, :type :ok, :f :acquire, :value nil, :object 0}\n\
+    {:process 0, :type :invoke, :f :release, :value nil, :object 0}\n\
+    {:process 0, :type :ok, :f :release, :value nil, :object 0}\n\
+    ; {:object 0, :order [0 2 4 6]}\n\
+    ; yes: 4 operations, 1 objects\n\
+    ; mutex: 1 objects, 4 operations\n";
+
 #[test]
 fn one_client_at_a_mutex(rt: HostRuntime) -> Result<(), Fail> {
-    let options = RunOptions {
-        kinds: Kinds::One(Kind::Mutex),
-        objects: 1,
-        clients: 1,
-        calls: 5,
-        seed: 0,
-    };
-    let output = run_with(&rt, options)?;
-    let expected = "{:process 0, :type :invoke, :f :acquire, :value nil, :object 0}\n\
-        {:process 0, :type :ok, :f :acquire, :value nil, :object 0}\n\
-        {:process 0, :type :invoke, :f :release, :value nil, :object 0}\n\
-        {:process 0, :type :ok, :f :release, :value nil, :object 0}\n\
-        {:process 0, :type :invoke, :f :acquire, :value nil, :object 0}\n\
-        {:process 0, :type :ok, :f :acquire, :value nil, :object 0}\n\
-        {:process 0, :type :invoke, :f :release, :value nil, :object 0}\n\
-        {:process 0, :type :ok, :f :release, :value nil, :object 0}\n\
-        ; {:object 0, :order [0 2 4 6]}\n\
-        ; yes: 4 operations, 1 objects\n\
-        ; mutex: 1 objects, 4 operations\n";
-    assert_eq!(rt; output.as_slice(), expected.as_bytes());
+    let output = run_with(&rt, ALONE)?;
+    assert_eq!(rt; output.as_slice(), ALONE_LINES.as_bytes());
     Ok(())
 }
 

@@ -1,9 +1,11 @@
+//! The finder, on a history of each kind.
+
 mod random;
 mod small;
 
-use super::*;
 use checker::check_object;
 use events::{ObjectHistory, split};
+use finder::{Found, find};
 use history::read_history_text;
 use std::alloc::Global;
 use std::test::Fail;

@@ -1,10 +1,12 @@
+//! The bounded search, on texts whose answers and steps are known.
+
 mod by_force;
 
-use super::*;
 use checker::check_object;
 use events::{History, ObjectHistory, split};
 use history::read_history_text;
 use order_search::find_order;
+use search::{Found, Search, TryFirst, search, search_all, search_all_by, search_by};
 use std::alloc::Global;
 use std::test::Fail;
 

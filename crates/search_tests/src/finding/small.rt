@@ -3,8 +3,8 @@
 
 use super::objects_of;
 use super::random::Random;
-use crate::{Found, find};
 use events::ObjectHistory;
+use finder::{Found, find};
 use order_search::{Outcome, TryFirst, find_order};
 use std::alloc::{AllocError, Global};
 use std::test::Fail;

@@ -1,8 +1,11 @@
 //! The judgement of a history without certificates: lines and status.
 
-use super::*;
-use findings::ONE_IS_OPEN;
-use table::{HELD, ONE_BY_ONE};
+use super::findings::ONE_IS_OPEN;
+use super::table::{HELD, ONE_BY_ONE, YES};
+use super::{check_failing_output, check_output, performed};
+use commands::Line;
+use std::alloc::Global;
+use std::test::Fail;
 
 struct JudgeRow {
     history: &'static str,
