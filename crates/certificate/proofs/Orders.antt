@@ -1,8 +1,8 @@
 -- A certificate, by what is kept of it.
-use Rattle.std.proofs.Common.{◌≡◌, ℕ, Option, Some, None, option_map, List, ◌∷◌, refl, sym, ap, ◌∙◌, codes}
-use Rattle.std.specs.Prelude.{ℤ, option_and_then}
-use Rattle.edn.specs.Briefs.{brief_entries, brief, integers_in, row_of, row_at}
-use Rattle.edn.specs.Datum.{nil, boolean, integer, string, keyword, Datum, atom, vector, dictionary, Items, no_items, item}
+use Rattle.std.proofs.Common.{◌≡◌, ℕ, Option, Some, None, List, refl, sym, ap, ◌∙◌, codes}
+use Rattle.std.specs.Prelude.{ℤ}
+use Rattle.edn.specs.Briefs.{brief_entries, brief, row_at}
+use Rattle.edn.specs.Datum.{Datum, atom, vector, dictionary}
 use Rattle.edn.specs.Pieces.{tape_tokens}
 use Rattle.edn.specs.declared.Piece.{Piece}
 use Rattle.fields.specs.Fields.{value_at, natural_in, object_in}
@@ -10,7 +10,7 @@ use Rattle.fields.specs.Values.{IsValueIn, natural_first}
 use Rattle.fields.proofs.Briefs.{value_of_brief, natural_of_brief, row_of_value}
 use Rattle.fields.proofs.Shapes.{natural_is}
 use Rattle.certificate.specs.Denotes as spec
-use Rattle.certificate.specs.Denotes.{order_in, reading_with, certificate_of}
+use Rattle.certificate.specs.Denotes.{reading_with, certificate_of}
 use Rattle.certificate.specs.Tapes.{IsKept, object_of}
 
 -- ---- the object
@@ -21,30 +21,12 @@ object_is number (vector ds) h = absurd h
 object_is number (dictionary es) h =
     ap object_in (natural_is number (value_at (codes "object") (brief_entries es)) h ∙ ap natural_in (value_of_brief (codes "object") es) ∙ natural_of_brief (value_at (codes "object") es))
 
--- ---- the order
-
-integers_are : (ds : Items) → spec.integers_in ds ≡ integers_in ds
-integers_are no_items = refl
-integers_are (item (atom nil) ds) = refl
-integers_are (item (atom (boolean b)) ds) = refl
-integers_are (item (atom (integer z)) ds) = ap (option_map (λ zs. z ∷ zs)) (integers_are ds)
-integers_are (item (atom (string s)) ds) = refl
-integers_are (item (atom (keyword k)) ds) = refl
-integers_are (item (vector es) ds) = refl
-integers_are (item (dictionary es) ds) = refl
-
-order_is : (o : Option Datum) → order_in o ≡ option_and_then row_of o
-order_is None = refl
-order_is (Some (atom a)) = refl
-order_is (Some (vector ds)) = integers_are ds
-order_is (Some (dictionary es)) = refl
-
 -- ---- the certificate
 
 pub certificate_is : (d : Datum) → certificate_of d ≡ reading_with (object_of d) (row_at (codes "order") d)
 certificate_is (atom a) = refl
 certificate_is (vector ds) = refl
-certificate_is (dictionary es) = ap (reading_with (object_of (dictionary es))) (order_is (value_at (codes "order") es) ∙ sym (row_of_value (codes "order") es))
+certificate_is (dictionary es) = ap (reading_with (object_of (dictionary es))) (sym (row_of_value (codes "order") es))
 
 -- by what is kept
 pub certificate_by : (ps : List Piece) (row : Option (List ℤ)) (o : Option ℕ) (d : Datum) → IsKept ps row d → o ≡ object_of d → certificate_of d ≡ reading_with o row

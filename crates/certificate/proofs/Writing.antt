@@ -6,13 +6,14 @@ use Rattle.std.specs.List.{AllByRecursion}
 use Rattle.std.proofs.lemmas.List.{drop_more, take_more, append-nil}
 use Rattle.std.proofs.lemmas.Bool.{le-leb}
 use Rattle.edn.specs.Bytes.{is_name}
+use Rattle.edn.specs.Briefs.{integers_in}
 use Rattle.edn.specs.Datum.{Datum, integer, atom, vector, dictionary, no_entries, entry, items_of, Fits, ItemsFit, max_open}
 use Rattle.edn.specs.Spells.{Spells}
 use Rattle.edn.specs.Text.{between, IsInt64, InProfile, ItemsInProfile, text_of, items_text}
 use Rattle.edn.specs.Text as edn
 use Rattle.edn.specs.Laws.{EachSpelled}
 use Rattle.edn.proofs.Joined.{text_spells_it, lines_spell_them}
-use Rattle.certificate.specs.Denotes.{integers_in, reading_with, certificate_of, reading_of, AreDistinct}
+use Rattle.certificate.specs.Denotes.{reading_with, certificate_of, reading_of, AreDistinct}
 use Rattle.certificate.specs.Lines.{numbers_text, line_of, lines_of, AreInRange, SpellsCertificates}
 use Rattle.certificate.specs.declared.Certificate.{Certificate}
 

@@ -1,6 +1,7 @@
 -- The certificates that the forms of a text denote.
-use Rattle.std.specs.Prelude.{◌≡◌, ◌≢◌, ℕ, ℤ, List, [], ◌∷◌, Option, Some, None, option_map, option_and_then, map, codes, AllPairs}
-use Rattle.edn.specs.Datum.{integer, Datum, atom, vector, dictionary, Items, no_items, item}
+use Rattle.std.specs.Prelude.{◌≡◌, ◌≢◌, ℕ, ℤ, List, Option, Some, None, option_and_then, map, codes, AllPairs}
+use Rattle.edn.specs.Briefs.{row_of}
+use Rattle.edn.specs.Datum.{Datum, atom, vector, dictionary}
 use Rattle.fields.specs.Fields.{value_at, natural_in, object_in}
 use Rattle.certificate.specs.declared.Certificate.{Certificate}
 
@@ -9,19 +10,9 @@ pub record Reading : Type 0 where
   pub object : ℕ
   pub order : List ℤ
 
-abbrev pub integer_in : Datum → Option ℤ
-integer_in (atom (integer z)) = Some z
-integer_in other = None
-
--- the elements of a vector, where all are integers
-abbrev pub integers_in : Items → Option (List ℤ)
-integers_in no_items = Some []
-integers_in (item d ds) = option_and_then (λ z. option_map (λ zs. z ∷ zs) (integers_in ds)) (integer_in d)
-
 -- a vector of integers
 abbrev pub order_in : Option Datum → Option (List ℤ)
-order_in (Some (vector ds)) = integers_in ds
-order_in other = None
+order_in value = option_and_then row_of value
 
 abbrev pub reading_with : Option ℕ → Option (List ℤ) → Option Reading
 reading_with (Some x) (Some zs) = Some (record { object = x; order = zs })

@@ -3,6 +3,7 @@
 ghost use Rattle.std.specs.Prelude.{◌≡◌, ◌≢◌, ◌==◌, if◌then◌else◌, ℕ, List, Some, None, true, false, is_some, IfOk, IfErr, IfSome, IfNone, All, option_map};
 ghost use Rattle.std.specs.Ordering.{nat_cmp};
 ghost use Rattle.std.specs.BTreeSet.{contains};
+ghost use Rattle.edn.specs.Briefs.{integers_in};
 ghost use Rattle.edn.specs.Datum.{Fits, max_open, items_of};
 ghost use Rattle.edn.specs.View.{view, views};
 ghost use Rattle.certificate.specs.declared.Certificate.{Certificate};
@@ -17,21 +18,12 @@ use edn::Form;
 use std::alloc::{AllocError, Global};
 use std::collections::BTreeSet;
 
-fn integer_in(form: &Form) -> Option<i64>
-    ensures { result ≡ spec.integer_in (view form.now) }
-{
-    match form {
-        Form::Int(n) => Some(*n),
-        _ => None,
-    }
-}
-
 /// Whether all the forms are integers.
 fn are_integers(forms: &[Form]) -> bool
-    ensures { result ≡ is_some (spec.integers_in (items_of (views forms.now))) }
+    ensures { result ≡ is_some (integers_in (items_of (views forms.now))) }
 {
     for form in forms {
-        if integer_in(form).is_none() {
+        if fields::integer(form).is_none() {
             return false;
         }
     }
@@ -40,12 +32,12 @@ fn are_integers(forms: &[Form]) -> bool
 
 /// The integers that the forms are, of which each is one.
 fn integers_of(alloc: Global, forms: &[Form]) -> Result<Vec<i64>, AllocError>
-    requires { is_some (spec.integers_in (items_of (views forms.now))) ≡ true }
-    ensures { IfOk result (λ v. spec.integers_in (items_of (views forms.now)) ≡ Some v.items) }
+    requires { is_some (integers_in (items_of (views forms.now))) ≡ true }
+    ensures { IfOk result (λ v. integers_in (items_of (views forms.now)) ≡ Some v.items) }
 {
     let mut integers = Vec::new(alloc);
     for form in forms {
-        if let Some(n) = integer_in(form) {
+        if let Some(n) = fields::integer(form) {
             integers.push(n)?;
         }
     }
@@ -56,8 +48,8 @@ fn integers_of(alloc: Global, forms: &[Form]) -> Result<Vec<i64>, AllocError>
 fn order_in(value: Option<&Form>) -> Option<&[Form]>
     ensures none { IfNone result (spec.order_in (option_map (λ f. view f.now) value.entry) ≡ None) }
     ensures some { IfSome result (λ fs. spec.order_in (option_map (λ f. view f.now) value.entry)
-        ≡ spec.integers_in (items_of (views fs.now))) }
-    ensures integers { IfSome result (λ fs. is_some (spec.integers_in (items_of (views fs.now)))
+        ≡ integers_in (items_of (views fs.now))) }
+    ensures integers { IfSome result (λ fs. is_some (integers_in (items_of (views fs.now)))
         ≡ true) }
 {
     match value {
@@ -70,8 +62,8 @@ fn order_in(value: Option<&Form>) -> Option<&[Form]>
 fn parts_in(form: &Form) -> Option<(u32, &[Form])>
     ensures none { IfNone result (spec.certificate_of (view form.now) ≡ None) }
     ensures some { IfSome result (λ p. spec.certificate_of (view form.now)
-        ≡ spec.reading_with (Some p.0) (spec.integers_in (items_of (views p.1.now)))) }
-    ensures integers { IfSome result (λ p. is_some (spec.integers_in (items_of (views p.1.now)))
+        ≡ spec.reading_with (Some p.0) (integers_in (items_of (views p.1.now)))) }
+    ensures integers { IfSome result (λ p. is_some (integers_in (items_of (views p.1.now)))
         ≡ true) }
 {
     let Form::Map(entries) = form else {

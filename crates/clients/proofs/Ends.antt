@@ -7,13 +7,12 @@ use Rattle.model.specs.declared.AnyReply.{AnyReply}
 use Rattle.model.specs.declared.Kind.{Kind}
 use Rattle.model.specs.declared.Kind.TheVariants as kind
 use Rattle.model.specs.Objects.{empty, kind_with}
+use Rattle.model.proofs.Objects.{kind_of_empty}
 use Rattle.seq_objects.specs.declared.any_object.AnyObject.{AnyObject}
 use Rattle.seq_objects.specs.AnyContent.{content_of}
-use Rattle.world.specs.declared.Answer.TheVariants.{Reply, Refused}
-use Rattle.world.specs.declared.JournalEvent.TheVariants.{Invoked, Returned}
 use Rattle.world.specs.Images.{entry_in, event_in}
 use Rattle.world.specs.World.{AnyEntry, AnyEvent, StartsWith}
-use Rattle.world.proofs.Entries.{starts_longer, starts_same}
+use Rattle.world.proofs.Entries.{starts_longer, starts_same, events_as_they_are, entries_as_they_are}
 use Rattle.world.specs.Records.{IsSoundRecord}
 use Rattle.desk_rule.specs.declared.board.Leaving.{Leaving}
 use Rattle.desk_rule.specs.Views.{journal, end_notice, seen_of, IsAccount}
@@ -56,19 +55,6 @@ have_told d w k e c low other =
     above_zero zero other = absurd (other refl)
     above_zero (suc c) other = omega arith
 
-as_it_is : (e : AnyEvent) → event_in (λ (op : AnyOp). op) (λ (r : AnyReply). r) e ≡ e
-as_it_is (Invoked t x op) = refl
-as_it_is (Returned t (Reply r)) = refl
-as_it_is (Returned t Refused) = refl
-
-all_as_they_are : (es : List AnyEvent) → map (event_in (λ (op : AnyOp). op) (λ (r : AnyReply). r)) es ≡ es
-all_as_they_are [] = refl
-all_as_they_are (e ∷ es) = λ i. as_it_is e i ∷ all_as_they_are es i
-
-all_logged_so : (es : List AnyEntry) → map (entry_in (λ (op : AnyOp). op) (λ (r : AnyReply). r)) es ≡ es
-all_logged_so [] = refl
-all_logged_so (e ∷ es) = ap (λ z. e ∷ z) (all_logged_so es)
-
 -- a quota that is greater allows for more tickets
 for_more : (kinds : List Kind) (q n : ℕ) (journals : ℕ → List AnyEvent) (logs : ℕ → List AnyEntry) → q ≤ n → IsSoundRecord kinds q journals logs → IsSoundRecord kinds n journals logs
 for_more kinds q n journals logs more s = let few = s.few in record {
@@ -86,10 +72,10 @@ for_more kinds q n journals logs more s = let few = s.few in record {
 
 module _ (d : DeskSeen) (w : Work) (k : Known) (r : Recorded AnyOp AnyReply) (desk : IsDeskFor d w) (done : IsDone d w k) (closed : ClosedBy d k r) where
   events : (n : ℕ) → map (event_in (λ (op : AnyOp). op) (λ (r : AnyReply). r)) (journal_at r n) ≡ journal_at r n
-  events n = all_as_they_are (journal_at r n)
+  events n = events_as_they_are (journal_at r n)
 
   entries : (x : ℕ) → map (entry_in (λ (op : AnyOp). op) (λ (r : AnyReply). r)) (log_at r x) ≡ log_at r x
-  entries x = all_logged_so (log_at r x)
+  entries x = entries_as_they_are (log_at r x)
 
   number : k.knows.number ≡ 0
   number = done.worked.number
@@ -139,14 +125,6 @@ module _ (d : DeskSeen) (w : Work) (k : Known) (r : Recorded AnyOp AnyReply) (de
         (subst (λ (t : List Kind × (ℕ → List AnyEvent) × (ℕ → List AnyEntry)). IsSoundRecord t.0 d.id.quota t.1 t.2) (λ i. (desk.kinds i, λ n. events n i, λ x. entries x i)) closed.sound);
   }
 
-kind_empty : (k : Kind) → kind_with (empty k) ≡ k
-kind_empty kind.Queue = refl
-kind_empty kind.Stack = refl
-kind_empty kind.Heap = refl
-kind_empty kind.Register = refl
-kind_empty kind.Map = refl
-kind_empty kind.Mutex = refl
-
 abbrev IsEmpty : AnyObject → Type 0
 IsEmpty o = content_of o ≡ empty (kind_with (content_of o))
 
@@ -154,7 +132,7 @@ IsEmpty o = content_of o ≡ empty (kind_with (content_of o))
 pub objects_more : (os more : List AnyObject) (o : AnyObject) (ks : List Kind) (i : ℕ) → map (λ o. kind_with (content_of o)) os ≡ take i ks → All IsEmpty os → content_of o ≡ empty (get_or ks i kind.Queue) → more ≡ os ++ o ∷ [] → i < length ks
     → (map (λ o. kind_with (content_of o)) more ≡ take (i + 1) ks) × All IsEmpty more
 objects_more os more o ks i so_far all is grown low =
-    let f : AnyObject → Kind = λ o. kind_with (content_of o) in let k : Kind = get_or ks i kind.Queue in let here : f o ≡ k = ap kind_with is ∙ kind_empty k in (
+    let f : AnyObject → Kind = λ o. kind_with (content_of o) in let k : Kind = get_or ks i kind.Queue in let here : f o ≡ k = ap kind_with is ∙ kind_of_empty k in (
       ap (map f) grown ∙ (map-append f os (o ∷ []) ∙ ((λ j. so_far j ++ here j ∷ []) ∙ sym (take_more ks i kind.Queue low))),
       subst (All IsEmpty) (sym grown) (All-push IsEmpty os o all (is ∙ ap empty (sym here))),
     )

@@ -1,5 +1,5 @@
 -- What is put out where the finder looks for certificates, and its exit status.
-use Rattle.std.specs.Prelude.{◌≡◌, ◌<◌, ◌↔◌, ◌⊎◌, ℕ, Bool, true, false, List, [], ◌∷◌, ◌++◌, codes, decimal, map, All, AllPairs, Contains, if◌then◌else◌}
+use Rattle.std.specs.Prelude.{◌≡◌, ◌<◌, ◌↔◌, ℕ, Bool, true, false, List, [], ◌∷◌, ◌++◌, codes, decimal, map, All, AllPairs, Contains, if◌then◌else◌}
 use Rattle.std.specs.List.{list_all}
 use Rattle.events.specs.declared.event.Event.{Event}
 use Rattle.events.specs.Events.{IsNamed}
@@ -9,12 +9,10 @@ use Rattle.checker.specs.Refusals.{AreValid}
 use Rattle.finder.specs.declared.finding.Found.{Found}
 use Rattle.finder.specs.declared.finding.Found.TheVariants.{Order, Open}
 use Rattle.finder.specs.Finds.{IsFoundOn}
-use Rattle.report.specs.Lines.{verdict_text}
-use Rattle.report.specs.declared.verdict.Verdict.{Verdict}
 use Rattle.judging.specs.Texts.{DenotesHistory}
 use Rattle.commands.specs.Searches.{IsUnsearched}
 use Rattle.commands.specs.Outputs.{IsOutput}
-use Rattle.commands.specs.Statuses.{yes_status, no_memory_status, status_of}
+use Rattle.commands.specs.Statuses.{yes_status, no_memory_status}
 
 -- the line of what was found for an object: its certificate, or that it is open
 abbrev pub finding_line : ℕ → Found → List ℕ

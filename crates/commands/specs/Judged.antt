@@ -1,5 +1,5 @@
 -- What is put out where a history is judged without certificates, and the exit status.
-use Rattle.std.specs.Prelude.{◌≡◌, ◌<◌, ◌↔◌, ◌⊎◌, ℕ, false, ⊤, List, [], ◌∷◌, ◌++◌, map, All, AllPairs, Contains, if◌then◌else◌}
+use Rattle.std.specs.Prelude.{◌≡◌, ◌<◌, ◌↔◌, ℕ, false, ⊤, List, [], ◌∷◌, ◌++◌, map, All, AllPairs, Contains, if◌then◌else◌}
 use Rattle.std.specs.List.{list_all}
 use Rattle.model.specs.Linearizable.{IsLinearizable}
 use Rattle.model.specs.Orders.{events}
@@ -10,7 +10,6 @@ use Rattle.checker.specs.Refusals.{AreValid}
 use Rattle.search.specs.declared.found.Search.{Search}
 use Rattle.search.specs.declared.found.Found.{Found}
 use Rattle.deciding.specs.Decisions.{IsDecisionOn}
-use Rattle.report.specs.Lines.{verdict_text}
 use Rattle.report.specs.declared.verdict.Summary.{Summary}
 use Rattle.report.specs.declared.verdict.Verdict.{Verdict}
 use Rattle.report.specs.declared.verdict.Verdict.TheVariants as verdict
@@ -18,7 +17,7 @@ use Rattle.judging.specs.declared.texts.Stop.TheVariants.{Stopped}
 use Rattle.judging.specs.Texts.{AreCountsOf, DenotesHistory, IsHistoryFault}
 use Rattle.commands.specs.Searches.{answer_line, is_found, search_status}
 use Rattle.commands.specs.Outputs.{IsOutput}
-use Rattle.commands.specs.Statuses.{no_status, status_of}
+use Rattle.commands.specs.Statuses.{no_status}
 
 -- the line on an object that has no certificate, and nothing on one that has
 abbrev pub note_line : ℕ → ℕ → Found → List ℕ

@@ -1,5 +1,5 @@
 -- What a search puts out, and its exit status.
-use Rattle.std.specs.Prelude.{◌≡◌, ◌<◌, ◌↔◌, ◌⊎◌, ℕ, Bool, true, false, ⊤, List, [], ◌∷◌, ◌++◌, codes, decimal, map, All, AllPairs, Contains, if◌then◌else◌}
+use Rattle.std.specs.Prelude.{◌≡◌, ◌<◌, ◌↔◌, ℕ, Bool, true, false, ⊤, List, [], ◌∷◌, ◌++◌, codes, decimal, map, All, AllPairs, Contains, if◌then◌else◌}
 use Rattle.std.specs.List.{list_all, list_any}
 use Rattle.model.specs.Linearizable.{IsLinearizable}
 use Rattle.model.specs.Orders.{events}
@@ -13,13 +13,12 @@ use Rattle.search.specs.declared.found.Found.{Found}
 use Rattle.search.specs.declared.found.Found.TheVariants as found
 use Rattle.search.specs.declared.found.Found.TheVariants.{Impossible, OutOfSteps, TooLarge, NoMemory}
 use Rattle.search.specs.Answers.{IsAnswerOn}
-use Rattle.report.specs.Lines.{verdict_text}
 use Rattle.report.specs.declared.verdict.Verdict.{Verdict}
 use Rattle.report.specs.declared.verdict.Verdict.TheVariants as verdict
 use Rattle.judging.specs.declared.texts.Stop.TheVariants.{Stopped}
 use Rattle.judging.specs.Texts.{DenotesHistory, IsHistoryFault}
 use Rattle.commands.specs.Outputs.{IsOutput}
-use Rattle.commands.specs.Statuses.{yes_status, no_status, no_memory_status, status_of}
+use Rattle.commands.specs.Statuses.{yes_status, no_status, no_memory_status}
 
 -- the line of an answer on an object: its certificate, or why it has none
 abbrev pub answer_line : ℕ → ℕ → Found → List ℕ

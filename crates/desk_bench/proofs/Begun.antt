@@ -1,22 +1,14 @@
 -- Empty objects, and clients of a new desk.
-use Rattle.std.proofs.Common.{◌≡◌, ℕ, zero, suc, ◌<◌, List, [], ◌∷◌, length, get_or, All, refl, sym, ap, ◌∙◌}
+use Rattle.std.proofs.Common.{◌≡◌, ℕ, zero, suc, List, [], ◌∷◌, get_or, All, sym, ap, ◌∙◌}
 use mathlib.Core.Option.{some, some-injective, some-ne-none}
 use lib.ListN.{get_elem?}
 use Rattle.model.specs.declared.Kind.{Kind}
-use Rattle.model.specs.declared.Kind.TheVariants as kind
 use Rattle.model.specs.Objects.{Content, empty, kind_with}
+use Rattle.model.proofs.Objects.{kind_of_empty}
 use Rattle.publication.specs.Handles.{DeskId, Known, AllBegun, begun}
 
-kind_empty : (k : Kind) → kind_with (empty k) ≡ k
-kind_empty kind.Queue = refl
-kind_empty kind.Stack = refl
-kind_empty kind.Heap = refl
-kind_empty kind.Register = refl
-kind_empty kind.Map = refl
-kind_empty kind.Mutex = refl
-
 pub is_empty : (k : Kind) (c : Content) → c ≡ empty k → c ≡ empty (kind_with c)
-is_empty k c e = e ∙ ap empty (sym (ap kind_with e ∙ kind_empty k))
+is_empty k c e = e ∙ ap empty (sym (ap kind_with e ∙ kind_of_empty k))
 
 at_get : {A : Type 0} (l : List A) (k : ℕ) (a d : A) → get_elem? l k ≡ some a → get_or l k d ≡ a
 at_get [] k a d e = absurd (some-ne-none a (sym e))

@@ -1,5 +1,5 @@
 -- The steps of a client's own call keep the rule: drawing tickets, posting, and taking the answer.
-use Rattle.std.proofs.Common.{◌≡◌, ◌≢◌, ℕ, ◌+◌, ◌%◌, ◌^◌, ◌<◌, eqb, true, false, List, [], ◌∷◌, ◌++◌, length, get_or, set, None, All, refl, sym, ap, subst, ◌∙◌, ◌⊎◌, ⊎_elim, inl, arith, eq-eqb, ne_eqb, append-nil, length-append}
+use Rattle.std.proofs.Common.{◌≡◌, ◌≢◌, ℕ, ◌+◌, ◌%◌, ◌^◌, ◌<◌, eqb, false, List, [], ◌∷◌, ◌++◌, length, get_or, set, None, All, refl, sym, ap, subst, ◌∙◌, ◌⊎◌, ⊎_elim, inl, arith, eq-eqb, ne_eqb, append-nil, length-append}
 use Rattle.std.proofs.lemmas.Bool.{false_from_ne_true}
 use Rattle.std.proofs.lemmas.List.{get_or_append_left}
 use mathlib.Core.Logic.{dite}

@@ -1,5 +1,5 @@
 -- A client serves its own call while it holds the object: between two tickets, and in one moment.
-use Rattle.std.proofs.Common.{◌≡◌, ◌≢◌, ℕ, ◌+◌, ◌%◌, ◌^◌, ◌<◌, true, false, List, [], ◌∷◌, ◌++◌, length, get_or, Some, None, All, refl, sym, ap, subst, ◌∙◌, arith, append-nil, length-set}
+use Rattle.std.proofs.Common.{◌≡◌, ◌≢◌, ℕ, ◌+◌, ◌%◌, ◌^◌, ◌<◌, false, List, [], ◌∷◌, ◌++◌, length, get_or, Some, None, All, refl, sym, ap, subst, ◌∙◌, arith, append-nil, length-set}
 use mathlib.Core.Option as maybe
 use Rattle.std.proofs.lemmas.Option.{same_Some}
 use Rattle.atomic_table.specs.Table.{State, Me, step, keeps, Allows}

@@ -1,18 +1,14 @@
 //! What comes of schedules: random ones, and texts.
 
-ghost use Rattle.std.specs.Prelude.{◌≡◌, ◌<◌, ◌≤◌, map, All, IfOk};
-ghost use Rattle.model.specs.Objects.{empty, kind_with};
-ghost use Rattle.seq_objects.specs.AnyContent.{content_of};
-ghost use Rattle.simulation.specs.Plays.{kinds_of};
+ghost use Rattle.std.specs.Prelude.{◌<◌, ◌≤◌};
 ghost use Rattle.schedule.specs.Schedules.{IsWithin};
 
 use edn::{EdnFault, FaultKind};
 use kinds::Kinds;
-use machine::{Machine, Step};
+use machine::Step;
 use model::{AnyOp, Kind};
 use schedule::{Header, Schedule, ScheduleFault, ScheduleFaultKind};
-use seq_objects::AnyObject;
-use simulation::{PlayFault, Played, SimulationFault, play, simulate};
+use simulation::{PlayFault, Played, SimulationFault, machine_of, play, simulate};
 use std::alloc::{AllocError, Global};
 use std::process::Abort;
 use std::test::Fail;
@@ -155,26 +151,6 @@ fn kinds_at(choice: u64) -> (Kinds, AnyOp) {
         5 => (Kinds::One(Kind::Mutex), AnyOp::Acquire),
         _ => (Kinds::Mixed, AnyOp::Enqueue(7)),
     }
-}
-
-/// The objects that the header asks for, all empty.
-fn objects_of(alloc: Global, header: &Header) -> Result<Vec<AnyObject>, AllocError>
-    ensures kinds { IfOk result (λ v. map (λ o. kind_with (content_of o)) v.items ≡ kinds_of header.now) }
-    ensures empty { IfOk result (λ v. All (λ o. content_of o ≡ empty (kind_with (content_of o))) v.items) }
-{
-    let mut objects = Vec::new(alloc);
-    for object in 0..header.objects {
-        objects.push(AnyObject::empty(alloc, header.kinds.kind(object)))?;
-    }
-    Ok(objects)
-}
-
-/// The machine that the header asks for, of which no step was taken.
-fn machine_of(alloc: Global, header: &Header) -> Result<Machine<AnyObject>, AllocError>
-    requires { IsWithin header.now }
-{
-    let objects = objects_of(alloc, header)?;
-    Machine::new(alloc, objects, header.clients, header.quota)
 }
 
 /// Whether some request is put back in the course of the steps.

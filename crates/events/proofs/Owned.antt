@@ -1,6 +1,6 @@
 -- The events on some objects alone: they tell as much of those objects' operations as all events do.
-use Rattle.std.proofs.Common.{◌≡◌, ◌≢◌, ℕ, ◌==◌, ◌%◌, Bool, true, false, cond, List, [], ◌∷◌, ◌++◌, filter, Option, Some, None, refl, ap, sym, ◌∙◌, subst}
-use Rattle.std.proofs.lemmas.Bool.{eqb-true, eqb-false, eq-eqb, ne_eqb}
+use Rattle.std.proofs.Common.{◌≡◌, ℕ, ◌==◌, ◌%◌, Bool, true, false, cond, List, [], ◌∷◌, ◌++◌, filter, Option, Some, refl, ap, sym, ◌∙◌, subst}
+use Rattle.std.proofs.lemmas.Bool.{eq-eqb, ne_eqb}
 use Rattle.model.specs.declared.AnyOp.{AnyOp}
 use Rattle.events.specs.declared.event.Action.{Action}
 use Rattle.events.specs.declared.event.Action.TheVariants.{Invoke, Ok, Fail, Info}
@@ -8,7 +8,7 @@ use Rattle.events.specs.declared.event.Event.{Event}
 use Rattle.events.specs.declared.operations.Invocation.{Invocation}
 use Rattle.events.specs.Events.{next_event, IsProper}
 use Rattle.events.specs.Operations.{end_at, begun, operations_on, operations_in, IsGathered}
-use Rattle.events.proofs.Runs.{State, idle, busy, closed, state_by, MayDo, Runs, runs_from_start}
+use Rattle.events.proofs.Runs.{idle, busy, state_by, MayDo, Runs, runs_from_start}
 use Rattle.events.proofs.Calls.{AllRun, all_run_later}
 
 -- the events on own objects

@@ -69,7 +69,7 @@ operations_rising x (e ∷ es) h = go (e.object == x) (operations_rising x es h.
     go false rest = rest
 
 -- events of one number are one
-same_event : (es : List Event) (e f : Event) → RisingEvents es → In e es → In f es → e.number ≡ f.number → e ≡ f
+pub same_event : (es : List Event) (e f : Event) → Pairs (λ a b. a.number < b.number) es → In e es → In f es → e.number ≡ f.number → e ≡ f
 same_event [] e f h i j q = absurd i
 same_event (d ∷ es) e f h i j q = elim i [
   | inl a ↦ elim j [

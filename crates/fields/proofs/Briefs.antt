@@ -1,7 +1,6 @@
 -- The values of a map of which the beginnings are kept, and its row.
 use Rattle.std.proofs.Common.{◌≡◌, ℕ, Bool, true, false, Option, Some, None, List, refl, ap, ◌∙◌}
-use Rattle.std.specs.Prelude.{ℤ, option_map, option_and_then, if◌then◌else◌}
-use Rattle.std.specs.Str.{bytes_eq}
+use Rattle.std.specs.Prelude.{option_map, option_and_then, if◌then◌else◌}
 use Rattle.edn.specs.Briefs.{brief_value, brief_entries, row_of, row_under}
 use Rattle.edn.specs.Datum.{Datum, atom, vector, dictionary, Entries, no_entries, entry}
 use Rattle.fields.specs.Fields.{same_bytes, value_at, natural_in, keyword_in}

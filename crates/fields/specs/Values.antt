@@ -3,6 +3,7 @@ use Rattle.std.specs.Prelude.{◌≡◌, pos, negsuc, ℕ, zero, suc, List, [], 
 use Rattle.edn.specs.Datum.{nil, boolean, integer, string, keyword, Datum, atom, vector, dictionary}
 use Rattle.edn.specs.Token.{Token, open_vector, close_vector, open_map, close_map, leaf, tokens_of}
 use Rattle.edn.specs.Pieces.{tape_tokens}
+use Rattle.edn.specs.Shapes.{key_in}
 use Rattle.edn.specs.declared.Piece.{Piece}
 use Rattle.fields.specs.Fields.{value_at}
 
@@ -47,15 +48,6 @@ natural_of (atom (keyword k)) = None
 natural_of (vector ds) = None
 natural_of (dictionary es) = None
 
-abbrev pub keyword_of : Datum → Option (List ℕ)
-keyword_of (atom nil) = None
-keyword_of (atom (boolean b)) = None
-keyword_of (atom (integer z)) = None
-keyword_of (atom (string s)) = None
-keyword_of (atom (keyword k)) = Some k
-keyword_of (vector ds) = None
-keyword_of (dictionary es) = None
-
 -- of a value whose tokens come first
 abbrev pub natural_first : List Token → Option ℕ
 natural_first [] = None
@@ -71,4 +63,4 @@ keyword_first (open_vector ∷ ts) = None
 keyword_first (close_vector ∷ ts) = None
 keyword_first (open_map ∷ ts) = None
 keyword_first (close_map ∷ ts) = None
-keyword_first (leaf d ∷ ts) = keyword_of d
+keyword_first (leaf d ∷ ts) = key_in d

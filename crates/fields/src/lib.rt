@@ -2,6 +2,7 @@
 #![tactic(auto)]
 
 ghost use Rattle.std.specs.Prelude.{◌≡◌, ◌<◌, ◌^◌, option_map};
+ghost use Rattle.edn.specs.Briefs.{integer_in};
 ghost use Rattle.edn.specs.Datum.{entries_of};
 ghost use Rattle.edn.specs.Names.{name_bytes};
 ghost use Rattle.edn.specs.View.{view, pair_views};
@@ -37,6 +38,16 @@ pub fn value_at<'a>(entries: &'a [(Name, Form)], key: &[u8]) -> Option<&'a Form>
         }
     }
     None
+}
+
+/// The integer that a form is.
+pub fn integer(form: &Form) -> Option<i64>
+    ensures { result ≡ integer_in (view form.now) }
+{
+    match form {
+        Form::Int(n) => Some(*n),
+        _ => None,
+    }
 }
 
 /// The number, where it is not negative.

@@ -1,11 +1,11 @@
 -- What a form says is what is kept of it says.
 use Rattle.std.proofs.Common.{◌≡◌, ℕ, Option, Some, None, List, codes, refl, sym, ap, subst, ◌∙◌}
 use Rattle.std.specs.Prelude.{option_map, option_and_then, is_some}
-use Rattle.edn.specs.Briefs.{most_items, brief_item, brief_items, brief_value, brief_entries, brief}
+use Rattle.edn.specs.Briefs.{most_items, brief_item, brief_items, brief_value, brief_entries, brief, integer_in}
 use Rattle.edn.specs.Datum.{Datum, atom, vector, dictionary, Items, no_items, item, Entries}
 use Rattle.fields.specs.Fields.{value_at, natural_in, keyword_in, value_in}
 use Rattle.fields.proofs.Briefs.{value_of_brief, natural_of_brief, keyword_of_brief}
-use Rattle.history.specs.Maps.{MapType, type_named, type_in, object_at, integer_in, pair_in, plain_value, ClientMap, client_with, client_in}
+use Rattle.history.specs.Maps.{MapType, type_named, type_in, object_at, pair_in, plain_value, ClientMap, client_with, client_in}
 use Rattle.history.specs.Views.{client_map, IsClient, Says}
 use Rattle.history.specs.declared.client_map.ClientMap as code
 use Rattle.history.specs.Names.{function_named}

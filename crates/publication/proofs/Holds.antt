@@ -2,7 +2,7 @@
 use mathlib.Core.Option as maybe
 use mathlib.Core.Option.{some}
 use lib.ListN.{get_elem?, length-map}
-use Rattle.std.proofs.Common.{◌≡◌, ℕ, ◌+◌, ◌-◌, ◌<◌, ◌≤◌, Bool, true, List, [], ◌∷◌, ◌++◌, length, length-append, get_or, vec_len, vec_capacity, refl, sym, ap, subst, ◌∙◌, arith, length-set}
+use Rattle.std.proofs.Common.{◌≡◌, ℕ, ◌+◌, ◌-◌, ◌<◌, ◌≤◌, Bool, List, [], ◌∷◌, ◌++◌, length, length-append, get_or, vec_len, vec_capacity, refl, sym, ap, subst, ◌∙◌, arith, length-set}
 use Rattle.atomic_table.specs.Table.{rest, Me}
 use Rattle.atomic_table.specs.Seated.{TableId}
 use Rattle.roster.specs.Calls.{WalkerSeen}

@@ -1,6 +1,7 @@
 -- The steps of the owner of a row keep the rule.
 use Rattle.std.proofs.Common.{◌≡◌, ◌≢◌, ◌⊎◌, ℕ, true, false, ◌+◌, ◌<◌, eqb, List, [], ◌∷◌, ◌++◌, get_or, refl, sym, ap, ◌∙◌, subst, inl, inr, ⊎_elim, eq-eqb, ne_eqb, arith}
 use mathlib.Core.Logic.{dite}
+use mathlib.Mathlib.Logic.Function.Basic.{update_self}
 use native.Mathlib.Decide.{ℕ_discrete}
 use mathlib.Core.Option as maybe
 use mathlib.Core.Option.{some}
@@ -17,7 +18,6 @@ use Rattle.roster.specs.declared.board.View.TheVariants as view
 use Rattle.roster.specs.PublicationList.{Stage, asleep, awake, listed, unlinked, PublicationList, mark_of}
 use Rattle.roster.specs.Rule.{OwnOk, Kept}
 use Rattle.roster.specs.Plays as play
-use Rattle.roster.proofs.Rows.{changed_here}
 use Rattle.roster.proofs.RuleKept.{with_stage, place_step_keeps_others, stage_keeps_sound, mark_keeps_tied, link_keeps_tied, enlist_keeps_sound, enlist_keeps_tied, St, kept_after, same_words_keep_rule, unmade_stay_asleep}
 
 abbrev Holds : St → Type 0
@@ -83,7 +83,7 @@ wake_keeps_rule slots id c t cs s k deep at small =
         tied = mark_keeps_tied w c 1 (awake n) s.words (omega arith) refl (λ m e. cc) k.sound k.tied;
         unmade = unmade_stay_asleep w c (awake n) low k.unmade;
         others = λ j u other. place_step_keeps_others w c (awake n) w.rows [] not_unlinked (λ e. absurd (cc)) refl j u (λ e. other (e ∙ sym ok.0));
-        own = (ok.0, ok.1, changed_here w.stage c (awake n));
+        own = (ok.0, ok.1, update_self ℕ_discrete c (awake n) w.stage);
       },
       λ d p ts is _. (n, ap (λ (z : View). (view.Place (number_of z) (own.Awake n) (tries_of z), cs)) is),
     )
@@ -107,7 +107,7 @@ link_keeps_rule slots id c m n t cs s k deep at small =
         tied = link_keeps_tied w c n m s.words (omega arith) was k.sound k.tied;
         unmade = unmade_stay_asleep w c (awake n) low k.unmade;
         others = λ j u other. place_step_keeps_others w c (awake n) w.rows [] not_unlinked (λ e. absurd (cc)) refl j u (λ e. other (e ∙ sym ok.0));
-        own = (ok.0, ok.1, changed_here w.stage c (awake n));
+        own = (ok.0, ok.1, update_self ℕ_discrete c (awake n) w.stage);
       },
       λ d p ts is _. ap (λ (z : View). (view.Place (number_of z) (own.Awake n) (tries_of z), cs)) is,
     )
@@ -134,7 +134,7 @@ enlist_keeps_rule slots id c m t cs s k deep at small =
         tied = enlist_keeps_tied w c m s.words (omega arith) was hit k.sound k.tied;
         unmade = unmade_stay_asleep w c listed low k.unmade;
         others = λ j u other. place_step_keeps_others w c listed (c ∷ w.rows) (c ∷ []) not_unlinked (λ e. absurd (cc)) refl j u (λ e. other (e ∙ sym ok.0));
-        own = (ok.0, ok.1, inr (inl (changed_here w.stage c listed)));
+        own = (ok.0, ok.1, inr (inl (update_self ℕ_discrete c listed w.stage)));
       }),
       λ d p ts is _. ((λ _. ap (λ (z : View). (view.Place (number_of z) own.Unknown (tries_of z ++ Listed ∷ []), cs)) is), λ ne. absurd (ne hit)),
     ))

@@ -1,25 +1,16 @@
 -- Lists of rows: the words that lead from place to place, and a place taken out.
-use Rattle.std.proofs.Common.{◌≡◌, ◌≢◌, ◌⊎◌, ℕ, zero, suc, ◌+◌, ◌-◌, ◌<◌, ◌≤◌, List, [], ◌∷◌, ◌++◌, length, get_or, remove, length-append, refl, sym, ap, ◌∙◌, subst, inl, inr, ⊎_elim, eq-eqb, ne_eqb, cond, lt_of_not-le, arith}
+use Rattle.std.proofs.Common.{◌≡◌, ◌≢◌, ◌⊎◌, ℕ, zero, suc, ◌+◌, ◌-◌, ◌<◌, ◌≤◌, List, [], ◌∷◌, ◌++◌, length, get_or, remove, length-append, refl, sym, ap, ◌∙◌, inl, inr, ⊎_elim, lt_of_not-le, arith}
 use mathlib.Core.Logic.{dite}
+use mathlib.Mathlib.Logic.Function.Basic.{update, forall_update_iff}
 use native.Mathlib.Decide.{dec_le, ℕ_discrete}
 use Rattle.std.proofs.lemmas.List.{get_or-append-add}
 use Rattle.std.proofs.lemmas.List.Edits.{get_or-remove_below, get_or-remove_above, length-remove}
-use Rattle.roster.specs.PublicationList.{changed, IsDistinct, word_at}
+use Rattle.roster.specs.PublicationList.{IsDistinct, word_at}
 
 module _ {A : Type 0} where
-  pub changed_here : (f : ℕ → A) (i : ℕ) (v : A) → changed f i v i ≡ v
-  unfolding changed
-  changed_here f i v = ap (λ b. cond b v (f i)) (eq-eqb i i refl)
-
-  pub changed_else : (f : ℕ → A) (i : ℕ) (v : A) (j : ℕ) → j ≢ i → changed f i v j ≡ f j
-  unfolding changed
-  changed_else f i v j other = ap (λ b. cond b v (f j)) (ne_eqb j i other)
-
-  -- what holds of the new value at i, and of the old ones elsewhere, holds of the changed function
-  pub changed_all : (P : ℕ → A → Type 0) (f : ℕ → A) (i : ℕ) (v : A) → P i v → ((j : ℕ) → j ≢ i → P j (f j)) → (j : ℕ) → P j (changed f i v j)
-  changed_all P f i v here others j = dite (ℕ_discrete j i)
-      (λ same. subst (λ z. P z (changed f i v z)) (sym same) (subst (P i) (sym (changed_here f i v)) here))
-      (λ other. subst (P j) (sym (changed_else f i v j other)) (others j other))
+  -- what holds of the new value at i, and of the old ones elsewhere
+  pub updated_all : (P : ℕ → A → Type 0) (f : ℕ → A) (i : ℕ) (v : A) → P i v → ((j : ℕ) → j ≢ i → P j (f j)) → (j : ℕ) → P j (update ℕ_discrete f i v j)
+  updated_all P f i v here others = (forall_update_iff ℕ_discrete f P).1 (here, others)
 
 pub word_at_in : (l : List ℕ) (k : ℕ) → k < length l → word_at l k ≡ 1 + get_or l k 0
 word_at_in [] k h = absurd (omega arith)

@@ -1,6 +1,7 @@
 -- What a step leaves: what holds of the list itself, the words, and what the other seats know.
 use Rattle.std.proofs.Common.{◌≡◌, ◌≢◌, ◌⊎◌, ℕ, zero, suc, ◌+◌, ◌<◌, ◌≤◌, List, ◌∷◌, ◌++◌, length, get_or, set, remove, Option, Some, None, length-set, get_or-set_other, get_or-set_same, refl, sym, ap, ◌∙◌, subst, ⊎_elim, append_assoc, arith}
 use mathlib.Core.Logic.{dite}
+use mathlib.Mathlib.Logic.Function.Basic.{update, update_self, update_of_ne}
 use native.Mathlib.Decide.{ℕ_discrete}
 use mathlib.Core.Option.{some}
 use lib.ListN.{get_elem?}
@@ -10,9 +11,9 @@ use Rattle.atomic_table.proofs.Lists.{at_set}
 use Rattle.roster.specs.declared.board.Own.{Own}
 use Rattle.roster.specs.declared.board.View.{View}
 use Rattle.roster.specs.declared.board.View.TheVariants as view
-use Rattle.roster.specs.PublicationList.{Stage, asleep, awake, listed, unlinked, PublicationList, changed, word_at, mark_of}
+use Rattle.roster.specs.PublicationList.{Stage, asleep, awake, listed, unlinked, PublicationList, word_at, mark_of}
 use Rattle.roster.specs.Rule.{OwnOk, TakenOutOk, ViewOk, Sound, Tied, Kept}
-use Rattle.roster.proofs.Rows.{changed_here, changed_else, changed_all, was_at, is_at, word_at-remove_below, word_at-remove_above, distinct_remove, distinct_more, gone}
+use Rattle.roster.proofs.Rows.{updated_all, was_at, is_at, word_at-remove_below, word_at-remove_above, distinct_remove, distinct_more, gone}
 
 -- the row r stands in the list
 abbrev Stands : List ℕ → ℕ → Type 0
@@ -20,26 +21,26 @@ Stands rows r = (k : ℕ) × (k < length rows) × (get_or rows k 0 ≡ r)
 
 -- the list with the row r at the stage t, and these rows listed
 abbrev pub with_stage : PublicationList → ℕ → Stage → List ℕ → PublicationList
-with_stage w r t rows = record { made = w.made; rows = rows; stage = changed w.stage r t }
+with_stage w r t rows = record { made = w.made; rows = rows; stage = update ℕ_discrete w.stage r t }
 
 -- what was taken out, where another row goes to a stage that is not that
 out_stays : (w : PublicationList) (r : ℕ) (t : Stage) (rows : List ℕ) (o : Option ℕ) → w.stage r ≢ unlinked → t ≢ unlinked → TakenOutOk w o → TakenOutOk (with_stage w r t rows) o
-out_stays w r t rows None not new ok = changed_all (λ q z. z ≢ unlinked) w.stage r t new (λ q _. ok q)
+out_stays w r t rows None not new ok = updated_all (λ q z. z ≢ unlinked) w.stage r t new (λ q _. ok q)
 out_stays w r t rows (Some p) not new ok = (
   ok.0,
-  changed_else w.stage r t p (λ e. not (ap w.stage (sym e) ∙ ok.1)) ∙ ok.1,
-  changed_all (λ q z. z ≡ unlinked → q ≡ p) w.stage r t (λ e. absurd (new e)) (λ q _. ok.2 q),
+  update_of_ne ℕ_discrete (λ e. not (ap w.stage (sym e) ∙ ok.1)) t w.stage ∙ ok.1,
+  updated_all (λ q z. z ≡ unlinked → q ≡ p) w.stage r t (λ e. absurd (new e)) (λ q _. ok.2 q),
 )
 
 -- what the others know stays true after a step of the owner of c, by which the list may have grown in front
 pub place_step_keeps_others : (w : PublicationList) (c : ℕ) (t : Stage) (rows pre : List ℕ) → w.stage c ≢ unlinked → t ≢ unlinked → rows ≡ pre ++ w.rows → (j : ℕ) (u : View) → j ≢ 1 + c → ViewOk w j u → ViewOk (with_stage w c t rows) j u
 place_step_keeps_others w c t rows pre not new grown j (view.Walker made left out walks) other ok = (ok.0, ok.1, (pre ++ ok.2.0, grown ∙ (ap (λ z. pre ++ z) ok.2.1 ∙ sym (append_assoc pre ok.2.0 left))), out_stays w c t rows out not new ok.3)
-place_step_keeps_others w c t rows pre not new grown j (view.Place d o ts) other ok = (ok.0, ok.1, subst (OwnOk o) (sym (changed_else w.stage c t d (λ e. other (ok.0 ∙ ap (λ z. 1 + z) e)))) ok.2)
+place_step_keeps_others w c t rows pre not new grown j (view.Place d o ts) other ok = (ok.0, ok.1, subst (OwnOk o) (sym (update_of_ne ℕ_discrete (λ e. other (ok.0 ∙ ap (λ z. 1 + z) e)) t w.stage)) ok.2)
 
 -- what the owners know stays true after a step of the walker
 pub walker_step_keeps_others : (w : PublicationList) (r : ℕ) (t : Stage) (rows : List ℕ) → ((o : Own) → OwnOk o (w.stage r) → OwnOk o t) → (j : ℕ) (u : View) → j ≢ 0 → ViewOk w j u → ViewOk (with_stage w r t rows) j u
 walker_step_keeps_others w r t rows follows j (view.Walker made left out walks) other ok = absurd (other ok.0)
-walker_step_keeps_others w r t rows follows j (view.Place d o ts) other ok = (ok.0, ok.1, changed_all (λ q s. OwnOk o (w.stage q) → OwnOk o s) w.stage r t (follows o) (λ q _ k. k) d ok.2)
+walker_step_keeps_others w r t rows follows j (view.Place d o ts) other ok = (ok.0, ok.1, updated_all (λ q s. OwnOk o (w.stage q) → OwnOk o s) w.stage r t (follows o) (λ q _ k. k) d ok.2)
 
 -- a row that is not listed goes to another such stage
 pub stage_keeps_sound : (w : PublicationList) (r : ℕ) (t : Stage) → w.stage r ≢ listed → t ≢ listed → Sound w → Sound (with_stage w r t w.rows)
@@ -47,8 +48,8 @@ stage_keeps_sound w r t not new k = record {
   few = k.few;
   low = k.low;
   distinct = k.distinct;
-  listed = λ i l. changed_else w.stage r t (get_or w.rows i 0) (λ e. not (ap w.stage (sym e) ∙ k.listed i l)) ∙ k.listed i l;
-  stands = changed_all (λ q z. z ≡ listed → Stands w.rows q) w.stage r t (λ e. absurd (new e)) (λ q _. k.stands q);
+  listed = λ i l. update_of_ne ℕ_discrete (λ e. not (ap w.stage (sym e) ∙ k.listed i l)) t w.stage ∙ k.listed i l;
+  stands = updated_all (λ q z. z ≡ listed → Stands w.rows q) w.stage r t (λ e. absurd (new e)) (λ q _. k.stands q);
 }
 
 -- the mark of a row that is not listed changes
@@ -59,8 +60,8 @@ mark_keeps_tied w r n t words low word link s k =
       wide = length-set words (33 + r) n ∙ wide;
       head = get_or-set_other words (33 + r) 0 n 0 (λ e. omega arith) ∙ k.head;
       nexts = λ i l. let h = s.low i l in get_or-set_other words (33 + r) (1 + get_or w.rows i 0) n 0 (λ e. omega arith) ∙ k.nexts i l;
-      links = λ q m l e. get_or-set_other words (33 + r) (1 + q) n 0 (λ f. omega arith) ∙ changed_all (λ p z. p < 32 → z ≡ awake m → get_or words (1 + p) 0 ≡ m) w.stage r t (λ _. link m) (λ p _ lp. k.links p m lp) q l e;
-      marks = changed_all (λ p z. p < 32 → get_or (set words (33 + r) n) (33 + p) 0 ≡ mark_of z) w.stage r t
+      links = λ q m l e. get_or-set_other words (33 + r) (1 + q) n 0 (λ f. omega arith) ∙ updated_all (λ p z. p < 32 → z ≡ awake m → get_or words (1 + p) 0 ≡ m) w.stage r t (λ _. link m) (λ p _ lp. k.links p m lp) q l e;
+      marks = updated_all (λ p z. p < 32 → get_or (set words (33 + r) n) (33 + p) 0 ≡ mark_of z) w.stage r t
           (λ _. get_or-set_same words (33 + r) n 0 (omega arith) ∙ word) (λ p other l. get_or-set_other words (33 + r) (33 + p) n 0 (λ e. other (omega arith)) ∙ k.marks p l);
     }
 
@@ -72,9 +73,9 @@ link_keeps_tied w r n m words low was s k =
       wide = length-set words (1 + r) n ∙ wide;
       head = get_or-set_other words (1 + r) 0 n 0 (λ e. omega arith) ∙ k.head;
       nexts = λ i l. get_or-set_other words (1 + r) (1 + get_or w.rows i 0) n 0 (λ e. let same : get_or w.rows i 0 ≡ r = omega arith in let g = sym was ∙ (ap w.stage (sym same) ∙ s.listed i l) in absurd (cc)) ∙ k.nexts i l;
-      links = λ q p l. changed_all (λ q z. q < 32 → z ≡ awake p → get_or (set words (1 + r) n) (1 + q) 0 ≡ p) w.stage r (awake n)
+      links = λ q p l. updated_all (λ q z. q < 32 → z ≡ awake p → get_or (set words (1 + r) n) (1 + q) 0 ≡ p) w.stage r (awake n)
           (λ _ e. get_or-set_same words (1 + r) n 0 (omega arith) ∙ (cc)) (λ q other lq e. get_or-set_other words (1 + r) (1 + q) n 0 (λ f. other (omega arith)) ∙ k.links q p lq e) q l;
-      marks = changed_all (λ q z. q < 32 → get_or (set words (1 + r) n) (33 + q) 0 ≡ mark_of z) w.stage r (awake n)
+      marks = updated_all (λ q z. q < 32 → get_or (set words (1 + r) n) (33 + q) 0 ≡ mark_of z) w.stage r (awake n)
           (λ l. get_or-set_other words (1 + r) (33 + r) n 0 (λ e. omega arith) ∙ (k.marks r l ∙ ap mark_of was)) (λ q other l. get_or-set_other words (1 + r) (33 + q) n 0 (λ e. omega arith) ∙ k.marks q l);
     }
 
@@ -85,7 +86,7 @@ enlist_keeps_sound w r n low was k = record {
   low = λ i l. low_there i l;
   distinct = distinct_more r w.rows apart k.distinct;
   listed = λ i l. listed_there i l;
-  stands = changed_all (λ q z. z ≡ listed → Stands (r ∷ w.rows) q) w.stage r listed
+  stands = updated_all (λ q z. z ≡ listed → Stands (r ∷ w.rows) q) w.stage r listed
       (λ _. (0, omega arith, refl)) (λ q _ e. let a = k.stands q e in let l = a.1 in (suc a.0, omega arith, a.2));
 }
   where
@@ -96,18 +97,18 @@ enlist_keeps_sound w r n low was k = record {
     low_there zero l = low
     low_there (suc i) l = k.low i (omega arith)
 
-    listed_there : (i : ℕ) → i < length (r ∷ w.rows) → changed w.stage r listed (get_or (r ∷ w.rows) i 0) ≡ listed
-    listed_there zero l = changed_here w.stage r listed
-    listed_there (suc i) l = let h : i < length w.rows = omega arith in changed_else w.stage r listed (get_or w.rows i 0) (apart i h) ∙ k.listed i h
+    listed_there : (i : ℕ) → i < length (r ∷ w.rows) → update ℕ_discrete w.stage r listed (get_or (r ∷ w.rows) i 0) ≡ listed
+    listed_there zero l = update_self ℕ_discrete r listed w.stage
+    listed_there (suc i) l = let h : i < length w.rows = omega arith in update_of_ne ℕ_discrete (apart i h) listed w.stage ∙ k.listed i h
 
 pub enlist_keeps_tied : (w : PublicationList) (r n : ℕ) (words : List ℕ) → r < 32 → w.stage r ≡ awake n → get_or words 0 0 ≡ n → Sound w → Tied w words → Tied (with_stage w r listed (r ∷ w.rows)) (set words 0 (1 + r))
 enlist_keeps_tied w r n words low was at s k = let wide = k.wide in record {
   wide = length-set words 0 (1 + r) ∙ wide;
   head = get_or-set_same words 0 (1 + r) 0 (omega arith);
   nexts = λ i l. next_there i l;
-  links = λ q p l. changed_all (λ q z. q < 32 → z ≡ awake p → get_or (set words 0 (1 + r)) (1 + q) 0 ≡ p) w.stage r listed
+  links = λ q p l. updated_all (λ q z. q < 32 → z ≡ awake p → get_or (set words 0 (1 + r)) (1 + q) 0 ≡ p) w.stage r listed
       (λ _ e. absurd (cc)) (λ q other lq e. get_or-set_other words 0 (1 + q) (1 + r) 0 (λ f. omega arith) ∙ k.links q p lq e) q l;
-  marks = changed_all (λ q z. q < 32 → get_or (set words 0 (1 + r)) (33 + q) 0 ≡ mark_of z) w.stage r listed
+  marks = updated_all (λ q z. q < 32 → get_or (set words 0 (1 + r)) (33 + q) 0 ≡ mark_of z) w.stage r listed
       (λ l. get_or-set_other words 0 (33 + r) (1 + r) 0 (λ e. omega arith) ∙ (k.marks r l ∙ ap mark_of was)) (λ q other l. get_or-set_other words 0 (33 + q) (1 + r) 0 (λ e. omega arith) ∙ k.marks q l);
 }
   where
@@ -122,8 +123,8 @@ unlink_keeps_sound w p inside k = record {
   low = λ i l. let a = was_at w.rows p i inside l in subst (λ z. z < w.made) (sym a.2) (k.low a.0 a.1);
   distinct = distinct_remove w.rows p inside k.distinct;
   listed = λ i l. let a = was_at w.rows p i inside l in
-      changed_else w.stage (get_or w.rows p 0) unlinked (get_or (remove w.rows p) i 0) (gone w.rows p i inside k.distinct l) ∙ (ap w.stage a.2 ∙ k.listed a.0 a.1);
-  stands = changed_all (λ q z. z ≡ listed → Stands (remove w.rows p) q) w.stage (get_or w.rows p 0) unlinked
+      update_of_ne ℕ_discrete (gone w.rows p i inside k.distinct l) unlinked w.stage ∙ (ap w.stage a.2 ∙ k.listed a.0 a.1);
+  stands = updated_all (λ q z. z ≡ listed → Stands (remove w.rows p) q) w.stage (get_or w.rows p 0) unlinked
       (λ e. absurd (cc)) (λ q other e. let a = k.stands q e in let b = is_at w.rows p a.0 inside a.1 (λ same. other (sym a.2 ∙ ap (λ z. get_or w.rows z 0) same)) in (b.0, b.1, b.2 ∙ a.2));
 }
 
@@ -136,9 +137,9 @@ unlink_keeps_tied w p n words inside word s k =
       wide = length-set words (1 + get_or w.rows p 0) n ∙ wide;
       head = get_or-set_other words (1 + get_or w.rows p 0) 0 n 0 (λ e. omega arith) ∙ (k.head ∙ sym (word_at-remove_below w.rows (suc p) 0 inside (omega arith)));
       nexts = λ i l. next_there i l (was_at w.rows (suc p) i inside l);
-      links = λ q m l. changed_all (λ q z. q < 32 → z ≡ awake m → get_or (set words (1 + get_or w.rows p 0) n) (1 + q) 0 ≡ m) w.stage (get_or w.rows (suc p) 0) unlinked
+      links = λ q m l. updated_all (λ q z. q < 32 → z ≡ awake m → get_or (set words (1 + get_or w.rows p 0) n) (1 + q) 0 ≡ m) w.stage (get_or w.rows (suc p) 0) unlinked
           (λ _ e. absurd (cc)) (λ q other lq e. get_or-set_other words (1 + get_or w.rows p 0) (1 + q) n 0 (λ f. let same : q ≡ get_or w.rows p 0 = omega arith in let g = sym e ∙ (ap w.stage same ∙ s.listed p (omega arith)) in absurd (cc)) ∙ k.links q m lq e) q l;
-      marks = changed_all (λ q z. q < 32 → get_or (set words (1 + get_or w.rows p 0) n) (33 + q) 0 ≡ mark_of z) w.stage (get_or w.rows (suc p) 0) unlinked
+      marks = updated_all (λ q z. q < 32 → get_or (set words (1 + get_or w.rows p 0) n) (33 + q) 0 ≡ mark_of z) w.stage (get_or w.rows (suc p) 0) unlinked
           (λ l. get_or-set_other words (1 + get_or w.rows p 0) (33 + get_or w.rows (suc p) 0) n 0 (λ e. omega arith) ∙ (k.marks (get_or w.rows (suc p) 0) l ∙ ap mark_of (s.listed (suc p) inside)))
           (λ q other l. get_or-set_other words (1 + get_or w.rows p 0) (33 + q) n 0 (λ e. omega arith) ∙ k.marks q l);
     }
@@ -190,5 +191,5 @@ same_words_keep_rule s k i id v' cs ok = subst (λ (ws : List ℕ). Kept {S = �
     (kept_after s k id v' record { list = k.list; same = refl; sound = k.sound; tied = k.tied; unmade = k.unmade; others = λ j u _ b. b; own = ok })
 
 -- a row that has been made is not asleep for want of a place
-pub unmade_stay_asleep : (w : PublicationList) (r : ℕ) (t : Stage) → r < w.made → ((q : ℕ) → w.made ≤ q → w.stage q ≡ asleep) → (q : ℕ) → w.made ≤ q → changed w.stage r t q ≡ asleep
-unmade_stay_asleep w r t low before q l = changed_else w.stage r t q (λ e. omega arith) ∙ before q l
+pub unmade_stay_asleep : (w : PublicationList) (r : ℕ) (t : Stage) → r < w.made → ((q : ℕ) → w.made ≤ q → w.stage q ≡ asleep) → (q : ℕ) → w.made ≤ q → update ℕ_discrete w.stage r t q ≡ asleep
+unmade_stay_asleep w r t low before q l = update_of_ne ℕ_discrete (λ e. omega arith) t w.stage ∙ before q l

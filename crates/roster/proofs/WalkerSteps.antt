@@ -6,7 +6,8 @@ use lib.ListN.{get_elem?}
 use Rattle.std.proofs.lemmas.List.{get_or-append-add}
 use Rattle.std.proofs.lemmas.List.Edits.{length-remove}
 use mathlib.Core.Logic.{dite}
-use native.Mathlib.Decide.{dec_le}
+use mathlib.Mathlib.Logic.Function.Basic.{update_self}
+use native.Mathlib.Decide.{dec_le, ℕ_discrete}
 use Rattle.atomic_table.specs.Table.{Me, step, keeps, Allows}
 use Rattle.roster.specs.declared.board.Own.{Own}
 use Rattle.roster.specs.declared.board.Own.TheVariants as own
@@ -16,7 +17,7 @@ use Rattle.roster.specs.PublicationList.{Stage, asleep, listed, unlinked, Public
 use Rattle.roster.specs.Rule.{OwnOk, TakenOutOk, Tied, Kept}
 use Rattle.roster.specs.Inside.{left_of, made_of, walks_of, HasMet, Meeting}
 use Rattle.roster.specs.Plays as play
-use Rattle.roster.proofs.Rows.{changed_here, changed_all, word_at_in, word_at_past, word_at_append, remove_append, was_at, distinct_right, few_below}
+use Rattle.roster.proofs.Rows.{updated_all, word_at_in, word_at_past, word_at_append, remove_append, was_at, distinct_right, few_below}
 use Rattle.roster.proofs.RuleKept.{with_stage, walker_step_keeps_others, stage_keeps_sound, mark_keeps_tied, unlink_keeps_sound, unlink_keeps_tied, St, kept_after, same_words_keep_rule, unmade_stay_asleep}
 
 abbrev Holds : St → Type 0
@@ -128,7 +129,7 @@ unlink_keeps_rule slots id i n p made left walks cs low word next s k deep at sm
           ok.1,
           (pre, ap (λ z. remove z Q) e ∙ remove_append pre left (suc p) Q Q_is),
           subst (λ z. (z < w.made) × (w'.stage z ≡ unlinked) × ((q : ℕ) → w'.stage q ≡ unlinked → q ≡ z)) at_q
-              (r_low, changed_here w.stage r unlinked, changed_all (λ q z. z ≡ unlinked → q ≡ r) w.stage r unlinked (λ _. refl) (λ q _ e. absurd (ok.3 q e))),
+              (r_low, update_self ℕ_discrete r unlinked w.stage, updated_all (λ q z. z ≡ unlinked → q ≡ r) w.stage r unlinked (λ _. refl) (λ q _ e. absurd (ok.3 q e))),
         );
       },
       λ made' left' out' walks' q is q_low q_word. let same : left ≡ left' = ap left_of is in let q_low' : suc q < length left = subst (λ z. suc q < length z) (sym same) q_low in
@@ -157,7 +158,7 @@ sleep_keeps_rule slots id r made left walks cs s k deep at small =
         tied = mark_keeps_tied w r 0 asleep s.words (omega arith) refl (λ m e. absurd (cc)) k.sound k.tied;
         unmade = unmade_stay_asleep w r asleep low k.unmade;
         others = λ j u other. walker_step_keeps_others w r asleep w.rows (put_to_sleep (w.stage r) was) j u (λ f. other (f ∙ sym ok.0));
-        own = (ok.0, ok.1, ok.2, changed_all (λ q z. z ≢ unlinked) w.stage r asleep (λ e. absurd (cc)) (λ q other e. other (ok.3.2 q e)));
+        own = (ok.0, ok.1, ok.2, updated_all (λ q z. z ≢ unlinked) w.stage r asleep (λ e. absurd (cc)) (λ q other e. other (ok.3.2 q e)));
       },
       λ made' left' r' walks' is _. ap (λ (z : View). (view.Walker (made_of z) (left_of z) None (walks_of z), cs)) is,
     )

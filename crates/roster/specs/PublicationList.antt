@@ -1,6 +1,6 @@
 -- The publication list of one object: which rows are listed, from the head on, and how each other row stands.
 -- After Hendler, Incze, Shavit, Tzafrir, "Flat Combining and the Synchronization-Parallelism Tradeoff", SPAA 2010, section 2.
-use Rattle.std.specs.Prelude.{◌≡◌, ◌==◌, ℕ, zero, suc, ◌+◌, ◌<◌, List, [], ◌∷◌, ◌++◌, length, slice_index, if◌then◌else◌}
+use Rattle.std.specs.Prelude.{◌≡◌, ℕ, zero, suc, ◌+◌, ◌<◌, List, [], ◌∷◌, ◌++◌, length, slice_index}
 
 -- how a row stands
 pub data Stage : Type 0 where
@@ -25,10 +25,6 @@ empty_list = record { made = 0; rows = []; stage = λ r. asleep }
 -- no row stands twice
 abbrev pub IsDistinct : List ℕ → Type 0
 IsDistinct rows = (i j : ℕ) → i < length rows → j < length rows → slice_index rows i ≡ slice_index rows j → i ≡ j
-
--- the function with another value at i
-unfoldable pub changed : {A : Type 0} → (ℕ → A) → ℕ → A → ℕ → A
-changed f i v j = if j == i then v else f j
 
 -- the word that leads to the place k of the list: 1 and its row, and 0 past the end
 abbrev pub word_at : List ℕ → ℕ → ℕ

@@ -4,5 +4,5 @@
 mod playing;
 mod simulating;
 
-pub use playing::{PlayFault, Played, play};
+pub use playing::{PlayFault, Played, machine_of, play};
 pub use simulating::{SimulationFault, simulate};

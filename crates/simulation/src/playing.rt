@@ -42,8 +42,9 @@ fn objects_of(alloc: Global, header: &Header) -> Result<Vec<AnyObject>, AllocErr
     Ok(objects)
 }
 
-/// The machine that the header asks for, of which no step was taken.
-pub(crate) fn machine_of(alloc: Global, header: &Header) -> Result<Machine<AnyObject>, AllocError>
+/// The machine that the header asks for, of which no step was taken: with so many clients and objects, all of them empty. An error
+/// stands only where memory was refused.
+pub fn machine_of(alloc: Global, header: &Header) -> Result<Machine<AnyObject>, AllocError>
     requires { IsWithin header.now }
     ensures kinds { IfOk result (λ m. m.kinds ≡ kinds_of header.now) }
     ensures counts { IfOk result (λ m. (clients_of m ≡ header.now.clients) × (m.quota ≡ header.now.quota)) }

@@ -13,6 +13,7 @@ use Rattle.world.specs.declared.JournalEvent.TheVariants.{Invoked, Returned}
 use Rattle.world.specs.World.{AnyAnswer, AnyEvent}
 use Rattle.events.specs.declared.event.Event.{Event}
 use Rattle.events.specs.Events.{IsProper}
+use Rattle.events.proofs.Parts.{same_event}
 use Rattle.events.proofs.Runs.{State, idle, MayDo, Runs, runs_from_start}
 use Rattle.recorder.specs.Histories.{action_of, events_from, events_of, AreEventsOf}
 use Rattle.recorder.proofs.Same.{same_rising, same_by_parts}
@@ -154,19 +155,6 @@ filter_events c (l ∷ ls) =
       | false ↦ filter_events c ls
     ]
 
-one_event : (es : List Event) → Pairs (λ a b. a.number < b.number) es → (a b : Event) → In a es → In b es → a.number ≡ b.number → a ≡ b
-one_event [] up a b i k e = absurd i
-one_event (x ∷ es) up a b i k e = elim i [
-  | inl s ↦ elim k [
-    | inl t ↦ s ∙ sym t
-    | inr m ↦ let l = up.0 b m in let q : a.number ≡ x.number = ap (λ (z : Event). z.number) s in absurd (omega arith)
-  ]
-  | inr j ↦ elim k [
-    | inl t ↦ let l = up.0 a j in let q : b.number ≡ x.number = ap (λ (z : Event). z.number) t in absurd (omega arith)
-    | inr m ↦ one_event es up.1 a b j m e
-  ]
-]
-
 -- the events of a proper history's journals
 module _ (journals : ℕ → List AnyEvent) (es : List Event) (are : AreEventsOf journals es) (proper : IsProper es) where
   rises : Pairs (λ (a b : Event). a.number < b.number) es
@@ -214,7 +202,7 @@ module _ (journals : ℕ → List AnyEvent) (es : List Event) (are : AreEventsOf
     all_apart : Pairs (λ a b. number_in a ≢ number_in b) (lines_in 0 js)
     all_apart = apart 0 js
         (λ k. let e : 0 + k ≡ k = omega arith in subst (λ (m : ℕ). Pairs (λ a b. number_in a < number_in b) (lines_of m (get_or js k []))) (sym e) (subst (λ (j : List AnyEvent). Pairs (λ a b. number_in a < number_in b) (lines_of k j)) (sym (same k)) (lines_rise k)))
-        (λ a b i k e. ap (λ (x : Event). x.process) (one_event es rises a.event b.event (in_events a i) (in_events b k) e))
+        (λ a b i k e. ap (λ (x : Event). x.process) (same_event es a.event b.event rises (in_events a i) (in_events b k) e))
 
     back : (l : Line) → In l ls → In l (lines_in 0 js)
     back l i = in_from_contains (lines_in 0 js) l (Contains-permutation ls (lines_in 0 js) l (IsPermutation-sym (lines_in 0 js) ls p) (contains_from_in ls l i))

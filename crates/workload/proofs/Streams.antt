@@ -1,16 +1,12 @@
 -- One call more, drawn from a stream.
-use Rattle.std.proofs.Common.{◌≡◌, ℕ, suc, ◌<◌, ◌≤◌, ◌*◌, ◌/◌, List, [], ◌∷◌, ◌++◌, All, length, append_assoc, ap, sym, ◌∙◌, subst, arith}
+use Rattle.std.proofs.Common.{◌≡◌, ℕ, suc, ◌<◌, List, [], ◌∷◌, ◌++◌, length, append_assoc, ap, sym, ◌∙◌, arith}
 use Rattle.std.proofs.lemmas.List.FromFn.{length-map-range_with_len, get_or-map-range_with_len}
-use Rattle.std.proofs.lemmas.List.Elements.{All-push}
 use Rattle.rand_core.specs.Stream.{Stream}
-use Rattle.model.specs.declared.Kind.{Kind}
-use Rattle.model.specs.declared.Kind.TheVariants.{Queue, Mutex}
+use Rattle.model.specs.declared.Kind.TheVariants.{Queue}
 use Rattle.model.specs.declared.AnyOp.{AnyOp}
 use Rattle.model.specs.declared.AnyOp.TheVariants.{Acquire, Release}
 use Rattle.model.specs.Objects.{kind_of}
-use Rattle.world.specs.World.{kind_at}
 use Rattle.kinds.specs.declared.Kinds.{Kinds}
-use Rattle.kinds.specs.declared.Kinds.TheVariants.{One}
 use Rattle.workload.specs.declared.draws.Draws.{Draws}
 use Rattle.workload.specs.Workloads.{Call, IsCall}
 use Rattle.kinds.specs.Mixing.{kind_in, kinds_of}

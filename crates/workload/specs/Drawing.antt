@@ -2,8 +2,7 @@
 -- the seed and whose stream is the client's number (O'Neill, "PCG: a family of simple fast space-efficient statistically
 -- good algorithms for random number generation", 2014). A number below another is drawn from one word, or two, by Canon's
 -- method, as `rand` does it.
-use Rattle.std.specs.Prelude.{◌≡◌, ℕ, zero, suc, ◌%◌, ◌/◌, ◌^◌, ◌==◌, pos, List, [], ◌∷◌, map, if◌then◌else◌}
-use Rattle.std.specs.List.{range_with_len}
+use Rattle.std.specs.Prelude.{ℕ, zero, suc, ◌%◌, ◌/◌, ◌^◌, ◌==◌, pos, List, [], ◌∷◌, if◌then◌else◌}
 use Rattle.rand_core.specs.Stream.{Stream, next_u32}
 use Rattle.rand_core.specs.Steps.{stream_of, steps_u32}
 use Rattle.rand_pcg.specs.Lcg.{Lcg, started, increment_of}

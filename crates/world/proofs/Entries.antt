@@ -1,9 +1,13 @@
 -- The entries of a client in a log that grows, and the replay of such a log.
-use Rattle.std.proofs.Common.{◌≡◌, ◌≢◌, ℕ, true, false, cond, eqb, eq-eqb, ne_eqb, List, [], ◌∷◌, ◌++◌, refl, sym, ap, subst, ◌∙◌, append_assoc, append-nil}
+use Rattle.std.proofs.Common.{◌≡◌, ◌≢◌, ℕ, true, false, cond, eqb, eq-eqb, ne_eqb, List, [], ◌∷◌, ◌++◌, map, refl, sym, ap, subst, ◌∙◌, append_assoc, append-nil}
+use Rattle.model.specs.declared.AnyOp.{AnyOp}
+use Rattle.model.specs.declared.AnyReply.{AnyReply}
 use Rattle.model.specs.declared.Kind.{Kind}
 use Rattle.model.specs.Objects.{Content, empty, next}
 use Rattle.world.specs.declared.Answer.TheVariants.{Reply, Refused}
-use Rattle.world.specs.World.{AnyEntry, AnyRequest, AnyAnswer, AnyDone, logged, logged_on, entries_of, served, Replays, IsLegal, StartsWith, Serves}
+use Rattle.world.specs.declared.JournalEvent.TheVariants.{Invoked, Returned}
+use Rattle.world.specs.Images.{entry_in, event_in}
+use Rattle.world.specs.World.{AnyEntry, AnyEvent, AnyRequest, AnyAnswer, AnyDone, logged, logged_on, entries_of, served, Replays, IsLegal, StartsWith, Serves}
 
 pub starts_longer : (xs ys zs : List AnyEntry) → StartsWith xs ys → StartsWith ys zs → StartsWith xs zs
 starts_longer xs ys zs a b = (b.0 ++ a.0, a.1 ∙ (ap (λ l. l ++ a.0) b.1 ∙ append_assoc zs b.0 a.0))
@@ -51,3 +55,18 @@ replays_front c after (x ∷ xs) ys h = let b = replays_front h.0 after xs ys h.
 
 pub legal_front : (kind : Kind) (log seen : List AnyEntry) → StartsWith log seen → IsLegal kind log → IsLegal kind seen
 legal_front kind log seen begins legal = replays_front (empty kind) legal.0 seen begins.0 (subst (λ z. Replays (empty kind) z legal.0) begins.1 legal.1)
+
+-- ---- events and entries of operations of all kinds stand for themselves
+
+event_as_it_is : (e : AnyEvent) → event_in (λ (op : AnyOp). op) (λ (r : AnyReply). r) e ≡ e
+event_as_it_is (Invoked t x op) = refl
+event_as_it_is (Returned t (Reply r)) = refl
+event_as_it_is (Returned t Refused) = refl
+
+pub events_as_they_are : (es : List AnyEvent) → map (event_in (λ (op : AnyOp). op) (λ (r : AnyReply). r)) es ≡ es
+events_as_they_are [] = refl
+events_as_they_are (e ∷ es) = λ i. event_as_it_is e i ∷ events_as_they_are es i
+
+pub entries_as_they_are : (es : List AnyEntry) → map (entry_in (λ (op : AnyOp). op) (λ (r : AnyReply). r)) es ≡ es
+entries_as_they_are [] = refl
+entries_as_they_are (e ∷ es) = λ i. e ∷ entries_as_they_are es i

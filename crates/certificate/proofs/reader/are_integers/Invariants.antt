@@ -1,9 +1,9 @@
 use Rattle.std.proofs.Common.{◌≡◌, drop}
 use Rattle.std.specs.Prelude.{is_some}
+use Rattle.edn.specs.Briefs.{integers_in}
 use Rattle.edn.specs.Datum.{items_of}
 use Rattle.edn.specs.View.{views}
-use Rattle.certificate.specs.Denotes as spec
 use Rattle.certificate.proofs.reader.are_integers.Given as goal
 
 abbrev pub invariant-loop-form : goal.invariant-loop-form
-invariant-loop-form l = is_some (spec.integers_in (items_of (views (drop l.form-index l.forms)))) ≡ is_some (spec.integers_in (items_of (views l.forms)))
+invariant-loop-form l = is_some (integers_in (items_of (views (drop l.form-index l.forms)))) ≡ is_some (integers_in (items_of (views l.forms)))

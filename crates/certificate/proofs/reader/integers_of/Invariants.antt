@@ -1,9 +1,9 @@
 use Rattle.std.proofs.Common.{◌≡◌, drop}
+use Rattle.edn.specs.Briefs.{integers_in}
 use Rattle.edn.specs.Datum.{items_of}
 use Rattle.edn.specs.View.{views}
-use Rattle.certificate.specs.Denotes as spec
 use Rattle.certificate.proofs.Reading.{integers_behind}
 use Rattle.certificate.proofs.reader.integers_of.Given as goal
 
 abbrev pub invariant-loop-form : goal.invariant-loop-form
-invariant-loop-form l = integers_behind l.integers.items (drop l.form-index l.forms) ≡ spec.integers_in (items_of (views l.forms))
+invariant-loop-form l = integers_behind l.integers.items (drop l.form-index l.forms) ≡ integers_in (items_of (views l.forms))

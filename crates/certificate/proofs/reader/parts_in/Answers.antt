@@ -4,7 +4,7 @@ use Rattle.edn.specs.Datum.{entries_of, items_of}
 use Rattle.edn.specs.View.{view, views, pair_views}
 use Rattle.edn.proofs.Pairs.{map_view}
 use Rattle.fields.specs.Fields.{value_at}
-use Rattle.certificate.specs.Denotes.{integers_in}
+use Rattle.edn.specs.Briefs.{integers_in}
 use Rattle.certificate.proofs.Reading.{no_object, both_keys}
 use Rattle.certificate.proofs.reader.parts_in.Goals as goal
 

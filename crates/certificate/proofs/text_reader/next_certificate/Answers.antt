@@ -1,6 +1,4 @@
-use Rattle.std.proofs.Common.{Option, Some, None, ap, sym, ◌∙◌}
-use Rattle.edn.specs.Token.{tokens_of}
-use Rattle.certificate.specs.Denotes.{reading_of}
+use Rattle.std.proofs.Common.{Some, ap, ◌∙◌}
 use Rattle.certificate.specs.Tapes.{numbers_of}
 use Rattle.certificate.proofs.Orders.{certificate_by, no_row, no_object}
 use Rattle.certificate.proofs.text_reader.next_certificate.Goals as goal

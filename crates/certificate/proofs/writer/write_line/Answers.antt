@@ -1,4 +1,4 @@
-use Rattle.std.proofs.Common.{true, false, rules, ◌≡◌}
+use Rattle.std.proofs.Common.{true, rules}
 use Rattle.std.specs.Prelude.{codes, pos}
 use Rattle.std.specs.Fmt.{signed_decimal}
 use Rattle.std.specs.Io.KnownBytes.{Appends}

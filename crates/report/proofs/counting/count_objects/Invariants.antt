@@ -1,4 +1,4 @@
-use Rattle.std.proofs.Common.{ℕ, ◌≤◌, take, is_some}
+use Rattle.std.proofs.Common.{◌≤◌, take, is_some}
 use Rattle.numbers.specs.Lookup.{value_of}
 use Rattle.report.specs.Invoked.{named, AreSeen}
 use Rattle.report.proofs.counting.count_objects.Given as goal

@@ -1,4 +1,3 @@
-use Rattle.std.proofs.Common.{refl}
 use Rattle.report.proofs.Uses.{kinds_on}
 use Rattle.report.proofs.counting.kinds_of.Goals as goal
 

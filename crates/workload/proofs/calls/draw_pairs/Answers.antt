@@ -1,4 +1,4 @@
-use Rattle.std.proofs.Common.{◌≡◌, ◌-◌, ◌+◌, ◌∷◌, [], ◌++◌, All, length, ap, sym, ◌∙◌, refl, subst, length-append, arith}
+use Rattle.std.proofs.Common.{◌-◌, ◌+◌, ◌∷◌, [], ◌++◌, All, length, ap, sym, ◌∙◌, refl, subst, length-append, arith}
 use Rattle.std.proofs.lemmas.List.Elements.{All-push}
 use Rattle.model.specs.declared.Kind.TheVariants.{Mutex}
 use Rattle.model.specs.declared.AnyOp.TheVariants.{Acquire, Release}

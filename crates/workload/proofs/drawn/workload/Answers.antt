@@ -1,9 +1,9 @@
-use Rattle.std.proofs.Common.{◌≡◌, ℕ, ◌<◌, ◌+◌, ◌∷◌, [], ◌++◌, List, All, length, map, ap, sym, ◌∙◌, subst, arith}
+use Rattle.std.proofs.Common.{◌<◌, ◌+◌, ◌∷◌, [], ◌++◌, All, length, map, ap, sym, ◌∙◌, subst, arith}
 use Rattle.std.proofs.lemmas.List.{map_push}
 use Rattle.std.proofs.lemmas.List.Elements.{All-push}
 use Rattle.std.proofs.lemmas.List.FromFn.{map-range_with_len_more, length-map-range_with_len}
 use Rattle.std.specs.List.{range_with_len}
-use Rattle.workload.specs.Workloads.{Call, Work, IsCall, IsWorkload}
+use Rattle.workload.specs.Workloads.{IsCall, IsWorkload}
 use Rattle.kinds.specs.Mixing.{kind_in, kinds_of}
 use Rattle.workload.specs.Drawing.{client_calls}
 use Rattle.workload.proofs.drawn.workload.Goals as goal
