@@ -1,6 +1,7 @@
 -- What a form says, by its entries or by its tokens.
 use Rattle.std.proofs.Common.{◌≡◌, ℕ, ℤ, ◌==◌, true, false, Option, Some, None, IfSome, List, [], ◌∷◌, ◌++◌, length, codes, refl, sym, ap, subst, ◌∙◌}
 use Rattle.std.specs.Prelude.{option_map, option_and_then, is_some}
+use Rattle.edn.specs.Briefs.{integer_in}
 use Rattle.edn.specs.Datum.{nil, boolean, integer, string, keyword, Datum, atom, vector, dictionary, Items, no_items, item, Entries}
 use Rattle.edn.specs.Token.{Token, close_vector, leaf, tokens_of, items_tokens}
 use Rattle.edn.specs.Pieces.{tape_tokens}
