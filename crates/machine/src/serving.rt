@@ -1,16 +1,12 @@
 //! The steps that a client takes on an object.
 
-ghost use Rattle.std.specs.Prelude.{◌≡◌, ◌++◌, map, Some, IsSome};
-ghost use Rattle.model.specs.Objects.{kind_with, next};
-ghost use Rattle.world.specs.World.{logged, Serves};
-ghost use Rattle.world.specs.Images.{request_in, answer_in, entry_in};
 ghost use Rattle.world.specs.Transitions.{win, pick, answer, put_back, release};
 ghost use Rattle.machine.specs.Steps.{IsGoing, Tries};
 
 use crate::machine::Machine;
 use crate::step::{Outcome, Stage, StepFault};
+use recorder::serve;
 use seq_objects::SeqObject;
-use world::{Answer, LogEntry, Request};
 
 impl<S: SeqObject> Machine<S> {
     pub(crate) fn win(&mut self, client: u32, object: u32) -> Result<Outcome<S::Reply>, StepFault>
@@ -86,37 +82,5 @@ impl<S: SeqObject> Machine<S> {
         self.hands[x] = None;
         self.stages[row as usize] = Stage::Answered(request, answer);
         Ok(Outcome::Answered(answer))
-    }
-}
-
-// Does the operation, and logs it. Where memory is refused nothing is done or logged.
-fn serve<S: SeqObject>(
-    object: &mut S,
-    log: &mut Vec<LogEntry<S::Op, S::Reply>>,
-    row: u32,
-    request: &Request<S::Op>,
-) -> Answer<S::Reply>
-    requires { IsSome (next (S.content object.old) (S.op_in request.now.op)) }
-    ensures log { map (entry_in S.op_in S.reply_in) log.new.items
-        ≡ map (entry_in S.op_in S.reply_in) log.old.items
-        ++ logged row (request_in S.op_in request.now) (answer_in S.reply_in result) }
-    ensures kind { kind_with (S.content object.new) ≡ kind_with (S.content object.old) }
-    ensures content { Serves (S.content object.old) (S.op_in request.now.op) (answer_in S.reply_in result)
-        (S.content object.new) }
-{
-    if log.reserve(1).is_err() {
-        return Answer::Refused;
-    }
-    match object.apply(&request.op) {
-        Ok(reply) => {
-            log.push_reserved(LogEntry {
-                client: row,
-                ticket: request.ticket,
-                op: request.op,
-                reply,
-            });
-            Answer::Reply(reply)
-        }
-        Err(_) => Answer::Refused,
     }
 }

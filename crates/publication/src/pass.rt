@@ -12,7 +12,7 @@ use crate::desk::{ANSWERED, CLOCK, Desk, PICKED, POSTED, Picked, ROWS};
 use crate::looking::look_and_exchange;
 use crate::plays::{Answers, Draws, LooksAtRow, Performs, Picks, PutsBack, Releases};
 use desk_rule::{BoxedCore, Core, Slot};
-use recorder::{Answer, LogEntry};
+use recorder::Answer;
 use seq_objects::SeqObject;
 use world::Request;
 
@@ -237,8 +237,7 @@ fn can_do<S: SeqObject>(core: &BoxedCore<S, S::Op, S::Reply>, op: &S::Op) -> boo
     core.inside.object.possible(op)
 }
 
-// Does the operation, and logs it. Its answer is to go on in registers: read as a whole word too soon after it was written in
-// pieces, it would be waited for.
+// Does the operation, and logs it.
 #[inline(always)]
 fn serve<S: SeqObject>(
     core: &mut BoxedCore<S, S::Op, S::Reply>,
@@ -257,19 +256,5 @@ fn serve<S: SeqObject>(
         (answer_in S.reply_in result) (S.content core.new.object) }
 {
     let Core { object, log, .. } = &mut *core.inside;
-    if log.len() == log.capacity() && log.reserve(1).is_err() {
-        return Answer::Refused;
-    }
-    match object.apply(&request.op) {
-        Ok(reply) => {
-            log.push_reserved(LogEntry {
-                client: row,
-                ticket: request.ticket,
-                op: request.op,
-                reply,
-            });
-            Answer::Reply(reply)
-        }
-        Err(_) => Answer::Refused,
-    }
+    recorder::serve(object, log, row, request)
 }

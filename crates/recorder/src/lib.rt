@@ -3,7 +3,9 @@
 
 mod laws;
 mod record;
+mod serving;
 
 pub use laws::{one_history, sound_record_is_a_record};
 pub use record::Record;
+pub use serving::serve;
 pub use world::{Answer, JournalEvent, LogEntry};
