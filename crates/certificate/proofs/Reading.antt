@@ -1,5 +1,5 @@
 -- Forms read one after the other.
-use Rattle.std.proofs.Common.{◌≡◌, ◌≢◌, ℕ, zero, suc, ◌+◌, ◌<◌, ◌==◌, Bool, true, false, cond, List, [], ◌∷◌, ◌++◌, length, take, drop, get_or, map, option_map, Option, Some, None, Contains, refl, ap, sym, ◌∙◌, length-append, arith}
+use Rattle.std.proofs.Common.{◌≡◌, ◌≢◌, ℕ, zero, suc, ◌+◌, ◌<◌, ◌≤◌, ◌==◌, Bool, true, false, cond, List, [], ◌∷◌, ◌++◌, length, take, drop, get_or, map, option_map, Option, Some, None, Contains, refl, ap, sym, ◌∙◌, length-append, arith}
 use Rattle.std.specs.Prelude.{ℤ, ◌||◌, codes}
 use Rattle.std.specs.List.{list_any}
 use Rattle.std.proofs.lemmas.Bool.{both_ways, or_parts, eqb-true, eq-eqb}
@@ -13,7 +13,7 @@ use Rattle.edn.specs.View.{view, views}
 use Rattle.edn.specs.declared.form.Form.{Form}
 use Rattle.fields.specs.Fields.{value_at, natural_in, object_in}
 use Rattle.certificate.specs.Denotes.{Reading, order_in, reading_with, certificate_of, reading_of, AreDistinct, Denotes}
-use Rattle.certificate.specs.Faults.{IsFault, IsFaultless, IsFirstFault, IsSoundAt}
+use Rattle.certificate.specs.Faults.{number_of, IsFault, IsFaultless, IsFirstFault, IsSoundAt}
 use Rattle.certificate.specs.Inside.{IsFaultAmong, AreRead}
 use Rattle.certificate.specs.declared.Certificate.{Certificate}
 use Rattle.certificate.specs.declared.fault.CertFault.{CertFault}
@@ -155,6 +155,16 @@ fault_here ds cs among d TwoForOneObject h (r, own, stands) other =
     record { own = r; first = first.0; first_own = reading_of some.0; is_own = own; stands = first.1; is_first_own = first.2; same_object = eqb-true some.0.object r.object some.2 }
 fault_here ds cs among d NoMemory h fault other = absurd (other refl)
 
+-- a form has one fault at most
+pub only_fault : (earlier : List Datum) (d : Datum) (kind other : CertFaultKind) → IsFault earlier d kind → IsFault earlier d other → number_of kind ≤ number_of other
+only_fault earlier d NotACertificate NotACertificate h k = omega arith
+only_fault earlier d NotACertificate TwoForOneObject h k = omega arith
+only_fault earlier d NotACertificate NoMemory h k = omega arith
+only_fault earlier d TwoForOneObject NotACertificate h k = let own = h.is_own in absurd (cc (own, k))
+only_fault earlier d TwoForOneObject TwoForOneObject h k = omega arith
+only_fault earlier d TwoForOneObject NoMemory h k = omega arith
+only_fault earlier d NoMemory other h k = absurd h
+
 pub not_denoted : (ds : List Datum) (e : CertFault) → IsFirstFault ds e → (cs : List Certificate) → Denotes ds cs → ⊥
 not_denoted ds e f cs h = no_fault ds cs h f.earlier f.later f.form e.kind f.split f.stands
 
@@ -172,6 +182,7 @@ first_fault fs i f cs among kind lt is h fault other = record {
   place = length-map (take i fs) view ∙ length-take-le i fs (omega arith);
   stands = fault_here (views (take i fs)) cs among (view f) kind h fault other;
   least = no_fault (views (take i fs)) cs h.denoted;
+  first = λ k. only_fault (views (take i fs)) (view f) kind k (fault_here (views (take i fs)) cs among (view f) kind h fault other);
 }
 
 -- a certificate of an object that no earlier form has

@@ -10,23 +10,13 @@ use Rattle.certificate.specs.declared.fault.CertFault.{CertFault}
 use Rattle.certificate.specs.declared.fault.CertFaultKind.{CertFaultKind}
 use Rattle.certificate.specs.declared.text_reader.Reading.{Reading}
 use Rattle.certificate.specs.Denotes.{certificate_of, reading_of, Denotes}
-use Rattle.certificate.specs.Faults.{IsFirstFault, IsSoundAt}
+use Rattle.certificate.specs.Faults.{IsSoundAt}
 use Rattle.certificate.specs.Inside.{IsFaultAmong, AreRead}
 use Rattle.certificate.specs.Texts.{IsFoundIn, IsReadOrFaulty, IsReading}
-use Rattle.certificate.proofs.Reading.{no_fault, fault_here, nothing_here}
+use Rattle.certificate.proofs.Reading.{no_fault, fault_here, only_fault, nothing_here}
+use Rattle.fields.proofs.FirstFaults.{first_more}
 
--- more forms behind a fault
-first_more : (ds : List Datum) (d : Datum) (f : CertFault) → IsFirstFault ds f → IsFirstFault (ds ++ d ∷ []) f
-first_more ds d f h = record {
-  earlier = h.earlier;
-  form = h.form;
-  later = h.later ++ d ∷ [];
-  split = ap (λ (xs : List Datum). xs ++ d ∷ []) h.split ∙ append_assoc h.earlier (h.form ∷ h.later) (d ∷ []);
-  place = h.place;
-  stands = h.stands;
-  least = h.least;
-}
-
+-- more forms behind those that were looked at
 sound_more : (ds : List Datum) (d : Datum) (n : ℕ) → IsSoundAt ds n → IsSoundAt (ds ++ d ∷ []) n
 sound_more ds d n h = record {
   earlier = h.earlier;
@@ -41,7 +31,7 @@ sound_more ds d n h = record {
 faulty_more : (r : Reading) (f : CertFault) (ds : List Datum) (d : Datum) → r.fault ≡ Some f → IsReading r ds → IsReading r (ds ++ d ∷ [])
 faulty_more r f ds d e h =
     let a : IsFoundIn ds f = subst (λ (o : Option CertFault). IsReadOrFaulty o ds r.certificates.items (contains nat_cmp r.objects)) e h in
-    subst (λ (o : Option CertFault). IsReadOrFaulty o (ds ++ d ∷ []) r.certificates.items (contains nat_cmp r.objects)) (sym e) (λ n. first_more ds d f (a.0 n), λ m. sound_more ds d f.form (a.1 m))
+    subst (λ (o : Option CertFault). IsReadOrFaulty o (ds ++ d ∷ []) r.certificates.items (contains nat_cmp r.objects)) (sym e) (λ n. first_more ds d f.form f.kind (a.0 n), λ m. sound_more ds d f.form (a.1 m))
 
 pub still_faulty : (r : Reading) (ds : List Datum) (d : Datum) → is_some r.fault ≡ true → IsReading r ds → IsReading r (ds ++ d ∷ [])
 still_faulty r ds d e h = by_fault r.fault refl
@@ -59,7 +49,7 @@ one_each ds cs h = sym (length-map ds certificate_of) ∙ ap length h.each ∙ l
 -- what is wrong with the form behind those that were read, or that memory was refused for it
 pub found : (ds : List Datum) (cs : List Certificate) (among : ℕ → Bool) (d : Datum) (kind : CertFaultKind) → AreRead ds cs among → IsFaultAmong among d kind → IsFoundIn (ds ++ d ∷ []) (record { kind = kind; form = length cs })
 found ds cs among d kind h fault = (
-  λ n. record { earlier = ds; form = d; later = []; split = refl; place = one_each ds cs h.denoted; stands = fault_here ds cs among d kind h fault n; least = no_fault ds cs h.denoted },
+  λ n. record { earlier = ds; form = d; later = []; split = refl; place = one_each ds cs h.denoted; stands = fault_here ds cs among d kind h fault n; least = no_fault ds cs h.denoted; first = λ k. only_fault ds d kind k (fault_here ds cs among d kind h fault n) },
   λ m. (
       let r = subst (IsFaultAmong among d) m fault in
       record { earlier = ds; form = d; later = []; split = refl; stands_at = one_each ds cs h.denoted; least = no_fault ds cs h.denoted; none = nothing_here ds cs among d r.0 h r.1 r.2 }

@@ -1,6 +1,7 @@
 -- What can be wrong with the forms of a text of certificates, and which fault of it is the first.
 use Rattle.std.specs.Prelude.{◌≡◌, ℕ, List, ◌∷◌, ◌++◌, length, Some, None, Contains}
 use Rattle.edn.specs.Datum.{Datum}
+use Rattle.fields.specs.FirstFaults.{AreFaultless, IsFirst}
 use Rattle.certificate.specs.Denotes.{Reading, certificate_of}
 use Rattle.certificate.specs.declared.fault.CertFaultKind.{CertFaultKind}
 use Rattle.certificate.specs.declared.fault.CertFaultKind.TheVariants.{NotACertificate, TwoForOneObject, NoMemory}
@@ -30,17 +31,11 @@ IsFault earlier d NoMemory = ⊥
 
 -- no form is faulty
 abbrev pub IsFaultless : List Datum → Type 0
-IsFaultless ds = (earlier later : List Datum) (d : Datum) (kind : CertFaultKind) → ds ≡ earlier ++ d ∷ later → IsFault earlier d kind → ⊥
+IsFaultless ds = AreFaultless IsFault ds
 
 -- the first fault: that of the least faulty form. A form has one fault at most.
-pub record IsFirstFault (ds : List Datum) (fault : CertFault) : Type 0 where
-  pub earlier : List Datum
-  pub form : Datum
-  pub later : List Datum
-  pub split : ds ≡ earlier ++ form ∷ later
-  pub place : length earlier ≡ fault.form
-  pub stands : IsFault earlier form fault.kind
-  pub least : IsFaultless earlier
+abbrev pub IsFirstFault : List Datum → CertFault → Type 0
+IsFirstFault ds fault = IsFirst IsFault number_of ds fault.form fault.kind
 
 -- nothing is wrong up to the form at this place, nor with it
 pub record IsSoundAt (ds : List Datum) (place : ℕ) : Type 0 where

@@ -4,3 +4,4 @@ pub mod Operating
 pub mod Shapes
 pub mod Seeking
 pub mod Briefs
+pub mod FirstFaults

@@ -16,7 +16,7 @@ use Rattle.fields.specs.declared.operation.OperationValues.{OperationValues}
 use Rattle.fields.proofs.Operating.{empty_is}
 use Rattle.fields.proofs.Shapes.{natural_is, keyword_is}
 use Rattle.history.specs.Maps as spec
-use Rattle.history.specs.Maps.{type_named, object_at, pair_in, plain_value, client_with, client_in, client_of}
+use Rattle.history.specs.Maps.{type_named, object_at, pair_in, plain_value, client_with, client_in}
 use Rattle.history.specs.Views.{client_map, IsClient, Says, pair_first, plain_first}
 use Rattle.history.specs.declared.client_map.ClientMap.{ClientMap}
 use Rattle.history.specs.declared.client_map.OperationMap.TheVariants.{OfClient, Ignored, Neither}

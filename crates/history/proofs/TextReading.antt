@@ -1,8 +1,9 @@
 -- The maps of a text, one by one: what was found stays found, whatever follows.
-use Rattle.std.proofs.Common.{◌≡◌, ◌≢◌, ℕ, ◌+◌, ◌<◌, ◌≤◌, true, Option, Some, None, List, [], ◌∷◌, ◌++◌, length, take, refl, sym, ap, subst, ◌∙◌, append_assoc, zero-add, arith}
+use Rattle.std.proofs.Common.{◌≡◌, ◌≢◌, ℕ, ◌+◌, ◌<◌, ◌≤◌, true, Option, Some, None, List, [], ◌∷◌, ◌++◌, length, take, refl, sym, ap, subst, ◌∙◌, zero-add, arith}
 use Rattle.std.specs.Option.{is_some}
 use Rattle.std.proofs.lemmas.List.{length-append, take_all, take-append-le}
 use Rattle.edn.specs.Datum.{Datum}
+use Rattle.fields.proofs.FirstFaults.{first_more}
 use Rattle.events.specs.declared.event.Event.{Event}
 use Rattle.events.specs.Events.{IsProper}
 use Rattle.history.specs.declared.seen.Seen.{Seen}
@@ -11,7 +12,7 @@ use Rattle.history.specs.declared.fault.HistoryFaultKind.{HistoryFaultKind}
 use Rattle.history.specs.declared.fault.HistoryFaultKind.TheVariants.{NoMemory}
 use Rattle.history.specs.declared.text_reader.Reading.{Reading}
 use Rattle.history.specs.Maps.{client_of}
-use Rattle.history.specs.Faults.{IsFaultless, IsFirstFault}
+use Rattle.history.specs.Faults.{IsFaultless}
 use Rattle.history.specs.Denotes.{event_of, events_from}
 use Rattle.history.specs.Seen.{HasFirst, HasNoFault, IsRead}
 use Rattle.history.specs.Texts.{IsFoundIn, AreRead, IsReadOrFaulty, IsReading}
@@ -26,22 +27,9 @@ pub nothing_faulty : IsFaultless []
 nothing_faulty earlier later d kind e f = no_split earlier later d e
 
 -- more forms behind a fault
-first_more : (ds : List Datum) (d : Datum) (f : HistoryFault) → IsFirstFault ds f → IsFirstFault (ds ++ d ∷ []) f
-first_more ds d f h =
-    record {
-      earlier = h.earlier;
-      form = h.form;
-      later = h.later ++ d ∷ [];
-      split = ap (λ (xs : List Datum). xs ++ d ∷ []) h.split ∙ append_assoc h.earlier (h.form ∷ h.later) (d ∷ []);
-      place = h.place;
-      stands = h.stands;
-      least = h.least;
-      first = h.first;
-    }
-
 found_more : (ds : List Datum) (d : Datum) (f : HistoryFault) → IsFoundIn ds f → IsFoundIn (ds ++ d ∷ []) f
 found_more ds d f h = (
-  λ n. first_more ds d f (h.0 n),
+  λ n. first_more ds d f.map f.kind (h.0 n),
   λ m. (
       let a = h.1 m in
       let lt : f.map < length ds = a.0 in

@@ -1,0 +1,18 @@
+-- Which of a list of forms is the first with a fault, where a fault is one of a form behind those before it.
+use Rattle.std.specs.Prelude.{◌≡◌, ℕ, ◌≤◌, List, ◌∷◌, ◌++◌, length}
+use Rattle.edn.specs.Datum.{Datum}
+
+-- no form is faulty
+abbrev pub AreFaultless : {Kind : Type 0} → (List Datum → Datum → Kind → Type 0) → List Datum → Type 0
+AreFaultless {Kind} IsFault ds = (earlier later : List Datum) (d : Datum) (kind : Kind) → ds ≡ earlier ++ d ∷ later → IsFault earlier d kind → ⊥
+
+-- the first fault: that of the least faulty form, and of the faults there that of the least number
+pub record IsFirst {Kind : Type 0} (IsFault : List Datum → Datum → Kind → Type 0) (number_of : Kind → ℕ) (ds : List Datum) (at : ℕ) (kind : Kind) : Type 0 where
+  pub earlier : List Datum
+  pub form : Datum
+  pub later : List Datum
+  pub split : ds ≡ earlier ++ form ∷ later
+  pub place : length earlier ≡ at
+  pub stands : IsFault earlier form kind
+  pub least : AreFaultless IsFault earlier
+  pub first : (other : Kind) → IsFault earlier form other → number_of kind ≤ number_of other
