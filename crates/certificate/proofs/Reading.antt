@@ -60,7 +60,7 @@ list_any-none p [] k d h lt = absurd (omega arith)
 list_any-none p (c ∷ cs) zero d h lt = (or_parts (p c) (list_any p cs) h).0
 list_any-none p (c ∷ cs) (suc k) d h lt = list_any-none p cs k d (or_parts (p c) (list_any p cs) h).1 (omega arith)
 
-Contains-cons : {X : Type 0} → (x : X) (xs : List X) (y : X) → Contains xs y → Contains (x ∷ xs) y
+pub Contains-cons : {X : Type 0} → (x : X) (xs : List X) (y : X) → Contains xs y → Contains (x ∷ xs) y
 Contains-cons x xs y (k, lt, is) = (suc k, omega arith, is)
 
 -- some certificate passes the test

@@ -1,7 +1,6 @@
 -- The answers of the walk, from what it knows.
 use Rattle.std.proofs.Common.{◌≡◌, ℕ, ℤ, pos, ◌+◌, ◌<◌, ◌≤◌, ◌↔◌, max, Bool, true, false, inl, inr, List, [], ◌∷◌, ◌++◌, length, take, set, Option, Some, None, IsSome, is_some, AllPairs, Contains, IsTrue, slice_get, get_or, Result, Err, IfErr, refl, ap, sym, ◌∙◌, subst, arith}
 use Rattle.std.specs.Option.{option_map_or}
-use Rattle.std.proofs.lemmas.Int.{ints}
 use Rattle.std.proofs.lemmas.Option.{same_Some}
 use Rattle.std.proofs.lemmas.List.{get_or_default, take_all, take_more}
 use Rattle.std.proofs.lemmas.Bool.{cases_order}
@@ -20,11 +19,13 @@ use Rattle.checker.specs.declared.refusal.Refusal.TheVariants.{BadOrder}
 use Rattle.checker.specs.Refusals.{RefusesOrder}
 use Rattle.checker.specs.declared.refusal.OrderFault.{OrderFault}
 use Rattle.checker.specs.declared.refusal.OrderFault.TheVariants.{Repeated, TooLate, NotPossible, WrongReply}
-use Rattle.checker.specs.Ends.{IsLate, IsEarly, Differs, Agrees, AreMarked, IsFirstUnmarked}
+use Rattle.checker.specs.Ends.{IsLate, IsEarly, AreMarked, IsFirstUnmarked}
 use Rattle.checker.specs.Faults.{IsGreatest, IsFirstFault, IsFirstAtPlace, IsLeastOmitted}
 use Rattle.checker.proofs.Walking.{IsStep, found_number, found_known, no_fault}
 use Rattle.checker.proofs.Deciding.{Reaches, IsInTime, valid_from, repeated_first, late_first, impossible_first, wrong_first}
 use Rattle.checker.proofs.Steps.{Walk, AtHand, away, number_at, walk_more, stands_true, stands_false, call_parts, call_at_place, place_of_call, one_call, all_early}
+use Rattle.model.proofs.Orders.{same_pos}
+use Rattle.events.specs.Operations.{Differs, Agrees}
 
 -- a refusal that names the first fault
 pub refused_by : (n : ℕ) (kind : Kind) (calls : List Call) (order : List ℤ) (fault : OrderFault) (r : Result (Unit {0}) Refusal) → r ≡ Err (BadOrder n fault) → IsFirstFault kind calls order fault → IfErr r (RefusesOrder n kind calls order)
@@ -87,14 +88,14 @@ impossible_at kind ops order i seen content greatest z k c d op can h early is t
     refute : (b : Bool) → b ≡ false → IsTrue b → ⊥
     refute b e t = let is : b ≡ true = t in absurd (cc (e, is))
 
-pub wrong_at : (kind : Kind) (ops : List Invocation) (order : List ℤ) (i : ℕ) (seen : List Bool) (content after : Content) (greatest : Option ℕ) (z : ℤ) (k : ℕ) (c : Call) (d : Invocation) (op : AnyOp) (gives : AnyReply) → IsHere kind ops order i seen content greatest z k c → IsEarly (get_or ops k d).«end» greatest → op ≡ (get_or ops k d).op → next content op ≡ Some (after, gives) → Differs (get_or ops k d).«end» gives → IsFirstAtPlace kind (calls_of ops) order (WrongReply z gives)
+pub wrong_at : (kind : Kind) (ops : List Invocation) (order : List ℤ) (i : ℕ) (seen : List Bool) (content after : Content) (greatest : Option ℕ) (z : ℤ) (k : ℕ) (c : Call) (d : Invocation) (op : AnyOp) (gives : AnyReply) → IsHere kind ops order i seen content greatest z k c → IsEarly (get_or ops k d).«end» greatest → op ≡ (get_or ops k d).op → next content op ≡ Some (after, gives) → Differs (return_of (get_or ops k d).«end») gives → IsFirstAtPlace kind (calls_of ops) order (WrongReply z gives)
 wrong_at kind ops order i seen content after greatest z k c d op gives h early is can differs =
     let parts = call_parts (get_or ops k d) c (h.hand.is d) in
     wrong_first kind (calls_of ops) order i z c content after differs.0 gives (reaches kind ops order i seen content greatest z k c d h) (in_time kind ops order i seen content greatest z k c d h early)
     (sym parts.2 ∙ differs.1) (ap (next content) (sym (is ∙ parts.1)) ∙ can) differs.2
 
 pub next_at : (kind : Kind) (ops : List Invocation) (order : List ℤ) (i : ℕ) (seen : List Bool) (content after : Content) (greatest : Option ℕ) (z : ℤ) (k : ℕ) (c : Call) (d : Invocation) (op : AnyOp) (top : ℕ) (gives : AnyReply)
-    → AllPairs (λ a b. a.number < b.number) ops → IsHere kind ops order i seen content greatest z k c → i < length order → z ≡ get_or order i (pos 0) → IsEarly (get_or ops k d).«end» greatest → op ≡ (get_or ops k d).op → next content op ≡ Some (after, gives) → Agrees (get_or ops k d).«end» gives → kind_with after ≡ kind_with content → top ≡ option_map_or (λ by. max by (get_or ops k d).number) greatest (get_or ops k d).number
+    → AllPairs (λ a b. a.number < b.number) ops → IsHere kind ops order i seen content greatest z k c → i < length order → z ≡ get_or order i (pos 0) → IsEarly (get_or ops k d).«end» greatest → op ≡ (get_or ops k d).op → next content op ≡ Some (after, gives) → Agrees (return_of (get_or ops k d).«end») gives → kind_with after ≡ kind_with content → top ≡ option_map_or (λ by. max by (get_or ops k d).number) greatest (get_or ops k d).number
     → Walk kind ops (take (i + 1) order) (set seen k true) after (Some top)
 next_at kind ops order i seen content after greatest z k c d op top gives up h l at early is can agrees kept new_top =
     let parts = call_parts (get_or ops k d) c (h.hand.is d) in
@@ -113,9 +114,6 @@ stands_marked : (kind : Kind) (ops : List Invocation) (order : List ℤ) (seen :
 stands_marked kind ops order seen content greatest k d c w l e m =
     let parts = call_parts (get_or ops k d) c e in
     subst (λ n. In (pos n) order) parts.0 (stands_true (get_or ops k d).number order (sym (w.marks k d l) ∙ m))
-
-same_pos : (a b : ℕ) → pos a ≡ pos b → a ≡ b
-same_pos a b e = omega (arith, ints)
 
 pub all_marked : (kind : Kind) (ops : List Invocation) (order : List ℤ) (seen : List Bool) (content : Content) (greatest : Option ℕ) (d : Invocation) → AllPairs (λ a b. a.number < b.number) ops → Walk kind ops order seen content greatest → AreMarked ops seen (length ops) → IsValidOrder kind (calls_of ops) order
 all_marked kind ops order seen content greatest d up w marked = valid_from kind (calls_of ops) order content w.so_far (λ c i r.

@@ -20,6 +20,7 @@ use Rattle.checker.specs.Faults.{call_named}
 use Rattle.checker.proofs.Walking.{found_number, found_known}
 use Rattle.checker.proofs.Exact.{Rising, names_itself}
 use Rattle.checker.proofs.Steps.{AtHand, call_parts, call_from, place_of_call, call_at_place, numbers_apart}
+use Rattle.model.proofs.Orders.{same_pos}
 
 -- the greater of two numbers compares no less with a third
 index_rises : (a b : ℕ) (z : ℤ) → a ≤ b → ordering_index (int_cmp (pos a) z) ≤ ordering_index (int_cmp (pos b) z)
@@ -72,9 +73,6 @@ rising_calls (o ∷ ops) h = go (call_of o) refl (rising_calls ops h.1)
 -- an operation, for a default that nothing reads
 abbrev pub nobody : Invocation
 nobody = record { number = 0; op = Enqueue (pos 0); «end» = Returned 0 (Value None) }
-
-same_pos : (a b : ℕ) → pos a ≡ pos b → a ≡ b
-same_pos a b e = omega (arith, ints)
 
 -- a number that no call's operation has names no call
 pub not_named : (ops : List Invocation) (z : ℤ) (d : Invocation) → ((k : ℕ) (c : Call) → k < length ops → pos (get_or ops k d).number ≡ z → call_of (get_or ops k d) ≡ Some c → ⊥) → call_named (calls_of ops) z ≡ None

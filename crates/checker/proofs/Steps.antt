@@ -1,5 +1,5 @@
 -- Operations as calls, what the walk knows after some entries, and one entry more.
-use Rattle.std.proofs.Common.{◌≡◌, ◌≢◌, ℕ, ℤ, pos, negsuc, ◌≤ℤ◌, zero, suc, ◌<◌, ◌≤◌, ◌==◌, ◌||◌, max, Bool, true, false, ◌⊎◌, inl, inr, List, [], ◌∷◌, ◌++◌, length, set, Option, Some, None, AllPairs, get_or, refl, ap, sym, ◌∙◌, subst, arith}
+use Rattle.std.proofs.Common.{◌≡◌, ◌≢◌, ℕ, ℤ, pos, negsuc, ◌≤ℤ◌, zero, suc, ◌<◌, ◌≤◌, ◌==◌, ◌||◌, max, Bool, true, false, inl, inr, List, [], ◌∷◌, ◌++◌, length, set, Option, Some, None, AllPairs, get_or, refl, ap, sym, ◌∙◌, subst, arith}
 use Rattle.std.proofs.lemmas.Int.{ints}
 use Rattle.std.specs.Option.{option_map_or}
 use Rattle.std.specs.List.{list_any, cons_option}
@@ -18,6 +18,7 @@ use Rattle.events.specs.Operations.{call_with, call_of, calls_of, return_of}
 use Rattle.checker.specs.Faults.{call_named, IsGreatest}
 use Rattle.checker.specs.Ends.{IsEarly}
 use Rattle.checker.proofs.Walking.{IsStep, SoFar, found_number, more}
+use Rattle.model.proofs.Orders.{max_either}
 
 or_false : (b : Bool) → (b || false) ≡ (false || b)
 or_false true = refl
@@ -26,9 +27,6 @@ or_false false = refl
 or_nothing : (a b : Bool) → b ≡ false → (a || b) ≡ a
 or_nothing true b e = refl
 or_nothing false b e = e
-
-max_either : (a b : ℕ) → (max a b ≡ a) ⊎ (max a b ≡ b)
-max_either a b = grind arith
 
 at_most : (n : ℕ) (z : ℤ) → z ≡ pos n → z ≤ℤ pos n
 at_most n z e = omega (arith, ints)

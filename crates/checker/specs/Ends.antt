@@ -1,7 +1,6 @@
 -- What the ends of operations say of a walk.
-use Rattle.std.specs.Prelude.{◌≡◌, ◌≢◌, ◌<◌, ◌≤◌, ℕ, Bool, true, false, List, length, Option, Some, is_some, slice_index_or}
+use Rattle.std.specs.Prelude.{◌≡◌, ◌<◌, ◌≤◌, ℕ, Bool, true, false, List, length, Option, Some, is_some, slice_index_or}
 use Rattle.events.specs.declared.operations.Invocation.{Invocation}
-use Rattle.model.specs.declared.AnyReply.{AnyReply}
 use Rattle.model.specs.Orders.{Return}
 use Rattle.events.specs.declared.operations.End.{End}
 use Rattle.events.specs.Operations.{return_of}
@@ -12,13 +11,6 @@ IsLate e by = (r : Return) × (return_of e ≡ Some r) × (r.at < by)
 
 abbrev pub IsEarly : End → Option ℕ → Type 0
 IsEarly e greatest = (r : Return) (by : ℕ) → return_of e ≡ Some r → greatest ≡ Some by → by ≤ r.at
-
--- the recorded reply is another one
-abbrev pub Differs : End → AnyReply → Type 0
-Differs e gives = (r : Return) × (return_of e ≡ Some r) × (r.reply ≢ gives)
-
-abbrev pub Agrees : End → AnyReply → Type 0
-Agrees e gives = (r : Return) → return_of e ≡ Some r → r.reply ≡ gives
 
 -- each operation below place n that returned is marked
 abbrev pub AreMarked : List Invocation → List Bool → ℕ → Type 0

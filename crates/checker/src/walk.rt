@@ -1,6 +1,6 @@
 //! The walk along an order.
 
-ghost use Rattle.std.specs.Prelude.{◌≡◌, ◌≢◌, ℕ, ◌<◌, length, true, false, Some, List, Bool, OnOk, IfErr, IfSome, IfNone, All, AllPairs, MatchOption, MatchBool, is_some, max, slice_index_or};
+ghost use Rattle.std.specs.Prelude.{◌≡◌, ◌≢◌, ℕ, ◌<◌, length, true, false, Some, List, Bool, OnOk, IfErr, IfSome, IfNone, All, AllPairs, MatchOption, max, slice_index_or};
 ghost use Rattle.std.specs.Option.{option_map_or};
 ghost use Rattle.std.specs.List.{HoldsAt};
 ghost use Rattle.model.specs.declared.AnyOp.{AnyOp};
@@ -8,8 +8,8 @@ ghost use Rattle.model.specs.declared.AnyReply.{AnyReply};
 ghost use Rattle.model.specs.Objects.{empty, kind_of};
 ghost use Rattle.model.specs.Orders.{IsValidOrder};
 ghost use Rattle.events.specs.declared.operations.Invocation.{Invocation};
-ghost use Rattle.events.specs.Operations.{calls_of, return_of};
-ghost use Rattle.checker.specs.Ends.{IsLate, IsEarly, Differs, Agrees, AreMarked, IsFirstUnmarked};
+ghost use Rattle.events.specs.Operations.{calls_of};
+ghost use Rattle.checker.specs.Ends.{IsLate, IsEarly, AreMarked, IsFirstUnmarked};
 ghost use Rattle.checker.specs.Faults.{IsFirstFault};
 ghost use Rattle.checker.specs.Refusals.{RefusesOrder};
 
@@ -40,31 +40,6 @@ fn raised(greatest: Option<u32>, number: u32) -> u32
     }
 }
 
-fn is_same(a: AnyReply, b: AnyReply) -> bool
-    ensures { MatchBool result (a ≡ b) (a ≢ b) }
-{
-    a == b
-}
-
-/// Whether the operation returned another reply.
-fn differs(end: &End, gives: AnyReply) -> bool
-    ensures { MatchBool result (Differs end.now gives) (Agrees end.now gives) }
-{
-    match end {
-        End::Returned { reply, .. } => !is_same(*reply, gives),
-        _ => false,
-    }
-}
-
-fn has_returned(end: &End) -> bool
-    ensures { result ≡ is_some (return_of end.now) }
-{
-    match end {
-        End::Returned { .. } => true,
-        _ => false,
-    }
-}
-
 /// The number of the first operation that returned and is not marked.
 fn omitted(ops: &[Invocation], seen: &[bool]) -> Option<u32>
     requires { length seen.now ≡ length ops.now }
@@ -72,7 +47,7 @@ fn omitted(ops: &[Invocation], seen: &[bool]) -> Option<u32>
     ensures some { IfSome result (λ n. IsFirstUnmarked ops.now seen.now n) }
 {
     for (k, o) in ops.iter().enumerate() {
-        if has_returned(&o.end) && !seen[k] {
+        if o.end.has_returned() && !seen[k] {
             return Some(o.number);
         }
     }
@@ -127,7 +102,7 @@ fn check_entries<S: SeqObject<Op = AnyOp, Reply = AnyReply>>(
         let Ok(gives) = object.apply(&call.op) else {
             return Err(Refusal::NoMemory);
         };
-        if differs(&call.end, gives) {
+        if call.end.differs(gives) {
             return refused(number, OrderFault::WrongReply { op, gives });
         }
         seen[k] = true;

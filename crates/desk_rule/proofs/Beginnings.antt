@@ -1,7 +1,7 @@
 -- How a desk begins: the first state, a new client, and a client's first step.
 use Rattle.std.proofs.Common.{◌≡◌, ◌≢◌, ℕ, zero, suc, ◌+◌, ◌<◌, ◌≤◌, true, false, List, [], ◌∷◌, ◌++◌, length, replicate, get_or, set, Some, refl, sym, ap, ◌∙◌, subst, ◌⊎◌, ⊎_elim, inl, inr, arith}
 use mathlib.Core.Option as maybe
-use mathlib.Core.Option.{some, some-injective, some-ne-none}
+use mathlib.Core.Option.{some, some-ne-none}
 use lib.ListN.{get_elem?, length-map}
 use Rattle.std.proofs.lemmas.List.Elements.{All-nil}
 use Rattle.atomic_table.specs.Table.{State, Me, step, takes, chain, opening, Allows, Splits}
@@ -29,17 +29,12 @@ use Rattle.desk_rule.specs.Plays as play
 use Rattle.desk_rule.proofs.Seats.{row_leaves, alike, kept_after, come_after, mine, Rule}
 use Rattle.desk_rule.proofs.Ties.{tied_coming}
 use Rattle.desk_rule.proofs.Calls.{later_gone, seat_unanswered, covers_own}
+use Rattle.roster.proofs.RosterMaking.{at_end}
 
 pub get_or-replicate_same : {A : Type 0} (a : A) (n i : ℕ) → get_or (replicate n a) i a ≡ a
 get_or-replicate_same a zero i = refl
 get_or-replicate_same a (suc n) zero = refl
 get_or-replicate_same a (suc n) (suc i) = get_or-replicate_same a n i
-
-pub at_end : {A : Type 0} (l : List A) (a b : A) (j : ℕ) → get_elem? (l ++ a ∷ []) j ≡ some b → (get_elem? l j ≡ some b) ⊎ ((j ≡ length l) × (a ≡ b))
-at_end [] a b zero e = inr (refl, some-injective a b e)
-at_end [] a b (suc j) e = absurd (some-ne-none b (sym e))
-at_end (x ∷ xs) a b zero e = inl e
-at_end (x ∷ xs) a b (suc j) e = ⊎_elim (λ t. inl t) (λ (t : (j ≡ length xs) × (a ≡ b)). inr (ap suc t.0, t.1)) (at_end xs a b j e)
 
 unseen : (kinds : List Kind) (lists : List TableId) (c x : ℕ) → seen_of (new_client kinds lists c) x ≡ []
 unseen kinds lists c x = get_or-replicate_same [] 16 x

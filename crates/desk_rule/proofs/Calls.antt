@@ -1,7 +1,6 @@
 -- The steps of a client's own call keep the rule: drawing tickets, posting, and taking the answer.
-use Rattle.std.proofs.Common.{◌≡◌, ◌≢◌, ℕ, ◌+◌, ◌%◌, ◌^◌, ◌<◌, eqb, false, List, [], ◌∷◌, ◌++◌, length, get_or, set, None, All, refl, sym, ap, subst, ◌∙◌, ◌⊎◌, ⊎_elim, inl, arith, eq-eqb, ne_eqb, append-nil, length-append}
+use Rattle.std.proofs.Common.{◌≡◌, ◌≢◌, ℕ, ◌+◌, ◌%◌, ◌^◌, ◌<◌, eqb, false, List, [], ◌∷◌, ◌++◌, length, get_or, set, None, All, refl, sym, ap, subst, ◌∙◌, ◌⊎◌, ⊎_elim, inl, arith, eq-eqb, ne_eqb, append-nil}
 use Rattle.std.proofs.lemmas.Bool.{false_from_ne_true}
-use Rattle.std.proofs.lemmas.List.{get_or_append_left}
 use mathlib.Core.Logic.{dite}
 use mathlib.Core.Option as maybe
 use mathlib.Core.Option.{some}
@@ -35,6 +34,7 @@ use Rattle.desk_rule.specs.Plays as play
 use Rattle.desk_rule.proofs.Seats.{Later, Leaves, row_leaves, alike, kept_after, come_after, looks, mine, misses, Rule}
 use Rattle.desk_rule.proofs.Seeing.{all_covered, saw, seen_all}
 use Rattle.desk_rule.proofs.Ties.{tied_row, tied_clock}
+use Rattle.world.proofs.Tickets.{all_before}
 
 -- the client c, whose call is in no hand, goes to the stage t, with these calls over
 abbrev pub gone : World → ℕ → ℕ → Stage → (ℕ → List AnyDone) → World
@@ -95,9 +95,6 @@ seat_unanswered kinds w n c t dones v o ds before apart never is over covers ok 
 -- what the client has seen of each object, where its own call is this
 pub covers_own : (kinds : List Kind) (w : World) (c : ℕ) (v : View) (o : Own) → v.own ≡ o → SeatOk kinds w c v → (x : ℕ) → StartsWith (entries_of c (seen_of v x)) (served x c v.done ++ owed x c o)
 covers_own kinds w c v o is ok x = subst (λ o. StartsWith (entries_of c (seen_of v x)) (served x c v.done ++ owed x c o)) is (ok.covers x)
-
-all_start : {A : Type 0} (P : A → Type 0) (xs ys : List A) → All P (xs ++ ys) → All P xs
-all_start P xs ys h k d l = subst P (get_or_append_left xs ys d k l) (h k d (omega (arith, length-append xs ys)))
 
 module _ {S O R : Type 0} (content : S → Content) (op_in : O → AnyOp) (reply_in : R → AnyReply) (kinds : List Kind) (clients quota : ℕ) where
   abbrev K : State (Slot S O R) View → Type 0
@@ -284,7 +281,7 @@ module _ {S O R : Type 0} (content : S → Content) (op_in : O → AnyOp) (reply
         λ p b is'. let e = sym is ∙ is' in (
           (λ i. (after_return (ap (request_known q) e i) (ap (answer_known a) e i) found m.0, m.1)),
           subst (λ z. All (λ (y : AnyEntry). y.ticket < found) (seen_of m.0 z.object)) (ap (request_known q) e)
-              (all_start (λ (y : AnyEntry). y.ticket < found) (seen_of m.0 q.object) prefix.0 (subst (All (λ (y : AnyEntry). y.ticket < found)) prefix.1
+              (all_before (λ (y : AnyEntry). y.ticket < found) (seen_of m.0 q.object) prefix.0 (subst (All (λ (y : AnyEntry). y.ticket < found)) prefix.1
               (subst (λ n. All (λ (y : AnyEntry). y.ticket < n) (w.log q.object)) (sym k.tied.clock) (k.sound.early q.object)))),
         ),
       )

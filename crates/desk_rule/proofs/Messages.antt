@@ -17,7 +17,8 @@ use Rattle.world.specs.World.{World, StartsWith}
 use Rattle.desk_rule.specs.Views.{seen_of, received_of, empty_message}
 use Rattle.desk_rule.specs.Rule.{HasLeft, ViewOk, Makers}
 use Rattle.desk_rule.proofs.Seats.{makers_stay, Rule}
-use Rattle.desk_rule.proofs.Beginnings.{get_or-replicate_same, at_end}
+use Rattle.desk_rule.proofs.Beginnings.{get_or-replicate_same}
+use Rattle.roster.proofs.RosterMaking.{at_end}
 
 -- a list whose views are those of another list, and one that is no client's and no maker's
 makers_with : (clients : ℕ) (vs us : List View) (b : View) → b.role ≡ role.Message → ((a : ℕ) (z : View) → get_elem? us a ≡ some z → (get_elem? vs a ≡ some z) ⊎ (b ≡ z)) → Makers clients vs → Makers clients us

@@ -2,7 +2,7 @@
 use Rattle.std.proofs.Common.{◌≡◌, ◌≢◌, ℕ, ◌+◌, Bool, true, false, cond, Option, Some, None, List, [], ◌∷◌, ◌++◌, length, refl, sym, ap, subst, ◌∙◌, append_assoc, arith}
 use Rattle.std.specs.Prelude.{ℤ}
 use Rattle.std.specs.Str.{IsUtf8}
-use Rattle.edn.specs.Datum.{Datum, ItemsFit, items_of}
+use Rattle.edn.specs.Datum.{Datum}
 use Rattle.edn.specs.Elements.{SpellsFront, SpellsNothing, ReadsElement, ReadsNext}
 use Rattle.edn.specs.Sound.{BeginWith, IsShort, IsSoundAt, IsSoundFrom, IsUnreadable}
 use Rattle.edn.specs.Spells.{Spells}
@@ -12,14 +12,11 @@ use Rattle.edn.specs.declared.fault.EdnFault.{EdnFault}
 use Rattle.edn.specs.declared.fault.FaultKind.TheVariants.{TooLong, NoMemory}
 use Rattle.std.proofs.lemmas.List.{append-nil}
 use Rattle.edn.proofs.Consumed.{list_tokens}
+use Rattle.edn.proofs.Joined.{fits-append}
 
 lists_tokens : (ds es : List Datum) → list_tokens (ds ++ es) ≡ list_tokens ds ++ list_tokens es
 lists_tokens [] es = refl
 lists_tokens (d ∷ ds) es = ap (λ (t : List Token). tokens_of d ++ t) (lists_tokens ds es) ∙ sym (append_assoc (tokens_of d) (list_tokens ds) (list_tokens es))
-
-lists_fit : (n : ℕ) (ds es : List Datum) → ItemsFit n (items_of ds) → ItemsFit n (items_of es) → ItemsFit n (items_of (ds ++ es))
-lists_fit n [] es h k = k
-lists_fit n (d ∷ ds) es h k = (h.0, lists_fit n ds es h.1 k)
 
 begin_both : (ts us : List Token) (text mid rest : List ℕ) → BeginWith ts text mid → BeginWith us mid rest → BeginWith (ts ++ us) text rest
 begin_both [] us text mid rest b k = subst (λ (x : List ℕ). BeginWith us x rest) (sym b) k
@@ -30,7 +27,7 @@ pub front_more : (text mid rest : List ℕ) (ds more : List Datum) → SpellsFro
 front_more text mid rest ds more f g =
     record {
       begins = subst (λ (ts : List Token). BeginWith ts text rest) (sym (lists_tokens ds more)) (begin_both (list_tokens ds) (list_tokens more) text mid rest f.begins g.begins);
-      fits = lists_fit 16 ds more f.fits g.fits;
+      fits = fits-append 16 ds more f.fits g.fits;
       on = λ es k. subst (λ (xs : List Datum). Spells xs text) (sym (append_assoc ds more es)) (f.on (more ++ es) (g.on es k));
       only = λ es k. (
           let a = f.only es k in
@@ -46,7 +43,7 @@ sound_behind text rest ds start place u f l (n, e, s) =
     record {
       utf8 = u;
       forms = ds ++ s.forms;
-      fit = lists_fit 16 ds s.forms f.fits s.fit;
+      fit = fits-append 16 ds s.forms f.fits s.fit;
       before = list_tokens ds ++ s.before;
       token = s.token;
       more = s.more;

@@ -15,13 +15,10 @@ use Rattle.edn.specs.declared.piece.Piece.{Piece}
 use Rattle.edn.specs.declared.piece.Piece.TheVariants.{OpenVector, CloseVector, OpenMap, CloseMap, Nil, True, False, Int, Str, Keyword}
 use Rattle.edn.proofs.Keys.{pair_views-append}
 use Rattle.edn.proofs.Consumed.{list_tokens, pairs_tokens, list_tokens-append, pairs_tokens-append}
-use Rattle.edn.proofs.Prefixes.{same_datum}
+use Rattle.edn.proofs.Prefixes.{tails, same_datum}
 
 same_leaf : (a b : Atom) (ts us : List Token) → leaf (atom a) ∷ ts ≡ leaf (atom b) ∷ us → (a ≡ b) × (ts ≡ us)
 same_leaf a b ts us e = (cc, cc)
-
-same_tail : (t u : Token) (ts us : List Token) → t ∷ ts ≡ u ∷ us → ts ≡ us
-same_tail t u ts us e = cc
 
 -- ---- at the front of a form
 
@@ -70,7 +67,7 @@ open_vector_alone b = by_form b.form b.are
 
     by_form : (d : Datum) → open_vector ∷ [] ≡ tokens_of d ++ b.behind → ⊥
     by_form (atom x) e = cc
-    by_form (vector ds) e = by_items ds (same_tail open_vector open_vector _ _ e)
+    by_form (vector ds) e = by_items ds (tails open_vector open_vector _ _ e)
     by_form (dictionary es) e = cc
 
 pub open_map_alone : BeginsForm (open_map ∷ []) → ⊥
@@ -83,14 +80,14 @@ open_map_alone b = by_form b.form b.are
     by_form : (d : Datum) → open_map ∷ [] ≡ tokens_of d ++ b.behind → ⊥
     by_form (atom x) e = cc
     by_form (vector ds) e = cc
-    by_form (dictionary es) e = by_pairs es (same_tail open_map open_map _ _ e)
+    by_form (dictionary es) e = by_pairs es (tails open_map open_map _ _ e)
 
 pub vector_begins : (ts : List Token) → BeginsForm (open_vector ∷ ts) → BeginsItems ts
 vector_begins ts b = by_form b.form b.own b.are
   where
     by_form : (d : Datum) → InProfile d → open_vector ∷ ts ≡ tokens_of d ++ b.behind → BeginsItems ts
     by_form (atom x) p e = absurd cc
-    by_form (vector ds) p e = record { items = ds; behind = b.behind; own = p; are = same_tail open_vector open_vector _ _ e ∙ append_assoc (items_tokens ds) (close_vector ∷ []) b.behind }
+    by_form (vector ds) p e = record { items = ds; behind = b.behind; own = p; are = tails open_vector open_vector _ _ e ∙ append_assoc (items_tokens ds) (close_vector ∷ []) b.behind }
     by_form (dictionary es) p e = absurd cc
 
 pub map_begins : (ts : List Token) → BeginsForm (open_map ∷ ts) → BeginsPairs ts
@@ -99,7 +96,7 @@ map_begins ts b = by_form b.form b.own b.are
     by_form : (d : Datum) → InProfile d → open_map ∷ ts ≡ tokens_of d ++ b.behind → BeginsPairs ts
     by_form (atom x) p e = absurd cc
     by_form (vector ds) p e = absurd cc
-    by_form (dictionary es) p e = record { pairs = es; behind = b.behind; own = p; are = same_tail open_map open_map _ _ e ∙ append_assoc (entries_tokens es) (close_map ∷ []) b.behind }
+    by_form (dictionary es) p e = record { pairs = es; behind = b.behind; own = p; are = tails open_map open_map _ _ e ∙ append_assoc (entries_tokens es) (close_map ∷ []) b.behind }
 
 -- a leaf, without what follows it
 pub leaf_alone : (a : Atom) (ts : List Token) → BeginsForm (leaf (atom a) ∷ ts) → BeginsForm (leaf (atom a) ∷ [])

@@ -17,7 +17,7 @@ not_nothing (atom a) ts h = cc
 not_nothing (vector ds) ts h = cc
 not_nothing (dictionary es) ts h = cc
 
-tails : (t u : Token) (ts us : List Token) → t ∷ ts ≡ u ∷ us → ts ≡ us
+pub tails : (t u : Token) (ts us : List Token) → t ∷ ts ≡ u ∷ us → ts ≡ us
 tails t u ts us h = cc
 
 same_leaf : (d e : Datum) (ts us : List Token) → leaf d ∷ ts ≡ leaf e ∷ us → (d ≡ e) × (ts ≡ us)

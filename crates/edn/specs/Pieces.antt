@@ -4,7 +4,7 @@ use Rattle.std.specs.Borrow.{Bor}
 use Rattle.edn.specs.Datum.{Atom, nil, boolean, integer, string, keyword, atom}
 use Rattle.edn.specs.Spells.{escape_of}
 use Rattle.edn.specs.Token as spec
-use Rattle.edn.specs.Token.{Token, tokens_of}
+use Rattle.edn.specs.Token.{Token}
 use Rattle.edn.specs.Reading.{Next, bad, got}
 use Rattle.edn.specs.declared.fault.Stop.{Stop}
 use Rattle.edn.specs.declared.fault.Cause.{Cause}

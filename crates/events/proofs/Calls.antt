@@ -12,6 +12,7 @@ use Rattle.events.specs.declared.event.Event.{Event}
 use Rattle.events.specs.Events.{next_event, is_fail, fails, denoted_by, denoted, IsProper}
 use Rattle.events.specs.Operations.{end_by, end_at, begun, operations_on, return_of, call_with, call_of, calls_of}
 use Rattle.events.proofs.Runs.{State, idle, busy, closed, state_by, MayDo, Runs, runs_from_start}
+use Rattle.events.proofs.WellFormed.{event_at}
 
 -- what stands before the responses of a process is of no matter to it
 skips : (p x : ℕ) (e : Event) (failed : Bool) (rest : List Numbered) → (e.process == p) ≡ false → response_of p x (denoted_by e.number e.process e.object e.action failed ++ rest) ≡ response_of p x rest
@@ -34,9 +35,6 @@ closed_silent p x (e ∷ es) h = go (e.process == p) refl (closed_silent p x es)
     go : (b : Bool) → (e.process == p) ≡ b → (Runs p closed es → response_of p x (denoted es) ≡ None) → response_of p x (denoted (e ∷ es)) ≡ None
     go true q f = absurd (h.0 q).0
     go false q f = skips p x e (fails (next_event e.process es)) (denoted es) q ∙ f (h.1 q)
-
-abbrev event_at : ℕ → ℕ → ℕ → Action → Event
-event_at n p x a = record { number = n; process = p; object = x; action = a }
 
 -- what a busy process does next ends its operation
 abbrev Answered : ℕ → ℕ → List Event → Type 0

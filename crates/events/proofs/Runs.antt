@@ -43,7 +43,7 @@ Runs p s [] = Unit {0}
 Runs p s (e ∷ es) = ((e.process == p) ≡ true → MayDo s e.object e.action × Runs p (state_by e.object e.action) es) × ((e.process == p) ≡ false → Runs p s es)
 
 -- the last event of a longer list
-last_push : (p : ℕ) (earlier : List Event) (e : Event) → last_event p (earlier ++ e ∷ []) ≡ cond (e.process == p) (Some e) (last_event p earlier)
+pub last_push : (p : ℕ) (earlier : List Event) (e : Event) → last_event p (earlier ++ e ∷ []) ≡ cond (e.process == p) (Some e) (last_event p earlier)
 last_push p earlier e = ap (find (λ (x : Event). x.process == p)) (reverse-append earlier (e ∷ []))
 
 may_invoke : (last : Option Event) (x : ℕ) (op : AnyOp) → IsIdle last → MayDo (state_after last) x (Invoke op)

@@ -51,6 +51,14 @@ return_of (Returned at reply) = Some (record { at = at; reply = reply })
 return_of Pending = None
 return_of Failed = None
 
+-- the reply with which a call returned, where it did, is another than this
+abbrev pub Differs : Option Return → AnyReply → Type 0
+Differs returned gives = (r : Return) × (returned ≡ Some r) × (r.reply ≢ gives)
+
+-- or it is this
+abbrev pub Agrees : Option Return → AnyReply → Type 0
+Agrees returned gives = (r : Return) → returned ≡ Some r → r.reply ≡ gives
+
 abbrev pub call_with : ℕ → AnyOp → End → Option Call
 call_with number op (Returned at reply) = Some (record { number = number; op = op; returned = Some (record { at = at; reply = reply }) })
 call_with number op Pending = Some (record { number = number; op = op; returned = None })

@@ -1,6 +1,6 @@
 //! The operations of one object.
 
-ghost use Rattle.std.specs.Prelude.{◌≡◌};
+ghost use Rattle.std.specs.Prelude.{◌≡◌, ◌≢◌, MatchBool};
 
 use seq_objects::{AnyOp, AnyReply, Kind};
 use std::marker::Model;
@@ -14,6 +14,38 @@ pub enum End {
     Pending,
     /// It did not happen.
     Failed,
+}
+
+fn is_same(left: AnyReply, right: AnyReply) -> bool
+    ensures { MatchBool result (left ≡ right) (left ≢ right) }
+{
+    left == right
+}
+
+impl End {
+    ghost use Rattle.std.specs.Prelude.{is_some};
+    ghost use Rattle.events.specs.Operations.{return_of, Agrees, Differs};
+
+    /// Whether the operation returned.
+    pub fn has_returned(&self) -> bool
+        ensures { result ≡ is_some (return_of self.now) }
+    {
+        match self {
+            End::Returned { .. } => true,
+            _ => false,
+        }
+    }
+
+    /// Whether it returned, and another reply than this.
+    pub fn differs(&self, gives: AnyReply) -> bool
+        ensures { MatchBool result (Differs (return_of self.now) gives)
+            (Agrees (return_of self.now) gives) }
+    {
+        match self {
+            End::Returned { reply, .. } => !is_same(*reply, gives),
+            _ => false,
+        }
+    }
 }
 
 /// An operation of an object, with the number of its invocation.

@@ -11,9 +11,7 @@ use Rattle.model.specs.Linearizable.{RepliesFrom}
 use Rattle.model.specs.Orders.{Return, Call, ProcessCall, ReturnsBefore, RepliesAlong, IsValidOrder}
 use Rattle.model.proofs.Lists.{In, Pairs, in_map, in_map_from, pairs_weaker, in_from_contains, all_at, pairs_from_all, pairs_from_map}
 use Rattle.locality.proofs.Merge.{one_number}
-
-max_either : (a b : ℕ) → (max a b ≡ a) ⊎ (max a b ≡ b)
-max_either a b = grind arith
+use Rattle.model.proofs.Orders.{max_either}
 
 not_below : (a b : ℕ) → (b < a → ⊥) → a ≤ b
 not_below a b h = omega arith

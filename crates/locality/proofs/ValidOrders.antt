@@ -1,6 +1,5 @@
 -- The order of an object in a linearization is valid.
 use Rattle.std.proofs.Common.{◌≡◌, ◌≢◌, ℕ, ℤ, pos, suc, ◌<◌, ◌≤◌, ◌==◌, ◌&&◌, nat_lt, Bool, true, false, cond, ◌⊎◌, inl, inr, List, [], ◌∷◌, ◌++◌, length, map, filter, Option, Some, None, IfSome, IsSome, Contains, refl, ap, sym, ◌∙◌, subst, arith}
-use Rattle.std.proofs.lemmas.Int.{ints}
 use Rattle.std.proofs.lemmas.List.{append-nil, append_assoc, length-append, map-append, length-map}
 use Rattle.std.proofs.lemmas.List.Concat.{flat_map-append}
 use Rattle.std.proofs.lemmas.List.Elements.{filter-append, recursion_from_All}
@@ -18,6 +17,7 @@ use Rattle.locality.proofs.ProcessHistories.{part, events-part, calls_in-part, c
 use Rattle.locality.proofs.Cuts.{complete_of_process, length_filter_events, filter_before, invokes_of_process, responds_in_part, filter_pieces}
 use Rattle.locality.proofs.Moments.{Moment, moment_from, precedes_from, count, count-append}
 use Rattle.locality.proofs.CompletedCalls.{Ended, two_events, ended_events, ops_of, Completed, Responses, completed_any, Lined, lined}
+use Rattle.model.proofs.Orders.{same_pos, returned_some}
 
 -- of two beginnings of a list one begins the other
 prefix_either : {X : Type 0} (a b c d : List X) → a ++ b ≡ c ++ d → ((w : List X) × (c ≡ a ++ w)) ⊎ ((w : List X) × (a ≡ c ++ w))
@@ -96,13 +96,6 @@ replies_back c (e ∷ es) h rec = (h.0, e.reply, h.1, said e.made.call.returned 
     said : (o : Option Return) → e.made.call.returned ≡ o → IfSome o (λ r. r.reply ≡ e.reply)
     said None q = tt
     said (Some r) q = sym (rec e r (inl refl) q)
-
-same_pos : (a b : ℕ) → pos a ≡ pos b → a ≡ b
-same_pos a b e = omega (arith, ints)
-
-some_back : (o : Option Return) → IsSome o → (r : Return) × (o ≡ Some r)
-some_back None s = absurd (cc s)
-some_back (Some r) s = (r, refl)
 
 longer : (q : Ended → Bool) (l n : List Ended) (a : Ended) → q a ≡ true → suc (length (filter q l)) ≤ length (filter q (l ++ a ∷ n))
 longer q l n a e = omega (arith, ap length (filter-append q l (a ∷ n) ∙ ap (λ b. filter q l ++ cond b (a ∷ filter q n) (filter q n)) e), length-append (filter q l) (a ∷ filter q n))
@@ -265,7 +258,7 @@ module _ (kinds : ℕ → Kind) (h : List Numbered) (hist : IsHistory h) (lin : 
               (pairs_filter (λ a b. pos (number_of a.made) ≢ pos (number_of b.made)) own all.line (pairs_by_parts (λ a b. pos (number_of a.made) ≢ pos (number_of b.made)) [] all.line (λ l m n a b e q. apart l m n a b e (same_pos (number_of a.made) (number_of b.made) q))))));
           whole = all_from_in (λ c. IsSome c.returned → Contains cs c) (calls_on x h) (λ c i s.
               let o = in_map (λ (o : ProcessCall). o.call) c (filter (λ o. o.object == x) (calls_in h)) i in
-              let r = some_back c.returned s in
+              let r = returned_some c.returned s in
               let p : ℕ = o.0.process in
               let io : In o.0 (calls_in (part p h)) = subst (In o.0) (sym (calls_in-part p h)) (in_filter_from (λ o. o.process == p) o.0 (calls_in h) (in_filter (λ o. o.object == x) o.0 (calls_in h) o.1) (eq-eqb p p refl)) in
               let e = (completed p).whole o.0 r.0 io (ap (λ (c : Call). c.returned) (sym o.2) ∙ r.1) in

@@ -1,7 +1,6 @@
 -- Histories and orders that are written out: tests that compute, and what they decide.
 use Rattle.std.proofs.Common.{◌≡◌, ◌≢◌, ℕ, ℤ, pos, zero, suc, ◌<◌, ◌≤◌, ◌==◌, ◌&&◌, nat_lt, nat_le, Bool, true, false, not, inl, inr, List, [], ◌∷◌, map, Option, Some, IsSome, Contains, refl, ap, sym, ◌∙◌, subst, arith}
 use Rattle.std.specs.List.{list_all, AllByRecursion}
-use Rattle.std.proofs.lemmas.Int.{ints}
 use Rattle.std.proofs.lemmas.List.Elements.{All-from_recursion}
 use Rattle.std.proofs.lemmas.Bool.{eqb-true, eq-eqb, ne_eqb, and_parts, ltb-true, leb-true, lt-ltb, not-true, cases_order}
 use Rattle.model.specs.declared.Kind.{Kind}
@@ -13,6 +12,7 @@ use Rattle.model.proofs.Lists.{In, Pairs, filter_none, pairs_map, pairs_weaker, 
 use Rattle.locality.specs.Locality.{HasValidOrder}
 use Rattle.locality.proofs.ProcessHistories.{is_back}
 use Rattle.locality.proofs.NamedObjects.{named_objects_lem}
+use Rattle.model.proofs.Orders.{same_pos}
 
 passes : {X : Type 0} (q : X → Bool) (xs : List X) → list_all q xs ≡ true → (x : X) → In x xs → q x ≡ true
 passes q [] e x i = absurd i
@@ -114,9 +114,6 @@ valid_order kind calls entries e known whole replies =
       in_order = all_from_pairs (λ (a b : Call). ReturnsBefore b a → ⊥) entries (pairs_weaker (λ (a b : Call). (a.number ≢ b.number) × (ReturnsBefore b a → ⊥)) (λ (a b : Call). ReturnsBefore b a → ⊥) entries (λ a b i j r. r.1) o);
       replies = replies;
     }
-  where
-    same_pos : (a b : ℕ) → pos a ≡ pos b → a ≡ b
-    same_pos a b e = omega (arith, ints)
 
 -- where all operations are on object 0
 pub linearizable : (kinds : ℕ → Kind) (h : List Numbered) → IsHistory h → list_all (λ e. e.object == 0) (calls_in h) ≡ true → HasValidOrder kinds h 0 → IsLinearizable kinds (events h)

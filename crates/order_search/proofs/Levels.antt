@@ -13,7 +13,7 @@ use Rattle.order_search.specs.declared.dead.Pair.{Pair}
 use Rattle.order_search.specs.Arranged.{as_call, call_at, owes, count_below}
 use Rattle.order_search.specs.Continuations.{Continues}
 use Rattle.order_search.specs.Links.{Linked, next_without, before_without}
-use Rattle.order_search.specs.Replies.{Agrees}
+use Rattle.events.specs.Operations.{Agrees}
 use Rattle.order_search.specs.Searching.{places, befores, IsLeast, Stack, IsWalk, AreDead}
 use Rattle.order_search.proofs.Owed.{none_owed, owes_placed, owes_pending}
 use Rattle.order_search.proofs.Stack.{onto, continued, placed, placed_frame, candidate_now, linked_now, walk_linked, walk_left}

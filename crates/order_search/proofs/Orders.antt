@@ -22,6 +22,7 @@ use Rattle.order_search.specs.Searching.{places, IsOrderOf}
 use Rattle.order_search.proofs.Calls.{happens, none, calls-filter}
 use Rattle.order_search.proofs.Deadness.{goes_on_from}
 use Rattle.order_search.proofs.Steps.{call_read}
+use Rattle.model.proofs.Orders.{same_pos, returned_some}
 
 -- ---- the calls of an object by place
 
@@ -108,13 +109,6 @@ valid_from kind calls n call rest order a h eo =
     twice : (ks : List ℕ) → map (λ k. pos (call k).number) ks ≡ map (λ e. pos e.number) (map call ks)
     twice [] = refl
     twice (k ∷ ks) = ap (λ (zs : List ℤ). pos (call k).number ∷ zs) (twice ks)
-
-    same_pos : (x y : ℕ) → pos x ≡ pos y → x ≡ y
-    same_pos x y e = cc e
-
-    returned_some : (o : Option Return) → IsSome o → (r : Return) × (o ≡ Some r)
-    returned_some None i = absurd (cc i)
-    returned_some (Some r) i = (r, refl)
 
 -- ---- and back
 

@@ -1,5 +1,4 @@
 pub mod Continuations
-pub mod Replies
 pub mod Links
 pub mod Arranged
 pub mod Searching

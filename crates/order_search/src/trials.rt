@@ -39,16 +39,6 @@ fn may_have_happened(operation: &Invocation) -> bool
     }
 }
 
-/// Whether the operation returned.
-pub(crate) fn has_returned(end: &End) -> bool
-    ensures { result ≡ is_some (return_of end.now) }
-{
-    match end {
-        End::Returned { .. } => true,
-        _ => false,
-    }
-}
-
 /// How many operations did not fail.
 pub(crate) fn call_count(operations: &[Invocation]) -> usize
     ensures { result ≡ count_by (λ o. is_some (call_of o)) operations.now }
@@ -60,7 +50,7 @@ pub(crate) fn call_count(operations: &[Invocation]) -> usize
 pub(crate) fn return_count(operations: &[Invocation]) -> usize
     ensures { result ≡ count_by (λ o. is_some (return_of o.«end»)) operations.now }
 {
-    operations.iter().filter(|o| has_returned(&o.end)).count()
+    operations.iter().filter(|o| o.end.has_returned()).count()
 }
 
 /// For each place the least number from there on.

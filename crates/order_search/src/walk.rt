@@ -1,23 +1,21 @@
 //! The walk through the beginnings of orders.
 
-ghost use Rattle.std.specs.Prelude.{◌≡◌, ◌≢◌, ℕ, ◌+◌, ◌<◌, ◌≤◌, ◌⊎◌, List, length, [], Some, None, IsSome, IfSome, IfOk, OnOk, MatchBool, map, reverse, is_some, true, false, if◌then◌else◌};
+ghost use Rattle.std.specs.Prelude.{◌≡◌, ◌≢◌, ℕ, ◌+◌, ◌<◌, ◌≤◌, ◌⊎◌, List, length, [], Some, None, IsSome, IfSome, IfOk, OnOk, map, reverse, is_some, true, false, if◌then◌else◌};
 ghost use Rattle.model.specs.Objects.{next};
 ghost use Rattle.model.specs.Orders.{Return};
-ghost use Rattle.events.specs.Operations.{return_of};
+ghost use Rattle.events.specs.Operations.{return_of, Agrees};
 ghost use Rattle.reversible.specs.Undoing.{content_of};
 ghost use Rattle.order_search.specs.Arranged.{call_at};
 ghost use Rattle.order_search.specs.Links.{Linked};
-ghost use Rattle.order_search.specs.Replies.{Agrees, Differs};
 ghost use Rattle.order_search.specs.Searching.{places, content_before, AreTrials, AreOwed, IsLeast, IsOrder, IsNoOrder, IsDeadHere, IsDeadAtPlace, IsSearching, IsSearchingAt};
 
 use crate::dead::{Dead, Pair};
 use crate::digest::Digest;
 use crate::level::Level;
-use crate::trials::{Trials, has_returned};
+use crate::trials::Trials;
 use crate::undone::Undone;
 use events::{End, Invocation};
 use reversible::{Kept, Reversible, Step};
-use seq_objects::AnyReply;
 use std::alloc::{AllocError, Global};
 
 /// How a walk ends.
@@ -60,29 +58,12 @@ fn least_return(trials: &Trials, undone: &Undone) -> u32
     least
 }
 
-fn is_same(a: AnyReply, b: AnyReply) -> bool
-    ensures { MatchBool result (a ≡ b) (a ≢ b) }
-{
-    a == b
-}
-
-/// Whether the operation returned another reply.
-fn differs(end: &End, gives: AnyReply) -> bool
-    ensures { MatchBool result (Differs (return_of end.now) gives)
-        (Agrees (return_of end.now) gives) }
-{
-    match end {
-        End::Returned { reply, .. } => !is_same(*reply, gives),
-        _ => false,
-    }
-}
-
 /// With this operation in the order, how many are owed.
 fn one_less(left: usize, end: &End) -> usize
     requires { 0 < left }
     ensures { left ≡ (if is_some (return_of end.now) then result + 1 else result) }
 {
-    if has_returned(end) { left - 1 } else { left }
+    if end.has_returned() { left - 1 } else { left }
 }
 
 /// With this operation no longer in the order, how many are owed.
@@ -90,7 +71,7 @@ fn one_more(left: usize, end: &End) -> usize
     requires { left < 65536 }
     ensures { result ≡ (if is_some (return_of end.now) then left + 1 else left) }
 {
-    if has_returned(end) { left + 1 } else { left }
+    if end.has_returned() { left + 1 } else { left }
 }
 
 /// Where a search stands: the order that has begun, and the place that is looked at next.
@@ -213,7 +194,7 @@ impl State {
     {
         let item = &trials.items[self.at as usize];
         let step = self.object.apply(&item.op)?;
-        if differs(&item.end, step.reply) {
+        if item.end.differs(step.reply) {
             self.object.undo(step.undo)?;
             self.pass(trials);
             return Ok(false);

@@ -1,6 +1,7 @@
 //! The nodes of a heap, which lie in one vector and name one another by their places in it.
 ghost use Rattle.std.specs.Prelude.{◌≡◌, ℕ, Option, Some, IfSome, IfOk, OnErr, slice_get};
-ghost use Rattle.pairing_heap.specs.Bag.{bag_of, with_value};
+ghost use Rattle.model.specs.Objects.{with_value};
+ghost use Rattle.pairing_heap.specs.Bag.{bag_of};
 ghost use Rattle.pairing_heap.specs.Forest.{HasTree, IsUsed, IsFree, values_in_use};
 ghost use Rattle.pairing_heap.specs.Heap.{IsSound, IsApart};
 ghost use Rattle.pairing_heap.specs.declared.node.Node.TheVariants.{Free};

@@ -8,7 +8,8 @@ mod simulations;
 mod table;
 mod workers;
 
-use commands::{FAILED, Line, line, perform};
+use crate::lines::asked;
+use commands::{FAILED, Line, perform};
 use edn::Out;
 use std::alloc::Global;
 use std::process::Abort;
@@ -16,14 +17,6 @@ use std::sync::Wait;
 use std::test::Fail;
 use std::thread::Threads;
 use table::{MALFORMED, NO, Row, TWO_ORDERS, TWO_QUEUES, YES};
-
-/// The line that the words ask for.
-fn asked(alloc: Global, words: &[&str]) -> Result<Line, Fail> {
-    match line(alloc, words) {
-        Ok(line) => Ok(line),
-        Err(_) => Err(Fail::new("the words are refused")),
-    }
-}
 
 fn checking(alloc: Global) -> Result<Line, Fail> {
     asked(alloc, &["fcbench", "check", "h.edn", "c.edn"])

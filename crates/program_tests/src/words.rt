@@ -1,19 +1,12 @@
 //! Words and what they ask for.
 
+use crate::lines::{asked, search_line};
 use command_line::{Line, LineFault, RunOptions, line};
 use kinds::Kinds;
 use model::Kind;
 use order_search::TryFirst;
 use std::alloc::Global;
 use std::test::Fail;
-
-/// The line that words ask for.
-fn asked(alloc: Global, words: &[&str]) -> Result<Line, Fail> {
-    match line(alloc, words) {
-        Ok(line) => Ok(line),
-        Err(_) => Err(Fail::new("the words are refused")),
-    }
-}
 
 #[test]
 fn words(rt: HostRuntime) -> Result<(), Fail> {
@@ -98,14 +91,6 @@ fn workers_in_words(rt: HostRuntime) -> Result<(), Fail> {
         }
     }
     Ok(())
-}
-
-fn search_line(alloc: Global, steps: u32) -> Result<Line, Fail> {
-    Ok(Line::Search {
-        history: String::from_str(alloc, "h.edn")?,
-        steps,
-        first: TryFirst::LeastNumber,
-    })
 }
 
 #[test]

@@ -26,11 +26,12 @@ use Rattle.desk_rule.proofs.Seeing.{seen_all}
 use Rattle.publication.specs.Handles.{DeskId, PassState, Holding, Agrees, IsPass, at_hand, log_of}
 use Rattle.publication.specs.Calls.{Performed}
 use Rattle.publication.proofs.Holds.{room_taken}
-use Rattle.publication.proofs.Turns.{events_long, journal_asks, journal_ends}
+use Rattle.publication.proofs.Turns.{events_long}
+use Rattle.world.proofs.Tickets.{journal_begun, journal_over}
 
 -- the journal with a whole call more
 journal_calls : (ds : List AnyDone) (q : AnyRequest) (a : AnyAnswer) (t : ℕ) → journal_of (ds ++ record { request = q; answer = a; returned = t } ∷ []) None ≡ journal_of ds None ++ invoked q ∷ Returned t a ∷ []
-journal_calls ds q a t = journal_ends ds q a t ∙ (ap (λ z. z ++ Returned t a ∷ []) (journal_asks ds q) ∙ append_assoc (journal_of ds None) (invoked q ∷ []) (Returned t a ∷ []))
+journal_calls ds q a t = journal_over ds q a t ∙ (ap (λ z. z ++ Returned t a ∷ []) (journal_begun ds q) ∙ append_assoc (journal_of ds None) (invoked q ∷ []) (Returned t a ∷ []))
 
 module _ {O R : Type 0} (op_in : O → AnyOp) (reply_in : R → AnyReply) where
   -- there is room for a whole call more

@@ -22,6 +22,7 @@ use Rattle.desk_rule.specs.Views.{seen_of, own_request, is_waiting, with_own, af
 use Rattle.desk_rule.proofs.Seeing.{seen_all}
 use Rattle.publication.specs.Handles.{Agrees, IsClient, at_hand}
 use Rattle.publication.specs.Calls.{Posted, Polled}
+use Rattle.world.proofs.Tickets.{journal_begun, journal_over}
 
 pub own_idle : (o : Own) → IsAtRest o → is_waiting o ≡ false → o ≡ own.Idle
 own_idle own.Absent a e = absurd a
@@ -42,14 +43,8 @@ pub outstanding_is : {S O R : Type 0} {op_in : O → AnyOp} {reply_in : R → An
 outstanding_is {op_in = op_in} {reply_in = reply_in} {number = number} {calls = calls} {quota = quota} {j = j} {m = m} e k = subst (λ z. IsClient op_in reply_in number calls quota z j m) e k
 
 -- the journal with one call more
-pub journal_asks : (ds : List AnyDone) (q : AnyRequest) → journal_of ds (Some q) ≡ journal_of ds None ++ invoked q ∷ []
-journal_asks [] q = refl
-journal_asks (d ∷ ds) q = ap (λ z. invoked d.request ∷ Returned d.returned d.answer ∷ z) (journal_asks ds q)
 
 -- the journal with one return more
-pub journal_ends : (ds : List AnyDone) (q : AnyRequest) (a : AnyAnswer) (t : ℕ) → journal_of (ds ++ record { request = q; answer = a; returned = t } ∷ []) None ≡ journal_of ds (Some q) ++ Returned t a ∷ []
-journal_ends [] q a t = refl
-journal_ends (d ∷ ds) q a t = ap (λ z. invoked d.request ∷ Returned d.returned d.answer ∷ z) (journal_ends ds q a t)
 
 journal_long : (ds : List AnyDone) (q : Option AnyRequest) → length (journal_of ds q) ≡ tickets_drawn ds q
 journal_long [] None = refl
@@ -104,7 +99,7 @@ module _ {S O R : Type 0} (op_in : O → AnyOp) (reply_in : R → AnyReply) wher
           within = omega arith;
           few = h.few;
           outstanding_is = refl;
-          journal_is = journal_grows op_in reply_in j j' (Invoked q.ticket q.object q.op) (journal_of m.0.done None) (h.journal_is ∙ ap (λ z. journal_of m.0.done (own_request z)) is) more ∙ sym (journal_asks m.0.done w);
+          journal_is = journal_grows op_in reply_in j j' (Invoked q.ticket q.object q.op) (journal_of m.0.done None) (h.journal_is ∙ ap (λ z. journal_of m.0.done (own_request z)) is) more ∙ sym (journal_begun m.0.done w);
           room = omega arith;
           wide = h.wide;
           legal = h.legal;
@@ -122,7 +117,7 @@ module _ {S O R : Type 0} (op_in : O → AnyOp) (reply_in : R → AnyReply) wher
         ticket = t;
         was_idle = same;
         knows = refl;
-        journal = journal_asks m.0.done q ∙ ap (λ z. journal_of m.0.done (own_request z) ++ invoked q ∷ []) (sym same);
+        journal = journal_begun m.0.done q ∙ ap (λ z. journal_of m.0.done (own_request z) ++ invoked q ∷ []) (sym same);
       })
 
   -- a after the take, b with nothing in the slot, d after the draw of the return
@@ -152,7 +147,7 @@ module _ {S O R : Type 0} (op_in : O → AnyOp) (reply_in : R → AnyReply) wher
           within = h.within;
           few = h.few;
           outstanding_is = refl;
-          journal_is = journal_grows op_in reply_in j j' (Returned t e) (journal_of m.0.done (Some q)) (h.journal_is ∙ ap (λ z. journal_of m.0.done (own_request z)) is) more ∙ sym (journal_ends m.0.done q w t);
+          journal_is = journal_grows op_in reply_in j j' (Returned t e) (journal_of m.0.done (Some q)) (h.journal_is ∙ ap (λ z. journal_of m.0.done (own_request z)) is) more ∙ sym (journal_over m.0.done q w t);
           room = omega arith;
           wide = length-set m.0.seen q.object l ∙ wide;
           legal = seen_all (λ x z. IsLegal (kind_at m.0.kinds x) z) m.0.seen q.object l (omega arith) legal (λ x _. h.legal x);
@@ -184,5 +179,5 @@ module _ {S O R : Type 0} (op_in : O → AnyOp) (reply_in : R → AnyReply) wher
         begins = begins;
         counted = counted;
         later = subst (All (λ (y : AnyEntry). y.ticket < t)) now later;
-        journal = journal_ends m.0.done q w t ∙ ap (λ z. journal_of m.0.done (own_request z) ++ Returned t w ∷ []) (sym waits);
+        journal = journal_over m.0.done q w t ∙ ap (λ z. journal_of m.0.done (own_request z) ++ Returned t w ∷ []) (sym waits);
       })

@@ -1,6 +1,5 @@
 -- A list of events in which each process does only what it may, and each object is used by one kind, is proper.
-use Rattle.std.proofs.Common.{◌≡◌, ℕ, ◌<◌, ◌==◌, Bool, true, false, cond, List, [], ◌∷◌, ◌++◌, find, filter, Option, Some, None, refl, ap, sym, ◌∙◌, subst, append_assoc}
-use Rattle.std.proofs.lemmas.List.{reverse-append}
+use Rattle.std.proofs.Common.{◌≡◌, ℕ, ◌<◌, ◌==◌, Bool, true, false, cond, List, [], ◌∷◌, ◌++◌, filter, Option, Some, None, refl, ap, sym, ◌∙◌, subst, append_assoc}
 use Rattle.std.proofs.lemmas.Bool.{eq-eqb}
 use Rattle.model.specs.declared.AnyOp.{AnyOp}
 use Rattle.model.specs.declared.Kind.{Kind}
@@ -11,9 +10,7 @@ use Rattle.events.specs.declared.event.Action.TheVariants.{Invoke, Ok, Fail, Inf
 use Rattle.events.specs.declared.event.Event.{Event}
 use Rattle.events.specs.Events.{last_event, IsIdle, IsIdleAfter, IsOfKindAt, Follows, IsProper}
 use Rattle.events.proofs.Runs.{State, idle, state_by, state_after, MayDo, Runs}
-
-last_push : (p : ℕ) (earlier : List Event) (e : Event) → last_event p (earlier ++ e ∷ []) ≡ cond (e.process == p) (Some e) (last_event p earlier)
-last_push p earlier e = ap (find (λ (x : Event). x.process == p)) (reverse-append earlier (e ∷ []))
+use Rattle.events.proofs.Runs.{last_push}
 
 -- the process runs on behind more events
 behind : (p : ℕ) (front earlier es : List Event) → Runs p (state_after (last_event p front)) (earlier ++ es) → Runs p (state_after (last_event p (front ++ earlier))) es

@@ -11,9 +11,7 @@ use Rattle.events.specs.declared.event.Action.TheVariants.{Invoke, Ok, Fail, Inf
 use Rattle.events.specs.declared.event.Event.{Event}
 use Rattle.events.specs.Events.{IsNamed}
 use Rattle.report.specs.Counts.{Use, use_by, uses, with_new, same_kind, place_of, objects_in, kinds_in}
-
-Contains-cons : {X : Type 0} → (x : X) (xs : List X) (y : X) → Contains xs y → Contains (x ∷ xs) y
-Contains-cons x xs y (k, lt, is) = (suc k, omega arith, is)
+use Rattle.certificate.proofs.Reading.{Contains-cons}
 
 any_none : {X : Type 0} (p : X → Bool) (xs : List X) (k : ℕ) (d : X) → list_any p xs ≡ false → k < length xs → p (get_or xs k d) ≡ false
 any_none p [] k d h lt = absurd (omega arith)

@@ -1,8 +1,8 @@
 //! Decisions on the objects of a history: found, impossible or out of steps.
 
-use checker::check_object;
-use deciding::{Found, Search, decide, decide_all};
-use events::{ObjectHistory, split};
+use crate::answers::{is_accepted, words_of};
+use deciding::{decide, decide_all};
+use events::split;
 use history::read_history_text;
 use std::alloc::Global;
 use std::test::Fail;
@@ -21,29 +21,6 @@ const HISTORY: &str = "
     {:process 0 :type :ok :f :write :value 1 :object 9}
     {:process 1 :type :invoke :f :read :value nil :object 9}
     {:process 1 :type :ok :f :read :value 1 :object 9}";
-
-/// The answer in words, as `[1, 0, 4] after 6`.
-fn words_of(alloc: Global, answer: &Search) -> Result<String, Fail> {
-    let steps = answer.steps;
-    Ok(match &answer.found {
-        Found::Found(certificate) => format!(in alloc; "{:?} after {steps}", certificate.order)?,
-        Found::Impossible => format!(in alloc; "impossible after {steps}")?,
-        Found::OutOfSteps => format!(in alloc; "out of steps after {steps}")?,
-        Found::TooLarge => format!(in alloc; "too large")?,
-        Found::NoMemory => format!(in alloc; "no memory")?,
-    })
-}
-
-/// Whether what was found, if anything was, is accepted by the checker.
-fn is_accepted(alloc: Global, object: &ObjectHistory, answer: &Search) -> bool {
-    match &answer.found {
-        Found::Found(certificate) if certificate.object == object.object() => {
-            check_object(alloc, object, certificate).is_ok()
-        }
-        Found::Found(_) => false,
-        _ => true,
-    }
-}
 
 /// Compares the decisions on all objects of the history, and those on each alone, with what they must be.
 fn decisions(alloc: Global, limit: u64, wanted: &[(u32, &str)]) -> Result<(), Fail> {

@@ -2,39 +2,16 @@
 
 mod by_force;
 
-use checker::check_object;
-use events::{History, ObjectHistory, split};
+use crate::answers::{is_accepted, words_of};
+use events::{History, split};
 use history::read_history_text;
 use order_search::find_order;
-use search::{Found, Search, TryFirst, search, search_all, search_all_by, search_by};
+use search::{TryFirst, search, search_all, search_all_by, search_by};
 use std::alloc::Global;
 use std::test::Fail;
 
 fn history_of(alloc: Global, text: &str) -> Result<History, Fail> {
     read_history_text(alloc, text.as_bytes()).map_err(|_| Fail::new("a history is refused"))
-}
-
-/// The answer in words, as `[1, 0, 4] after 6`.
-fn words_of(alloc: Global, answer: &Search) -> Result<String, Fail> {
-    let steps = answer.steps;
-    Ok(match &answer.found {
-        Found::Found(certificate) => format!(in alloc; "{:?} after {steps}", certificate.order)?,
-        Found::Impossible => format!(in alloc; "impossible after {steps}")?,
-        Found::OutOfSteps => format!(in alloc; "out of steps after {steps}")?,
-        Found::TooLarge => format!(in alloc; "too large")?,
-        Found::NoMemory => format!(in alloc; "no memory")?,
-    })
-}
-
-/// Whether what was found, if anything was, is accepted by the checker.
-fn is_accepted(alloc: Global, object: &ObjectHistory, answer: &Search) -> bool {
-    match &answer.found {
-        Found::Found(certificate) if certificate.object == object.object() => {
-            check_object(alloc, object, certificate).is_ok()
-        }
-        Found::Found(_) => false,
-        _ => true,
-    }
 }
 
 /// Compares the answers on all objects of a history with what they must be.

@@ -1,10 +1,8 @@
 -- Where each function stands among all.
-use Rattle.std.proofs.Common.{◌≡◌, ℕ, ◌<◌, List, [], ◌∷◌, get_or, refl, lit<}
+use Rattle.std.proofs.Common.{◌≡◌, ℕ, ◌<◌, get_or, refl, lit<}
 use Rattle.seq_objects.specs.declared.function.Function.{Function}
 use Rattle.seq_objects.specs.declared.function.Function.TheVariants.{Enqueue, Dequeue, Push, Pop, Insert, ExtractMin, Write, Read, Cas, Put, Get, Del, Acquire, Release}
-
-abbrev pub every : List Function
-every = Enqueue ∷ Dequeue ∷ Push ∷ Pop ∷ Insert ∷ ExtractMin ∷ Write ∷ Read ∷ Cas ∷ Put ∷ Get ∷ Del ∷ Acquire ∷ Release ∷ []
+use Rattle.seq_objects.specs.Functions.{all_functions}
 
 abbrev pub place : Function → ℕ
 place Enqueue = 0
@@ -41,9 +39,9 @@ place-below f =
       | Release ↦ lit< tt
     ]
 
-pub get_or-place : (f d : Function) → get_or every (place f) d ≡ f
+pub get_or-place : (f d : Function) → get_or all_functions (place f) d ≡ f
 get_or-place f d =
-    elim f as (λ f. get_or every (place f) d ≡ f) [
+    elim f as (λ f. get_or all_functions (place f) d ≡ f) [
       | Enqueue ↦ refl
       | Dequeue ↦ refl
       | Push ↦ refl

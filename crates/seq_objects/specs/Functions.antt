@@ -1,9 +1,13 @@
 -- The names of operations, as histories write them, and the words for kinds.
-use Rattle.std.specs.Prelude.{ℕ, List, codes}
+use Rattle.std.specs.Prelude.{ℕ, List, [], ◌∷◌, codes}
 use Rattle.model.specs.declared.Kind.{Kind}
 use Rattle.model.specs.declared.Kind.TheVariants.{Queue, Stack, Heap, Register, Map, Mutex}
 use Rattle.seq_objects.specs.declared.function.Function.{Function}
 use Rattle.seq_objects.specs.declared.function.Function.TheVariants.{Enqueue, Dequeue, Push, Pop, Insert, ExtractMin, Write, Read, Cas, Put, Get, Del, Acquire, Release}
+
+-- every function, in the order in which the code lists them
+abbrev pub all_functions : List Function
+all_functions = Enqueue ∷ Dequeue ∷ Push ∷ Pop ∷ Insert ∷ ExtractMin ∷ Write ∷ Read ∷ Cas ∷ Put ∷ Get ∷ Del ∷ Acquire ∷ Release ∷ []
 
 -- the name of an operation, as bytes
 abbrev pub name_of : Function → List ℕ

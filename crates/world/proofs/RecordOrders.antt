@@ -1,5 +1,5 @@
 -- Each log of a sound world is a valid order of the calls on its object, and so its record is sound.
-use Rattle.std.proofs.Common.{◌≡◌, ◌≢◌, ℕ, ◌<◌, ◌==◌, inl, List, [], ◌∷◌, ◌++◌, filter, Option, Some, None, IsSome, Contains, eqb-true, eq-eqb, refl, ap, sym, ◌∙◌, subst, append_assoc, arith}
+use Rattle.std.proofs.Common.{◌≡◌, ◌≢◌, ℕ, ◌<◌, ◌==◌, inl, List, [], ◌∷◌, ◌++◌, filter, Some, IsSome, Contains, eqb-true, eq-eqb, refl, ap, sym, ◌∙◌, subst, append_assoc, arith}
 use Rattle.model.specs.declared.Kind.{Kind}
 use Rattle.model.specs.Objects.{empty}
 use Rattle.model.specs.Orders.{Numbered, Return, Call, ProcessCall, calls_in, calls_on, ReturnsBefore, IsValidOrder}
@@ -11,10 +11,11 @@ use Rattle.world.specs.Records.{order_of, IsSoundRecord}
 use Rattle.locality.proofs.Entries.{number_of}
 use Rattle.locality.proofs.Merge.{one_number}
 use Rattle.world.proofs.Effects.{clock_few}
-use Rattle.world.proofs.Shares.{in_after}
 use Rattle.world.proofs.Sources.{put_in, served_is, IsOf, is_of, put_rises, IsOver, is_over}
 use Rattle.world.proofs.Chosen.{Along, chosen, entry_beside, call_beside, pairs_beside, SaysSame, numbers_beside, replies_beside, once_in_order, in_own_entries, tickets_once, in_front}
 use Rattle.world.proofs.RecordHistory.{calls_by, tickets_rise, history, history_denoted, history_well_formed, calls_up, calls_of_client}
+use Rattle.model.proofs.Orders.{returned_some}
+use Rattle.model.proofs.Lists.{in_right}
 
 -- the entry of a call that returned
 abbrev entry_for : ProcessCall → Return → AnyEntry
@@ -29,10 +30,6 @@ record IsLogged (log : List AnyEntry) (o : ProcessCall) (r : Return) : Type 0 wh
 
 one_logged : (log before es after : List AnyEntry) (e : AnyEntry) → log ≡ before ++ es ++ after → es ≡ e ∷ [] → log ≡ before ++ e ∷ after
 one_logged log before es after e whole one = whole ∙ (append_assoc before es after ∙ ap (λ z. before ++ (z ++ after)) one)
-
-is_some : (o : Option Return) → IsSome o → (r : Return) × (o ≡ Some r)
-is_some None s = absurd (cc s)
-is_some (Some r) s = (r, refl)
 
 module _ (kinds : List Kind) (quota : ℕ) (w : World) (k : Sound kinds quota w) where
   abbrev past : List Numbered
@@ -108,13 +105,13 @@ module _ (kinds : List Kind) (quota : ℕ) (w : World) (k : Sound kinds quota w)
         let e : AnyEntry = entry_for o r in
         let l : IsLogged (w.log o.object) o r = is_logged o r i back in
         let split : l.before ++ e ∷ l.after ≡ log = sym l.whole ∙ ap w.log on in
-        let b = call_beside Beside log entries pick.1 e (subst (In e) split (in_after e l.before (e ∷ l.after) (inl refl))) in
+        let b = call_beside Beside log entries pick.1 e (subst (In e) split (in_right e l.before (e ∷ l.after) (inl refl))) in
         let same : on_object b.0 e ≡ o = one_number number_of ops (on_object b.0 e) o (calls_up w k.journals.tickets) b.2.among i b.2.says.number in
         subst (λ (c : Call). In c entries) (ap (λ (o : ProcessCall). o.call) same) b.1
 
     whole : (o : ProcessCall) → In o (filter (λ o. o.object == x) ops) → IsSome o.call.returned → In o.call entries
     whole o i s =
-        let back = is_some o.call.returned s in
+        let back = returned_some o.call.returned s in
         stands o back.0 (in_filter (λ o. o.object == x) o ops i) (eqb-true o.object x (in_filter_passes (λ o. o.object == x) o ops i)) back.1
 
     in_order : Pairs (λ a b. ReturnsBefore b a → ⊥) entries

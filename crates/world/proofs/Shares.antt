@@ -4,6 +4,7 @@ use mathlib.Core.Logic.{dite}
 use native.Mathlib.Decide.{ℕ_discrete}
 use Rattle.std.proofs.lemmas.Bool.{eqb-true, eq-eqb, ne_eqb}
 use Rattle.model.proofs.Lists.{In, Pairs, in_filter, in_filter_passes, in_append, pairs_filter, pairs_weaker, pairs_append, pairs_flat_map, filter_all, filter_none, filter-flat_map, flat_map_same, batches}
+use Rattle.model.proofs.Lists.{in_left, in_right}
 
 -- the numbers below n
 abbrev upto : ℕ → List ℕ
@@ -17,19 +18,11 @@ upto_below (suc n) t i = elim (in_append t (upto n) (n ∷ []) i) [
   | inr j ↦ elim j [ inl e ↦ omega (arith, e) | inr k ↦ absurd k ]
 ]
 
-in_before : {X : Type 0} (x : X) (xs ys : List X) → In x xs → In x (xs ++ ys)
-in_before x [] ys i = absurd i
-in_before x (y ∷ xs) ys i = elim i [ inl e ↦ inl e | inr j ↦ inr (in_before x xs ys j) ]
-
-pub in_after : {X : Type 0} (x : X) (xs ys : List X) → In x ys → In x (xs ++ ys)
-in_after x [] ys i = i
-in_after x (y ∷ xs) ys i = inr (in_after x xs ys i)
-
 upto_has : (n t : ℕ) → t < n → In t (upto n)
 upto_has zero t l = absurd (omega arith)
 upto_has (suc n) t l = dite (ℕ_discrete t n)
-    (λ same. in_after t (upto n) (n ∷ []) (inl same))
-    (λ other. in_before t (upto n) (n ∷ []) (upto_has n t (omega (arith, other))))
+    (λ same. in_right t (upto n) (n ∷ []) (inl same))
+    (λ other. in_left t (upto n) (n ∷ []) (upto_has n t (omega (arith, other))))
 
 upto_rises : (n : ℕ) → Pairs (λ a b. a < b) (upto n)
 upto_rises zero = tt

@@ -26,7 +26,7 @@ journal_over (d ∷ ds) q a t = ap (λ z. invoked d.request ∷ Returned d.retur
 
 -- ---- the beginning of a log up to a call's entry
 
-all_before : {A : Type 0} (P : A → Type 0) (xs ys : List A) → All P (xs ++ ys) → All P xs
+pub all_before : {A : Type 0} (P : A → Type 0) (xs ys : List A) → All P (xs ++ ys) → All P xs
 all_before P xs ys h k d l = subst P (get_or_append_left xs ys d k l) (h k d (omega (arith, length-append xs ys)))
 
 abbrev Splits : List AnyEntry → AnyEntry → Type 0

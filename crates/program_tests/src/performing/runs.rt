@@ -1,7 +1,8 @@
 //! What is put out of the records of runs: those of schedules, which say the steps of each client, and that of one client alone.
 
 use super::workers::{ALONE, ALONE_LINES};
-use super::{asked, check_failing_output, check_output};
+use super::{check_failing_output, check_output};
+use crate::lines::simulate_line;
 use commands::Line;
 use std::alloc::{AllocError, Global};
 use std::process::Abort;
@@ -15,10 +16,6 @@ const QUEUE: &str = "{:kind :queue, :objects 1, :clients 2, :quota 4}\n";
 /// The same, at objects of five kinds.
 const MIXED: &str = "{:kind :mixed, :objects 5, :clients 2, :quota 4}\n";
 
-fn simulating(alloc: Global) -> Result<Line, Fail> {
-    asked(alloc, &["fcbench", "simulate", "s.edn"])
-}
-
 /// Checks what is put out of the record of these steps.
 fn check_record<R: AllocGlobal + Abort + Threads + Wait + Sync>(
     rt: &R,
@@ -27,7 +24,7 @@ fn check_record<R: AllocGlobal + Abort + Threads + Wait + Sync>(
     expected: &str,
 ) -> Result<(), Fail> {
     let text = format!(in rt.alloc(); "{header}{steps}")?;
-    check_output(rt, &simulating(rt.alloc())?, &text, expected, 0);
+    check_output(rt, &simulate_line(rt.alloc())?, &text, expected, 0);
     Ok(())
 }
 
@@ -159,6 +156,6 @@ fn nothing_done(rt: HostRuntime) -> Result<(), Fail> {
 #[test]
 fn failing_output(rt: HostRuntime) -> Result<(), Fail> {
     let text = format!(in rt.alloc(); "{QUEUE}{OVERLAPPING_STEPS}")?;
-    check_failing_output(&rt, &simulating(rt.alloc())?, &text, TWO_CLIENTS)?;
+    check_failing_output(&rt, &simulate_line(rt.alloc())?, &text, TWO_CLIENTS)?;
     check_failing_output(&rt, &Line::Run(ALONE), "", ALONE_LINES)
 }

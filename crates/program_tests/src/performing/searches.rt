@@ -1,10 +1,9 @@
 //! What a search puts out: lines and status.
 
 use super::table::{HELD, ONE_BY_ONE, OVERLAPPING, TWO_QUEUES};
-use super::{asked, check_certificates, check_output, performed};
-use commands::{Line, LineFault, line};
-use order_search::TryFirst;
-use std::alloc::Global;
+use super::{check_certificates, check_output, performed};
+use crate::lines::{asked, search_line};
+use commands::{LineFault, line};
 use std::test::Fail;
 
 struct SearchRow {
@@ -135,14 +134,6 @@ const SEARCHES: [SearchRow; 16] = [
         status: 2,
     },
 ];
-
-fn search_line(alloc: Global, steps: u32) -> Result<Line, Fail> {
-    Ok(Line::Search {
-        history: String::from_str(alloc, "h.edn")?,
-        steps,
-        first: TryFirst::LeastNumber,
-    })
-}
 
 #[test]
 fn answers(rt: HostRuntime) -> Result<(), Fail> {

@@ -1,8 +1,7 @@
 //! What is put out of schedules: lines and status.
 
-use super::{asked, check_failing_output, checking, performed};
-use commands::Line;
-use std::alloc::Global;
+use super::{check_failing_output, checking, performed};
+use crate::lines::simulate_line;
 use std::test::Fail;
 
 struct ScheduleRow {
@@ -180,10 +179,6 @@ const SCHEDULES: [ScheduleRow; 20] = [
         status: 0,
     },
 ];
-
-fn simulate_line(alloc: Global) -> Result<Line, Fail> {
-    asked(alloc, &["fcbench", "simulate", "s.edn"])
-}
 
 #[test]
 fn schedules(rt: HostRuntime) -> Result<(), Fail> {

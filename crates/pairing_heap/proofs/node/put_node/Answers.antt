@@ -1,7 +1,8 @@
 use Rattle.std.proofs.Common.{◌≡◌, Some, slice_get, w64, ap, ◌∙◌}
 use Rattle.std.proofs.lemmas.Int.{to_z-of_z}
 use Rattle.pairing_heap.specs.declared.node.Node.TheVariants.{Free}
-use Rattle.pairing_heap.specs.Bag.{bag_of, with_value}
+use Rattle.model.specs.Objects.{with_value}
+use Rattle.pairing_heap.specs.Bag.{bag_of}
 use Rattle.pairing_heap.specs.Forest.{values_in_use}
 use Rattle.pairing_heap.proofs.Bags.{bag_of-used, bag_of-push}
 use Rattle.pairing_heap.proofs.Heaping.{IsApart-push, IsApart-reuse}

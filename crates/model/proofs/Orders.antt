@@ -1,0 +1,15 @@
+-- What orders of calls are compared by.
+use Rattle.std.proofs.Common.{◌≡◌, ◌⊎◌, ℕ, Option, Some, None, IsSome, max, refl, arith}
+use Rattle.std.specs.Prelude.{pos}
+use Rattle.std.proofs.lemmas.Int.{ints}
+use Rattle.model.specs.Orders.{Return}
+
+pub same_pos : (a b : ℕ) → pos a ≡ pos b → a ≡ b
+same_pos a b e = omega (arith, ints)
+
+pub max_either : (a b : ℕ) → (max a b ≡ a) ⊎ (max a b ≡ b)
+max_either a b = grind arith
+
+pub returned_some : (o : Option Return) → IsSome o → (r : Return) × (o ≡ Some r)
+returned_some None s = absurd (cc s)
+returned_some (Some r) s = (r, refl)
