@@ -3,6 +3,7 @@ use Rattle.std.specs.Prelude.{unwrap_or, ◌≡◌, ◌≢◌, ℕ, ◌==◌, �
 use Rattle.std.specs.List.{filter_map}
 use Rattle.model.specs.declared.Kind.{Kind}
 use Rattle.model.specs.declared.AnyOp.{AnyOp}
+use Rattle.model.specs.declared.AnyReply.{AnyReply}
 use Rattle.model.specs.Objects.{kind_of}
 use Rattle.model.specs.Orders.{Call, Return}
 use Rattle.events.specs.declared.event.Action.{Action}
