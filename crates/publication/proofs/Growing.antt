@@ -6,7 +6,7 @@ use native.Mathlib.Decide.{ℕ_discrete}
 use lib.ListN.{get_elem?}
 use Rattle.atomic_table.specs.Seated.{TableId}
 use Rattle.atomic_table.proofs.Lists.{at_longer, at_last}
-use Rattle.desk_rule.proofs.Beginnings.{at_end}
+use Rattle.roster.proofs.RosterMaking.{at_end}
 use Rattle.desk_rule.specs.declared.board.Core.{Core}
 use Rattle.desk_rule.specs.declared.board.Slot.{Slot}
 use Rattle.desk_rule.specs.declared.board.Slot.TheVariants as slot
