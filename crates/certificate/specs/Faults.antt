@@ -1,7 +1,7 @@
 -- What can be wrong with the forms of a text of certificates, and which fault of it is the first.
 use Rattle.std.specs.Prelude.{◌≡◌, ℕ, List, ◌∷◌, ◌++◌, length, Some, None, Contains}
 use Rattle.edn.specs.Datum.{Datum}
-use Rattle.fields.specs.FirstFaults.{AreFaultless, IsFirst}
+use Rattle.fields.specs.FirstFaults.{AreFaultless, IsFirstFaultBy}
 use Rattle.certificate.specs.Denotes.{Reading, certificate_of}
 use Rattle.certificate.specs.declared.fault.CertFaultKind.{CertFaultKind}
 use Rattle.certificate.specs.declared.fault.CertFaultKind.TheVariants.{NotACertificate, TwoForOneObject, NoMemory}
@@ -35,7 +35,7 @@ IsFaultless ds = AreFaultless IsFault ds
 
 -- the first fault: that of the least faulty form. A form has one fault at most.
 abbrev pub IsFirstFault : List Datum → CertFault → Type 0
-IsFirstFault ds fault = IsFirst IsFault number_of ds fault.form fault.kind
+IsFirstFault ds fault = IsFirstFaultBy IsFault number_of ds fault.form fault.kind
 
 -- nothing is wrong up to the form at this place, nor with it
 pub record IsSoundAt (ds : List Datum) (place : ℕ) : Type 0 where

@@ -13,7 +13,7 @@ use Rattle.model.proofs.Lists.{In, in_from_contains, contains_from_in, all_from_
 use Rattle.events.specs.declared.operations.End.{End}
 use Rattle.events.specs.declared.operations.End.TheVariants.{Returned, Pending, Failed}
 use Rattle.events.specs.declared.operations.Invocation.{Invocation}
-use Rattle.events.specs.Operations.{call_with, call_of, calls_of, return_of}
+use Rattle.events.specs.Operations.{call_with, call_of, calls_of, return_of, Differs, Agrees}
 use Rattle.checker.specs.declared.refusal.Refusal.{Refusal}
 use Rattle.checker.specs.declared.refusal.Refusal.TheVariants.{BadOrder}
 use Rattle.checker.specs.Refusals.{RefusesOrder}
@@ -25,7 +25,6 @@ use Rattle.checker.proofs.Walking.{IsStep, found_number, found_known, no_fault}
 use Rattle.checker.proofs.Deciding.{Reaches, IsInTime, valid_from, repeated_first, late_first, impossible_first, wrong_first}
 use Rattle.checker.proofs.Steps.{Walk, AtHand, away, number_at, walk_more, stands_true, stands_false, call_parts, call_at_place, place_of_call, one_call, all_early}
 use Rattle.model.proofs.Orders.{same_pos}
-use Rattle.events.specs.Operations.{Differs, Agrees}
 
 -- a refusal that names the first fault
 pub refused_by : (n : ℕ) (kind : Kind) (calls : List Call) (order : List ℤ) (fault : OrderFault) (r : Result (Unit {0}) Refusal) → r ≡ Err (BadOrder n fault) → IsFirstFault kind calls order fault → IfErr r (RefusesOrder n kind calls order)

@@ -52,11 +52,11 @@ return_of (Returned at reply) = Some (record { at = at; reply = reply })
 return_of Pending = None
 return_of Failed = None
 
--- the reply with which a call returned, where it did, is another than this
+-- a call returned, and another reply than this
 abbrev pub Differs : Option Return → AnyReply → Type 0
 Differs returned gives = (r : Return) × (returned ≡ Some r) × (r.reply ≢ gives)
 
--- or it is this
+-- where a call returned, it returned this reply
 abbrev pub Agrees : Option Return → AnyReply → Type 0
 Agrees returned gives = (r : Return) → returned ≡ Some r → r.reply ≡ gives
 

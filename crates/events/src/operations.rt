@@ -30,10 +30,7 @@ impl End {
     pub fn has_returned(&self) -> bool
         ensures { result ≡ is_some (return_of self.now) }
     {
-        match self {
-            End::Returned { .. } => true,
-            _ => false,
-        }
+        matches!(self, End::Returned { .. })
     }
 
     /// Whether it returned, and another reply than this.

@@ -40,7 +40,7 @@ pub fn value_at<'a>(entries: &'a [(Name, Form)], key: &[u8]) -> Option<&'a Form>
     None
 }
 
-/// The integer that a form is.
+/// The integer, where the form is one.
 pub fn integer(form: &Form) -> Option<i64>
     ensures { result ≡ integer_in (view form.now) }
 {

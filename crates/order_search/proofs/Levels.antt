@@ -5,7 +5,7 @@ use Rattle.model.specs.declared.AnyReply.{AnyReply}
 use Rattle.model.specs.Objects.{Content, next}
 use Rattle.model.specs.Orders.{Call}
 use Rattle.events.specs.declared.operations.Invocation.{Invocation}
-use Rattle.events.specs.Operations.{return_of}
+use Rattle.events.specs.Operations.{return_of, Agrees}
 use Rattle.reversible.specs.Undoing.{undone}
 use Rattle.order_search.specs.declared.level.Level.{Level}
 use Rattle.order_search.specs.declared.trials.Trials.{Trials}
@@ -13,7 +13,6 @@ use Rattle.order_search.specs.declared.dead.Pair.{Pair}
 use Rattle.order_search.specs.Arranged.{as_call, call_at, owes, count_below}
 use Rattle.order_search.specs.Continuations.{Continues}
 use Rattle.order_search.specs.Links.{Linked, next_without, before_without}
-use Rattle.events.specs.Operations.{Agrees}
 use Rattle.order_search.specs.Searching.{places, befores, IsLeast, Stack, IsWalk, AreDead}
 use Rattle.order_search.proofs.Owed.{none_owed, owes_placed, owes_pending}
 use Rattle.order_search.proofs.Stack.{onto, continued, placed, placed_frame, candidate_now, linked_now, walk_linked, walk_left}

@@ -1,6 +1,6 @@
 //! The walk through the beginnings of orders.
 
-ghost use Rattle.std.specs.Prelude.{◌≡◌, ◌≢◌, ℕ, ◌+◌, ◌<◌, ◌≤◌, ◌⊎◌, List, length, [], Some, None, IsSome, IfSome, IfOk, OnOk, map, reverse, is_some, true, false, if◌then◌else◌};
+ghost use Rattle.std.specs.Prelude.{◌≡◌, ℕ, ◌+◌, ◌<◌, ◌≤◌, ◌⊎◌, List, length, [], Some, None, IsSome, IfSome, IfOk, OnOk, map, reverse, is_some, true, false, if◌then◌else◌};
 ghost use Rattle.model.specs.Objects.{next};
 ghost use Rattle.model.specs.Orders.{Return};
 ghost use Rattle.events.specs.Operations.{return_of, Agrees};

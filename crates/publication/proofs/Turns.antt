@@ -42,10 +42,6 @@ own_waiting (own.Taken q b) a e = absurd a
 pub outstanding_is : {S O R : Type 0} {op_in : O → AnyOp} {reply_in : R → AnyReply} {number calls quota : ℕ} {a b : Bool} {j : Journal O R} {m : Me (Slot S O R) View} → a ≡ b → IsClient op_in reply_in number calls quota a j m → IsClient op_in reply_in number calls quota b j m
 outstanding_is {op_in = op_in} {reply_in = reply_in} {number = number} {calls = calls} {quota = quota} {j = j} {m = m} e k = subst (λ z. IsClient op_in reply_in number calls quota z j m) e k
 
--- the journal with one call more
-
--- the journal with one return more
-
 journal_long : (ds : List AnyDone) (q : Option AnyRequest) → length (journal_of ds q) ≡ tickets_drawn ds q
 journal_long [] None = refl
 journal_long [] (Some q) = refl

@@ -8,7 +8,7 @@ use Rattle.std.proofs.lemmas.List.Edits.{get_or-remove_below, get_or-remove_abov
 use Rattle.roster.specs.PublicationList.{IsDistinct, word_at}
 
 module _ {A : Type 0} where
-  -- what holds of the new value at i, and of the old ones elsewhere
+  -- what holds of the new value at i, and of the old ones elsewhere, holds of the function with that value
   pub updated_all : (P : ℕ → A → Type 0) (f : ℕ → A) (i : ℕ) (v : A) → P i v → ((j : ℕ) → j ≢ i → P j (f j)) → (j : ℕ) → P j (update ℕ_discrete f i v j)
   updated_all P f i v here others = (forall_update_iff ℕ_discrete f P).1 (here, others)
 

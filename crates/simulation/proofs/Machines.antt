@@ -1,5 +1,5 @@
 -- A machine that has taken the steps of a schedule.
-use Rattle.std.proofs.Common.{◌≡◌, ℕ, ◌+◌, ◌<◌, false, List, [], ◌∷◌, ◌++◌, length, map, All, refl, ap, sym, ◌∙◌, subst, arith}
+use Rattle.std.proofs.Common.{◌≡◌, ℕ, ◌+◌, ◌<◌, false, List, [], ◌∷◌, ◌++◌, length, map, All, ap, sym, ◌∙◌, subst, arith}
 use Rattle.std.proofs.lemmas.List.{map-append, length-map}
 use Rattle.std.proofs.lemmas.List.Elements.{All-push}
 use Rattle.std.proofs.lemmas.List.FromFn.{length-map-range_with_len, map-range_with_len_more}
@@ -7,11 +7,11 @@ use Rattle.model.specs.declared.AnyOp.{AnyOp}
 use Rattle.model.specs.declared.AnyReply.{AnyReply}
 use Rattle.model.specs.declared.Kind.{Kind}
 use Rattle.model.specs.Objects.{empty, kind_with}
+use Rattle.model.proofs.Objects.{kind_of_empty}
 use Rattle.seq_objects.specs.declared.any_object.AnyObject.{AnyObject}
 use Rattle.seq_objects.specs.AnyContent.{content_of}
 use Rattle.world.specs.World.{World, journal_in}
 use Rattle.world.specs.Records.{IsSoundRecord}
-use Rattle.world.proofs.SameKind.{kind_replayed}
 use Rattle.recorder.specs.Records.{Recorded}
 use Rattle.recorder.specs.Histories.{journals_in, logs_in}
 use Rattle.machine.specs.Machines.{State, HasRun, clients_of, world_of}
@@ -25,19 +25,16 @@ use Rattle.kinds.specs.Mixing as mixing
 use Rattle.simulation.specs.Plays.{kinds_of, IsPlayed, Takes}
 use Rattle.simulation.specs.Simulations.{IsGoingOn}
 
-empty_kind : (k : Kind) → kind_with (empty k) ≡ k
-empty_kind k = kind_replayed k [] (empty k) refl
-
 pub kinds_more : (ks : Kinds) (i : ℕ) (old new : List AnyObject) (o : AnyObject) → map (λ o. kind_with (content_of o)) old ≡ mixing.kinds_of ks i → content_of o ≡ empty (kind_in ks i) → new ≡ old ++ o ∷ [] → map (λ o. kind_with (content_of o)) new ≡ mixing.kinds_of ks (i + 1)
 kinds_more ks i old new o so_far is more =
     ap (map (λ (x : AnyObject). kind_with (content_of x))) more
     ∙ (map-append (λ (x : AnyObject). kind_with (content_of x)) old (o ∷ [])
     ∙ (ap (λ xs. xs ++ kind_with (content_of o) ∷ []) so_far
-    ∙ (ap (λ k. mixing.kinds_of ks i ++ k ∷ []) (ap kind_with is ∙ empty_kind (kind_in ks i)) ∙ sym (map-range_with_len_more (kind_in ks) 0 i i (omega arith)))))
+    ∙ (ap (λ k. mixing.kinds_of ks i ++ k ∷ []) (ap kind_with is ∙ kind_of_empty (kind_in ks i)) ∙ sym (map-range_with_len_more (kind_in ks) 0 i i (omega arith)))))
 
 pub empty_more : (old new : List AnyObject) (o : AnyObject) (k : Kind) → All (λ o. content_of o ≡ empty (kind_with (content_of o))) old → content_of o ≡ empty k → new ≡ old ++ o ∷ [] → All (λ o. content_of o ≡ empty (kind_with (content_of o))) new
 empty_more old new o k so_far is more = subst (All (λ (x : AnyObject). content_of x ≡ empty (kind_with (content_of x)))) (sym more)
-    (All-push (λ (x : AnyObject). content_of x ≡ empty (kind_with (content_of x))) old o so_far (is ∙ ap empty (sym (ap kind_with is ∙ empty_kind k))))
+    (All-push (λ (x : AnyObject). content_of x ≡ empty (kind_with (content_of x))) old o so_far (is ∙ ap empty (sym (ap kind_with is ∙ kind_of_empty k))))
 
 -- as many objects as there are kinds
 pub count_is : (h : Header) (os : List AnyObject) → map (λ o. kind_with (content_of o)) os ≡ kinds_of h → length os ≡ h.objects

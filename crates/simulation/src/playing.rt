@@ -42,8 +42,8 @@ fn objects_of(alloc: Global, header: &Header) -> Result<Vec<AnyObject>, AllocErr
     Ok(objects)
 }
 
-/// The machine that the header asks for, of which no step was taken: with so many clients and objects, all of them empty. An error
-/// stands only where memory was refused.
+/// The machine that the header asks for, of which no step was taken: so many clients, and empty objects. An error stands only where
+/// memory was refused.
 pub fn machine_of(alloc: Global, header: &Header) -> Result<Machine<AnyObject>, AllocError>
     requires { IsWithin header.now }
     ensures kinds { IfOk result (λ m. m.kinds ≡ kinds_of header.now) }

@@ -1,9 +1,9 @@
 -- A log and the calls that its entries are of, one beside the other.
 use Rattle.std.proofs.Common.{◌≡◌, ◌≢◌, ℕ, ℤ, pos, ◌<◌, ◌==◌, Bool, true, false, cond, inl, inr, List, [], ◌∷◌, ◌++◌, map, IfSome, refl, ap, sym, ◌∙◌, subst, eq-eqb, arith}
-use Rattle.std.proofs.lemmas.Int.{ints}
 use Rattle.model.specs.Objects.{Content, next}
 use Rattle.model.specs.Orders.{Call, RepliesAlong}
 use Rattle.model.proofs.Lists.{In, Pairs, pairs_weaker, pairs_map}
+use Rattle.model.proofs.Orders.{same_pos}
 use Rattle.world.specs.World.{AnyEntry, entries_of, Replays}
 
 -- each entry has beside it a call that P holds of
@@ -71,9 +71,6 @@ module _ (P : AnyEntry → Call → Type 0) (same : (e : AnyEntry) (k : Call) �
 pub once_in_order : (es : List AnyEntry) → Pairs (λ e f. e.ticket ≢ f.ticket) es → Pairs (λ (a b : ℤ). a ≢ b) (map (λ (e : AnyEntry). pos e.ticket) es)
 once_in_order es h = pairs_map (λ (a b : ℤ). a ≢ b) (λ (e : AnyEntry). pos e.ticket) es
     (pairs_weaker (λ e f. e.ticket ≢ f.ticket) (λ e f. pos e.ticket ≢ pos f.ticket) es (λ e f i j ne s. ne (same_pos e.ticket f.ticket s)) h)
-  where
-    same_pos : (a b : ℕ) → pos a ≡ pos b → a ≡ b
-    same_pos a b e = omega (arith, ints)
 
 pub in_own_entries : (e : AnyEntry) (es : List AnyEntry) → In e es → In e (entries_of e.client es)
 in_own_entries e [] i = absurd i

@@ -3,7 +3,7 @@ use Rattle.std.proofs.Common.{◌≡◌, ◌≢◌, ℕ, ◌<◌, ◌==◌, inl,
 use Rattle.model.specs.declared.Kind.{Kind}
 use Rattle.model.specs.Objects.{empty}
 use Rattle.model.specs.Orders.{Numbered, Return, Call, ProcessCall, calls_in, calls_on, ReturnsBefore, IsValidOrder}
-use Rattle.model.proofs.Lists.{In, Pairs, in_filter, in_filter_passes, in_filter_from, in_map, in_map_from, pairs_weaker, contains_from_in, all_from_in, all_at, all_from_pairs}
+use Rattle.model.proofs.Lists.{In, Pairs, in_filter, in_filter_passes, in_filter_from, in_map, in_map_from, pairs_weaker, contains_from_in, all_from_in, all_at, all_from_pairs, in_right}
 use Rattle.world.specs.declared.JournalEvent.TheVariants.{Invoked}
 use Rattle.world.specs.World.{AnyEntry, World, kind_at, entries_of, logged, request_of, journal_in, tickets_in, ticket_of}
 use Rattle.world.specs.Sound.{Sound, IsInTime}
@@ -15,7 +15,6 @@ use Rattle.world.proofs.Sources.{put_in, served_is, IsOf, is_of, put_rises, IsOv
 use Rattle.world.proofs.Chosen.{Along, chosen, entry_beside, call_beside, pairs_beside, SaysSame, numbers_beside, replies_beside, once_in_order, in_own_entries, tickets_once, in_front}
 use Rattle.world.proofs.RecordHistory.{calls_by, tickets_rise, history, history_denoted, history_well_formed, calls_up, calls_of_client}
 use Rattle.model.proofs.Orders.{returned_some}
-use Rattle.model.proofs.Lists.{in_right}
 
 -- the entry of a call that returned
 abbrev entry_for : ProcessCall → Return → AnyEntry

@@ -3,8 +3,7 @@ use Rattle.std.proofs.Common.{◌≡◌, ℕ, zero, suc, ◌<◌, ◌≤◌, ◌
 use mathlib.Core.Logic.{dite}
 use native.Mathlib.Decide.{ℕ_discrete}
 use Rattle.std.proofs.lemmas.Bool.{eqb-true, eq-eqb, ne_eqb}
-use Rattle.model.proofs.Lists.{In, Pairs, in_filter, in_filter_passes, in_append, pairs_filter, pairs_weaker, pairs_append, pairs_flat_map, filter_all, filter_none, filter-flat_map, flat_map_same, batches}
-use Rattle.model.proofs.Lists.{in_left, in_right}
+use Rattle.model.proofs.Lists.{In, Pairs, in_filter, in_filter_passes, in_append, pairs_filter, pairs_weaker, pairs_append, pairs_flat_map, filter_all, filter_none, filter-flat_map, flat_map_same, batches, in_left, in_right}
 
 -- the numbers below n
 abbrev upto : ℕ → List ℕ

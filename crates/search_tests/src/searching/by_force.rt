@@ -1,6 +1,7 @@
 //! Small histories, each searched and compared with a search by brute force.
 
-use super::{AMPLE, history_of, is_accepted};
+use super::{AMPLE, history_of};
+use crate::answers::is_accepted;
 use certificate::Certificate;
 use checker::check_object;
 use events::{ObjectHistory, split};

@@ -1,7 +1,6 @@
 use Rattle.std.proofs.Common.{◌≢◌, ℕ, ◌<◌, get_or}
 use Rattle.seq_objects.specs.declared.function.Function.TheVariants.{Enqueue}
-use Rattle.seq_objects.specs.Functions.{name_of}
-use Rattle.seq_objects.specs.Functions.{all_functions}
+use Rattle.seq_objects.specs.Functions.{name_of, all_functions}
 use Rattle.seq_objects.proofs.function.Function.named.Given as goal
 
 abbrev pub invariant-loop-f : goal.invariant-loop-f
