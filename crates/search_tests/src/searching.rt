@@ -14,6 +14,32 @@ fn history_of(alloc: Global, text: &str) -> Result<History, Fail> {
     read_history_text(alloc, text.as_bytes()).map_err(|_| Fail::new("a history is refused"))
 }
 
+/// The answers of the calls that leave the choice of the order of trying: for all objects, and for each alone.
+fn plain_answers(
+    alloc: Global,
+    text: &str,
+    limit: u64,
+    wanted: &[(u32, &str)],
+) -> Result<(), Fail> {
+    let history = history_of(alloc, text)?;
+    let objects = split(alloc, &history)?;
+    let all = search_all(alloc, &history, limit)?;
+    if all.len() != wanted.len() || objects.len() != wanted.len() {
+        return Err(Fail::new("another number of objects"));
+    }
+    for (k, (number, words)) in wanted.iter().enumerate() {
+        let (object, answer) = &all[k];
+        let alone = search(alloc, &objects[k], limit);
+        if object != number
+            || words_of(alloc, answer)?.as_str() != *words
+            || words_of(alloc, &alone)?.as_str() != *words
+        {
+            return Err(Fail::new("another answer"));
+        }
+    }
+    Ok(())
+}
+
 /// Compares the answers on all objects of a history with what they must be.
 fn answers(
     alloc: Global,
@@ -162,6 +188,7 @@ fn by_number(rt: HostRuntime) -> Result<(), Fail> {
     ];
     for (text, limit, wanted) in rows {
         answers(rt.alloc(), text, TryFirst::LeastNumber, limit, wanted)?;
+        plain_answers(rt.alloc(), text, limit, wanted)?;
     }
     Ok(())
 }

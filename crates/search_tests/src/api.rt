@@ -1,0 +1,47 @@
+//! The library by its one crate: a history is searched, and what was found is judged.
+
+use fcbench_api::{
+    Bytes, Found, Out, Verdict, check_over, judge, read_history_text, search, search_all, split,
+    write_certificates,
+};
+use std::test::Fail;
+
+/// Two values are enqueued at the same time, and the second goes out.
+const AT_ONCE: &[u8] = b"
+    {:process 0 :type :invoke :f :enqueue :value 1}
+    {:process 1 :type :invoke :f :enqueue :value 2}
+    {:process 0 :type :ok :f :enqueue :value 1}
+    {:process 1 :type :ok :f :enqueue :value 2}
+    {:process 0 :type :invoke :f :dequeue}
+    {:process 0 :type :ok :f :dequeue :value 2}";
+
+#[test]
+fn certificates_that_are_found_are_judged(rt: HostRuntime) -> Result<(), Fail> {
+    let alloc = rt.alloc();
+    let history = read_history_text(alloc, AT_ONCE).map_err(|_| Fail::new("a history is refused"))?;
+    let mut certificates = Vec::new(alloc);
+    for (_, answer) in search_all(alloc, &history, 6)? {
+        if let Found::Found(certificate) = answer.found {
+            certificates.push(certificate)?;
+        }
+    }
+    let mut sink = Out::new(Vec::new(alloc));
+    assert!(rt; write_certificates(&certificates, &mut sink).is_ok());
+    let text = sink.into_inner();
+    assert_eq!(rt;
+        text.as_slice(),
+        b"{:object 0, :order [1 0 4]}\n".as_slice()
+    );
+    assert!(rt; matches!(judge(&rt, alloc, AT_ONCE, &text, 1), Verdict::Yes(_)));
+    let mut lines = Out::new(Vec::new(alloc));
+    let (mut first, mut second) = (Bytes::new(AT_ONCE), Bytes::new(&text));
+    let given = check_over(&rt, alloc, &mut first, &mut second, 1, &mut lines);
+    assert!(rt; matches!(given, Ok(Verdict::Yes(_))));
+    assert_eq!(rt;
+        lines.into_inner().as_slice(),
+        b"yes: 3 operations, 1 objects\nqueue: 1 objects, 3 operations\n".as_slice()
+    );
+    let objects = split(alloc, &history)?;
+    assert!(rt; objects.len() == 1 && search(alloc, &objects[0], 6).steps == 6);
+    Ok(())
+}
