@@ -47,14 +47,14 @@ open_no_yes false true e = λ q. absurd cc
 open_no_yes false false e = λ q. absurd cc
 
 pub judged_yes : (h : List ℕ) (limit : ℕ) (made : Result Output Verdict) → IfOk made (λ o. IsOpenText h limit o.status o.text.items) → IfErr made (IsVerdictOnText h) → status_in made ≡ yes_status → IsLinearizableText h
-judged_yes h limit (Ok o) m s e = absurd (open_no_yes _ _ m.2.some_open (sym m.2.status_is ∙ e))
-judged_yes h limit (Err (verdict.Yes counts)) m s e = record { client_events = s.0; history_text = s.1; linearizable = s.2.linearizable }
+judged_yes h limit (Ok o) m s e = absurd (open_no_yes _ _ m.3.some_open (sym m.3.status_is ∙ e))
+judged_yes h limit (Err (verdict.Yes counts)) m s e = record { client_events = s.1; history_text = s.2; linearizable = s.3.linearizable }
 judged_yes h limit (Err (verdict.No r)) m s e = absurd s
 judged_yes h limit (Err (verdict.Malformed f)) m s e = absurd cc
 judged_yes h limit (Err verdict.NoMemory) m s e = absurd cc
 
 pub judged_no : (h : List ℕ) (limit : ℕ) (made : Result Output Verdict) → IfOk made (λ o. IsOpenText h limit o.status o.text.items) → IfErr made (IsVerdictOnText h) → status_in made ≡ no_status → IsNotLinearizableText h
-judged_no h limit (Ok o) m s e = record { client_events = m.0; history_text = m.1; not_linearizable = m.2.refuted e }
+judged_no h limit (Ok o) m s e = record { client_events = m.1; history_text = m.2; not_linearizable = m.3.refuted e }
 judged_no h limit (Err (verdict.Yes counts)) m s e = absurd cc
 judged_no h limit (Err (verdict.No r)) m s e = absurd s
 judged_no h limit (Err (verdict.Malformed f)) m s e = absurd cc

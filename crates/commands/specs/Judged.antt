@@ -1,6 +1,7 @@
 -- What is put out where a history is judged without certificates, and the exit status.
 use Rattle.std.specs.Prelude.{◌≡◌, ◌<◌, ◌↔◌, ℕ, false, ⊤, List, [], ◌∷◌, ◌++◌, map, All, AllPairs, Contains, if◌then◌else◌}
 use Rattle.std.specs.List.{list_all}
+use Rattle.edn.specs.Sound.{IsShort}
 use Rattle.model.specs.Linearizable.{IsLinearizable}
 use Rattle.model.specs.Orders.{events}
 use Rattle.events.specs.declared.event.Event.{Event}
@@ -53,16 +54,16 @@ IsVerdictOn es (verdict.No r) = ⊥
 IsVerdictOn es (verdict.Malformed f) = ⊥
 IsVerdictOn es verdict.NoMemory = ⊤
 
--- The same of the history that a text denotes, or the fault of the text.
+-- The same of the history that a text denotes, which is not too long to be read, or the fault of the text.
 abbrev pub IsVerdictOnText : List ℕ → Verdict → Type 0
-IsVerdictOnText h (verdict.Yes s) = (es : List Event) × DenotesHistory h es × IsCertified es s
+IsVerdictOnText h (verdict.Yes s) = IsShort h × (es : List Event) × DenotesHistory h es × IsCertified es s
 IsVerdictOnText h (verdict.No r) = ⊥
 IsVerdictOnText h (verdict.Malformed f) = IsHistoryFault h (Stopped f)
 IsVerdictOnText h verdict.NoMemory = ⊤
 
--- some object of the history that the text denotes has no certificate
+-- Some object of the history that the text denotes has no certificate. The text is not too long to be read.
 abbrev pub IsOpenText : List ℕ → ℕ → ℕ → List ℕ → Type 0
-IsOpenText h limit status text = (es : List Event) × DenotesHistory h es × AreOpen es limit status text
+IsOpenText h limit status text = IsShort h × (es : List Event) × DenotesHistory h es × AreOpen es limit status text
 
 abbrev pub IsJudgeOutput : List ℕ → ℕ → ℕ → List ℕ → Type 0
 IsJudgeOutput h limit status text = IsOutput (IsOpenText h limit) (IsVerdictOnText h) status text

@@ -1,6 +1,7 @@
 -- What a search puts out, and its exit status.
 use Rattle.std.specs.Prelude.{◌≡◌, ◌<◌, ◌↔◌, ℕ, Bool, true, false, ⊤, List, [], ◌∷◌, ◌++◌, codes, decimal, map, All, AllPairs, Contains, if◌then◌else◌}
 use Rattle.std.specs.List.{list_all, list_any}
+use Rattle.edn.specs.Sound.{IsShort}
 use Rattle.model.specs.Linearizable.{IsLinearizable}
 use Rattle.model.specs.Orders.{events}
 use Rattle.events.specs.declared.event.Event.{Event}
@@ -62,9 +63,9 @@ pub record AreSearched (es : List Event) (limit status : ℕ) (text : List ℕ) 
   pub certified : status ≡ yes_status → (cs : List Certificate) × AreValid es cs × (text ≡ lines_of cs)
   pub refuted : status ≡ no_status → IsLinearizable (kind_at es) (events (denoted es)) → ⊥
 
--- The same of the history that a text denotes.
+-- The same of the history that a text denotes, which is not too long to be read.
 abbrev pub IsSearched : List ℕ → ℕ → ℕ → List ℕ → Type 0
-IsSearched h limit status text = (es : List Event) × DenotesHistory h es × AreSearched es limit status text
+IsSearched h limit status text = IsShort h × (es : List Event) × DenotesHistory h es × AreSearched es limit status text
 
 -- the text could not be read, or memory was refused
 abbrev pub IsUnsearched : List ℕ → Verdict → Type 0

@@ -9,7 +9,7 @@ use Rattle.commands.proofs.Judged.{judged_no, judged_yes}
 use Rattle.commands.proofs.judgement.report_judgement.Goals as goal
 
 pub put_out-requires-clause-other : goal.put_out-requires-clause-other
-put_out-requires-clause-other g c = IfOk-weaker c.judge_text.result _ _ (λ o h. never_failed h.2.answers h.2.status_is) c.judge_text.ensures.notes
+put_out-requires-clause-other g c = IfOk-weaker c.judge_text.result _ _ (λ o h. never_failed h.3.answers h.3.status_is) c.judge_text.ensures.notes
 
 pub returns-clause-written : goal.returns-clause-written
 returns-clause-written g c e = written (IsOpenText c.args.text.now c.args.steps) (IsVerdictOnText c.args.text.now) c.judge_text.result c.judge_text.ensures.notes c.judge_text.ensures.judged (Appends (g.S.Sink.sent c.args.sink.now) (g.S.Sink.sent c.put_out.new.sink)) c.put_out.result (c.put_out.ensures.written e)
