@@ -3,7 +3,7 @@ use Rattle.world.specs.World.{kind_at, StartsWith}
 use Rattle.desk_rule.specs.Views.{seen_of, after_win}
 use Rattle.combiner.proofs.Served.{goes_on, goes_same, goes_room, keeps_learnt}
 use Rattle.combiner.proofs.Waited.{called_at_once}
-use Rattle.combiner.proofs.passes.call_at_once.Goals as goal
+use Rattle.combiner.proofs.passes.try_at_once.Goals as goal
 
 pub returns-then-is_err-clause-not : goal.returns-then-is_err-clause-not
 returns-then-is_err-clause-not g c = let h = c.count_pass-pass.ensures.counted in let o = c.in-Won.ensures.won in let opened = (ap (λ p. p.knows) h ∙ (o.knows ∙ ap (λ p. after_win c.args.object p.log c.args.client.knows) (sym h))) in let on = (ap (λ p. p.object) h ∙ o.object) in let begins = subst (λ p. StartsWith p.log (seen_of c.args.client.knows c.args.object)) (sym h) o.begins in
