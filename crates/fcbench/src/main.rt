@@ -133,13 +133,14 @@ fn run<R: Host + Env>(rt: &R) -> io::Result<u8> {
     }
 }
 
-/// Says after a second that the command is under way, unless it is done before.
+/// Says after a second that the command is under way, unless it is done before. It looks each 5 milliseconds whether it is done, since
+/// the command ends only when this returns: no command takes more than a step longer for being watched.
 fn watch<R: Eprint + Clock>(rt: &R, is_done: &AtomicBool) {
-    for _ in 0..20 {
+    for _ in 0..200 {
         if is_done.load(Ordering::SeqCst) {
             return;
         }
-        sleep(rt, Duration::from_millis(50));
+        sleep(rt, Duration::from_millis(5));
     }
     let _ = rt.eprintln("fcbench: under way");
 }
