@@ -221,7 +221,7 @@ same_certificate (c ∷ cs) d a b i j q = elim i [
   ]
 ]
 
-same_orders : (certificates : List Certificate) → AllPairs (λ a b. a.object ≢ b.object) certificates → (x : ℕ) (a b : HasCertificate certificates x) → a.certificate ≡ b.certificate
+pub same_orders : (certificates : List Certificate) → AllPairs (λ a b. a.object ≢ b.object) certificates → (x : ℕ) (a b : HasCertificate certificates x) → a.certificate ≡ b.certificate
 same_orders certificates d x a b = same_certificate certificates (pairs_from_all (λ a b. a.object ≢ b.object) certificates d) a.certificate b.certificate (in_from_contains certificates a.certificate a.stands) (in_from_contains certificates b.certificate b.stands) (a.for_object ∙ sym b.for_object)
 
 no_refusal : (es : List Event) (certificates : List Certificate) → AllPairs (λ a b. a.object ≢ b.object) certificates → (x : ℕ) → IsFineAt es certificates x → (r : Refusal) → IsRefusalAt es certificates x r → ⊥

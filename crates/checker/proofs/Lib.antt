@@ -5,6 +5,7 @@ pub mod Steps
 pub mod Finding
 pub mod Objects
 pub mod Certificates
+pub mod OneRefusal
 pub mod Marks
 pub mod Ending
 pub mod Collected

@@ -1,5 +1,6 @@
 -- Why orders are refused: that of one object, and a list of certificates.
-use Rattle.std.specs.Prelude.{◌≡◌, ℕ, ℤ, ◌<◌, ⊤, List, All, Contains}
+use Rattle.std.specs.Prelude.{◌≡◌, ℕ, ℤ, ◌<◌, ⊤, List, All, Contains, OnOk, IfErr}
+use Rattle.std.specs.declared.result.Result.{Result}
 use Rattle.model.specs.declared.Kind.{Kind}
 use Rattle.model.specs.Orders.{Call, IsValidOrder, calls_on}
 use Rattle.events.specs.declared.event.Event.{Event}
@@ -58,3 +59,10 @@ abbrev pub IsFirstRefusal : List Event → List Certificate → Refusal → Type
 IsFirstRefusal es certificates (StrangeObject x) = IsLeastStrange es certificates x
 IsFirstRefusal es certificates NoMemory = ⊤
 IsFirstRefusal es certificates r = IsLeastRefusal es certificates r
+
+-- What a check of all certificates answers: Ok exactly where they are valid, and else the first refusal. Want of memory
+-- says nothing.
+pub record IsCheckAnswer (es : List Event) (certificates : List Certificate) (answer : Result Unit Refusal) : Type 0 where
+  pub valid : OnOk answer (AreValid es certificates)
+  pub refused : IfErr answer (IsFirstRefusal es certificates)
+  pub exact : AreValid es certificates → IfErr answer (λ e. e ≡ NoMemory)

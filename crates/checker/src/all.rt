@@ -3,7 +3,7 @@
 ghost use Rattle.std.specs.Prelude.{◌≡◌, OnOk, IfOk, IfErr, IfSome, IfNone, map};
 ghost use Rattle.events.specs.Operations.{calls_of};
 ghost use Rattle.certificate.specs.Denotes.{AreDistinct};
-ghost use Rattle.checker.specs.Refusals.{AreValid, IsFirstRefusal};
+ghost use Rattle.checker.specs.Refusals.{AreValid, IsCheckAnswer, IsFirstRefusal};
 ghost use Rattle.checker.specs.Checking.{AreAllPlaces, IsFine, IsRefused, AreForThese, IsLeastBesides};
 
 use crate::object::check_object;
@@ -79,6 +79,8 @@ pub fn check_all(
     // Certificates that are refused, but for want of memory, are not valid.
     ensures exact { AreValid history.now certificates.now →
         IfErr result (λ e. e ≡ Refusal.NoMemory) }
+    // There is one such answer, as `one_first_refusal` says.
+    ensures answer { IsCheckAnswer history.now certificates.now result }
 {
     let Ok(objects) = split(alloc, history) else {
         return Err(Refusal::NoMemory);

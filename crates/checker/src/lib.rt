@@ -2,12 +2,14 @@
 #![tactic(auto)]
 
 mod all;
+mod laws;
 mod object;
 mod place;
 mod refusal;
 mod walk;
 
 pub use all::{check_all, check_piece, places, strange_object};
+pub use laws::{one_first_fault, one_first_refusal};
 pub use object::check_object;
 pub use refusal::{OrderFault, Refusal};
 pub use walk::check_order;

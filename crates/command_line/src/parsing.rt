@@ -29,8 +29,17 @@ const DEFAULT_STEPS: u64 = 1_000_000;
 const MAX_STEPS: u64 = 1_000_000_000;
 
 /// Said of a search that lacks a value. Of its file and its steps clap never lets it come to this.
-const NO_SEARCH: &str =
-    "error: a search has no file, no number of steps, or no order of trying (number or return)\n";
+const NO_SEARCH: &str = "error: a search has no file, or no number of steps\n";
+
+/// Said where `--first` has another word.
+const NO_FIRST: &str = "error: --first takes one of the words number, return\n";
+
+/// Said where `--kind` has another word.
+const NO_KIND: &str =
+    "error: --kind takes one of the words queue, stack, heap, register, map, mutex, mixed\n";
+
+/// Said of a run that has a number outside its bounds. clap never lets it come to this.
+const NO_RUN: &str = "error: a run has a number outside its bounds\n";
 
 /// Said of a judgement that lacks a value. Of its file and its steps clap never lets it come to this.
 const NO_JUDGEMENT: &str =
@@ -359,7 +368,7 @@ fn search_found(alloc: Global, matches: &ArgMatches<'_>) -> Result<Line, LineFau
 {
     let (history, steps) = history_and_steps(alloc, matches, NO_SEARCH)?;
     let Some(first) = first_in(matches) else {
-        return Err(refusal(alloc, NO_SEARCH));
+        return Err(refusal(alloc, NO_FIRST));
     };
     Ok(Line::Search {
         history,
@@ -411,6 +420,14 @@ fn options_in(matches: &ArgMatches<'_>) -> Option<RunOptions>
     })
 }
 
+/// Why there is no run: its kind has no such word, or a number is outside its bounds.
+fn why_no_run(matches: &ArgMatches<'_>) -> &'static str {
+    match kinds_in(matches) {
+        Some(_) => NO_RUN,
+        None => NO_KIND,
+    }
+}
+
 /// The run whose matches these are. Of its numbers clap lets none come here that is outside its bounds.
 fn run_found(alloc: Global, matches: &ArgMatches<'_>) -> Result<Line, LineFault>
     ensures found { IfOk result (spec.FindsRun (rows_of (found_of matches.now))) }
@@ -419,10 +436,7 @@ fn run_found(alloc: Global, matches: &ArgMatches<'_>) -> Result<Line, LineFault>
 {
     match options_in(matches) {
         Some(options) => Ok(Line::Run(options)),
-        None => Err(refusal(
-            alloc,
-            "error: a run has no such kind (queue, stack, heap, register, map, mutex or mixed), or a number outside its bounds\n",
-        )),
+        None => Err(refusal(alloc, why_no_run(matches))),
     }
 }
 

@@ -2,7 +2,7 @@
 
 ghost use Rattle.std.specs.Prelude.{◌≡◌, ◌<◌, OnOk, IfErr, AllPairs};
 ghost use Rattle.certificate.specs.Denotes.{AreDistinct};
-ghost use Rattle.checker.specs.Refusals.{AreValid, IsFirstRefusal};
+ghost use Rattle.checker.specs.Refusals.{AreValid, IsCheckAnswer, IsFirstRefusal};
 ghost use Rattle.checker.specs.Checking.{AreAllPlaces};
 ghost use Rattle.parallel.specs.Shares.{IsShare};
 
@@ -39,6 +39,8 @@ pub fn check_parallel<R: Threads + Sync, G: Gate>(
     // Certificates that are refused, but for want of memory, are not valid.
     ensures exact { AreValid history.now certificates.now →
         IfErr result (λ e. e ≡ Refusal.NoMemory) }
+    // There is one such answer, as `one_first_refusal` of `checker` says: that of `check_all`.
+    ensures answer { IsCheckAnswer history.now certificates.now result }
 {
     let Ok(objects) = split_by_workers(rt, alloc, history, workers) else {
         return Err(Refusal::NoMemory);

@@ -236,6 +236,27 @@ fn refused_options(rt: HostRuntime) -> Result<(), Fail> {
     Ok(())
 }
 
+/// A word that is not one of an option's is refused with the option's name and its words.
+#[test]
+fn refused_words_of_options(rt: HostRuntime) -> Result<(), Fail> {
+    for (words, text) in [
+        (
+            &["fcbench", "run", "--kind", "tree"][..],
+            "error: --kind takes one of the words queue, stack, heap, register, map, mutex, mixed\n",
+        ),
+        (
+            &["fcbench", "search", "h.edn", "--first", "value"],
+            "error: --first takes one of the words number, return\n",
+        ),
+    ] {
+        match line(rt.alloc(), words) {
+            Err(LineFault::Refused(said)) => assert!(rt; said.as_str() == text),
+            _ => return Err(Fail::new("the words are not refused")),
+        }
+    }
+    Ok(())
+}
+
 #[test]
 fn words_of_a_finding(rt: HostRuntime) -> Result<(), Fail> {
     for (words, name) in [

@@ -1,3 +1,4 @@
 pub mod LinesLeft
 pub mod Uses
 pub mod Named
+pub mod KindsCounted

@@ -3,6 +3,7 @@
 ghost use Rattle.std.specs.Prelude.{◌≡◌, ◌≢◌, ◌==◌, ◌+◌, ◌++◌, ◌↔◌, ℕ, AllPairs, Contains, if◌then◌else◌, true, false, IfOk, OnOk, length, map, reverse};
 ghost use Rattle.std.specs.Prelude.{List, [], ◌∷◌, ◌≤◌, is_some, unwrap_or};
 ghost use Rattle.std.specs.List.{list_any};
+ghost use Rattle.indexmap.specs.IndexMap.{keys, values};
 ghost use Rattle.numbers.specs.Lookup.{value_of};
 ghost use Rattle.events.specs.Events as spec;
 ghost use Rattle.events.specs.Events.{IsNamed};
@@ -12,6 +13,7 @@ ghost use Rattle.report.specs.declared.counting.Invoked.{Invoked};
 
 use crate::verdict::{KindCount, Summary};
 use events::{Action, Event, History};
+use indexmap::IndexMap;
 use numbers::NumberMap;
 use seq_objects::{AnyObject, Kind, SeqObject};
 use std::alloc::{AllocError, Global};
@@ -100,34 +102,6 @@ fn invoked_in(alloc: Global, events: &[Event]) -> Result<Vec<Invoked>, AllocErro
     Ok(all)
 }
 
-fn is_among(kinds: &[Kind], kind: Kind) -> bool
-    ensures { result ≡ list_any (same_kind kind) kinds.now }
-{
-    kinds.iter().any(|known| is_same_kind(kind, *known))
-}
-
-/// Puts in a kind, where it is new.
-fn note_kind(kinds: &mut Vec<Kind>, kind: Kind) -> Result<(), AllocError>
-    ensures { OnOk result (kinds.new.items ≡ with_new same_kind kinds.old.items kind) }
-{
-    if is_among(kinds, kind) {
-        return Ok(());
-    }
-    kinds.push(kind)?;
-    Ok(())
-}
-
-/// The kinds in the order of their first invocations.
-fn kinds_of(alloc: Global, all: &[Invoked]) -> Result<Vec<Kind>, AllocError>
-    ensures { IfOk result (λ v. v.items ≡ first_seen same_kind (map (λ i. i.kind) all.now)) }
-{
-    let mut kinds = Vec::new(alloc);
-    for invoked in all {
-        note_kind(&mut kinds, invoked.kind)?;
-    }
-    Ok(kinds)
-}
-
 fn count_operations(kind: Option<Kind>, all: &[Invoked]) -> usize
     ensures { result ≡ operation_count kind all.now }
 {
@@ -180,19 +154,59 @@ fn count_objects(alloc: Global, kind: Option<Kind>, all: &[Invoked]) -> Result<u
     Ok(count)
 }
 
-/// The counts of each of the kinds.
-fn count_kinds(alloc: Global, kinds: &[Kind], all: &[Invoked]) -> Result<Vec<KindCount>, AllocError>
-    ensures { IfOk result (λ v. v.items ≡ map (count_in all.now) kinds.now) }
+/// The counts of one kind.
+fn count_kind(alloc: Global, kind: Kind, all: &[Invoked]) -> Result<KindCount, AllocError>
+    ensures { IfOk result (λ c. c ≡ count_in all.now kind) }
 {
-    let mut counts = Vec::new(alloc);
-    for kind in kinds {
-        counts.push(KindCount {
-            kind: *kind,
-            objects: count_objects(alloc, Some(*kind), all)?,
-            operations: count_operations(Some(*kind), all),
-        })?;
+    Ok(KindCount {
+        kind,
+        objects: count_objects(alloc, Some(kind), all)?,
+        operations: count_operations(Some(kind), all),
+    })
+}
+
+/// Whether a kind has its counts. There are at most six, so they are compared one by one, and not by hash.
+fn is_among(counts: &IndexMap<Kind, KindCount>, kind: Kind) -> bool
+    ensures { result ≡ list_any (same_kind kind) (keys counts.now) }
+{
+    counts.keys().any(|known| is_same_kind(kind, *known))
+}
+
+/// Puts in the counts of a kind, where it is new.
+fn note_kind(
+    alloc: Global,
+    counts: &mut IndexMap<Kind, KindCount>,
+    kind: Kind,
+    all: &[Invoked],
+) -> Result<(), AllocError>
+    ensures kinds { OnOk result (keys counts.new ≡ with_new same_kind (keys counts.old) kind) }
+    ensures counted { values counts.old ≡ map (count_in all.now) (keys counts.old)
+        → OnOk result (values counts.new ≡ map (count_in all.now) (keys counts.new)) }
+{
+    if is_among(counts, kind) {
+        return Ok(());
+    }
+    counts.insert(kind, count_kind(alloc, kind, all)?)?;
+    Ok(())
+}
+
+/// The counts of each kind, in the order of their first invocations.
+fn count_kinds(alloc: Global, all: &[Invoked]) -> Result<IndexMap<Kind, KindCount>, AllocError>
+    ensures { IfOk result (λ m. values m
+        ≡ map (count_in all.now) (first_seen same_kind (map (λ i. i.kind) all.now))) }
+{
+    let mut counts = IndexMap::new(alloc);
+    for invoked in all {
+        note_kind(alloc, &mut counts, invoked.kind, all)?;
     }
     Ok(counts)
+}
+
+/// The counts in a list, in their order.
+fn list_of(alloc: Global, counts: IndexMap<Kind, KindCount>) -> Result<Vec<KindCount>, AllocError>
+    ensures { IfOk result (λ v. v.items ≡ values counts) }
+{
+    counts.into_values().collect(alloc)
 }
 
 /// What a list of events has.
@@ -203,11 +217,11 @@ pub(crate) fn summary_of(alloc: Global, events: &[Event]) -> Result<Summary, All
         ≡ map (count_of events.now) (kinds_in (uses events.now))) }
 {
     let all = invoked_in(alloc, events)?;
-    let kinds = kinds_of(alloc, &all)?;
+    let counts = count_kinds(alloc, &all)?;
     Ok(Summary {
         operations: count_operations(None, &all),
         objects: count_objects(alloc, None, &all)?,
-        kinds: count_kinds(alloc, kinds.as_slice(), &all)?,
+        kinds: list_of(alloc, counts)?,
     })
 }
 

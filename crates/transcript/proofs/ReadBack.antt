@@ -20,7 +20,7 @@ use Rattle.events.specs.declared.event.Action.TheVariants.{Invoke, Ok, Fail, Inf
 use Rattle.events.specs.declared.event.Event.{Event}
 use Rattle.fields.specs.Fields.{max_object}
 use Rattle.history.specs.declared.fault.HistoryFaultKind.{HistoryFaultKind}
-use Rattle.history.specs.declared.fault.HistoryFaultKind.TheVariants.{NotAnOperation, UnknownFunction, BadValue, MixedKinds, Busy, Stray, Mismatch, AfterInfo, TooMany, NoMemory}
+use Rattle.history.specs.declared.fault.HistoryFaultKind.TheVariants.{NotAnOperation, UnknownF, BadValue, MixedKinds, Busy, Stray, Mismatch, AfterInfo, TooMany, NoMemory}
 use Rattle.history.specs.Maps.{ClientMap, MapType, invoke, ok, fail, info, client_of, clients, op_in, reply_in}
 use Rattle.history.specs.Faults.{last_map, HasBadValue, ClientFault, IsFaultless, IsOutstanding, IsClosed}
 use Rattle.history.specs.Denotes.{action_of, event_with, event_of, events_from}
@@ -165,7 +165,7 @@ module _ (kinds : List Kind) (before : List Line) (l : Line) (fine : IsFine kind
 
   no_fault : (kind : HistoryFaultKind) → ClientFault (map map_of before) (map_of l) kind → ⊥
   no_fault NotAnOperation h = h
-  no_fault UnknownFunction h = absurd (cc (h))
+  no_fault UnknownF h = absurd (cc (h))
   no_fault BadValue h = no_bad (map_of l) l.event.action (action_is l (last_line l.event.process before) fine.follows) h
   no_fault MixedKinds h =
       let k = in_map map_of h.other before (in_from_contains (map map_of before) h.other h.stands) in
@@ -311,7 +311,7 @@ module _ (kinds : List Kind) (quota : ℕ) (journals : ℕ → List AnyEvent) (l
     where
       go : (kind : HistoryFaultKind) → {before : List Line} {l : Line} → FaultOf earlier (map_of l) kind → clients earlier ≡ map map_of before → length earlier < 1000000 → IsFine kinds before l → ⊥
       go NotAnOperation h maps short fine = h
-      go UnknownFunction {before} {l} h maps short fine = absurd (cc (h))
+      go UnknownF {before} {l} h maps short fine = absurd (cc (h))
       go TooMany h maps short fine = absurd (omega arith)
       go kind {before} {l} h maps short fine = no_fault kinds before l fine kind (subst (λ (ms : List ClientMap). ClientFault ms (map_of l) kind) maps h)
 

@@ -66,3 +66,15 @@ returns-clause-valid c =
     let certificates = c.args.certificates.now in
     let d = (goal.at.returns-clause-valid c).After-strange_object in
     all_valid c.args.history.now certificates c.deref-object-items.result.now c.loop-object.invariant.objects (checked d) (subst (λ os. AreForThese (map (λ (o : ObjectCalls). o.object) os) certificates) (same_objects d) c.in-None.ensures.none)
+
+pub returns-in_err-check_piece-clause-answer : goal.returns-in_err-check_piece-clause-answer
+returns-in_err-check_piece-clause-answer c =
+    let p = err_from_is_err_and c.from_residual.result c.from_residual.ensures.1 in
+    let f = first (goal.at.returns-in_err-check_piece-clause-answer c).In_err-check_piece in
+    rw (p.1, p.2) (record { valid = tt; refused = f.0; exact = f.1 })
+
+pub returns-in-Some-clause-answer : goal.returns-in-Some-clause-answer
+returns-in-Some-clause-answer c = record { valid = tt; refused = returns-in-Some-clause-refused c; exact = returns-in-Some-clause-exact c }
+
+pub returns-clause-answer : goal.returns-clause-answer
+returns-clause-answer c = record { valid = returns-clause-valid c; refused = tt; exact = λ valid. tt }

@@ -41,3 +41,12 @@ returns-clause-valid g c =
     let d = (goal.at.returns-clause-valid g c).After-least in
     let fine = all_are_fine _ _ _ _ _ (objects g d) (shares g d) c.in_default-least.ensures.none in
     all_valid _ _ _ (objects g d) fine c.in-None.ensures.none
+
+pub returns-in-Some-clause-answer : goal.returns-in-Some-clause-answer
+returns-in-Some-clause-answer g c = record { valid = tt; refused = returns-in-Some-clause-refused g c; exact = returns-in-Some-clause-exact g c }
+
+pub returns-in-Some-strange_object-clause-answer : goal.returns-in-Some-strange_object-clause-answer
+returns-in-Some-strange_object-clause-answer g c = record { valid = tt; refused = returns-in-Some-strange_object-clause-refused g c; exact = returns-in-Some-strange_object-clause-exact g c }
+
+pub returns-clause-answer : goal.returns-clause-answer
+returns-clause-answer g c = record { valid = returns-clause-valid g c; refused = tt; exact = λ valid. tt }

@@ -18,7 +18,5 @@ returns-clause-objects c =
 pub returns-clause-kinds : goal.returns-clause-kinds
 returns-clause-kinds c =
     let es = c.args.events.now in
-    let seen = c.deref.ensures.value ∙ c.in_ok-all.ensures in
-    let all = c.deref-4.ensures.value ∙ c.in_ok-all.ensures in
-    let kinds = c.as_slice.ensures.value ∙ c.in_ok-kinds.ensures ∙ ap (λ (xs : List Invoked). first_seen same_kind (map (λ (i : Invoked). i.kind) xs)) seen in
-    c.in_ok-count_kinds.ensures ∙ ap (map (count_in c.deref-4.result.now)) kinds ∙ ap (λ (xs : List Invoked). map (count_in xs) (first_seen same_kind (map (λ (i : Invoked). i.kind) (invoked es)))) all ∙ counts_are es
+    let all = c.deref.ensures.value ∙ c.in_ok-all.ensures in
+    c.in_ok-list_of.ensures ∙ c.in_ok-counts.ensures ∙ ap (λ (xs : List Invoked). map (count_in xs) (first_seen same_kind (map (λ (i : Invoked). i.kind) xs))) all ∙ counts_are es
