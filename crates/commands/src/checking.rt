@@ -8,6 +8,7 @@ ghost use Rattle.judging.specs.Verdicts.{Holds};
 ghost use Rattle.report.specs.Lines.{verdict_text};
 ghost use Rattle.report.specs.declared.verdict.Verdict.{Verdict};
 ghost use Rattle.sources.specs.Checks.{IsCutOff, IsJudged};
+ghost use Rattle.sources.specs.Reads.{WasRefused};
 ghost use Rattle.sources.specs.declared.check.Text.TheVariants as unread;
 ghost use Rattle.commands.specs.Statuses as spec;
 ghost use Rattle.commands.specs.Statuses.{failed_status, no_memory_status};
@@ -53,6 +54,11 @@ pub fn check_sources<R: Threads + Sync, H: Source, C: Source, S: Sink>(
         (H.broken history.new ≡ true) × (certificates.new ≡ certificates.old)) }
     ensures unread_certificates { IfErr result (λ text. text ≡ unread.Certificates →
         (H.broken history.new ≡ false) × (C.broken certificates.new ≡ true)) }
+    // It is named only where its source refused a call.
+    ensures history_refused { IfErr result (λ text. text ≡ unread.History →
+        WasRefused H.remaining H.refuses history.old history.new) }
+    ensures certificates_refused { IfErr result (λ text. text ≡ unread.Certificates →
+        WasRefused C.remaining C.refuses certificates.old certificates.new) }
     ensures nothing_written { IfErr result (λ _. sink.new ≡ sink.old) }
 {
     match check_over(rt, alloc, history, certificates, workers, sink) {

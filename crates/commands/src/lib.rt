@@ -16,5 +16,5 @@ mod texts;
 pub use checking::check_sources;
 pub use command_line::{Line, LineFault, RunOptions, line};
 pub use program::perform;
-pub use sources::{NamedFile, Text};
+pub use sources::{In, NamedFile, READ_LIMIT, Text};
 pub use statuses::{FAILED, NO_MEMORY, USAGE, status_of_fault};

@@ -35,5 +35,5 @@ pub use limits::fits;
 pub use piece::Piece;
 pub use reader::{MAX_LENGTH, read_forms};
 pub use sink::{Device, Failed, Out, Sink};
-pub use source::{In, Source};
+pub use source::{In, Source, Supply};
 pub use writer::{WriteFault, write_bytes, write_form, write_integer};

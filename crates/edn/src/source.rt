@@ -1,10 +1,11 @@
 //! Where text comes from.
-ghost use Rattle.std.specs.Prelude.{◌≡◌, ◌≤◌, ℕ, List, Bool, true, false, length, take, Option, IfOk, OnOk, OnErr};
+ghost use Rattle.std.specs.Prelude.{◌≡◌, ◌≤◌, ℕ, List, Bool, true, false, length, take, ⊤, Option, Result, IfOk, OnOk, OnErr};
 ghost use Rattle.std.specs.Io.KnownBytes.{Keeps};
+ghost use Rattle.std.specs.declared.io.ErrorKind.{ErrorKind};
 ghost use Rattle.edn.specs.Given.{GivesBytes};
 
 use crate::sink::Failed;
-use std::io::Read;
+use std::io::{ErrorKind, Read};
 
 /// A device that gives bytes in pieces, until it ends or fails. Each call asks that it has not failed.
 pub trait Source {
@@ -12,6 +13,8 @@ pub trait Source {
     ghost remaining: { Self → Option (List ℕ) };
     /// Whether it failed.
     ghost broken: { Self → Bool };
+    /// What it means that a call for a buffer of this length fails, with what it leaves.
+    ghost refuses: { Self → ℕ → Self → Type 0 };
 
     /// Puts bytes at the beginning of the buffer, and says how many they are. None for a buffer that is not empty is the
     /// end.
@@ -22,59 +25,98 @@ pub trait Source {
         ensures usable { OnOk result (broken self.new ≡ false) }
         ensures failed { OnErr result (broken self.new ≡ true) }
         // A call that fails gives nothing.
-        ensures keeps { OnErr result (Keeps (remaining self.old) (remaining self.new)) };
+        ensures keeps { OnErr result (Keeps (remaining self.old) (remaining self.new)) }
+        ensures refused { OnErr result (refuses self.old (length buf.old) self.new) };
 
     fn has_failed(&self) -> bool
         ensures { result ≡ broken self.now };
 }
 
-/// A source over a reader. An error of a read is a failure, and is not tried again.
-#[derive(Drop)]
-pub struct In<R: Read + Drop> {
-    reader: R,
-    failed: bool,
+/// What gives bytes: each call gives some, or none, or fails. Each reader is one.
+pub trait Supply {
+    /// The bytes that will be given from here on, where they are known.
+    ghost contents: { Self → Option (List ℕ) };
+    /// What a call for a buffer of this length may answer, and what it leaves.
+    ghost answers: { Self → ℕ → Result ℕ ErrorKind → Self → Type 0 };
+
+    /// How many bytes it put at the beginning of the buffer, or with which kind of error it failed.
+    fn give(&mut self, buf: &mut [u8]) -> Result<usize, ErrorKind>
+        ensures answered { answers self.old (length buf.old) result self.new }
+        ensures within { IfOk result (λ n. n ≤ length buf.new) }
+        ensures given { IfOk result (GivesBytes (contents self.old) (contents self.new) buf.new) }
+        ensures keeps { OnErr result (Keeps (contents self.old) (contents self.new)) };
 }
 
-impl<R: Read + Drop> In<R> {
-    ghost use Rattle.edn.specs.Ins.{has_failed_in, reader_of};
+impl<R: Read> Supply for R {
+    ghost contents = { λ r. R.remaining r };
 
-    pub fn new(reader: R) -> In<R>
+    // Of a reader nothing else is known.
+    ghost answers = { λ _ _ _ _. ⊤ };
+
+    fn give(&mut self, buf: &mut [u8]) -> Result<usize, ErrorKind> {
+        match self.read(buf) {
+            Ok(n) => Ok(n),
+            Err(error) => Err(error.kind()),
+        }
+    }
+}
+
+/// A source over a supply. A call that fails is a failure, and is not tried again.
+#[derive(Drop)]
+pub struct In<D: Supply + Drop> {
+    supply: D,
+    failure: Option<ErrorKind>,
+}
+
+impl<D: Supply + Drop> In<D> {
+    ghost use Rattle.edn.specs.Ins.{has_failed_in, failure_in, is_want_of_memory, supply_of};
+
+    pub fn new(supply: D) -> In<D>
         ensures usable { has_failed_in result ≡ false }
-        ensures over { reader_of result ≡ reader }
+        ensures over { supply_of result ≡ supply }
     {
         In {
-            reader,
-            failed: false,
+            supply,
+            failure: None,
         }
     }
 
-    /// Gives the reader back.
-    pub fn into_inner(self) -> R
-        ensures { result ≡ reader_of self }
+    /// Whether it failed since memory was refused.
+    pub fn lacks_memory(&self) -> bool
+        ensures { result ≡ is_want_of_memory (failure_in self.now) }
     {
-        let In { reader, failed: _ } = self;
-        reader
+        matches!(self.failure, Some(ErrorKind::OutOfMemory))
+    }
+
+    /// Gives the supply back.
+    pub fn into_inner(self) -> D
+        ensures { result ≡ supply_of self }
+    {
+        let In { supply, failure: _ } = self;
+        supply
     }
 }
 
-impl<R: Read + Drop> Source for In<R> {
-    ghost use Rattle.edn.specs.Ins.{has_failed_in, reader_of};
+impl<D: Supply + Drop> Source for In<D> {
+    ghost use Rattle.edn.specs.Ins.{has_failed_in, supply_of, IsFailedRead};
 
-    ghost remaining = { λ s. R.remaining (reader_of s) };
+    ghost remaining = { λ s. D.contents (supply_of s) };
 
     ghost broken = { λ s. has_failed_in s };
 
+    ghost refuses = { λ s n t. IsFailedRead D.answers s n t };
+
     fn get(&mut self, buf: &mut [u8]) -> Result<usize, Failed> {
-        match self.reader.read(buf) {
-            Ok(n) => Ok(n),
-            Err(_) => {
-                self.failed = true;
+        match self.supply.give(buf) {
+            Ok(given) => Ok(given),
+            Err(kind) => {
+                self.failure = Some(kind);
                 Err(Failed)
             }
         }
     }
 
     fn has_failed(&self) -> bool {
-        self.failed
+        self.failure.is_some()
     }
 }

@@ -2,10 +2,10 @@
 #![tactic(auto)]
 
 use commands::{
-    FAILED, Line, LineFault, NO_MEMORY, NamedFile, Text, USAGE, check_sources, line, perform,
-    status_of_fault,
+    FAILED, In, Line, LineFault, NO_MEMORY, NamedFile, READ_LIMIT, Text, USAGE, check_sources,
+    line, perform, status_of_fault,
 };
-use edn::{MAX_LENGTH, Out};
+use edn::Out;
 use std::fs::OpenFile;
 use std::io;
 use std::io::{IsTerminal, Read};
@@ -21,19 +21,16 @@ trait Host: Files + AllocGlobal + Print + Eprint + Clock + Threads + Wait + Sync
 
 impl<R: Files + AllocGlobal + Print + Eprint + Clock + Threads + Wait + Sync> Host for R {}
 
-/// One byte more than the longest text that is judged.
-const READ_LIMIT: u64 = MAX_LENGTH as u64 + 1;
-
 /// The bytes of a file, to its end or to the limit.
 fn bytes_of<R: Files + Alloc>(rt: &R, name: &str) -> io::Result<Vec<u8, R::A>> {
     let file = std::fs::open(rt, name)?;
     let mut bytes = Vec::new(rt.alloc());
     // Room for the whole file at once. Where that is refused, or the length is not known, it grows as it is read.
     if let Ok(about) = file.metadata() {
-        let length = about.len().min(READ_LIMIT) as usize;
+        let length = about.len().min(READ_LIMIT as u64) as usize;
         let _ = bytes.reserve(length);
     }
-    file.take(READ_LIMIT).read_to_end(&mut bytes)?;
+    file.take(READ_LIMIT as u64).read_to_end(&mut bytes)?;
     Ok(bytes)
 }
 
@@ -60,8 +57,8 @@ fn do_line<R: Host>(rt: &R, line: &Line, first: &[u8], second: &[u8]) -> u8 {
 
 /// Judges the files of a check.
 fn run_check<R: Host>(rt: &R, history: &str, certs: &str, workers: u32) -> io::Result<u8> {
-    let mut first = NamedFile::new(rt, history);
-    let mut second = NamedFile::new(rt, certs);
+    let mut first = In::new(NamedFile::new(rt, history));
+    let mut second = In::new(NamedFile::new(rt, certs));
     let mut output = Out::new(io::writer(rt));
     match check_sources(
         rt,

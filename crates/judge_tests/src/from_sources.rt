@@ -1,8 +1,10 @@
-ghost use Rattle.std.specs.Prelude.{◌≡◌, None, false};
+ghost use Rattle.std.specs.Prelude.{◌≡◌, ⊤, None, false};
 
 use edn::{Failed, MAX_LENGTH, Out};
 use report::Verdict;
 use sources::{Bytes, In, NamedFile, Source, Text, ToolFault, check_over, read_text};
+use std::io;
+use std::io::{ErrorKind, Read};
 use std::test::Fail;
 
 /// One process enqueues 1 and dequeues it.
@@ -42,6 +44,8 @@ impl Source for Pieces {
     ghost remaining = { λ _. None };
 
     ghost broken = { λ s. s.failed };
+
+    ghost refuses = { λ _ _ _. ⊤ };
 
     fn get(&mut self, buf: &mut [u8]) -> Result<usize, Failed> {
         self.asked = self.asked.wrapping_add(1);
@@ -112,8 +116,8 @@ fn bytes_are_sources(rt: HostRuntime) -> Result<(), Fail> {
 #[test]
 fn files_that_are_not_there(rt: HostRuntime) -> Result<(), Fail> {
     let mut sink = Out::new(Vec::new(rt.alloc()));
-    let mut history = NamedFile::new(&rt, "no such folder/history.edn");
-    let mut order = NamedFile::new(&rt, "no such folder/certificates.edn");
+    let mut history = In::new(NamedFile::new(&rt, "no such folder/history.edn"));
+    let mut order = In::new(NamedFile::new(&rt, "no such folder/certificates.edn"));
     let given = check_over(&rt, rt.alloc(), &mut history, &mut order, 1, &mut sink);
     assert_eq!(rt; given.err(), Some(ToolFault::Read(Text::History)));
     assert!(rt; history.has_failed() && !history.lacks_memory());
@@ -122,6 +126,52 @@ fn files_that_are_not_there(rt: HostRuntime) -> Result<(), Fail> {
     let given = check_over(&rt, rt.alloc(), &mut history, &mut order, 1, &mut sink);
     assert_eq!(rt; given.err(), Some(ToolFault::Read(Text::Certificates)));
     assert!(rt; order.has_failed() && !order.lacks_memory());
+    assert!(rt; sink.into_inner().is_empty());
+    Ok(())
+}
+
+/// A reader that gives the text in pieces of nine bytes, and then fails.
+#[derive(Drop)]
+struct Broken {
+    text: &'static [u8],
+    kind: ErrorKind,
+}
+
+impl Read for Broken {
+    fn read(&mut self, buf: &mut [u8]) -> io::Result<usize> {
+        let given = 9.min(self.text.len()).min(buf.len());
+        if given == 0 {
+            return Err(io::Error::from(self.kind));
+        }
+        let (piece, rest) = self.text.split_at(given);
+        buf[..given].copy_from_slice(piece);
+        self.text = rest;
+        Ok(given)
+    }
+}
+
+/// The text whose reader fails in mid-stream is named, nothing is written, and the kind of the error is kept.
+#[test]
+fn readers_that_fail_in_mid_stream(rt: HostRuntime) -> Result<(), Fail> {
+    let mut sink = Out::new(Vec::new(rt.alloc()));
+    let (text, _) = HISTORY.split_at(HISTORY.len() / 2);
+    let mut history = In::new(Broken {
+        text,
+        kind: ErrorKind::ConnectionReset,
+    });
+    let mut order = In::new(ORDER);
+    let given = check_over(&rt, rt.alloc(), &mut history, &mut order, 1, &mut sink);
+    assert!(rt; given.err() == Some(ToolFault::Read(Text::History)));
+    assert!(rt; history.has_failed() && !history.lacks_memory() && !order.has_failed());
+    let (text, _) = ORDER.split_at(ORDER.len() / 2);
+    let mut history = In::new(HISTORY);
+    let mut order = In::new(Broken {
+        text,
+        kind: ErrorKind::OutOfMemory,
+    });
+    let given = check_over(&rt, rt.alloc(), &mut history, &mut order, 1, &mut sink);
+    assert!(rt; given.err() == Some(ToolFault::Read(Text::Certificates)));
+    assert!(rt; order.has_failed() && order.lacks_memory() && !history.has_failed());
     assert!(rt; sink.into_inner().is_empty());
     Ok(())
 }
@@ -183,6 +233,8 @@ impl Source for Endless {
     ghost remaining = { λ _. None };
 
     ghost broken = { λ _. false };
+
+    ghost refuses = { λ _ _ _. ⊥ };
 
     fn get(&mut self, buf: &mut [u8]) -> Result<usize, Failed> {
         Ok(buf.len())

@@ -26,6 +26,9 @@ impl<'a> Source for Bytes<'a> {
 
     ghost broken = { λ _. false };
 
+    // It refuses no call.
+    ghost refuses = { λ _ _ _. ⊥ };
+
     fn get(&mut self, buf: &mut [u8]) -> Result<usize, Failed> {
         let given = buf.len().min(self.rest.len());
         let (piece, rest) = self.rest.split_at(given);

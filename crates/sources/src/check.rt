@@ -7,6 +7,7 @@ ghost use Rattle.judging.specs.Verdicts.{Holds};
 ghost use Rattle.report.specs.Lines.{verdict_text};
 ghost use Rattle.report.specs.declared.verdict.Verdict.{Verdict as ReportVerdict};
 ghost use Rattle.sources.specs.Checks.{IsJudged, IsCutOff};
+ghost use Rattle.sources.specs.Reads.{WasRefused};
 
 use crate::bytes::Bytes;
 use crate::reading::{ReadFault, read_text};
@@ -15,6 +16,7 @@ use judging::judge;
 use report::{Verdict, write_verdict};
 use std::alloc::Global;
 use std::thread::Threads;
+use thiserror::Error;
 
 /// One of the two texts.
 #[derive(Clone, Copy, Debug, PartialEq, Eq)]
@@ -24,13 +26,16 @@ pub enum Text {
 }
 
 /// Why there is no verdict, or not all of its lines.
-#[derive(Clone, Copy, Debug, PartialEq, Eq)]
+#[derive(Clone, Copy, Debug, PartialEq, Eq, Drop, Error)]
 pub enum ToolFault {
     /// X1: the text's source failed. Nothing was written.
+    #[error("a text could not be read")]
     Read(Text),
     /// X2: the sink failed. A beginning of the verdict's lines was written.
+    #[error("the output failed")]
     Write,
     /// X3: memory was refused before the texts were judged. Nothing was written.
+    #[error("out of memory")]
     NoMemory,
 }
 
@@ -93,6 +98,11 @@ pub fn check_over<R: Threads + Sync, H: Source, C: Source, W: Sink>(
         (H.broken history.new ≡ true) × (certificates.new ≡ certificates.old)) }
     ensures unread_certificates { IfErr result (λ e. e ≡ ToolFault.Read Text.Certificates →
         (H.broken history.new ≡ false) × (C.broken certificates.new ≡ true)) }
+    // It is answered only where that source refused a call.
+    ensures history_refused { IfErr result (λ e. e ≡ ToolFault.Read Text.History →
+        WasRefused H.remaining H.refuses history.old history.new) }
+    ensures certificates_refused { IfErr result (λ e. e ≡ ToolFault.Read Text.Certificates →
+        WasRefused C.remaining C.refuses certificates.old certificates.new) }
     // X2
     ensures unwritten { IfErr result (λ e. e ≡ ToolFault.Write → (W.broken sink.new ≡ true)
         × IsCutOff (H.remaining history.old) (H.remaining history.new) (C.remaining certificates.old)

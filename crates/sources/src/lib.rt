@@ -10,4 +10,4 @@ pub use bytes::Bytes;
 pub use check::{Text, ToolFault, check_bytes, check_over};
 pub use edn::{In, Source};
 pub use file::NamedFile;
-pub use reading::{ReadFault, read_text};
+pub use reading::{READ_LIMIT, ReadFault, read_text};

@@ -2,13 +2,13 @@
 
 ghost use Rattle.std.specs.Prelude.{◌≡◌, ◌<◌, ◌≤◌, ℕ, length, false, true, OnOk, IfOk, IfErr};
 ghost use Rattle.edn.specs.Given.{WasRead};
-ghost use Rattle.sources.specs.Reads.{read_limit, Left};
+ghost use Rattle.sources.specs.Reads.{read_limit, Left, WasRefused};
 
 use edn::{Failed, MAX_LENGTH, Source};
 use std::alloc::{AllocError, Global};
 
 /// One byte more than the longest text that is judged.
-const READ_LIMIT: usize = MAX_LENGTH + 1;
+pub const READ_LIMIT: usize = MAX_LENGTH + 1;
 
 /// Why a text was not read.
 #[derive(Clone, Copy, Debug, PartialEq, Eq)]
@@ -45,6 +45,9 @@ pub fn read_text<S: Source>(alloc: Global, source: &mut S) -> Result<Vec<u8>, Re
         WasRead read_limit (S.remaining source.old) (S.remaining source.new) v.items) }
     ensures usable { OnOk result (S.broken source.new ≡ false) }
     ensures fault { IfErr result (Left (S.broken source.new)) }
+    // The source failed only where it refused a call.
+    ensures refused { IfErr result (λ e. e ≡ ReadFault.Failed →
+        WasRefused S.remaining S.refuses source.old source.new) }
 {
     let mut bytes = Vec::new(alloc);
     let mut buffer = vec![in alloc; 0; 65_536]?;

@@ -8,5 +8,6 @@ pub mod Accepting
 pub mod Texts
 pub mod Runs
 pub mod Forms
+pub mod Turns
 pub mod ReadBack
 pub mod Profiles

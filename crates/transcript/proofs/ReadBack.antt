@@ -1,9 +1,8 @@
--- The lines of a sound record are read back as its events.
+-- The lines of a record are read back as its events.
 use Rattle.std.proofs.Common.{◌≡◌, ◌≢◌, ℕ, ◌+◌, ◌<◌, ◌≤◌, ◌==◌, Bool, true, false, cond, inl, inr, List, [], ◌∷◌, ◌++◌, map, length, find, reverse, Option, Some, None, option_map, All, lit<, refl, ap, sym, ◌∙◌, subst, eq-eqb, length-append, arith}
 use Rattle.std.specs.List.{cons_option}
 use Rattle.std.proofs.lemmas.Option.{same_Some}
 use Rattle.std.proofs.lemmas.List.{reverse-append, map-append, length-map}
-use Rattle.model.specs.declared.Kind.{Kind}
 use Rattle.model.specs.declared.AnyOp.{AnyOp}
 use Rattle.model.specs.Objects.{kind_of}
 use Rattle.model.proofs.Lists.{In, Pairs, in_map, in_map_from, in_filter, in_filter_from, in_from_contains, in_split, in_left, in_middle, all_at, pairs_from_all}
@@ -27,19 +26,20 @@ use Rattle.history.specs.Denotes.{action_of, event_with, event_of, events_from}
 use Rattle.history.specs.Seen.{FaultOf}
 use Rattle.history.proofs.OneMore.{fault_of}
 use Rattle.history.proofs.Laws.{kind_of_op}
-use Rattle.world.specs.declared.JournalEvent.TheVariants.{Invoked}
-use Rattle.world.specs.World.{AnyEntry, AnyEvent, kind_at, ticket_of}
-use Rattle.world.specs.Sound.{IsAmong}
-use Rattle.world.specs.Records.{IsSoundRecord}
-use Rattle.recorder.specs.Histories.{AreEventsOf, IsRecord, events_of}
+use Rattle.world.specs.declared.JournalEvent.TheVariants.{Invoked, Returned}
+use Rattle.world.specs.World.{AnyEntry, AnyEvent, ticket_of}
+use Rattle.world.specs.Sound.{ShareOut}
+use Rattle.recorder.specs.Histories.{AreEventsOf, IsRecord, events_of, max_tickets}
+use Rattle.recorder.specs.Histories.{events_from as journal_events}
 use Rattle.recorder.proofs.Same.{same_by_parts}
 use Rattle.recorder.proofs.Journals.{InTurn, none, last, call, numbers_of}
-use Rattle.recorder.proofs.Making.{turns_in, among, is_record}
 use Rattle.transcript.specs.declared.line.Call.{Call}
 use Rattle.transcript.specs.declared.line.Line.{Line}
+use Rattle.transcript.specs.Lines.{event_with as journal_event}
 use Rattle.transcript.specs.Lines.{value_of, value_form, form_of, history_text, lines_from, AreLinesOf, events_in}
 use Rattle.transcript.specs.Reading.{DenotesEvents}
 use Rattle.transcript.proofs.Gathered.{same_events}
+use Rattle.transcript.proofs.Turns.{turns_in, one_kind}
 use Rattle.transcript.proofs.Runs.{MayFollow, Follows, last_line, line_follows}
 use Rattle.transcript.proofs.Forms.{type_map, map_of, client_is, action_is}
 
@@ -103,10 +103,10 @@ last_is p ls = ap (find (λ (m : ClientMap). m.process == p)) (sym (map-reverse 
 -- ---- no line is faulty
 
 -- what is known of a line behind others
-record IsFine (kinds : List Kind) (before : List Line) (l : Line) : Type 0 where
+record IsFine (before : List Line) (l : Line) : Type 0 where
   follows : Follows (last_line l.event.process before) l
-  of_kind : kind_of l.op ≡ kind_at kinds l.event.object
-  others : (k : Line) → In k before → (kind_of k.op ≡ kind_at kinds k.event.object) × (k.event.action ≢ Info)
+  of_kind : (k : Line) → In k before → k.event.object ≡ l.event.object → kind_of k.op ≡ kind_of l.op
+  none_unknown : (k : Line) → In k before → k.event.action ≢ Info
 
 -- the line that is outstanding, where some map is
 outstanding : (before : List Line) (p : ℕ) (o : ClientMap) → IsOutstanding (map map_of before) p o → (k : Line) × (last_line p before ≡ Some k) × (o ≡ map_of k) × (op : AnyOp) × (k.event.action ≡ Invoke op)
@@ -134,7 +134,7 @@ no_bad m a is h = go m.type is h
     go fail q b = b
     go info q b = b
 
-module _ (kinds : List Kind) (before : List Line) (l : Line) (fine : IsFine kinds before l) where
+module _ (before : List Line) (l : Line) (fine : IsFine before l) where
   busy : (a : Action) → l.event.action ≡ a → type_map a ≡ invoke → (o : ClientMap) → IsOutstanding (map map_of before) l.event.process o → ⊥
   busy (Invoke op) is t o h =
       let k = outstanding before l.event.process o h in
@@ -155,7 +155,7 @@ module _ (kinds : List Kind) (before : List Line) (l : Line) (fine : IsFine kind
   closed_not h =
       let k = in_map map_of h.map before (in_from_contains (map map_of before) h.map h.stands) in
       let t : type_map k.0.event.action ≡ info = ap (λ (m : ClientMap). m.type) (sym k.2) ∙ h.unknown in
-      (fine.others k.0 k.1).1 (go k.0.event.action t)
+      fine.none_unknown k.0 k.1 (go k.0.event.action t)
     where
       go : (a : Action) → type_map a ≡ info → a ≡ Info
       go (Invoke op) e = absurd (cc)
@@ -172,7 +172,7 @@ module _ (kinds : List Kind) (before : List Line) (l : Line) (fine : IsFine kind
       let object : k.0.event.object ≡ l.event.object = ap (λ (m : ClientMap). m.object) (sym k.2) ∙ h.same_object in
       let own : function_in l.op ≡ h.known = same_Some (function_in l.op) h.known h.is_known in
       let other : function_in k.0.op ≡ h.other_known = same_Some (function_in k.0.op) h.other_known (ap (λ (m : ClientMap). m.function) (sym k.2) ∙ h.other_is_known) in
-      h.apart (ap kind_of_function (sym other) ∙ (sym (kind_of_op k.0.op) ∙ ((fine.others k.0 k.1).0 ∙ (ap (kind_at kinds) object ∙ (sym fine.of_kind ∙ (kind_of_op l.op ∙ ap kind_of_function own))))))
+      h.apart (ap kind_of_function (sym other) ∙ (sym (kind_of_op k.0.op) ∙ (fine.of_kind k.0 k.1 object ∙ (kind_of_op l.op ∙ ap kind_of_function own))))
   no_fault Busy h = busy l.event.action refl h.0 h.1 h.2
   no_fault Stray h =
       let k = pending l.event.action refl h.0 in
@@ -190,20 +190,33 @@ module _ (kinds : List Kind) (before : List Line) (l : Line) (fine : IsFine kind
   no_fault TooMany h = h
   no_fault NoMemory h = h
 
--- ---- the kinds of a journal's lines
+-- ---- the call of a line
 
-line_kinds : (kinds : List Kind) (c : ℕ) (q : Option Call) (js : List AnyEvent) → InTurn js → ((j : AnyEvent) → In j js → IsAmong kinds j) → (l : Line) → In l (lines_from c q js) → kind_of l.op ≡ kind_at kinds l.event.object
-line_kinds kinds c q js none h l i = absurd i
-line_kinds kinds c q js (last t x op) h l i = elim i [
-  | inl s ↦ subst (λ (k : Line). kind_of k.op ≡ kind_at kinds k.event.object) (sym s) (h (Invoked t x op) (inl refl)).1
+-- the invocation of a line's call is in the journal
+line_call : (c : ℕ) (q : Option Call) (js : List AnyEvent) → InTurn js → (l : Line) → In l (lines_from c q js) → (t : ℕ) × In (Invoked t l.event.object l.op) js
+line_call c q js none l i = absurd i
+line_call c q js (last t x op) l i = elim i [
+  | inl s ↦ (t, inl (ap (λ (k : Line). Invoked t k.event.object k.op) s))
   | inr j ↦ absurd j
 ]
-line_kinds kinds c q js (call t x op u a rest fits more) h l i = elim i [
-  | inl s ↦ subst (λ (k : Line). kind_of k.op ≡ kind_at kinds k.event.object) (sym s) (h (Invoked t x op) (inl refl)).1
+line_call c q js (call t x op u a rest fits more) l i = elim i [
+  | inl s ↦ (t, inl (ap (λ (k : Line). Invoked t k.event.object k.op) s))
   | inr j ↦ elim j [
-    | inl s ↦ subst (λ (k : Line). kind_of k.op ≡ kind_at kinds k.event.object) (sym s) (h (Invoked t x op) (inl refl)).1
-    | inr k ↦ line_kinds kinds c (Some (record { object = x; op = op })) rest more (λ g m. h g (inr (inr m))) l k
+    | inl s ↦ (t, inl (ap (λ (k : Line). Invoked t k.event.object k.op) s))
+    | inr k ↦ let h = line_call c (Some (record { object = x; op = op })) rest more l k in (h.0, inr (inr h.1))
   ]
+]
+
+-- an invocation of a journal is among its events
+invocation_event : (c x t y : ℕ) (op : AnyOp) (js : List AnyEvent) → In (Invoked t y op) js → In (record { number = t; process = c; object = y; action = Invoke op }) (journal_events c x js)
+invocation_event c x t y op [] i = absurd i
+invocation_event c x t y op (Invoked u z o ∷ js) i = elim i [
+  | inl s ↦ inl (ap (journal_event c x) s)
+  | inr j ↦ inr (invocation_event c z t y op js j)
+]
+invocation_event c x t y op (Returned u a ∷ js) i = elim i [
+  | inl s ↦ absurd (cc (s))
+  | inr j ↦ inr (invocation_event c x t y op js j)
 ]
 
 -- ---- what the lines spell
@@ -240,10 +253,8 @@ events_are n (l ∷ ls) c h =
 
 -- ---- all together
 
-module _ (kinds : List Kind) (quota : ℕ) (journals : ℕ → List AnyEvent) (logs : ℕ → List AnyEntry) (s : IsSoundRecord kinds quota journals logs) (low : quota < 10001) (few : length kinds ≤ 65536) (ls : List Line) (are : AreLinesOf journals ls) where
-  record_is : IsRecord (length kinds) journals logs
-  record_is = is_record kinds quota journals logs s low
-
+module _ (objects : ℕ) (journals : ℕ → List AnyEvent) (logs : ℕ → List AnyEntry) (record_is : IsRecord objects journals logs) (count : ℕ) (tickets : ShareOut count (λ c. map ticket_of (journals c)))
+    (low : All (λ e. e.object ≤ max_object) record_is.events) (ls : List Line) (are : AreLinesOf journals ls) where
   same : record_is.events ≡ events_in ls
   same = same_events journals record_is.events record_is.are_events record_is.proper ls are
 
@@ -251,48 +262,65 @@ module _ (kinds : List Kind) (quota : ℕ) (journals : ℕ → List AnyEvent) (l
   among_events l i = subst (In l.event) (sym same) (in_map_from (λ (k : Line). k.event) l ls i)
 
   object_low : (l : Line) → In l ls → l.event.object ≤ max_object
-  object_low l i = let h = all_at (λ (e : Event). e.object < length kinds) record_is.events record_is.on_objects l.event (among_events l i) in omega arith
+  object_low l i = all_at (λ (e : Event). e.object ≤ max_object) record_is.events low l.event (among_events l i)
 
-  has_ticket : (t : ℕ) → t < s.count → (e : Event) × In e (events_in ls) × (e.number ≡ t)
+  has_ticket : (t : ℕ) → t < count → (e : Event) × In e (events_in ls) × (e.number ≡ t)
   has_ticket t l =
-      let c = s.tickets.each t l in
+      let c = tickets.each t l in
       let drawn : In t (map (λ (e : Event). e.number) (events_of c.0 (journals c.0))) = subst (In t) (sym (numbers_of c.0 0 (journals c.0))) (in_from_contains (map ticket_of (journals c.0)) t c.1) in
       let e = in_map (λ (e : Event). e.number) t (events_of c.0 (journals c.0)) drawn in
       let own : In e.0 record_is.events = in_filter (λ (f : Event). f.process == c.0) e.0 record_is.events (subst (In e.0) (sym (record_is.are_events.each c.0)) e.1) in
       (e.0, subst (In e.0) same own, sym e.2)
 
-  number_low : (e : Event) → In e (events_in ls) → e.number < s.count
+  number_low : (e : Event) → In e (events_in ls) → e.number < count
   number_low e i =
       let own : In e (events_of e.process (journals e.process)) = subst (In e) (record_is.are_events.each e.process) (in_filter_from (λ (f : Event). f.process == e.process) e record_is.events (subst (In e) (sym same) i) (eq-eqb e.process e.process refl)) in
-      all_at (λ t. t < s.count) (map ticket_of (journals e.process)) (s.tickets.below e.process) e.number (subst (In e.number) (numbers_of e.process 0 (journals e.process)) (in_map_from (λ (f : Event). f.number) e (events_of e.process (journals e.process)) own))
+      all_at (λ t. t < count) (map ticket_of (journals e.process)) (tickets.below e.process) e.number (subst (In e.number) (numbers_of e.process 0 (journals e.process)) (in_map_from (λ (f : Event). f.number) e (events_of e.process (journals e.process)) own))
 
   numbered : CountFrom 0 (events_in ls)
-  numbered = counted 0 s.count (events_in ls) (subst (Pairs (λ (a b : Event). a.number < b.number)) same (pairs_from_all (λ (a b : Event). a.number < b.number) record_is.events record_is.are_events.rising))
+  numbered = counted 0 count (events_in ls) (subst (Pairs (λ (a b : Event). a.number < b.number)) same (pairs_from_all (λ (a b : Event). a.number < b.number) record_is.events record_is.are_events.rising))
       (λ e i. (omega arith, number_low e i)) (λ t a b. has_ticket t b)
+
+  number_few : (e : Event) → In e (events_in ls) → e.number < max_tickets
+  number_few e i = all_at (λ (f : Event). f.number < max_tickets) record_is.events record_is.few e (subst (In e) (sym same) i)
 
   few_lines : length ls ≤ 640000
   few_lines =
-      let l = count_few 0 s.count (events_in ls) numbered number_low (omega arith) in
+      let l = count_few 0 max_tickets (events_in ls) numbered number_few (omega arith) in
       let long = length-map ls (λ (k : Line). k.event) in
-      let most = s.few in
       omega arith
 
-  kind_here : (l : Line) → In l ls → kind_of l.op ≡ kind_at kinds l.event.object
-  kind_here l i =
+  turn : (c : ℕ) → InTurn (journals c)
+  turn = turns_in journals record_is.events record_is.are_events record_is.proper
+
+  -- the invocation of a line's call
+  call_event : (l : Line) → In l ls → (t : ℕ) × In (record { number = t; process = l.event.process; object = l.event.object; action = Invoke l.op }) record_is.events
+  call_event l i =
       let c = l.event.process in
-      line_kinds kinds c None (journals c) (turns_in kinds quota journals logs s c) (among kinds quota journals logs s c) l (subst (In l) (are.each c) (in_filter_from (λ (k : Line). k.event.process == c) l ls i (eq-eqb c c refl)))
+      let own = subst (In l) (are.each c) (in_filter_from (λ (k : Line). k.event.process == c) l ls i (eq-eqb c c refl)) in
+      let h = line_call c None (journals c) (turn c) l own in
+      let invoked : Event = record { number = h.0; process = c; object = l.event.object; action = Invoke l.op } in
+      let there = invocation_event c 0 h.0 l.event.object l.op (journals c) h.1 in
+      (h.0, in_filter (λ (f : Event). f.process == c) invoked record_is.events (subst (In invoked) (sym (record_is.are_events.each c)) there))
+
+  kinds_here : (k l : Line) → In k ls → In l ls → k.event.object ≡ l.event.object → kind_of k.op ≡ kind_of l.op
+  kinds_here k l i j on =
+      let e = call_event k i in
+      let f = call_event l j in
+      one_kind journals record_is.events record_is.are_events record_is.proper
+      (record { number = e.0; process = k.event.process; object = k.event.object; action = Invoke k.op }) (record { number = f.0; process = l.event.process; object = l.event.object; action = Invoke l.op }) k.op l.op e.1 f.1 on refl refl
 
   follows_at : (before after : List Line) (l : Line) → ls ≡ before ++ l ∷ after → Follows (last_line l.event.process before) l
-  follows_at before after l is = line_follows ls journals (turns_in kinds quota journals logs s) are.each before after l is
+  follows_at before after l is = line_follows ls journals turn are.each before after l is
 
   not_info : (l : Line) → In l ls → l.event.action ≢ Info
   not_info l i e = let r = in_split l ls i in let f : MayFollow (last_line l.event.process r.0) l.event.object l.op Info = subst (MayFollow (last_line l.event.process r.0) l.event.object l.op) e (follows_at r.0 r.1 l r.2) in f
 
-  fine_at : (before after : List Line) (l : Line) → ls ≡ before ++ l ∷ after → IsFine kinds before l
+  fine_at : (before after : List Line) (l : Line) → ls ≡ before ++ l ∷ after → IsFine before l
   fine_at before after l is = record {
     follows = follows_at before after l is;
-    of_kind = kind_here l (subst (In l) (sym is) (in_middle l before after));
-    others = λ k i. let j : In k ls = subst (In k) (sym is) (in_left k before (l ∷ after) i) in (kind_here k j, not_info k j);
+    of_kind = λ k i on. kinds_here k l (subst (In k) (sym is) (in_left k before (l ∷ after) i)) (subst (In l) (sym is) (in_middle l before after)) on;
+    none_unknown = λ k i. not_info k (subst (In k) (sym is) (in_left k before (l ∷ after) i));
   }
 
   faultless : IsFaultless (map form_of ls)
@@ -309,11 +337,11 @@ module _ (kinds : List Kind) (quota : ℕ) (journals : ℕ → List AnyEvent) (l
       let short : length before < 1000000 = omega arith in
       go kind (fault_of earlier d (map_of l) kind client fault) maps (omega arith) (fine_at before r.1 l r.3)
     where
-      go : (kind : HistoryFaultKind) → {before : List Line} {l : Line} → FaultOf earlier (map_of l) kind → clients earlier ≡ map map_of before → length earlier < 1000000 → IsFine kinds before l → ⊥
+      go : (kind : HistoryFaultKind) → {before : List Line} {l : Line} → FaultOf earlier (map_of l) kind → clients earlier ≡ map map_of before → length earlier < 1000000 → IsFine before l → ⊥
       go NotAnOperation h maps short fine = h
       go UnknownF {before} {l} h maps short fine = absurd (cc (h))
       go TooMany h maps short fine = absurd (omega arith)
-      go kind {before} {l} h maps short fine = no_fault kinds before l fine kind (subst (λ (ms : List ClientMap). ClientFault ms (map_of l) kind) maps h)
+      go kind {before} {l} h maps short fine = no_fault before l fine kind (subst (λ (ms : List ClientMap). ClientFault ms (map_of l) kind) maps h)
 
   says_action : (l : Line) → In l ls → action_of (map_of l).type (map_of l) ≡ Some l.event.action
   says_action l i = let r = in_split l ls i in action_is l (last_line l.event.process r.0) (follows_at r.0 r.1 l r.2)

@@ -1,13 +1,15 @@
 -- What is promised of the text of a record's history when it is read.
-use Rattle.std.specs.Prelude.{ℕ, ◌<◌, ◌≤◌, List, length}
+use Rattle.std.specs.Prelude.{ℕ, ◌<◌, ◌≤◌, List, All, length, map}
 use Rattle.edn.specs.Datum.{Datum}
 use Rattle.edn.specs.Spells.{Spells}
 use Rattle.history.specs.Denotes.{Denotes}
 use Rattle.model.specs.declared.Kind.{Kind}
-use Rattle.world.specs.World.{AnyEntry, AnyEvent}
+use Rattle.world.specs.World.{AnyEntry, AnyEvent, ticket_of}
+use Rattle.world.specs.Sound.{ShareOut}
 use Rattle.world.specs.Records.{IsSoundRecord}
 use Rattle.events.specs.declared.event.Event.{Event}
-use Rattle.recorder.specs.Histories.{AreEventsOf}
+use Rattle.fields.specs.Fields.{max_object}
+use Rattle.recorder.specs.Histories.{AreEventsOf, IsRecord}
 use Rattle.transcript.specs.Written.{IsHistoryText}
 
 -- the text spells forms that denote these events
@@ -16,8 +18,16 @@ pub record DenotesEvents (text : List ℕ) (es : List Event) : Type 0 where
   pub spelled : Spells forms text
   pub denoted : Denotes forms es
 
--- The text of a sound record's history is read back as its events, where there are no more objects than a text can have.
+-- The text of a record's history is read back as its events, where the tickets in the journals are all the numbers below
+-- some number, each once, and no object is greater than a text can name.
 abbrev pub WrittenDenotes : Type 0
-WrittenDenotes = (kinds : List Kind) (quota : ℕ) (journals : ℕ → List AnyEvent) (logs : ℕ → List AnyEntry)
+WrittenDenotes = (objects : ℕ) (journals : ℕ → List AnyEvent) (logs : ℕ → List AnyEntry)
+    → (r : IsRecord objects journals logs) → (count : ℕ) → ShareOut count (λ c. map ticket_of (journals c))
+    → All (λ e. e.object ≤ max_object) r.events
+    → (text : List ℕ) (es : List Event) → IsHistoryText journals text → AreEventsOf journals es → DenotesEvents text es
+
+-- So is that of a sound record's history, where there are no more objects than a text can have.
+abbrev pub SoundWrittenDenotes : Type 0
+SoundWrittenDenotes = (kinds : List Kind) (quota : ℕ) (journals : ℕ → List AnyEvent) (logs : ℕ → List AnyEntry)
     → IsSoundRecord kinds quota journals logs → quota < 10001 → length kinds ≤ 65536
     → (text : List ℕ) (es : List Event) → IsHistoryText journals text → AreEventsOf journals es → DenotesEvents text es

@@ -9,7 +9,7 @@ ghost use Rattle.certificate.specs.declared.Certificate.{Certificate};
 ghost use Rattle.checker.specs.Refusals.{AreValid};
 ghost use Rattle.recorder.specs.Histories.{AreEventsOf};
 ghost use Rattle.transcript.specs.Accounts.{AreCertificatesOf};
-ghost use Rattle.transcript.specs.Reading.{WrittenDenotes};
+ghost use Rattle.transcript.specs.Reading.{SoundWrittenDenotes, WrittenDenotes};
 
 /// The certificates of a sound record are valid: one for each object of its history, and none besides.
 pub fn sound_record_is_accepted()
@@ -21,7 +21,9 @@ pub fn sound_record_is_accepted()
         → AreValid events certificates }
 {}
 
-/// The text of the lines of a sound record's history spells forms that denote it.
+/// The text of the lines of a record's history spells forms that denote it, where its tickets are all the numbers below
+/// some number and its objects are at most 65,535, as in each sound record.
 pub fn written_history_denotes()
-    ensures { WrittenDenotes }
+    ensures written { WrittenDenotes }
+    ensures sound { SoundWrittenDenotes }
 {}

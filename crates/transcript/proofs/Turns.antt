@@ -1,0 +1,65 @@
+-- In a record's journals calls and returns come in turn, and the operations on an object are of one kind.
+use Rattle.std.proofs.Common.{◌≡◌, ℕ, ◌==◌, Bool, true, false, cond, inl, inr, List, [], ◌∷◌, ◌++◌, filter, refl, ap, sym, ◌∙◌, subst, append_assoc}
+use Rattle.std.proofs.lemmas.Bool.{eq-eqb}
+use Rattle.model.specs.declared.AnyOp.{AnyOp}
+use Rattle.model.specs.Objects.{kind_of}
+use Rattle.model.proofs.Lists.{In, in_append, in_split, in_middle, contains_from_in}
+use Rattle.world.specs.declared.Answer.TheVariants.{Reply, Refused}
+use Rattle.world.specs.declared.JournalEvent.TheVariants.{Invoked, Returned}
+use Rattle.world.specs.World.{AnyAnswer, AnyEvent}
+use Rattle.events.specs.declared.event.Action.TheVariants.{Invoke}
+use Rattle.events.specs.declared.event.Event.{Event}
+use Rattle.events.specs.Events.{IsOfKindAt, Follows, IsProper}
+use Rattle.events.proofs.Runs.{State, idle, busy, MayDo, state_by, Runs, runs_from_start}
+use Rattle.recorder.specs.Histories.{AreEventsOf, action_of, events_from}
+use Rattle.recorder.proofs.Journals.{InTurn, none, last, call}
+
+-- a process does in its own events what it does among all
+own_runs : (p : ℕ) (s : State) (es : List Event) → Runs p s es → Runs p s (filter (λ e. e.process == p) es)
+own_runs p s [] h = tt
+own_runs p s (e ∷ es) h = go (e.process == p) refl (λ t k. own_runs p t es k)
+  where
+    go : (b : Bool) → (e.process == p) ≡ b → ((t : State) → Runs p t es → Runs p t (filter (λ (x : Event). x.process == p) es))
+        → Runs p s (cond b (e ∷ filter (λ (x : Event). x.process == p) es) (filter (λ (x : Event). x.process == p) es))
+    go true q rest = let f = h.0 q in (λ r. (f.0, rest (state_by e.object e.action) f.1), λ r. absurd (cc (q, r)))
+    go false q rest = rest s (h.1 q)
+
+no_return : (x : ℕ) (a : AnyAnswer) → MayDo idle x (action_of a) → ⊥
+no_return x (Reply r) m = m
+no_return x Refused m = m
+
+turns : (c x : ℕ) (js : List AnyEvent) → Runs c idle (events_from c x js) → InTurn js
+turns c x [] h = none
+turns c x (Invoked t y op ∷ []) h = last t y op
+turns c x (Invoked t y op ∷ Returned u (Reply r) ∷ js) h =
+    let behind = ((h.0 (eq-eqb c c refl)).1).0 (eq-eqb c c refl) in
+    call t y op u (Reply r) js (behind.0).1 (turns c y js behind.1)
+turns c x (Invoked t y op ∷ Returned u Refused ∷ js) h =
+    let behind = ((h.0 (eq-eqb c c refl)).1).0 (eq-eqb c c refl) in
+    call t y op u Refused js tt (turns c y js behind.1)
+turns c x (Invoked t y op ∷ Invoked u z o ∷ js) h = absurd (((h.0 (eq-eqb c c refl)).1).0 (eq-eqb c c refl)).0
+turns c x (Returned u a ∷ js) h = absurd (no_return x a (h.0 (eq-eqb c c refl)).0)
+
+module _ (journals : ℕ → List AnyEvent) (es : List Event) (are : AreEventsOf journals es) (proper : IsProper es) where
+  pub turns_in : (c : ℕ) → InTurn (journals c)
+  turns_in c = turns c 0 (journals c) (subst (Runs c idle) (are.each c) (own_runs c idle es (runs_from_start es c proper)))
+
+  -- two invocations on one object, the one before the other
+  kinds_before : (earlier later : List Event) (e f : Event) (o p : AnyOp) → es ≡ earlier ++ f ∷ later → In e earlier → e.object ≡ f.object → e.action ≡ Invoke o → f.action ≡ Invoke p → kind_of o ≡ kind_of p
+  kinds_before earlier later e f o p is i on invokes also =
+      let h : Follows earlier f.process f.object (Invoke p) = subst (Follows earlier f.process f.object) also (proper.each earlier later f is) in
+      h.1 e o (contains_from_in earlier e i) on invokes
+
+  pub one_kind : (e f : Event) (o p : AnyOp) → In e es → In f es → e.object ≡ f.object → e.action ≡ Invoke o → f.action ≡ Invoke p → kind_of o ≡ kind_of p
+  one_kind e f o p i j on invokes also =
+      let r = in_split f es j in
+      elim (in_append e r.0 (f ∷ r.1) (subst (In e) r.2 i)) [
+        | inl before ↦ kinds_before r.0 r.1 e f o p r.2 before on invokes also
+        | inr rest ↦ elim rest [
+          | inl same ↦ (let act : Invoke o ≡ Invoke p = sym invokes ∙ ap (λ (x : Event). x.action) same ∙ also in let op : o ≡ p = cc (act) in ap kind_of op)
+          | inr after ↦
+              let s = in_split e r.1 after in
+              let whole = r.2 ∙ (ap (λ xs. r.0 ++ f ∷ xs) s.2 ∙ sym (append_assoc r.0 (f ∷ s.0) (e ∷ s.1))) in
+              sym (kinds_before (r.0 ++ f ∷ s.0) s.1 f e p o whole (in_middle f r.0 s.0) (sym on) also invokes)
+        ]
+      ]
