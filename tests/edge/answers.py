@@ -5,7 +5,7 @@ import time
 
 from . import rows, workloads
 from .rows import CERTIFICATES, HISTORY
-from .running import at_once
+from .running import EXAMPLES, at_once
 from .texts import certificate, invoke, lines, ok
 
 
@@ -29,6 +29,14 @@ def feed(path, text, size, pause=0.0):
         pass
 
 
+def end_feeder(path, feeder):
+    """Waits for the feeder of a named pipe. A pipe that the program did not open is opened here, so that its feeder ends."""
+    while feeder.is_alive():
+        os.close(os.open(path, os.O_RDONLY | os.O_NONBLOCK))
+        feeder.join(0.01)
+    os.remove(path)
+
+
 def through_pipes(program, files, words, size=7, pause=0.0, **how):
     """Runs the program while its files are named pipes, which are fed in pieces of so many bytes."""
     threads = []
@@ -43,11 +51,7 @@ def through_pipes(program, files, words, size=7, pause=0.0, **how):
         it.start()
     ran = program.run(*words, **how)
     for (name, _), it in zip(files, threads):
-        # A pipe that the program did not open is opened here, so that its feeder ends.
-        while it.is_alive():
-            os.close(os.open(f"{program.room}/{name}", os.O_RDONLY | os.O_NONBLOCK))
-            it.join(0.01)
-        os.remove(f"{program.room}/{name}")
+        end_feeder(f"{program.room}/{name}", it)
     return ran
 
 
@@ -113,11 +117,11 @@ def beginnings(program, report):
         report.holds(f"check: the first {cut[0]} and {cut[1]} bytes of the texts of two queues", is_well, ran)
 
 
-def examples(program, report, folder):
-    """Each example has the answer that lies beside it, and what is found in it is valid."""
+def examples(program, report):
+    """Each example has the answer that is beside it, and what is found in it is valid."""
 
     def expected(name):
-        with open(f"{folder}/{name}") as file:
+        with open(f"{EXAMPLES}/{name}") as file:
             text = file.read()
         out, _, status = text.rstrip("\n").rpartition("status ")
         return out, int(status)
@@ -126,9 +130,9 @@ def examples(program, report, folder):
         out, status = expected(name)
         report.answers(f"example {name}: {' '.join(words)}", program.run(*words), out, status)
 
-    names = sorted(os.listdir(folder))
+    names = sorted(os.listdir(EXAMPLES))
     for name in names:
-        with open(f"{folder}/{name}", "rb") as file:
+        with open(f"{EXAMPLES}/{name}", "rb") as file:
             program.write(name, file.read())
     for name in names:
         stem, _, kind = name.partition(".")
@@ -184,3 +188,5 @@ def is_accepted(program, output):
     return (ran.status, ran.out.decode()) == (0, lines(*comments))
 
 
+PARTS = (worked_rows, every_number_of_workers, found_orders_are_valid, examples, runs)
+LONG_PARTS = (long_history, beginnings)

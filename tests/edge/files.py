@@ -7,7 +7,7 @@ from .rows import CERTIFICATES, HISTORY, SCHEDULE
 from .running import Program, Report
 
 LONGEST = 268_435_456
-NOBODY = 65534
+AS_NOBODY = {"user": 65534, "group": 65534, "extra_groups": ()}
 # The commands of one file, with the words before its name.
 OF_ONE_FILE = (("search",), ("find",), ("judge",), ("simulate",))
 
@@ -55,7 +55,7 @@ def unreadable(program: Program, report: Report):
     secret = program.write("secret.edn", rows.OVERLAPPING)
     os.chmod(f"{program.room}/{secret}", 0)
     # The superuser may read every file, so then the program runs as nobody.
-    how = {"user": NOBODY, "group": NOBODY, "extra_groups": ()} if os.geteuid() == 0 else {}
+    how = AS_NOBODY if os.geteuid() == 0 else {}
     for words in with_each_file(secret):
         ran = program.run(*words, **how)
         report.answers(f"{' '.join(words)}, without permission", ran, "", 4, f"fcbench: cannot read {secret}\n")

@@ -6,7 +6,7 @@ from dataclasses import dataclass
 
 from . import rows, workloads
 from .answers import is_accepted
-from .running import Program
+from .running import EXAMPLES, Program
 
 OUT = b"out of memory\n"
 NO_MEMORY = 3
@@ -43,8 +43,33 @@ def of_row(row, *more, stride=1):
     return Case(name, words, tuple((names[file], text) for file, text in row.files()), stride)
 
 
+def examples():
+    """Each command on each example. Most are like worked rows, so only some of their allocations are refused."""
+    for name in sorted(os.listdir(EXAMPLES)):
+        stem, _, kind = name.partition(".")
+        if kind == "schedule.edn":
+            yield of_example("simulate", name)
+        if kind == "history.edn":
+            yield of_example("check", name, f"{stem}.certificates.edn")
+            # A search that never ends by itself would take all its steps at each refusal.
+            few = ("--steps", "1000") if stem == "never_enqueued" else ()
+            yield of_example("search", *few, name)
+            yield of_example("find", name)
+            yield of_example("judge", *few, name)
+
+
+def of_example(*words):
+    """A case of a command on examples."""
+    files = []
+    for name in words:
+        if name.endswith(".edn"):
+            with open(f"{EXAMPLES}/{name}", "rb") as file:
+                files.append((name, file.read()))
+    return Case(f"example: {' '.join(words)}", words, tuple(files), stride=5)
+
+
 def cases():
-    """Every allocation of each worked row and of runs of two clients, and some of longer ones."""
+    """Every allocation of each worked row and of runs of two clients, and some of examples and of longer ones."""
     for it in rows.ROWS:
         if len(it.texts[0]) < LONG:
             yield of_row(it)
@@ -52,6 +77,7 @@ def cases():
     for kind in workloads.KINDS_OF_A_RUN:
         words = ("run", "--kind", kind, "--clients", "2", "--calls", "3")
         yield Case(" ".join(words), words)
+    yield from examples()
     words = ("run", "--clients", "1", "--calls", "20", "--objects", "5", "--kind", "mixed")
     yield Case(" ".join(words), words, stride=5)
     history = rows.one_process(*[("insert", 1, 1)] * 200)

@@ -4,11 +4,9 @@ import resource
 import signal
 
 from . import rows
-from .files import good_runs, write_good
+from .files import AS_NOBODY, good_runs, write_good
 from .rows import CERTIFICATES, HISTORY
 
-# A user of whom no other process runs.
-LONELY = 64321
 RUN = ("run", "--clients", "2", "--calls", "5")
 
 
@@ -67,7 +65,8 @@ def no_thread(program, report):
     program.write(CERTIFICATES, rows.TWO_ORDERS)
     how = {"preexec_fn": lambda: resource.setrlimit(resource.RLIMIT_NPROC, (1, 1))}
     if os.geteuid() == 0:
-        how.update(user=LONELY, group=LONELY, extra_groups=())
+        # The superuser may start any number.
+        how.update(AS_NOBODY)
     report.answers("run: no thread can be started", program.run(*RUN, **how), "no thread\n", 3)
     one = program.run("run", "--clients", "1", "--calls", "0", **how)
     report.answers("run: one client needs no thread", one, "; yes: 0 operations, 0 objects\n", 0)
