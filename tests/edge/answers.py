@@ -9,6 +9,15 @@ from .running import EXAMPLES, at_once
 from .texts import certificate, invoke, lines, ok
 
 
+# Two calls each of acquire and release, and no fifth.
+MUTEX_TWICE = lines(
+    *[it for f in ("acquire", "release") * 2 for it in (invoke(0, f, None, 0), ok(0, f, None, 0))],
+    "; {:object 0, :order [0 2 4 6]}",
+    "; yes: 4 operations, 1 objects",
+    "; mutex: 1 objects, 4 operations",
+)
+
+
 def in_files(program, report, row, *more, **how):
     """Runs a row on plain files."""
     for name, text in row.files():
@@ -161,9 +170,12 @@ def runs(program, report):
         words = ("run", "--kind", kind, "--clients", "1", "--calls", "50", "--objects", "5", "--seed", "7")
         out = workloads.output_of_one_client(kind, objects=5, calls=50, seed=7)
         report.answers(" ".join(words), program.run(*words), out, 0)
-    largest = str(2**64 - 1)
-    ran = program.run("run", "--clients", "1", "--seed", largest)
+    ran = program.run("run", "--clients", "1", "--seed", str(2**64 - 1))
     report.answers("run: the largest seed", ran, workloads.output_of_one_client("queue", 1, 100, 2**64 - 1), 0)
+    ran = program.run("run", "--kind", "mutex", "--clients", "1", "--calls", "5")
+    report.answers("run: an odd number of calls on a mutex", ran, MUTEX_TWICE, 0)
+    ran = program.run("run", "--kind", "stack", "--clients", "1", "--calls", "2")
+    report.answers("run: two calls on a stack", ran, workloads.output_of_one_client("stack", 1, 2, 0), 0)
     for kind in workloads.KINDS_OF_A_RUN:
         for objects, clients, calls in ((1, 2, 100), (1, 4, 20), (16, 32, 10)):
             words = ("run", "--kind", kind, "--objects", objects, "--clients", clients, "--calls", calls)

@@ -223,6 +223,13 @@ YES = [
     check("a map", MAP, order(0, 2, 4, 6, 8), yes(5, 1, "map: 1 objects, 5 operations"), 0),
     check("a mutex is passed on", MUTEX, order(0, 3, 2), yes(3, 1, "mutex: 1 objects, 3 operations"), 0),
     check("the first three maps alone", lines(*ENQUEUE_DEQUEUE.splitlines()[:3]), order(0, 2), QUEUE_YES, 0),
+    check(
+        "a refused call is no operation",
+        lines(invoke(0, "enqueue", 1), fail(0, "enqueue", 1), invoke(0, "dequeue"), ok(0, "dequeue")),
+        order(2),
+        yes(1, 1, "queue: 1 objects, 1 operations"),
+        0,
+    ),
     check("minus nothing is 0", ENQUEUE_DEQUEUE, "{:object -0, :order [-0 +2]}", QUEUE_YES, 0),
     check(
         "the least and the largest integer",
@@ -340,9 +347,11 @@ MALFORMED = [
 ]
 
 SEARCHES = [
+    search("no order, as many steps as it likes", OUT_OF_ORDER, "; object 0: impossible\n", 1),
+    search("the later enqueue first, as many steps as it likes", OVERLAPPING, order(1, 0, 4), 0),
     *exact_steps("no order", OUT_OF_ORDER, 3, "; object 0: impossible\n", 1),
     search("no order, one step", OUT_OF_ORDER, "; object 0: out of steps after 1\n", 3, "--steps", "1"),
-    *exact_steps("the later enqueue first", OVERLAPPING, 6, lines(certificate(0, 1, 0, 4)), 0),
+    *exact_steps("the later enqueue first", OVERLAPPING, 6, order(1, 0, 4), 0),
     *exact_steps("a failed enqueue alone", FAILED, 0, order(), 0),
     search("two queues", TWO_QUEUES, lines(certificate(0, 2, 0), certificate(1, 3, 1)), 0, "--steps", "3"),
     search(
@@ -354,7 +363,7 @@ SEARCHES = [
         "2",
     ),
     search("4,097 operations", TOO_MANY_TO_SEARCH, "; object 0: too large\n", 3),
-    *exact_steps("a mutex is passed on", MUTEX, 3, lines(certificate(0, 0, 3, 2)), 0),
+    *exact_steps("a mutex is passed on", MUTEX, 3, order(0, 3, 2), 0),
     *exact_steps("a free mutex is released", RELEASE_OF_A_FREE_MUTEX, 0, "; object 0: impossible\n", 1),
     *exact_steps("equal enqueues", EQUAL_ENQUEUES, 5, "; object 0: impossible\n", 1),
     search("a malformed history", AFTER_INFO, "malformed history: H8 at map 2\n", 2),
