@@ -39,7 +39,7 @@ def feed(path, text, size, pause=0.0):
 
 
 def end_feeder(path, feeder):
-    """Waits for the feeder of a named pipe. A pipe that the program did not open is opened here, so that its feeder ends."""
+    """Waits for the feeder of a named pipe. Where the program did not open the pipe, this does, so that the feeder ends."""
     while feeder.is_alive():
         os.close(os.open(path, os.O_RDONLY | os.O_NONBLOCK))
         feeder.join(0.01)
@@ -184,11 +184,12 @@ def runs(program, report):
             report.equal(f"{name}: status", (0, b""), (ran.status, ran.err))
             is_workload = workloads.calls_in(ran.out) == workloads.calls_of_all(kind, objects, clients, calls, 0)
             report.holds(f"{name}: each client makes its calls in order", is_workload, ran.out[-300:])
-            report.holds(f"{name}: check says the verdict that it ends with", is_accepted(program, ran.out), ran.out[-300:])
+            is_judged = is_accepted(program, ran.out)
+            report.holds(f"{name}: check gives the verdict that it ends with", is_judged, ran.out[-300:])
 
 
 def is_accepted(program, output):
-    """Whether check says of the history of a run, with the certificates that come after it, the verdict that ends it."""
+    """Whether check gives the verdict that ends the output of a run, on the history and the certificates in it."""
     texts = output.decode().splitlines()
     history = [it for it in texts if not it.startswith(";")]
     certificates = [it[2:] for it in texts if it.startswith("; {")]

@@ -51,7 +51,8 @@ def unreadable(program: Program, report: Report):
     report.answers("check: both files are missing", ran, "", 4, "fcbench: cannot read first.edn\n")
     program.write("bad.edn", "007")
     ran = program.run("check", "bad.edn", "missing.edn")
-    report.answers("check: files are read before anything is judged", ran, "", 4, "fcbench: cannot read missing.edn\n")
+    message = "fcbench: cannot read missing.edn\n"
+    report.answers("check: files are read before anything is judged", ran, "", 4, message)
     secret = program.write("secret.edn", rows.OVERLAPPING)
     os.chmod(f"{program.room}/{secret}", 0)
     # The superuser may read every file, so then the program runs as nobody.
@@ -79,7 +80,7 @@ def failing_reads(program, report):
             at = len(text) // 2 + sum(len(it) + 1 for other, it in files if other == HISTORY != name)
             ran = program.run(*words, faults={"READ_AT_MOST": 1, "FAIL_READ_AT": at})
             message = f"fcbench: cannot read {name}\n"
-            report.answers(f"{' '.join(words)}, a read fails amid {name}", ran, "", 4, message)
+            report.answers(f"{' '.join(words)}, a read fails in the middle of {name}", ran, "", 4, message)
 
 
 def in_pieces(program, report):

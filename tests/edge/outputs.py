@@ -47,7 +47,8 @@ def output_cut_short(program, report):
             ran = program.run("check", HISTORY, CERTIFICATES, stdout=file, preexec_fn=lambda: limit(room))
         with open(path, "rb") as file:
             wrote = file.read()
-        report.equal(f"check: an output with room for {room} bytes", (4, whole[:room], b""), (ran.status, wrote, ran.err))
+        expected, came = (4, whole[:room], b""), (ran.status, wrote, ran.err)
+        report.equal(f"check: an output with room for {room} bytes", expected, came)
 
 
 def short_writes(program, report):

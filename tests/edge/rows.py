@@ -1,7 +1,7 @@
 """Worked rows: words, the texts of the files, and the exact output and exit status.
 
-The expected values are worked out by hand from the definitions of the objects, of a valid order and of the formats. None is taken
-from the program's output."""
+The expected values are worked out by hand from the definitions of the objects, of a valid order and of the formats.
+None is taken from the program's output."""
 from dataclasses import dataclass
 
 from .texts import certificate, fail, info, invoke, lines, ok, one_process, order
@@ -302,8 +302,8 @@ NO = [
         "a huge entry", ENQUEUE_DEQUEUE, order(0, LARGEST), f"no: C3 object 0: {LARGEST} is no operation\n", 1
     ),
     check("a negative entry", ENQUEUE_DEQUEUE, order(-1), "no: C3 object 0: -1 is no operation\n", 1),
-    check("a sign is read", ENQUEUE_DEQUEUE, "{:object 0, :order [+7,8]}", "no: C3 object 0: 7 is no operation\n", 1),
-    check("a comma separates", ENQUEUE_DEQUEUE, "{:object 0, :order [8,+7]}", "no: C3 object 0: 8 is no operation\n", 1),
+    check("a sign is read", ENQUEUE_DEQUEUE, order("+7,8"), "no: C3 object 0: 7 is no operation\n", 1),
+    check("a comma separates", ENQUEUE_DEQUEUE, order("8,+7"), "no: C3 object 0: 8 is no operation\n", 1),
     check(
         "the largest integer is told",
         one_process(("enqueue", LARGEST, LARGEST), ("dequeue", None, 1)),
@@ -324,13 +324,17 @@ def malformed_certificates(name, certificates, fault):
 
 MALFORMED = [
     malformed("a process goes on after info", AFTER_INFO, "H8 at map 2"),
-    malformed("info and then a return", lines(invoke(0, "enqueue", 1), info(0, "enqueue", 1), ok(0, "enqueue", 1)), "H8 at map 2"),
+    malformed(
+        "info and then a return",
+        lines(invoke(0, "enqueue", 1), info(0, "enqueue", 1), ok(0, "enqueue", 1)),
+        "H8 at map 2",
+    ),
     malformed("two kinds", one_process(("enqueue", 1, 1)) + lines(invoke(0, "push", 2)), "H4 at map 2"),
     malformed("two calls of one process", lines(invoke(0, "dequeue"), invoke(0, "dequeue")), "H5 at map 1"),
     malformed("no value in a return", lines(ok(0, "enqueue")), "H3 at map 0"),
     malformed("another function returns", lines(invoke(0, "enqueue", 1), ok(0, "dequeue")), "H7 at map 1"),
     malformed("a function of another kind returns", lines(invoke(0, "enqueue", 1), ok(0, "push", 1)), "H4 at map 1"),
-    malformed("a compare-and-set answered by a number", lines(invoke(0, "cas", (1, 2)), ok(0, "cas", 7)), "H3 at map 1"),
+    malformed("a number replied to a cas", lines(invoke(0, "cas", (1, 2)), ok(0, "cas", 7)), "H3 at map 1"),
     malformed("the largest integer, which is no map", str(LARGEST), "H1 at map 0"),
     malformed("the least integer, which is no map", str(LEAST), "H1 at map 0"),
     malformed("one past the largest integer", str(LARGEST + 1), "E4 at byte 0"),

@@ -31,7 +31,7 @@ def read_all(end, got):
 
 
 def on_terminal(program, words):
-    """Runs the program with a pseudo-terminal as standard error. Returns also after how many seconds it wrote there."""
+    """Runs the program with a pseudo-terminal as standard error. Returns also the seconds at which it wrote there."""
     own, its = os.openpty()
     got = []
     begun = time.monotonic()
@@ -52,7 +52,7 @@ def on_terminal(program, words):
 
 
 def long_command(program, report):
-    """A command of more than a second says once that it is under way, after a second, where standard error is a terminal."""
+    """A command of more than a second says once that it is under way, where standard error is a terminal."""
     program.write(CERTIFICATES, rows.order(1, 0, 4))
     pipe = f"{program.room}/late.edn"
     os.mkfifo(pipe)
