@@ -5,8 +5,17 @@ import time
 
 from . import rows, workloads
 from .rows import CERTIFICATES, HISTORY
-from .running import at_once
+from .running import EXAMPLES, at_once
 from .texts import certificate, invoke, lines, ok
+
+
+# Two calls each of acquire and release, and no fifth.
+MUTEX_TWICE = lines(
+    *[it for f in ("acquire", "release") * 2 for it in (invoke(0, f, None, 0), ok(0, f, None, 0))],
+    "; {:object 0, :order [0 2 4 6]}",
+    "; yes: 4 operations, 1 objects",
+    "; mutex: 1 objects, 4 operations",
+)
 
 
 def in_files(program, report, row, *more, **how):
@@ -29,6 +38,14 @@ def feed(path, text, size, pause=0.0):
         pass
 
 
+def end_feeder(path, feeder):
+    """Waits for the feeder of a named pipe. Where the program did not open the pipe, this does, so that the feeder ends."""
+    while feeder.is_alive():
+        os.close(os.open(path, os.O_RDONLY | os.O_NONBLOCK))
+        feeder.join(0.01)
+    os.remove(path)
+
+
 def through_pipes(program, files, words, size=7, pause=0.0, **how):
     """Runs the program while its files are named pipes, which are fed in pieces of so many bytes."""
     threads = []
@@ -43,11 +60,7 @@ def through_pipes(program, files, words, size=7, pause=0.0, **how):
         it.start()
     ran = program.run(*words, **how)
     for (name, _), it in zip(files, threads):
-        # A pipe that the program did not open is opened here, so that its feeder ends.
-        while it.is_alive():
-            os.close(os.open(f"{program.room}/{name}", os.O_RDONLY | os.O_NONBLOCK))
-            it.join(0.01)
-        os.remove(f"{program.room}/{name}")
+        end_feeder(f"{program.room}/{name}", it)
     return ran
 
 
@@ -113,11 +126,11 @@ def beginnings(program, report):
         report.holds(f"check: the first {cut[0]} and {cut[1]} bytes of the texts of two queues", is_well, ran)
 
 
-def examples(program, report, folder):
-    """Each example has the answer that lies beside it, and what is found in it is valid."""
+def examples(program, report):
+    """Each example has the answer that is beside it, and what is found in it is valid."""
 
     def expected(name):
-        with open(f"{folder}/{name}") as file:
+        with open(f"{EXAMPLES}/{name}") as file:
             text = file.read()
         out, _, status = text.rstrip("\n").rpartition("status ")
         return out, int(status)
@@ -126,9 +139,9 @@ def examples(program, report, folder):
         out, status = expected(name)
         report.answers(f"example {name}: {' '.join(words)}", program.run(*words), out, status)
 
-    names = sorted(os.listdir(folder))
+    names = sorted(os.listdir(EXAMPLES))
     for name in names:
-        with open(f"{folder}/{name}", "rb") as file:
+        with open(f"{EXAMPLES}/{name}", "rb") as file:
             program.write(name, file.read())
     for name in names:
         stem, _, kind = name.partition(".")
@@ -157,9 +170,12 @@ def runs(program, report):
         words = ("run", "--kind", kind, "--clients", "1", "--calls", "50", "--objects", "5", "--seed", "7")
         out = workloads.output_of_one_client(kind, objects=5, calls=50, seed=7)
         report.answers(" ".join(words), program.run(*words), out, 0)
-    largest = str(2**64 - 1)
-    ran = program.run("run", "--clients", "1", "--seed", largest)
+    ran = program.run("run", "--clients", "1", "--seed", str(2**64 - 1))
     report.answers("run: the largest seed", ran, workloads.output_of_one_client("queue", 1, 100, 2**64 - 1), 0)
+    ran = program.run("run", "--kind", "mutex", "--clients", "1", "--calls", "5")
+    report.answers("run: an odd number of calls on a mutex", ran, MUTEX_TWICE, 0)
+    ran = program.run("run", "--kind", "stack", "--clients", "1", "--calls", "2")
+    report.answers("run: two calls on a stack", ran, workloads.output_of_one_client("stack", 1, 2, 0), 0)
     for kind in workloads.KINDS_OF_A_RUN:
         for objects, clients, calls in ((1, 2, 100), (1, 4, 20), (16, 32, 10)):
             words = ("run", "--kind", kind, "--objects", objects, "--clients", clients, "--calls", calls)
@@ -168,11 +184,12 @@ def runs(program, report):
             report.equal(f"{name}: status", (0, b""), (ran.status, ran.err))
             is_workload = workloads.calls_in(ran.out) == workloads.calls_of_all(kind, objects, clients, calls, 0)
             report.holds(f"{name}: each client makes its calls in order", is_workload, ran.out[-300:])
-            report.holds(f"{name}: check says the verdict that it ends with", is_accepted(program, ran.out), ran.out[-300:])
+            is_judged = is_accepted(program, ran.out)
+            report.holds(f"{name}: check gives the verdict that it ends with", is_judged, ran.out[-300:])
 
 
 def is_accepted(program, output):
-    """Whether check says of the history of a run, with the certificates that come after it, the verdict that ends it."""
+    """Whether check gives the verdict that ends the output of a run, on the history and the certificates in it."""
     texts = output.decode().splitlines()
     history = [it for it in texts if not it.startswith(";")]
     certificates = [it[2:] for it in texts if it.startswith("; {")]
@@ -184,3 +201,5 @@ def is_accepted(program, output):
     return (ran.status, ran.out.decode()) == (0, lines(*comments))
 
 
+PARTS = (worked_rows, every_number_of_workers, found_orders_are_valid, examples, runs)
+LONG_PARTS = (long_history, beginnings)

@@ -7,7 +7,7 @@ from .rows import CERTIFICATES, HISTORY, SCHEDULE
 from .running import Program, Report
 
 LONGEST = 268_435_456
-NOBODY = 65534
+AS_NOBODY = {"user": 65534, "group": 65534, "extra_groups": ()}
 # The commands of one file, with the words before its name.
 OF_ONE_FILE = (("search",), ("find",), ("judge",), ("simulate",))
 
@@ -51,11 +51,12 @@ def unreadable(program: Program, report: Report):
     report.answers("check: both files are missing", ran, "", 4, "fcbench: cannot read first.edn\n")
     program.write("bad.edn", "007")
     ran = program.run("check", "bad.edn", "missing.edn")
-    report.answers("check: files are read before anything is judged", ran, "", 4, "fcbench: cannot read missing.edn\n")
+    message = "fcbench: cannot read missing.edn\n"
+    report.answers("check: files are read before anything is judged", ran, "", 4, message)
     secret = program.write("secret.edn", rows.OVERLAPPING)
     os.chmod(f"{program.room}/{secret}", 0)
     # The superuser may read every file, so then the program runs as nobody.
-    how = {"user": NOBODY, "group": NOBODY, "extra_groups": ()} if os.geteuid() == 0 else {}
+    how = AS_NOBODY if os.geteuid() == 0 else {}
     for words in with_each_file(secret):
         ran = program.run(*words, **how)
         report.answers(f"{' '.join(words)}, without permission", ran, "", 4, f"fcbench: cannot read {secret}\n")
@@ -79,7 +80,7 @@ def failing_reads(program, report):
             at = len(text) // 2 + sum(len(it) + 1 for other, it in files if other == HISTORY != name)
             ran = program.run(*words, faults={"READ_AT_MOST": 1, "FAIL_READ_AT": at})
             message = f"fcbench: cannot read {name}\n"
-            report.answers(f"{' '.join(words)}, a read fails amid {name}", ran, "", 4, message)
+            report.answers(f"{' '.join(words)}, a read fails in the middle of {name}", ran, "", 4, message)
 
 
 def in_pieces(program, report):

@@ -1,4 +1,4 @@
-"""Refuses each allocation of a run in turn. The run must then say that it is out of memory, or answer as it does with ample memory."""
+"""Refuses each allocation of a run in turn. The run must say that it is out of memory, or answer as it does with ample memory."""
 import multiprocessing
 import os
 import re
@@ -6,17 +6,19 @@ from dataclasses import dataclass
 
 from . import rows, workloads
 from .answers import is_accepted
-from .running import Program
+from .running import EXAMPLES, Program
 
 OUT = b"out of memory\n"
 NO_MEMORY = 3
 # Of texts of this length or more, only some allocations are refused.
 LONG = 2000
+# Of one client, the same allocations are made each time.
+ONE_CLIENT = ("run", "--clients", "1", "--calls", "3")
 
 
 @dataclass(frozen=True)
 class Case:
-    """A command whose allocations are refused. With a stride, only every so many are, beside the first and the last ones."""
+    """A command whose allocations are refused. With a stride of n, each nth is, and the first and the last ten."""
 
     name: str
     words: tuple
@@ -43,15 +45,42 @@ def of_row(row, *more, stride=1):
     return Case(name, words, tuple((names[file], text) for file, text in row.files()), stride)
 
 
+def examples():
+    """Each command on each example. Most are like worked rows, so only some of their allocations are refused."""
+    for name in sorted(os.listdir(EXAMPLES)):
+        stem, _, kind = name.partition(".")
+        if kind == "schedule.edn":
+            yield of_example("simulate", name)
+        if kind == "history.edn":
+            yield of_example("check", name, f"{stem}.certificates.edn")
+            # A search that never ends by itself would take all its steps at each refusal.
+            few = ("--steps", "1000") if stem == "never_enqueued" else ()
+            yield of_example("search", *few, name)
+            yield of_example("find", name)
+            yield of_example("judge", *few, name)
+
+
+def of_example(*words):
+    """A case of a command on examples."""
+    files = []
+    for name in words:
+        if name.endswith(".edn"):
+            with open(f"{EXAMPLES}/{name}", "rb") as file:
+                files.append((name, file.read()))
+    return Case(f"example: {' '.join(words)}", words, tuple(files), stride=5)
+
+
 def cases():
-    """Every allocation of each worked row and of runs of two clients, and some of longer ones."""
+    """Every allocation of each worked row and of runs of two clients, and some of examples and of longer ones."""
     for it in rows.ROWS:
         if len(it.texts[0]) < LONG:
             yield of_row(it)
     yield of_row(next(it for it in rows.YES if it.texts[0] == rows.TWO_QUEUES), "--workers", "4")
+    yield Case(" ".join(ONE_CLIENT), ONE_CLIENT)
     for kind in workloads.KINDS_OF_A_RUN:
         words = ("run", "--kind", kind, "--clients", "2", "--calls", "3")
         yield Case(" ".join(words), words)
+    yield from examples()
     words = ("run", "--clients", "1", "--calls", "20", "--objects", "5", "--kind", "mixed")
     yield Case(" ".join(words), words, stride=5)
     history = rows.one_process(*[("insert", 1, 1)] * 200)
@@ -71,9 +100,10 @@ def object_is_out_of_memory(whole, ran):
     before, after = whole.out.splitlines(), ran.out.splitlines()
     if len(before) != len(after) or before == after:
         return False
-    pairs = [(new, f"; object {at}: out of memory".encode()) for at, (old, new) in enumerate(zip(before, after)) if old != new]
+    lines_without_memory = [f"; object {at}: out of memory".encode() for at in range(len(after))]
+    are_well = all(new in (old, without) for old, new, without in zip(before, after, lines_without_memory))
     has_impossible = any(it.endswith(b": impossible") for it in after)
-    return all(new == wanted for new, wanted in pairs) and ran.status == (1 if has_impossible else NO_MEMORY)
+    return are_well and ran.status == (1 if has_impossible else NO_MEMORY)
 
 
 def is_out_of_memory(command, whole, ran):
@@ -91,7 +121,9 @@ def is_out_of_memory(command, whole, ran):
 
 
 def is_other_run(program, words, whole, ran):
-    """Whether clients were served otherwise: calls that were refused, or turns that the threads took. Then the history is accepted."""
+    """Whether clients were served in another way, since a call was refused or the threads took other turns.
+
+    Then each client made its first calls, as many as it came to, and check accepts the history."""
     if words[0] == "simulate":
         before, after = [it.out.replace(b":fail", b":ok").splitlines()[:3] for it in (whole, ran)]
         return ran.status == 0 and before == after and is_accepted(program, ran.out)
@@ -106,14 +138,14 @@ def is_other_run(program, words, whole, ran):
 
 
 def refuse(it):
-    """Refuses one allocation. Returns whether the run was out of memory, and what is wrong with it, if anything is."""
+    """Refuses one allocation. Returns whether the run was out of memory, what it put out, and the run itself if it is wrong."""
     whole, (command, *_) = it.whole, it.words
     ran = it.program.run(*it.words, faults={"REFUSE_AT": it.at})
     is_out = is_out_of_memory(command, whole, ran)
     is_same = (ran.status, ran.out, ran.err) == (whole.status, whole.out, whole.err)
     is_quiet = ran.err == b"" or ran.err == whole.err
     is_well = is_quiet and (is_same or is_out or is_other_run(it.program, it.words, whole, ran))
-    return is_out, command in ("search", "judge") and b": out of memory" in ran.out, None if is_well else ran
+    return is_out, ran.out, None if is_well else ran
 
 
 def refused_memory(program, report):
@@ -131,8 +163,11 @@ def refused_memory(program, report):
                 report.holds(f"memory: {case.name}: allocation {at} of {count} is refused", wrong is None, wrong)
             report.holds(f"memory: {case.name}: some run is out of memory", any(it for it, _, _ in found))
             if case.words[0] == "search" and whole.out.startswith((b"{", b"; object")) and b"[]" not in whole.out:
-                says = any(it for _, it, _ in found)
+                says = any(b": out of memory" in out for _, out, _ in found)
                 report.holds(f"memory: {case.name}: the search itself says that it is out of memory", says)
+            if case.words == ONE_CLIENT:
+                says = any(b":type :fail" in out for _, out, _ in found)
+                report.holds(f"memory: {case.name}: some call is refused, and fails in the history", says)
             tried += len(numbers)
     return f"{tried} allocations refused"
 

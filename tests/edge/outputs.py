@@ -4,11 +4,9 @@ import resource
 import signal
 
 from . import rows
-from .files import good_runs, write_good
+from .files import AS_NOBODY, good_runs, write_good
 from .rows import CERTIFICATES, HISTORY
 
-# A user of whom no other process runs.
-LONELY = 64321
 RUN = ("run", "--clients", "2", "--calls", "5")
 
 
@@ -49,7 +47,8 @@ def output_cut_short(program, report):
             ran = program.run("check", HISTORY, CERTIFICATES, stdout=file, preexec_fn=lambda: limit(room))
         with open(path, "rb") as file:
             wrote = file.read()
-        report.equal(f"check: an output with room for {room} bytes", (4, whole[:room], b""), (ran.status, wrote, ran.err))
+        expected, came = (4, whole[:room], b""), (ran.status, wrote, ran.err)
+        report.equal(f"check: an output with room for {room} bytes", expected, came)
 
 
 def short_writes(program, report):
@@ -67,7 +66,8 @@ def no_thread(program, report):
     program.write(CERTIFICATES, rows.TWO_ORDERS)
     how = {"preexec_fn": lambda: resource.setrlimit(resource.RLIMIT_NPROC, (1, 1))}
     if os.geteuid() == 0:
-        how.update(user=LONELY, group=LONELY, extra_groups=())
+        # The superuser may start any number.
+        how.update(AS_NOBODY)
     report.answers("run: no thread can be started", program.run(*RUN, **how), "no thread\n", 3)
     one = program.run("run", "--clients", "1", "--calls", "0", **how)
     report.answers("run: one client needs no thread", one, "; yes: 0 operations, 0 objects\n", 0)

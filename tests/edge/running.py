@@ -8,6 +8,8 @@ from dataclasses import dataclass, field
 
 # A run that takes longer has failed.
 SECONDS = 120
+ROOT = os.path.dirname(os.path.dirname(os.path.dirname(os.path.realpath(__file__))))
+EXAMPLES = f"{ROOT}/examples"
 
 
 @dataclass(frozen=True)

@@ -5,7 +5,7 @@ import threading
 import time
 
 from . import rows
-from .answers import feed, through_pipes
+from .answers import end_feeder, feed, through_pipes
 from .rows import CERTIFICATES, HISTORY
 from .running import SECONDS, Ran
 
@@ -31,7 +31,7 @@ def read_all(end, got):
 
 
 def on_terminal(program, words):
-    """Runs the program with a pseudo-terminal as standard error. Returns also after how many seconds it wrote there."""
+    """Runs the program with a pseudo-terminal as standard error. Returns also the seconds at which it wrote there."""
     own, its = os.openpty()
     got = []
     begun = time.monotonic()
@@ -52,15 +52,14 @@ def on_terminal(program, words):
 
 
 def long_command(program, report):
-    """A command of more than a second says once that it is under way, after a second, where standard error is a terminal."""
+    """A command of more than a second says once that it is under way, where standard error is a terminal."""
     program.write(CERTIFICATES, rows.order(1, 0, 4))
-    os.remove(f"{program.room}/{HISTORY}")
-    os.mkfifo(f"{program.room}/{HISTORY}")
-    late = threading.Timer(LONG, feed, (f"{program.room}/{HISTORY}", rows.OVERLAPPING.encode(), 100))
+    pipe = f"{program.room}/late.edn"
+    os.mkfifo(pipe)
+    late = threading.Timer(LONG, feed, (pipe, rows.OVERLAPPING.encode(), 100))
     late.start()
-    ran, times = on_terminal(program, ("check", HISTORY, CERTIFICATES))
-    late.join()
-    os.remove(f"{program.room}/{HISTORY}")
+    ran, times = on_terminal(program, ("check", "late.edn", CERTIFICATES))
+    end_feeder(pipe, late)
     report.answers("a long command on a terminal", ran, rows.THREE_YES, 0, UNDER_WAY)
     report.holds("it says so after a second", times and 0.9 < times[0] < LONG, times)
     files = ((HISTORY, rows.OVERLAPPING), (CERTIFICATES, rows.order(1, 0, 4)))

@@ -1,4 +1,4 @@
-"""The calls of a run's clients and, of one client alone, what the run puts out: written from the rules, apart from the program."""
+"""The calls of a run's clients, and what a run of one client puts out. This is written from the rules, apart from the program."""
 from .texts import certificate, invoke, lines, ok
 
 OPERATIONS = {
@@ -81,7 +81,7 @@ def calls_in(output):
 
 
 def reply(f, of, content):
-    """What an object replies, where its content is a list (queue, stack, heap) or a dict (register, map). It changes the content."""
+    """What an object replies. Its content, which changes, is a list (queue, stack, heap) or a dict (register, map)."""
     if f in ("enqueue", "push", "insert"):
         content.append(of)
         return of
