@@ -1,0 +1,14 @@
+pub mod Simulation
+pub mod Contents
+pub mod Settling
+pub mod Closed
+pub mod Prefixes
+pub mod Freshness
+pub mod Sequences
+pub mod Overlaps
+pub mod Suffixes
+pub mod Pieces
+pub mod Before
+pub mod Kept
+pub mod Later
+pub mod Naming

@@ -1,0 +1,41 @@
+//! Closure under projection, prefixes and suffixes: functions that do nothing, whose contracts are
+//! theorems.
+
+ghost use Rattle.std.specs.Prelude.{◌≡◌, ◌<◌, ℕ, ℤ, Bool, List, Option, Some};
+ghost use Rattle.std.specs.Prelude.{All, AllPairs, Contains};
+ghost use Rattle.model.specs.declared.Kind.{Kind};
+ghost use Rattle.model.specs.declared.AnyOp.{AnyOp};
+ghost use Rattle.model.specs.declared.AnyReply.{AnyReply};
+ghost use Rattle.model.specs.Objects.{kind_of};
+ghost use Rattle.model.specs.Orders.{Call, Return, IsValidOrder};
+ghost use Rattle.projection.specs.Parts.{IsClosed, kept_calls, calls_before, IsStart, calls_from};
+
+/// Closure under projection: where the calls of an object have a valid order, a closed part has
+/// one.
+pub fn projection_is_valid()
+    ensures { (kind : Kind) (calls : List Call) (all settled : Bool) (keeps : ℤ → Bool)
+        (kept : ℕ → Bool) (order : List ℤ)
+        → AllPairs (λ a b. a.number < b.number) calls
+        → IsClosed all settled keeps kept calls
+        → IsValidOrder kind calls order
+        → (part : List ℤ) × IsValidOrder kind (kept_calls kept calls) part }
+{}
+
+/// Closure under prefixes: where the calls have a valid order, those that were invoked before a
+/// number have one, each pending where it had not returned by then.
+pub fn prefix_is_valid()
+    ensures { (kind : Kind) (calls : List Call) (until : ℕ) (order : List ℤ)
+        → All (λ e. (r : Return) → e.returned ≡ Some r → e.number < r.at) calls
+        → IsValidOrder kind calls order
+        → (part : List ℤ) × IsValidOrder kind (calls_before until calls) part }
+{}
+
+/// Closure under suffixes: where the calls have a valid order, those of a suffix have one.
+pub fn suffix_is_valid()
+    ensures { (kind : Kind) (calls : List Call) (from at : ℕ) (first : Option (AnyOp × AnyReply))
+        (order : List ℤ)
+        → All (λ e. kind_of e.op ≡ kind) calls
+        → IsStart calls from at first
+        → IsValidOrder kind calls order
+        → (part : List ℤ) × IsValidOrder kind (calls_from from at first calls) part }
+{}
