@@ -12,3 +12,4 @@ pub mod Before
 pub mod Kept
 pub mod Later
 pub mod Naming
+pub mod Bounds

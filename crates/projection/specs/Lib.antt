@@ -1,5 +1,6 @@
 pub mod Parts
 pub mod Cuts
+pub mod Counts
 pub mod Pieces
 pub use Rattle.model.specs.Objects
 pub use Rattle.model.specs.Orders

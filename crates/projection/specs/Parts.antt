@@ -205,7 +205,8 @@ pending_call number op = record { number = number; op = op; returned = None }
 abbrev pub overlapping : Option (AnyOp × AnyReply) → ℕ → AnyOp → Option Return → Call
 overlapping first number op None = pending_call number op
 overlapping first number op (Some r) =
-    option_map_or (write_call number r.at) (written_before first op r.reply) (pending_call number op)
+    option_map_or (write_call number r.at) (written_before first op r.reply)
+    (pending_call number op)
 
 -- a call of a suffix whose first call returned at `at`
 abbrev pub call_later : Option (AnyOp × AnyReply) → ℕ → Call → Call

@@ -1,5 +1,6 @@
 -- What becomes of one operation of an object, failed ones too. The code works on these.
-use Rattle.std.specs.Prelude.{◌≡◌, ◌==◌, ◌⊎◌, ℕ, ℤ, nat_lt, Bool, true, false, if◌then◌else◌}
+use Rattle.std.specs.Prelude.{◌≡◌, ◌==◌, ◌⊎◌, ℕ, ℤ, nat_lt, Bool, true, false, not, ◌&&◌}
+use Rattle.std.specs.Prelude.{if◌then◌else◌}
 use Rattle.std.specs.Prelude.{Option, Some, None, option_map}
 use Rattle.std.specs.Option.{option_map_or}
 use Rattle.model.specs.declared.AnyOp.{AnyOp}
@@ -9,6 +10,8 @@ use Rattle.model.specs.declared.AnyReply.TheVariants.{Value}
 use Rattle.events.specs.declared.operations.End.{End}
 use Rattle.events.specs.declared.operations.End.TheVariants.{Returned, Pending, Failed}
 use Rattle.events.specs.declared.operations.Invocation.{Invocation}
+use Rattle.projection.specs.declared.counting.Counted.{Counted}
+use Rattle.projection.specs.Counts.{sets, takes}
 use Rattle.projection.specs.Parts.{fits, puts_in, takes_out, key_of, written_before}
 
 abbrev pub has_failed : End → Bool
@@ -88,3 +91,18 @@ piece_from from at first o =
     if has_failed o.«end» then None
     else (if o.number == from then option_map (first_piece from at) first
     else (if is_over from o.«end» then None else Some (piece_later first at o)))
+
+-- ---- counts
+
+-- whether an operation that did not fail sets the content, and had not returned before this number
+abbrev pub is_set : Counted → ℕ → AnyOp → End → Bool
+is_set what from op (Returned at reply) = sets what op (Some reply) && not (nat_lt at from)
+is_set what from op Pending = sets what op None
+is_set what from op Failed = false
+
+-- whether an operation that was invoked at this number or later took the content away
+abbrev pub is_gone : Counted → ℕ → ℕ → AnyOp → End → Bool
+is_gone what from number op (Returned at reply) =
+    takes what op (Some reply) && not (nat_lt number from)
+is_gone what from number op Pending = false
+is_gone what from number op Failed = false

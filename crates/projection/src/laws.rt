@@ -1,13 +1,15 @@
 //! Closure under projection, prefixes and suffixes: functions that do nothing, whose contracts are
 //! theorems.
 
-ghost use Rattle.std.specs.Prelude.{◌≡◌, ◌<◌, ℕ, ℤ, Bool, List, Option, Some};
+ghost use Rattle.std.specs.Prelude.{◌≡◌, ◌<◌, ◌≤◌, ◌+◌, ℕ, ℤ, Bool, List, Option, Some};
 ghost use Rattle.std.specs.Prelude.{All, AllPairs, Contains};
 ghost use Rattle.model.specs.declared.Kind.{Kind};
 ghost use Rattle.model.specs.declared.AnyOp.{AnyOp};
 ghost use Rattle.model.specs.declared.AnyReply.{AnyReply};
 ghost use Rattle.model.specs.Objects.{kind_of};
 ghost use Rattle.model.specs.Orders.{Call, Return, IsValidOrder};
+ghost use Rattle.projection.specs.declared.counting.Counted.{Counted};
+ghost use Rattle.projection.specs.Counts.{most_before, set_since, taken_since};
 ghost use Rattle.projection.specs.Parts.{IsClosed, kept_calls, calls_before, IsStart, calls_from};
 
 /// Closure under projection: where the calls of an object have a valid order, a closed part has
@@ -38,4 +40,16 @@ pub fn suffix_is_valid()
         → IsStart calls from at first
         → IsValidOrder kind calls order
         → (part : List ℤ) × IsValidOrder kind (calls_from from at first calls) part }
+{}
+
+/// Where the calls of an object have a valid order, a content was taken away from a number on no
+/// more often than the object can have contained it before, and calls that had not returned before
+/// this number set it.
+pub fn count_is_bounded()
+    ensures { (kind : Kind) (calls : List Call) (what : Counted) (from most : ℕ) (order : List ℤ)
+        → AllPairs (λ a b. a.number < b.number) calls
+        → All (λ e. (r : Return) → e.returned ≡ Some r → e.number < r.at) calls
+        → most_before kind what from ≡ Some most
+        → IsValidOrder kind calls order
+        → taken_since what from calls ≤ most + set_since what from calls }
 {}

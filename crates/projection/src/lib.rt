@@ -2,14 +2,16 @@
 //! part can show that no order of the whole is valid.
 #![tactic(auto)]
 
+mod counting;
 mod cutting;
 mod keeping;
 mod laws;
 mod prefix;
 mod suffix;
 
+pub use counting::{Count, Counted, is_overdrawn};
 pub use cutting::{Cut, part_by};
 pub use keeping::{Values, keep};
-pub use laws::{prefix_is_valid, projection_is_valid, suffix_is_valid};
+pub use laws::{count_is_bounded, prefix_is_valid, projection_is_valid, suffix_is_valid};
 pub use prefix::until;
 pub use suffix::from;
