@@ -78,7 +78,7 @@ all_fit op key o e = subst (λ (z : Option ℤ). fits (is_free z) false (on_key 
     go Acquire o = refl
     go Release o = refl
 
--- what a part begins with, where the whole contains this behind the call
+-- what a part begins with, where the whole contains this after the call
 abbrev pub Begins : (ℤ → Bool) → Kind → Option (AnyOp × AnyReply) → Content → Type 0
 Begins keeps kind None after = IsShadow keeps after (empty kind)
 Begins keeps kind (Some first) after = (d : Content) × (next (empty kind) first.0 ≡ Some (d, first.1)) × IsShadow keeps after d

@@ -16,9 +16,9 @@ use Rattle.events.specs.declared.operations.End.{End}
 use Rattle.events.specs.declared.operations.End.TheVariants.{Returned, Pending, Failed}
 use Rattle.events.specs.declared.operations.Invocation.{Invocation}
 use Rattle.events.specs.Operations.{call_with, call_of, calls_of, return_of, ObjectCalls, IsObjectHistory}
-use Rattle.projection.specs.Parts.{leaves, IsStart, key_of, ended_before, written_before, write_call, pending_call, overlapping, call_later, first_call, call_from, calls_from}
+use Rattle.projection.specs.Parts.{leaves, IsStart, key_of, ended_before, written_before, write_call, pending_call, overlapping, call_later, returned_call, call_from, calls_from}
 use Rattle.projection.specs.Cuts.{IsPart, IsSuffix}
-use Rattle.projection.specs.Pieces.{has_failed, IsOnKey, is_over, first_piece, write_piece, pending_piece, overlapping_piece, piece_later, piece_from}
+use Rattle.projection.specs.Pieces.{has_failed, IsOnKey, is_over, returned_piece, write_piece, pending_piece, overlapping_piece, piece_later, piece_from}
 use Rattle.projection.proofs.Sequences.{in_filter_map, in_filter_map_from}
 use Rattle.projection.proofs.Overlaps.{before_facts}
 use Rattle.projection.proofs.Suffixes.{start_valid}
@@ -158,17 +158,17 @@ later_is first at o = whole (nat_lt at o.number)
 piece_is : (h : ObjectCalls) (from at : ℕ) (first : Option (AnyOp × AnyReply)) (reply : AnyReply) → IsObjectHistory h → IsStartPiece h.ops from at first reply → (o p : Invocation) → In o h.ops → piece_from from at first o ≡ Some p → IsPiece o p
 piece_is h from at first said is s o p i e = failed (has_failed o.«end») e
   where
-    begins : (f : Option (AnyOp × AnyReply)) → first ≡ f → o.number ≡ from → option_map (first_piece from at) f ≡ Some p → IsPiece o p
+    begins : (f : Option (AnyOp × AnyReply)) → first ≡ f → o.number ≡ from → option_map (returned_piece from at) f ≡ Some p → IsPiece o p
     begins None q n e = absurd (cc e)
     begins (Some x) q n e =
         let own = one_number (λ (z : Invocation). z.number) o s.operation h.ops (pairs_from_all (λ a b. a.number < b.number) h.ops is.rising) i s.known (n ∙ sym s.number) in
         let k = subst (λ (z : Option (Option (AnyOp × AnyReply))). IfSome z (λ f. IfSome f (λ p. kind_of p.0 ≡ kind_of s.operation.op))) (s.told ∙ ap (λ (z : Option (AnyOp × AnyReply)). Some z) q) (leaves_kind s.operation.op said) in
-        let piece : IsPiece o (first_piece from at x) = record {
+        let piece : IsPiece o (returned_piece from at x) = record {
           number = sym n;
           kind = k ∙ ap (λ (z : Invocation). kind_of z.op) (sym own);
           returned = λ when reply e. (said, ap (λ (z : Invocation). z.«end») own ∙ s.ended ∙ ap (λ (z : ℕ). Returned z said) (same_at at x.1 when reply e));
         } in
-        subst (IsPiece o) (same_Some (first_piece from at x) p e) piece
+        subst (IsPiece o) (same_Some (returned_piece from at x) p e) piece
       where
         same_at : (a : ℕ) (r : AnyReply) (b : ℕ) (t : AnyReply) → Returned a r ≡ Returned b t → a ≡ b
         same_at a r b t e = cc
@@ -177,11 +177,11 @@ piece_is h from at first said is s o p i e = failed (has_failed o.«end») e
     over true e = absurd (cc e)
     over false e = subst (IsPiece o) (same_Some (piece_later first at o) p e) (later_is first at o)
 
-    own_or : (b : Bool) → (o.number == from) ≡ b → cond b (option_map (first_piece from at) first) (cond (is_over from o.«end») None (Some (piece_later first at o))) ≡ Some p → IsPiece o p
+    own_or : (b : Bool) → (o.number == from) ≡ b → cond b (option_map (returned_piece from at) first) (cond (is_over from o.«end») None (Some (piece_later first at o))) ≡ Some p → IsPiece o p
     own_or true n e = begins first refl (eqb-true o.number from n) e
     own_or false n e = over (is_over from o.«end») e
 
-    failed : (b : Bool) → cond b None (cond (o.number == from) (option_map (first_piece from at) first) (cond (is_over from o.«end») None (Some (piece_later first at o)))) ≡ Some p → IsPiece o p
+    failed : (b : Bool) → cond b None (cond (o.number == from) (option_map (returned_piece from at) first) (cond (is_over from o.«end») None (Some (piece_later first at o)))) ≡ Some p → IsPiece o p
     failed true e = absurd (cc e)
     failed false e = own_or (o.number == from) refl e
 
@@ -194,7 +194,7 @@ as_call o = record { number = o.number; op = o.op; returned = return_of o.«end�
 piece_call : (from at : ℕ) (first : Option (AnyOp × AnyReply)) (o : Invocation) → bind (piece_from from at first o) call_of ≡ bind (call_of o) (call_from from at first)
 piece_call from at first o = go (has_failed o.«end») refl
   where
-    begins : (f : Option (AnyOp × AnyReply)) → bind (option_map (first_piece from at) f) call_of ≡ option_map (first_call from at) f
+    begins : (f : Option (AnyOp × AnyReply)) → bind (option_map (returned_piece from at) f) call_of ≡ option_map (returned_call from at) f
     begins None = refl
     begins (Some x) = refl
 
@@ -225,7 +225,7 @@ piece_call from at first o = go (has_failed o.«end») refl
     kept true q = refl
     kept false q = late (nat_lt at o.number) q
 
-    own : (b : Bool) → has_failed o.«end» ≡ false → bind (cond b (option_map (first_piece from at) first) (cond (is_over from o.«end») None (Some (piece_later first at o)))) call_of ≡ cond b (option_map (first_call from at) first) (cond (ended_before from (return_of o.«end»)) None (Some (call_later first at (as_call o))))
+    own : (b : Bool) → has_failed o.«end» ≡ false → bind (cond b (option_map (returned_piece from at) first) (cond (is_over from o.«end») None (Some (piece_later first at o)))) call_of ≡ cond b (option_map (returned_call from at) first) (cond (ended_before from (return_of o.«end»)) None (Some (call_later first at (as_call o))))
     own true q = begins first
     own false q = kept (is_over from o.«end») q ∙ ap (λ b. cond b None (Some (call_later first at (as_call o)))) (over o.«end»)
 
@@ -234,7 +234,7 @@ piece_call from at first o = go (has_failed o.«end») refl
     failed Pending q = absurd (cc q)
     failed Failed q = refl
 
-    go : (b : Bool) → has_failed o.«end» ≡ b → bind (cond b None (cond (o.number == from) (option_map (first_piece from at) first) (cond (is_over from o.«end») None (Some (piece_later first at o))))) call_of ≡ bind (call_of o) (call_from from at first)
+    go : (b : Bool) → has_failed o.«end» ≡ b → bind (cond b None (cond (o.number == from) (option_map (returned_piece from at) first) (cond (is_over from o.«end») None (Some (piece_later first at o))))) call_of ≡ bind (call_of o) (call_from from at first)
     go true q = ap (λ (z : Option Call). bind z (call_from from at first)) (sym (failed o.«end» q))
     go false q = own (o.number == from) q ∙ ap (λ (z : Option Call). bind z (call_from from at first)) (sym (did o.«end» q))
 

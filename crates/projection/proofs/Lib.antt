@@ -13,3 +13,5 @@ pub mod Kept
 pub mod Later
 pub mod Naming
 pub mod Bounds
+pub mod Mapped
+pub mod Shadows

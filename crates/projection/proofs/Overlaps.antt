@@ -13,7 +13,7 @@ use Rattle.model.specs.declared.AnyReply.TheVariants.{Value, Swapped, NotSwapped
 use Rattle.model.specs.Objects.{Content, queue, stack, heap, register, table, mutex, empty, contains_value, next, kind_of}
 use Rattle.model.specs.Orders.{Call, Return, ReturnsBefore, RepliesAlong}
 use Rattle.model.proofs.Lists.{In}
-use Rattle.projection.specs.Parts.{key_of, leaves, ended_before, written, written_before, write_call, pending_call, overlapping, call_later, first_call}
+use Rattle.projection.specs.Parts.{key_of, leaves, ended_before, written, written_before, write_call, pending_call, overlapping, call_later, returned_call}
 
 unlike : false ≡ true → ⊥
 unlike e = absurd (cc e)
@@ -226,20 +226,20 @@ abbrev pub IsWrite : Call → Type 0
 IsWrite x = (number at : ℕ) × (v : ℤ) × (x ≡ write_call number at v)
 
 -- writes, and then one more, whatever the register contained
-writes_before : (ws : List Call) (c : Option ℤ) (from at : ℕ) (v : ℤ) (es : List Call) → ((x : Call) → In x ws → IsWrite x) → RepliesAlong (register (Some v)) es → RepliesAlong (register c) (ws ++ first_call from at (Write v, Value (Some v)) ∷ es)
+writes_before : (ws : List Call) (c : Option ℤ) (from at : ℕ) (v : ℤ) (es : List Call) → ((x : Call) → In x ws → IsWrite x) → RepliesAlong (register (Some v)) es → RepliesAlong (register c) (ws ++ returned_call from at (Write v, Value (Some v)) ∷ es)
 writes_before [] c from at v es f h = (register (Some v), Value (Some v), refl, refl, h)
 writes_before (x ∷ xs) c from at v es f h =
     let w = f x (inl refl) in
-    subst (λ (z : Call). RepliesAlong (register c) (z ∷ xs ++ first_call from at (Write v, Value (Some v)) ∷ es)) (sym w.3)
+    subst (λ (z : Call). RepliesAlong (register c) (z ∷ xs ++ returned_call from at (Write v, Value (Some v)) ∷ es)) (sym w.3)
     (register (Some w.2), Value (Some w.2), refl, refl, writes_before xs (Some w.2) from at v es (λ y i. f y (inr i)) h)
 
-pub front_replies : (kind : Kind) (front : List Call) (from at : ℕ) (p : AnyOp × AnyReply) (d : Content) (es : List Call) → next (empty kind) p.0 ≡ Some (d, p.1) → ((x : Call) → In x front → IsWrite x × (kind ≡ Register)) → (kind ≡ Register → (v : ℤ) × (p ≡ (Write v, Value (Some v)))) → RepliesAlong d es → RepliesAlong (empty kind) (front ++ first_call from at p ∷ es)
+pub front_replies : (kind : Kind) (front : List Call) (from at : ℕ) (p : AnyOp × AnyReply) (d : Content) (es : List Call) → next (empty kind) p.0 ≡ Some (d, p.1) → ((x : Call) → In x front → IsWrite x × (kind ≡ Register)) → (kind ≡ Register → (v : ℤ) × (p ≡ (Write v, Value (Some v)))) → RepliesAlong d es → RepliesAlong (empty kind) (front ++ returned_call from at p ∷ es)
 front_replies kind [] from at p d es does f g h = (d, p.1, does, refl, h)
 front_replies kind (x ∷ xs) from at p d es does f g h =
     let k = (f x (inl refl)).1 in
     let w = g k in
     let there : next (register None) (Write w.0) ≡ Some (d, p.1) = sym (ap (λ z. next (empty z) p.0) k ∙ ap (λ (q : AnyOp × AnyReply). next (register None) q.0) w.1) ∙ does in
     let same : register (Some w.0) ≡ d = ap (λ (z : Content × AnyReply). z.0) (same_Some (register (Some w.0), Value (Some w.0)) (d, p.1) there) in
-    subst (λ z. RepliesAlong (empty z) ((x ∷ xs) ++ first_call from at p ∷ es)) (sym k)
-    (subst (λ (q : AnyOp × AnyReply). RepliesAlong (register None) ((x ∷ xs) ++ first_call from at q ∷ es)) (sym w.1)
+    subst (λ z. RepliesAlong (empty z) ((x ∷ xs) ++ returned_call from at p ∷ es)) (sym k)
+    (subst (λ (q : AnyOp × AnyReply). RepliesAlong (register None) ((x ∷ xs) ++ returned_call from at q ∷ es)) (sym w.1)
     (writes_before (x ∷ xs) None from at w.0 es (λ y i. (f y i).0) (subst (λ c. RepliesAlong c es) (sym same) h)))

@@ -1,4 +1,4 @@
--- What a valid order has from a call on, behind which it is known what the object contains, is a valid order of the suffix.
+-- What a valid order has from a call on after which it is known what the object contains is a valid order of the suffix.
 use Rattle.std.proofs.Common.{◌≡◌, ◌≢◌, ◌⊎◌, inl, inr, ℕ, ℤ, pos, ◌<◌, ◌==◌, nat_lt, Bool, true, false, cond, List, [], ◌∷◌, ◌++◌, Option, Some, None, IfSome, IsSome, is_some, map, All, Contains, refl, ap, sym, ◌∙◌, subst, arith}
 use Rattle.std.specs.Prelude.{option_map}
 use Rattle.std.specs.List.{filter_map}
@@ -15,7 +15,7 @@ use Rattle.model.specs.declared.AnyReply.TheVariants.{Value}
 use Rattle.model.specs.Objects.{Content, empty, next, kind_of}
 use Rattle.model.specs.Orders.{Call, Return, ReturnsBefore, RepliesAlong, IsValidOrder}
 use Rattle.model.proofs.Lists.{In, Pairs, in_append, in_left, in_right, in_split, in_map, in_map_from, in_from_contains, contains_from_in, all_from_in, all_at, all_from_pairs, pairs_from_all, pairs_weaker, pairs_map, pairs_from_map, pairs_append}
-use Rattle.projection.specs.Parts.{reply_of, key_of, leaves, IsStart, ended_before, call_later, first_call, call_from, calls_from}
+use Rattle.projection.specs.Parts.{reply_of, key_of, leaves, IsStart, ended_before, call_later, returned_call, call_from, calls_from}
 use Rattle.projection.proofs.Simulation.{pick, in_pick, pairs_pick, Replied, Choice, choose}
 use Rattle.projection.proofs.Contents.{IsShadow}
 use Rattle.projection.proofs.Closed.{MayStep, may_step, closed_simulates}
@@ -48,10 +48,10 @@ replies_behind (x ∷ xs) e later c h = replies_behind xs e later h.0 h.4
 -- the entries of the suffix: writes that overlap the first call, then it, if there is one, and later calls
 record Joined (kind : Kind) (from at : ℕ) (first : Option (AnyOp × AnyReply)) (front es entries : List Call) : Type 0 where
   replies : RepliesAlong (empty kind) entries
-  own : (p : AnyOp × AnyReply) → first ≡ Some p → In (first_call from at p) entries
+  own : (p : AnyOp × AnyReply) → first ≡ Some p → In (returned_call from at p) entries
   fronts : (e : Call) → In e front → In e entries
   others : (e : Call) → In e es → In e entries
-  from_where : (e : Call) → In e entries → ((p : AnyOp × AnyReply) × (first ≡ Some p) × (e ≡ first_call from at p)) ⊎ (In e front ⊎ In e es)
+  from_where : (e : Call) → In e entries → ((p : AnyOp × AnyReply) × (first ≡ Some p) × (e ≡ returned_call from at p)) ⊎ (In e front ⊎ In e es)
   pairs : ((e : Call) → In e front → e.number ≢ from) → ((e : Call) → In e es → e.number ≢ from) → ((x y : Call) → In x front → In y es → x.number ≢ y.number) → Pairs (λ x y. x.number ≢ y.number) front → Pairs (λ x y. x.number ≢ y.number) es → Pairs (λ x y. x.number ≢ y.number) entries
   in_time : ((x : Call) → In x front → at < x.number → ⊥) → ((e : Call) (r : Return) → In e es → e.returned ≡ Some r → r.at < from → ⊥) → ((x y : Call) → In x front → In y es → ReturnsBefore y x → ⊥) → Pairs (λ x y. ReturnsBefore y x → ⊥) front → Pairs (λ x y. ReturnsBefore y x → ⊥) es → Pairs (λ x y. ReturnsBefore y x → ⊥) entries
 
@@ -66,18 +66,18 @@ joined_none kind from at front es none h = record {
   in_time = λ a b c f g. g;
 }
 
-joined_some : (kind : Kind) (from at : ℕ) (first : AnyOp × AnyReply) (d : Content) (front es : List Call) → next (empty kind) first.0 ≡ Some (d, first.1) → ((x : Call) → In x front → IsWrite x × (kind ≡ Register)) → (kind ≡ Register → (v : ℤ) × (first ≡ (Write v, Value (Some v)))) → RepliesAlong d es → Joined kind from at (Some first) front es (front ++ first_call from at first ∷ es)
+joined_some : (kind : Kind) (from at : ℕ) (first : AnyOp × AnyReply) (d : Content) (front es : List Call) → next (empty kind) first.0 ≡ Some (d, first.1) → ((x : Call) → In x front → IsWrite x × (kind ≡ Register)) → (kind ≡ Register → (v : ℤ) × (first ≡ (Write v, Value (Some v)))) → RepliesAlong d es → Joined kind from at (Some first) front es (front ++ returned_call from at first ∷ es)
 joined_some kind from at first d front es does writes reg h = record {
   replies = front_replies kind front from at first d es does writes reg h;
-  own = λ p e. in_right (first_call from at p) front (first_call from at first ∷ es) (inl (ap (first_call from at) (sym (same_Some first p e))));
-  fronts = λ e i. in_left e front (first_call from at first ∷ es) i;
-  others = λ e i. in_right e front (first_call from at first ∷ es) (inr i);
-  from_where = λ e i. elim (in_append e front (first_call from at first ∷ es) i) [
+  own = λ p e. in_right (returned_call from at p) front (returned_call from at first ∷ es) (inl (ap (returned_call from at) (sym (same_Some first p e))));
+  fronts = λ e i. in_left e front (returned_call from at first ∷ es) i;
+  others = λ e i. in_right e front (returned_call from at first ∷ es) (inr i);
+  from_where = λ e i. elim (in_append e front (returned_call from at first ∷ es) i) [
     | inl j ↦ inr (inl j)
     | inr j ↦ elim j [ inl q ↦ inl (first, refl, q) | inr k ↦ inr (inr k) ]
   ];
-  pairs = λ a b c f g. pairs_append (λ x y. x.number ≢ y.number) front (first_call from at first ∷ es) f (λ y i e. b y i (sym e), g) (λ x y i j. elim j [ inl q ↦ λ e. a x i (e ∙ ap (λ (z : Call). z.number) q) | inr k ↦ c x y i k ]);
-  in_time = λ a b c f g. pairs_append (λ x y. ReturnsBefore y x → ⊥) front (first_call from at first ∷ es) f (λ y i r. b y r.0 i r.1 r.2, g) (λ x y i j. elim j [ inl q ↦ λ r. late x.number r.0 (a x i) (sym (ap (λ (z : Call). z.returned) q) ∙ r.1) r.2 | inr k ↦ c x y i k ]);
+  pairs = λ a b c f g. pairs_append (λ x y. x.number ≢ y.number) front (returned_call from at first ∷ es) f (λ y i e. b y i (sym e), g) (λ x y i j. elim j [ inl q ↦ λ e. a x i (e ∙ ap (λ (z : Call). z.number) q) | inr k ↦ c x y i k ]);
+  in_time = λ a b c f g. pairs_append (λ x y. ReturnsBefore y x → ⊥) front (returned_call from at first ∷ es) f (λ y i r. b y r.0 i r.1 r.2, g) (λ x y i j. elim j [ inl q ↦ λ r. late x.number r.0 (a x i) (sym (ap (λ (z : Call). z.returned) q) ∙ r.1) r.2 | inr k ↦ c x y i k ]);
 }
   where
     late : (number : ℕ) (r : Return) → (at < number → ⊥) → Some (record { at = at; reply = first.1 }) ≡ Some r → r.at < number → ⊥
@@ -90,26 +90,26 @@ joined_some kind from at first d front es does writes reg h = record {
 
 call_from_other : (from at : ℕ) (first : Option (AnyOp × AnyReply)) (y : Call) → y.number ≢ from → ended_before from y.returned ≡ false → call_from from at first y ≡ Some (call_later first at y)
 call_from_other from at first y ne e =
-    ap (λ b. cond b (option_map (first_call from at) first) (cond (ended_before from y.returned) None (Some (call_later first at y)))) (ne_eqb y.number from ne)
+    ap (λ b. cond b (option_map (returned_call from at) first) (cond (ended_before from y.returned) None (Some (call_later first at y)))) (ne_eqb y.number from ne)
     ∙ ap (λ b. cond b None (Some (call_later first at y))) e
 
-call_from_own : (from at : ℕ) (first : Option (AnyOp × AnyReply)) (y : Call) (p : AnyOp × AnyReply) → y.number ≡ from → first ≡ Some p → call_from from at first y ≡ Some (first_call from at p)
+call_from_own : (from at : ℕ) (first : Option (AnyOp × AnyReply)) (y : Call) (p : AnyOp × AnyReply) → y.number ≡ from → first ≡ Some p → call_from from at first y ≡ Some (returned_call from at p)
 call_from_own from at first y p e f =
-    ap (λ b. cond b (option_map (first_call from at) first) (cond (ended_before from y.returned) None (Some (call_later first at y)))) (eq-eqb y.number from e)
-    ∙ ap (option_map (first_call from at)) f
+    ap (λ b. cond b (option_map (returned_call from at) first) (cond (ended_before from y.returned) None (Some (call_later first at y)))) (eq-eqb y.number from e)
+    ∙ ap (option_map (returned_call from at)) f
 
-call_from_cases : (from at : ℕ) (first : Option (AnyOp × AnyReply)) (y x : Call) → call_from from at first y ≡ Some x → ((p : AnyOp × AnyReply) × (first ≡ Some p) × (x ≡ first_call from at p)) ⊎ ((y.number ≢ from) × (x ≡ call_later first at y) × (ended_before from y.returned ≡ false))
+call_from_cases : (from at : ℕ) (first : Option (AnyOp × AnyReply)) (y x : Call) → call_from from at first y ≡ Some x → ((p : AnyOp × AnyReply) × (first ≡ Some p) × (x ≡ returned_call from at p)) ⊎ ((y.number ≢ from) × (x ≡ call_later first at y) × (ended_before from y.returned ≡ false))
 call_from_cases from at first y x e = go (y.number == from) refl e
   where
-    own : (o : Option (AnyOp × AnyReply)) → option_map (first_call from at) o ≡ Some x → (p : AnyOp × AnyReply) × (o ≡ Some p) × (x ≡ first_call from at p)
+    own : (o : Option (AnyOp × AnyReply)) → option_map (returned_call from at) o ≡ Some x → (p : AnyOp × AnyReply) × (o ≡ Some p) × (x ≡ returned_call from at p)
     own None e = absurd (cc e)
-    own (Some p) e = (p, refl, sym (same_Some (first_call from at p) x e))
+    own (Some p) e = (p, refl, sym (same_Some (returned_call from at p) x e))
 
     other : (b : Bool) → ended_before from y.returned ≡ b → cond b None (Some (call_later first at y)) ≡ Some x → (x ≡ call_later first at y) × (ended_before from y.returned ≡ false)
     other true n e = absurd (cc e)
     other false n e = (sym (same_Some (call_later first at y) x e), n)
 
-    go : (b : Bool) → (y.number == from) ≡ b → cond b (option_map (first_call from at) first) (cond (ended_before from y.returned) None (Some (call_later first at y))) ≡ Some x → ((p : AnyOp × AnyReply) × (first ≡ Some p) × (x ≡ first_call from at p)) ⊎ ((y.number ≢ from) × (x ≡ call_later first at y) × (ended_before from y.returned ≡ false))
+    go : (b : Bool) → (y.number == from) ≡ b → cond b (option_map (returned_call from at) first) (cond (ended_before from y.returned) None (Some (call_later first at y))) ≡ Some x → ((p : AnyOp × AnyReply) × (first ≡ Some p) × (x ≡ returned_call from at p)) ⊎ ((y.number ≢ from) × (x ≡ call_later first at y) × (ended_before from y.returned ≡ false))
     go true q e = inl (own first e)
     go false q e = let r = other (ended_before from y.returned) refl e in inr (eqb-false y.number from q, r.0, r.1)
 
@@ -143,7 +143,7 @@ chosen kind key from at first front es after on writes reg begins h = go first r
 
     go : (f : Option (AnyOp × AnyReply)) → first ≡ f → Begins (on_key key) kind f after → Chosen kind from at f front es
     go None e b = let m = choice (empty kind) b in record { flags = m.flags; entries = pick m.flags es; joined = joined_none kind from at front (pick m.flags es) (λ x i. (writes x i).0 e) m.replies; whole = λ x i so. m.whole x i refl so }
-    go (Some p) e b = let m = choice b.0 b.2 in record { flags = m.flags; entries = front ++ first_call from at p ∷ pick m.flags es; joined = joined_some kind from at p b.0 front (pick m.flags es) b.1 (λ x i. let w = writes x i in (w.1, w.2)) (reg p e) m.replies; whole = λ x i so. m.whole x i refl so }
+    go (Some p) e b = let m = choice b.0 b.2 in record { flags = m.flags; entries = front ++ returned_call from at p ∷ pick m.flags es; joined = joined_some kind from at p b.0 front (pick m.flags es) b.1 (λ x i. let w = writes x i in (w.1, w.2)) (reg p e) m.replies; whole = λ x i so. m.whole x i refl so }
 
 pub suffix_valid : (kind : Kind) (calls : List Call) (e : Call) (r : Return) (first : Option (AnyOp × AnyReply)) (order : List ℤ) → Contains calls e → All (λ f. kind_of f.op ≡ kind) calls → e.returned ≡ Some r → leaves e.op r.reply ≡ Some first → All (λ f. key_of f.op ≡ key_of e.op) calls → IsValidOrder kind calls order → (part : List ℤ) × IsValidOrder kind (calls_from e.number r.at first calls) part
 suffix_valid kind calls e r first order stands kinds ret fr on v =

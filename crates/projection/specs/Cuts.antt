@@ -7,11 +7,12 @@ use Rattle.model.specs.declared.AnyReply.{AnyReply}
 use Rattle.model.specs.Orders.{Call}
 use Rattle.events.specs.Operations.{ObjectCalls, calls_of}
 use Rattle.order_search.specs.Outcomes.{IsNoneValid}
+use Rattle.projection.specs.Cells.{cell_calls}
 use Rattle.projection.specs.Parts.{IsClosed, kept_calls, calls_before, IsStart, calls_from}
 use Rattle.projection.specs.declared.keeping.Values.{Values}
 use Rattle.projection.specs.declared.keeping.Values.TheVariants.{All, Only}
 use Rattle.projection.specs.declared.cutting.Cut.{Cut}
-use Rattle.projection.specs.declared.cutting.Cut.TheVariants.{From, Until, Keep}
+use Rattle.projection.specs.declared.cutting.Cut.TheVariants.{From, Until, Keep, Cell}
 
 -- A part is of the same object and kind. If no order of its calls is valid, then none of the
 -- whole's is.
@@ -50,6 +51,8 @@ Names (From number) calls part = IsSuffix number calls part
 Names (Until number) calls part = part ≡ calls_before number calls
 Names (Keep values numbers) calls part =
     IsClosedPart values numbers calls × (part ≡ kept_calls (keeps_number numbers) calls)
+Names (Cell values other numbers) calls part =
+    part ≡ cell_calls (keeps_value values) other (keeps_number numbers) calls
 
 -- the calls of the part that the cuts name, one after another
 abbrev pub NamesPart : List Cut → List Call → List Call → Type 0

@@ -1,4 +1,5 @@
 pub mod Parts
+pub mod Cells
 pub mod Cuts
 pub mod Counts
 pub mod Pieces

@@ -212,8 +212,8 @@ overlapping first number op (Some r) =
 abbrev pub call_later : Option (AnyOp × AnyReply) → ℕ → Call → Call
 call_later first at e = if nat_lt at e.number then e else overlapping first e.number e.op e.returned
 
-abbrev pub first_call : ℕ → ℕ → AnyOp × AnyReply → Call
-first_call from at first = record {
+abbrev pub returned_call : ℕ → ℕ → AnyOp × AnyReply → Call
+returned_call from at first = record {
   number = from;
   op = first.0;
   returned = Some (record { at = at; reply = first.1 });
@@ -222,7 +222,7 @@ first_call from at first = record {
 -- what a call becomes; one that returned before the first call is left out
 abbrev pub call_from : ℕ → ℕ → Option (AnyOp × AnyReply) → Call → Option Call
 call_from from at first e =
-    if e.number == from then option_map (first_call from at) first
+    if e.number == from then option_map (returned_call from at) first
     else (if ended_before from e.returned then None else Some (call_later first at e))
 
 abbrev pub calls_from : ℕ → ℕ → Option (AnyOp × AnyReply) → List Call → List Call

@@ -12,6 +12,7 @@ use Rattle.events.specs.declared.operations.End.TheVariants.{Returned, Pending, 
 use Rattle.events.specs.declared.operations.Invocation.{Invocation}
 use Rattle.projection.specs.declared.counting.Counted.{Counted}
 use Rattle.projection.specs.Counts.{sets, takes}
+use Rattle.projection.specs.Cells.{cell_done, cell_open}
 use Rattle.projection.specs.Parts.{fits, puts_in, takes_out, key_of, written_before}
 
 abbrev pub has_failed : End → Bool
@@ -82,14 +83,14 @@ abbrev pub piece_later : Option (AnyOp × AnyReply) → ℕ → Invocation → I
 piece_later first at o =
     if nat_lt at o.number then o else overlapping_piece first o.number o.op o.«end»
 
-abbrev pub first_piece : ℕ → ℕ → AnyOp × AnyReply → Invocation
-first_piece from at first =
+abbrev pub returned_piece : ℕ → ℕ → AnyOp × AnyReply → Invocation
+returned_piece from at first =
     record { number = from; op = first.0; «end» = Returned at first.1 }
 
 abbrev pub piece_from : ℕ → ℕ → Option (AnyOp × AnyReply) → Invocation → Option Invocation
 piece_from from at first o =
     if has_failed o.«end» then None
-    else (if o.number == from then option_map (first_piece from at) first
+    else (if o.number == from then option_map (returned_piece from at) first
     else (if is_over from o.«end» then None else Some (piece_later first at o)))
 
 -- ---- counts
@@ -106,3 +107,15 @@ is_gone what from number op (Returned at reply) =
     takes what op (Some reply) && not (nat_lt number from)
 is_gone what from number op Pending = false
 is_gone what from number op Failed = false
+
+-- ---- cells
+
+abbrev pub cell_end : (ℤ → Bool) → ℤ → Bool → ℕ → AnyOp → End → Option Invocation
+cell_end keeps other kept number op (Returned at reply) =
+    option_map (returned_piece number at) (cell_done keeps other kept op reply)
+cell_end keeps other kept number op Pending =
+    option_map (pending_piece number) (cell_open keeps op)
+cell_end keeps other kept number op Failed = None
+
+abbrev pub cell_piece : (ℤ → Bool) → ℤ → (ℕ → Bool) → Invocation → Option Invocation
+cell_piece keeps other kept o = cell_end keeps other (kept o.number) o.number o.op o.«end»

@@ -5,6 +5,7 @@ ghost use Rattle.model.specs.Orders.{Call};
 ghost use Rattle.events.specs.Operations.{calls_of};
 ghost use Rattle.projection.specs.Cuts.{IsPart, Names, NamesPart};
 
+use crate::cells::cell;
 use crate::keeping::{Values, keep};
 use crate::prefix::until;
 use crate::suffix::from;
@@ -23,6 +24,13 @@ pub enum Cut {
     /// The operations with these numbers, which keep these values, or keys: see [`keep`].
     Keep {
         values: Values,
+        numbers: BTreeSet<u32>,
+    },
+    /// A register's operations that can leave one of these values, and of the others those with
+    /// these numbers, with one other value in place of all others: see [`cell`].
+    Cell {
+        values: Values,
+        other: i64,
         numbers: BTreeSet<u32>,
     },
 }
@@ -55,6 +63,11 @@ fn cut_by(
         Cut::From(number) => from(alloc, history, *number),
         Cut::Until(number) => Ok(Some(until(alloc, history, *number)?)),
         Cut::Keep { values, numbers } => keep(alloc, history, values, numbers),
+        Cut::Cell {
+            values,
+            other,
+            numbers,
+        } => Ok(Some(cell(alloc, history, values, *other, numbers)?)),
     }
 }
 

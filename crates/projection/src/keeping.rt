@@ -26,7 +26,7 @@ impl Values {
         matches!(self, Values::All)
     }
 
-    fn has(&self, value: i64) -> bool
+    pub(crate) fn has(&self, value: i64) -> bool
         ensures { result ≡ keeps_value self.now value }
     {
         match self {

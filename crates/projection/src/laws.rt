@@ -9,6 +9,7 @@ ghost use Rattle.model.specs.declared.AnyReply.{AnyReply};
 ghost use Rattle.model.specs.Objects.{kind_of};
 ghost use Rattle.model.specs.Orders.{Call, Return, IsValidOrder};
 ghost use Rattle.projection.specs.declared.counting.Counted.{Counted};
+ghost use Rattle.projection.specs.Cells.{cell_calls};
 ghost use Rattle.projection.specs.Counts.{most_before, set_since, taken_since};
 ghost use Rattle.projection.specs.Parts.{IsClosed, kept_calls, calls_before, IsStart, calls_from};
 
@@ -52,4 +53,13 @@ pub fn count_is_bounded()
         → most_before kind what from ≡ Some most
         → IsValidOrder kind calls order
         → taken_since what from calls ≤ most + set_since what from calls }
+{}
+
+/// Where the calls of an object have a valid order, those of a cell have one, whatever it keeps and
+/// whatever its other value is.
+pub fn cell_is_valid()
+    ensures { (kind : Kind) (calls : List Call) (keeps : ℤ → Bool) (other : ℤ) (kept : ℕ → Bool)
+        (order : List ℤ)
+        → IsValidOrder kind calls order
+        → (part : List ℤ) × IsValidOrder kind (cell_calls keeps other kept calls) part }
 {}
