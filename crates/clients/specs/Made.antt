@@ -20,8 +20,9 @@ abbrev pub Made : List Call → List AnyEvent → Type 0
 Made [] es = es ≡ []
 Made (c ∷ cs) es = (t u : ℕ) × (a : AnyAnswer) × (rest : List AnyEvent) × (es ≡ Invoked t c.0 c.1 ∷ Returned u a ∷ rest) × Made cs rest
 
--- These events are of the calls up to one, in order: those in front of it were made; of this one, to which memory was
--- refused, there is the invocation alone, and of those behind it nothing.
+-- These events are of the calls up to one, in order: those in front of it were made; of this one there is the invocation
+-- alone, and of those after it nothing. A client stops so where memory is refused to the call. That it was refused is not
+-- said here, since no clause knows what the allocator refused: a client that stopped at any call would meet this too.
 pub record IsStopped (cs : List Call) (es : List AnyEvent) : Type 0 where
   pub front : List Call
   pub call : Call
@@ -32,7 +33,7 @@ pub record IsStopped (cs : List Call) (es : List AnyEvent) : Type 0 where
   pub ticket : ℕ
   pub last : es ≡ events ++ Invoked ticket call.0 call.1 ∷ []
 
--- of all calls, or up to one to which memory was refused
+-- of all calls, or up to one that did not return
 abbrev pub MadeOrStopped : List Call → List AnyEvent → Type 0
 MadeOrStopped cs es = Made cs es ⊎ IsStopped cs es
 
@@ -44,7 +45,7 @@ pub record MayWork (d : DeskSeen) (c : Known) (cs : List Call) : Type 0 where
   pub few : length cs < 10001
   pub fit : All (IsCall d.id.kinds) cs
 
--- a client made these calls, in order, or stopped at one to which memory was refused
+-- a client made these calls, in order, or stopped at one, which is outstanding
 pub record Worked (cs : List Call) (v w : View) : Type 0 where
   pub number : w.number ≡ v.number
   pub kinds : w.kinds ≡ v.kinds
@@ -65,7 +66,7 @@ pub record IsNew (d : DeskSeen) (w : Work) (k : Known) : Type 0 where
   pub low : k.knows.number < length w.calls
   pub begun : k ≡ begun d.id k.knows.number
 
--- the client c has made its calls, in order, or stopped at one to which memory was refused
+-- the client c has made its calls, in order, or stopped at one, which is outstanding
 pub record HasWorked (d : DeskSeen) (w : Work) (c : ℕ) (k : Known) : Type 0 where
   pub desk : k.desk ≡ d.id
   pub number : k.knows.number ≡ c
@@ -119,7 +120,7 @@ ClosedBy d c r = Closed (λ (op : AnyOp). op) (λ (reply : AnyReply). reply) d c
 
 -- What is recorded of the client c, which client 0 met at the end. `first` is what client 0 knew.
 pub record HasRun (w : Work) (r : Recorded AnyOp AnyReply) (first : View) (c : ℕ) : Type 0 where
-  -- it made its calls, all of them, in order; or those up to one to which memory was refused, and which is pending
+  -- it made its calls, all of them, in order; or those up to one that is pending
   pub made : MadeOrStopped (calls_at w c) (journal_at r c)
   -- what it knew of its calls at the end
   pub knew : View

@@ -6,3 +6,4 @@ mod run;
 mod worker;
 
 pub use run::{RunFault, run_workers};
+pub use workload::{Workload, workload};

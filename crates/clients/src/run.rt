@@ -56,7 +56,8 @@ impl<'a> Promise<Client<AnyObject>> for WorkerOf<'a> {
 
 /// Makes the calls of the workload on a new desk, and closes it. Client 0 runs in the calling thread, and each other in a
 /// thread of its own; then client 0 meets each other on each object. A client to whose call memory is refused makes no more,
-/// and that call is pending in the record. The gate is called around each call.
+/// and that call is pending in the record. That memory was refused there is in no clause: `Ran` lets a client stop at any call.
+/// The gate is called around each call.
 pub fn run_workers<R: Threads + Wait + Sync, G: Gate>(
     rt: &R,
     alloc: Global,

@@ -15,7 +15,7 @@ use std::sync::Wait;
 use workload::Workload;
 
 /// Makes the client's calls of the workload, one after another, and hands the client back. Where memory is refused to a
-/// call it makes no more, and that one is outstanding.
+/// call it makes no more, and that one is outstanding. The clause does not say that memory was refused.
 pub(crate) fn work<R: Wait, G: Gate>(
     rt: &R,
     gate: &G,
@@ -57,7 +57,7 @@ fn make_all<R: Wait, G: Gate>(
     client
 }
 
-// Makes one call, which cannot be refused. Whether it is over: if not, memory was refused, and it is outstanding.
+// Makes one call, which `post` cannot refuse. Whether it is over: if not, it is outstanding.
 fn make<R: Wait>(
     rt: &R,
     desk: &Desk<AnyObject>,

@@ -1,17 +1,22 @@
 -- What a call that waited did.
-use Rattle.std.proofs.Common.{◌≡◌, ℕ, ◌+◌, ◌<◌, List, [], ◌∷◌, ◌++◌, Some, All, length, refl, sym, ap, subst, ◌∙◌, length-append, append_assoc}
+use Rattle.std.proofs.Common.{◌≡◌, ℕ, ◌+◌, ◌<◌, true, false, List, [], ◌∷◌, ◌++◌, Some, All, length, Result, Ok, Err, IfErr, refl, sym, ap, subst, ◌∙◌, arith, length-append, append_assoc}
 use Rattle.model.specs.declared.Kind.{Kind}
 use Rattle.model.specs.declared.AnyOp.{AnyOp}
-use Rattle.world.specs.World.{AnyEntry, AnyRequest, AnyAnswer, kind_at, logged, entries_of, served, journal_of, IsLegal, StartsWith}
+use Rattle.model.specs.Objects.{kind_of}
+use Rattle.world.specs.World.{AnyEntry, AnyRequest, AnyAnswer, kind_at, logged, entries_of, served, calls_made, journal_of, IsLegal, StartsWith}
 use Rattle.world.proofs.Entries.{starts_longer, starts_same}
 use Rattle.world.specs.declared.JournalEvent.TheVariants.{Invoked, Returned}
 use Rattle.desk_rule.specs.declared.board.View.{View}
 use Rattle.desk_rule.specs.declared.board.Own.TheVariants as own
-use Rattle.desk_rule.specs.Views.{journal, own_request, seen_of, with_own, after_perform, after_win, after_release}
-use Rattle.publication.specs.Handles.{Holding}
-use Rattle.publication.specs.Calls.{Posted, Performed, Polled, NotPolled}
+use Rattle.desk_rule.specs.Views.{journal, own_request, seen_of, is_waiting, with_own, after_perform, after_win, after_release}
+use Rattle.publication.specs.declared.desk.Post.{Post}
+use Rattle.publication.specs.declared.desk.Post.TheVariants as post
+use Rattle.publication.specs.Handles.{DeskSeen, Known, Holding}
+use Rattle.publication.specs.Calls.{Posted, Performed, Polled, NotPolled, MayPost, PostRefused}
+use Rattle.combiner.specs.declared.waiting.CallFault.{CallFault}
+use Rattle.combiner.specs.declared.waiting.CallFault.TheVariants as fault
 use Rattle.combiner.specs.Passes.{KeepsCalls, Goes}
-use Rattle.combiner.specs.Waits.{Called, Returns, IsLogged, IsOutstanding}
+use Rattle.combiner.specs.Waits.{Called, Returns, IsLogged, IsOutstanding, Faulted}
 use Rattle.combiner.proofs.Served.{seen_on, keeps_on, keeps_same, keeps_held, keeps_unpolled}
 
 pub returned : (v u w : View) (a : AnyAnswer) → KeepsCalls v u → Polled u a w → Returns v a w
@@ -134,3 +139,31 @@ outstanding_before v u p w object op k posted after =
       },
       keeps_on z p w (subst (KeepsCalls z) (sym posted.knows) kept) after,
     )
+
+-- the operation is one of the object, which is there
+abbrev pub IsOn : DeskSeen → ℕ → AnyOp → Type 0
+IsOn d x op = (x < length d.id.kinds) × (kind_of op ≡ kind_at d.id.kinds x)
+
+-- who may still post does so after it saw more
+may_still : (v u : Known) → u.desk ≡ v.desk → KeepsCalls v.knows u.knows → MayPost v → MayPost u
+may_still v u same kept may = (
+  ap is_waiting kept.own ∙ may.0,
+  subst (λ n. n < u.desk.quota) (λ i. calls_made (sym kept.done i) (own_request (sym kept.own i))) (subst (λ n. calls_made v.knows.done (own_request v.knows.own) < n) (sym (ap (λ z. z.quota) same)) may.1),
+)
+
+-- such a call is not refused
+not_refused : (d : DeskSeen) (c : Known) (x : ℕ) (op : AnyOp) (e : Post) → MayPost c → IsOn d x op → PostRefused d c x op e → ⊥
+not_refused d c x op post.Outstanding may there r = let e : true ≡ false = sym r ∙ may.0 in cc
+not_refused d c x op post.Spent may there r = let few = may.1 in let spent = r.1 in omega arith
+not_refused d c x op post.NoSuchObject may there r = let inside = there.0 in let past = r.1 in omega arith
+not_refused d c x op post.OtherKind may there r = r.1.1 there.1
+
+-- why a call that was not made at once was not answered
+faulted_before : (d : DeskSeen) (v u : Known) (x : ℕ) (op : AnyOp) (e : CallFault) (k : Known) → MayPost v → IsOn d x op → u.desk ≡ v.desk → KeepsCalls v.knows u.knows → Faulted d u x op e k → Faulted d v x op e k
+faulted_before d v u x op (fault.Post e) k may there same kept f = absurd (not_refused d u x op e (may_still v u same kept may) there f.1)
+faulted_before d v u x op fault.NoMemory k may there same kept f = outstanding_before v.knows u.knows f.0 k.knows x op kept f.1 f.2
+
+pub faults_before : {R : Type 0} (r : Result R CallFault) (d : DeskSeen) (v u : Known) (x : ℕ) (op : AnyOp) (k : Known) → MayPost v → IsOn d x op → u.desk ≡ v.desk → KeepsCalls v.knows u.knows
+    → IfErr r (λ e. Faulted d u x op e k) → IfErr r (λ e. Faulted d v x op e k)
+faults_before (Ok a) d v u x op k may there same kept f = tt
+faults_before (Err e) d v u x op k may there same kept f = faulted_before d v u x op e k may there same kept f

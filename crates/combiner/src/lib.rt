@@ -1,4 +1,4 @@
-//! Combining: one pass over the rows of a desk, and a call that waits for its answer.
+//! Combining: one pass over the rows of a desk, and calls that wait for their answers.
 //!
 //! Whoever wins an object serves the requests of all rows for it. Hendler, Incze, Shavit, Tzafrir, "Flat Combining and
 //! the Synchronization-Parallelism Tradeoff", SPAA 2010.
@@ -8,4 +8,4 @@ mod passes;
 mod waiting;
 
 pub use passes::{Combined, combine};
-pub use waiting::{CallFault, call, wait_for};
+pub use waiting::{CallFault, call, call_at_once, wait_for};

@@ -78,7 +78,7 @@ pub fn combine<S: SeqObject>(
 /// Tries to win the object. If it is won, and the log has room for a call of each client, serves each row of the publication
 /// list, and then makes a call of the client's own, if the object can do it: no request goes through the client's row. None:
 /// the call was not made.
-pub(crate) fn call_at_once<S: SeqObject>(
+pub(crate) fn try_at_once<S: SeqObject>(
     desk: &Desk<S>,
     client: Client<S>,
     object: u32,

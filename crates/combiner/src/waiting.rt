@@ -1,11 +1,11 @@
-//! A call that waits for its answer.
+//! A call that is posted and waits for its answer, and one that is made at once where the object is free.
 
 ghost use Rattle.std.specs.Prelude.{◌≡◌, ◌<◌, length, IfOk, IfErr};
 ghost use Rattle.world.specs.Images.{answer_in};
 ghost use Rattle.combiner.specs.Passes.{KeepsCalls};
 ghost use Rattle.combiner.specs.Waits.{Called, Returns, Faulted};
 
-use crate::passes::{Combined, call_at_once, combine};
+use crate::passes::{Combined, combine, try_at_once};
 use crossbeam_utils::Backoff;
 use publication::{Answer, Client, Desk, Post};
 use seq_objects::SeqObject;
@@ -21,8 +21,7 @@ pub enum CallFault {
     NoMemory,
 }
 
-/// Makes a call: at once, where the client wins the object. Otherwise it posts the call, and then polls, enlists the row and
-/// combines until it is answered.
+/// Makes a call: posts it, and then polls, enlists the row and combines, with a yield between tries, until it is answered.
 pub fn call<S: SeqObject, R: Wait>(
     rt: &R,
     desk: &Desk<S>,
@@ -37,16 +36,10 @@ pub fn call<S: SeqObject, R: Wait>(
         (λ a. Called client.knows object (S.op_in op) (answer_in S.reply_in a) result.0.knows) }
     ensures fault { IfErr result.1 (λ e. Faulted desk.now client object (S.op_in op) e result.0) }
 {
-    if let Err(fault) = desk.may_post(&client, object, &op) {
+    let mut client = client;
+    if let Err(fault) = desk.post(&mut client, object, op) {
         return (client, Err(CallFault::Post(fault)));
     }
-    let (mut client, made) = call_at_once(desk, client, object, op);
-    if let Some(answer) = made {
-        return (client, Ok(answer));
-    }
-    let Ok(()) = desk.post(&mut client, object, op) else {
-        unreachable!()
-    };
     let (client, answered) = wait_for(rt, desk, client, object);
     match answered {
         Ok(answer) => (client, Ok(answer)),
@@ -54,7 +47,34 @@ pub fn call<S: SeqObject, R: Wait>(
     }
 }
 
-/// Polls, enlists the row and combines until the outstanding call is answered, or memory is refused to a pass of its own.
+/// Makes a call without posting it, where the client wins the object at its first try and the object can do the operation after the
+/// listed rows. Otherwise it makes the call as `call` does. This way is no part of flat combining as it was published.
+pub fn call_at_once<S: SeqObject, R: Wait>(
+    rt: &R,
+    desk: &Desk<S>,
+    client: Client<S>,
+    object: u32,
+    op: S::Op,
+) -> (Client<S>, Result<Answer<S::Reply>, CallFault>)
+    requires { client.desk ≡ desk.now.id }
+    ensures desk { result.0.desk ≡ client.desk }
+    // The call is over, and this is its answer.
+    ensures answered { IfOk result.1
+        (λ a. Called client.knows object (S.op_in op) (answer_in S.reply_in a) result.0.knows) }
+    ensures fault { IfErr result.1 (λ e. Faulted desk.now client object (S.op_in op) e result.0) }
+{
+    if let Err(fault) = desk.may_post(&client, object, &op) {
+        return (client, Err(CallFault::Post(fault)));
+    }
+    let (client, made) = try_at_once(desk, client, object, op);
+    match made {
+        Some(answer) => (client, Ok(answer)),
+        None => call(rt, desk, client, object, op),
+    }
+}
+
+/// Polls, enlists the row and combines until the outstanding call is answered, or memory is refused to a pass of its own. There is
+/// a yield after each try, also after a pass that served the call.
 pub fn wait_for<S: SeqObject, R: Wait>(
     rt: &R,
     desk: &Desk<S>,
@@ -79,10 +99,11 @@ pub fn wait_for<S: SeqObject, R: Wait>(
         client = after;
         match combined {
             Combined::NoMemory => return (client, Err(AllocError)),
-            // Something was answered, the own call too unless it was put back.
+            // Something was answered, the own call too unless it was put back: the next yields are short ones.
             Combined::Served { count, .. } if count > 0 => backoff.reset(),
-            _ => backoff.snooze(),
+            _ => {}
         }
+        backoff.snooze();
     }
     unreachable!()
 }

@@ -1,8 +1,10 @@
-//! Calls that a client makes at once, since it wins the object.
+//! Calls that a client makes at once, since it wins the object, and calls that it posts.
 
-use crate::desks::{acquired, enlist, for_one, invoked, post, record_of, returned, tickets_are};
-use combiner::call;
-use publication::{Answer, Enlist};
+use crate::desks::{
+    acquired, enlist, for_one, invoked, passes, post, record_of, returned, tickets_are,
+};
+use combiner::{CallFault, call, call_at_once};
+use publication::{Answer, Enlist, Post};
 use seq_objects::{AnyOp, AnyReply, Kind};
 use std::test::Fail;
 
@@ -11,12 +13,29 @@ use std::test::Fail;
 fn a_lone_client_is_not_listed(rt: HostRuntime) -> Result<(), Fail> {
     let (desk, client) = for_one(rt.alloc(), Kind::Queue, 2)?;
     let four = Ok(Answer::Reply(AnyReply::Value(Some(4))));
-    let (client, first) = call(&rt, &desk, client, 0, AnyOp::Enqueue(4));
+    let (client, first) = call_at_once(&rt, &desk, client, 0, AnyOp::Enqueue(4));
     assert!(rt; first == four);
-    let (mut client, second) = call(&rt, &desk, client, 0, AnyOp::Dequeue);
+    let (mut client, second) = call_at_once(&rt, &desk, client, 0, AnyOp::Dequeue);
     assert!(rt; second == four);
     assert!(rt; !client.outstanding());
     enlist(&rt, &desk, &mut client, Enlist::Listed);
+    Ok(())
+}
+
+// `call` posts, polls in vain, and enlists its row before it combines. A call that is made at once fails here.
+#[test]
+fn a_lone_client_posts_and_is_listed(rt: HostRuntime) -> Result<(), Fail> {
+    let (desk, client) = for_one(rt.alloc(), Kind::Queue, 2)?;
+    let four = Ok(Answer::Reply(AnyReply::Value(Some(4))));
+    let (mut client, first) = call(&rt, &desk, client, 0, AnyOp::Enqueue(4));
+    assert!(rt; first == four);
+    enlist(&rt, &desk, &mut client, Enlist::Already);
+    let (client, second) = call(&rt, &desk, client, 0, AnyOp::Dequeue);
+    assert!(rt; second == four);
+    let (client, third) = call(&rt, &desk, client, 0, AnyOp::Dequeue);
+    assert!(rt; third == Err(CallFault::Post(Post::Spent)));
+    // Each of the two calls took one pass.
+    passes(&rt, &desk, client, 3, 0);
     Ok(())
 }
 
@@ -26,7 +45,7 @@ fn listed_rows_are_served_first(rt: HostRuntime) -> Result<(), Fail> {
     let (desk, mut zero, one) = acquired(&rt, rt.alloc())?;
     post(&rt, &desk, &mut zero, AnyOp::Release);
     enlist(&rt, &desk, &mut zero, Enlist::Listed);
-    let (one, answer) = call(&rt, &desk, one, 0, AnyOp::Acquire);
+    let (one, answer) = call_at_once(&rt, &desk, one, 0, AnyOp::Acquire);
     assert!(rt; answer == Ok(Answer::Reply(AnyReply::Value(None))));
     assert!(rt; desk.poll(&mut zero).is_some());
     let record = record_of(&rt, desk, zero, one);

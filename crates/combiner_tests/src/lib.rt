@@ -9,6 +9,8 @@ mod at_once;
 #[cfg(test)]
 mod desks;
 #[cfg(test)]
+mod lines;
+#[cfg(test)]
 mod listing;
 #[cfg(test)]
 mod many_rows;

@@ -2,8 +2,8 @@
 
 ghost use Rattle.std.specs.Prelude.{◌≡◌, ◌<◌, length, IfSome};
 
-use crate::desks::{desk_of, enlist, next, post};
-use combiner::{CallFault, call, wait_for};
+use crate::desks::{desk_of, enlist, for_one, next, post};
+use combiner::{CallFault, call, call_at_once, wait_for};
 use publication::{Answer, Client, Desk, Enlist, Post};
 use seq_objects::{AnyObject, AnyOp, AnyReply, Kind};
 use std::process::Abort;
@@ -31,8 +31,8 @@ fn acquires_and_releases<R: Wait>(
     requires { client.desk ≡ desk.now.id }
     ensures { IfSome result (λ c. c.desk ≡ desk.now.id) }
 {
-    let (client, first) = call(rt, desk, client, 0, AnyOp::Acquire);
-    let (client, second) = call(rt, desk, client, 0, AnyOp::Release);
+    let (client, first) = call_at_once(rt, desk, client, 0, AnyOp::Acquire);
+    let (client, second) = call_at_once(rt, desk, client, 0, AnyOp::Release);
     if first == Ok(DONE) && second == Ok(DONE) {
         Some(client)
     } else {
@@ -59,12 +59,33 @@ fn goes_on<R: Wait + Abort>(
     assert!(rt; !client.outstanding());
 }
 
-// Client 3 calls acquire behind four entries, for which the log has room, with the rows of a release and an acquire listed. It
+// The log has no room yet, so the pass of the first call must make some. `rt try --test --fail-alloc N` refuses a test's Nth
+// allocation: at the one of that room the test prints that the call is outstanding.
+#[test]
+fn a_call_whose_pass_gets_no_memory_is_outstanding(rt: HostRuntime) -> Result<(), Fail> {
+    let Ok((desk, client)) = for_one(rt.alloc(), Kind::Mutex, 1) else {
+        return Ok(());
+    };
+    let (client, called) = call(&rt, &desk, client, 0, AnyOp::Acquire);
+    match called {
+        Ok(answer) => {
+            assert!(rt; answer == DONE);
+            assert!(rt; !client.outstanding());
+        }
+        Err(fault) => {
+            println!(rt; "the call is outstanding")?;
+            goes_on(&rt, &desk, client, fault);
+        }
+    }
+    Ok(())
+}
+
+// Client 3 calls acquire after four entries, for which the log has room, with the rows of a release and an acquire listed. It
 // serves the acquire, so that its own and the release are served in its second pass. That pass needs more room, for the
 // first time. `rt try --test --fail-alloc N` refuses a test's Nth allocation: at the one of that room the test prints that
 // the call is outstanding.
 #[test]
-fn a_call_whose_pass_gets_no_memory_is_outstanding(rt: HostRuntime) -> Result<(), Fail> {
+fn a_call_that_was_not_made_at_once_is_outstanding(rt: HostRuntime) -> Result<(), Fail> {
     let Ok((desk, mut clients)) = desk_of(rt.alloc(), Kind::Mutex, 4, 5) else {
         return Ok(());
     };
@@ -79,7 +100,7 @@ fn a_call_whose_pass_gets_no_memory_is_outstanding(rt: HostRuntime) -> Result<()
     };
     waits(&rt, &desk, &mut two, AnyOp::Acquire);
     waits(&rt, &desk, &mut one, AnyOp::Release);
-    let (three, called) = call(&rt, &desk, three, 0, AnyOp::Acquire);
+    let (three, called) = call_at_once(&rt, &desk, three, 0, AnyOp::Acquire);
     match called {
         Ok(answer) => {
             assert!(rt; answer == DONE);

@@ -3,7 +3,8 @@
 ghost use Rattle.std.specs.Prelude.{◌≡◌, ◌<◌, length, IfOk};
 
 use crate::desks::{enlist, for_one, invoked, passes, tickets_are, value, win};
-use combiner::{Combined, call, combine};
+use crate::lines::says;
+use combiner::{Combined, call_at_once, combine};
 use publication::{Answer, Client, Desk, Enlist, JournalEvent, Record};
 use seq_objects::{AnyObject, AnyOp, AnyReply, Kind, SeqObject};
 use std::alloc::{AllocError, Global};
@@ -128,6 +129,15 @@ fn record_of<R: Abort>(rt: &R, desk: Desk<Refusing>, last: Client<Refusing>) -> 
     }
 }
 
+const REFUSED: &str = "{:process 0, :type :invoke, :f :enqueue, :value 1, :object 0}
+{:process 0, :type :fail, :f :enqueue, :value 1, :object 0}
+{:process 0, :type :invoke, :f :dequeue, :value nil, :object 0}
+{:process 0, :type :ok, :f :dequeue, :value nil, :object 0}
+{:object 0, :order [2]}
+yes: 1 operations, 1 objects
+queue: 1 objects, 1 operations
+";
+
 #[test]
 fn a_refused_call_is_in_no_log(rt: HostRuntime) -> Result<(), Fail> {
     let (desk, client) = desk_of(rt.alloc(), 0, 2)?;
@@ -153,15 +163,16 @@ fn a_refused_call_is_in_no_log(rt: HostRuntime) -> Result<(), Fail> {
     ];
     assert!(rt; record.journal(0) == events.as_slice());
     assert!(rt; tickets_are(record.log(0), &[2]));
+    says(&rt, &record, REFUSED);
     Ok(())
 }
 
 #[test]
 fn a_call_made_at_once_is_refused(rt: HostRuntime) -> Result<(), Fail> {
     let (desk, client) = desk_of(rt.alloc(), 0, 2)?;
-    let (client, first) = call(&rt, &desk, client, 0, AnyOp::Enqueue(1));
+    let (client, first) = call_at_once(&rt, &desk, client, 0, AnyOp::Enqueue(1));
     assert!(rt; first == Ok(Answer::Refused));
-    let (client, second) = call(&rt, &desk, client, 0, AnyOp::Dequeue);
+    let (client, second) = call_at_once(&rt, &desk, client, 0, AnyOp::Dequeue);
     assert!(rt; second == Ok(Answer::Reply(AnyReply::Value(None))));
     let record = record_of(&rt, desk, client);
     assert!(rt; record.objects() == 1);

@@ -3,7 +3,8 @@
 ghost use Rattle.std.specs.Prelude.{◌≡◌, ◌<◌, length, IfOk};
 
 use crate::desks::{tickets_are, value, win};
-use publication::{Client, Desk, JournalEvent, Pass, Picked, Post, Record, Unretired};
+use crate::lines::says;
+use publication::{Answer, Client, Desk, JournalEvent, Pass, Picked, Post, Record, Unretired};
 use seq_objects::{AnyObject, AnyOp, AnyReply, Kind};
 use std::alloc::{AllocError, Global};
 use std::process::Abort;
@@ -86,6 +87,24 @@ fn invoked(ticket: u64, object: u32, op: AnyOp) -> JournalEvent<AnyOp, AnyReply>
     JournalEvent::Invoked { ticket, object, op }
 }
 
+fn returned(ticket: u64, v: i64) -> JournalEvent<AnyOp, AnyReply> {
+    JournalEvent::Returned {
+        ticket,
+        answer: Answer::Reply(AnyReply::Value(Some(v))),
+    }
+}
+
+const LINES: &str = "{:process 0, :type :invoke, :f :enqueue, :value 1, :object 0}
+{:process 1, :type :invoke, :f :push, :value 2, :object 1}
+{:process 1, :type :ok, :f :push, :value 2, :object 1}
+{:process 0, :type :ok, :f :enqueue, :value 1, :object 0}
+{:object 0, :order [0]}
+{:object 1, :order [1]}
+yes: 2 operations, 2 objects
+queue: 1 objects, 1 operations
+stack: 1 objects, 1 operations
+";
+
 #[test]
 fn objects_and_faults_of_a_post(rt: HostRuntime) -> Result<(), Fail> {
     let (desk, mut zero, mut one) = queue_and_stack(rt.alloc())?;
@@ -107,9 +126,12 @@ fn objects_and_faults_of_a_post(rt: HostRuntime) -> Result<(), Fail> {
     let mut zero = serve_own(&rt, &desk, pass, 0);
     assert!(rt; desk.poll(&mut zero) == value(1));
     let record = close(&rt, desk, zero, one);
-    assert!(rt; record.journal(0).first() == Some(&invoked(0, 0, AnyOp::Enqueue(1))));
-    assert!(rt; record.journal(1).first() == Some(&invoked(1, 1, AnyOp::Push(2))));
+    let own = [invoked(0, 0, AnyOp::Enqueue(1)), returned(3, 1)];
+    let other = [invoked(1, 1, AnyOp::Push(2)), returned(2, 2)];
+    assert!(rt; record.journal(0) == own.as_slice());
+    assert!(rt; record.journal(1) == other.as_slice());
     assert!(rt; tickets_are(record.log(0), &[0]));
     assert!(rt; tickets_are(record.log(1), &[1]));
+    says(&rt, &record, LINES);
     Ok(())
 }

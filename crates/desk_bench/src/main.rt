@@ -1,14 +1,15 @@
 //! How long calls on a desk take.
 //!
-//! So many threads, each with a client of its own, make calls on one object. Printed is for each kind of object and number
-//! of threads the least time of a call in nanoseconds, over all rounds: the time of a whole round, through the number of
-//! its calls. The word is the number of rounds; with none there is one round, and no time is printed.
+//! So many threads, each with a client of its own, make calls on one object. Printed are for each kind of object and number
+//! of threads two least times of a call in nanoseconds, over all rounds, that of `call` and that of `call_at_once`: the time of a
+//! whole round, through the number of its calls. The word is the number of rounds; with none there is one round of each, and
+//! no time is printed.
 #![tactic(auto)]
 
 ghost use Rattle.std.specs.Prelude.{◌≡◌, ◌+◌, ◌<◌, length, IfOk};
 ghost use Rattle.publication.specs.Handles.{AllBegun};
 
-use combiner::call;
+use combiner::{call, call_at_once};
 use publication::{Client, Desk};
 use seq_objects::{AnyObject, AnyOp, Kind};
 use std::alloc::{AllocError, Global};
@@ -27,6 +28,22 @@ trait Host: Threads + Wait + Sync + Clock + AllocGlobal + Print {}
 
 impl<R: Threads + Wait + Sync + Clock + AllocGlobal + Print> Host for R {}
 
+/// Which of the two calls is timed.
+#[derive(Clone, Copy)]
+enum Way {
+    /// `call`, which posts.
+    Posted,
+    /// `call_at_once`, which posts only where the object is held.
+    AtOnce,
+}
+
+/// The object, and the calls that are made on it.
+#[derive(Clone, Copy)]
+struct Job {
+    kind: Kind,
+    way: Way,
+}
+
 /// The call of this number that a thread makes.
 fn op_of(kind: Kind, thread: u32, i: u32) -> AnyOp {
     let x = ((i as u64 * 7919 + thread as u64 * 104_729) % 1000) as i64;
@@ -42,13 +59,17 @@ fn op_of(kind: Kind, thread: u32, i: u32) -> AnyOp {
 }
 
 /// Makes the calls of one client.
-fn work<R: Wait>(rt: &R, desk: &Desk<AnyObject>, client: Client<AnyObject>, kind: Kind)
+fn work<R: Wait>(rt: &R, desk: &Desk<AnyObject>, client: Client<AnyObject>, job: Job)
     requires { client.desk ≡ desk.now.id }
 {
     let mut client = client;
     let thread = client.number();
     for i in 0..CALLS {
-        let (after, _) = call(rt, desk, client, 0, op_of(kind, thread, i));
+        let op = op_of(job.kind, thread, i);
+        let (after, _) = match job.way {
+            Way::Posted => call(rt, desk, client, 0, op),
+            Way::AtOnce => call_at_once(rt, desk, client, 0, op),
+        };
         client = after;
     }
 }
@@ -72,15 +93,15 @@ fn two_work<R: Threads + Wait + Sync>(
     desk: &Desk<AnyObject>,
     one: Client<AnyObject>,
     other: Client<AnyObject>,
-    kind: Kind,
+    job: Job,
 )
     requires one { one.desk ≡ desk.now.id }
     requires other { other.desk ≡ desk.now.id }
 {
     join(
         rt,
-        || work(rt, desk, one, kind),
-        || work(rt, desk, other, kind),
+        || work(rt, desk, one, job),
+        || work(rt, desk, other, job),
     );
 }
 
@@ -89,7 +110,7 @@ fn four_work<R: Threads + Wait + Sync>(
     rt: &R,
     desk: &Desk<AnyObject>,
     clients: &mut Vec<Client<AnyObject>>,
-    kind: Kind,
+    job: Job,
 )
     requires { (length clients.old.items ≡ 4) × AllBegun desk.now.id clients.old.items }
 {
@@ -99,10 +120,10 @@ fn four_work<R: Threads + Wait + Sync>(
         rt,
         || -> ()
             requires { (a.desk ≡ desk.now.id) × (b.desk ≡ desk.now.id) }
-        { two_work(rt, desk, a, b, kind) },
+        { two_work(rt, desk, a, b, job) },
         || -> ()
             requires { (c.desk ≡ desk.now.id) × (d.desk ≡ desk.now.id) }
-        { two_work(rt, desk, c, d, kind) },
+        { two_work(rt, desk, c, d, job) },
     );
 }
 
@@ -111,14 +132,14 @@ fn all_work<R: Threads + Wait + Sync>(
     rt: &R,
     desk: &Desk<AnyObject>,
     clients: &mut Vec<Client<AnyObject>>,
-    kind: Kind,
+    job: Job,
 )
     requires { AllBegun desk.now.id clients.old.items }
 {
     match clients.len() {
-        1 => work(rt, desk, next(desk, clients), kind),
-        2 => two_work(rt, desk, next(desk, clients), next(desk, clients), kind),
-        4 => four_work(rt, desk, clients, kind),
+        1 => work(rt, desk, next(desk, clients), job),
+        2 => two_work(rt, desk, next(desk, clients), next(desk, clients), job),
+        4 => four_work(rt, desk, clients, job),
         _ => {}
     }
 }
@@ -137,22 +158,22 @@ fn new_desk(
 }
 
 /// The nanoseconds of one round.
-fn round<R: Host>(rt: &R, kind: Kind, clients: u32) -> io::Result<u64>
+fn round<R: Host>(rt: &R, job: Job, clients: u32) -> io::Result<u64>
     requires { (0 < clients) × (clients < 33) }
 {
-    let (desk, mut all) = new_desk(rt.alloc(), kind, clients)?;
+    let (desk, mut all) = new_desk(rt.alloc(), job.kind, clients)?;
     let start = Instant::now(rt)?;
-    all_work(rt, &desk, &mut all, kind);
+    all_work(rt, &desk, &mut all, job);
     Ok(u64::try_from(start.elapsed(rt)?.as_nanos()).unwrap_or(u64::MAX))
 }
 
 /// The least nanoseconds of a call in so many rounds.
-fn least<R: Host>(rt: &R, kind: Kind, clients: u32, rounds: u32) -> io::Result<u64>
+fn least<R: Host>(rt: &R, job: Job, clients: u32, rounds: u32) -> io::Result<u64>
     requires { (0 < clients) × (clients < 33) }
 {
     let mut least = u64::MAX;
     for _ in 0..rounds {
-        least = least.min(round(rt, kind, clients)?);
+        least = least.min(round(rt, job, clients)?);
     }
     Ok(least / (clients as u64 * CALLS as u64))
 }
@@ -166,15 +187,21 @@ fn name_of(kind: Kind) -> &'static str {
 }
 
 fn measure<R: Host>(rt: &R, kind: Kind, rounds: Option<u32>) -> io::Result<()> {
+    let way = Way::Posted;
+    let posted = Job { kind, way };
+    let way = Way::AtOnce;
+    let at_once = Job { kind, way };
+    let name = name_of(kind);
     for clients in [1, 2, 4] {
-        let name = name_of(kind);
         match rounds {
             Some(rounds) => {
-                let each = least(rt, kind, clients, rounds)?;
-                rt.println(format_args!("{name} {clients} {each}"))?;
+                let first = least(rt, posted, clients, rounds)?;
+                let second = least(rt, at_once, clients, rounds)?;
+                rt.println(format_args!("{name} {clients} {first} {second}"))?;
             }
             None => {
-                round(rt, kind, clients)?;
+                round(rt, posted, clients)?;
+                round(rt, at_once, clients)?;
                 rt.println(format_args!("{name} {clients}"))?;
             }
         }

@@ -195,13 +195,13 @@ module _ {S O R : Type 0} (content : S → Content) (op_in : O → AnyOp) (reply
       let w : World = k.world in let ok = subst (λ z. SeatOk kinds w z m.0) number (mine content op_in reply_in kinds clients quota s k id m.0 cl at) in
       let word : get_or s.words (row_place c) 0 ≡ row_word (w.stage c) = k.tied.rows c few in
       dite (ℕ_discrete (get_or s.words (row_place c) 0) 33)
-      (λ hit. (m.0, keeps, tt, looks content op_in reply_in kinds clients quota s k (row_place c) id m.0 m.1 cl at, λ p is. ((λ _. refl), λ miss. absurd (miss hit))))
+      (λ hit. (m.0, keeps, tt, looks content op_in reply_in kinds clients quota s k (row_place c) id m.0 m.1 cl at, λ d p own_row here is. ((λ _. refl), λ miss. absurd (miss hit))))
       (λ miss. (
         after_miss (row_place c) m.0,
         keeps,
         tt,
         misses content op_in reply_in kinds clients quota s k (row_place c) id m.0 m.1 cl at,
-        λ p is. ((λ hit. absurd (miss hit)), λ _. (refl, false_from_ne_true m.0.ready (λ e. let a = ok.ready e in miss (word ∙ ap row_word a.2)))),
+        λ d p own_row here is. ((λ hit. absurd (miss hit)), λ _. (refl, false_from_ne_true m.0.ready (λ e. let a = ok.ready e in miss (word ∙ ap row_word a.2)))),
       ))
 
   pub take_keeps_rule : (slots id j : ℕ) (m : Me (Slot S O R) View) (q : AnyRequest) → m.0.role ≡ role.Client → m.0.number ≡ j → m.0.own ≡ own.Waiting q → m.0.held ≡ held.Free → q.object < 16 → j < 32
@@ -231,7 +231,7 @@ module _ {S O R : Type 0} (content : S → Content) (op_in : O → AnyOp) (reply
           own = subst (λ z. SeatOk kinds (staged w c t) z v') (sym number) (subst (λ z. SeatOk kinds (staged w c t) c (after_take q z l m.0)) (sym image)
               (seat_gone kinds w w.clock c t w.done (after_meet x l m.0) (own.Taken q a) m.0.done before (λ p e. let g = sym was ∙ e in absurd (cc)) refl ok.done (covers_taken kinds w c m.0 q a l is (omega arith) calls ok) begins));
         }),
-        λ d p here is'. let row : c ≡ d = omega arith in let same = ap (request_known q) (sym is ∙ is') in (
+        λ d p own_row here is'. let row : c ≡ d = omega arith in let same = ap (request_known q) (sym is ∙ is') in (
           (λ _. (
             b,
             l,
@@ -249,7 +249,7 @@ module _ {S O R : Type 0} (content : S → Content) (op_in : O → AnyOp) (reply
         keeps,
         tt,
         subst (λ z. K (stepped s (row_place c) (either z 0 (get_or s.words (row_place c) 0)) id m.1 (after_miss (row_place c) m.0) keeps)) (sym (ne_eqb (get_or s.words (row_place c) 0) 33 miss)) (misses content op_in reply_in kinds clients quota s k (row_place c) id m.0 m.1 cl at),
-        λ d p here is'. ((λ hit. absurd (miss hit)), λ _. (refl, false_from_ne_true m.0.ready (λ e. let a = ok.ready e in miss (word ∙ ap row_word a.2)))),
+        λ d p own_row here is'. ((λ hit. absurd (miss hit)), λ _. (refl, false_from_ne_true m.0.ready (λ e. let a = ok.ready e in miss (word ∙ ap row_word a.2)))),
       ))
 
   abbrev answer_known : AnyAnswer → Own → AnyAnswer

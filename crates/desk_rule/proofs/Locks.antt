@@ -87,8 +87,8 @@ module _ {S O R : Type 0} (content : S → Content) (op_in : O → AnyOp) (reply
 
   pub look_at_lock_keeps_rule : (slots id x : ℕ) (m : Me (Slot S O R) View) → m.0.role ≡ role.Client → Allows K slots id m x (λ f. f) (play.looks_at_lock content op_in reply_in (step slots x 0 0 maybe.none) m)
   look_at_lock_keeps_rule slots id x m cl s k deep at small = dite (ℕ_discrete (get_or s.words x 0) 0)
-      (λ hit. (m.0, keeps, tt, looks content op_in reply_in kinds clients quota s k x id m.0 m.1 cl at, ((λ _. refl), λ miss. absurd (miss hit))))
-      (λ miss. (after_miss x m.0, keeps, tt, misses content op_in reply_in kinds clients quota s k x id m.0 m.1 cl at, ((λ hit. absurd (miss hit)), λ _. refl)))
+      (λ hit. (m.0, keeps, tt, looks content op_in reply_in kinds clients quota s k x id m.0 m.1 cl at, λ _. ((λ _. refl), λ miss. absurd (miss hit))))
+      (λ miss. (after_miss x m.0, keeps, tt, misses content op_in reply_in kinds clients quota s k x id m.0 m.1 cl at, λ _. ((λ hit. absurd (miss hit)), λ _. refl)))
 
   pub win_keeps_rule : (slots id x n : ℕ) (m : Me (Slot S O R) View) → m.0.role ≡ role.Client → x < length kinds → n ≡ 1 + m.0.number → m.0.held ≡ held.Free → m.0.ended ≡ false
       → Allows K slots id m x (λ f. either (eqb f 0) n f) (play.wins content op_in reply_in (step slots x 0 n maybe.none) m)
@@ -119,14 +119,14 @@ module _ {S O R : Type 0} (content : S → Content) (op_in : O → AnyOp) (reply
                 changed_all (λ y h. h ≡ Some c → y ≡ x) w.holder x (Some c) (λ _. refl) (λ y _ e. absurd (nothing y e)),
               );
         }),
-        ((λ _. (home.0, w.log x, refl, subst (λ (z : List Kind × List TableId). Fits content op_in reply_in (kind_at z.0 x) (get_elem? z.1 x) home.0 (w.log x)) (λ i. (sym ok.kinds_are i, sym ((k.seats id m.0 at).lists_are cl) i)) home.2, ok.seen x)), λ miss. absurd (miss hit)),
+        λ _. ((λ _. (home.0, w.log x, refl, subst (λ (z : List Kind × List TableId). Fits content op_in reply_in (kind_at z.0 x) (get_elem? z.1 x) home.0 (w.log x)) (λ i. (sym ok.kinds_are i, sym ((k.seats id m.0 at).lists_are cl) i)) home.2, ok.seen x)), λ miss. absurd (miss hit)),
       ))
       (λ miss. (
         after_miss x m.0,
         keeps,
         tt,
         subst (λ b. K (stepped s x (either b n (get_or s.words x 0)) id m.1 (after_miss x m.0) keeps)) (sym (ne_eqb (get_or s.words x 0) 0 miss)) (misses content op_in reply_in kinds clients quota s k x id m.0 m.1 cl at),
-        ((λ hit. absurd (miss hit)), λ _. refl),
+        λ _. ((λ hit. absurd (miss hit)), λ _. refl),
       ))
 
   pub release_keeps_rule : (slots id x : ℕ) (m : Me (Slot S O R) View) (l : List AnyEntry) (k : Core S O R) (tl : List (ℕ × Slot S O R)) → m.0.role ≡ role.Client → m.0.held ≡ held.Pass x l → m.1 ≡ (x, slot.Core k) ∷ tl

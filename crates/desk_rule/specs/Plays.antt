@@ -22,14 +22,16 @@ module _ {S O R : Type 0} (content : S → Content) (op_in : O → AnyOp) (reply
   abbrev pub Hands : Type 0
   Hands = Me (Slot S O R) View
 
-  -- A look at a lock before it is tried: it is held, a miss; or nothing is told
+  -- A look at the lock of an object that is there, before it is tried: it is held, a miss; or nothing is told. A look at
+  -- another word tells nothing.
   abbrev pub looks_at_lock : Step (Slot S O R) → Hands → ℕ → Hands → Type 0
-  looks_at_lock st m found m' = (found ≡ 0 → m' ≡ m) × (found ≢ 0 → m' ≡ (after_miss st.word m.0, m.1))
+  looks_at_lock st m found m' = st.word < length m.0.kinds →
+      (found ≡ 0 → m' ≡ m) × (found ≢ 0 → m' ≡ (after_miss st.word m.0, m.1))
 
-  -- the lock was free: the object with its log and its publication list came out, and the log begins with what was seen.
-  -- Or it was held, a miss
+  -- The lock of an object that is there was free: the object with its log and its publication list came out, and the log
+  -- begins with what was seen. Or it was held, a miss. A try at another word tells nothing.
   abbrev pub wins : Step (Slot S O R) → Hands → ℕ → Hands → Type 0
-  wins st m found m' =
+  wins st m found m' = st.word < length m.0.kinds →
       (found ≡ 0 → (k : Core S O R) × (l : List AnyEntry) × (m' ≡ (after_win st.word l m.0, (st.word, slot.Core k) ∷ m.1))
       × Fits content op_in reply_in (kind_at m.0.kinds st.word) (get_elem? m.0.lists st.word) k l × StartsWith l (seen_of m.0 st.word))
       × (found ≢ 0 → m' ≡ (after_miss st.word m.0, m.1))
@@ -68,15 +70,19 @@ module _ {S O R : Type 0} (content : S → Content) (op_in : O → AnyOp) (reply
   abbrev pub posts : Step (Slot S O R) → Hands → ℕ → Hands → Type 0
   posts st m found m' = (q : AnyRequest) → m.0.own ≡ own.Drawn q → m' ≡ (with_own (own.Waiting q) m.0, rest m.1)
 
-  -- A look at the own row before it is tried: there is no answer, a miss; or nothing is told
+  -- A look at the own row before it is tried: there is no answer, a miss; or nothing is told. A look at another word
+  -- tells nothing.
   abbrev pub looks_for_answer : Step (Slot S O R) → Hands → ℕ → Hands → Type 0
-  looks_for_answer st m found m' = (q : AnyRequest) → m.0.own ≡ own.Waiting q →
+  looks_for_answer st m found m' = (c : ℕ) (q : AnyRequest) →
+      m.0.number ≡ c → st.word ≡ row_place c → m.0.own ≡ own.Waiting q →
       (found ≡ 33 → m' ≡ m) × (found ≢ 33 → (m' ≡ (after_miss st.word m.0, m.1)) × (m.0.ready ≡ false))
 
   -- The answer came out of the own row, and the log of its object was seen: it is legal, begins with what was seen
-  -- before, and has of the own calls those that are over and this one. Or there was none, a miss
+  -- before, and has of the own calls those that are over and this one. Or there was none, a miss. A try at another word
+  -- tells nothing.
   abbrev pub takes_answer : Step (Slot S O R) → Hands → ℕ → Hands → Type 0
-  takes_answer st m found m' = (c : ℕ) (q : AnyRequest) → st.word ≡ row_place c → m.0.own ≡ own.Waiting q →
+  takes_answer st m found m' = (c : ℕ) (q : AnyRequest) →
+      m.0.number ≡ c → st.word ≡ row_place c → m.0.own ≡ own.Waiting q →
       (found ≡ 33 → (b : Answer R) × (l : List AnyEntry) × (m' ≡ (after_take q (answer_in reply_in b) l m.0, (16 + c, slot.Answer b) ∷ m.1)) × IsLegal (kind_at m.0.kinds q.object) l
       × StartsWith l (seen_of m.0 q.object) × (entries_of m.0.number l ≡ served q.object m.0.number m.0.done ++ logged m.0.number q (answer_in reply_in b)))
       × (found ≢ 33 → (m' ≡ (after_miss st.word m.0, m.1)) × (m.0.ready ≡ false))

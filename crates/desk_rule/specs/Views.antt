@@ -86,7 +86,7 @@ abbrev pub is_waiting : Own → Bool
 is_waiting (own.Waiting q) = true
 is_waiting o = false
 
--- one more exchange missed at this word
+-- one more try missed at this word: a load found nothing to do there, or an exchange found another value
 abbrev pub after_miss : ℕ → View → View
 after_miss i v = record v { missed = v.missed ++ i ∷ [] }
 

@@ -107,7 +107,7 @@ pub struct View {
     pub received: LinkedList<LinkedList<LogEntry<AnyOp, AnyReply>>>,
     /// The requests that were put back into their rows while the object is held.
     pub back: LinkedList<PutBack>,
-    /// The words at which an exchange missed.
+    /// The words at which a try missed: a load found nothing to do there, or an exchange found another value.
     pub missed: LinkedList<u64>,
     pub held: Held,
     pub ended: bool,

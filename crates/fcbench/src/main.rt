@@ -41,7 +41,7 @@ fn no_memory<R: Print>(rt: &R) -> io::Result<u8> {
 }
 
 /// Says why a file could not be read: memory was refused, or another reason.
-fn unread<R: Print + Eprint>(rt: &R, name: &str, lacks_memory: bool) -> io::Result<u8> {
+fn report_unreadable<R: Print + Eprint>(rt: &R, name: &str, lacks_memory: bool) -> io::Result<u8> {
     if lacks_memory {
         return no_memory(rt);
     }
@@ -69,8 +69,8 @@ fn run_check<R: Host>(rt: &R, history: &str, certs: &str, workers: u32) -> io::R
         &mut output,
     ) {
         Ok(status) => Ok(status),
-        Err(Text::History) => unread(rt, history, first.lacks_memory()),
-        Err(Text::Certificates) => unread(rt, certs, second.lacks_memory()),
+        Err(Text::History) => report_unreadable(rt, history, first.lacks_memory()),
+        Err(Text::Certificates) => report_unreadable(rt, certs, second.lacks_memory()),
     }
 }
 
@@ -78,7 +78,7 @@ fn run_check<R: Host>(rt: &R, history: &str, certs: &str, workers: u32) -> io::R
 fn run_on_file<R: Host>(rt: &R, line: &Line, name: &str) -> io::Result<u8> {
     match bytes_of(rt, name) {
         Ok(bytes) => Ok(do_line(rt, line, &bytes, b"")),
-        Err(error) => unread(rt, name, error.kind() == io::ErrorKind::OutOfMemory),
+        Err(error) => report_unreadable(rt, name, error.kind() == io::ErrorKind::OutOfMemory),
     }
 }
 
@@ -130,19 +130,20 @@ fn run<R: Host + Env>(rt: &R) -> io::Result<u8> {
     }
 }
 
-/// Says after a second that the command is under way, unless it is done before.
+/// Says after a second that the command is under way, unless it is done before. It looks each 5 milliseconds whether it is done, since
+/// the command ends only when this returns: no command takes more than a step longer for being watched.
 fn watch<R: Eprint + Clock>(rt: &R, is_done: &AtomicBool) {
-    for _ in 0..20 {
+    for _ in 0..200 {
         if is_done.load(Ordering::SeqCst) {
             return;
         }
-        sleep(rt, Duration::from_millis(50));
+        sleep(rt, Duration::from_millis(5));
     }
     let _ = rt.eprintln("fcbench: under way");
 }
 
 /// Does the work. Where somebody may watch, it is said after a second that it is under way.
-fn watched<R: Host, F: FnOnce() -> u8 + Send>(rt: &R, may_watch: bool, work: F) -> u8
+fn run_watched<R: Host, F: FnOnce() -> u8 + Send>(rt: &R, may_watch: bool, work: F) -> u8
     requires { F.IsAlwaysCallable work }
 {
     if !may_watch {
@@ -161,5 +162,5 @@ fn watched<R: Host, F: FnOnce() -> u8 + Send>(rt: &R, may_watch: bool, work: F) 
 fn main(rt: HostRuntime) -> ExitCode {
     let may_watch = rt.stderr().is_terminal();
     let rt = &rt;
-    ExitCode::from(watched(rt, may_watch, || run(rt).unwrap_or(FAILED)))
+    ExitCode::from(run_watched(rt, may_watch, || run(rt).unwrap_or(FAILED)))
 }

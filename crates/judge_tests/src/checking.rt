@@ -120,7 +120,7 @@ const SECOND_WAITS: &str = "
     {:process 1 :type :invoke :f :acquire} {:process 1 :type :info :f :acquire}";
 
 #[test]
-fn valid_orders(rt: HostRuntime) -> Result<(), Fail> {
+fn a_valid_order_is_accepted(rt: HostRuntime) -> Result<(), Fail> {
     let rows: [(&str, &[i64]); 14] = [
         (IN_TURN, &[0, 2]),
         (AT_ONCE, &[1, 0, 4]),
@@ -140,9 +140,8 @@ fn valid_orders(rt: HostRuntime) -> Result<(), Fail> {
     ];
     for (history, order) in rows {
         let answers = answers(rt.alloc(), history, order)?;
-        assert_eq!(rt;
-            answers,
-            [Ok(()), Ok(()), Ok(())],
+        assert!(rt;
+            answers == [Ok(()), Ok(()), Ok(())],
             "at {history:?} {order:?}"
         );
     }
@@ -229,13 +228,12 @@ const FAULTS: [(&str, &[i64], OrderFault); 24] = [
 ];
 
 #[test]
-fn first_faults(rt: HostRuntime) -> Result<(), Fail> {
+fn an_order_is_refused_for_its_first_fault(rt: HostRuntime) -> Result<(), Fail> {
     for (history, order, fault) in FAULTS {
         let answers = answers(rt.alloc(), history, order)?;
         let refused = Err(Refusal::BadOrder { object: 0, fault });
-        assert_eq!(rt;
-            answers,
-            [refused, refused, refused],
+        assert!(rt;
+            answers == [refused, refused, refused],
             "at {history:?} {order:?}"
         );
     }
@@ -254,7 +252,7 @@ const TWO_QUEUES: &str = "
     {:process 3 :type :ok :f :enqueue :value 8 :object 1}";
 
 #[test]
-fn several_objects(rt: HostRuntime) -> Result<(), Fail> {
+fn several_objects_are_checked_in_rising_number(rt: HostRuntime) -> Result<(), Fail> {
     let bad_order = |object: u32, fault: OrderFault| Err(Refusal::BadOrder { object, fault });
     let rows: [(&str, &str, Result<(), Refusal>); 11] = [
         ("", "", Ok(())),
@@ -312,7 +310,7 @@ fn several_objects(rt: HostRuntime) -> Result<(), Fail> {
         let read = history_of(rt.alloc(), history)?;
         let list = certificates_of(rt.alloc(), certificates)?;
         let answer = check_all(rt.alloc(), &read, list.as_slice());
-        assert_eq!(rt; answer, expected, "at {history:?} {certificates:?}");
+        assert!(rt; answer == expected, "at {history:?} {certificates:?}");
     }
     Ok(())
 }

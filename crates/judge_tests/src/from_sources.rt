@@ -66,7 +66,7 @@ impl Source for Pieces {
 }
 
 #[test]
-fn both_texts_are_read(rt: HostRuntime) -> Result<(), Fail> {
+fn both_texts_are_read_from_their_sources(rt: HostRuntime) -> Result<(), Fail> {
     for size in [1, 7, 100_000] {
         for workers in [1, 2] {
             let mut sink = Out::new(Vec::new(rt.alloc()));
@@ -83,48 +83,48 @@ fn both_texts_are_read(rt: HostRuntime) -> Result<(), Fail> {
                 &mut sink,
             );
             assert!(rt; matches!(given, Ok(Verdict::Yes(_))));
-            assert_eq!(rt; sink.into_inner().as_slice(), YES);
+            assert!(rt; sink.into_inner().as_slice() == YES);
         }
     }
     Ok(())
 }
 
 #[test]
-fn readers_are_sources(rt: HostRuntime) -> Result<(), Fail> {
+fn a_reader_is_a_source(rt: HostRuntime) -> Result<(), Fail> {
     let mut sink = Out::new(Vec::new(rt.alloc()));
     let (mut history, mut order) = (In::new(HISTORY), In::new(ORDER));
     let given = check_over(&rt, rt.alloc(), &mut history, &mut order, 1, &mut sink);
     assert!(rt; matches!(given, Ok(Verdict::Yes(_))));
     assert!(rt; !history.has_failed() && !order.has_failed());
     assert!(rt; history.into_inner().is_empty());
-    assert_eq!(rt; sink.into_inner().as_slice(), YES);
+    assert!(rt; sink.into_inner().as_slice() == YES);
     Ok(())
 }
 
 #[test]
-fn bytes_are_sources(rt: HostRuntime) -> Result<(), Fail> {
+fn bytes_are_a_source(rt: HostRuntime) -> Result<(), Fail> {
     let mut sink = Out::new(Vec::new(rt.alloc()));
     let (mut history, mut order) = (Bytes::new(HISTORY), Bytes::new(ORDER));
     let given = check_over(&rt, rt.alloc(), &mut history, &mut order, 1, &mut sink);
     assert!(rt; matches!(given, Ok(Verdict::Yes(_))));
     assert!(rt; !history.has_failed() && !order.has_failed());
-    assert_eq!(rt; sink.into_inner().as_slice(), YES);
+    assert!(rt; sink.into_inner().as_slice() == YES);
     Ok(())
 }
 
 /// A file is opened when it is read, and a history that cannot be opened is found before the certificates are.
 #[test]
-fn files_that_are_not_there(rt: HostRuntime) -> Result<(), Fail> {
+fn a_file_that_is_not_there_is_named(rt: HostRuntime) -> Result<(), Fail> {
     let mut sink = Out::new(Vec::new(rt.alloc()));
     let mut history = In::new(NamedFile::new(&rt, "no such folder/history.edn"));
     let mut order = In::new(NamedFile::new(&rt, "no such folder/certificates.edn"));
     let given = check_over(&rt, rt.alloc(), &mut history, &mut order, 1, &mut sink);
-    assert_eq!(rt; given.err(), Some(ToolFault::Read(Text::History)));
+    assert!(rt; given.err() == Some(ToolFault::Read(Text::History)));
     assert!(rt; history.has_failed() && !history.lacks_memory());
     assert!(rt; !order.has_failed());
     let mut history = Bytes::new(HISTORY);
     let given = check_over(&rt, rt.alloc(), &mut history, &mut order, 1, &mut sink);
-    assert_eq!(rt; given.err(), Some(ToolFault::Read(Text::Certificates)));
+    assert!(rt; given.err() == Some(ToolFault::Read(Text::Certificates)));
     assert!(rt; order.has_failed() && !order.lacks_memory());
     assert!(rt; sink.into_inner().is_empty());
     Ok(())
@@ -178,29 +178,29 @@ fn readers_that_fail_in_mid_stream(rt: HostRuntime) -> Result<(), Fail> {
 
 /// The history is read first, and nothing is written where a text cannot be read.
 #[test]
-fn sources_that_fail(rt: HostRuntime) -> Result<(), Fail> {
+fn a_source_that_fails_is_named(rt: HostRuntime) -> Result<(), Fail> {
     let mut sink = Out::new(Vec::new(rt.alloc()));
     let (mut history, mut order) = (in_pieces(HISTORY, 9, true), in_pieces(ORDER, 9, true));
     let given = check_over(&rt, rt.alloc(), &mut history, &mut order, 1, &mut sink);
-    assert_eq!(rt; given.err(), Some(ToolFault::Read(Text::History)));
-    assert_eq!(rt; order.asked, 0);
+    assert!(rt; given.err() == Some(ToolFault::Read(Text::History)));
+    assert!(rt; order.asked == 0);
     assert!(rt; sink.into_inner().is_empty());
     let mut sink = Out::new(Vec::new(rt.alloc()));
     let (mut history, mut order) = (in_pieces(HISTORY, 9, false), in_pieces(ORDER, 9, true));
     let given = check_over(&rt, rt.alloc(), &mut history, &mut order, 1, &mut sink);
-    assert_eq!(rt; given.err(), Some(ToolFault::Read(Text::Certificates)));
+    assert!(rt; given.err() == Some(ToolFault::Read(Text::Certificates)));
     assert!(rt; sink.into_inner().is_empty());
     Ok(())
 }
 
 #[test]
-fn a_sink_that_fails(rt: HostRuntime) -> Result<(), Fail> {
+fn a_sink_that_fails_is_told(rt: HostRuntime) -> Result<(), Fail> {
     let mut room = [0; 20];
     let mut sink = Out::new(room.as_mut_slice());
     let (mut history, mut order) = (in_pieces(HISTORY, 9, false), in_pieces(ORDER, 9, false));
     let given = check_over(&rt, rt.alloc(), &mut history, &mut order, 1, &mut sink);
-    assert_eq!(rt; given.err(), Some(ToolFault::Write));
-    assert_eq!(rt; room.as_slice(), b"yes: 2 operations, 1".as_slice());
+    assert!(rt; given.err() == Some(ToolFault::Write));
+    assert!(rt; room.as_slice() == b"yes: 2 operations, 1".as_slice());
     Ok(())
 }
 
@@ -213,14 +213,14 @@ const CUT: [(usize, &[u8]); 4] = [
 ];
 
 #[test]
-fn histories_that_are_cut(rt: HostRuntime) -> Result<(), Fail> {
+fn each_beginning_of_a_history_is_judged(rt: HostRuntime) -> Result<(), Fail> {
     for (length, lines) in CUT {
         let (cut, _) = HISTORY.split_at(length.min(HISTORY.len()));
         let mut sink = Out::new(Vec::new(rt.alloc()));
         let (mut history, mut order) = (in_pieces(cut, 9, false), in_pieces(ORDER, 9, false));
         let given = check_over(&rt, rt.alloc(), &mut history, &mut order, 1, &mut sink);
         assert!(rt; given.is_ok());
-        assert_eq!(rt; sink.into_inner().as_slice(), lines);
+        assert!(rt; sink.into_inner().as_slice() == lines);
     }
     Ok(())
 }
@@ -247,8 +247,8 @@ impl Source for Endless {
 
 /// No more is read than one byte past the longest text.
 #[test]
-fn texts_without_an_end(rt: HostRuntime) -> Result<(), Fail> {
+fn a_text_without_an_end_is_too_long(rt: HostRuntime) -> Result<(), Fail> {
     let bytes = read_text(rt.alloc(), &mut Endless).map_err(|_| Fail::new("a text is not read"))?;
-    assert_eq!(rt; bytes.len(), MAX_LENGTH + 1);
+    assert!(rt; bytes.len() == MAX_LENGTH + 1);
     Ok(())
 }

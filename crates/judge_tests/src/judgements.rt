@@ -22,7 +22,7 @@ const DEQUEUE_FIRST: Refusal = Refusal::BadOrder {
 };
 
 #[test]
-fn texts(rt: HostRuntime) -> Result<(), Fail> {
+fn two_texts_are_judged_yes_by_any_number_of_workers(rt: HostRuntime) -> Result<(), Fail> {
     one_history();
     one_list_of_orders();
     // more than one worker reads the texts side by side
@@ -32,20 +32,20 @@ fn texts(rt: HostRuntime) -> Result<(), Fail> {
             Verdict::Yes(counts) => counts,
             _ => return Err(Fail::new("a valid order is refused")),
         };
-        assert_eq!(rt; (counts.operations, counts.objects), (2, 1));
+        assert!(rt; (counts.operations, counts.objects) == (2, 1));
         let queues = KindCount {
             kind: Kind::Queue,
             objects: 1,
             operations: 2,
         };
-        assert_eq!(rt; counts.kinds.as_slice(), [queues].as_slice());
+        assert!(rt; counts.kinds.as_slice() == [queues].as_slice());
     }
     Ok(())
 }
 
 /// The history's fault comes first, whichever text was read first.
 #[test]
-fn malformed_texts(rt: HostRuntime) -> Result<(), Fail> {
+fn the_fault_of_the_history_comes_first(rt: HostRuntime) -> Result<(), Fail> {
     for workers in [1, 2] {
         assert!(rt;
             matches!(
@@ -93,16 +93,12 @@ fn refusal<R: Threads + Sync>(
 }
 
 #[test]
-fn certificates(rt: HostRuntime) -> Result<(), Fail> {
+fn certificates_are_judged_as_their_text_is(rt: HostRuntime) -> Result<(), Fail> {
     // no worker counts as one, and more than 16 as 16
     for workers in 0..18 {
-        assert_eq!(rt;
-            refusal(&rt, rt.alloc(), "{:object 0, :order [0 2]}", workers)?,
-            None
-        );
-        assert_eq!(rt;
-            refusal(&rt, rt.alloc(), "{:object 0, :order [2 0]}", workers)?,
-            Some(DEQUEUE_FIRST)
+        assert!(rt; refusal(&rt, rt.alloc(), "{:object 0, :order [0 2]}", workers)? == None);
+        assert!(rt;
+            refusal(&rt, rt.alloc(), "{:object 0, :order [2 0]}", workers)? == Some(DEQUEUE_FIRST)
         );
     }
     Ok(())

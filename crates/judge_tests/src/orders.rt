@@ -34,17 +34,17 @@ fn written_certificates_are_read_back(rt: HostRuntime) -> Result<(), Fail> {
     let Ok(certificates) = read(rt.alloc(), text)? else {
         return Err(Fail::new("certificates are refused"));
     };
-    assert_eq!(rt; certificates.len(), 3);
-    assert_eq!(rt; certificates[1].object, 65_535);
-    assert_eq!(rt; certificates[0].order.as_slice(), [0, 2].as_slice());
+    assert!(rt; certificates.len() == 3);
+    assert!(rt; certificates[1].object == 65_535);
+    assert!(rt; certificates[0].order.as_slice() == [0, 2].as_slice());
     let mut sink = Out::new(Vec::new(rt.alloc()));
     write_certificates(certificates.as_slice(), &mut sink)?;
-    assert_eq!(rt; sink.into_inner().as_slice(), text.as_slice());
+    assert!(rt; sink.into_inner().as_slice() == text.as_slice());
     Ok(())
 }
 
 #[test]
-fn first_faults(rt: HostRuntime) -> Result<(), Fail> {
+fn certificates_are_refused_for_their_first_fault(rt: HostRuntime) -> Result<(), Fail> {
     let rows: [(&str, CertFaultKind, usize); 17] = [
         ("[0 2]", CertFaultKind::NotACertificate, 0),
         ("nil", CertFaultKind::NotACertificate, 0),
@@ -110,14 +110,14 @@ fn first_faults(rt: HostRuntime) -> Result<(), Fail> {
     ];
     for (text, kind, form) in rows {
         let answer = read(rt.alloc(), text.as_bytes())?;
-        assert_eq!(rt; answer, Err(CertFault { kind, form }), "at {text:?}");
+        assert!(rt; answer == Err(CertFault { kind, form }), "at {text:?}");
     }
     Ok(())
 }
 
 /// What is wrong with the text comes first, wherever it stands.
 #[test]
-fn faults_of_a_text(rt: HostRuntime) -> Result<(), Fail> {
+fn what_is_wrong_with_the_text_of_certificates_comes_first(rt: HostRuntime) -> Result<(), Fail> {
     let rows: [(&str, FaultKind, usize); 5] = [
         ("{:object 0, :order [0 2}", FaultKind::BadToken, 23),
         ("{:object 0, :order [0 2", FaultKind::Unfinished, 23),
@@ -135,9 +135,8 @@ fn faults_of_a_text(rt: HostRuntime) -> Result<(), Fail> {
     ];
     for (text, kind, place) in rows {
         let answer = read_certificates_text(rt.alloc(), text.as_bytes());
-        assert_eq!(rt;
-            answer,
-            Err(CertTextFault::Text(EdnFault { kind, place })),
+        assert!(rt;
+            answer == Err(CertTextFault::Text(EdnFault { kind, place })),
             "at {text:?}"
         );
     }
@@ -145,37 +144,34 @@ fn faults_of_a_text(rt: HostRuntime) -> Result<(), Fail> {
 }
 
 #[test]
-fn other_keys_are_ignored(rt: HostRuntime) -> Result<(), Fail> {
+fn other_keys_of_a_certificate_are_ignored(rt: HostRuntime) -> Result<(), Fail> {
     let Ok(certificates) = read(rt.alloc(), b"{:by \"x\", :order [2], :f 1, :object 4}, ; x")?
     else {
         return Err(Fail::new("a certificate is refused"));
     };
-    assert_eq!(rt; certificates.len(), 1);
-    assert_eq!(rt; certificates[0].object, 4);
-    assert_eq!(rt; certificates[0].order.as_slice(), [2].as_slice());
+    assert!(rt; certificates.len() == 1);
+    assert!(rt; certificates[0].object == 4);
+    assert!(rt; certificates[0].order.as_slice() == [2].as_slice());
     Ok(())
 }
 
 /// The order is that of the whole element, whatever else the map has.
 #[test]
-fn long_orders(rt: HostRuntime) -> Result<(), Fail> {
+fn an_order_is_that_of_the_whole_element(rt: HostRuntime) -> Result<(), Fail> {
     let text =
         b"{:by {:order [9 [9]]}, :order [2 3 5 7 11 13], :to [[:order 1] 2 3 4], :object 4} {:object 5, :order [1 2 3 4]}";
     let Ok(certificates) = read(rt.alloc(), text)? else {
         return Err(Fail::new("a certificate is refused"));
     };
-    assert_eq!(rt; certificates.len(), 2);
-    assert_eq!(rt; certificates[0].object, 4);
-    assert_eq!(rt;
-        certificates[0].order.as_slice(),
-        [2, 3, 5, 7, 11, 13].as_slice()
-    );
-    assert_eq!(rt; certificates[1].order.as_slice(), [1, 2, 3, 4].as_slice());
+    assert!(rt; certificates.len() == 2);
+    assert!(rt; certificates[0].object == 4);
+    assert!(rt; certificates[0].order.as_slice() == [2, 3, 5, 7, 11, 13].as_slice());
+    assert!(rt; certificates[1].order.as_slice() == [1, 2, 3, 4].as_slice());
     Ok(())
 }
 
 #[test]
-fn failing_sink(rt: HostRuntime) -> Result<(), Fail> {
+fn a_sink_that_fails_has_a_beginning_of_the_certificates(rt: HostRuntime) -> Result<(), Fail> {
     let text = b"{:object 0, :order [0 2 -5]}\n{:object 3, :order []}\n";
     let Ok(certificates) = read(rt.alloc(), text)? else {
         return Err(Fail::new("certificates are refused"));
@@ -189,15 +185,17 @@ fn failing_sink(rt: HostRuntime) -> Result<(), Fail> {
         } else {
             Ok(())
         };
-        assert_eq!(rt; wrote, want);
-        assert_eq!(rt; room.as_slice(), &text[..left]);
+        assert!(rt; wrote == want);
+        assert!(rt; room.as_slice() == &text[..left]);
     }
     Ok(())
 }
 
 /// Passes whichever allocation is refused: reading answers that memory ran out, or as ever.
 #[test]
-fn refused_memory(rt: HostRuntime) -> Result<(), Fail> {
+fn where_memory_is_refused_certificates_are_read_or_the_fault_says_so(
+    rt: HostRuntime,
+) -> Result<(), Fail> {
     let text =
         b"{:object 0, :order [0 2 4 6 8 10 12]} {:object 3, :order [1]} {:object 4, :order []}";
     let Ok(forms) = read_forms(rt.alloc(), text) else {
@@ -205,13 +203,13 @@ fn refused_memory(rt: HostRuntime) -> Result<(), Fail> {
     };
     assert!(rt; all_fit(forms.as_slice()));
     match read_certificates(rt.alloc(), forms) {
-        Ok(certificates) => assert_eq!(rt; certificates.len(), 3),
-        Err(fault) => assert_eq!(rt; fault.kind, CertFaultKind::NoMemory),
+        Ok(certificates) => assert!(rt; certificates.len() == 3),
+        Err(fault) => assert!(rt; fault.kind == CertFaultKind::NoMemory),
     }
     match read_certificates_text(rt.alloc(), text) {
-        Ok(certificates) => assert_eq!(rt; certificates.len(), 3),
-        Err(CertTextFault::Text(fault)) => assert_eq!(rt; fault.kind, FaultKind::NoMemory),
-        Err(CertTextFault::Forms(fault)) => assert_eq!(rt; fault.kind, CertFaultKind::NoMemory),
+        Ok(certificates) => assert!(rt; certificates.len() == 3),
+        Err(CertTextFault::Text(fault)) => assert!(rt; fault.kind == FaultKind::NoMemory),
+        Err(CertTextFault::Forms(fault)) => assert!(rt; fault.kind == CertFaultKind::NoMemory),
     }
     Ok(())
 }

@@ -29,7 +29,7 @@ fn text_fault(kind: FaultKind, place: usize) -> EdnFault {
 }
 
 #[test]
-fn refusals(rt: HostRuntime) -> Result<(), Fail> {
+fn a_refusal_is_written_as_one_line(rt: HostRuntime) -> Result<(), Fail> {
     let rows = [
         (
             Verdict::No(Refusal::NoCertificate { object: 0 }),
@@ -79,18 +79,15 @@ fn refusals(rt: HostRuntime) -> Result<(), Fail> {
         (Verdict::NoMemory, "out of memory\n"),
     ];
     for (verdict, want) in rows.iter() {
-        assert_eq!(rt;
-            lines(rt.alloc(), verdict, false)?.as_slice(),
-            want.as_bytes()
-        );
+        assert!(rt; lines(rt.alloc(), verdict, false)?.as_slice() == want.as_bytes());
         let line = lines(rt.alloc(), verdict, true)?;
-        assert_eq!(rt; line.as_slice().strip_prefix(b"; "), Some(want.as_bytes()));
+        assert!(rt; line.as_slice().strip_prefix(b"; ") == Some(want.as_bytes()));
     }
     Ok(())
 }
 
 #[test]
-fn faults(rt: HostRuntime) -> Result<(), Fail> {
+fn a_fault_is_written_as_one_line(rt: HostRuntime) -> Result<(), Fail> {
     let (kind, map) = (HistoryFaultKind::AfterInfo, 2);
     let (second, form) = (CertFaultKind::TwoForOneObject, 1);
     let rows = [
@@ -117,12 +114,9 @@ fn faults(rt: HostRuntime) -> Result<(), Fail> {
     ];
     for (fault, want) in rows.iter() {
         let verdict = Verdict::Malformed(*fault);
-        assert_eq!(rt;
-            lines(rt.alloc(), &verdict, false)?.as_slice(),
-            want.as_bytes()
-        );
+        assert!(rt; lines(rt.alloc(), &verdict, false)?.as_slice() == want.as_bytes());
         let line = lines(rt.alloc(), &verdict, true)?;
-        assert_eq!(rt; line.as_slice().strip_prefix(b"; "), Some(want.as_bytes()));
+        assert!(rt; line.as_slice().strip_prefix(b"; ") == Some(want.as_bytes()));
     }
     Ok(())
 }
@@ -148,45 +142,33 @@ fn yes(alloc: Global, text: &str) -> Result<Verdict, Fail> {
 }
 
 #[test]
-fn summaries(rt: HostRuntime) -> Result<(), Fail> {
+fn a_yes_is_written_with_its_counts(rt: HostRuntime) -> Result<(), Fail> {
     let verdict = yes(rt.alloc(), PUT_AND_TAKEN)?;
     let want = b"yes: 2 operations, 1 objects\nqueue: 1 objects, 2 operations\n";
-    assert_eq!(rt;
-        lines(rt.alloc(), &verdict, false)?.as_slice(),
-        want.as_slice()
-    );
+    assert!(rt; lines(rt.alloc(), &verdict, false)?.as_slice() == want.as_slice());
     let verdict = yes(rt.alloc(), ON_THREE_OBJECTS)?;
     let want =
         b"; yes: 2 operations, 3 objects\n; stack: 1 objects, 0 operations\n; register: 2 objects, 2 operations\n";
-    assert_eq!(rt;
-        lines(rt.alloc(), &verdict, true)?.as_slice(),
-        want.as_slice()
-    );
+    assert!(rt; lines(rt.alloc(), &verdict, true)?.as_slice() == want.as_slice());
     Ok(())
 }
 
 #[test]
-fn empty_history(rt: HostRuntime) -> Result<(), Fail> {
+fn an_empty_history_has_no_kinds(rt: HostRuntime) -> Result<(), Fail> {
     let history = History::new(Vec::new(rt.alloc()));
     let verdict = Verdict::Yes(summary(rt.alloc(), &history)?);
     let want = b"yes: 0 operations, 0 objects\n";
-    assert_eq!(rt;
-        lines(rt.alloc(), &verdict, false)?.as_slice(),
-        want.as_slice()
-    );
+    assert!(rt; lines(rt.alloc(), &verdict, false)?.as_slice() == want.as_slice());
     Ok(())
 }
 
 #[test]
-fn failing_sink(rt: HostRuntime) -> Result<(), Fail> {
+fn a_sink_that_fails_has_a_beginning_of_the_verdict(rt: HostRuntime) -> Result<(), Fail> {
     let verdict = yes(rt.alloc(), PUT_AND_TAKEN)?;
     let mut room = [0; 20];
     let mut sink = Out::new(room.as_mut_slice());
-    assert_eq!(rt;
-        write_verdict(&verdict, false, &mut sink),
-        Err(WriteFault::Device)
-    );
-    assert_eq!(rt; room.as_slice(), b"yes: 2 operations, 1".as_slice());
+    assert!(rt; write_verdict(&verdict, false, &mut sink) == Err(WriteFault::Device));
+    assert!(rt; room.as_slice() == b"yes: 2 operations, 1".as_slice());
     Ok(())
 }
 
@@ -200,7 +182,7 @@ fn wants_memory(fault: &TextFault) -> bool {
 
 /// Passes whichever allocation is refused: the counts are right, or memory ran out.
 #[test]
-fn refused_memory(rt: HostRuntime) -> Result<(), Fail> {
+fn where_memory_is_refused_the_counts_are_right_or_none(rt: HostRuntime) -> Result<(), Fail> {
     let history = match read_history_text(rt.alloc(), ON_THREE_OBJECTS.as_bytes()) {
         Ok(history) => history,
         Err(fault) => {
@@ -209,9 +191,9 @@ fn refused_memory(rt: HostRuntime) -> Result<(), Fail> {
         }
     };
     if let Ok(counts) = summary(rt.alloc(), &history) {
-        assert_eq!(rt; counts.operations, 2);
-        assert_eq!(rt; counts.objects, 3);
-        assert_eq!(rt; counts.kinds.len(), 2);
+        assert!(rt; counts.operations == 2);
+        assert!(rt; counts.objects == 3);
+        assert!(rt; counts.kinds.len() == 2);
     }
     Ok(())
 }

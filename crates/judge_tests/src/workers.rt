@@ -80,7 +80,7 @@ fn all_answer<R: Threads + Sync>(
 }
 
 #[test]
-fn any_number_of_workers(rt: HostRuntime) -> Result<(), Fail> {
+fn any_number_of_workers_gives_the_same_answer(rt: HostRuntime) -> Result<(), Fail> {
     let history = history_of(rt.alloc(), TWO_QUEUES)?;
     for (orders, answer) in ROWS {
         assert!(rt;
@@ -237,7 +237,7 @@ fn returns_are_known_to_each_worker(rt: HostRuntime) -> Result<(), Fail> {
 
 /// However many workers gather the operations, each object is checked with all of its own, and with no other.
 #[test]
-fn splits_as_one_worker(rt: HostRuntime) -> Result<(), Fail> {
+fn workers_split_a_history_as_one_does(rt: HostRuntime) -> Result<(), Fail> {
     let history = history_of(rt.alloc(), FOUR_MUTEXES)?;
     for (orders, answer) in MUTEX_ROWS {
         assert!(rt;
@@ -288,9 +288,9 @@ fn two_workers_work_at_once(rt: HostRuntime) -> Result<(), Fail> {
         gave_up: AtomicU64::new(0),
     };
     let given = check_parallel(&rt, rt.alloc(), &history, &certificates, 2, &gate);
-    assert_eq!(rt; given, Ok(()));
-    assert_eq!(rt; gate.came.load(Ordering::SeqCst), 2);
-    assert_eq!(rt; gate.gave_up.load(Ordering::SeqCst), 0);
+    assert!(rt; given == Ok(()));
+    assert!(rt; gate.came.load(Ordering::SeqCst) == 2);
+    assert!(rt; gate.gave_up.load(Ordering::SeqCst) == 0);
     Ok(())
 }
 
@@ -317,7 +317,7 @@ impl Gate for SecondFirst {
 
 /// The fault that is found first in time is not that of the least object.
 #[test]
-fn the_least_object_is_named(rt: HostRuntime) -> Result<(), Fail> {
+fn the_refusal_of_the_least_object_is_named(rt: HostRuntime) -> Result<(), Fail> {
     let history = history_of(rt.alloc(), TWO_QUEUES)?;
     let certificates = certificates_of(rt.alloc(), ROWS[1].0)?;
     let gate = SecondFirst {
@@ -325,7 +325,7 @@ fn the_least_object_is_named(rt: HostRuntime) -> Result<(), Fail> {
         gave_up: AtomicU64::new(0),
     };
     let given = check_parallel(&rt, rt.alloc(), &history, &certificates, 2, &gate);
-    assert_eq!(rt; given, Err(ZERO_GIVES_NIL));
-    assert_eq!(rt; gate.gave_up.load(Ordering::SeqCst), 0);
+    assert!(rt; given == Err(ZERO_GIVES_NIL));
+    assert!(rt; gate.gave_up.load(Ordering::SeqCst) == 0);
     Ok(())
 }

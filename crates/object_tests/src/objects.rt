@@ -1,6 +1,7 @@
 ghost use Rattle.std.specs.Prelude.{◌≡◌, Some, None, IfOk, MatchOption};
 ghost use Rattle.model.specs.Objects.{kind_of, kind_with, next};
 
+use seq_objects::AnyReply::Value as Gives;
 use seq_objects::{
     AnyObject, AnyOp, AnyReply, Function, Heap, HeapOp, Kind, MapObject, MapOp, Mutex, MutexOp,
     Queue, QueueOp, Register, RegisterOp, SeqObject, Stack, StackOp, Value, function_of, kind_name,
@@ -42,11 +43,10 @@ fn answers<S: SeqObject>(
     for &(op, expected) in rows {
         assert!(rt; S::kind_of(&op) == object.kind());
         let reply = step(&mut object, op)?.map(|r| S::any_reply(&r));
-        assert_eq!(rt; reply, expected);
+        assert!(rt; reply == expected);
     }
     let copy = object.try_copy()?;
-    assert!(rt; copy.same(&object));
-    assert_eq!(rt; copy.kind(), object.kind());
+    assert!(rt; copy.same(&object) && copy.kind() == object.kind());
     Ok(())
 }
 
@@ -57,139 +57,119 @@ fn sum_answers<S: SeqObject<Op = AnyOp, Reply = AnyReply>>(
     kind: Kind,
     rows: &[(AnyOp, Option<AnyReply>)],
 ) -> Result<(), Fail> {
-    assert_eq!(rt; object.kind(), kind);
+    assert!(rt; object.kind() == kind);
     for &(op, _) in rows {
-        assert_eq!(rt; S::any_op(&op), op);
+        assert!(rt; S::any_op(&op) == op);
     }
     answers(rt, object, rows)
 }
 
-fn value(v: i64) -> Option<AnyReply> {
-    Some(AnyReply::Value(Some(v)))
-}
+const NIL: Option<AnyReply> = Some(Gives(None));
 
-const NIL: Option<AnyReply> = Some(AnyReply::Value(None));
-
-#[test]
-fn queue_hands_out_the_first(rt: HostRuntime) -> Result<(), Fail> {
-    let rows = [
-        (AnyOp::Enqueue(2), value(2)),
-        (AnyOp::Enqueue(1), value(1)),
-        (AnyOp::Dequeue, value(2)),
-        (AnyOp::Dequeue, value(1)),
-        (AnyOp::Dequeue, NIL),
-        (AnyOp::Enqueue(3), value(3)),
-    ];
-    let queue = AnyObject::empty(rt.alloc(), Kind::Queue);
-    sum_answers(&rt, queue, Kind::Queue, &rows)?;
-    answers(
-        &rt,
-        Queue::new(rt.alloc()),
+/// Operations on an object of each kind, which is empty at first, and their replies; none where it is not possible.
+const ROWS: [(Kind, &[(AnyOp, Option<AnyReply>)]); 6] = [
+    (
+        Kind::Queue,
         &[
-            (QueueOp::Enqueue(5), value(5)),
-            (QueueOp::Dequeue, value(5)),
+            (AnyOp::Enqueue(2), Some(Gives(Some(2)))),
+            (AnyOp::Enqueue(1), Some(Gives(Some(1)))),
+            (AnyOp::Dequeue, Some(Gives(Some(2)))),
+            (AnyOp::Dequeue, Some(Gives(Some(1)))),
+            (AnyOp::Dequeue, NIL),
+            (AnyOp::Enqueue(3), Some(Gives(Some(3)))),
         ],
-    )
-}
+    ),
+    (
+        Kind::Stack,
+        &[
+            (AnyOp::Push(2), Some(Gives(Some(2)))),
+            (AnyOp::Push(1), Some(Gives(Some(1)))),
+            (AnyOp::Pop, Some(Gives(Some(1)))),
+            (AnyOp::Pop, Some(Gives(Some(2)))),
+            (AnyOp::Pop, NIL),
+            (AnyOp::Push(3), Some(Gives(Some(3)))),
+        ],
+    ),
+    (
+        Kind::Heap,
+        &[
+            (AnyOp::Insert(5), Some(Gives(Some(5)))),
+            (AnyOp::Insert(5), Some(Gives(Some(5)))),
+            (AnyOp::Insert(-3), Some(Gives(Some(-3)))),
+            (AnyOp::ExtractMin, Some(Gives(Some(-3)))),
+            (AnyOp::ExtractMin, Some(Gives(Some(5)))),
+            (AnyOp::ExtractMin, Some(Gives(Some(5)))),
+            (AnyOp::ExtractMin, NIL),
+            (AnyOp::Insert(2), Some(Gives(Some(2)))),
+        ],
+    ),
+    (
+        Kind::Register,
+        &[
+            (AnyOp::Read, NIL),
+            (AnyOp::Cas(1, 2), Some(AnyReply::NotSwapped)),
+            (AnyOp::Write(1), Some(Gives(Some(1)))),
+            (AnyOp::Cas(1, 2), Some(AnyReply::Swapped(1, 2))),
+            (AnyOp::Read, Some(Gives(Some(2)))),
+        ],
+    ),
+    (
+        Kind::Map,
+        &[
+            (AnyOp::Put(1, 10), NIL),
+            (AnyOp::Put(1, 11), Some(Gives(Some(10)))),
+            (AnyOp::Get(1), Some(Gives(Some(11)))),
+            (AnyOp::Del(1), Some(Gives(Some(11)))),
+            (AnyOp::Get(1), NIL),
+            (AnyOp::Put(2, 20), NIL),
+        ],
+    ),
+    (
+        Kind::Mutex,
+        &[
+            (AnyOp::Release, None),
+            (AnyOp::Acquire, NIL),
+            (AnyOp::Acquire, None),
+            (AnyOp::Release, NIL),
+            (AnyOp::Acquire, NIL),
+        ],
+    ),
+];
 
 #[test]
-fn stack_hands_out_the_top(rt: HostRuntime) -> Result<(), Fail> {
-    let rows = [
-        (AnyOp::Push(2), value(2)),
-        (AnyOp::Push(1), value(1)),
-        (AnyOp::Pop, value(1)),
-        (AnyOp::Pop, value(2)),
-        (AnyOp::Pop, NIL),
-        (AnyOp::Push(3), value(3)),
-    ];
-    let stack = AnyObject::empty(rt.alloc(), Kind::Stack);
-    sum_answers(&rt, stack, Kind::Stack, &rows)?;
-    answers(
-        &rt,
-        Stack::new(rt.alloc()),
-        &[(StackOp::Push(5), value(5)), (StackOp::Pop, value(5))],
-    )
+fn an_object_of_each_kind_answers_as_its_kind_does(rt: HostRuntime) -> Result<(), Fail> {
+    for (kind, rows) in ROWS.iter() {
+        sum_answers(&rt, AnyObject::empty(rt.alloc(), *kind), *kind, rows)?;
+    }
+    Ok(())
 }
 
+const FIVE: Option<AnyReply> = Some(Gives(Some(5)));
+
 #[test]
-fn heap_hands_out_the_least(rt: HostRuntime) -> Result<(), Fail> {
-    let rows = [
-        (AnyOp::Insert(5), value(5)),
-        (AnyOp::Insert(5), value(5)),
-        (AnyOp::Insert(-3), value(-3)),
-        (AnyOp::ExtractMin, value(-3)),
-        (AnyOp::ExtractMin, value(5)),
-        (AnyOp::ExtractMin, value(5)),
-        (AnyOp::ExtractMin, NIL),
-        (AnyOp::Insert(2), value(2)),
-    ];
-    let heap = AnyObject::empty(rt.alloc(), Kind::Heap);
-    sum_answers(&rt, heap, Kind::Heap, &rows)?;
-    let rows = [
-        (HeapOp::Insert(5), value(5)),
-        (HeapOp::ExtractMin, value(5)),
-    ];
+fn queue_stack_and_heap_answer_by_their_bound(rt: HostRuntime) -> Result<(), Fail> {
+    let rows = [(QueueOp::Enqueue(5), FIVE), (QueueOp::Dequeue, FIVE)];
+    answers(&rt, Queue::new(rt.alloc()), &rows)?;
+    let rows = [(StackOp::Push(5), FIVE), (StackOp::Pop, FIVE)];
+    answers(&rt, Stack::new(rt.alloc()), &rows)?;
+    let rows = [(HeapOp::Insert(5), FIVE), (HeapOp::ExtractMin, FIVE)];
     answers(&rt, Heap::new(rt.alloc()), &rows)
 }
 
 #[test]
-fn register_swaps_what_is_expected(rt: HostRuntime) -> Result<(), Fail> {
+fn register_map_and_mutex_answer_by_their_bound(rt: HostRuntime) -> Result<(), Fail> {
+    let (expected, new) = (5, 6);
+    let cas = RegisterOp::Cas { expected, new };
     let rows = [
-        (AnyOp::Read, NIL),
-        (AnyOp::Cas(1, 2), Some(AnyReply::NotSwapped)),
-        (AnyOp::Write(1), value(1)),
-        (AnyOp::Cas(1, 2), Some(AnyReply::Swapped(1, 2))),
-        (AnyOp::Read, value(2)),
-    ];
-    let register = AnyObject::empty(rt.alloc(), Kind::Register);
-    sum_answers(&rt, register, Kind::Register, &rows)?;
-    let cas = RegisterOp::Cas {
-        expected: 5,
-        new: 6,
-    };
-    let rows = [
-        (RegisterOp::Write(5), value(5)),
+        (RegisterOp::Write(5), FIVE),
         (cas, Some(AnyReply::Swapped(5, 6))),
     ];
-    answers(&rt, Register::new(rt.alloc()), &rows)
-}
-
-#[test]
-fn map_answers_the_earlier_value(rt: HostRuntime) -> Result<(), Fail> {
-    let rows = [
-        (AnyOp::Put(1, 10), NIL),
-        (AnyOp::Put(1, 11), value(10)),
-        (AnyOp::Get(1), value(11)),
-        (AnyOp::Del(1), value(11)),
-        (AnyOp::Get(1), NIL),
-        (AnyOp::Put(2, 20), NIL),
-    ];
-    let map = AnyObject::empty(rt.alloc(), Kind::Map);
-    sum_answers(&rt, map, Kind::Map, &rows)?;
+    answers(&rt, Register::new(rt.alloc()), &rows)?;
     let put = MapOp::Put { key: 5, value: 6 };
-    answers(
-        &rt,
-        MapObject::new(rt.alloc()),
-        &[(put, NIL), (MapOp::Get(5), value(6))],
-    )
-}
-
-#[test]
-fn mutex_is_acquired_while_free(rt: HostRuntime) -> Result<(), Fail> {
-    let rows = [
-        (AnyOp::Release, None),
-        (AnyOp::Acquire, NIL),
-        (AnyOp::Acquire, None),
-        (AnyOp::Release, NIL),
-        (AnyOp::Acquire, NIL),
-    ];
-    let mutex = AnyObject::empty(rt.alloc(), Kind::Mutex);
-    sum_answers(&rt, mutex, Kind::Mutex, &rows)?;
-    answers(
-        &rt,
-        Mutex::new(rt.alloc()),
-        &[(MutexOp::Acquire, NIL), (MutexOp::Acquire, None)],
-    )
+    let rows = [(put, NIL), (MapOp::Get(5), Some(Gives(Some(6))))];
+    answers(&rt, MapObject::new(rt.alloc()), &rows)?;
+    let rows = [(MutexOp::Acquire, NIL), (MutexOp::Acquire, None)];
+    answers(&rt, Mutex::new(rt.alloc()), &rows)
 }
 
 #[test]
@@ -221,26 +201,21 @@ fn functions_have_their_names(rt: HostRuntime) {
         "release",
     ];
     for (f, name) in Function::ALL.into_iter().zip(names) {
-        assert_eq!(rt; f.name(), name);
-        assert_eq!(rt; Function::named(name.as_bytes()), Some(f));
+        assert!(rt; f.name() == name && Function::named(name.as_bytes()) == Some(f));
     }
-    assert_eq!(rt; Function::named(b"extract"), None);
-    assert_eq!(rt; Function::named(b""), None);
-    assert_eq!(rt; Function::ExtractMin.kind(), Kind::Heap);
-    assert_eq!(rt; kind_name(Kind::Register), "register");
+    assert!(rt; Function::named(b"extract").is_none() && Function::named(b"").is_none());
+    assert!(rt; Function::ExtractMin.kind() == Kind::Heap);
+    assert!(rt; kind_name(Kind::Register) == "register");
 }
 
 #[test]
-fn values_have_their_shapes(rt: HostRuntime) {
-    assert_eq!(rt;
-        op_of(Function::Cas, Value::Pair(1, 2)),
-        Some(AnyOp::Cas(1, 2))
-    );
-    assert_eq!(rt; op_of(Function::Dequeue, Value::Int(1)), None);
-    assert_eq!(rt; function_of(&AnyOp::Del(1)), Function::Del);
-    assert_eq!(rt; value_of_op(&AnyOp::Put(1, 2)), Value::Pair(1, 2));
-    assert_eq!(rt; reply_of(Function::Cas, Value::Int(7)), None);
-    assert_eq!(rt; reply_of(Function::Enqueue, Value::Nil), None);
-    assert_eq!(rt; reply_of(Function::Get, Value::Nil), NIL);
-    assert_eq!(rt; value_of_reply(&AnyReply::NotSwapped), Value::False);
+fn operations_and_replies_are_written_as_values_and_read_back(rt: HostRuntime) {
+    assert!(rt; op_of(Function::Cas, Value::Pair(1, 2)) == Some(AnyOp::Cas(1, 2)));
+    assert!(rt; op_of(Function::Dequeue, Value::Int(1)).is_none());
+    assert!(rt; function_of(&AnyOp::Del(1)) == Function::Del);
+    assert!(rt; value_of_op(&AnyOp::Put(1, 2)) == Value::Pair(1, 2));
+    assert!(rt; reply_of(Function::Cas, Value::Int(7)).is_none());
+    assert!(rt; reply_of(Function::Enqueue, Value::Nil).is_none());
+    assert!(rt; reply_of(Function::Get, Value::Nil) == NIL);
+    assert!(rt; value_of_reply(&AnyReply::NotSwapped) == Value::False);
 }

@@ -1,4 +1,4 @@
-use events::{Action, End, Event, History, Invocation, split, split_part};
+use events::{Action, End, Event, History, Invocation, ObjectHistory, split, split_part};
 use seq_objects::{AnyOp, AnyReply, Kind};
 use std::alloc::Global;
 use std::test::Fail;
@@ -73,50 +73,56 @@ const ON_QUEUE: [Invocation; 2] = [
     },
 ];
 
+/// What each object did: its number, its kind and its operations.
+const OBJECTS: [(u32, Kind, &[Invocation]); 2] = [
+    (0, Kind::Mutex, &[ACQUIRE]),
+    (7, Kind::Queue, &ON_QUEUE),
+];
+
+/// Whether this is what an object did.
+fn is_object(object: &ObjectHistory, want: (u32, Kind, &[Invocation])) -> bool {
+    let (number, kind, ops) = want;
+    object.object() == number && object.kind() == kind && object.ops() == ops
+}
+
 #[test]
-fn splits_by_object(rt: HostRuntime) -> Result<(), Fail> {
+fn a_history_is_split_by_object(rt: HostRuntime) -> Result<(), Fail> {
     let history = three_operations(rt.alloc())?;
-    assert_eq!(rt; history.events().len(), 6);
+    assert!(rt; history.events().len() == 6);
     let objects = split(rt.alloc(), &history)?;
-    assert_eq!(rt; objects.len(), 2);
-
-    assert_eq!(rt; objects[0].object(), 0);
-    assert_eq!(rt; objects[0].kind(), Kind::Mutex);
-    assert_eq!(rt; objects[0].ops(), [ACQUIRE].as_slice());
-
-    assert_eq!(rt; objects[1].object(), 7);
-    assert_eq!(rt; objects[1].kind(), Kind::Queue);
-    assert_eq!(rt; objects[1].ops(), ON_QUEUE.as_slice());
+    assert!(rt; objects.len() == 2);
+    for (object, want) in objects.iter().zip(OBJECTS) {
+        assert!(rt; is_object(object, want));
+    }
     Ok(())
 }
 
-/// Of 0 and 7, the even one falls to the first of two parts; of three parts the middle one has 7, and the last none.
+/// A part, of how many, and the place of its object in `OBJECTS`. Of 0 and 7, the even one falls to the first of two
+/// parts; of three parts the middle one has 7, and the last none.
+const PARTS: [(u32, u32, Option<usize>); 5] = [
+    (0, 2, Some(0)),
+    (1, 2, Some(1)),
+    (0, 3, Some(0)),
+    (1, 3, Some(1)),
+    (2, 3, None),
+];
+
 #[test]
-fn splits_into_parts(rt: HostRuntime) -> Result<(), Fail> {
+fn a_part_of_a_history_has_the_objects_of_one_remainder(rt: HostRuntime) -> Result<(), Fail> {
     let history = three_operations(rt.alloc())?;
-    let rows: [(u32, u32, Option<u32>); 5] = [
-        (0, 2, Some(0)),
-        (1, 2, Some(7)),
-        (0, 3, Some(0)),
-        (1, 3, Some(7)),
-        (2, 3, None),
-    ];
-    for (part, parts, object) in rows {
-        if part < parts {
-            let objects = split_part(rt.alloc(), &history, part, parts)?;
-            let Some(object) = object else {
-                assert_eq!(rt; objects.len(), 0);
-                continue;
-            };
-            assert_eq!(rt; objects.len(), 1);
-            assert_eq!(rt; objects[0].object(), object);
-            let is_queue = object == 7;
-            let ops = if is_queue {
-                ON_QUEUE.as_slice()
-            } else {
-                [ACQUIRE].as_slice()
-            };
-            assert_eq!(rt; objects[0].ops(), ops);
+    let all = OBJECTS;
+    for (part, parts, place) in PARTS {
+        if part >= parts {
+            return Err(Fail::new("a part past the last"));
+        }
+        let objects = split_part(rt.alloc(), &history, part, parts)?;
+        let want = match place {
+            Some(k) => all.get(k),
+            None => None,
+        };
+        assert!(rt; objects.len() == usize::from(want.is_some()));
+        for (object, want) in objects.iter().zip(want) {
+            assert!(rt; is_object(object, *want));
         }
     }
     Ok(())

@@ -43,8 +43,10 @@ fn check_output<R: AllocGlobal + Abort + Threads + Wait + Sync>(
     expected: u8,
 ) {
     let (output, status) = performed(rt, line, text.as_bytes(), b"");
-    assert_eq!(rt; output.as_slice(), lines.as_bytes());
-    assert_eq!(rt; status, expected);
+    assert!(rt;
+        output.as_slice() == lines.as_bytes() && status == expected,
+        "{text}"
+    );
 }
 
 /// Checks that an output which fails after any number of bytes has a beginning of these lines.
@@ -58,8 +60,7 @@ fn check_failing_output<R: AllocGlobal + Abort + Threads + Wait + Sync>(
         let mut bytes = vec![in rt.alloc(); 0; room]?;
         let mut sink = Out::new(bytes.as_mut_slice());
         let status = perform(rt, rt.alloc(), line, text.as_bytes(), b"", &mut sink);
-        assert_eq!(rt; status, FAILED);
-        assert_eq!(rt; bytes.as_slice(), &lines.as_bytes()[..room]);
+        assert!(rt; status == FAILED && bytes.as_slice() == &lines.as_bytes()[..room]);
     }
     Ok(())
 }
@@ -72,11 +73,10 @@ fn check_certificates<R: AllocGlobal + Abort + Threads + Wait + Sync>(
     let check = checking(rt.alloc())?;
     for row in &YES {
         let history = row.history.as_bytes();
-        let (certificates, status) = performed(rt, line, history, b"");
-        assert_eq!(rt; status, 0, "{}", row.name);
-        let (output, status) = performed(rt, &check, history, &certificates);
-        assert_eq!(rt; status, 0, "{}", row.name);
-        assert_eq!(rt; output.as_slice(), row.output.as_bytes());
+        let (certificates, found) = performed(rt, line, history, b"");
+        let (output, checked) = performed(rt, &check, history, &certificates);
+        let is_so = found == 0 && checked == 0 && output.as_slice() == row.output.as_bytes();
+        assert!(rt; is_so, "{}", row.name);
     }
     Ok(())
 }
@@ -91,24 +91,16 @@ fn check_rows<R: AllocGlobal + Abort + Threads + Wait + Sync>(
     for row in rows {
         let (history, certificates) = (row.history.as_bytes(), row.certificates.as_bytes());
         let (output, status) = performed(rt, &check, history, certificates);
-        assert_eq!(rt; output.as_slice(), row.output.as_bytes(), "{}", row.name);
-        assert_eq!(rt; status, expected, "{}", row.name);
+        let is_so = output.as_slice() == row.output.as_bytes() && status == expected;
+        assert!(rt; is_so, "{}", row.name);
     }
     Ok(())
 }
 
 #[test]
-fn yes(rt: HostRuntime) -> Result<(), Fail> {
-    check_rows(&rt, &YES, 0)
-}
-
-#[test]
-fn no(rt: HostRuntime) -> Result<(), Fail> {
-    check_rows(&rt, &NO, 1)
-}
-
-#[test]
-fn malformed(rt: HostRuntime) -> Result<(), Fail> {
+fn two_texts_are_answered_yes_no_or_malformed(rt: HostRuntime) -> Result<(), Fail> {
+    check_rows(&rt, &YES, 0)?;
+    check_rows(&rt, &NO, 1)?;
     check_rows(&rt, &MALFORMED, 2)
 }
 
@@ -124,7 +116,7 @@ fn is_answered<R: AllocGlobal + Threads + Wait + Sync>(
 }
 
 #[test]
-fn beginnings_of_texts(rt: HostRuntime) -> Result<(), Fail> {
+fn each_beginning_of_two_texts_is_answered_in_whole_lines(rt: HostRuntime) -> Result<(), Fail> {
     let check = checking(rt.alloc())?;
     let (history, certificates) = (TWO_QUEUES.as_bytes(), TWO_ORDERS.as_bytes());
     for k in 0..history.len() {
@@ -143,7 +135,7 @@ fn beginnings_of_texts(rt: HostRuntime) -> Result<(), Fail> {
 }
 
 #[test]
-fn too_many_maps(rt: HostRuntime) -> Result<(), Fail> {
+fn a_history_of_more_than_a_million_maps_is_refused(rt: HostRuntime) -> Result<(), Fail> {
     let check = checking(rt.alloc())?;
     let mut history = Vec::new(rt.alloc());
     for _ in 0..500_000 {
@@ -152,17 +144,14 @@ fn too_many_maps(rt: HostRuntime) -> Result<(), Fail> {
     }
     history.extend_from_slice(b"{:process 0, :type :invoke, :f :enqueue, :value 1}\n")?;
     let (output, status) = performed(&rt, &check, &history, b"");
-    assert_eq!(rt;
-        output.as_slice(),
-        b"malformed history: H9 at map 1000000\n".as_slice()
-    );
-    assert_eq!(rt; status, 2);
+    let want = b"malformed history: H9 at map 1000000\n";
+    assert!(rt; output.as_slice() == want.as_slice() && status == 2);
     Ok(())
 }
 
 /// A text of one byte too long is refused before anything in it is looked at, be it UTF-8 or not.
 #[test]
-fn too_long(rt: HostRuntime) -> Result<(), Fail> {
+fn a_text_of_one_byte_too_many_is_refused_at_once(rt: HostRuntime) -> Result<(), Fail> {
     let check = checking(rt.alloc())?;
     let long = vec![in rt.alloc(); 0xff; 268_435_457]?;
     for (history, certificates, expected) in [
@@ -178,8 +167,7 @@ fn too_long(rt: HostRuntime) -> Result<(), Fail> {
         ),
     ] {
         let (output, status) = performed(&rt, &check, history, certificates);
-        assert_eq!(rt; output.as_slice(), expected.as_bytes());
-        assert_eq!(rt; status, 2);
+        assert!(rt; output.as_slice() == expected.as_bytes() && status == 2);
     }
     Ok(())
 }

@@ -20,5 +20,5 @@ pub use client::{Client, Hand, Pass};
 pub use closing::{Retired, Unretired};
 pub use desk::{Desk, Picked, Post, Win};
 pub use recorder::{Answer, JournalEvent, LogEntry, Record};
-pub use roster::Enlist;
+pub use roster::{Enlist, Place, Roster, Walker};
 pub use world::Request;

@@ -50,7 +50,7 @@ fn decisions(alloc: Global, limit: u64, wanted: &[(u32, &str)]) -> Result<(), Fa
 
 /// What the finder finds takes no steps; what it does not find is searched.
 #[test]
-fn found_and_impossible(rt: HostRuntime) -> Result<(), Fail> {
+fn an_object_is_found_or_impossible(rt: HostRuntime) -> Result<(), Fail> {
     let wanted = [
         (3, "[0, 2] after 0"),
         (4, "impossible after 1"),
@@ -60,7 +60,7 @@ fn found_and_impossible(rt: HostRuntime) -> Result<(), Fail> {
 }
 
 #[test]
-fn out_of_steps(rt: HostRuntime) -> Result<(), Fail> {
+fn an_object_that_is_not_found_may_take_too_many_steps(rt: HostRuntime) -> Result<(), Fail> {
     let wanted = [
         (3, "[0, 2] after 0"),
         (4, "out of steps after 0"),

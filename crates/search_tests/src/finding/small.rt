@@ -210,37 +210,37 @@ fn tries(alloc: Global, words: Words<'_>) -> Result<bool, Fail> {
 }
 
 #[test]
-fn queues(rt: HostRuntime) -> Result<(), Fail> {
+fn small_histories_of_a_queue_are_answered_as_by_force(rt: HostRuntime) -> Result<(), Fail> {
     assert!(rt; tries(rt.alloc(), &QUEUE)?);
     Ok(())
 }
 
 #[test]
-fn stacks(rt: HostRuntime) -> Result<(), Fail> {
+fn small_histories_of_a_stack_are_answered_as_by_force(rt: HostRuntime) -> Result<(), Fail> {
     assert!(rt; tries(rt.alloc(), &STACK)?);
     Ok(())
 }
 
 #[test]
-fn heaps(rt: HostRuntime) -> Result<(), Fail> {
+fn small_histories_of_a_heap_are_answered_as_by_force(rt: HostRuntime) -> Result<(), Fail> {
     assert!(rt; tries(rt.alloc(), &HEAP)?);
     Ok(())
 }
 
 #[test]
-fn registers(rt: HostRuntime) -> Result<(), Fail> {
+fn small_histories_of_a_register_are_answered_as_by_force(rt: HostRuntime) -> Result<(), Fail> {
     assert!(rt; tries(rt.alloc(), &REGISTER)?);
     Ok(())
 }
 
 #[test]
-fn maps(rt: HostRuntime) -> Result<(), Fail> {
+fn small_histories_of_a_map_are_answered_as_by_force(rt: HostRuntime) -> Result<(), Fail> {
     assert!(rt; tries(rt.alloc(), &MAP)?);
     Ok(())
 }
 
 #[test]
-fn mutexes(rt: HostRuntime) -> Result<(), Fail> {
+fn small_histories_of_a_mutex_are_answered_as_by_force(rt: HostRuntime) -> Result<(), Fail> {
     assert!(rt; tries(rt.alloc(), &MUTEX)?);
     Ok(())
 }

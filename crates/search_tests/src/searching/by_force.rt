@@ -201,28 +201,28 @@ fn tries_all(alloc: Global, words: &Words) -> Result<u32, Fail> {
 }
 
 #[test]
-fn queues(rt: HostRuntime) -> Result<(), Fail> {
+fn a_search_of_a_queue_answers_as_by_force(rt: HostRuntime) -> Result<(), Fail> {
     let count = tries_all(rt.alloc(), &QUEUE)?;
     assert!(rt; count > 1000, "{count} histories");
     Ok(())
 }
 
 #[test]
-fn registers(rt: HostRuntime) -> Result<(), Fail> {
+fn a_search_of_a_register_answers_as_by_force(rt: HostRuntime) -> Result<(), Fail> {
     let count = tries_all(rt.alloc(), &REGISTER)?;
     assert!(rt; count > 1000, "{count} histories");
     Ok(())
 }
 
 #[test]
-fn queues_of_unknown_values(rt: HostRuntime) -> Result<(), Fail> {
+fn a_search_of_a_queue_of_unknown_values_answers_as_by_force(rt: HostRuntime) -> Result<(), Fail> {
     let count = tries_all(rt.alloc(), &QUEUE_OF_UNKNOWN_VALUES)?;
     assert!(rt; count > 1000, "{count} histories");
     Ok(())
 }
 
 #[test]
-fn registers_at_first(rt: HostRuntime) -> Result<(), Fail> {
+fn a_search_of_a_register_not_yet_written_answers_as_by_force(rt: HostRuntime) -> Result<(), Fail> {
     let count = tries_all(rt.alloc(), &REGISTER_AT_FIRST)?;
     assert!(rt; count > 1000, "{count} histories");
     Ok(())

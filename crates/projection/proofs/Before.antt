@@ -1,0 +1,70 @@
+-- The operations before a moment.
+use Rattle.std.proofs.Common.{◌≡◌, ℕ, nat_lt, Bool, true, false, cond, List, Option, Some, None, refl, sym, ◌∙◌, subst}
+use Rattle.std.specs.List.{filter_map}
+use Rattle.std.proofs.lemmas.Option.{same_Some}
+use Rattle.model.specs.declared.AnyReply.{AnyReply}
+use Rattle.model.specs.Orders.{Call, IsValidOrder}
+use Rattle.events.specs.declared.operations.End.{End}
+use Rattle.events.specs.declared.operations.End.TheVariants.{Returned, Pending, Failed}
+use Rattle.events.specs.declared.operations.Invocation.{Invocation}
+use Rattle.events.specs.Operations.{call_with, call_of, calls_of, ObjectCalls, IsObjectHistory}
+use Rattle.projection.specs.Parts.{call_before, calls_before}
+use Rattle.projection.specs.Cuts.{IsPart}
+use Rattle.projection.specs.Pieces.{end_before, piece_before}
+use Rattle.projection.proofs.Pieces.{bind, filter_map-filter, IsPiece, pieces_history, pieces_calls, calls_end}
+use Rattle.projection.proofs.Prefixes.{prefix_valid}
+
+piece_is : (until : ℕ) (o p : Invocation) → piece_before until o ≡ Some p → IsPiece o p
+piece_is until o p e = go (nat_lt o.number until) e
+  where
+    was : (end : End) (at : ℕ) (reply : AnyReply) → end_before until end ≡ Returned at reply → (own : AnyReply) × (end ≡ Returned at own)
+    was (Returned when r) at reply e = back (nat_lt when until) e
+      where
+        back : (b : Bool) → cond b (Returned when r) Pending ≡ Returned at reply → (own : AnyReply) × (Returned when r ≡ Returned at own)
+        back true e = (reply, e)
+        back false e = absurd (cc e)
+    was Pending at reply e = absurd (cc e)
+    was Failed at reply e = absurd (cc e)
+
+    go : (b : Bool) → cond b (Some (record { number = o.number; op = o.op; «end» = end_before until o.«end» })) None ≡ Some p → IsPiece o p
+    go true e = let q = same_Some _ p e in subst (IsPiece o) q (record { number = refl; kind = refl; returned = was o.«end» })
+    go false e = absurd (cc e)
+
+abbrev call_then : ℕ → Call → Option Call
+call_then until c = cond (nat_lt c.number until) (Some (call_before until c)) None
+
+piece_call : (until : ℕ) (o : Invocation) → bind (piece_before until o) call_of ≡ bind (call_of o) (call_then until)
+piece_call until o = go o.«end»
+  where
+    returned : (at : ℕ) (r : AnyReply) (b t : Bool) → bind (cond b (Some (record { number = o.number; op = o.op; «end» = cond t (Returned at r) Pending })) None) call_of ≡ cond b (Some (record { number = o.number; op = o.op; returned = cond t (Some (record { at = at; reply = r })) None })) None
+    returned at r true true = refl
+    returned at r true false = refl
+    returned at r false t = refl
+
+    pending : (b : Bool) → bind (cond b (Some (record { number = o.number; op = o.op; «end» = Pending })) None) call_of ≡ cond b (Some (record { number = o.number; op = o.op; returned = None })) None
+    pending true = refl
+    pending false = refl
+
+    failed : (b : Bool) → bind (cond b (Some (record { number = o.number; op = o.op; «end» = Failed })) None) call_of ≡ None
+    failed true = refl
+    failed false = refl
+
+    go : (e : End) → bind (piece_before until (record { number = o.number; op = o.op; «end» = e })) call_of ≡ bind (call_with o.number o.op e) (call_then until)
+    go (Returned at r) = returned at r (nat_lt o.number until) (nat_lt at until)
+    go Pending = pending (nat_lt o.number until)
+    go Failed = failed (nat_lt o.number until)
+
+pub before_history : (until : ℕ) (h : ObjectCalls) → IsObjectHistory h → IsObjectHistory (record { object = h.object; kind = h.kind; ops = filter_map (piece_before until) h.ops })
+before_history until h is = pieces_history h.object h.kind h.ops (piece_before until) (λ o p i e. piece_is until o p e) is
+
+pub before_calls : (until : ℕ) (ops : List Invocation) → calls_of (filter_map (piece_before until) ops) ≡ calls_before until (calls_of ops)
+before_calls until ops = pieces_calls (piece_before until) (call_then until) ops (piece_call until) ∙ filter_map-filter (λ e. nat_lt e.number until) (call_before until) (calls_of ops)
+
+pub before_shows : (until : ℕ) (h : ObjectCalls) → IsObjectHistory h → IsPart h (record { object = h.object; kind = h.kind; ops = filter_map (piece_before until) h.ops })
+before_shows until h is = record {
+  object = refl;
+  kind = refl;
+  shows = λ none order v.
+      let r = prefix_valid h.kind (calls_of h.ops) until order (calls_end h.object h.kind h.ops is) v in
+      none r.0 (subst (λ (cs : List Call). IsValidOrder h.kind cs r.0) (sym (before_calls until h.ops)) r.1);
+}

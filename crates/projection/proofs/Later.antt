@@ -1,0 +1,255 @@
+-- The operations of a suffix.
+use Rattle.std.proofs.Common.{◌≡◌, inl, inr, ℕ, ℤ, ◌<◌, ◌==◌, nat_lt, Bool, true, false, cond, List, [], ◌∷◌, Option, Some, None, IfSome, All, Contains, refl, ap, sym, ◌∙◌, subst, arith}
+use Rattle.std.specs.Prelude.{option_map}
+use Rattle.std.specs.Option.{option_map_or}
+use Rattle.std.specs.List.{filter_map}
+use Rattle.std.proofs.lemmas.Option.{same_Some}
+use Rattle.std.proofs.lemmas.Bool.{eqb-true}
+use Rattle.model.specs.declared.AnyOp.{AnyOp}
+use Rattle.model.specs.declared.AnyOp.TheVariants.{Dequeue, Pop, ExtractMin, Write, Read, Cas, Put, Get, Del, Acquire, Release}
+use Rattle.model.specs.declared.AnyReply.{AnyReply}
+use Rattle.model.specs.declared.AnyReply.TheVariants.{Value, Swapped}
+use Rattle.model.specs.Objects.{kind_of}
+use Rattle.model.specs.Orders.{Call, Return, IsValidOrder}
+use Rattle.model.proofs.Lists.{In, Pairs, in_from_contains, contains_from_in, all_from_in, all_at, pairs_from_all}
+use Rattle.events.specs.declared.operations.End.{End}
+use Rattle.events.specs.declared.operations.End.TheVariants.{Returned, Pending, Failed}
+use Rattle.events.specs.declared.operations.Invocation.{Invocation}
+use Rattle.events.specs.Operations.{call_with, call_of, calls_of, return_of, ObjectCalls, IsObjectHistory}
+use Rattle.projection.specs.Parts.{leaves, IsStart, key_of, ended_before, written_before, write_call, pending_call, overlapping, call_later, returned_call, call_from, calls_from}
+use Rattle.projection.specs.Cuts.{IsPart, IsSuffix}
+use Rattle.projection.specs.Pieces.{has_failed, IsOnKey, is_over, returned_piece, write_piece, pending_piece, overlapping_piece, piece_later, piece_from}
+use Rattle.projection.proofs.Sequences.{in_filter_map, in_filter_map_from}
+use Rattle.projection.proofs.Overlaps.{before_facts}
+use Rattle.projection.proofs.Suffixes.{start_valid}
+use Rattle.projection.proofs.Pieces.{bind, IsPiece, pieces_history, pieces_calls, all_calls, call_cases}
+
+-- ---- pieces
+
+leaves_kind : (op : AnyOp) (reply : AnyReply) → IfSome (leaves op reply) (λ f. IfSome f (λ p. kind_of p.0 ≡ kind_of op))
+leaves_kind Dequeue (Value None) = tt
+leaves_kind Pop (Value None) = tt
+leaves_kind ExtractMin (Value None) = tt
+leaves_kind (Write v) reply = refl
+leaves_kind Read (Value None) = tt
+leaves_kind Read (Value (Some v)) = refl
+leaves_kind (Cas a b) (Swapped c d) = refl
+leaves_kind (Put k v) reply = refl
+leaves_kind (Get k) (Value None) = tt
+leaves_kind (Get k) (Value (Some v)) = refl
+leaves_kind (Del k) reply = tt
+leaves_kind Acquire reply = refl
+leaves_kind Release reply = tt
+leaves_kind op reply = tt
+
+-- of two elements with one number each is the other
+pub one_number : {X : Type 0} (number : X → ℕ) (a b : X) (xs : List X) → Pairs (λ x y. number x < number y) xs → In a xs → In b xs → number a ≡ number b → a ≡ b
+one_number number a b [] h i j e = absurd i
+one_number {X} number a b (x ∷ xs) h i j e = elim i [
+  | inl p ↦ elim j [
+    | inl q ↦ p ∙ sym q
+    | inr l ↦ absurd (risen (number x) (number b) (h.0 b l) (sym (ap number p) ∙ e))
+  ]
+  | inr k ↦ elim j [
+    | inl q ↦ absurd (risen (number x) (number a) (h.0 a k) (sym (ap number q) ∙ sym e))
+    | inr l ↦ one_number number a b xs h.1 k l e
+  ]
+]
+  where
+    risen : (x y : ℕ) → x < y → x ≡ y → ⊥
+    risen x y l e = absurd (omega arith)
+
+-- ---- where a suffix begins
+
+-- the operation with which a suffix begins
+pub record IsStartPiece (ops : List Invocation) (from at : ℕ) (first : Option (AnyOp × AnyReply)) (reply : AnyReply) : Type 0 where
+  pub operation : Invocation
+  pub known : In operation ops
+  pub number : operation.number ≡ from
+  pub ended : operation.«end» ≡ Returned at reply
+  pub told : leaves operation.op reply ≡ Some first
+  pub one_key : All (IsOnKey (key_of operation.op)) ops
+
+returned_end : (e : End) (at : ℕ) (reply : AnyReply) → return_of e ≡ Some (record { at = at; reply = reply }) → e ≡ Returned at reply
+returned_end (Returned t r) at reply q = let s = same_Some _ _ q in ap (λ (z : Return). Returned z.at z.reply) s
+returned_end Pending at reply q = absurd (cc q)
+returned_end Failed at reply q = absurd (cc q)
+
+on_key_each : (ops : List Invocation) (key : Option ℤ) → All (λ e. key_of e.op ≡ key) (calls_of ops) → All (IsOnKey key) ops
+on_key_each ops key h = all_from_in (IsOnKey key) ops (λ o i. go o i o.«end» refl)
+  where
+    at : (o : Invocation) → In o ops → (r : Option Return) → call_of o ≡ Some (record { number = o.number; op = o.op; returned = r }) → key_of o.op ≡ key
+    at o i r e = all_at (λ e. key_of e.op ≡ key) (calls_of ops) h (record { number = o.number; op = o.op; returned = r }) (in_filter_map_from call_of o (record { number = o.number; op = o.op; returned = r }) ops i e)
+
+    go : (o : Invocation) → In o ops → (e : End) → o.«end» ≡ e → IsOnKey key o
+    go o i (Returned t r) q = inr (at o i (Some (record { at = t; reply = r })) (ap (call_with o.number o.op) q))
+    go o i Pending q = inr (at o i None (ap (call_with o.number o.op) q))
+    go o i Failed q = inl (ap has_failed q)
+
+pub start_piece : (ops : List Invocation) (from at : ℕ) (first : Option (AnyOp × AnyReply)) (s : IsStart (calls_of ops) from at first) → IsStartPiece ops from at first s.reply
+start_piece ops from at first s =
+    let o = in_filter_map call_of s.call ops (in_from_contains (calls_of ops) s.call s.known) in
+    let k = call_cases o.0 s.call o.2 in
+    record {
+      operation = o.0;
+      known = o.1;
+      number = sym k.0 ∙ s.number;
+      ended = returned_end o.0.«end» at s.reply (sym k.2 ∙ s.returned);
+      told = ap (λ (op : AnyOp). leaves op s.reply) (sym k.1) ∙ s.told;
+      one_key = on_key_each ops (key_of o.0.op) (subst (λ (op : AnyOp). All (λ e. key_of e.op ≡ key_of op) (calls_of ops)) k.1 s.one_key);
+    }
+
+pub start_from : (ops : List Invocation) (o : Invocation) (at : ℕ) (reply : AnyReply) (first : Option (AnyOp × AnyReply)) → Contains ops o → o.«end» ≡ Returned at reply → leaves o.op reply ≡ Some first → All (IsOnKey (key_of o.op)) ops → IsStart (calls_of ops) o.number at first
+start_from ops o at reply first stands ended told on =
+    let c : Call = record { number = o.number; op = o.op; returned = Some (record { at = at; reply = reply }) } in
+    record {
+      call = c;
+      known = contains_from_in (calls_of ops) c (in_filter_map_from call_of o c ops (in_from_contains ops o stands) (ap (call_with o.number o.op) ended));
+      number = refl;
+      reply = reply;
+      returned = refl;
+      told = told;
+      one_key = all_calls (λ number op returned. key_of op ≡ key_of o.op) ops (λ w i c e. elim (all_at (IsOnKey (key_of o.op)) ops on w i) [ inl f ↦ absurd (gone w.number w.op w.«end» c f e) | inr k ↦ k ]);
+    }
+  where
+    gone : (number : ℕ) (op : AnyOp) (e : End) (c : Call) → has_failed e ≡ true → call_with number op e ≡ Some c → ⊥
+    gone number op (Returned t r) c f q = absurd (cc f)
+    gone number op Pending c f q = absurd (cc f)
+    gone number op Failed c f q = absurd (cc q)
+
+-- a suffix is named by the number of its first call
+pub one_suffix : (from : ℕ) (calls a b : List Call) → Pairs (λ x y. x.number < y.number) calls → IsSuffix from calls a → IsSuffix from calls b → a ≡ b
+one_suffix from calls a b rising p q =
+    let s = p.start in
+    let t = q.start in
+    let same = one_number (λ (z : Call). z.number) s.call t.call calls rising (in_from_contains calls s.call s.known) (in_from_contains calls t.call t.known) (s.number ∙ sym t.number) in
+    let ret : ◌≡◌ {A = Return} (record { at = p.at; reply = s.reply }) (record { at = q.at; reply = t.reply })
+    = same_Some _ _ (sym s.returned ∙ ap (λ (z : Call). z.returned) same ∙ t.returned) in
+    let first : p.first ≡ q.first = same_Some _ _ (sym s.told ∙ ap (λ (z : Call). leaves z.op s.reply) same ∙ ap (λ (z : Return). leaves t.call.op z.reply) ret ∙ t.told) in
+    p.named ∙ ap (λ (z : Return). calls_from from z.at p.first calls) ret ∙ ap (λ (z : Option (AnyOp × AnyReply)). calls_from from q.at z calls) first ∙ sym q.named
+
+-- an operation that is not over before the first one
+later_is : (first : Option (AnyOp × AnyReply)) (at : ℕ) (o : Invocation) → IsPiece o (piece_later first at o)
+later_is first at o = whole (nat_lt at o.number)
+  where
+    pending : IsPiece o (pending_piece o.number o.op)
+    pending = record { number = refl; kind = refl; returned = λ when reply e. absurd (cc e) }
+
+    same_at : (a : ℕ) (r : AnyReply) (b : ℕ) (t : AnyReply) → Returned a r ≡ Returned b t → a ≡ b
+    same_at a r b t e = cc
+
+    with_value : (t : ℕ) (r : AnyReply) → o.«end» ≡ Returned t r → (v : Option ℤ) → written_before first o.op r ≡ v → IsPiece o (option_map_or (write_piece o.number t) v (pending_piece o.number o.op))
+    with_value t r q None w = pending
+    with_value t r q (Some v) w = record {
+      number = refl;
+      kind = sym (before_facts first o.op r v w).1;
+      returned = λ when reply e. (r, q ∙ ap (λ (z : ℕ). Returned z r) (same_at t (Value (Some v)) when reply e));
+    }
+
+    ended : (e : End) → o.«end» ≡ e → IsPiece o (overlapping_piece first o.number o.op e)
+    ended (Returned t r) q = with_value t r q (written_before first o.op r) refl
+    ended Pending q = pending
+    ended Failed q = pending
+
+    whole : (b : Bool) → IsPiece o (cond b o (overlapping_piece first o.number o.op o.«end»))
+    whole true = record { number = refl; kind = refl; returned = λ when reply e. (reply, e) }
+    whole false = ended o.«end» refl
+
+piece_is : (h : ObjectCalls) (from at : ℕ) (first : Option (AnyOp × AnyReply)) (reply : AnyReply) → IsObjectHistory h → IsStartPiece h.ops from at first reply → (o p : Invocation) → In o h.ops → piece_from from at first o ≡ Some p → IsPiece o p
+piece_is h from at first said is s o p i e = failed (has_failed o.«end») e
+  where
+    begins : (f : Option (AnyOp × AnyReply)) → first ≡ f → o.number ≡ from → option_map (returned_piece from at) f ≡ Some p → IsPiece o p
+    begins None q n e = absurd (cc e)
+    begins (Some x) q n e =
+        let own = one_number (λ (z : Invocation). z.number) o s.operation h.ops (pairs_from_all (λ a b. a.number < b.number) h.ops is.rising) i s.known (n ∙ sym s.number) in
+        let k = subst (λ (z : Option (Option (AnyOp × AnyReply))). IfSome z (λ f. IfSome f (λ p. kind_of p.0 ≡ kind_of s.operation.op))) (s.told ∙ ap (λ (z : Option (AnyOp × AnyReply)). Some z) q) (leaves_kind s.operation.op said) in
+        let piece : IsPiece o (returned_piece from at x) = record {
+          number = sym n;
+          kind = k ∙ ap (λ (z : Invocation). kind_of z.op) (sym own);
+          returned = λ when reply e. (said, ap (λ (z : Invocation). z.«end») own ∙ s.ended ∙ ap (λ (z : ℕ). Returned z said) (same_at at x.1 when reply e));
+        } in
+        subst (IsPiece o) (same_Some (returned_piece from at x) p e) piece
+      where
+        same_at : (a : ℕ) (r : AnyReply) (b : ℕ) (t : AnyReply) → Returned a r ≡ Returned b t → a ≡ b
+        same_at a r b t e = cc
+
+    over : (b : Bool) → cond b None (Some (piece_later first at o)) ≡ Some p → IsPiece o p
+    over true e = absurd (cc e)
+    over false e = subst (IsPiece o) (same_Some (piece_later first at o) p e) (later_is first at o)
+
+    own_or : (b : Bool) → (o.number == from) ≡ b → cond b (option_map (returned_piece from at) first) (cond (is_over from o.«end») None (Some (piece_later first at o))) ≡ Some p → IsPiece o p
+    own_or true n e = begins first refl (eqb-true o.number from n) e
+    own_or false n e = over (is_over from o.«end») e
+
+    failed : (b : Bool) → cond b None (cond (o.number == from) (option_map (returned_piece from at) first) (cond (is_over from o.«end») None (Some (piece_later first at o)))) ≡ Some p → IsPiece o p
+    failed true e = absurd (cc e)
+    failed false e = own_or (o.number == from) refl e
+
+-- ---- calls
+
+-- the call of an operation that did not fail
+abbrev as_call : Invocation → Call
+as_call o = record { number = o.number; op = o.op; returned = return_of o.«end» }
+
+piece_call : (from at : ℕ) (first : Option (AnyOp × AnyReply)) (o : Invocation) → bind (piece_from from at first o) call_of ≡ bind (call_of o) (call_from from at first)
+piece_call from at first o = go (has_failed o.«end») refl
+  where
+    begins : (f : Option (AnyOp × AnyReply)) → bind (option_map (returned_piece from at) f) call_of ≡ option_map (returned_call from at) f
+    begins None = refl
+    begins (Some x) = refl
+
+    with_value : (number at : ℕ) (op : AnyOp) (v : Option ℤ) → call_of (option_map_or (write_piece number at) v (pending_piece number op)) ≡ Some (option_map_or (write_call number at) v (pending_call number op))
+    with_value number at op None = refl
+    with_value number at op (Some v) = refl
+
+    did : (e : End) → has_failed e ≡ false → call_with o.number o.op e ≡ Some (record { number = o.number; op = o.op; returned = return_of e })
+    did (Returned t r) q = refl
+    did Pending q = refl
+    did Failed q = absurd (cc q)
+
+    overlaps : (e : End) → call_of (overlapping_piece first o.number o.op e) ≡ Some (overlapping first o.number o.op (return_of e))
+    overlaps (Returned t r) = with_value o.number t o.op (written_before first o.op r)
+    overlaps Pending = refl
+    overlaps Failed = refl
+
+    late : (b : Bool) → has_failed o.«end» ≡ false → call_of (cond b o (overlapping_piece first o.number o.op o.«end»)) ≡ Some (cond b (as_call o) (overlapping first o.number o.op (return_of o.«end»)))
+    late true q = did o.«end» q
+    late false q = overlaps o.«end»
+
+    over : (e : End) → is_over from e ≡ ended_before from (return_of e)
+    over (Returned t r) = refl
+    over Pending = refl
+    over Failed = refl
+
+    kept : (b : Bool) → has_failed o.«end» ≡ false → bind (cond b None (Some (piece_later first at o))) call_of ≡ cond b None (Some (call_later first at (as_call o)))
+    kept true q = refl
+    kept false q = late (nat_lt at o.number) q
+
+    own : (b : Bool) → has_failed o.«end» ≡ false → bind (cond b (option_map (returned_piece from at) first) (cond (is_over from o.«end») None (Some (piece_later first at o)))) call_of ≡ cond b (option_map (returned_call from at) first) (cond (ended_before from (return_of o.«end»)) None (Some (call_later first at (as_call o))))
+    own true q = begins first
+    own false q = kept (is_over from o.«end») q ∙ ap (λ b. cond b None (Some (call_later first at (as_call o)))) (over o.«end»)
+
+    failed : (e : End) → has_failed e ≡ true → call_with o.number o.op e ≡ None
+    failed (Returned t r) q = absurd (cc q)
+    failed Pending q = absurd (cc q)
+    failed Failed q = refl
+
+    go : (b : Bool) → has_failed o.«end» ≡ b → bind (cond b None (cond (o.number == from) (option_map (returned_piece from at) first) (cond (is_over from o.«end») None (Some (piece_later first at o))))) call_of ≡ bind (call_of o) (call_from from at first)
+    go true q = ap (λ (z : Option Call). bind z (call_from from at first)) (sym (failed o.«end» q))
+    go false q = own (o.number == from) q ∙ ap (λ (z : Option Call). bind z (call_from from at first)) (sym (did o.«end» q))
+
+pub from_history : (h : ObjectCalls) (from at : ℕ) (first : Option (AnyOp × AnyReply)) → IsObjectHistory h → IsStart (calls_of h.ops) from at first → IsObjectHistory (record { object = h.object; kind = h.kind; ops = filter_map (piece_from from at first) h.ops })
+from_history h from at first is s = pieces_history h.object h.kind h.ops (piece_from from at first) (piece_is h from at first s.reply is (start_piece h.ops from at first s)) is
+
+pub from_calls : (from at : ℕ) (first : Option (AnyOp × AnyReply)) (ops : List Invocation) → calls_of (filter_map (piece_from from at first) ops) ≡ calls_from from at first (calls_of ops)
+from_calls from at first ops = pieces_calls (piece_from from at first) (call_from from at first) ops (piece_call from at first)
+
+pub from_shows : (h : ObjectCalls) (from at : ℕ) (first : Option (AnyOp × AnyReply)) → IsObjectHistory h → IsStart (calls_of h.ops) from at first → IsPart h (record { object = h.object; kind = h.kind; ops = filter_map (piece_from from at first) h.ops })
+from_shows h from at first is s = record {
+  object = refl;
+  kind = refl;
+  shows = λ none order v.
+      let kinds = all_calls (λ number op returned. kind_of op ≡ h.kind) h.ops (λ z i c q. all_at (λ o. kind_of o.op ≡ h.kind) h.ops is.of_kind z i) in
+      let found = start_valid h.kind (calls_of h.ops) from at first order kinds s v in
+      none found.0 (subst (λ (cs : List Call). IsValidOrder h.kind cs found.0) (sym (from_calls from at first h.ops)) found.1);
+}

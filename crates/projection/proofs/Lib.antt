@@ -1,0 +1,17 @@
+pub mod Simulation
+pub mod Contents
+pub mod Settling
+pub mod Closed
+pub mod Prefixes
+pub mod Freshness
+pub mod Sequences
+pub mod Overlaps
+pub mod Suffixes
+pub mod Pieces
+pub mod Before
+pub mod Kept
+pub mod Later
+pub mod Naming
+pub mod Bounds
+pub mod Mapped
+pub mod Shadows

@@ -1,0 +1,46 @@
+-- The part that cuts name, one after another.
+use Rattle.std.proofs.Common.{◌≡◌, suc, ℕ, ◌<◌, ◌+◌, List, ◌∷◌, length, get_or, drop, refl, ap, sym, ◌∙◌, subst, arith}
+use Rattle.std.proofs.Math.Seq.{drop-cons, drop-length}
+use Rattle.std.specs.declared.alloc.AllocError.{AllocError}
+use Rattle.std.specs.Prelude.{Result, Ok, Err, Option, Some, None, IfOk, IfSome}
+use Rattle.model.specs.Orders.{Call}
+use Rattle.events.specs.Operations.{ObjectCalls, calls_of}
+use Rattle.model.proofs.Lists.{Pairs}
+use Rattle.projection.specs.declared.cutting.Cut.{Cut}
+use Rattle.projection.specs.declared.cutting.Cut.TheVariants.{From}
+use Rattle.projection.specs.Cuts.{IsSuffix, Names, NamesPart}
+use Rattle.projection.proofs.Later.{one_suffix}
+
+-- a suffix that was cut out is the one that the cut names
+pub from_one : (cut : Cut) (number : ℕ) (calls : List Call) (cut_out : Result (Option ObjectCalls) AllocError) → cut ≡ From number → Pairs (λ x y. x.number < y.number) calls → IfOk cut_out (λ o. IfSome o (λ p. IsSuffix number calls (calls_of p.ops))) → IfOk cut_out (λ o. IfSome o (λ p. (part : List Call) → Names cut calls part → part ≡ calls_of p.ops))
+from_one cut number calls (Ok None) e rising h = tt
+from_one cut number calls (Ok (Some p)) e rising h = λ part named. one_suffix number calls part (calls_of p.ops) rising (subst (λ (z : Cut). Names z calls part) e named) h
+from_one cut number calls (Err x) e rising h = tt
+
+-- the cuts name the same part of the whole as those of them that are left name of what the others cut
+pub record IsCutSoFar (cuts : List Cut) (i : ℕ) (whole now : List Call) : Type 0 where
+  pub names : (part : List Call) → NamesPart (drop i cuts) now part → NamesPart cuts whole part
+  pub only : (part : List Call) → NamesPart cuts whole part → NamesPart (drop i cuts) now part
+
+pub not_cut : (cuts : List Cut) (whole : List Call) → IsCutSoFar cuts 0 whole whole
+not_cut cuts whole = record { names = λ part h. h; only = λ part h. h }
+
+left : (cuts : List Cut) (i : ℕ) (d : Cut) → i < length cuts → drop i cuts ≡ get_or cuts i d ∷ drop (i + 1) cuts
+left cuts i d lt = let e : suc i ≡ i + 1 = omega arith in drop-cons cuts i d lt ∙ ap (λ (n : ℕ). get_or cuts i d ∷ drop n cuts) e
+
+pub cut_further : (cuts : List Cut) (i : ℕ) (d : Cut) (whole now next : List Call) → i < length cuts → IsCutSoFar cuts i whole now → Names (get_or cuts i d) now next → ((part : List Call) → Names (get_or cuts i d) now part → part ≡ next) → IsCutSoFar cuts (i + 1) whole next
+cut_further cuts i d whole now next lt h named one = record {
+  names = λ part k. h.names part (subst (λ (cs : List Cut). NamesPart cs now part) (sym split) (next, named, k));
+  only = λ part k.
+      let r = subst (λ (cs : List Cut). NamesPart cs now part) split (h.only part k) in
+      subst (λ (z : List Call). NamesPart (drop (i + 1) cuts) z part) (one r.0 r.1) r.2;
+}
+  where
+    split : drop i cuts ≡ get_or cuts i d ∷ drop (i + 1) cuts
+    split = left cuts i d lt
+
+pub none_left : (cuts : List Cut) (i : ℕ) (d : Cut) (whole now : List Call) → i < length cuts → IsCutSoFar cuts i whole now → ((part : List Call) → Names (get_or cuts i d) now part → ⊥) → (part : List Call) → NamesPart cuts whole part → ⊥
+none_left cuts i d whole now lt h none part k = let r = subst (λ (cs : List Cut). NamesPart cs now part) (left cuts i d lt) (h.only part k) in none r.0 r.1
+
+pub all_cut : (cuts : List Cut) (whole now : List Call) → IsCutSoFar cuts (length cuts) whole now → NamesPart cuts whole now
+all_cut cuts whole now h = h.names now (subst (λ (cs : List Cut). NamesPart cs now now) (sym (drop-length cuts)) refl)

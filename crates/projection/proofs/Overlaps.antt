@@ -1,0 +1,245 @@
+-- Calls that overlap the first one of a suffix: those that certainly left a value in a register, and the others.
+use Rattle.std.proofs.Common.{◌≡◌, ◌≢◌, ◌⊎◌, inl, inr, ℕ, ℤ, ◌<◌, nat_lt, Bool, true, false, cond, List, [], ◌∷◌, ◌++◌, Option, Some, None, IfSome, IsSome, map, refl, ap, sym, ◌∙◌, subst, arith}
+use Rattle.std.specs.Prelude.{option_map}
+use Rattle.std.specs.Option.{option_map_or}
+use Rattle.std.proofs.lemmas.Option.{same_Some}
+use Rattle.std.proofs.lemmas.Bool.Decides.{nat_tests}
+use Rattle.model.specs.declared.Kind.{Kind}
+use Rattle.model.specs.declared.Kind.TheVariants.{Register}
+use Rattle.model.specs.declared.AnyOp.{AnyOp}
+use Rattle.model.specs.declared.AnyOp.TheVariants.{Enqueue, Dequeue, Push, Pop, Insert, ExtractMin, Write, Read, Cas, Put, Get, Del, Acquire, Release}
+use Rattle.model.specs.declared.AnyReply.{AnyReply}
+use Rattle.model.specs.declared.AnyReply.TheVariants.{Value, Swapped, NotSwapped}
+use Rattle.model.specs.Objects.{Content, queue, stack, heap, register, table, mutex, empty, contains_value, next, kind_of}
+use Rattle.model.specs.Orders.{Call, Return, ReturnsBefore, RepliesAlong}
+use Rattle.model.proofs.Lists.{In}
+use Rattle.projection.specs.Parts.{key_of, leaves, ended_before, written, written_before, write_call, pending_call, overlapping, call_later, returned_call}
+
+unlike : false ≡ true → ⊥
+unlike e = absurd (cc e)
+
+lt_true : (a b : ℕ) → nat_lt a b ≡ true → a < b
+lt_true a b e = grind (arith, nat_tests)
+
+-- ---- what was written
+
+written_facts : (op : AnyOp) (reply : AnyReply) (v : ℤ) → written op reply ≡ Some v → (key_of (Write v) ≡ key_of op) × (kind_of op ≡ Register)
+written_facts (Write w) reply v e = (refl, refl)
+written_facts (Cas a b) (Swapped c d) v e = (refl, refl)
+written_facts op reply v e = absurd (cc e)
+
+pub before_facts : (first : Option (AnyOp × AnyReply)) (op : AnyOp) (reply : AnyReply) (v : ℤ) → written_before first op reply ≡ Some v → (key_of (Write v) ≡ key_of op) × (kind_of op ≡ Register)
+before_facts None op reply v e = absurd (cc e)
+before_facts (Some first) op reply v e = written_facts op reply v e
+
+-- a write would have left the same
+wrote : (c : Content) (op : AnyOp) → IfSome (next c op) (λ p. (v : ℤ) → written op p.1 ≡ Some v → next c (Write v) ≡ Some (p.0, Value (Some v)))
+wrote (register c) (Write w) = λ v e. ap (λ (z : ℤ). next (register c) (Write z)) (sym (same_Some w v e)) ∙ ap (λ (z : ℤ). Some (register (Some w), Value (Some z))) (same_Some w v e)
+wrote (register c) Read = λ v e. absurd (cc e)
+wrote (register c) (Cas a b) = go (contains_value c a)
+  where
+    go : (t : Bool) → IfSome {T = Content × AnyReply} (cond t (Some (register (Some b), Swapped a b)) (Some (register c, NotSwapped))) (λ p. (v : ℤ) → written (Cas a b) p.1 ≡ Some v → next (register c) (Write v) ≡ Some (p.0, Value (Some v)))
+    go true = λ v e. ap (λ (z : ℤ). next (register c) (Write z)) (sym (same_Some b v e)) ∙ ap (λ (z : ℤ). Some (register (Some b), Value (Some z))) (same_Some b v e)
+    go false = λ v e. absurd (cc e)
+wrote (queue vs) (Enqueue v) = λ w e. absurd (cc e)
+wrote (queue []) Dequeue = λ w e. absurd (cc e)
+wrote (queue (v ∷ vs)) Dequeue = λ w e. absurd (cc e)
+wrote (stack vs) (Push v) = λ w e. absurd (cc e)
+wrote (stack []) Pop = λ w e. absurd (cc e)
+wrote (stack (v ∷ vs)) Pop = λ w e. absurd (cc e)
+wrote (heap vs) (Insert v) = λ w e. absurd (cc e)
+wrote (heap []) ExtractMin = λ w e. absurd (cc e)
+wrote (heap (v ∷ vs)) ExtractMin = λ w e. absurd (cc e)
+wrote (table m) (Put k v) = λ w e. absurd (cc e)
+wrote (table m) (Get k) = λ w e. absurd (cc e)
+wrote (table m) (Del k) = λ w e. absurd (cc e)
+wrote (mutex false) Acquire = λ w e. absurd (cc e)
+wrote (mutex true) Release = λ w e. absurd (cc e)
+wrote c op = tt
+
+-- ---- along calls
+
+abbrev Done : Content → Content → Call → Type 0
+Done c after e = (reply : AnyReply) × (next c e.op ≡ Some (after, reply)) × IfSome e.returned (λ r. r.reply ≡ reply)
+
+step_later : (first : Option (AnyOp × AnyReply)) (at : ℕ) (e : Call) (c after : Content) → Done c after e → Done c after (call_later first at e)
+step_later first at e c after h = whole (nat_lt at e.number)
+  where
+    with_value : (f : Option (AnyOp × AnyReply)) (r : Return) → r.reply ≡ h.0 → (o : Option ℤ) → written_before f e.op r.reply ≡ o → Done c after (option_map_or (write_call e.number r.at) o (pending_call e.number e.op))
+    with_value None r a (Some v) q = absurd (cc q)
+    with_value f r a None q = (h.0, h.1, tt)
+    with_value (Some p) r a (Some v) q = (Value (Some v), subst (λ (z : Option (Content × AnyReply)). IfSome z (λ p. (v : ℤ) → written e.op p.1 ≡ Some v → next c (Write v) ≡ Some (p.0, Value (Some v)))) h.1 (wrote c e.op) v (ap (written e.op) (sym a) ∙ q), refl)
+
+    returned : (o : Option Return) → IfSome o (λ r. r.reply ≡ h.0) → Done c after (overlapping first e.number e.op o)
+    returned None a = (h.0, h.1, tt)
+    returned (Some r) a = with_value first r a (written_before first e.op r.reply) refl
+
+    whole : (b : Bool) → Done c after (cond b e (overlapping first e.number e.op e.returned))
+    whole true = h
+    whole false = returned e.returned h.2
+
+pub later_replies : (first : Option (AnyOp × AnyReply)) (at : ℕ) (es : List Call) (c : Content) → RepliesAlong c es → RepliesAlong c (map (call_later first at) es)
+later_replies first at [] c h = tt
+later_replies first at (e ∷ es) c h =
+    let d = step_later first at e c h.0 (h.1, h.2, h.3) in
+    (h.0, d.0, d.1, d.2, later_replies first at es h.0 h.4)
+
+-- ---- what becomes of one call
+
+pub record IsCutOf (x y : Call) : Type 0 where
+  pub number : x.number ≡ y.number
+  pub key : key_of x.op ≡ key_of y.op
+  pub returned : (t : Return) → x.returned ≡ Some t → (u : Return) × (y.returned ≡ Some u) × (u.at ≡ t.at)
+
+pub cut_of : (first : Option (AnyOp × AnyReply)) (at : ℕ) (y : Call) → IsCutOf (call_later first at y) y
+cut_of first at y = whole (nat_lt at y.number)
+  where
+    pending : IsCutOf (pending_call y.number y.op) y
+    pending = record { number = refl; key = refl; returned = λ t e. absurd (cc e) }
+
+    with_value : (r : Return) → y.returned ≡ Some r → (o : Option ℤ) → written_before first y.op r.reply ≡ o → IsCutOf (option_map_or (write_call y.number r.at) o (pending_call y.number y.op)) y
+    with_value r e None q = pending
+    with_value r e (Some v) q = record {
+      number = refl;
+      key = (before_facts first y.op r.reply v q).0;
+      returned = λ t w. (r, e, ap (λ (z : Return). z.at) (same_Some (record { at = r.at; reply = Value (Some v) }) t w));
+    }
+
+    returned : (o : Option Return) → y.returned ≡ o → IsCutOf (overlapping first y.number y.op o) y
+    returned None e = pending
+    returned (Some r) e = with_value r e (written_before first y.op r.reply) refl
+
+    whole : (b : Bool) → IsCutOf (cond b y (overlapping first y.number y.op y.returned)) y
+    whole true = record { number = refl; key = refl; returned = λ t e. (t, e, refl) }
+    whole false = returned y.returned refl
+
+pub in_time_cut : (x z y w : Call) → IsCutOf x y → IsCutOf z w → (ReturnsBefore w y → ⊥) → ReturnsBefore z x → ⊥
+in_time_cut x z y w a b h r =
+    let u = b.returned r.0 r.1 in
+    h (u.0, u.1, less u.0.at r.0.at x.number y.number u.2 a.number r.2)
+  where
+    less : (p q m n : ℕ) → p ≡ q → m ≡ n → q < m → p < n
+    less p q m n e f l = omega arith
+
+-- ---- writes that may stand before the first call
+
+abbrev pub front_written : Option (AnyOp × AnyReply) → ℕ → AnyOp → Option Return → Option Call
+front_written first number op None = None
+front_written first number op (Some r) = option_map (write_call number r.at) (written_before first op r.reply)
+
+abbrev pub front_call : ℕ → ℕ → Option (AnyOp × AnyReply) → Call → Option Call
+front_call from at first y = cond (ended_before from y.returned) None (cond (nat_lt at y.number) None (front_written first y.number y.op y.returned))
+
+pub record IsFront (from at : ℕ) (first : Option (AnyOp × AnyReply)) (y x : Call) : Type 0 where
+  pub not_over : ended_before from y.returned ≡ false
+  pub is_later : call_later first at y ≡ x
+  pub began : first ≢ None
+  pub kind : kind_of y.op ≡ Register
+  pub when : ℕ
+  pub value : ℤ
+  pub write : x ≡ write_call y.number when value
+
+pub front_facts : (from at : ℕ) (first : Option (AnyOp × AnyReply)) (y x : Call) → front_call from at first y ≡ Some x → IsFront from at first y x
+front_facts from at first y x e = over (ended_before from y.returned) refl e
+  where
+    began : (f : Option (AnyOp × AnyReply)) (r : Return) (v : ℤ) → written_before f y.op r.reply ≡ Some v → f ≢ None
+    began None r v q n = absurd (cc q)
+    began (Some p) r v q n = absurd (cc n)
+
+    with_value : (r : Return) → y.returned ≡ Some r → ended_before from y.returned ≡ false → nat_lt at y.number ≡ false → (o : Option ℤ) → written_before first y.op r.reply ≡ o → option_map (write_call y.number r.at) o ≡ Some x → IsFront from at first y x
+    with_value r q n l None w e = absurd (cc e)
+    with_value r q n l (Some v) w e =
+        let here = same_Some (write_call y.number r.at v) x e in
+        record {
+          not_over = n;
+          is_later = ap (λ b. cond b y (overlapping first y.number y.op y.returned)) l ∙ ap (overlapping first y.number y.op) q ∙ ap (λ (o : Option ℤ). option_map_or (write_call y.number r.at) o (pending_call y.number y.op)) w ∙ here;
+          began = began first r v w;
+          kind = (before_facts first y.op r.reply v w).1;
+          when = r.at;
+          value = v;
+          write = sym here;
+        }
+
+    returned : (o : Option Return) → y.returned ≡ o → ended_before from y.returned ≡ false → nat_lt at y.number ≡ false → front_written first y.number y.op o ≡ Some x → IsFront from at first y x
+    returned None q n l e = absurd (cc e)
+    returned (Some r) q n l e = with_value r q n l (written_before first y.op r.reply) refl e
+
+    late : (b : Bool) → nat_lt at y.number ≡ b → ended_before from y.returned ≡ false → cond b None (front_written first y.number y.op y.returned) ≡ Some x → IsFront from at first y x
+    late true l n e = absurd (cc e)
+    late false l n e = returned y.returned refl n l e
+
+    over : (b : Bool) → ended_before from y.returned ≡ b → cond b None (cond (nat_lt at y.number) None (front_written first y.number y.op y.returned)) ≡ Some x → IsFront from at first y x
+    over true n e = absurd (cc e)
+    over false n e = late (nat_lt at y.number) refl n e
+
+-- A call of the suffix that returned was invoked later than the first one returned, or may stand before it.
+pub record Late (from at : ℕ) (first : Option (AnyOp × AnyReply)) (y : Call) : Type 0 where
+  pub return : Return
+  pub was : y.returned ≡ Some return
+  pub either : (at < y.number) ⊎ (ended_before from y.returned ≡ false → front_call from at first y ≡ Some (call_later first at y))
+
+pub late_facts : (from at : ℕ) (first : Option (AnyOp × AnyReply)) (y : Call) → IsSome (call_later first at y).returned → Late from at first y
+late_facts from at first y so = whole (nat_lt at y.number) refl so
+  where
+    some_of : (o : Option Return) → IsSome o → (r : Return) × (o ≡ Some r)
+    some_of None s = absurd (cc s)
+    some_of (Some r) s = (r, refl)
+
+    with_value : (r : Return) → y.returned ≡ Some r → nat_lt at y.number ≡ false → (o : Option ℤ) → written_before first y.op r.reply ≡ o → IsSome (option_map_or (write_call y.number r.at) o (pending_call y.number y.op)).returned → Late from at first y
+    with_value r q l None w so = absurd (cc so)
+    with_value r q l (Some v) w so = record {
+      return = r;
+      was = q;
+      either = inr (λ n.
+          ap (λ b. cond b None (cond (nat_lt at y.number) None (front_written first y.number y.op y.returned))) n
+          ∙ ap (λ b. cond b None (front_written first y.number y.op y.returned)) l
+          ∙ ap (front_written first y.number y.op) q ∙ ap (option_map (write_call y.number r.at)) w
+          ∙ ap (λ (z : Call). Some z) (sym (ap (λ b. cond b y (overlapping first y.number y.op y.returned)) l ∙ ap (overlapping first y.number y.op) q ∙ ap (λ (o : Option ℤ). option_map_or (write_call y.number r.at) o (pending_call y.number y.op)) w)));
+    }
+
+    returned : (o : Option Return) → y.returned ≡ o → nat_lt at y.number ≡ false → IsSome (overlapping first y.number y.op o).returned → Late from at first y
+    returned None q l so = absurd (cc so)
+    returned (Some r) q l so = with_value r q l (written_before first y.op r.reply) refl so
+
+    whole : (b : Bool) → nat_lt at y.number ≡ b → IsSome (cond b y (overlapping first y.number y.op y.returned)).returned → Late from at first y
+    whole true l so = let r = some_of y.returned so in record { return = r.0; was = r.1; either = inl (lt_true at y.number l) }
+    whole false l so = returned y.returned refl l so
+
+-- ---- their replies
+
+pub first_write : (op : AnyOp) (reply : AnyReply) (p : AnyOp × AnyReply) → leaves op reply ≡ Some (Some p) → kind_of op ≡ Register → (v : ℤ) × (p ≡ (Write v, Value (Some v)))
+first_write (Write w) reply p e k = (w, sym (same_Some (Write w, Value (Some w)) p (same_Some _ _ e)))
+first_write Read (Value (Some w)) p e k = (w, sym (same_Some (Write w, Value (Some w)) p (same_Some _ _ e)))
+first_write (Cas a b) (Swapped c d) p e k = (b, sym (same_Some (Write b, Value (Some b)) p (same_Some _ _ e)))
+first_write Dequeue (Value None) p e k = absurd (cc k)
+first_write Pop (Value None) p e k = absurd (cc k)
+first_write ExtractMin (Value None) p e k = absurd (cc k)
+first_write Read (Value None) p e k = absurd (cc (same_Some None (Some p) e))
+first_write (Put x y) reply p e k = absurd (cc k)
+first_write (Get x) reply p e k = absurd (cc k)
+first_write (Del x) reply p e k = absurd (cc k)
+first_write Acquire reply p e k = absurd (cc k)
+first_write Release reply p e k = absurd (cc k)
+first_write op reply p e k = absurd (cc e)
+
+abbrev pub IsWrite : Call → Type 0
+IsWrite x = (number at : ℕ) × (v : ℤ) × (x ≡ write_call number at v)
+
+-- writes, and then one more, whatever the register contained
+writes_before : (ws : List Call) (c : Option ℤ) (from at : ℕ) (v : ℤ) (es : List Call) → ((x : Call) → In x ws → IsWrite x) → RepliesAlong (register (Some v)) es → RepliesAlong (register c) (ws ++ returned_call from at (Write v, Value (Some v)) ∷ es)
+writes_before [] c from at v es f h = (register (Some v), Value (Some v), refl, refl, h)
+writes_before (x ∷ xs) c from at v es f h =
+    let w = f x (inl refl) in
+    subst (λ (z : Call). RepliesAlong (register c) (z ∷ xs ++ returned_call from at (Write v, Value (Some v)) ∷ es)) (sym w.3)
+    (register (Some w.2), Value (Some w.2), refl, refl, writes_before xs (Some w.2) from at v es (λ y i. f y (inr i)) h)
+
+pub front_replies : (kind : Kind) (front : List Call) (from at : ℕ) (p : AnyOp × AnyReply) (d : Content) (es : List Call) → next (empty kind) p.0 ≡ Some (d, p.1) → ((x : Call) → In x front → IsWrite x × (kind ≡ Register)) → (kind ≡ Register → (v : ℤ) × (p ≡ (Write v, Value (Some v)))) → RepliesAlong d es → RepliesAlong (empty kind) (front ++ returned_call from at p ∷ es)
+front_replies kind [] from at p d es does f g h = (d, p.1, does, refl, h)
+front_replies kind (x ∷ xs) from at p d es does f g h =
+    let k = (f x (inl refl)).1 in
+    let w = g k in
+    let there : next (register None) (Write w.0) ≡ Some (d, p.1) = sym (ap (λ z. next (empty z) p.0) k ∙ ap (λ (q : AnyOp × AnyReply). next (register None) q.0) w.1) ∙ does in
+    let same : register (Some w.0) ≡ d = ap (λ (z : Content × AnyReply). z.0) (same_Some (register (Some w.0), Value (Some w.0)) (d, p.1) there) in
+    subst (λ z. RepliesAlong (empty z) ((x ∷ xs) ++ returned_call from at p ∷ es)) (sym k)
+    (subst (λ (q : AnyOp × AnyReply). RepliesAlong (register None) ((x ∷ xs) ++ returned_call from at q ∷ es)) (sym w.1)
+    (writes_before (x ∷ xs) None from at w.0 es (λ y i. (f y i).0) (subst (λ c. RepliesAlong c es) (sym same) h)))

@@ -1,0 +1,93 @@
+-- Counts: a content is taken away no more often than it was there before and was set.
+use Rattle.std.specs.Prelude.{◌≡◌, ◌==◌, ◌+◌, ◌<◌, ℕ, ℤ, nat_lt, Bool, true, false, not, ◌&&◌}
+use Rattle.std.specs.Prelude.{List, Option, Some, None, count_by, if◌then◌else◌}
+use Rattle.std.specs.Ordering.{int_eq}
+use Rattle.model.specs.declared.Kind.{Kind}
+use Rattle.model.specs.declared.Kind.TheVariants.{Queue, Stack, Heap, Register, Map, Mutex}
+use Rattle.model.specs.declared.AnyOp.{AnyOp}
+use Rattle.model.specs.declared.AnyOp.TheVariants.{Enqueue, Dequeue, Push, Pop, Insert}
+use Rattle.model.specs.declared.AnyOp.TheVariants.{ExtractMin, Write, Cas, Put, Del}
+use Rattle.model.specs.declared.AnyOp.TheVariants.{Acquire, Release}
+use Rattle.model.specs.declared.AnyReply.{AnyReply}
+use Rattle.model.specs.declared.AnyReply.TheVariants as reply
+use Rattle.model.specs.declared.AnyReply.TheVariants.{Swapped}
+use Rattle.model.specs.Orders.{Call}
+use Rattle.projection.specs.declared.counting.Counted.{Counted}
+use Rattle.projection.specs.declared.counting.Counted.TheVariants.{Value, Entry, NoEntry}
+use Rattle.projection.specs.declared.counting.Counted.TheVariants.{Held, Free}
+use Rattle.projection.specs.declared.counting.Count.{Count}
+use Rattle.projection.specs.Parts.{reply_of, ended_before}
+
+-- whether the reply is this value
+abbrev pub is_reply : ℤ → Option AnyReply → Bool
+is_reply v (Some (reply.Value (Some w))) = int_eq w v
+is_reply v other = false
+
+-- Whether an operation with this reply sets the content: puts it in, or leaves it. With no reply:
+-- whether it may.
+abbrev pub sets : Counted → AnyOp → Option AnyReply → Bool
+sets (Value v) (Enqueue w) r = int_eq w v
+sets (Value v) (Push w) r = int_eq w v
+sets (Value v) (Insert w) r = int_eq w v
+sets (Value v) (Write w) r = int_eq w v
+sets (Value v) (Cas a b) None = int_eq b v
+sets (Value v) (Cas a b) (Some (Swapped c d)) = int_eq b v
+sets (Entry k v) (Put q w) r = int_eq q k && int_eq w v
+sets (NoEntry k) (Del q) None = int_eq q k
+sets (NoEntry k) (Del q) (Some (reply.Value (Some w))) = int_eq q k
+sets Held Acquire r = true
+sets Free Release r = true
+sets what op r = false
+
+-- whether the reply of an operation tells that it took the content away
+abbrev pub takes : Counted → AnyOp → Option AnyReply → Bool
+takes (Value v) Dequeue r = is_reply v r
+takes (Value v) Pop r = is_reply v r
+takes (Value v) ExtractMin r = is_reply v r
+takes (Value v) (Cas a b) (Some (Swapped c d)) = int_eq a v
+takes (Entry k v) (Put q w) r = int_eq q k && is_reply v r
+takes (Entry k v) (Del q) r = int_eq q k && is_reply v r
+takes (NoEntry k) (Put q w) (Some (reply.Value None)) = int_eq q k
+takes Free Acquire (Some r) = true
+takes Held Release (Some r) = true
+takes what op r = false
+
+-- how many calls that had not returned before this number set the content
+abbrev pub set_since : Counted → ℕ → List Call → ℕ
+set_since what from calls = count_by
+    (λ e. sets what e.op (reply_of e.returned) && not (ended_before from e.returned)) calls
+
+-- how many calls that were invoked at this number or later took the content away
+abbrev pub taken_since : Counted → ℕ → List Call → ℕ
+taken_since what from calls = count_by
+    (λ e. takes what e.op (reply_of e.returned) && not (nat_lt e.number from)) calls
+
+-- how often an empty object contains it
+abbrev pub times_at_first : Counted → ℕ
+times_at_first (Value v) = 0
+times_at_first (Entry k v) = 0
+times_at_first (NoEntry k) = 1
+times_at_first Held = 0
+times_at_first Free = 1
+
+-- whether an object of this kind contains the same once at most
+abbrev pub is_single : Kind → Bool
+is_single Queue = false
+is_single Stack = false
+is_single Heap = false
+is_single Register = true
+is_single Map = true
+is_single Mutex = true
+
+-- How often the object can have contained it before this number, at most. Of a queue, stack or heap
+-- that is known only at the beginning.
+abbrev pub most_before : Kind → Counted → ℕ → Option ℕ
+most_before kind what from =
+    if from == 0 then Some (times_at_first what) else (if is_single kind then Some 1 else None)
+
+-- The content was taken away from a number on more often than it was there before and was set.
+pub record IsOverdrawn (kind : Kind) (count : Count) (calls : List Call) : Type 0 where
+  pub most : ℕ
+  pub before : most_before kind count.counted count.from ≡ Some most
+  pub more : most + set_since count.counted count.from calls
+      < taken_since count.counted count.from calls

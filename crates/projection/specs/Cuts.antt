@@ -1,0 +1,61 @@
+-- Cuts: what names a part of an object's history, and what the part shows of the whole.
+use Rattle.std.specs.Prelude.{◌≡◌, ℕ, ℤ, Bool, true, false, List, [], ◌∷◌, Option}
+use Rattle.std.specs.Ordering.{nat_cmp, int_cmp}
+use Rattle.std.specs.BTreeSet.{BTreeSet, contains}
+use Rattle.model.specs.declared.AnyOp.{AnyOp}
+use Rattle.model.specs.declared.AnyReply.{AnyReply}
+use Rattle.model.specs.Orders.{Call}
+use Rattle.events.specs.Operations.{ObjectCalls, calls_of}
+use Rattle.order_search.specs.Outcomes.{IsNoneValid}
+use Rattle.projection.specs.Cells.{cell_calls}
+use Rattle.projection.specs.Parts.{IsClosed, kept_calls, calls_before, IsStart, calls_from}
+use Rattle.projection.specs.declared.keeping.Values.{Values}
+use Rattle.projection.specs.declared.keeping.Values.TheVariants.{All, Only}
+use Rattle.projection.specs.declared.cutting.Cut.{Cut}
+use Rattle.projection.specs.declared.cutting.Cut.TheVariants.{From, Until, Keep, Cell}
+
+-- A part is of the same object and kind. If no order of its calls is valid, then none of the
+-- whole's is.
+pub record IsPart (whole part : ObjectCalls) : Type 0 where
+  pub object : part.object ≡ whole.object
+  pub kind : part.kind ≡ whole.kind
+  pub shows : IsNoneValid part.kind (calls_of part.ops)
+      → IsNoneValid whole.kind (calls_of whole.ops)
+
+abbrev pub keeps_all : Values → Bool
+keeps_all All = true
+keeps_all (Only values) = false
+
+abbrev pub keeps_value : Values → ℤ → Bool
+keeps_value All v = true
+keeps_value (Only values) v = contains int_cmp values v
+
+abbrev pub keeps_number : BTreeSet ℕ → ℕ → Bool
+keeps_number numbers n = contains nat_cmp numbers n
+
+-- these values, or keys, and the calls with these numbers make a closed part
+abbrev pub IsClosedPart : Values → BTreeSet ℕ → List Call → Type 0
+IsClosedPart values numbers calls = (settled : Bool)
+    × IsClosed (keeps_all values) settled (keeps_value values) (keeps_number numbers) calls
+
+-- the calls of the suffix that begins with the call of this number
+pub record IsSuffix (from : ℕ) (calls part : List Call) : Type 0 where
+  pub at : ℕ
+  pub first : Option (AnyOp × AnyReply)
+  pub start : IsStart calls from at first
+  pub named : part ≡ calls_from from at first calls
+
+-- the calls of the part that a cut names; a cut names one part at most
+abbrev pub Names : Cut → List Call → List Call → Type 0
+Names (From number) calls part = IsSuffix number calls part
+Names (Until number) calls part = part ≡ calls_before number calls
+Names (Keep values numbers) calls part =
+    IsClosedPart values numbers calls × (part ≡ kept_calls (keeps_number numbers) calls)
+Names (Cell values other numbers) calls part =
+    part ≡ cell_calls (keeps_value values) other (keeps_number numbers) calls
+
+-- the calls of the part that the cuts name, one after another
+abbrev pub NamesPart : List Cut → List Call → List Call → Type 0
+NamesPart [] calls part = part ≡ calls
+NamesPart (cut ∷ cuts) calls part =
+    (next : List Call) × Names cut calls next × NamesPart cuts next part

@@ -1,0 +1,121 @@
+-- What becomes of one operation of an object, failed ones too. The code works on these.
+use Rattle.std.specs.Prelude.{◌≡◌, ◌==◌, ◌⊎◌, ℕ, ℤ, nat_lt, Bool, true, false, not, ◌&&◌}
+use Rattle.std.specs.Prelude.{if◌then◌else◌}
+use Rattle.std.specs.Prelude.{Option, Some, None, option_map}
+use Rattle.std.specs.Option.{option_map_or}
+use Rattle.model.specs.declared.AnyOp.{AnyOp}
+use Rattle.model.specs.declared.AnyOp.TheVariants.{Write}
+use Rattle.model.specs.declared.AnyReply.{AnyReply}
+use Rattle.model.specs.declared.AnyReply.TheVariants.{Value}
+use Rattle.events.specs.declared.operations.End.{End}
+use Rattle.events.specs.declared.operations.End.TheVariants.{Returned, Pending, Failed}
+use Rattle.events.specs.declared.operations.Invocation.{Invocation}
+use Rattle.projection.specs.declared.counting.Counted.{Counted}
+use Rattle.projection.specs.Counts.{sets, takes}
+use Rattle.projection.specs.Cells.{cell_done, cell_open}
+use Rattle.projection.specs.Parts.{fits, puts_in, takes_out, key_of, written_before}
+
+abbrev pub has_failed : End → Bool
+has_failed (Returned at reply) = false
+has_failed Pending = false
+has_failed Failed = true
+
+-- ---- projection
+
+-- whether an operation may be kept, or left out; a failed one may be either
+abbrev pub fits_end : Bool → Bool → (ℤ → Bool) → Bool → AnyOp → End → Bool
+fits_end all settled keeps kept op (Returned at reply) = fits all settled keeps kept op (Some reply)
+fits_end all settled keeps kept op Pending = fits all settled keeps kept op None
+fits_end all settled keeps kept op Failed = true
+
+-- whether an operation that did not fail puts in a kept value
+abbrev pub is_put : (ℤ → Bool) → AnyOp → End → Bool
+is_put keeps op (Returned at reply) = puts_in keeps op
+is_put keeps op Pending = puts_in keeps op
+is_put keeps op Failed = false
+
+-- whether an operation returned a kept value that it took out
+abbrev pub is_taken : (ℤ → Bool) → AnyOp → End → Bool
+is_taken keeps op (Returned at reply) = takes_out keeps op (Some reply)
+is_taken keeps op Pending = false
+is_taken keeps op Failed = false
+
+-- ---- a prefix
+
+abbrev pub end_before : ℕ → End → End
+end_before until (Returned at reply) = if nat_lt at until then Returned at reply else Pending
+end_before until Pending = Pending
+end_before until Failed = Failed
+
+abbrev pub piece_before : ℕ → Invocation → Option Invocation
+piece_before until o =
+    if nat_lt o.number until
+    then Some (record { number = o.number; op = o.op; «end» = end_before until o.«end» })
+    else None
+
+-- ---- a suffix
+
+-- the operation failed, or it is on this key (`None`: it has no key)
+abbrev pub IsOnKey : Option ℤ → Invocation → Type 0
+IsOnKey key o = (has_failed o.«end» ≡ true) ⊎ (key_of o.op ≡ key)
+
+-- the operation returned before
+abbrev pub is_over : ℕ → End → Bool
+is_over from (Returned at reply) = nat_lt at from
+is_over from Pending = false
+is_over from Failed = false
+
+abbrev pub write_piece : ℕ → ℕ → ℤ → Invocation
+write_piece number at v =
+    record { number = number; op = Write v; «end» = Returned at (Value (Some v)) }
+
+abbrev pub pending_piece : ℕ → AnyOp → Invocation
+pending_piece number op = record { number = number; op = op; «end» = Pending }
+
+-- an operation that overlaps the first one: a write or a swap is a write, and another is pending
+abbrev pub overlapping_piece : Option (AnyOp × AnyReply) → ℕ → AnyOp → End → Invocation
+overlapping_piece first number op (Returned at reply) =
+    option_map_or (write_piece number at) (written_before first op reply) (pending_piece number op)
+overlapping_piece first number op Pending = pending_piece number op
+overlapping_piece first number op Failed = pending_piece number op
+
+abbrev pub piece_later : Option (AnyOp × AnyReply) → ℕ → Invocation → Invocation
+piece_later first at o =
+    if nat_lt at o.number then o else overlapping_piece first o.number o.op o.«end»
+
+abbrev pub returned_piece : ℕ → ℕ → AnyOp × AnyReply → Invocation
+returned_piece from at first =
+    record { number = from; op = first.0; «end» = Returned at first.1 }
+
+abbrev pub piece_from : ℕ → ℕ → Option (AnyOp × AnyReply) → Invocation → Option Invocation
+piece_from from at first o =
+    if has_failed o.«end» then None
+    else (if o.number == from then option_map (returned_piece from at) first
+    else (if is_over from o.«end» then None else Some (piece_later first at o)))
+
+-- ---- counts
+
+-- whether an operation that did not fail sets the content, and had not returned before this number
+abbrev pub is_set : Counted → ℕ → AnyOp → End → Bool
+is_set what from op (Returned at reply) = sets what op (Some reply) && not (nat_lt at from)
+is_set what from op Pending = sets what op None
+is_set what from op Failed = false
+
+-- whether an operation that was invoked at this number or later took the content away
+abbrev pub is_gone : Counted → ℕ → ℕ → AnyOp → End → Bool
+is_gone what from number op (Returned at reply) =
+    takes what op (Some reply) && not (nat_lt number from)
+is_gone what from number op Pending = false
+is_gone what from number op Failed = false
+
+-- ---- cells
+
+abbrev pub cell_end : (ℤ → Bool) → ℤ → Bool → ℕ → AnyOp → End → Option Invocation
+cell_end keeps other kept number op (Returned at reply) =
+    option_map (returned_piece number at) (cell_done keeps other kept op reply)
+cell_end keeps other kept number op Pending =
+    option_map (pending_piece number) (cell_open keeps op)
+cell_end keeps other kept number op Failed = None
+
+abbrev pub cell_piece : (ℤ → Bool) → ℤ → (ℕ → Bool) → Invocation → Option Invocation
+cell_piece keeps other kept o = cell_end keeps other (kept o.number) o.number o.op o.«end»

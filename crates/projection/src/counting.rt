@@ -1,0 +1,168 @@
+//! Counts: a content that was taken away more often than it can have been there. They need no
+//! search.
+
+ghost use Rattle.std.specs.Prelude.{◌≡◌, true, MatchBool, Option, count_by};
+ghost use Rattle.events.specs.Operations.{calls_of};
+ghost use Rattle.order_search.specs.Outcomes.{IsNoneValid};
+ghost use Rattle.projection.specs.Counts as counts;
+ghost use Rattle.projection.specs.Counts.{is_reply, IsOverdrawn};
+ghost use Rattle.projection.specs.Pieces.{is_set, is_gone};
+
+use events::{End, Invocation, ObjectHistory};
+use seq_objects::{AnyOp, AnyReply, Kind};
+
+/// What is counted: a content, or a part of one.
+#[derive(Clone, Copy, Debug, PartialEq, Eq)]
+pub enum Counted {
+    /// This value, in a queue, stack, heap or register.
+    Value(i64),
+    /// This value under this key of a map.
+    Entry { key: i64, value: i64 },
+    /// No value under this key of a map.
+    NoEntry(i64),
+    /// A mutex that is held.
+    Held,
+    /// A mutex that is free.
+    Free,
+}
+
+/// A count from the number of a map on, which is 0 at the beginning.
+#[derive(Clone, Copy, Debug, PartialEq, Eq)]
+pub struct Count {
+    pub counted: Counted,
+    pub from: u32,
+}
+
+/// Whether the reply is this value.
+fn is_value(value: i64, reply: Option<AnyReply>) -> bool
+    ensures { result ≡ is_reply value reply }
+{
+    match reply {
+        Some(AnyReply::Value(Some(taken))) => taken == value,
+        _ => false,
+    }
+}
+
+/// Whether an operation with this reply sets the content; with no reply, whether it may.
+fn sets(counted: Counted, op: AnyOp, reply: Option<AnyReply>) -> bool
+    ensures { result ≡ counts.sets counted op reply }
+{
+    match (counted, op) {
+        (Counted::Value(value), AnyOp::Enqueue(new)) => new == value,
+        (Counted::Value(value), AnyOp::Push(new)) => new == value,
+        (Counted::Value(value), AnyOp::Insert(new)) => new == value,
+        (Counted::Value(value), AnyOp::Write(new)) => new == value,
+        (Counted::Value(value), AnyOp::Cas(_, new)) => match reply {
+            None | Some(AnyReply::Swapped(..)) => new == value,
+            _ => false,
+        },
+        (Counted::Entry { key, value }, AnyOp::Put(at, new)) => at == key && new == value,
+        (Counted::NoEntry(key), AnyOp::Del(at)) => match reply {
+            None | Some(AnyReply::Value(Some(_))) => at == key,
+            _ => false,
+        },
+        (Counted::Held, AnyOp::Acquire) => true,
+        (Counted::Free, AnyOp::Release) => true,
+        _ => false,
+    }
+}
+
+/// Whether an operation with this reply took the content away.
+fn takes(counted: Counted, op: AnyOp, reply: AnyReply) -> bool
+    ensures { result ≡ counts.takes counted op (Option.Some reply) }
+{
+    match (counted, op) {
+        (Counted::Value(value), AnyOp::Dequeue | AnyOp::Pop | AnyOp::ExtractMin) => {
+            is_value(value, Some(reply))
+        }
+        (Counted::Value(value), AnyOp::Cas(expected, _)) => match reply {
+            AnyReply::Swapped(..) => expected == value,
+            _ => false,
+        },
+        (Counted::Entry { key, value }, AnyOp::Put(at, _)) => {
+            at == key && is_value(value, Some(reply))
+        }
+        (Counted::Entry { key, value }, AnyOp::Del(at)) => {
+            at == key && is_value(value, Some(reply))
+        }
+        (Counted::NoEntry(key), AnyOp::Put(at, _)) => match reply {
+            AnyReply::Value(None) => at == key,
+            _ => false,
+        },
+        (Counted::Free, AnyOp::Acquire) => true,
+        (Counted::Held, AnyOp::Release) => true,
+        _ => false,
+    }
+}
+
+/// Whether an operation that did not fail sets the content, and had not returned before the count
+/// begins.
+fn sets_since(count: Count, operation: &Invocation) -> bool
+    ensures { result ≡ is_set count.counted count.from operation.now.op operation.now.«end» }
+{
+    match operation.end {
+        End::Returned { at, reply } => {
+            sets(count.counted, operation.op, Some(reply)) && !(at < count.from)
+        }
+        End::Pending => sets(count.counted, operation.op, None),
+        End::Failed => false,
+    }
+}
+
+/// Whether an operation was invoked where the count begins or later, and took the content away.
+fn takes_since(count: Count, operation: &Invocation) -> bool
+    ensures { result ≡ is_gone count.counted count.from operation.now.number operation.now.op
+        operation.now.«end» }
+{
+    match operation.end {
+        End::Returned { reply, .. } => {
+            takes(count.counted, operation.op, reply) && !(operation.number < count.from)
+        }
+        _ => false,
+    }
+}
+
+/// How often the object can have contained it before the count begins, at most, where that is
+/// known.
+fn most_before(kind: Kind, count: Count) -> Option<usize>
+    ensures { result ≡ counts.most_before kind count.counted count.from }
+{
+    if count.from == 0 {
+        return match count.counted {
+            Counted::NoEntry(_) | Counted::Free => Some(1),
+            _ => Some(0),
+        };
+    }
+    match kind {
+        Kind::Register | Kind::Map | Kind::Mutex => Some(1),
+        Kind::Queue | Kind::Stack | Kind::Heap => None,
+    }
+}
+
+/// How many operations set it, and how many took it away.
+fn times(operations: &[Invocation], count: Count) -> (usize, usize)
+    ensures set { result.0
+        ≡ count_by (λ o. is_set count.counted count.from o.op o.«end») operations.now }
+    ensures taken { result.1
+        ≡ count_by (λ o. is_gone count.counted count.from o.number o.op o.«end») operations.now }
+{
+    let set = operations.iter().filter(|o| sets_since(count, o)).count();
+    let taken = operations.iter().filter(|o| takes_since(count, o)).count();
+    (set, taken)
+}
+
+/// Whether the content was taken away, by operations that were invoked where the count begins or
+/// later, more often than the object can have contained it before and operations that had not
+/// returned before can have set it. Then no order is valid.
+pub fn is_overdrawn(history: &ObjectHistory, count: Count) -> bool
+    ensures counts { MatchBool result
+        (IsOverdrawn history.now.kind count (calls_of history.now.ops))
+        (IsOverdrawn history.now.kind count (calls_of history.now.ops) → ⊥) }
+    ensures shows { result ≡ true → IsNoneValid history.now.kind (calls_of history.now.ops) }
+{
+    let Some(most) = most_before(history.kind(), count) else {
+        return false;
+    };
+    let (set, taken) = times(history.ops(), count);
+    taken.saturating_sub(set) > most
+}

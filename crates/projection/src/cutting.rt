@@ -1,0 +1,100 @@
+//! Cuts: a part of an object's history, by one cut after another.
+
+ghost use Rattle.std.specs.Prelude.{◌≡◌, List, None, IfOk, IfSome};
+ghost use Rattle.model.specs.Orders.{Call};
+ghost use Rattle.events.specs.Operations.{calls_of};
+ghost use Rattle.projection.specs.Cuts.{IsPart, Names, NamesPart};
+
+use crate::cells::cell;
+use crate::keeping::{Values, keep};
+use crate::prefix::until;
+use crate::suffix::from;
+use events::{Invocation, ObjectHistory};
+use std::alloc::{AllocError, Global};
+use std::collections::BTreeSet;
+
+/// How a part is cut out of an object's history.
+#[derive(Drop)]
+pub enum Cut {
+    /// What can take effect from the call with this number on: see [`from`].
+    From(u32),
+    /// What was invoked before this number, pending where it had not returned by then: see
+    /// [`until`].
+    Until(u32),
+    /// The operations with these numbers, which keep these values, or keys: see [`keep`].
+    Keep {
+        values: Values,
+        numbers: BTreeSet<u32>,
+    },
+    /// A register's operations that can leave one of these values, and of the others those with
+    /// these numbers, with one other value in place of all others: see [`cell`].
+    Cell {
+        values: Values,
+        other: i64,
+        numbers: BTreeSet<u32>,
+    },
+}
+
+/// The same history once more.
+fn copy_of(alloc: Global, history: &ObjectHistory) -> Result<ObjectHistory, AllocError>
+    ensures { IfOk result (λ h. h ≡ history.now) }
+{
+    let ops: Vec<Invocation> = history.ops().iter().copied().collect(alloc)?;
+    Ok(ObjectHistory::new(history.object(), history.kind(), ops))
+}
+
+/// The part that one cut names; `None`: it names no closed part.
+fn cut_by(
+    alloc: Global,
+    history: &ObjectHistory,
+    cut: &Cut,
+) -> Result<Option<ObjectHistory>, AllocError>
+    ensures part { IfOk result (λ o. IfSome o (λ p. IsPart history.now p)) }
+    ensures named { IfOk result (λ o. IfSome o (λ p.
+        Names cut.now (calls_of history.now.ops) (calls_of p.ops))) }
+    ensures one { IfOk result (λ o. IfSome o (λ p. (part : List Call)
+        → Names cut.now (calls_of history.now.ops) part → part ≡ calls_of p.ops)) }
+    ensures refused { IfOk result (λ o. o ≡ None → (part : List Call)
+        → Names cut.now (calls_of history.now.ops) part → ⊥) }
+{
+    // This does nothing. It says that the numbers of the operations rise.
+    history.ops();
+    match cut {
+        Cut::From(number) => from(alloc, history, *number),
+        Cut::Until(number) => Ok(Some(until(alloc, history, *number)?)),
+        Cut::Keep { values, numbers } => keep(alloc, history, values, numbers),
+        Cut::Cell {
+            values,
+            other,
+            numbers,
+        } => Ok(Some(cell(alloc, history, values, *other, numbers)?)),
+    }
+}
+
+/// The part that the cuts name, one after another: each cuts the part that those before it named.
+/// `None`: one of them names no closed part. With no cuts the part is the whole.
+///
+/// An error: the allocator refused memory.
+pub fn part_by(
+    alloc: Global,
+    history: &ObjectHistory,
+    cuts: &[Cut],
+) -> Result<Option<ObjectHistory>, AllocError>
+    // Where no order of the part is valid, none of the whole is.
+    ensures part { IfOk result (λ o. IfSome o (λ p. IsPart history.now p)) }
+    // The calls of the part are those that the cuts name.
+    ensures named { IfOk result (λ o. IfSome o (λ p.
+        NamesPart cuts.now (calls_of history.now.ops) (calls_of p.ops))) }
+    // `None` is given only where the cuts name no part.
+    ensures refused { IfOk result (λ o. o ≡ None → (part : List Call)
+        → NamesPart cuts.now (calls_of history.now.ops) part → ⊥) }
+{
+    let mut part = copy_of(alloc, history)?;
+    for cut in cuts {
+        match cut_by(alloc, &part, cut)? {
+            Some(next) => part = next,
+            None => return Ok(None),
+        }
+    }
+    Ok(Some(part))
+}

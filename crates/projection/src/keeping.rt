@@ -1,0 +1,202 @@
+//! Projections: the operations on some values, or on some keys.
+
+ghost use Rattle.std.specs.Prelude.{◌≡◌, ◌≤◌, true, IfOk, IfSome, None, filter, count_by};
+ghost use Rattle.std.specs.List.{list_all};
+ghost use Rattle.events.specs.Operations.{calls_of};
+ghost use Rattle.projection.specs.Parts.{fits, fits_taking, kept_calls};
+ghost use Rattle.projection.specs.Cuts.{keeps_all, keeps_value, keeps_number, IsClosedPart, IsPart};
+ghost use Rattle.projection.specs.Pieces.{fits_end, is_put, is_taken};
+
+use events::{End, Invocation, ObjectHistory};
+use seq_objects::{AnyOp, AnyReply};
+use std::alloc::{AllocError, Global};
+use std::collections::BTreeSet;
+
+/// Which values are kept, or at a map which keys.
+#[derive(Drop)]
+pub enum Values {
+    All,
+    Only(BTreeSet<i64>),
+}
+
+impl Values {
+    fn is_all(&self) -> bool
+        ensures { result ≡ keeps_all self.now }
+    {
+        matches!(self, Values::All)
+    }
+
+    pub(crate) fn has(&self, value: i64) -> bool
+        ensures { result ≡ keeps_value self.now value }
+    {
+        match self {
+            Values::All => true,
+            Values::Only(values) => values.contains(&value),
+        }
+    }
+}
+
+/// Whether a taking with this reply may be kept, or left out. No reply: it is pending.
+fn taking_fits(values: &Values, settled: bool, kept: bool, reply: Option<AnyReply>) -> bool
+    ensures { result ≡ fits_taking settled (keeps_value values.now) kept reply }
+{
+    match reply {
+        None => kept || settled,
+        Some(AnyReply::Value(Some(value))) => kept == values.has(value),
+        Some(_) => true,
+    }
+}
+
+/// Whether an operation with this reply may be kept, or left out. No reply: it is pending.
+fn reply_fits(
+    values: &Values,
+    settled: bool,
+    kept: bool,
+    op: AnyOp,
+    reply: Option<AnyReply>,
+) -> bool
+    ensures { result ≡ fits (keeps_all values.now) settled (keeps_value values.now) kept op reply }
+{
+    match op {
+        AnyOp::Enqueue(value) => kept == values.has(value),
+        AnyOp::Push(value) => kept == values.has(value),
+        AnyOp::Insert(value) => kept == values.has(value),
+        AnyOp::Dequeue | AnyOp::Pop | AnyOp::ExtractMin => {
+            taking_fits(values, settled, kept, reply)
+        }
+        AnyOp::Write(value) => kept || !values.has(value),
+        AnyOp::Read => match reply {
+            Some(AnyReply::Value(Some(value))) => !kept || values.has(value),
+            _ => true,
+        },
+        AnyOp::Cas(expected, new) => match reply {
+            None if kept => values.has(expected) || !values.has(new),
+            Some(AnyReply::Swapped(..)) if kept => values.has(expected),
+            None | Some(AnyReply::Swapped(..)) => !values.has(new),
+            Some(AnyReply::NotSwapped) => !kept || values.is_all(),
+            Some(AnyReply::Value(_)) => true,
+        },
+        AnyOp::Put(key, _) => kept == values.has(key),
+        AnyOp::Get(key) => !kept || values.has(key),
+        AnyOp::Del(key) => match reply {
+            None | Some(AnyReply::Value(Some(_))) => kept == values.has(key),
+            Some(AnyReply::Value(None)) => !kept || values.has(key),
+            Some(_) => true,
+        },
+        AnyOp::Acquire | AnyOp::Release => kept,
+    }
+}
+
+/// Whether an operation may be kept, or left out. A failed one may be either.
+fn operation_fits(values: &Values, settled: bool, kept: bool, operation: &Invocation) -> bool
+    ensures { result ≡ fits_end (keeps_all values.now) settled (keeps_value values.now) kept
+        operation.now.op operation.now.«end» }
+{
+    match operation.end {
+        End::Returned { reply, .. } => reply_fits(values, settled, kept, operation.op, Some(reply)),
+        End::Pending => reply_fits(values, settled, kept, operation.op, None),
+        End::Failed => true,
+    }
+}
+
+/// Whether an operation that did not fail puts in a kept value.
+fn puts(values: &Values, operation: &Invocation) -> bool
+    ensures { result ≡ is_put (keeps_value values.now) operation.now.op operation.now.«end» }
+{
+    match operation.end {
+        End::Failed => false,
+        _ => match operation.op {
+            AnyOp::Enqueue(value) => values.has(value),
+            AnyOp::Push(value) => values.has(value),
+            AnyOp::Insert(value) => values.has(value),
+            _ => false,
+        },
+    }
+}
+
+/// Whether an operation returned a kept value that it took out.
+fn takes(values: &Values, operation: &Invocation) -> bool
+    ensures { result ≡ is_taken (keeps_value values.now) operation.now.op operation.now.«end» }
+{
+    match (operation.op, operation.end) {
+        (
+            AnyOp::Dequeue | AnyOp::Pop | AnyOp::ExtractMin,
+            End::Returned {
+                reply: AnyReply::Value(Some(value)),
+                ..
+            },
+        ) => values.has(value),
+        _ => false,
+    }
+}
+
+/// Whether as many kept values were taken out as can have been put in.
+fn is_settled(values: &Values, operations: &[Invocation]) -> bool
+    ensures yes { result ≡ true
+        → count_by (λ o. is_put (keeps_value values.now) o.op o.«end») operations.now
+        ≤ count_by (λ o. is_taken (keeps_value values.now) o.op o.«end») operations.now }
+    ensures no { count_by (λ o. is_put (keeps_value values.now) o.op o.«end») operations.now
+        ≤ count_by (λ o. is_taken (keeps_value values.now) o.op o.«end») operations.now
+        → result ≡ true }
+{
+    let put = operations.iter().filter(|o| puts(values, o)).count();
+    let taken = operations.iter().filter(|o| takes(values, o)).count();
+    put <= taken
+}
+
+/// Whether the operations with these numbers make a closed part.
+fn is_closed(
+    values: &Values,
+    numbers: &BTreeSet<u32>,
+    settled: bool,
+    operations: &[Invocation],
+) -> bool
+    ensures { result ≡ list_all (λ o. fits_end (keeps_all values.now) settled
+        (keeps_value values.now) (keeps_number numbers.now o.number) o.op o.«end») operations.now }
+{
+    operations.iter().all(|o| operation_fits(values, settled, numbers.contains(&o.number), o))
+}
+
+/// The operations with these numbers.
+fn pieces(
+    alloc: Global,
+    numbers: &BTreeSet<u32>,
+    operations: &[Invocation],
+) -> Result<Vec<Invocation>, AllocError>
+    ensures { IfOk result (λ v. v.items
+        ≡ filter (λ o. keeps_number numbers.now o.number) operations.now) }
+{
+    operations
+        .iter()
+        .filter(|o| numbers.contains(&o.number))
+        .copied()
+        .collect(alloc)
+}
+
+/// The part of the operations with these numbers, which keeps these values, or at a map these keys.
+/// `None`: the part is not closed, so a whole with a valid order can have a part that has none.
+///
+/// An error: the allocator refused memory.
+pub fn keep(
+    alloc: Global,
+    history: &ObjectHistory,
+    values: &Values,
+    numbers: &BTreeSet<u32>,
+) -> Result<Option<ObjectHistory>, AllocError>
+    ensures part { IfOk result (λ o. IfSome o (λ p. IsPart history.now p)) }
+    ensures closed { IfOk result (λ o. IfSome o (λ p.
+        IsClosedPart values.now numbers.now (calls_of history.now.ops))) }
+    ensures calls { IfOk result (λ o. IfSome o (λ p. calls_of p.ops
+        ≡ kept_calls (keeps_number numbers.now) (calls_of history.now.ops))) }
+    // `None` is given only where the part is not closed.
+    ensures refused { IfOk result (λ o. o ≡ None
+        → IsClosedPart values.now numbers.now (calls_of history.now.ops) → ⊥) }
+{
+    let operations = history.ops();
+    let settled = is_settled(values, operations);
+    if !is_closed(values, numbers, settled, operations) {
+        return Ok(None);
+    }
+    let ops = pieces(alloc, numbers, operations)?;
+    Ok(Some(ObjectHistory::new(history.object(), history.kind(), ops)))
+}

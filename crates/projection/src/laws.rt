@@ -1,0 +1,65 @@
+//! Closure under projection, prefixes and suffixes: functions that do nothing, whose contracts are
+//! theorems.
+
+ghost use Rattle.std.specs.Prelude.{◌≡◌, ◌<◌, ◌≤◌, ◌+◌, ℕ, ℤ, Bool, List, Option, Some};
+ghost use Rattle.std.specs.Prelude.{All, AllPairs, Contains};
+ghost use Rattle.model.specs.declared.Kind.{Kind};
+ghost use Rattle.model.specs.declared.AnyOp.{AnyOp};
+ghost use Rattle.model.specs.declared.AnyReply.{AnyReply};
+ghost use Rattle.model.specs.Objects.{kind_of};
+ghost use Rattle.model.specs.Orders.{Call, Return, IsValidOrder};
+ghost use Rattle.projection.specs.declared.counting.Counted.{Counted};
+ghost use Rattle.projection.specs.Cells.{cell_calls};
+ghost use Rattle.projection.specs.Counts.{most_before, set_since, taken_since};
+ghost use Rattle.projection.specs.Parts.{IsClosed, kept_calls, calls_before, IsStart, calls_from};
+
+/// Closure under projection: where the calls of an object have a valid order, a closed part has
+/// one.
+pub fn projection_is_valid()
+    ensures { (kind : Kind) (calls : List Call) (all settled : Bool) (keeps : ℤ → Bool)
+        (kept : ℕ → Bool) (order : List ℤ)
+        → AllPairs (λ a b. a.number < b.number) calls
+        → IsClosed all settled keeps kept calls
+        → IsValidOrder kind calls order
+        → (part : List ℤ) × IsValidOrder kind (kept_calls kept calls) part }
+{}
+
+/// Closure under prefixes: where the calls have a valid order, those that were invoked before a
+/// number have one, each pending where it had not returned by then.
+pub fn prefix_is_valid()
+    ensures { (kind : Kind) (calls : List Call) (until : ℕ) (order : List ℤ)
+        → All (λ e. (r : Return) → e.returned ≡ Some r → e.number < r.at) calls
+        → IsValidOrder kind calls order
+        → (part : List ℤ) × IsValidOrder kind (calls_before until calls) part }
+{}
+
+/// Closure under suffixes: where the calls have a valid order, those of a suffix have one.
+pub fn suffix_is_valid()
+    ensures { (kind : Kind) (calls : List Call) (from at : ℕ) (first : Option (AnyOp × AnyReply))
+        (order : List ℤ)
+        → All (λ e. kind_of e.op ≡ kind) calls
+        → IsStart calls from at first
+        → IsValidOrder kind calls order
+        → (part : List ℤ) × IsValidOrder kind (calls_from from at first calls) part }
+{}
+
+/// Where the calls of an object have a valid order, a content was taken away from a number on no
+/// more often than the object can have contained it before, and calls that had not returned before
+/// this number set it.
+pub fn count_is_bounded()
+    ensures { (kind : Kind) (calls : List Call) (what : Counted) (from most : ℕ) (order : List ℤ)
+        → AllPairs (λ a b. a.number < b.number) calls
+        → All (λ e. (r : Return) → e.returned ≡ Some r → e.number < r.at) calls
+        → most_before kind what from ≡ Some most
+        → IsValidOrder kind calls order
+        → taken_since what from calls ≤ most + set_since what from calls }
+{}
+
+/// Where the calls of an object have a valid order, those of a cell have one, whatever it keeps and
+/// whatever its other value is.
+pub fn cell_is_valid()
+    ensures { (kind : Kind) (calls : List Call) (keeps : ℤ → Bool) (other : ℤ) (kept : ℕ → Bool)
+        (order : List ℤ)
+        → IsValidOrder kind calls order
+        → (part : List ℤ) × IsValidOrder kind (cell_calls keeps other kept calls) part }
+{}

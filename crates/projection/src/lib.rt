@@ -1,0 +1,21 @@
+//! Parts of an object's history that have a valid order where the whole has one, so that a small
+//! part can show that no order of the whole is valid.
+#![tactic(auto)]
+
+mod cells;
+mod counting;
+mod cutting;
+mod keeping;
+mod laws;
+mod prefix;
+mod suffix;
+
+pub use cells::cell;
+pub use counting::{Count, Counted, is_overdrawn};
+pub use cutting::{Cut, part_by};
+pub use keeping::{Values, keep};
+pub use laws::{
+    cell_is_valid, count_is_bounded, prefix_is_valid, projection_is_valid, suffix_is_valid,
+};
+pub use prefix::until;
+pub use suffix::from;

@@ -1,0 +1,66 @@
+//! Prefixes: what was invoked before a number.
+
+ghost use Rattle.std.specs.Prelude.{◌≡◌, IfOk};
+ghost use Rattle.std.specs.List.{filter_map};
+ghost use Rattle.events.specs.Operations.{calls_of};
+ghost use Rattle.projection.specs.Parts.{calls_before};
+ghost use Rattle.projection.specs.Cuts.{IsPart};
+ghost use Rattle.projection.specs.Pieces.{end_before, piece_before};
+
+use events::{End, Invocation, ObjectHistory};
+use std::alloc::{AllocError, Global};
+
+/// How an operation had ended before this number.
+fn end_then(end: End, until: u32) -> End
+    ensures { result ≡ end_before until end }
+{
+    match end {
+        End::Returned { at, .. } if at >= until => End::Pending,
+        _ => end,
+    }
+}
+
+/// The operation as it was before this number, if it was invoked before.
+fn piece(operation: &Invocation, until: u32) -> Option<Invocation>
+    ensures { result ≡ piece_before until operation.now }
+{
+    if operation.number < until {
+        return Some(Invocation {
+            number: operation.number,
+            op: operation.op,
+            end: end_then(operation.end, until),
+        });
+    }
+    None
+}
+
+/// The operations as they were before this number.
+fn pieces(
+    alloc: Global,
+    operations: &[Invocation],
+    until: u32,
+) -> Result<Vec<Invocation>, AllocError>
+    ensures { IfOk result (λ v. v.items ≡ filter_map (piece_before until) operations.now) }
+{
+    operations
+        .iter()
+        .filter_map(|o| piece(o, until))
+        .collect(alloc)
+}
+
+/// The part of the operations that were invoked before this number. One that returned at it or
+/// later is pending.
+///
+/// An error: the allocator refused memory.
+pub fn until(
+    alloc: Global,
+    history: &ObjectHistory,
+    until: u32,
+) -> Result<ObjectHistory, AllocError>
+    ensures part { IfOk result (λ p. IsPart history.now p) }
+    ensures calls { IfOk result (λ p.
+        calls_of p.ops ≡ calls_before until (calls_of history.now.ops)) }
+{
+    let ops = pieces(alloc, history.ops(), until)?;
+    Ok(ObjectHistory::new(history.object(), history.kind(), ops))
+}

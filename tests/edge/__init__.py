@@ -1,0 +1,1 @@
+"""Tests of the built program at its edge. The script tests/run runs them."""

@@ -1,0 +1,91 @@
+/* Preloaded before a program, makes calls of the system fail. The environment says which:
+
+   REFUSE_AT=N       the Nth allocation is refused, counted from 1
+   FAIL_READ_AT=N    the Nth read fails
+   READ_AT_MOST=N    a read takes at most N bytes
+   WRITE_AT_MOST=N   a write takes at most N bytes
+   COUNT_TO=FILE     the number of allocations and of reads is written to FILE at the end */
+#define _GNU_SOURCE
+#include <errno.h>
+#include <fcntl.h>
+#include <stdatomic.h>
+#include <stdio.h>
+#include <stdlib.h>
+#include <sys/syscall.h>
+#include <unistd.h>
+
+extern void *__libc_malloc(size_t);
+extern void *__libc_calloc(size_t, size_t);
+extern void *__libc_realloc(void *, size_t);
+extern void *__libc_memalign(size_t, size_t);
+
+static atomic_long allocations, reads;
+static long refuse_at, fail_read_at, read_at_most, write_at_most;
+static int is_ready;
+
+static long number(const char *name) {
+    const char *text = getenv(name);
+    return text ? atol(text) : 0;
+}
+
+__attribute__((constructor)) static void begin(void) {
+    refuse_at = number("REFUSE_AT");
+    fail_read_at = number("FAIL_READ_AT");
+    read_at_most = number("READ_AT_MOST");
+    write_at_most = number("WRITE_AT_MOST");
+    is_ready = 1;
+}
+
+static void say_counts(void) {
+    const char *name = getenv("COUNT_TO");
+    if (!name) return;
+    char text[64];
+    int n = snprintf(text, sizeof text, "%ld %ld\n", atomic_load(&allocations), atomic_load(&reads));
+    int fd = open(name, O_WRONLY | O_CREAT | O_TRUNC, 0600);
+    if (fd >= 0) {
+        if (syscall(SYS_write, fd, text, n) != n) abort();
+        close(fd);
+    }
+}
+
+/* The program ends by this call alone. */
+void _exit(int status) {
+    say_counts();
+    syscall(SYS_exit_group, status);
+    __builtin_unreachable();
+}
+
+static int is_refused(void) {
+    if (!is_ready) return 0;
+    if (atomic_fetch_add(&allocations, 1) + 1 != refuse_at) return 0;
+    errno = ENOMEM;
+    return 1;
+}
+
+void *malloc(size_t n) { return is_refused() ? NULL : __libc_malloc(n); }
+
+void *calloc(size_t n, size_t size) { return is_refused() ? NULL : __libc_calloc(n, size); }
+
+void *realloc(void *p, size_t n) { return is_refused() ? NULL : __libc_realloc(p, n); }
+
+void *memalign(size_t align, size_t n) { return is_refused() ? NULL : __libc_memalign(align, n); }
+
+void *aligned_alloc(size_t align, size_t n) { return is_refused() ? NULL : __libc_memalign(align, n); }
+
+int posix_memalign(void **p, size_t align, size_t n) {
+    if (is_refused()) return ENOMEM;
+    *p = __libc_memalign(align, n);
+    return *p ? 0 : ENOMEM;
+}
+
+static size_t at_most(size_t n, long limit) { return limit > 0 && n > (size_t)limit ? (size_t)limit : n; }
+
+ssize_t read(int fd, void *to, size_t n) {
+    if (atomic_fetch_add(&reads, 1) + 1 == fail_read_at) {
+        errno = EIO;
+        return -1;
+    }
+    return syscall(SYS_read, fd, to, at_most(n, read_at_most));
+}
+
+ssize_t write(int fd, const void *from, size_t n) { return syscall(SYS_write, fd, from, at_most(n, write_at_most)); }

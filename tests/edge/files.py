@@ -1,0 +1,142 @@
+"""Files that are long, that cannot be read, or that come in pieces."""
+import os
+
+from . import rows
+from .answers import through_pipes
+from .rows import CERTIFICATES, HISTORY, SCHEDULE
+from .running import Program, Report
+
+LONGEST = 268_435_456
+AS_NOBODY = {"user": 65534, "group": 65534, "extra_groups": ()}
+# The commands of one file, with the words before its name.
+OF_ONE_FILE = (("search",), ("find",), ("judge",), ("simulate",))
+
+
+def fault_of(command, fault):
+    return f"malformed {'schedule' if command == 'simulate' else 'history'}: {fault}\n"
+
+
+def with_each_file(name):
+    """The words of each command with this name in the place of each of its files."""
+    yield "check", name, CERTIFICATES
+    yield "check", HISTORY, name
+    yield from ((*it, name) for it in OF_ONE_FILE)
+
+
+def write_good(program):
+    """Writes the texts of a history that is linearizable, its certificates and a schedule."""
+    program.write(HISTORY, rows.OVERLAPPING)
+    program.write(CERTIFICATES, rows.order(1, 0, 4))
+    program.write(SCHEDULE, rows.SERVED_BY_ANOTHER)
+
+
+def good_runs():
+    """Runs on good files whose answer rests on what the files hold: words, files that are read, output, status."""
+    history, certificates = (HISTORY, rows.OVERLAPPING), (CERTIFICATES, rows.order(1, 0, 4))
+    yield ("check", HISTORY, CERTIFICATES), (history, certificates), rows.THREE_YES, 0
+    yield ("search", HISTORY), (history,), rows.order(1, 0, 4), 0
+    yield ("find", HISTORY), (history,), rows.order(1, 0, 4), 0
+    yield ("judge", HISTORY), ((HISTORY, rows.OUT_OF_ORDER),), "; object 0: impossible\n", 1
+    yield ("simulate", SCHEDULE), ((SCHEDULE, rows.SERVED_BY_ANOTHER),), rows.SERVED_LINES, 0
+
+
+def unreadable(program: Program, report: Report):
+    """The first file that cannot be read is named, and nothing is put out."""
+    write_good(program)
+    os.makedirs(f"{program.room}/folder", exist_ok=True)
+    for name in ("missing.edn", "folder"):
+        for words in with_each_file(name):
+            report.answers(" ".join(words), program.run(*words), "", 4, f"fcbench: cannot read {name}\n")
+    ran = program.run("check", "first.edn", "second.edn")
+    report.answers("check: both files are missing", ran, "", 4, "fcbench: cannot read first.edn\n")
+    program.write("bad.edn", "007")
+    ran = program.run("check", "bad.edn", "missing.edn")
+    message = "fcbench: cannot read missing.edn\n"
+    report.answers("check: files are read before anything is judged", ran, "", 4, message)
+    secret = program.write("secret.edn", rows.OVERLAPPING)
+    os.chmod(f"{program.room}/{secret}", 0)
+    # The superuser may read every file, so then the program runs as nobody.
+    how = AS_NOBODY if os.geteuid() == 0 else {}
+    for words in with_each_file(secret):
+        ran = program.run(*words, **how)
+        report.answers(f"{' '.join(words)}, without permission", ran, "", 4, f"fcbench: cannot read {secret}\n")
+
+
+def failing_reads(program, report):
+    """Where any one read fails, its file is named and nothing is put out."""
+    for words, files, out, status in good_runs():
+        for name, text in files:
+            program.write(name, text)
+        ran, _, reads = program.counts(*words)
+        report.answers(f"{' '.join(words)}, with its reads counted", ran, out, status)
+        report.holds(f"{' '.join(words)} reads each file to its end", reads >= 2 * len(files), reads)
+        for at in range(1, reads + 1):
+            ran = program.run(*words, faults={"FAIL_READ_AT": at})
+            named = [f"fcbench: cannot read {name}\n".encode() for name, _ in files]
+            is_well = ran.status == 4 and ran.out == b"" and ran.err in named
+            report.holds(f"{' '.join(words)}, read {at} fails", is_well, ran)
+        for name, text in files:
+            # The middle of a text that comes byte by byte, so that what was read before is not empty.
+            at = len(text) // 2 + sum(len(it) + 1 for other, it in files if other == HISTORY != name)
+            ran = program.run(*words, faults={"READ_AT_MOST": 1, "FAIL_READ_AT": at})
+            message = f"fcbench: cannot read {name}\n"
+            report.answers(f"{' '.join(words)}, a read fails in the middle of {name}", ran, "", 4, message)
+
+
+def in_pieces(program, report):
+    """Texts that come in pieces, with pauses, and an empty pipe."""
+    for words, files, out, status in good_runs():
+        for size in (1, 50):
+            ran = through_pipes(program, files, words, size, 0.0002 * size)
+            report.answers(f"{' '.join(words)}, through pipes in pieces of {size}", ran, out, status)
+    ran = through_pipes(program, ((HISTORY, ""), (CERTIFICATES, "")), ("check", HISTORY, CERTIFICATES))
+    report.answers("check: two empty pipes", ran, rows.yes(0, 0), 0)
+
+
+def with_zeros(program, name, length):
+    """Makes a file of so many zero bytes, which take no room on the disk."""
+    with open(f"{program.room}/{name}", "wb") as file:
+        file.truncate(length)
+
+
+def too_long(program, report):
+    """A text one byte too long, and a device that never ends."""
+    write_good(program)
+    with_zeros(program, "long.edn", LONGEST + 1)
+    for name in ("long.edn", "/dev/zero"):
+        for command, *files in with_each_file(name):
+            out = fault_of(command, "E10 at byte 0")
+            if files[-1] == name and len(files) == 2:
+                out = "malformed certificates: E10 at byte 0\n"
+            report.answers(f"{command} {' '.join(files)}", program.run(command, *files), out, 2)
+    # One byte fewer is read, and a zero byte is no token.
+    with_zeros(program, "long.edn", LONGEST)
+    ran = program.run("check", "long.edn", CERTIFICATES)
+    report.answers("check: zeros of the greatest length", ran, "malformed history: E9 at byte 0\n", 2)
+    os.remove(f"{program.room}/long.edn")
+
+
+def longest(program, report):
+    """A history of the greatest length, whose last map is at its end, counts to its last byte."""
+    text = rows.OVERLAPPING.encode()
+    head, _, last = text.rstrip(b"\n").rpartition(b"\n")
+    program.write(CERTIFICATES, rows.order(1, 0, 4))
+    with open(f"{program.room}/longest.edn", "wb") as file:
+        file.write(head + b"\n" + b" " * (LONGEST - len(head) - 1 - len(last)) + last)
+    ran = program.run("check", "longest.edn", CERTIFICATES)
+    report.answers("check: a history of the greatest length", ran, rows.THREE_YES, 0)
+    with open(f"{program.room}/longest.edn", "ab") as file:
+        file.write(b" ")
+    ran = program.run("check", "longest.edn", CERTIFICATES)
+    report.answers("check: a history one byte longer", ran, "malformed history: E10 at byte 0\n", 2)
+    os.remove(f"{program.room}/longest.edn")
+
+
+def same_file_twice(program, report):
+    """One file can serve as both texts."""
+    program.write(HISTORY, "")
+    ran = program.run("check", HISTORY, HISTORY)
+    report.answers("check: one file twice", ran, rows.yes(0, 0), 0)
+
+
+PARTS = (unreadable, failing_reads, in_pieces, too_long, longest, same_file_twice)

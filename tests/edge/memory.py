@@ -1,0 +1,175 @@
+"""Refuses each allocation of a run in turn. The run must say that it is out of memory, or answer as it does with ample memory."""
+import multiprocessing
+import os
+import re
+from dataclasses import dataclass
+
+from . import rows, workloads
+from .answers import is_accepted
+from .running import EXAMPLES, Program
+
+OUT = b"out of memory\n"
+NO_MEMORY = 3
+# Of texts of this length or more, only some allocations are refused.
+LONG = 2000
+# Of one client, the same allocations are made each time.
+ONE_CLIENT = ("run", "--clients", "1", "--calls", "3")
+
+
+@dataclass(frozen=True)
+class Case:
+    """A command whose allocations are refused. With a stride of n, each nth is, and the first and the last ten."""
+
+    name: str
+    words: tuple
+    files: tuple = ()
+    stride: int = 1
+
+
+@dataclass(frozen=True)
+class Refusal:
+    """One run of a case, in which the allocation of this number is refused."""
+
+    program: Program
+    words: tuple
+    at: int
+    whole: tuple
+
+
+def of_row(row, *more, stride=1):
+    """A case of a worked row, whose files are its own."""
+    name = f"{row.name} {' '.join(more)}".strip()
+    stem = "".join(it if it.isalnum() else "_" for it in name)
+    names = {file: f"{stem}.{file}" for file, _ in row.files()}
+    words = (row.words[0], *more, *[names.get(it, it) for it in row.words[1:]])
+    return Case(name, words, tuple((names[file], text) for file, text in row.files()), stride)
+
+
+def examples():
+    """Each command on each example. Most are like worked rows, so only some of their allocations are refused."""
+    for name in sorted(os.listdir(EXAMPLES)):
+        stem, _, kind = name.partition(".")
+        if kind == "schedule.edn":
+            yield of_example("simulate", name)
+        if kind == "history.edn":
+            yield of_example("check", name, f"{stem}.certificates.edn")
+            # A search that never ends by itself would take all its steps at each refusal.
+            few = ("--steps", "1000") if stem == "never_enqueued" else ()
+            yield of_example("search", *few, name)
+            yield of_example("find", name)
+            yield of_example("judge", *few, name)
+
+
+def of_example(*words):
+    """A case of a command on examples."""
+    files = []
+    for name in words:
+        if name.endswith(".edn"):
+            with open(f"{EXAMPLES}/{name}", "rb") as file:
+                files.append((name, file.read()))
+    return Case(f"example: {' '.join(words)}", words, tuple(files), stride=5)
+
+
+def cases():
+    """Every allocation of each worked row and of runs of two clients, and some of examples and of longer ones."""
+    for it in rows.ROWS:
+        if len(it.texts[0]) < LONG:
+            yield of_row(it)
+    yield of_row(next(it for it in rows.YES if it.texts[0] == rows.TWO_QUEUES), "--workers", "4")
+    yield Case(" ".join(ONE_CLIENT), ONE_CLIENT)
+    for kind in workloads.KINDS_OF_A_RUN:
+        words = ("run", "--kind", kind, "--clients", "2", "--calls", "3")
+        yield Case(" ".join(words), words)
+    yield from examples()
+    words = ("run", "--clients", "1", "--calls", "20", "--objects", "5", "--kind", "mixed")
+    yield Case(" ".join(words), words, stride=5)
+    history = rows.one_process(*[("insert", 1, 1)] * 200)
+    yield of_row(rows.check("a longer history", history, rows.order(*range(0, 400, 2)), "", 0), stride=5)
+    yield of_row(rows.search("a longer history", history, "", 0), stride=5)
+    yield Case("help", ("--help",), stride=3)
+    yield Case("refused words", ("check", "one word"), stride=3)
+
+
+def chosen(count, stride):
+    """The numbers of the allocations that are refused: every stride, and the first and the last ten."""
+    return sorted({*range(1, count + 1, stride), *range(1, min(10, count) + 1), *range(max(1, count - 9), count + 1)})
+
+
+def object_is_out_of_memory(whole, ran):
+    """Whether a search answers as with ample memory of some objects, and of the others that it was out of memory."""
+    before, after = whole.out.splitlines(), ran.out.splitlines()
+    if len(before) != len(after) or before == after:
+        return False
+    lines_without_memory = [f"; object {at}: out of memory".encode() for at in range(len(after))]
+    are_well = all(new in (old, without) for old, new, without in zip(before, after, lines_without_memory))
+    has_impossible = any(it.endswith(b": impossible") for it in after)
+    return are_well and ran.status == (1 if has_impossible else NO_MEMORY)
+
+
+def is_out_of_memory(command, whole, ran):
+    """Whether a run ended in the way in which its command says that memory was refused."""
+    if (ran.status, ran.out) == (NO_MEMORY, OUT):
+        return True
+    if command == "search":
+        return object_is_out_of_memory(whole, ran)
+    if command == "judge":
+        # It tells only the objects that have no certificate.
+        return ran.status == NO_MEMORY and re.fullmatch(rb"(; object [01]: out of memory\n)+", ran.out) is not None
+    if command in ("run", "simulate") and ran.status == NO_MEMORY:
+        return ran.out.endswith(b"; " + OUT) or command == "run" and ran.out == b"no thread\n"
+    return False
+
+
+def is_other_run(program, words, whole, ran):
+    """Whether clients were served in another way, since a call was refused or the threads took other turns.
+
+    Then each client made its first calls, as many as it came to, and check accepts the history."""
+    if words[0] == "simulate":
+        before, after = [it.out.replace(b":fail", b":ok").splitlines()[:3] for it in (whole, ran)]
+        return ran.status == 0 and before == after and is_accepted(program, ran.out)
+    if words[0] != "run" or ran.status != 0:
+        return False
+    options = dict(zip(words[1::2], words[2::2]))
+    number = lambda name, other: int(options.get(name, other))
+    given = options.get("--kind", "queue"), number("--objects", 1), number("--clients", 2), number("--calls", 100), 0
+    wanted, made = workloads.calls_of_all(*given), workloads.calls_in(ran.out)
+    is_beginning = all(wanted[it][: len(of)] == of for it, of in made.items())
+    return is_beginning and is_accepted(program, ran.out)
+
+
+def refuse(it):
+    """Refuses one allocation. Returns whether the run was out of memory, what it put out, and the run itself if it is wrong."""
+    whole, (command, *_) = it.whole, it.words
+    ran = it.program.run(*it.words, faults={"REFUSE_AT": it.at})
+    is_out = is_out_of_memory(command, whole, ran)
+    is_same = (ran.status, ran.out, ran.err) == (whole.status, whole.out, whole.err)
+    is_quiet = ran.err == b"" or ran.err == whole.err
+    is_well = is_quiet and (is_same or is_out or is_other_run(it.program, it.words, whole, ran))
+    return is_out, ran.out, None if is_well else ran
+
+
+def refused_memory(program, report):
+    """Each chosen allocation of each case is refused in a run of its own."""
+    tried = 0
+    with multiprocessing.get_context("fork").Pool(os.cpu_count()) as pool:
+        for case in cases():
+            for name, text in case.files:
+                program.write(name, text)
+            whole, count, _ = program.counts(*case.words)
+            report.holds(f"memory: {case.name}: with ample memory", whole.status >= 0 and count > 0, whole)
+            numbers = chosen(count, case.stride)
+            found = pool.map(refuse, [Refusal(program, case.words, at, whole) for at in numbers], chunksize=4)
+            for at, (_, _, wrong) in zip(numbers, found):
+                report.holds(f"memory: {case.name}: allocation {at} of {count} is refused", wrong is None, wrong)
+            report.holds(f"memory: {case.name}: some run is out of memory", any(it for it, _, _ in found))
+            if case.words[0] == "search" and whole.out.startswith((b"{", b"; object")) and b"[]" not in whole.out:
+                says = any(b": out of memory" in out for _, out, _ in found)
+                report.holds(f"memory: {case.name}: the search itself says that it is out of memory", says)
+            if case.words == ONE_CLIENT:
+                says = any(b":type :fail" in out for _, out, _ in found)
+                report.holds(f"memory: {case.name}: some call is refused, and fails in the history", says)
+            tried += len(numbers)
+    return f"{tried} allocations refused"
+
+
+PARTS = (refused_memory,)

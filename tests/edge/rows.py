@@ -1,0 +1,426 @@
+"""Worked rows: words, the texts of the files, and the exact output and exit status.
+
+The expected values are worked out by hand from the definitions of the objects, of a valid order and of the formats.
+None is taken from the program's output."""
+from dataclasses import dataclass
+
+from .texts import certificate, fail, info, invoke, lines, ok, one_process, order
+
+HISTORY, CERTIFICATES, SCHEDULE = "history.edn", "certificates.edn", "schedule.edn"
+
+
+@dataclass(frozen=True)
+class Row:
+    """What a command must answer. The texts are those of its files, in the order in which it reads them."""
+
+    name: str
+    words: tuple
+    texts: tuple
+    out: str
+    status: int
+
+    def files(self):
+        """The names of the files with their texts."""
+        first = SCHEDULE if self.words[0] == "simulate" else HISTORY
+        return tuple(zip((first, CERTIFICATES), self.texts))
+
+
+def check(name, history, certificates, out, status):
+    return Row(f"check: {name}", ("check", HISTORY, CERTIFICATES), (history, certificates), out, status)
+
+
+def search(name, history, out, status, *options):
+    return Row(f"search: {name}", ("search", *options, HISTORY), (history,), out, status)
+
+
+def find(name, history, out, status):
+    return Row(f"find: {name}", ("find", HISTORY), (history,), out, status)
+
+
+def judge(name, history, out, status, *options):
+    return Row(f"judge: {name}", ("judge", *options, HISTORY), (history,), out, status)
+
+
+def simulate(name, schedule, out, status):
+    return Row(f"simulate: {name}", ("simulate", SCHEDULE), (schedule,), out, status)
+
+
+def exact_steps(name, history, steps, out, status):
+    """A search of one object that takes exactly this number of steps, and with one fewer is out of steps."""
+    rows = [search(f"{name}, in {steps} steps", history, out, status, "--steps", str(steps))]
+    if steps:
+        fewer = f"; object 0: out of steps after {steps - 1}\n"
+        rows.append(search(f"{name}, with a step fewer", history, fewer, 3, "--steps", str(steps - 1)))
+    return rows
+
+
+def yes(operations, objects, *kinds):
+    return lines(f"yes: {operations} operations, {objects} objects", *kinds)
+
+
+# Histories.
+
+ENQUEUE_DEQUEUE = one_process(("enqueue", 1, 1), ("dequeue", None, 1))
+
+OVERLAPPING = lines(
+    invoke(0, "enqueue", 1),
+    invoke(1, "enqueue", 2),
+    ok(0, "enqueue", 1),
+    ok(1, "enqueue", 2),
+    invoke(0, "dequeue"),
+    ok(0, "dequeue", 2),
+)
+
+# The enqueue of 1 returned before that of 2 began, and 2 comes out first.
+OUT_OF_ORDER = lines(
+    invoke(0, "enqueue", 1),
+    ok(0, "enqueue", 1),
+    invoke(1, "enqueue", 2),
+    ok(1, "enqueue", 2),
+    invoke(0, "dequeue"),
+    ok(0, "dequeue", 2),
+)
+
+TWO_QUEUES = lines(
+    invoke(0, "dequeue", None, 0),
+    invoke(1, "dequeue", None, 1),
+    invoke(2, "enqueue", 7, 0),
+    invoke(3, "enqueue", 8, 1),
+    ok(0, "dequeue", 7, 0),
+    ok(1, "dequeue", 8, 1),
+    ok(2, "enqueue", 7, 0),
+    ok(3, "enqueue", 8, 1),
+)
+TWO_ORDERS = lines(certificate(1, 3, 1), certificate(0, 2, 0))
+
+PENDING = lines(invoke(0, "enqueue", 9), invoke(1, "dequeue"), ok(1, "dequeue", 9))
+
+FAILED = lines(invoke(0, "enqueue", 5), fail(0, "enqueue", 5))
+
+AFTER_INFO = lines(invoke(0, "enqueue", 1), info(0, "enqueue", 1), invoke(0, "enqueue", 2))
+
+NEMESIS = lines("{:process :nemesis}", "{:process :nemesis}") + ENQUEUE_DEQUEUE
+
+HEAP = one_process(
+    ("insert", 5, 5),
+    ("insert", 5, 5),
+    ("insert", -3, -3),
+    ("extract-min", None, -3),
+    ("extract-min", None, 5),
+    ("extract-min", None, 5),
+    ("extract-min", None, None),
+)
+
+BAG_WITH_EQUALS = one_process(
+    ("insert", 3, 3),
+    ("insert", 1, 1),
+    ("insert", 2, 2),
+    ("extract-min", None, 1),
+    ("insert", 1, 1),
+    ("insert", 1, 1),
+    ("extract-min", None, 1),
+    ("extract-min", None, 1),
+    ("extract-min", None, 2),
+    ("extract-min", None, 3),
+    ("extract-min", None, None),
+)
+
+REGISTER = one_process(("cas", (1, 2), False), ("write", 1, 1), ("cas", (1, 2), (1, 2)), ("read", None, 2))
+
+MAP = one_process(
+    ("put", (1, 10), None),
+    ("put", (1, 11), 10),
+    ("get", 1, 11),
+    ("del", 1, 11),
+    ("get", 1, None),
+)
+
+MUTEX = lines(
+    invoke(0, "acquire"),
+    ok(0, "acquire"),
+    invoke(1, "acquire"),
+    invoke(0, "release"),
+    ok(0, "release"),
+    ok(1, "acquire"),
+)
+
+RELEASE_OF_A_FREE_MUTEX = one_process(("release", None, None))
+
+# Both enqueues put in a 1, so a 2 never comes out. The two orders of the enqueues lead to one content.
+EQUAL_ENQUEUES = lines(
+    invoke(0, "enqueue", 1),
+    invoke(1, "enqueue", 1),
+    ok(0, "enqueue", 1),
+    ok(1, "enqueue", 1),
+    invoke(0, "dequeue"),
+    ok(0, "dequeue", 2),
+)
+
+LARGEST, LEAST = 9223372036854775807, -9223372036854775808
+TOO_MANY_TO_SEARCH = one_process(*[("enqueue", 1, 1)] * 4097)
+
+# Schedules.
+
+HEADER = "{:kind :queue, :objects 1, :clients 2, :quota 1}"
+ONE_CLIENT = "{:kind :queue, :objects 1, :clients 1, :quota 1}"
+
+
+def step(client, name, more=""):
+    return f"{{:client {client}, :step :{name}{more}}}"
+
+
+SERVED_BY_ANOTHER = lines(
+    HEADER,
+    step(0, "draw", ", :object 0, :f :enqueue, :value 1"),
+    step(1, "draw", ", :object 0, :f :enqueue, :value 2"),
+    step(0, "post"),
+    step(1, "post"),
+    step(1, "win", ", :object 0"),
+    step(1, "pick", ", :row 0"),
+    step(1, "answer"),
+    step(1, "pick", ", :row 1"),
+    step(1, "answer"),
+    step(1, "release"),
+    step(1, "take"),
+    step(1, "draw"),
+    step(0, "end"),
+    step(1, "end"),
+)
+
+SERVED_LINES = """\
+{:process 0, :type :invoke, :f :enqueue, :value 1, :object 0}
+{:process 1, :type :invoke, :f :enqueue, :value 2, :object 0}
+{:process 1, :type :ok, :f :enqueue, :value 2, :object 0}
+; refused steps: 0
+; {:object 0, :order [0 1]}
+; yes: 2 operations, 1 objects
+; queue: 1 objects, 2 operations
+"""
+
+# Rows.
+
+QUEUE_YES = yes(2, 1, "queue: 1 objects, 2 operations")
+THREE_YES = yes(3, 1, "queue: 1 objects, 3 operations")
+QUEUES_YES = yes(4, 2, "queue: 2 objects, 4 operations")
+
+YES = [
+    check("empty texts", "", "", yes(0, 0), 0),
+    check("an enqueue and a dequeue", ENQUEUE_DEQUEUE, order(0, 2), QUEUE_YES, 0),
+    check("the later of two enqueues takes effect first", OVERLAPPING, order(1, 0, 4), THREE_YES, 0),
+    check("two queues", TWO_QUEUES, TWO_ORDERS, QUEUES_YES, 0),
+    check("a pending enqueue has happened", PENDING, order(0, 1), QUEUE_YES, 0),
+    check("a failed enqueue alone", FAILED, order(), yes(0, 1, "queue: 1 objects, 0 operations"), 0),
+    check("maps of the nemesis are counted", NEMESIS, order(2, 4), QUEUE_YES, 0),
+    check("a heap", HEAP, order(0, 2, 4, 6, 8, 10, 12), yes(7, 1, "heap: 1 objects, 7 operations"), 0),
+    check(
+        "a heap with equals",
+        BAG_WITH_EQUALS,
+        order(*range(0, 22, 2)),
+        yes(11, 1, "heap: 1 objects, 11 operations"),
+        0,
+    ),
+    check("a register", REGISTER, order(0, 2, 4, 6), yes(4, 1, "register: 1 objects, 4 operations"), 0),
+    check("a map", MAP, order(0, 2, 4, 6, 8), yes(5, 1, "map: 1 objects, 5 operations"), 0),
+    check("a mutex is passed on", MUTEX, order(0, 3, 2), yes(3, 1, "mutex: 1 objects, 3 operations"), 0),
+    check("the first three maps alone", lines(*ENQUEUE_DEQUEUE.splitlines()[:3]), order(0, 2), QUEUE_YES, 0),
+    check(
+        "a refused call is no operation",
+        lines(invoke(0, "enqueue", 1), fail(0, "enqueue", 1), invoke(0, "dequeue"), ok(0, "dequeue")),
+        order(2),
+        yes(1, 1, "queue: 1 objects, 1 operations"),
+        0,
+    ),
+    check("minus nothing is 0", ENQUEUE_DEQUEUE, "{:object -0, :order [-0 +2]}", QUEUE_YES, 0),
+    check(
+        "the least and the largest integer",
+        one_process(("enqueue", LEAST, LEAST), ("enqueue", LARGEST, LARGEST), ("dequeue", None, LEAST)),
+        order(0, 2, 4),
+        THREE_YES,
+        0,
+    ),
+]
+
+NO = [
+    check("the earlier enqueue first", OVERLAPPING, order(0, 1, 4), "no: C6 object 0: 4 gives 1\n", 1),
+    check(
+        "an enqueue after one that it precedes",
+        OUT_OF_ORDER,
+        order(2, 0, 4),
+        "no: C5 object 0: 0 returned before 2 was invoked\n",
+        1,
+    ),
+    check("the wrong one comes out", OUT_OF_ORDER, order(0, 2, 4), "no: C6 object 0: 4 gives 1\n", 1),
+    check("the pending enqueue is left out", PENDING, order(1), "no: C6 object 0: 1 gives nil\n", 1),
+    check("a failed operation in the order", FAILED, order(0), "no: C3 object 0: 0 is no operation\n", 1),
+    check("an entry twice", ENQUEUE_DEQUEUE, order(0, 0, 2), "no: C4 object 0: 0 stands twice\n", 1),
+    check("a return is left out", ENQUEUE_DEQUEUE, order(0), "no: C7 object 0: 2 is left out\n", 1),
+    check("the number of a map of the nemesis", NEMESIS, order(0, 2), "no: C3 object 0: 0 is no operation\n", 1),
+    check("no certificate", ENQUEUE_DEQUEUE, "", "no: C1 object 0 has no certificate\n", 1),
+    check("a strange object", "", lines(certificate(3)), "no: C2 object 3 is not in the history\n", 1),
+    check(
+        "one of two certificates", TWO_QUEUES, lines(certificate(1, 3, 1)), "no: C1 object 0 has no certificate\n", 1
+    ),
+    check(
+        "a third certificate",
+        TWO_QUEUES,
+        TWO_ORDERS + lines(certificate(2)),
+        "no: C2 object 2 is not in the history\n",
+        1,
+    ),
+    check(
+        "the first of two faults is that of the least object",
+        TWO_QUEUES,
+        lines(certificate(1, 1), certificate(0, 0)),
+        "no: C6 object 0: 0 gives nil\n",
+        1,
+    ),
+    check(
+        "a compare-and-set that cannot succeed",
+        one_process(("cas", (1, 2), (1, 2))),
+        order(0),
+        "no: C6 object 0: 0 gives false\n",
+        1,
+    ),
+    check("a mutex is acquired twice", MUTEX, order(0, 2, 3), "no: C9 object 0: 2 is not possible\n", 1),
+    check("a free mutex is released", RELEASE_OF_A_FREE_MUTEX, order(0), "no: C9 object 0: 0 is not possible\n", 1),
+    check(
+        "the first two maps alone",
+        lines(*ENQUEUE_DEQUEUE.splitlines()[:2]),
+        order(0, 2),
+        "no: C3 object 0: 2 is no operation\n",
+        1,
+    ),
+    check(
+        "the first map alone",
+        lines(*ENQUEUE_DEQUEUE.splitlines()[:1]),
+        order(0, 2),
+        "no: C3 object 0: 2 is no operation\n",
+        1,
+    ),
+    check("no map", "", order(0, 2), "no: C2 object 0 is not in the history\n", 1),
+    check(
+        "a huge entry", ENQUEUE_DEQUEUE, order(0, LARGEST), f"no: C3 object 0: {LARGEST} is no operation\n", 1
+    ),
+    check("a negative entry", ENQUEUE_DEQUEUE, order(-1), "no: C3 object 0: -1 is no operation\n", 1),
+    check("a sign is read", ENQUEUE_DEQUEUE, order("+7,8"), "no: C3 object 0: 7 is no operation\n", 1),
+    check("a comma separates", ENQUEUE_DEQUEUE, order("8,+7"), "no: C3 object 0: 8 is no operation\n", 1),
+    check(
+        "the largest integer is told",
+        one_process(("enqueue", LARGEST, LARGEST), ("dequeue", None, 1)),
+        order(0, 2),
+        f"no: C6 object 0: 2 gives {LARGEST}\n",
+        1,
+    ),
+]
+
+
+def malformed(name, history, fault):
+    return check(name, history, "", f"malformed history: {fault}\n", 2)
+
+
+def malformed_certificates(name, certificates, fault):
+    return check(name, ENQUEUE_DEQUEUE, certificates, f"malformed certificates: {fault}\n", 2)
+
+
+MALFORMED = [
+    malformed("a process goes on after info", AFTER_INFO, "H8 at map 2"),
+    malformed(
+        "info and then a return",
+        lines(invoke(0, "enqueue", 1), info(0, "enqueue", 1), ok(0, "enqueue", 1)),
+        "H8 at map 2",
+    ),
+    malformed("two kinds", one_process(("enqueue", 1, 1)) + lines(invoke(0, "push", 2)), "H4 at map 2"),
+    malformed("two calls of one process", lines(invoke(0, "dequeue"), invoke(0, "dequeue")), "H5 at map 1"),
+    malformed("no value in a return", lines(ok(0, "enqueue")), "H3 at map 0"),
+    malformed("another function returns", lines(invoke(0, "enqueue", 1), ok(0, "dequeue")), "H7 at map 1"),
+    malformed("a function of another kind returns", lines(invoke(0, "enqueue", 1), ok(0, "push", 1)), "H4 at map 1"),
+    malformed("a number replied to a cas", lines(invoke(0, "cas", (1, 2)), ok(0, "cas", 7)), "H3 at map 1"),
+    malformed("the largest integer, which is no map", str(LARGEST), "H1 at map 0"),
+    malformed("the least integer, which is no map", str(LEAST), "H1 at map 0"),
+    malformed("one past the largest integer", str(LARGEST + 1), "E4 at byte 0"),
+    malformed("a leading zero", "007", "E3 at byte 0"),
+    malformed("a fraction", "1.5", "E9 at byte 0"),
+    malformed("a map that is not closed", "{:process 0, :type :invoke", "E2 at byte 26"),
+    malformed("a key twice", "{:f :enqueue, :f :enqueue}", "E5 at byte 14"),
+    malformed("17 brackets", "[" * 17, "E8 at byte 16"),
+    malformed("16 vectors in one another, which are no map", "[" * 16 + "]" * 16, "H1 at map 0"),
+    malformed_certificates("two for one object", lines(certificate(0, 0, 2), certificate(0)), "K2 at form 1"),
+    malformed_certificates("a vector alone", "[0 2]", "K1 at form 0"),
+    malformed_certificates("an object past the limit", lines(certificate(65536)), "K1 at form 0"),
+    malformed_certificates("a leading zero", "007", "E3 at byte 0"),
+]
+
+SEARCHES = [
+    search("no order, as many steps as it likes", OUT_OF_ORDER, "; object 0: impossible\n", 1),
+    search("the later enqueue first, as many steps as it likes", OVERLAPPING, order(1, 0, 4), 0),
+    *exact_steps("no order", OUT_OF_ORDER, 3, "; object 0: impossible\n", 1),
+    search("no order, one step", OUT_OF_ORDER, "; object 0: out of steps after 1\n", 3, "--steps", "1"),
+    *exact_steps("the later enqueue first", OVERLAPPING, 6, order(1, 0, 4), 0),
+    *exact_steps("a failed enqueue alone", FAILED, 0, order(), 0),
+    search("two queues", TWO_QUEUES, lines(certificate(0, 2, 0), certificate(1, 3, 1)), 0, "--steps", "3"),
+    search(
+        "two queues, with a step fewer",
+        TWO_QUEUES,
+        lines("; object 0: out of steps after 2", "; object 1: out of steps after 2"),
+        3,
+        "--steps",
+        "2",
+    ),
+    search("4,097 operations", TOO_MANY_TO_SEARCH, "; object 0: too large\n", 3),
+    *exact_steps("a mutex is passed on", MUTEX, 3, order(0, 3, 2), 0),
+    *exact_steps("a free mutex is released", RELEASE_OF_A_FREE_MUTEX, 0, "; object 0: impossible\n", 1),
+    *exact_steps("equal enqueues", EQUAL_ENQUEUES, 5, "; object 0: impossible\n", 1),
+    search("a malformed history", AFTER_INFO, "malformed history: H8 at map 2\n", 2),
+    search("empty text", "", "", 0),
+]
+
+# The orders of these are the only valid ones.
+FINDINGS = [
+    find("an enqueue and a dequeue", ENQUEUE_DEQUEUE, order(0, 2), 0),
+    find("the later enqueue first", OVERLAPPING, order(1, 0, 4), 0),
+    find("two queues", TWO_QUEUES, lines(certificate(0, 2, 0), certificate(1, 3, 1)), 0),
+    find("a mutex is passed on", MUTEX, order(0, 3, 2), 0),
+    find("no order", OUT_OF_ORDER, "; object 0: open\n", 3),
+    find("a free mutex is released", RELEASE_OF_A_FREE_MUTEX, "; object 0: open\n", 3),
+    find("a malformed history", AFTER_INFO, "malformed history: H8 at map 2\n", 2),
+]
+
+JUDGEMENTS = [
+    judge("empty text", "", yes(0, 0), 0),
+    judge("an enqueue and a dequeue", ENQUEUE_DEQUEUE, QUEUE_YES, 0),
+    judge("the later enqueue first", OVERLAPPING, THREE_YES, 0),
+    judge("two queues", TWO_QUEUES, QUEUES_YES, 0),
+    judge("a heap", HEAP, yes(7, 1, "heap: 1 objects, 7 operations"), 0),
+    judge("a register", REGISTER, yes(4, 1, "register: 1 objects, 4 operations"), 0),
+    judge("a map", MAP, yes(5, 1, "map: 1 objects, 5 operations"), 0),
+    judge("a mutex is passed on", MUTEX, yes(3, 1, "mutex: 1 objects, 3 operations"), 0),
+    judge("no order", OUT_OF_ORDER, "; object 0: impossible\n", 1),
+    judge("no order, and no step", OUT_OF_ORDER, "; object 0: out of steps after 0\n", 3, "--steps", "0"),
+    judge("a free mutex is released", RELEASE_OF_A_FREE_MUTEX, "; object 0: impossible\n", 1),
+    judge("equal enqueues", EQUAL_ENQUEUES, "; object 0: impossible\n", 1),
+    judge("a malformed history", AFTER_INFO, "malformed history: H8 at map 2\n", 2),
+]
+
+SIMULATIONS = [
+    simulate("one client serves another", SERVED_BY_ANOTHER, SERVED_LINES, 0),
+    simulate(
+        "a step that is not possible is counted",
+        lines(ONE_CLIENT, step(0, "post"), step(0, "end")),
+        lines("; refused steps: 1", "; yes: 0 operations, 0 objects"),
+        0,
+    ),
+    simulate("a client has not ended", lines(ONE_CLIENT), "client 0 has not ended\n", 2),
+    simulate(
+        "17 objects",
+        lines("{:kind :queue, :objects 17, :clients 1, :quota 1}"),
+        "malformed schedule: S1 at form 0\n",
+        2,
+    ),
+    simulate("no header", "", "malformed schedule: S1 at form 0\n", 2),
+    simulate("no such step", lines(ONE_CLIENT, step(0, "jump")), "malformed schedule: S2 at form 1\n", 2),
+    simulate("a leading zero", " 007", "malformed schedule: E3 at byte 1\n", 2),
+]
+
+ROWS = YES + NO + MALFORMED + SEARCHES + FINDINGS + JUDGEMENTS + SIMULATIONS
+# Of these histories every object has a valid order.
+SEARCHED = [ENQUEUE_DEQUEUE, OVERLAPPING, TWO_QUEUES, PENDING, HEAP, REGISTER, MAP]

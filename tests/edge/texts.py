@@ -1,0 +1,51 @@
+"""Writes histories, certificates and schedules in the formats that the program reads."""
+
+
+def value(it):
+    """A value as EDN: an integer, nil, false, or a vector of two integers."""
+    if it is None:
+        return "nil"
+    if it is False:
+        return "false"
+    return f"[{it[0]} {it[1]}]" if isinstance(it, tuple) else str(it)
+
+
+def operation_map(kind, process, f, of, on):
+    """One map of a history. The object is left out where it is None."""
+    end = "" if on is None else f", :object {on}"
+    return f"{{:process {process}, :type :{kind}, :f :{f}, :value {value(of)}{end}}}"
+
+
+def invoke(process, f, of=None, on=None):
+    return operation_map("invoke", process, f, of, on)
+
+
+def ok(process, f, of=None, on=None):
+    return operation_map("ok", process, f, of, on)
+
+
+def fail(process, f, of=None, on=None):
+    return operation_map("fail", process, f, of, on)
+
+
+def info(process, f, of=None, on=None):
+    return operation_map("info", process, f, of, on)
+
+
+def lines(*those):
+    """The lines of a text, each ended by a line feed."""
+    return "".join(f"{it}\n" for it in those)
+
+
+def one_process(*calls):
+    """A history of one process, in which each call (f, argument, reply) is completed at once."""
+    return lines(*[it for f, of, reply in calls for it in (invoke(0, f, of), ok(0, f, reply))])
+
+
+def certificate(on, *entries):
+    return f"{{:object {on}, :order [{' '.join(str(it) for it in entries)}]}}"
+
+
+def order(*entries):
+    """The certificate of object 0, as the whole text."""
+    return lines(certificate(0, *entries))
