@@ -45,7 +45,7 @@ pub record IsSuffix (from : ℕ) (calls part : List Call) : Type 0 where
   pub start : IsStart calls from at first
   pub named : part ≡ calls_from from at first calls
 
--- the calls of the part that a cut names; a cut names one part at most
+-- the calls of the part that a cut names
 abbrev pub Names : Cut → List Call → List Call → Type 0
 Names (From number) calls part = IsSuffix number calls part
 Names (Until number) calls part = part ≡ calls_before number calls

@@ -1,8 +1,8 @@
-//! Closure under projection, prefixes and suffixes: functions that do nothing, whose contracts are
-//! theorems.
+//! Closure under projection, prefixes, suffixes and cells, and the bound of a count: functions that
+//! do nothing, whose contracts are theorems.
 
 ghost use Rattle.std.specs.Prelude.{◌≡◌, ◌<◌, ◌≤◌, ◌+◌, ℕ, ℤ, Bool, List, Option, Some};
-ghost use Rattle.std.specs.Prelude.{All, AllPairs, Contains};
+ghost use Rattle.std.specs.Prelude.{All, AllPairs};
 ghost use Rattle.model.specs.declared.Kind.{Kind};
 ghost use Rattle.model.specs.declared.AnyOp.{AnyOp};
 ghost use Rattle.model.specs.declared.AnyReply.{AnyReply};

@@ -1,0 +1,61 @@
+//! The check of reasons on the objects of a history.
+
+ghost use Rattle.std.specs.Prelude.{◌≡◌, true, Any, IfOk, length};
+ghost use Rattle.model.specs.Linearizable.{IsLinearizable};
+ghost use Rattle.model.specs.Orders.{events};
+ghost use Rattle.events.specs.Events.{kind_at, denoted};
+ghost use Rattle.events.specs.Operations.{calls_of};
+ghost use Rattle.order_search.specs.Outcomes.{IsNoneValid};
+ghost use Rattle.refutation.specs.Refutations.{is_impossible};
+
+use crate::reason::Reason;
+use crate::refuting::{Refutation, refute};
+use events::{History, ObjectHistory, split};
+use locality::linearizable_has_orders;
+use std::alloc::{AllocError, Global};
+
+/// The answer to a reason on the one of these objects that has its number.
+fn refute_among(
+    alloc: Global,
+    objects: &[ObjectHistory],
+    reason: &Reason,
+    limit: u64,
+) -> Result<Refutation, AllocError>
+    ensures { IfOk result (λ r. is_impossible r ≡ true
+        → Any (λ o. IsNoneValid o.kind (calls_of o.ops)) objects.now) }
+{
+    for object in objects {
+        if object.object() == reason.object {
+            return refute(alloc, object, reason, limit);
+        }
+    }
+    Ok(Refutation::OtherObject)
+}
+
+/// The answers to reasons, one to each and in their order, each on the object with the reason's number, within this limit of
+/// steps of a search. A reason of an object that the history does not name is answered by `OtherObject`.
+///
+/// An error: the allocator refused memory.
+pub fn refute_all(
+    alloc: Global,
+    history: &History,
+    reasons: &[Reason],
+    limit: u64,
+) -> Result<Vec<Refutation>, AllocError>
+    ensures each { IfOk result (λ v. length v.items ≡ length reasons.now) }
+    // Where one is impossible the history is not linearizable.
+    ensures impossible { IfOk result (λ v. Any (λ r. is_impossible r ≡ true) v.items
+        → IsLinearizable (kind_at history.now) (events (denoted history.now)) → ⊥) }
+{
+    // These two do nothing. The first says that the events denote a well-formed history, the second that each object
+    // of a linearizable one has a valid order.
+    history.events();
+    linearizable_has_orders();
+    let objects = split(alloc, history)?;
+    let mut answers = Vec::new(alloc);
+    for reason in reasons {
+        let answer = refute_among(alloc, &objects, reason, limit)?;
+        answers.push(answer)?;
+    }
+    Ok(answers)
+}

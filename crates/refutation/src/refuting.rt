@@ -1,0 +1,115 @@
+//! The check of a reason.
+
+ghost use Rattle.std.specs.Prelude.{◌≡◌, ◌≢◌, true, List, None, IfOk, IfSome};
+ghost use Rattle.model.specs.Orders.{Call};
+ghost use Rattle.events.specs.Operations.{calls_of};
+ghost use Rattle.order_search.specs.Outcomes.{IsNoneValid};
+ghost use Rattle.projection.specs.Cuts.{NamesPart};
+ghost use Rattle.refutation.specs.Refutations.{is_impossible, IfNotShown, IfPart, IsDoubt};
+
+use crate::reason::{Evidence, Reason};
+use events::ObjectHistory;
+use order_search::{Attempt, Outcome, TryFirst, find_order};
+use projection::{Count, is_overdrawn, part_by};
+use std::alloc::{AllocError, Global};
+
+/// Why a part does not show that no order of the whole is valid.
+#[derive(Clone, Copy, Debug, PartialEq, Eq)]
+pub enum Doubt {
+    /// The part has a valid order.
+    Possible,
+    /// In the part the content was not taken away more often than it can have been there.
+    NotOverdrawn,
+    /// One more step of the search was wanted.
+    OutOfSteps,
+    /// The part has more than 4,096 operations that did not fail.
+    TooLarge,
+    /// The search was refused memory.
+    NoMemory,
+}
+
+/// What is answered of a reason.
+#[derive(Debug, Drop)]
+pub enum Refutation {
+    /// No order of the object's operations is valid, since none of this part is.
+    Impossible(ObjectHistory),
+    /// That is not shown by this part.
+    NotShown { part: ObjectHistory, doubt: Doubt },
+    /// One of the cuts names no closed part.
+    NoPart,
+    /// The reason is of another object.
+    OtherObject,
+}
+
+/// What the search answers of a part; `None`: no order of it is valid.
+fn doubt_of_search(alloc: Global, part: &ObjectHistory, limit: u64) -> Option<Doubt>
+    ensures shown { result ≡ None → IsNoneValid part.now.kind (calls_of part.now.ops) }
+    ensures doubt { IfSome result (IsDoubt Evidence.Search part.now) }
+{
+    let Attempt { outcome, .. } = find_order(alloc, part, TryFirst::LeastNumber, limit);
+    match outcome {
+        Outcome::Found(_) => Some(Doubt::Possible),
+        Outcome::Impossible => None,
+        Outcome::OutOfSteps => Some(Doubt::OutOfSteps),
+        Outcome::TooLarge => Some(Doubt::TooLarge),
+        Outcome::NoMemory => Some(Doubt::NoMemory),
+    }
+}
+
+/// What the count answers of a part; `None`: no order of it is valid.
+fn doubt_of_count(part: &ObjectHistory, count: Count) -> Option<Doubt>
+    ensures shown { result ≡ None → IsNoneValid part.now.kind (calls_of part.now.ops) }
+    ensures doubt { IfSome result (IsDoubt (Evidence.Counting count) part.now) }
+{
+    if is_overdrawn(part, count) {
+        return None;
+    }
+    Some(Doubt::NotOverdrawn)
+}
+
+/// What the evidence answers of a part; `None`: no order of it is valid.
+fn doubt_of(alloc: Global, part: &ObjectHistory, evidence: Evidence, limit: u64) -> Option<Doubt>
+    ensures shown { result ≡ None → IsNoneValid part.now.kind (calls_of part.now.ops) }
+    ensures doubt { IfSome result (IsDoubt evidence part.now) }
+{
+    match evidence {
+        Evidence::Search => doubt_of_search(alloc, part, limit),
+        Evidence::Counting(count) => doubt_of_count(part, count),
+    }
+}
+
+/// Whether the reason shows that no order of the object's operations is valid, within this limit of
+/// steps of a search. The part that the reason names is handed out.
+///
+/// An error: the allocator refused memory for the part.
+pub fn refute(
+    alloc: Global,
+    history: &ObjectHistory,
+    reason: &Reason,
+    limit: u64,
+) -> Result<Refutation, AllocError>
+    // Impossible is answered only where no order of the whole is valid.
+    ensures impossible { IfOk result (λ r. is_impossible r ≡ true
+        → IsNoneValid history.now.kind (calls_of history.now.ops)) }
+    // What is handed out is the part that the reason names.
+    ensures part { IfOk result (λ r. IfPart r (λ p.
+        NamesPart reason.now.cuts.items (calls_of history.now.ops) (calls_of p.ops))) }
+    ensures not_shown { IfOk result (λ r. IfNotShown r (IsDoubt reason.now.evidence)) }
+    ensures no_part { IfOk result (λ r. r ≡ Refutation.NoPart → (part : List Call)
+        → NamesPart reason.now.cuts.items (calls_of history.now.ops) part → ⊥) }
+    ensures other_object { IfOk result (λ r. r ≡ Refutation.OtherObject
+        → reason.now.object ≢ history.now.object) }
+    ensures own_object { IfOk result (λ r. r ≢ Refutation.OtherObject
+        → reason.now.object ≡ history.now.object) }
+{
+    if reason.object != history.object() {
+        return Ok(Refutation::OtherObject);
+    }
+    let Some(part) = part_by(alloc, history, &reason.cuts)? else {
+        return Ok(Refutation::NoPart);
+    };
+    match doubt_of(alloc, &part, reason.evidence, limit) {
+        None => Ok(Refutation::Impossible(part)),
+        Some(doubt) => Ok(Refutation::NotShown { part, doubt }),
+    }
+}
