@@ -168,6 +168,8 @@ def refused_memory(program, report):
             if case.words == ONE_CLIENT:
                 says = any(b":type :fail" in out for _, out, _ in found)
                 report.holds(f"memory: {case.name}: some call is refused, and fails in the history", says)
+                says = any(out.count(b":type :invoke") == 1 and b":process 0, :type :ok" not in out for _, out, _ in found)
+                report.holds(f"memory: {case.name}: a call whose pass gets no memory is outstanding", says)
             tried += len(numbers)
     return f"{tried} allocations refused"
 
