@@ -36,7 +36,7 @@ keeps_all : (v : View) → KeepsCalls v v
 keeps_all v = record { number = refl; kinds = refl; own = refl; done = refl; seen = λ x. starts_same (seen_of v x) }
 
 -- what is held, put back, missed, and known of the own row does not matter
-pub keeps_held : (v : View) {h : Held} {back : List PutBack} {missed : List ℕ} {ready : Bool} → KeepsCalls v (record v { held = h; back = back; missed = missed; ready = ready })
+pub keeps_held : (v : View) {h : Held} {back : List PutBack} {missed : List ℕ} {ready : Bool} {won : ℕ} → KeepsCalls v (record v { held = h; back = back; missed = missed; ready = ready; won = won })
 keeps_held v = record { number = refl; kinds = refl; own = refl; done = refl; seen = λ x. starts_same (seen_of v x) }
 
 pub goes_nowhere : (p : Holding) → Goes p p
@@ -66,7 +66,8 @@ pub only_learnt : (c : View) (x : ℕ) (p q : Holding) (v : View) (n : ℕ) → 
 only_learnt c x p q v n opened on is knows seen =
     let at : q.object ≡ x = ap (λ z. z.object) is ∙ on in
     let log : seen_of v x ≡ q.log = subst (λ y. seen_of v y ≡ q.log) at seen in
-    let held : q.knows ≡ after_win x p.log c = ap (λ z. z.knows) is ∙ opened in
+    let same : p.log ≡ seen_of v x = sym (log ∙ ap (λ z. z.log) is) in
+    let held : q.knows ≡ after_win x (seen_of v x) c = ap (λ z. z.knows) is ∙ (opened ∙ ap (λ l. after_win x l c) same) in
     knows ∙ λ i. after_release (at i) (sym log i) (held i)
 
 pub same_on : (p q r : Holding) → IsSameBut p q → IsSameBut q r → IsSameBut p r

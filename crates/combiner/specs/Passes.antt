@@ -3,7 +3,7 @@ use Rattle.std.specs.Prelude.{◌≡◌, ◌⊎◌, ℕ, true, List, ⊤}
 use Rattle.world.specs.World.{AnyEntry, AnyRequest, kind_at, StartsWith}
 use Rattle.desk_rule.specs.declared.board.Own.TheVariants as own
 use Rattle.desk_rule.specs.declared.board.View.{View}
-use Rattle.desk_rule.specs.Views.{seen_of, after_release}
+use Rattle.desk_rule.specs.Views.{seen_of, after_win, after_release}
 use Rattle.roster.specs.Calls.{WalkerSeen}
 use Rattle.publication.specs.Handles.{Holding}
 use Rattle.publication.specs.Calls.{CanDo}
@@ -53,9 +53,9 @@ abbrev pub IsTried : Holding → Tried → Type 0
 IsTried p tried.PutBack = (q : AnyRequest) → p.knows.own ≡ own.Waiting q → CanDo (kind_at p.knows.kinds p.object) p.log q.op → ⊥
 IsTried p t = (q : AnyRequest) → p.knows.own ≡ own.Waiting q → q.object ≡ p.object → p.knows.ready ≡ true
 
--- the client has seen a log of the object x, and nothing else of it has changed
+-- the client won the object x and put it back with this log, which it has seen, and nothing else of it has changed
 abbrev pub HasLearnt : ℕ → View → View → Type 0
-HasLearnt x v w = w ≡ after_release x (seen_of w x) v
+HasLearnt x v w = w ≡ after_release x (seen_of w x) (after_win x (seen_of w x) v)
 
 abbrev pub IfServed : Combined → Type 0 → Type 0
 IfServed (combined.Served pass count) P = P

@@ -63,9 +63,9 @@ held_log (held.Hand x l r q) = l
 held_log o = []
 
 -- the client itself
-seat_held : (kinds : List Kind) (w : World) (c x : ℕ) (h : Option ℕ) (v : View) (o : Held) (bs : List PutBack) → All (λ b. (w.stage b.row ≡ posted b.request) × (changed w.holder x h b.request.object ≡ Some c)) bs
-    → SeatOk kinds w c v → HeldOk (length kinds) (held_by w x h) c o → SeatOk kinds (held_by w x h) c (record v { held = o; back = bs })
-seat_held kinds w c x h v o bs in_rows ok now = record {
+seat_held : (kinds : List Kind) (w : World) (c x : ℕ) (h : Option ℕ) (v : View) (o : Held) (bs : List PutBack) (n : ℕ) → All (λ b. (w.stage b.row ≡ posted b.request) × (changed w.holder x h b.request.object ≡ Some c)) bs
+    → SeatOk kinds w c v → HeldOk (length kinds) (held_by w x h) c o → SeatOk kinds (held_by w x h) c (record v { held = o; back = bs; won = n })
+seat_held kinds w c x h v o bs n in_rows ok now = record {
   number = ok.number;
   small = ok.small;
   kinds_are = ok.kinds_are;
@@ -110,7 +110,7 @@ module _ {S O R : Type 0} (content : S → Content) (op_in : O → AnyOp) (reply
           tied = tied_lock content op_in reply_in kinds k.lists w x n (Some c) s.words s.homes maybe.none inside is (λ e. absurd (cc)) k.tied;
           leave = λ d e. (e, refl);
           others = λ d other. later_held w x d (Some c) (λ e. absurd (cc)) (λ e. other (sym (same_Some c d e)));
-          own = seat_held kinds w c x (Some c) m.0 (held.Pass x (w.log x)) m.0.back
+          own = seat_held kinds w c x (Some c) m.0 (held.Pass x (w.log x)) m.0.back (m.0.won + 1)
               (λ i d l. let b = ok.back i d l in (b.0, changed_all (λ y h. w.holder y ≡ Some c → h ≡ Some c) w.holder x (Some c) (λ _. refl) (λ y _ e. e) (get_or m.0.back i d).request.object b.1)) ok (
                 inside,
                 changed_here w.holder x (Some c),
@@ -147,7 +147,7 @@ module _ {S O R : Type 0} (content : S → Content) (op_in : O → AnyOp) (reply
           tied = tied_lock content op_in reply_in kinds k.lists w x 0 None s.words s.homes (some (slot.Core core)) inside refl (λ _. (core, refl, fits')) k.tied;
           leave = λ d e. (e, refl);
           others = λ d other. later_held w x d None (λ e. other (sym (same_Some c d (sym h.1 ∙ e)))) (λ e. absurd (cc));
-          own = subst (λ z. SeatOk kinds (held_by w x None) c (after_release x z m.0)) h.3 (seat_held kinds w c x None (after_meet x (w.log x) m.0) held.Free [] (All-nil (λ (b : PutBack). (w.stage b.row ≡ posted b.request) × (changed w.holder x None b.request.object ≡ Some c))) seat
+          own = subst (λ z. SeatOk kinds (held_by w x None) c (after_release x z m.0)) h.3 (seat_held kinds w c x None (after_meet x (w.log x) m.0) held.Free [] m.0.won (All-nil (λ (b : PutBack). (w.stage b.row ≡ posted b.request) × (changed w.holder x None b.request.object ≡ Some c))) seat
               (changed_all (λ y h'. h' ≢ Some c) w.holder x None (λ e. absurd (cc)) (λ y other e. other (h.4 y e))));
         }),
         λ l' pass'. let same = ap held_log (sym pass ∙ pass') in (

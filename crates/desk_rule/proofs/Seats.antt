@@ -96,8 +96,8 @@ pub record Alike (v v' : View) : Type 0 where
   pub lists : v'.lists ≡ v.lists
 
 -- a view in which none of these changed
-pub alike : {v : View} {kinds : List Kind} {done : List AnyDone} {own : Own} {ready : Bool} {seen : List (List AnyEntry)} {back : List PutBack} {missed : List ℕ} {held : Held} {ended : Bool} {retired still_there : List ℕ}
-    → Alike v (record v { kinds = kinds; done = done; own = own; ready = ready; seen = seen; back = back; missed = missed; held = held; ended = ended; retired = retired; still_there = still_there })
+pub alike : {v : View} {kinds : List Kind} {done : List AnyDone} {own : Own} {ready : Bool} {seen : List (List AnyEntry)} {back : List PutBack} {missed : List ℕ} {won : ℕ} {held : Held} {ended : Bool} {retired still_there : List ℕ}
+    → Alike v (record v { kinds = kinds; done = done; own = own; ready = ready; seen = seen; back = back; missed = missed; won = won; held = held; ended = ended; retired = retired; still_there = still_there })
 alike = record { role = refl; number = refl; made = refl; received = refl; left = refl; lists = refl }
 
 -- A client that was told more, missed more, and knows more of its row and of the ends of others. What it was told, has

@@ -23,7 +23,7 @@ clock_place = 80
 
 -- a client that has not come yet
 abbrev pub new_client : List Kind → List TableId → ℕ → View
-new_client kinds lists c = record { role = role.Client; number = c; made = 0; kinds = kinds; lists = lists; done = []; own = own.Absent; ready = false; seen = replicate 16 []; received = []; back = []; missed = []; held = held.Free; ended = false; left = []; retired = []; still_there = [] }
+new_client kinds lists c = record { role = role.Client; number = c; made = 0; kinds = kinds; lists = lists; done = []; own = own.Absent; ready = false; seen = replicate 16 []; received = []; back = []; missed = []; won = 0; held = held.Free; ended = false; left = []; retired = []; still_there = [] }
 
 -- the first view is no client's, and makes the clients
 abbrev pub maker_of : List Kind → List TableId → ℕ → View
@@ -94,9 +94,9 @@ after_miss i v = record v { missed = v.missed ++ i ∷ [] }
 abbrev pub after_row_miss : ℕ → ℕ → View → View
 after_row_miss i x v = record v { missed = v.missed ++ i ∷ []; ready = v.ready || ((i == row_place v.number) && waits_on x v.own) }
 
--- the object x is held, and this is its log
+-- the object x was won once more by the client, which holds it, and this is its log
 abbrev pub after_win : ℕ → List AnyEntry → View → View
-after_win x l v = record v { held = held.Pass x l }
+after_win x l v = record v { held = held.Pass x l; won = v.won + 1 }
 
 -- the request q of the row r is in hand
 abbrev pub after_pick : ℕ → List AnyEntry → ℕ → AnyRequest → View → View

@@ -109,6 +109,8 @@ pub struct View {
     pub back: LinkedList<PutBack>,
     /// The words at which a try missed: a load found nothing to do there, or an exchange found another value.
     pub missed: LinkedList<u64>,
+    /// How many times the client won an object.
+    pub won: u64,
     pub held: Held,
     pub ended: bool,
     /// What clients that have ended said of it.

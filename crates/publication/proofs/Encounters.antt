@@ -29,6 +29,7 @@ met x one other d e s t a b a' b' l h i kinds p q f g there there' legal first s
   log = l;
   first = f ∙ λ k. after_meet x l (record (sym p k) { received = sym (ap (λ z. z.received) f) k });
   second = g ∙ λ k. after_meet x l (record (sym q k) { received = sym (ap (λ z. z.received) g) k });
+  no_pass = (ap (λ z. z.won) f ∙ ap (λ z. z.won) (sym p), ap (λ z. z.won) g ∙ ap (λ z. z.won) (sym q));
   seen_first = ap (λ z. seen_of z x) f ∙ get_or-set_same a.seen x l [] there;
   seen_second = ap (λ z. seen_of z x) g ∙ get_or-set_same b.seen x l [] there';
   legal = subst (λ z. IsLegal (kind_at z x) l) (sym kinds) legal;

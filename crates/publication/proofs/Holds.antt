@@ -32,8 +32,8 @@ use Rattle.publication.specs.Handles.{Agrees, log_of, IsClient, IsPass, IsHand}
 
 module _ {O R : Type 0} {op_in : O → AnyOp} {reply_in : R → AnyReply} {number calls quota : ℕ} {outstanding : Bool} {j : Journal O R} {v : View} where
   -- the client has seen other lists
-  agrees_seen : {seen received : List (List AnyEntry)} {h : Held} {back : List PutBack} {left : List Leaving} {missed retired still_there : List ℕ} {ready : Bool} → length seen ≡ 16 → ((x : ℕ) → IsLegal (kind_at v.kinds x) (get_or seen x [])) → ((x : ℕ) → IsAccount x v (get_or seen x [])) → Agrees op_in reply_in number calls quota outstanding j v
-      → Agrees op_in reply_in number calls quota outstanding j (record v { seen = seen; received = received; held = h; back = back; left = left; missed = missed; retired = retired; still_there = still_there; ready = ready })
+  agrees_seen : {seen received : List (List AnyEntry)} {h : Held} {back : List PutBack} {left : List Leaving} {missed retired still_there : List ℕ} {won : ℕ} {ready : Bool} → length seen ≡ 16 → ((x : ℕ) → IsLegal (kind_at v.kinds x) (get_or seen x [])) → ((x : ℕ) → IsAccount x v (get_or seen x [])) → Agrees op_in reply_in number calls quota outstanding j v
+      → Agrees op_in reply_in number calls quota outstanding j (record v { seen = seen; received = received; held = h; back = back; left = left; missed = missed; won = won; retired = retired; still_there = still_there; ready = ready })
   agrees_seen wide legal accounts k = record {
     client_is = k.client_is;
     number_is = k.number_is;
@@ -51,9 +51,9 @@ module _ {O R : Type 0} {op_in : O → AnyOp} {reply_in : R → AnyReply} {numbe
     accounts = accounts;
   }
 
-  -- what a client was told, holds, has put back, has missed, and knows of ends and of its row does not matter
-  pub agrees_light : {received : List (List AnyEntry)} {h : Held} {back : List PutBack} {left : List Leaving} {missed retired still_there : List ℕ} {ready : Bool} → Agrees op_in reply_in number calls quota outstanding j v
-      → Agrees op_in reply_in number calls quota outstanding j (record v { received = received; held = h; back = back; left = left; missed = missed; retired = retired; still_there = still_there; ready = ready })
+  -- what a client was told, holds, has put back, has missed, how often it won, and what it knows of ends and of its row does not matter
+  pub agrees_light : {received : List (List AnyEntry)} {h : Held} {back : List PutBack} {left : List Leaving} {missed retired still_there : List ℕ} {won : ℕ} {ready : Bool} → Agrees op_in reply_in number calls quota outstanding j v
+      → Agrees op_in reply_in number calls quota outstanding j (record v { received = received; held = h; back = back; left = left; missed = missed; won = won; retired = retired; still_there = still_there; ready = ready })
   agrees_light k = agrees_seen k.wide k.legal k.accounts k
 
   -- the client sees the list l of x

@@ -140,11 +140,13 @@ pub record IsPutBack (h : Handling) (p : Holding) : Type 0 where
   pub knows : p.knows ≡ after_put_back h.object h.log h.row h.request h.knows
 
 -- Both have seen one legal log of the object x, which begins with what each had seen, and nothing else of theirs has
--- changed but what they were told.
+-- changed but what they were told. So no word has changed: of the steps that change one only those of a pass, from win to
+-- release, leave no other trace in what a client knows, and neither began one.
 pub record Met (x : ℕ) (one other one' other' : Known) : Type 0 where
   pub log : List AnyEntry
   pub first : one'.knows ≡ after_meet x log (record one.knows { received = one'.knows.received })
   pub second : other'.knows ≡ after_meet x log (record other.knows { received = other'.knows.received })
+  pub no_pass : (one'.knows.won ≡ one.knows.won) × (other'.knows.won ≡ other.knows.won)
   pub seen_first : seen_of one'.knows x ≡ log
   pub seen_second : seen_of other'.knows x ≡ log
   pub legal : IsLegal (kind_at one.desk.kinds x) log
