@@ -9,7 +9,7 @@ use Rattle.clap.proofs.WalkLemmas.{first_value-rows}
 use Rattle.std.specs.String.{string_bytes}
 use Rattle.std.specs.Str.{bytes_eq}
 use Rattle.std.proofs.lemmas.Slice.Eq.{bytes_eq-Decides}
-use Rattle.kinds.specs.declared.Kinds.TheVariants.{One}
+use Rattle.seq_objects.specs.declared.kinds.Kinds.TheVariants.{One}
 use Rattle.model.specs.declared.Kind.TheVariants.{Queue}
 use Rattle.command_line.specs.declared.asking.RunOptions.{RunOptions}
 use Rattle.command_line.specs.declared.asking.Line.{Line}

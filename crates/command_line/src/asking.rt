@@ -3,8 +3,8 @@
 ghost use Rattle.std.specs.Prelude.{◌≡◌, ◌<◌, ◌≤◌};
 ghost use Rattle.command_line.specs.declared.asking.LineFault.TheVariants.{NoMemory};
 
-use kinds::Kinds;
 use order_search::TryFirst;
+use seq_objects::Kinds;
 use std::alloc::{AllocError, AllocFailed};
 use thiserror::Error as ErrorText;
 

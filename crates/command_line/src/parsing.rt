@@ -7,7 +7,7 @@ ghost use Rattle.clap.specs.declared.builder.command.Command.TheViews.{out-Comma
 ghost use Rattle.clap.specs.Walk.{first_of};
 ghost use Rattle.std.specs.String.{string_bytes};
 ghost use Rattle.order_search.specs.declared.trials.TryFirst.{TryFirst};
-ghost use Rattle.kinds.specs.declared.Kinds.{Kinds};
+ghost use Rattle.seq_objects.specs.declared.kinds.Kinds.{Kinds};
 ghost use Rattle.command_line.specs.declared.asking.RunOptions.{RunOptions};
 ghost use Rattle.command_line.specs.Words as spec;
 
@@ -15,10 +15,9 @@ use crate::asking::{Line, LineFault, RunOptions};
 use clap::builder::ValueParser;
 use clap::error::ErrorKind;
 use clap::{Arg, ArgMatches, Command, Error, value_parser};
-use kinds::Kinds;
 use model::Kind;
 use order_search::TryFirst;
-use schedule::kinds_named;
+use seq_objects::{Kinds, kinds_named};
 use std::alloc::{AllocError, Global};
 use std::convert::AsStr;
 

@@ -2,7 +2,7 @@
 use Rattle.std.specs.Prelude.{◌≡◌, ◌<◌, ◌⊎◌, ⊤, ℕ, List, [], ◌∷◌, true, ◌++◌, codes, map}
 use Rattle.std.specs.List.{range_with_len}
 use Rattle.model.specs.declared.Kind.{Kind}
-use Rattle.kinds.specs.Mixing.{kinds_of}
+use Rattle.seq_objects.specs.Kinds.{kinds_of}
 use Rattle.workload.specs.Workloads.{Work}
 use Rattle.workload.specs.Drawing.{client_calls}
 use Rattle.clients.specs.Made.{Ran}

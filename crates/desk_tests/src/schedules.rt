@@ -4,10 +4,10 @@ ghost use Rattle.std.specs.Prelude.{◌<◌, ◌≤◌};
 ghost use Rattle.schedule.specs.Schedules.{IsWithin};
 
 use edn::{EdnFault, FaultKind};
-use kinds::Kinds;
 use machine::Step;
 use model::{AnyOp, Kind};
 use schedule::{Header, Schedule, ScheduleFault, ScheduleFaultKind};
+use seq_objects::Kinds;
 use simulation::{PlayFault, Played, SimulationFault, machine_of, play, simulate};
 use std::alloc::{AllocError, Global};
 use std::process::Abort;

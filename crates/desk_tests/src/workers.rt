@@ -3,10 +3,9 @@
 ghost use Rattle.std.specs.Prelude.{◌<◌, ◌≤◌};
 
 use clients::run_workers;
-use kinds::Kinds;
 use model::{AnyOp, AnyReply, Kind};
 use publication::{Answer, JournalEvent, LogEntry, Record};
-use seq_objects::{AnyObject, Gate, Open};
+use seq_objects::{AnyObject, Gate, Kinds, Open};
 use std::process::Abort;
 use std::sync::Wait;
 use std::sync::atomic::{AtomicU64, Ordering};

@@ -2,7 +2,6 @@
 use Rattle.std.specs.Prelude.{◌≡◌, ℕ, ◌<◌, ◌≤◌, nat_le, ◌&&◌, List, ◌∷◌, Option, Some, None, codes, map, option_map, option_and_then, if◌then◌else◌}
 use Rattle.edn.specs.Datum.{Datum, atom, vector, dictionary, Entries}
 use Rattle.model.specs.declared.AnyOp.{AnyOp}
-use Rattle.model.specs.declared.Kind.TheVariants.{Queue, Stack, Heap, Register, Map, Mutex}
 use Rattle.seq_objects.specs.Values.{op_with}
 use Rattle.fields.specs.Fields.{same_bytes, value_at, natural_in, keyword_in, value_in}
 use Rattle.history.specs.Maps.{plain_value}
@@ -10,8 +9,8 @@ use Rattle.history.specs.Names.{function_named}
 use Rattle.machine.specs.declared.step.Step.{Step}
 use Rattle.machine.specs.declared.step.Step.TheVariants.{Draw, Post, Win, Pick, Answer, PutBack, Take, Release, End}
 use Rattle.schedule.specs.declared.header.Header.{Header}
-use Rattle.kinds.specs.declared.Kinds.{Kinds}
-use Rattle.kinds.specs.declared.Kinds.TheVariants.{One, Mixed}
+use Rattle.seq_objects.specs.declared.kinds.Kinds.{Kinds}
+use Rattle.seq_objects.specs.Kinds.{kinds_named}
 
 -- a number from low to high
 abbrev pub number_within : ℕ → ℕ → Option ℕ → Option ℕ
@@ -23,17 +22,6 @@ abbrev pub number_at : List ℕ → ℕ → ℕ → Entries → Option ℕ
 number_at key low high es = number_within low high (natural_in (value_at key es))
 
 -- ---- the header
-
-abbrev pub kinds_named : List ℕ → Option Kinds
-kinds_named k =
-    if same_bytes k (codes "queue") then Some (One Queue)
-    else if same_bytes k (codes "stack") then Some (One Stack)
-    else if same_bytes k (codes "heap") then Some (One Heap)
-    else if same_bytes k (codes "register") then Some (One Register)
-    else if same_bytes k (codes "map") then Some (One Map)
-    else if same_bytes k (codes "mutex") then Some (One Mutex)
-    else if same_bytes k (codes "mixed") then Some Mixed
-    else None
 
 abbrev pub header_with : Option Kinds → Option ℕ → Option ℕ → Option ℕ → Option Header
 header_with (Some k) (Some n) (Some c) (Some q) = Some (record { kinds = k; objects = n; clients = c; quota = q })

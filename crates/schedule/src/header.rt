@@ -7,9 +7,8 @@ ghost use Rattle.schedule.specs.Schedules as spec;
 ghost use Rattle.schedule.specs.Schedules.{IsWithin};
 
 use edn::{Form, Name};
-use fields::{is_same, keyword, natural, value_at};
-use kinds::Kinds;
-use model::Kind;
+use fields::{keyword, natural, value_at};
+use seq_objects::{Kinds, kinds_named};
 
 /// What a machine is to be made of.
 #[derive(Clone, Copy, Debug, PartialEq, Eq)]
@@ -21,29 +20,6 @@ pub struct Header {
     pub clients: u32,
     /// How many calls each client may make, at most 10,000.
     pub quota: u32,
-}
-
-/// The kinds with this name, as the header of a schedule has it: that of a kind, or `mixed`.
-pub fn kinds_named(name: &[u8]) -> Option<Kinds>
-    ensures { result ≡ spec.kinds_named name.now }
-{
-    if is_same(name, b"queue") {
-        Some(Kinds::One(Kind::Queue))
-    } else if is_same(name, b"stack") {
-        Some(Kinds::One(Kind::Stack))
-    } else if is_same(name, b"heap") {
-        Some(Kinds::One(Kind::Heap))
-    } else if is_same(name, b"register") {
-        Some(Kinds::One(Kind::Register))
-    } else if is_same(name, b"map") {
-        Some(Kinds::One(Kind::Map))
-    } else if is_same(name, b"mutex") {
-        Some(Kinds::One(Kind::Mutex))
-    } else if is_same(name, b"mixed") {
-        Some(Kinds::Mixed)
-    } else {
-        None
-    }
 }
 
 /// The number, where it is within these bounds.

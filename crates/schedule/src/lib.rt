@@ -7,5 +7,5 @@ mod reader;
 mod step;
 
 pub use fault::{ScheduleFault, ScheduleFaultKind};
-pub use header::{Header, kinds_named};
+pub use header::Header;
 pub use reader::{Schedule, read_schedule};

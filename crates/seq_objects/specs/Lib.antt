@@ -1,5 +1,6 @@
 pub mod AnyContent
 pub mod Functions
+pub mod Kinds
 pub mod Operations
 pub mod Values
 pub use Rattle.model.specs.Objects

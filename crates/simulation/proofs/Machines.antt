@@ -19,9 +19,9 @@ use Rattle.machine.specs.Runs.{start_of, TakesPossible, IsWorldOfRun}
 use Rattle.machine.specs.Steps.{IsLike, HasEnded, steps_in}
 use Rattle.schedule.specs.Schedules.{AnyStep}
 use Rattle.schedule.specs.declared.header.Header.{Header}
-use Rattle.kinds.specs.declared.Kinds.{Kinds}
-use Rattle.kinds.specs.Mixing.{kind_in}
-use Rattle.kinds.specs.Mixing as mixing
+use Rattle.seq_objects.specs.declared.kinds.Kinds.{Kinds}
+use Rattle.seq_objects.specs.Kinds.{kind_in}
+use Rattle.seq_objects.specs.Kinds as mixing
 use Rattle.simulation.specs.Plays.{kinds_of, IsPlayed, Takes}
 use Rattle.simulation.specs.Simulations.{IsGoingOn}
 

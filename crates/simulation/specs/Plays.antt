@@ -3,7 +3,7 @@ use Rattle.std.specs.Prelude.{◌≡◌, ℕ, ◌<◌, true, List}
 use Rattle.model.specs.declared.AnyOp.{AnyOp}
 use Rattle.model.specs.declared.AnyReply.{AnyReply}
 use Rattle.model.specs.declared.Kind.{Kind}
-use Rattle.kinds.specs.Mixing as mixing
+use Rattle.seq_objects.specs.Kinds as mixing
 use Rattle.world.specs.World.{World, journal_in}
 use Rattle.world.specs.Records.{IsSoundRecord}
 use Rattle.recorder.specs.Records.{Recorded}

@@ -6,10 +6,10 @@ use Rattle.model.specs.declared.Kind.TheVariants.{Queue}
 use Rattle.model.specs.declared.AnyOp.{AnyOp}
 use Rattle.model.specs.declared.AnyOp.TheVariants.{Acquire, Release}
 use Rattle.model.specs.Objects.{kind_of}
-use Rattle.kinds.specs.declared.Kinds.{Kinds}
+use Rattle.seq_objects.specs.declared.kinds.Kinds.{Kinds}
 use Rattle.workload.specs.declared.draws.Draws.{Draws}
 use Rattle.workload.specs.Workloads.{Call, IsCall}
-use Rattle.kinds.specs.Mixing.{kind_in, kinds_of}
+use Rattle.seq_objects.specs.Kinds.{kind_in, kinds_of}
 use Rattle.workload.specs.Drawing.{draws_from, op_for, calls_from, mutex_calls_from}
 
 -- more: the calls so far; all: the calls from the stream on

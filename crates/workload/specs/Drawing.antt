@@ -12,9 +12,9 @@ use Rattle.model.specs.declared.Kind.{Kind}
 use Rattle.model.specs.declared.Kind.TheVariants.{Queue, Stack, Heap, Register, Map, Mutex}
 use Rattle.model.specs.declared.AnyOp.{AnyOp}
 use Rattle.model.specs.declared.AnyOp.TheVariants.{Enqueue, Dequeue, Push, Pop, Insert, ExtractMin, Write, Read, Cas, Put, Get, Del, Acquire, Release}
-use Rattle.kinds.specs.declared.Kinds.{Kinds}
-use Rattle.kinds.specs.declared.Kinds.TheVariants.{One}
-use Rattle.kinds.specs.Mixing.{kind_in}
+use Rattle.seq_objects.specs.declared.kinds.Kinds.{Kinds}
+use Rattle.seq_objects.specs.declared.kinds.Kinds.TheVariants.{One}
+use Rattle.seq_objects.specs.Kinds.{kind_in}
 use Rattle.workload.specs.declared.draws.Draws.{Draws}
 use Rattle.workload.specs.Workloads.{Call}
 

@@ -1,14 +1,14 @@
 //! The calls of one client.
 
 ghost use Rattle.std.specs.Prelude.{◌≡◌, ◌<◌, ◌≤◌, ◌*◌, length, All, IfOk};
-ghost use Rattle.kinds.specs.Mixing.{kinds_of};
+ghost use Rattle.seq_objects.specs.Kinds.{kinds_of};
 ghost use Rattle.workload.specs.Drawing.{calls_from, mutex_calls_from, client_calls, stream_at};
 ghost use Rattle.workload.specs.Workloads.{IsCall};
 
 use crate::draws::{draw, operation};
-use kinds::Kinds;
 use model::{AnyOp, Kind};
 use rand_pcg::Lcg64Xsh32;
+use seq_objects::Kinds;
 use std::alloc::{AllocError, Global};
 
 /// So many calls, each drawn.

@@ -2,13 +2,13 @@
 
 ghost use Rattle.std.specs.Prelude.{◌≡◌, ◌<◌, ◌≤◌, map, IfOk};
 ghost use Rattle.std.specs.List.{range_with_len};
-ghost use Rattle.kinds.specs.Mixing.{kinds_of};
+ghost use Rattle.seq_objects.specs.Kinds.{kinds_of};
 ghost use Rattle.workload.specs.Drawing.{client_calls};
 
 use crate::calls::calls_of;
 use crate::work::Workload;
-use kinds::Kinds;
 use model::Kind;
+use seq_objects::Kinds;
 use std::alloc::{AllocError, Global};
 
 /// The kinds of so many objects.

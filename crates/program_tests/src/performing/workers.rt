@@ -2,8 +2,8 @@
 
 use super::{checking, performed};
 use commands::{Line, RunOptions};
-use kinds::Kinds;
 use model::{AnyOp, Kind};
+use seq_objects::Kinds;
 use std::alloc::{AllocError, Global};
 use std::process::Abort;
 use std::sync::Wait;

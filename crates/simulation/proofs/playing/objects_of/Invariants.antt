@@ -1,7 +1,7 @@
 use Rattle.std.proofs.Common.{◌≡◌, map, All}
 use Rattle.model.specs.Objects.{empty, kind_with}
 use Rattle.seq_objects.specs.AnyContent.{content_of}
-use Rattle.kinds.specs.Mixing.{kinds_of}
+use Rattle.seq_objects.specs.Kinds.{kinds_of}
 use Rattle.simulation.proofs.playing.objects_of.Given as goal
 
 -- the objects so far

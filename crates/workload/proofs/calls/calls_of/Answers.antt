@@ -1,8 +1,8 @@
 use Rattle.std.proofs.Common.{◌≡◌, All, IfOk, rules, sym, subst}
 use Rattle.model.specs.declared.Kind.TheVariants.{Mutex}
-use Rattle.kinds.specs.declared.Kinds.TheVariants.{One}
-use Rattle.kinds.specs.declared.Kinds.{Kinds}
-use Rattle.kinds.specs.Mixing.{kinds_of}
+use Rattle.seq_objects.specs.declared.kinds.Kinds.TheVariants.{One}
+use Rattle.seq_objects.specs.declared.kinds.Kinds.{Kinds}
+use Rattle.seq_objects.specs.Kinds.{kinds_of}
 use Rattle.workload.specs.Workloads.{IsCall}
 use Rattle.workload.proofs.calls.calls_of.Goals as goal
 

@@ -1,6 +1,6 @@
 use Rattle.std.proofs.Common.{◌≡◌, ◌-◌, ◌+◌, ◌∷◌, [], ◌++◌, All, length, ap, sym, ◌∙◌, subst, length-append, arith}
 use Rattle.std.proofs.lemmas.List.Elements.{All-push}
-use Rattle.kinds.specs.Mixing.{kind_in, kinds_of}
+use Rattle.seq_objects.specs.Kinds.{kind_in, kinds_of}
 use Rattle.workload.specs.Drawing.{op_for, calls_from, stream_at}
 use Rattle.workload.specs.Workloads.{IsCall}
 use Rattle.workload.proofs.Streams.{drawn_more, is_call}

@@ -1,5 +1,5 @@
 use Rattle.std.proofs.Common.{◌≡◌, ◌-◌, ◌++◌, All, length}
-use Rattle.kinds.specs.Mixing.{kinds_of}
+use Rattle.seq_objects.specs.Kinds.{kinds_of}
 use Rattle.workload.specs.Drawing.{calls_from, stream_at}
 use Rattle.workload.specs.Workloads.{IsCall}
 use Rattle.workload.proofs.calls.draw_calls.Given as goal

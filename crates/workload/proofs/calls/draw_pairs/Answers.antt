@@ -2,8 +2,8 @@ use Rattle.std.proofs.Common.{◌-◌, ◌+◌, ◌∷◌, [], ◌++◌, All, le
 use Rattle.std.proofs.lemmas.List.Elements.{All-push}
 use Rattle.model.specs.declared.Kind.TheVariants.{Mutex}
 use Rattle.model.specs.declared.AnyOp.TheVariants.{Acquire, Release}
-use Rattle.kinds.specs.declared.Kinds.TheVariants.{One}
-use Rattle.kinds.specs.Mixing.{kinds_of}
+use Rattle.seq_objects.specs.declared.kinds.Kinds.TheVariants.{One}
+use Rattle.seq_objects.specs.Kinds.{kinds_of}
 use Rattle.workload.specs.Drawing.{mutex_calls_from, stream_at}
 use Rattle.workload.specs.Workloads.{Call, IsCall}
 use Rattle.workload.proofs.Streams.{pair_more, is_call}

@@ -1,8 +1,8 @@
 use Rattle.std.proofs.Common.{◌≡◌, ◌-◌, ◌++◌, ◌*◌, All, length}
-use Rattle.kinds.specs.Mixing.{kinds_of}
+use Rattle.seq_objects.specs.Kinds.{kinds_of}
 use Rattle.workload.specs.Drawing.{mutex_calls_from, stream_at}
 use Rattle.model.specs.declared.Kind.TheVariants.{Mutex}
-use Rattle.kinds.specs.declared.Kinds.TheVariants.{One}
+use Rattle.seq_objects.specs.declared.kinds.Kinds.TheVariants.{One}
 use Rattle.workload.specs.Workloads.{IsCall}
 use Rattle.workload.proofs.calls.draw_pairs.Given as goal
 

@@ -1,6 +1,6 @@
 use Rattle.std.proofs.Common.{sym, ◌∷◌, [], ◌++◌, ◌∙◌, arith}
 use Rattle.std.proofs.lemmas.List.FromFn.{map-range_with_len_more}
-use Rattle.kinds.specs.Mixing.{kind_in}
+use Rattle.seq_objects.specs.Kinds.{kind_in}
 use Rattle.workload.proofs.drawn.kinds_for.Goals as goal
 
 pub loop-object-preserved : goal.loop-object-preserved

@@ -1,5 +1,5 @@
 use Rattle.std.proofs.Common.{◌≡◌}
-use Rattle.kinds.specs.Mixing.{kinds_of}
+use Rattle.seq_objects.specs.Kinds.{kinds_of}
 use Rattle.workload.proofs.drawn.kinds_for.Given as goal
 
 abbrev pub invariant-loop-object : goal.invariant-loop-object

@@ -4,7 +4,7 @@ use Rattle.std.proofs.lemmas.List.Elements.{All-push}
 use Rattle.std.proofs.lemmas.List.FromFn.{map-range_with_len_more, length-map-range_with_len}
 use Rattle.std.specs.List.{range_with_len}
 use Rattle.workload.specs.Workloads.{IsCall, IsWorkload}
-use Rattle.kinds.specs.Mixing.{kind_in, kinds_of}
+use Rattle.seq_objects.specs.Kinds.{kind_in, kinds_of}
 use Rattle.workload.specs.Drawing.{client_calls}
 use Rattle.workload.proofs.drawn.workload.Goals as goal
 

@@ -1,7 +1,7 @@
 use Rattle.std.proofs.Common.{◌≡◌, ◌<◌, All, length, map}
 use Rattle.std.specs.List.{range_with_len}
 use Rattle.workload.specs.Workloads.{IsCall}
-use Rattle.kinds.specs.Mixing.{kinds_of}
+use Rattle.seq_objects.specs.Kinds.{kinds_of}
 use Rattle.workload.specs.Drawing.{client_calls}
 use Rattle.workload.proofs.drawn.workload.Given as goal
 

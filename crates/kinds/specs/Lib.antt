@@ -1,2 +1,0 @@
-pub mod Mixing
-pub use Rattle.model.specs.Objects
