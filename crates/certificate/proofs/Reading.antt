@@ -7,11 +7,11 @@ use Rattle.std.proofs.lemmas.List.{drop_more, take_more, take-append-drop, lengt
 use Rattle.std.proofs.Math.ListN.{get_or-append}
 use Rattle.std.proofs.Math.Seq.{get_or-append_seam}
 use Rattle.std.proofs.lemmas.List.Quantifiers.{all_pairs_push}
-use Rattle.edn.specs.Briefs.{integers_in}
+use Rattle.edn.specs.Truncation.{integers_in}
 use Rattle.edn.specs.Datum.{Datum, dictionary, Entries, items_of}
 use Rattle.edn.specs.View.{view, views}
 use Rattle.edn.specs.declared.form.Form.{Form}
-use Rattle.fields.specs.Fields.{value_at, natural_in, object_in}
+use Rattle.edn_fields.specs.Fields.{value_at, natural_in, object_in}
 use Rattle.certificate.specs.Denotes.{Reading, order_in, reading_with, certificate_of, reading_of, AreDistinct, Denotes}
 use Rattle.certificate.specs.Faults.{number_of, IsFault, IsFaultless, IsFirstFault, IsSoundAt}
 use Rattle.certificate.specs.Inside.{IsFaultAmong, AreRead}

@@ -14,7 +14,7 @@ use Rattle.certificate.specs.Faults.{IsSoundAt}
 use Rattle.certificate.specs.Inside.{IsFaultAmong, AreRead}
 use Rattle.certificate.specs.Texts.{IsFoundIn, IsReadOrFaulty, IsReading}
 use Rattle.certificate.proofs.Reading.{no_fault, fault_here, only_fault, nothing_here}
-use Rattle.fields.proofs.FirstFaults.{first_more}
+use Rattle.edn_fields.proofs.FirstFaults.{first_more}
 
 -- more forms behind those that were looked at
 sound_more : (ds : List Datum) (d : Datum) (n : ℕ) → IsSoundAt ds n → IsSoundAt (ds ++ d ∷ []) n

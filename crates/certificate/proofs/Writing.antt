@@ -6,7 +6,7 @@ use Rattle.std.specs.List.{AllByRecursion}
 use Rattle.std.proofs.lemmas.List.{drop_more, take_more, append-nil}
 use Rattle.std.proofs.lemmas.Bool.{le-leb}
 use Rattle.edn.specs.Bytes.{is_name}
-use Rattle.edn.specs.Briefs.{integers_in}
+use Rattle.edn.specs.Truncation.{integers_in}
 use Rattle.edn.specs.Datum.{Datum, integer, atom, vector, dictionary, no_entries, entry, items_of, Fits, ItemsFit, max_open}
 use Rattle.edn.specs.Spells.{Spells}
 use Rattle.edn.specs.Text.{between, IsInt64, InProfile, ItemsInProfile, text_of, items_text}

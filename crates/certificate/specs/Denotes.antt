@@ -1,8 +1,8 @@
 -- The certificates that the forms of a text denote.
 use Rattle.std.specs.Prelude.{◌≡◌, ◌≢◌, ℕ, ℤ, List, Option, Some, None, option_and_then, map, codes, AllPairs}
-use Rattle.edn.specs.Briefs.{row_of}
+use Rattle.edn.specs.Truncation.{integer_vector_of}
 use Rattle.edn.specs.Datum.{Datum, atom, vector, dictionary}
-use Rattle.fields.specs.Fields.{value_at, natural_in, object_in}
+use Rattle.edn_fields.specs.Fields.{value_at, natural_in, object_in}
 use Rattle.certificate.specs.declared.Certificate.{Certificate}
 
 -- what a certificate says: for an object an order of operations, by their numbers
@@ -12,7 +12,7 @@ pub record Reading : Type 0 where
 
 -- a vector of integers
 abbrev pub order_in : Option Datum → Option (List ℤ)
-order_in value = option_and_then row_of value
+order_in value = option_and_then integer_vector_of value
 
 abbrev pub reading_with : Option ℕ → Option (List ℤ) → Option Reading
 reading_with (Some x) (Some zs) = Some (record { object = x; order = zs })

@@ -4,7 +4,7 @@ use Rattle.std.specs.Fmt.{signed_decimal}
 use Rattle.edn.specs.Datum.{Datum}
 use Rattle.edn.specs.Spells.{Spells}
 use Rattle.edn.specs.Text.{between}
-use Rattle.fields.specs.Fields.{max_object}
+use Rattle.edn_fields.specs.Fields.{max_object}
 use Rattle.certificate.specs.Denotes.{Denotes}
 use Rattle.certificate.specs.declared.Certificate.{Certificate}
 

@@ -3,7 +3,7 @@
 ghost use Rattle.std.specs.Prelude.{◌≡◌, ◌≢◌, ◌==◌, if◌then◌else◌, ℕ, List, Some, None, true, false, is_some, IfOk, IfErr, IfSome, IfNone, All, option_map};
 ghost use Rattle.std.specs.Ordering.{nat_cmp};
 ghost use Rattle.std.specs.BTreeSet.{contains};
-ghost use Rattle.edn.specs.Briefs.{integers_in};
+ghost use Rattle.edn.specs.Truncation.{integers_in};
 ghost use Rattle.edn.specs.Datum.{Fits, max_open, items_of};
 ghost use Rattle.edn.specs.View.{view, views};
 ghost use Rattle.certificate.specs.declared.Certificate.{Certificate};
@@ -23,7 +23,7 @@ fn are_integers(forms: &[Form]) -> bool
     ensures { result ≡ is_some (integers_in (items_of (views forms.now))) }
 {
     for form in forms {
-        if fields::integer(form).is_none() {
+        if edn_fields::integer(form).is_none() {
             return false;
         }
     }
@@ -37,7 +37,7 @@ fn integers_of(alloc: Global, forms: &[Form]) -> Result<Vec<i64>, AllocError>
 {
     let mut integers = Vec::new(alloc);
     for form in forms {
-        if let Some(n) = fields::integer(form) {
+        if let Some(n) = edn_fields::integer(form) {
             integers.push(n)?;
         }
     }
@@ -69,11 +69,11 @@ fn parts_in(form: &Form) -> Option<(u32, &[Form])>
     let Form::Map(entries) = form else {
         return None;
     };
-    let number = fields::natural(fields::value_at(entries, b"object"));
-    let Some(object) = fields::object(number) else {
+    let number = edn_fields::natural(edn_fields::value_at(entries, b"object"));
+    let Some(object) = edn_fields::object(number) else {
         return None;
     };
-    let Some(forms) = order_in(fields::value_at(entries, b"order")) else {
+    let Some(forms) = order_in(edn_fields::value_at(entries, b"order")) else {
         return None;
     };
     Some((object, forms))

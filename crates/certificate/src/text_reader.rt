@@ -3,16 +3,16 @@
 ghost use Rattle.std.specs.Prelude.{◌≡◌, ◌==◌, if◌then◌else◌, ◌++◌, ◌∷◌, [], ℕ, List, Some, None, true, false, IfOk, IfErr, OnOk, MatchResult};
 ghost use Rattle.std.specs.Ordering.{nat_cmp};
 ghost use Rattle.std.specs.BTreeSet.{contains};
-ghost use Rattle.edn.specs.Briefs.{brief};
+ghost use Rattle.edn.specs.Truncation.{truncated};
 ghost use Rattle.edn.specs.Datum.{Datum};
-ghost use Rattle.edn.specs.Pieces.{tape_tokens};
+ghost use Rattle.edn.specs.Pieces.{token_buffer_tokens};
 ghost use Rattle.edn.specs.Sound.{IsShort};
 ghost use Rattle.edn.specs.Spells.{Spells};
 ghost use Rattle.edn.specs.Token.{tokens_of};
 ghost use Rattle.certificate.specs.Denotes as spec;
 ghost use Rattle.certificate.specs.Denotes.{Denotes, AreDistinct};
 ghost use Rattle.certificate.specs.Inside.{IsFaultAmong};
-ghost use Rattle.certificate.specs.Tapes.{IsKept, numbers_of, object_of};
+ghost use Rattle.certificate.specs.TokenBuffers.{IsKept, numbers_of, object_of};
 ghost use Rattle.certificate.specs.Texts.{IsFoundIn, IsTextFault};
 
 use crate::Certificate;
@@ -23,31 +23,31 @@ use std::collections::BTreeSet;
 
 /// The object of a certificate, of whose values these are the beginnings.
 fn object_on(pieces: &[Piece]) -> Option<u32>
-    ensures { (d : Datum) → tape_tokens pieces.now ≡ tokens_of (brief d) → result ≡ object_of d }
+    ensures { (d : Datum) → token_buffer_tokens pieces.now ≡ tokens_of (truncated d) → result ≡ object_of d }
 {
-    let Some(number) = fields::value_on(pieces, b"object") else {
+    let Some(number) = edn_fields::value_on(pieces, b"object") else {
         return None;
     };
-    fields::object(fields::natural_at(number))
+    edn_fields::object(edn_fields::natural_at(number))
 }
 
 /// The certificate of which this is kept, and whose object is then among the objects. What is wrong with it is found without
 /// memory.
 fn next_certificate(
     pieces: &[Piece],
-    row: Option<Vec<i64>>,
+    integer_vector: Option<Vec<i64>>,
     objects: &mut BTreeSet<u32>,
 ) -> Result<Certificate, CertFaultKind>
-    ensures own { IfOk result (λ c. (d : Datum) → IsKept pieces.now (numbers_of row) d
+    ensures own { IfOk result (λ c. (d : Datum) → IsKept pieces.now (numbers_of integer_vector) d
         → spec.certificate_of d ≡ Some (spec.reading_of c)) }
     ensures new { IfOk result (λ c. contains nat_cmp objects.old c.object ≡ false) }
     ensures among { IfOk result (λ c. (x : ℕ) →
         contains nat_cmp objects.new x
         ≡ (if c.object == x then true else contains nat_cmp objects.old x)) }
-    ensures fault { IfErr result (λ k. (d : Datum) → IsKept pieces.now (numbers_of row) d
+    ensures fault { IfErr result (λ k. (d : Datum) → IsKept pieces.now (numbers_of integer_vector) d
         → IsFaultAmong (contains nat_cmp objects.old) d k) }
 {
-    let (Some(object), Some(order)) = (object_on(pieces), row) else {
+    let (Some(object), Some(order)) = (object_on(pieces), integer_vector) else {
         return Err(CertFaultKind::NotACertificate);
     };
     if objects.contains(&object) {
@@ -80,14 +80,14 @@ impl Reading {
         }
     }
 
-    /// Reads one more element, where none was faulty. Of each value the beginning is given, and the row of its order.
-    fn take_next(&mut self, pieces: &[Piece], row: Option<Vec<i64>>)
+    /// Reads one more element, where none was faulty. Of each value the beginning is given, and the integer vector of its order.
+    fn take_next(&mut self, pieces: &[Piece], integer_vector: Option<Vec<i64>>)
         requires { self.old.fault ≡ None }
-        ensures { (ds : List Datum) (d : Datum) → IsKept pieces.now (numbers_of row) d
+        ensures { (ds : List Datum) (d : Datum) → IsKept pieces.now (numbers_of integer_vector) d
             → IsReading self.old ds → IsReading self.new (ds ++ d ∷ []) }
     {
         let form = self.certificates.len();
-        match next_certificate(pieces, row, &mut self.objects) {
+        match next_certificate(pieces, integer_vector, &mut self.objects) {
             Ok(certificate) => match self.certificates.push(certificate) {
                 Ok(()) => {}
                 Err(_) => self.fault = Some(CertFault {
@@ -100,12 +100,12 @@ impl Reading {
     }
 
     /// Reads one more element, unless an earlier one is faulty.
-    fn take(&mut self, pieces: &[Piece], row: Option<Vec<i64>>)
-        ensures { (ds : List Datum) (d : Datum) → IsKept pieces.now (numbers_of row) d
+    fn take(&mut self, pieces: &[Piece], integer_vector: Option<Vec<i64>>)
+        ensures { (ds : List Datum) (d : Datum) → IsKept pieces.now (numbers_of integer_vector) d
             → IsReading self.old ds → IsReading self.new (ds ++ d ∷ []) }
     {
         if self.fault.is_none() {
-            self.take_next(pieces, row);
+            self.take_next(pieces, integer_vector);
         }
     }
 
@@ -136,7 +136,7 @@ pub fn read_certificates_text(alloc: Global, text: &[u8]) -> Result<Vec<Certific
     ensures short { OnOk result (IsShort text.now) }
     ensures fault { IfErr result (IsTextFault text.now) }
 {
-    let mut elements = match Elements::with_row(alloc, text, b"order") {
+    let mut elements = match Elements::with_integer_vector(alloc, text, b"order") {
         Ok(elements) => elements,
         Err(fault) => return Err(CertTextFault::Text(fault)),
     };
@@ -144,8 +144,8 @@ pub fn read_certificates_text(alloc: Global, text: &[u8]) -> Result<Vec<Certific
     'elements: loop {
         match elements.advance() {
             Ok(true) => {
-                let row = elements.take_row();
-                reading.take(elements.pieces(), row);
+                let integer_vector = elements.take_integer_vector();
+                reading.take(elements.pieces(), integer_vector);
             }
             Ok(false) => match reading.finish() {
                 Ok(certificates) => return Ok(certificates),

@@ -3,7 +3,7 @@
 ghost use Rattle.std.specs.Prelude.{◌≡◌, ◌++◌, false, true, codes, OnOk, IfErr};
 ghost use Rattle.std.specs.Fmt.{signed_decimal};
 ghost use Rattle.std.specs.List.{AllByRecursion};
-ghost use Rattle.edn.specs.Sent.{Sends};
+ghost use Rattle.edn.specs.Sent.{Writes};
 ghost use Rattle.edn.specs.Text.{between, IsInt64};
 ghost use Rattle.certificate.specs.Denotes.{AreDistinct};
 ghost use Rattle.certificate.specs.Lines as text;
@@ -15,7 +15,7 @@ use edn::{Failed, Sink, WriteFault, write_bytes, write_integer};
 /// The space before each integer that is not the first.
 fn write_between<S: Sink>(first: bool, sink: &mut S) -> Result<(), Failed>
     requires { S.broken sink.old ≡ false }
-    ensures sent { Sends result (S.sent sink.old) (S.sent sink.new) (S.broken sink.new)
+    ensures sent { Writes result (S.sent sink.old) (S.sent sink.new) (S.broken sink.new)
         (between first (codes " ")) }
 {
     write_bytes(if first { b"" } else { b" " }, sink)
@@ -24,7 +24,7 @@ fn write_between<S: Sink>(first: bool, sink: &mut S) -> Result<(), Failed>
 /// An integer, behind the space that stands before each that is not the first.
 fn write_next<S: Sink>(first: bool, n: i64, sink: &mut S) -> Result<(), Failed>
     requires { S.broken sink.old ≡ false }
-    ensures sent { Sends result (S.sent sink.old) (S.sent sink.new) (S.broken sink.new)
+    ensures sent { Writes result (S.sent sink.old) (S.sent sink.new) (S.broken sink.new)
         (between first (codes " ") ++ signed_decimal n) }
     ensures in_range { IsInt64 n }
 {
@@ -35,7 +35,7 @@ fn write_next<S: Sink>(first: bool, n: i64, sink: &mut S) -> Result<(), Failed>
 /// The integers with a space between them.
 fn write_numbers<S: Sink>(numbers: &[i64], sink: &mut S) -> Result<(), Failed>
     requires { S.broken sink.old ≡ false }
-    ensures sent { Sends result (S.sent sink.old) (S.sent sink.new) (S.broken sink.new)
+    ensures sent { Writes result (S.sent sink.old) (S.sent sink.new) (S.broken sink.new)
         (text.numbers_text true numbers.now) }
     ensures in_range { OnOk result (AllByRecursion IsInt64 numbers.now) }
 {
@@ -50,7 +50,7 @@ fn write_numbers<S: Sink>(numbers: &[i64], sink: &mut S) -> Result<(), Failed>
 /// The line of a certificate.
 fn write_line<S: Sink>(certificate: &Certificate, sink: &mut S) -> Result<(), Failed>
     requires { S.broken sink.old ≡ false }
-    ensures sent { Sends result (S.sent sink.old) (S.sent sink.new) (S.broken sink.new)
+    ensures sent { Writes result (S.sent sink.old) (S.sent sink.new) (S.broken sink.new)
         (text.line_of certificate.now) }
     ensures in_range { OnOk result (AllByRecursion IsInt64 certificate.now.order.items) }
 {
@@ -67,7 +67,7 @@ pub fn write_certificates<S: Sink>(
     sink: &mut S,
 ) -> Result<(), WriteFault>
     requires working { S.broken sink.old ≡ false }
-    ensures sent { Sends result (S.sent sink.old) (S.sent sink.new) (S.broken sink.new)
+    ensures sent { Writes result (S.sent sink.old) (S.sent sink.new) (S.broken sink.new)
         (text.lines_of certificates.now) }
     // What went out reads back as these certificates.
     ensures spelled { OnOk result (AreDistinct certificates.now → AreInRange certificates.now →

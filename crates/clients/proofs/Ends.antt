@@ -10,12 +10,12 @@ use Rattle.model.specs.Objects.{empty, kind_with}
 use Rattle.model.proofs.Objects.{kind_of_empty}
 use Rattle.seq_objects.specs.declared.any_object.AnyObject.{AnyObject}
 use Rattle.seq_objects.specs.AnyContent.{content_of}
-use Rattle.world.specs.Images.{entry_in, event_in}
-use Rattle.world.specs.World.{AnyEntry, AnyEvent, StartsWith}
-use Rattle.world.proofs.Entries.{starts_longer, starts_same, events_as_they_are, entries_as_they_are}
-use Rattle.world.specs.Records.{IsSoundRecord}
-use Rattle.desk_rule.specs.declared.board.Leaving.{Leaving}
-use Rattle.desk_rule.specs.Views.{journal, end_notice, seen_of, IsAccount}
+use Rattle.desk_model.specs.Images.{entry_in, event_in}
+use Rattle.desk_model.specs.World.{AnyEntry, AnyEvent, StartsWith}
+use Rattle.desk_model.proofs.Entries.{starts_longer, starts_same, events_as_they_are, entries_as_they_are}
+use Rattle.desk_model.specs.Records.{IsSoundRecord}
+use Rattle.desk_invariant.specs.declared.board.Leaving.{Leaving}
+use Rattle.desk_invariant.specs.Views.{journal, end_notice, seen_of, IsAccount}
 use Rattle.publication.specs.Handles.{DeskSeen, Known, begun}
 use Rattle.recorder.specs.Records.{Recorded, journal_at, log_at}
 use Rattle.workload.specs.Workloads.{Work, Call, IsCall, calls_at}

@@ -4,12 +4,12 @@ use Rattle.std.proofs.lemmas.List.{get_or-set_other}
 use Rattle.std.proofs.lemmas.List.Elements.{Contains-push, Contains-append_left}
 use mathlib.Core.Logic.{dite}
 use native.Mathlib.Decide.{ℕ_discrete}
-use Rattle.world.specs.World.{AnyDone, AnyEntry, StartsWith, entries_of, journal_of, served}
-use Rattle.world.proofs.Entries.{starts_longer, starts_same}
-use Rattle.desk_rule.specs.declared.board.Own.{Own}
-use Rattle.desk_rule.specs.declared.board.Leaving.{Leaving}
-use Rattle.desk_rule.specs.declared.board.View.{View}
-use Rattle.desk_rule.specs.Views.{journal, end_notice, own_request, after_meet, seen_of, after_notice, IsAccount, MayHold}
+use Rattle.desk_model.specs.World.{AnyDone, AnyEntry, StartsWith, entries_of, journal_of, served}
+use Rattle.desk_model.proofs.Entries.{starts_longer, starts_same}
+use Rattle.desk_invariant.specs.declared.board.Own.{Own}
+use Rattle.desk_invariant.specs.declared.board.Leaving.{Leaving}
+use Rattle.desk_invariant.specs.declared.board.DeskView.{DeskView}
+use Rattle.desk_invariant.specs.Views.{journal, end_notice, own_request, after_meet, seen_of, after_notice, IsAccount, MayHold}
 use Rattle.combiner.specs.Passes.{KeepsCalls}
 use Rattle.combiner.proofs.Served.{seen_on}
 use Rattle.publication.specs.Handles.{DeskSeen, Known}
@@ -17,13 +17,13 @@ use Rattle.publication.specs.Calls.{Met}
 use Rattle.workload.specs.Workloads.{Work, calls_at}
 use Rattle.clients.specs.Made.{HasMet, HasMetBelow, HasWorked, HaveSeenAlike, Keeps, MadeOrStopped}
 
-pub keeps_all : (v : View) → Keeps v v
+pub keeps_all : (v : DeskView) → Keeps v v
 keeps_all v = record {
   calls = record { number = refl; kinds = refl; own = refl; done = refl; seen = λ x. starts_same (seen_of v x) };
   left = λ l c. c;
 }
 
-pub keeps_on : (v w u : View) → Keeps v w → Keeps w u → Keeps v u
+pub keeps_on : (v w u : DeskView) → Keeps v w → Keeps w u → Keeps v u
 keeps_on v w u a b = record {
   calls = record {
     number = b.calls.number ∙ a.calls.number;
@@ -36,7 +36,7 @@ keeps_on v w u a b = record {
 }
 
 -- more of the object x was seen
-pub keeps_seeing : (v w : View) (x : ℕ) (l : List AnyEntry) → w ≡ after_meet x l (record v { received = w.received }) → StartsWith l (seen_of v x) → Keeps v w
+pub keeps_seeing : (v w : DeskView) (x : ℕ) (l : List AnyEntry) → w ≡ after_meet x l (record v { received = w.received }) → StartsWith l (seen_of v x) → Keeps v w
 keeps_seeing v w x l e begins = record {
   calls = record {
     number = ap (λ z. z.number) e;
@@ -57,14 +57,14 @@ alike_more i one other one' other' so_far m x low = dite (ℕ_discrete x i)
     ∙ (so_far x (omega arith) ∙ sym (ap (λ z. seen_of z x) m.second ∙ get_or-set_other other.knows.seen i x m.log [] differ)))
 
 -- what a log has of a client's calls depends on these alone
-pub same_account : (x : ℕ) (v w : View) (log : List AnyEntry) → KeepsCalls v w → IsAccount x v log → IsAccount x w log
+pub same_account : (x : ℕ) (v w : DeskView) (log : List AnyEntry) → KeepsCalls v w → IsAccount x v log → IsAccount x w log
 same_account x v w log k = subst (λ (t : ℕ × Own × List AnyDone). (now : List AnyEntry) × (entries_of t.0 log ≡ served x t.0 t.2 ++ now) × MayHold x t.0 t.1 now) (λ i. (sym k.number i, sym k.own i, sym k.done i))
 
-pub same_journal : (v w : View) → KeepsCalls v w → journal w ≡ journal v
+pub same_journal : (v w : DeskView) → KeepsCalls v w → journal w ≡ journal v
 same_journal v w k = λ i. journal_of (k.done i) (own_request (k.own i))
 
 -- who was met stays met
-pub still_met : (w : Work) (v u : View) (c : ℕ) → Keeps v u → HasMet w v c → HasMet w u c
+pub still_met : (w : Work) (v u : DeskView) (c : ℕ) → Keeps v u → HasMet w v c → HasMet w u c
 still_met w v u c k m = record {
   other = m.other;
   number = m.number;
@@ -93,13 +93,13 @@ met_more w v u n before k last c some low = dite (ℕ_discrete c n)
     (λ differ. still_met w v.knows u.knows c k (before c some (omega arith)))
 
 -- told of the other's end
-pub keeps_told : (v : View) (l : Leaving) → Keeps v (after_notice (l ∷ []) v)
+pub keeps_told : (v : DeskView) (l : Leaving) → Keeps v (after_notice (l ∷ []) v)
 keeps_told v l = record {
   calls = record { number = refl; kinds = refl; own = refl; done = refl; seen = λ x. starts_same (seen_of v x) };
   left = λ m c. Contains-append_left v.left (l ∷ []) m c;
 }
 
-pub has_met : (d : DeskSeen) (w : Work) (n : ℕ) (k : Known) (v u : View) → HasWorked d w n k → Keeps k.knows u → d.id.kinds ≡ w.kinds → HaveSeenAlike (length d.id.kinds) v u
+pub has_met : (d : DeskSeen) (w : Work) (n : ℕ) (k : Known) (v u : DeskView) → HasWorked d w n k → Keeps k.knows u → d.id.kinds ≡ w.kinds → HaveSeenAlike (length d.id.kinds) v u
     → ((x : ℕ) → IsAccount x v (seen_of v x)) → ((x : ℕ) → IsAccount x u (seen_of u x)) → HasMet w (after_notice (end_notice u ∷ []) v) n
 has_met d w n k v u h kept kinds alike first second = record {
   other = u;

@@ -1,16 +1,16 @@
 -- What a client's calls leave in its journal.
 use Rattle.std.proofs.Common.{◌≡◌, ℕ, zero, suc, ◌+◌, ◌<◌, inr, List, [], ◌∷◌, ◌++◌, length, take, drop, get_or, refl, ap, ◌∙◌, arith, length-append, append_assoc}
-use Rattle.world.specs.declared.JournalEvent.TheVariants.{Invoked, Returned}
-use Rattle.world.specs.World.{AnyEvent, AnyAnswer, journal_of}
-use Rattle.desk_rule.specs.declared.board.Own.TheVariants as own
-use Rattle.desk_rule.specs.declared.board.View.{View}
-use Rattle.desk_rule.specs.Views.{own_request, journal}
+use Rattle.desk_model.specs.declared.JournalEvent.TheVariants.{Invoked, Returned}
+use Rattle.desk_model.specs.World.{AnyEvent, AnyAnswer, journal_of}
+use Rattle.desk_invariant.specs.declared.board.Own.TheVariants as own
+use Rattle.desk_invariant.specs.declared.board.DeskView.{DeskView}
+use Rattle.desk_invariant.specs.Views.{own_request, journal}
 use Rattle.combiner.specs.Waits.{Called, IsOutstanding}
 use Rattle.workload.specs.Workloads.{Call}
 use Rattle.clients.specs.Made.{Made, Worked}
 
 -- an idle client made these calls, in order, and is idle again
-pub record HasMade (cs : List Call) (v w : View) : Type 0 where
+pub record HasMade (cs : List Call) (v w : DeskView) : Type 0 where
   pub number : w.number ≡ v.number
   pub kinds : w.kinds ≡ v.kinds
   pub idle : w.own ≡ own.Idle
@@ -24,7 +24,7 @@ made_more : (cs : List Call) (c : Call) (es : List AnyEvent) (t u : ℕ) (a : An
 made_more [] c es t u a made = (t, u, a, [], ap (λ z. z ++ Invoked t c.0 c.1 ∷ Returned u a ∷ []) made, refl)
 made_more (d ∷ cs) c es t u a (t', u', b, rest, is, made) = (t', u', b, rest ++ Invoked t c.0 c.1 ∷ Returned u a ∷ [], ap (λ z. z ++ Invoked t c.0 c.1 ∷ Returned u a ∷ []) is, made_more cs c rest t u a made)
 
-pub one_made : (cs : List Call) (c : Call) (v w x : View) (a : AnyAnswer) → HasMade cs v w → Called w c.0 c.1 a x → HasMade (cs ++ c ∷ []) v x
+pub one_made : (cs : List Call) (c : Call) (v w x : DeskView) (a : AnyAnswer) → HasMade cs v w → Called w c.0 c.1 a x → HasMade (cs ++ c ∷ []) v x
 one_made cs c v w x a k d = let n = k.calls in let m = d.calls in record {
   number = d.number ∙ k.number;
   kinds = d.kinds ∙ k.kinds;
@@ -41,8 +41,8 @@ parts (x ∷ xs) zero d h = refl
 parts (x ∷ xs) (suc i) d h = ap (λ z. x ∷ z) (parts xs i d (omega arith))
 
 -- the call i is outstanding, behind those that were made
-pub stopped : (cs : List Call) (i : ℕ) (none : Call) (v w x : View) → i < length cs → HasMade (take i cs) v w → IsOutstanding w (get_or cs i none).0 (get_or cs i none).1 x → Worked cs v x
-stopped cs i none v w x low k o = let u : View = o.0 in let p = o.1 in let c : Call = get_or cs i none in record {
+pub stopped : (cs : List Call) (i : ℕ) (none : Call) (v w x : DeskView) → i < length cs → HasMade (take i cs) v w → IsOutstanding w (get_or cs i none).0 (get_or cs i none).1 x → Worked cs v x
+stopped cs i none v w x low k o = let u : DeskView = o.0 in let p = o.1 in let c : Call = get_or cs i none in record {
   number = o.2.number ∙ (ap (λ z. z.number) p.knows ∙ k.number);
   kinds = o.2.kinds ∙ (ap (λ z. z.kinds) p.knows ∙ k.kinds);
   events = k.events ++ Invoked p.ticket c.0 c.1 ∷ [];

@@ -2,13 +2,13 @@
 use Rattle.std.specs.Prelude.{◌≡◌, ◌≢◌, ◌⊎◌, ℕ, ◌+◌, ◌<◌, ◌≤◌, List, [], ◌∷◌, ◌++◌, length, All, Contains}
 use Rattle.model.specs.declared.AnyOp.{AnyOp}
 use Rattle.model.specs.declared.AnyReply.{AnyReply}
-use Rattle.world.specs.declared.JournalEvent.TheVariants.{Invoked, Returned}
-use Rattle.world.specs.World.{AnyEntry, AnyEvent, AnyAnswer, StartsWith}
-use Rattle.world.specs.Records.{IsSoundRecord}
-use Rattle.desk_rule.specs.declared.board.Own.TheVariants as own
-use Rattle.desk_rule.specs.declared.board.Leaving.{Leaving}
-use Rattle.desk_rule.specs.declared.board.View.{View}
-use Rattle.desk_rule.specs.Views.{journal, end_notice, seen_of, IsAccount}
+use Rattle.desk_model.specs.declared.JournalEvent.TheVariants.{Invoked, Returned}
+use Rattle.desk_model.specs.World.{AnyEntry, AnyEvent, AnyAnswer, StartsWith}
+use Rattle.desk_model.specs.Records.{IsSoundRecord}
+use Rattle.desk_invariant.specs.declared.board.Own.TheVariants as own
+use Rattle.desk_invariant.specs.declared.board.Leaving.{Leaving}
+use Rattle.desk_invariant.specs.declared.board.DeskView.{DeskView}
+use Rattle.desk_invariant.specs.Views.{journal, end_notice, seen_of, IsAccount}
 use Rattle.combiner.specs.Passes.{KeepsCalls}
 use Rattle.publication.specs.Handles.{DeskSeen, Known, begun}
 use Rattle.publication.specs.Calls.{Closed}
@@ -46,7 +46,7 @@ pub record MayWork (d : DeskSeen) (c : Known) (cs : List Call) : Type 0 where
   pub fit : All (IsCall d.id.kinds) cs
 
 -- a client made these calls, in order, or stopped at one, which is outstanding
-pub record Worked (cs : List Call) (v w : View) : Type 0 where
+pub record Worked (cs : List Call) (v w : DeskView) : Type 0 where
   pub number : w.number ≡ v.number
   pub kinds : w.kinds ≡ v.kinds
   pub events : List AnyEvent
@@ -73,32 +73,32 @@ pub record HasWorked (d : DeskSeen) (w : Work) (c : ℕ) (k : Known) : Type 0 wh
   pub made : MadeOrStopped (calls_at w c) (journal k.knows)
 
 -- the client's calls stay, what it has seen goes on, and it still knows whose end it was told of
-pub record Keeps (v w : View) : Type 0 where
+pub record Keeps (v w : DeskView) : Type 0 where
   pub calls : KeepsCalls v w
   pub left : (l : Leaving) → Contains v.left l → Contains w.left l
 
 -- both have seen the same of each of the first n objects
-abbrev pub HaveSeenAlike : ℕ → View → View → Type 0
+abbrev pub HaveSeenAlike : ℕ → DeskView → DeskView → Type 0
 HaveSeenAlike n v w = (x : ℕ) → x < n → seen_of v x ≡ seen_of w x
 
 -- The log of x begins with a list that both clients have seen. Of each one's calls on x it holds just those that were answered
 -- by a reply, each once and in order, and perhaps the one that is pending.
-pub record HaveMet (x : ℕ) (v w : View) (log : List AnyEntry) : Type 0 where
+pub record HaveMet (x : ℕ) (v w : DeskView) (log : List AnyEntry) : Type 0 where
   pub seen : List AnyEntry
   pub begins : StartsWith log seen
   pub first : IsAccount x v seen
   pub second : IsAccount x w seen
 
 -- The client met c, which had made its calls of the workload, on each object, and was told of its end.
-pub record HasMet (w : Work) (v : View) (c : ℕ) : Type 0 where
-  pub other : View
+pub record HasMet (w : Work) (v : DeskView) (c : ℕ) : Type 0 where
+  pub other : DeskView
   pub number : other.number ≡ c
   pub made : MadeOrStopped (calls_at w c) (journal other)
   pub told : Contains v.left (end_notice other)
   pub met : (x : ℕ) → x < length w.kinds → HaveMet x v other (seen_of v x)
 
 -- the client was told that this other has retired
-abbrev pub WasTold : View → ℕ → Type 0
+abbrev pub WasTold : DeskView → ℕ → Type 0
 WasTold v c = (l : Leaving) × Contains v.left l × (l.client ≡ c)
 
 -- it was told that each other client of the desk has
@@ -119,11 +119,11 @@ abbrev pub ClosedBy : DeskSeen → Known → Recorded AnyOp AnyReply → Type 0
 ClosedBy d c r = Closed (λ (op : AnyOp). op) (λ (reply : AnyReply). reply) d c r
 
 -- What is recorded of the client c, which client 0 met at the end. `first` is what client 0 knew.
-pub record HasRun (w : Work) (r : Recorded AnyOp AnyReply) (first : View) (c : ℕ) : Type 0 where
+pub record HasRun (w : Work) (r : Recorded AnyOp AnyReply) (first : DeskView) (c : ℕ) : Type 0 where
   -- it made its calls, all of them, in order; or those up to one that is pending
   pub made : MadeOrStopped (calls_at w c) (journal_at r c)
   -- what it knew of its calls at the end
-  pub knew : View
+  pub knew : DeskView
   pub number : knew.number ≡ c
   pub says : journal_at r c ≡ journal knew
   -- Each log begins with a list that has just those calls of both on its object that were answered by a reply, each client's
@@ -135,7 +135,7 @@ pub record Ran (w : Work) (r : Recorded AnyOp AnyReply) : Type 0 where
   pub journals : length r.journals ≡ length w.calls
   pub logs : length r.logs ≡ length w.kinds
   -- what client 0 knew of its calls at the end
-  pub knew : View
+  pub knew : DeskView
   pub number : knew.number ≡ 0
   pub says : journal_at r 0 ≡ journal knew
   -- Of client 0's calls each log holds just those on its object that were answered by a reply, each once and in order, and

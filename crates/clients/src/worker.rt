@@ -1,8 +1,8 @@
 //! A client that makes its calls.
 
 ghost use Rattle.std.specs.Prelude.{◌≡◌, ◌<◌, true, false, length};
-ghost use Rattle.world.specs.World.{AnyAnswer};
-ghost use Rattle.desk_rule.specs.declared.board.Own.TheVariants.{Idle};
+ghost use Rattle.desk_model.specs.World.{AnyAnswer};
+ghost use Rattle.desk_invariant.specs.declared.board.Own.TheVariants.{Idle};
 ghost use Rattle.combiner.specs.Waits.{Called, IsOutstanding};
 ghost use Rattle.workload.specs.Workloads.{IsCall};
 ghost use Rattle.clients.specs.Made.{MayWork, Worked, IsNew, HasWorked};

@@ -5,14 +5,14 @@ use native.Mathlib.Decide.{ℕ_discrete}
 use Rattle.std.proofs.Math.Bool.{or-true}
 use Rattle.std.proofs.lemmas.Bool.{or_left, cases_lt}
 use Rattle.std.proofs.lemmas.List.{get_or-set_same, get_or-set_other, set_past}
-use Rattle.world.specs.World.{AnyEntry, AnyRequest, AnyAnswer, kind_at, logged, StartsWith}
-use Rattle.world.proofs.Entries.{starts_same, starts_longer}
-use Rattle.desk_rule.specs.declared.board.Held.{Held}
-use Rattle.desk_rule.specs.declared.board.PutBack.{PutBack}
-use Rattle.desk_rule.specs.declared.board.Own.{Own}
-use Rattle.desk_rule.specs.declared.board.Own.TheVariants as own
-use Rattle.desk_rule.specs.declared.board.View.{View}
-use Rattle.desk_rule.specs.Views.{row_place, seen_of, is_waiting, waits_on, after_miss, after_win, after_release}
+use Rattle.desk_model.specs.World.{AnyEntry, AnyRequest, AnyAnswer, kind_at, logged, StartsWith}
+use Rattle.desk_model.proofs.Entries.{starts_same, starts_longer}
+use Rattle.desk_invariant.specs.declared.board.Held.{Held}
+use Rattle.desk_invariant.specs.declared.board.PutBack.{PutBack}
+use Rattle.desk_invariant.specs.declared.board.Own.{Own}
+use Rattle.desk_invariant.specs.declared.board.Own.TheVariants as own
+use Rattle.desk_invariant.specs.declared.board.DeskView.{DeskView}
+use Rattle.desk_invariant.specs.Views.{row_place, seen_of, is_waiting, waits_on, after_miss, after_win, after_release}
 use Rattle.publication.specs.Handles.{Holding, Handling}
 use Rattle.publication.specs.Calls.{NotPolled, Got, NotGot, CanDo, kind_held, Answered, IsPutBack}
 use Rattle.combiner.specs.declared.passes.Tried.{Tried}
@@ -20,10 +20,10 @@ use Rattle.combiner.specs.declared.passes.Tried.TheVariants as tried
 use Rattle.combiner.specs.Passes.{KeepsCalls, Goes, IsTried, IsSettled, IsSettledBy, IsSettledNow, IsSameBut, HasLearnt}
 
 -- what stays where the own calls of w are written from those of v
-pub keeps_same : (v w u : View) → w ≡ u → KeepsCalls v u → KeepsCalls v w
+pub keeps_same : (v w u : DeskView) → w ≡ u → KeepsCalls v u → KeepsCalls v w
 keeps_same v w u e k = subst (KeepsCalls v) (sym e) k
 
-pub keeps_on : (v w u : View) → KeepsCalls v w → KeepsCalls w u → KeepsCalls v u
+pub keeps_on : (v w u : DeskView) → KeepsCalls v w → KeepsCalls w u → KeepsCalls v u
 keeps_on v w u a b = record {
   number = b.number ∙ a.number;
   kinds = b.kinds ∙ a.kinds;
@@ -32,11 +32,11 @@ keeps_on v w u a b = record {
   seen = λ x. starts_longer (seen_of u x) (seen_of w x) (seen_of v x) (b.seen x) (a.seen x);
 }
 
-keeps_all : (v : View) → KeepsCalls v v
+keeps_all : (v : DeskView) → KeepsCalls v v
 keeps_all v = record { number = refl; kinds = refl; own = refl; done = refl; seen = λ x. starts_same (seen_of v x) }
 
 -- what is held, put back, missed, and known of the own row does not matter
-pub keeps_held : (v : View) {h : Held} {back : List PutBack} {missed : List ℕ} {ready : Bool} {won : ℕ} → KeepsCalls v (record v { held = h; back = back; missed = missed; ready = ready; won = won })
+pub keeps_held : (v : DeskView) {h : Held} {back : List PutBack} {missed : List ℕ} {ready : Bool} {won : ℕ} → KeepsCalls v (record v { held = h; back = back; missed = missed; ready = ready; won = won })
 keeps_held v = record { number = refl; kinds = refl; own = refl; done = refl; seen = λ x. starts_same (seen_of v x) }
 
 pub goes_nowhere : (p : Holding) → Goes p p
@@ -62,7 +62,7 @@ pub goes_room : (p q : Holding) (n : ℕ) → q ≡ record p { state = record p.
 goes_room p q n is = subst (Goes p) (sym is) record { desk = refl; object = refl; places = refl; log = starts_same p.log; seen = refl; calls = keeps_all p.knows; ready = λ e. e }
 
 -- the client after its pass, which served nothing, was put back
-pub only_learnt : (c : View) (x : ℕ) (p q : Holding) (v : View) (n : ℕ) → p.knows ≡ after_win x p.log c → p.object ≡ x → q ≡ record p { state = record p.state { room = n } } → v ≡ after_release q.object q.log q.knows → seen_of v q.object ≡ q.log → HasLearnt x c v
+pub only_learnt : (c : DeskView) (x : ℕ) (p q : Holding) (v : DeskView) (n : ℕ) → p.knows ≡ after_win x p.log c → p.object ≡ x → q ≡ record p { state = record p.state { room = n } } → v ≡ after_release q.object q.log q.knows → seen_of v q.object ≡ q.log → HasLearnt x c v
 only_learnt c x p q v n opened on is knows seen =
     let at : q.object ≡ x = ap (λ z. z.object) is ∙ on in
     let log : seen_of v x ≡ q.log = subst (λ y. seen_of v y ≡ q.log) at seen in
@@ -151,7 +151,7 @@ settled_last q tried.Answered own p waiting on = inl (own p waiting on)
 settled_last q tried.PutBack own p waiting on = inr (own p waiting)
 
 -- the client after the pass q was put back
-pub settled_after : (x : ℕ) (q : Holding) (v : View) → q.object ≡ x → v ≡ after_release q.object q.log q.knows → seen_of v q.object ≡ q.log → IsSettledNow q → IsSettled x v
+pub settled_after : (x : ℕ) (q : Holding) (v : DeskView) → q.object ≡ x → v ≡ after_release q.object q.log q.knows → seen_of v q.object ≡ q.log → IsSettledNow q → IsSettled x v
 settled_after x q v on is seen s =
     subst (λ y. IsSettled y v) on (subst (λ l. IsSettledBy q.object l v) (sym seen) (subst (IsSettledBy q.object q.log) (sym is) (λ p waiting at. s p waiting at)))
 
@@ -165,15 +165,15 @@ seen_on s x l begins y = dite (ℕ_discrete y x)
     (λ other. subst (λ z. StartsWith z (get_or s y [])) (sym (get_or-set_other s x y l [] other)) (starts_same (get_or s y [])))
 
 -- the client after its pass, which began as p, was put back as q
-pub keeps_learnt : (c : View) (x : ℕ) (p q : Holding) (v : View) → p.knows ≡ after_win x p.log c → p.object ≡ x → StartsWith p.log (seen_of c x) → Goes p q → v ≡ after_release q.object q.log q.knows → KeepsCalls c v
+pub keeps_learnt : (c : DeskView) (x : ℕ) (p q : Holding) (v : DeskView) → p.knows ≡ after_win x p.log c → p.object ≡ x → StartsWith p.log (seen_of c x) → Goes p q → v ≡ after_release q.object q.log q.knows → KeepsCalls c v
 keeps_learnt c x p q v opened on begins g is =
     let longer : StartsWith q.log (seen_of q.knows q.object) = subst (λ z. StartsWith q.log (get_or z q.object [])) (sym (g.seen ∙ ap (λ z. z.seen) opened))
     (subst (λ y. StartsWith q.log (seen_of c y)) (sym (g.object ∙ on)) (starts_longer q.log p.log (seen_of c x) g.log begins)) in
     keeps_on c q.knows v (keeps_on c p.knows q.knows (keeps_same c p.knows _ opened (keeps_held c)) g.calls)
     (keeps_same q.knows v _ is record { number = refl; kinds = refl; own = refl; done = refl; seen = seen_on q.knows.seen q.object q.log longer })
 
-pub keeps_missed : (x : ℕ) (v w : View) → w ≡ after_miss x v → KeepsCalls v w
+pub keeps_missed : (x : ℕ) (v w : DeskView) → w ≡ after_miss x v → KeepsCalls v w
 keeps_missed x v w is = keeps_same v w _ is (keeps_held v)
 
-pub keeps_unpolled : (v w : View) → NotPolled v w → KeepsCalls v w
+pub keeps_unpolled : (v w : DeskView) → NotPolled v w → KeepsCalls v w
 keeps_unpolled v w n = ⊎_elim (λ (a : (is_waiting v.own ≡ false) × (w ≡ v)). keeps_same v w v a.1 (keeps_all v)) (λ (b : (w ≡ after_miss (row_place v.number) v) × (v.ready ≡ false)). keeps_same v w _ b.0 (keeps_held v)) n

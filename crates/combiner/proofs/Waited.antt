@@ -3,12 +3,12 @@ use Rattle.std.proofs.Common.{◌≡◌, ℕ, ◌+◌, ◌<◌, true, false, Lis
 use Rattle.model.specs.declared.Kind.{Kind}
 use Rattle.model.specs.declared.AnyOp.{AnyOp}
 use Rattle.model.specs.Objects.{kind_of}
-use Rattle.world.specs.World.{AnyEntry, AnyRequest, AnyAnswer, kind_at, logged, entries_of, served, calls_made, journal_of, IsLegal, StartsWith}
-use Rattle.world.proofs.Entries.{starts_longer, starts_same}
-use Rattle.world.specs.declared.JournalEvent.TheVariants.{Invoked, Returned}
-use Rattle.desk_rule.specs.declared.board.View.{View}
-use Rattle.desk_rule.specs.declared.board.Own.TheVariants as own
-use Rattle.desk_rule.specs.Views.{journal, own_request, seen_of, is_waiting, with_own, after_perform, after_win, after_release}
+use Rattle.desk_model.specs.World.{AnyEntry, AnyRequest, AnyAnswer, kind_at, logged, entries_of, served, calls_made, journal_of, IsLegal, StartsWith}
+use Rattle.desk_model.proofs.Entries.{starts_longer, starts_same}
+use Rattle.desk_model.specs.declared.JournalEvent.TheVariants.{Invoked, Returned}
+use Rattle.desk_invariant.specs.declared.board.DeskView.{DeskView}
+use Rattle.desk_invariant.specs.declared.board.Own.TheVariants as own
+use Rattle.desk_invariant.specs.Views.{journal, own_request, seen_of, is_waiting, with_own, after_perform, after_win, after_release}
 use Rattle.publication.specs.declared.desk.Post.{Post}
 use Rattle.publication.specs.declared.desk.Post.TheVariants as post
 use Rattle.publication.specs.Handles.{DeskSeen, Known, Holding}
@@ -19,9 +19,9 @@ use Rattle.combiner.specs.Passes.{KeepsCalls, Goes}
 use Rattle.combiner.specs.Waits.{Called, Returns, IsLogged, IsOutstanding, Faulted}
 use Rattle.combiner.proofs.Served.{seen_on, keeps_on, keeps_same, keeps_held, keeps_unpolled}
 
-pub returned : (v u w : View) (a : AnyAnswer) → KeepsCalls v u → Polled u a w → Returns v a w
+pub returned : (v u w : DeskView) (a : AnyAnswer) → KeepsCalls v u → Polled u a w → Returns v a w
 returned v u w a k p =
-    let done : length w.done ≡ length u.done + 1 = ap (λ (z : View). length z.done) p.knows ∙ length-append u.done _ in record {
+    let done : length w.done ≡ length u.done + 1 = ap (λ (z : DeskView). length z.done) p.knows ∙ length-append u.done _ in record {
       ticket = p.ticket;
       number = ap (λ z. z.number) p.knows ∙ k.number;
       kinds = ap (λ z. z.kinds) p.knows ∙ k.kinds;
@@ -38,7 +38,7 @@ returned v u w a k p =
       };
     }
 
-pub called : (v u w : View) (object : ℕ) (op : AnyOp) (a : AnyAnswer) → Posted v object op u → Returns u a w → Called v object op a w
+pub called : (v u w : DeskView) (object : ℕ) (op : AnyOp) (a : AnyAnswer) → Posted v object op u → Returns u a w → Called v object op a w
 called v u w object op a p r = record {
   invoked = p.ticket;
   returned = r.ticket;
@@ -46,16 +46,16 @@ called v u w object op a p r = record {
   number = r.number ∙ ap (λ z. z.number) p.knows;
   kinds = r.kinds ∙ ap (λ z. z.kinds) p.knows;
   idle = r.idle;
-  calls = r.calls ∙ ap (λ (z : View). length z.done + 1) p.knows;
+  calls = r.calls ∙ ap (λ (z : DeskView). length z.done + 1) p.knows;
   journal = r.journal ∙ (ap (λ z. z ++ Returned r.ticket a ∷ []) p.journal ∙ append_assoc (journal v) (Invoked p.ticket object op ∷ []) (Returned r.ticket a ∷ []));
-  seen = subst (λ (z : View). (x : ℕ) → StartsWith (seen_of w x) (seen_of z x)) p.knows r.seen;
+  seen = subst (λ (z : DeskView). (x : ℕ) → StartsWith (seen_of w x) (seen_of z x)) p.knows r.seen;
   logged = let q : AnyRequest = record { object = object; ticket = p.ticket; op = op } in
       let is : r.request ≡ q = (let e : own.Waiting r.request ≡ own.Waiting q = sym r.waited ∙ ap (λ z. z.own) p.knows in cc) in
-      let l = subst (λ (z : View). IsLogged z q a r.ticket w) p.knows (subst (λ z. IsLogged u z a r.ticket w) is r.logged) in record { legal = l.legal; counted = l.counted; later = l.later };
+      let l = subst (λ (z : DeskView). IsLogged z q a r.ticket w) p.knows (subst (λ z. IsLogged u z a r.ticket w) is r.logged) in record { legal = l.legal; counted = l.counted; later = l.later };
 }
 
 -- the call was outstanding for some time before
-pub returns_on : (v u w : View) (a : AnyAnswer) → KeepsCalls v u → Returns u a w → Returns v a w
+pub returns_on : (v u w : DeskView) (a : AnyAnswer) → KeepsCalls v u → Returns u a w → Returns v a w
 returns_on v u w a k r = let x : ℕ = r.request.object in record {
   ticket = r.ticket;
   number = r.number ∙ k.number;
@@ -74,12 +74,12 @@ returns_on v u w a k r = let x : ℕ = r.request.object in record {
 }
 
 -- a round in which nothing was answered: v before the loop, u before the round, p after the poll, e after the enlisting
-pub keeps_round : (v u p e w : View) → KeepsCalls v u → NotPolled u p → e ≡ p → KeepsCalls e w → KeepsCalls v w
+pub keeps_round : (v u p e w : DeskView) → KeepsCalls v u → NotPolled u p → e ≡ p → KeepsCalls e w → KeepsCalls v w
 keeps_round v u p e w before none same after = keeps_on v u w before (keeps_on u p w (keeps_unpolled u p none) (subst (λ z. KeepsCalls z w) same after))
 
 -- The client made the call at once: p is the pass that was opened, q the one after the other rows, r the one after the call, and w
 -- the client after it was put back.
-pub called_at_once : (v : View) (x : ℕ) (op : AnyOp) (a : AnyAnswer) (p q r : Holding) (w : View) → p.knows ≡ after_win x p.log v → p.object ≡ x → StartsWith p.log (seen_of v x) → p.knows.kinds ≡ p.desk.kinds → Goes p q → Performed q op a r
+pub called_at_once : (v : DeskView) (x : ℕ) (op : AnyOp) (a : AnyAnswer) (p q r : Holding) (w : DeskView) → p.knows ≡ after_win x p.log v → p.object ≡ x → StartsWith p.log (seen_of v x) → p.knows.kinds ≡ p.desk.kinds → Goes p q → Performed q op a r
     → w ≡ after_release r.object r.log r.knows → seen_of w r.object ≡ r.log → Called v x op a w
 called_at_once v x op a p q r w opened on begins kinds goes made is seen =
     let k : KeepsCalls v q.knows = keeps_on v p.knows q.knows (keeps_same v p.knows _ opened (keeps_held v)) goes.calls in
@@ -107,7 +107,7 @@ called_at_once v x op a p q r w opened on begins kinds goes made is seen =
     }
 
 -- the client saw more before the call
-pub called_before : (v u w : View) (object : ℕ) (op : AnyOp) (a : AnyAnswer) → KeepsCalls v u → Called u object op a w → Called v object op a w
+pub called_before : (v u w : DeskView) (object : ℕ) (op : AnyOp) (a : AnyAnswer) → KeepsCalls v u → Called u object op a w → Called v object op a w
 called_before v u w object op a k c = record {
   invoked = c.invoked;
   returned = c.returned;
@@ -126,9 +126,9 @@ called_before v u w object op a k c = record {
 }
 
 -- the same, where the call is outstanding
-pub outstanding_before : (v u p w : View) (object : ℕ) (op : AnyOp) → KeepsCalls v u → Posted u object op p → KeepsCalls p w → IsOutstanding v object op w
+pub outstanding_before : (v u p w : DeskView) (object : ℕ) (op : AnyOp) → KeepsCalls v u → Posted u object op p → KeepsCalls p w → IsOutstanding v object op w
 outstanding_before v u p w object op k posted after =
-    let q : AnyRequest = record { object = object; ticket = posted.ticket; op = op } in let z : View = with_own (own.Waiting q) v in
+    let q : AnyRequest = record { object = object; ticket = posted.ticket; op = op } in let z : DeskView = with_own (own.Waiting q) v in
     let kept : KeepsCalls z (with_own (own.Waiting q) u) = record { number = k.number; kinds = k.kinds; own = refl; done = k.done; seen = k.seen } in (
       z,
       record {

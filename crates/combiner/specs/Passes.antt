@@ -1,10 +1,10 @@
 -- What a pass over the rows does.
 use Rattle.std.specs.Prelude.{◌≡◌, ◌⊎◌, ℕ, true, List, ⊤}
-use Rattle.world.specs.World.{AnyEntry, AnyRequest, kind_at, StartsWith}
-use Rattle.desk_rule.specs.declared.board.Own.TheVariants as own
-use Rattle.desk_rule.specs.declared.board.View.{View}
-use Rattle.desk_rule.specs.Views.{seen_of, after_win, after_release}
-use Rattle.roster.specs.Calls.{WalkerSeen}
+use Rattle.desk_model.specs.World.{AnyEntry, AnyRequest, kind_at, StartsWith}
+use Rattle.desk_invariant.specs.declared.board.Own.TheVariants as own
+use Rattle.desk_invariant.specs.declared.board.DeskView.{DeskView}
+use Rattle.desk_invariant.specs.Views.{seen_of, after_win, after_release}
+use Rattle.publication_list.specs.Calls.{WalkerSeen}
 use Rattle.publication.specs.Handles.{Holding}
 use Rattle.publication.specs.Calls.{CanDo}
 use Rattle.combiner.specs.declared.passes.Combined.{Combined}
@@ -13,7 +13,7 @@ use Rattle.combiner.specs.declared.passes.Tried.{Tried}
 use Rattle.combiner.specs.declared.passes.Tried.TheVariants as tried
 
 -- the client and its own calls stay, and what it has seen goes on
-pub record KeepsCalls (v w : View) : Type 0 where
+pub record KeepsCalls (v w : DeskView) : Type 0 where
   pub number : w.number ≡ v.number
   pub kinds : w.kinds ≡ v.kinds
   pub own : w.own ≡ v.own
@@ -22,11 +22,11 @@ pub record KeepsCalls (v w : View) : Type 0 where
 
 -- A call of the client on the object x that is outstanding is known to be answered; or the object cannot do it after
 -- this log.
-abbrev pub IsSettledBy : ℕ → List AnyEntry → View → Type 0
+abbrev pub IsSettledBy : ℕ → List AnyEntry → DeskView → Type 0
 IsSettledBy x log v = (q : AnyRequest) → v.own ≡ own.Waiting q → q.object ≡ x → (v.ready ≡ true) ⊎ (CanDo (kind_at v.kinds x) log q.op → ⊥)
 
 -- the same, after the log that the client has seen
-abbrev pub IsSettled : ℕ → View → Type 0
+abbrev pub IsSettled : ℕ → DeskView → Type 0
 IsSettled x v = IsSettledBy x (seen_of v x) v
 
 -- the same, of the object that is held
@@ -54,7 +54,7 @@ IsTried p tried.PutBack = (q : AnyRequest) → p.knows.own ≡ own.Waiting q →
 IsTried p t = (q : AnyRequest) → p.knows.own ≡ own.Waiting q → q.object ≡ p.object → p.knows.ready ≡ true
 
 -- the client won the object x and put it back with this log, which it has seen, and nothing else of it has changed
-abbrev pub HasLearnt : ℕ → View → View → Type 0
+abbrev pub HasLearnt : ℕ → DeskView → DeskView → Type 0
 HasLearnt x v w = w ≡ after_release x (seen_of w x) (after_win x (seen_of w x) v)
 
 abbrev pub IfServed : Combined → Type 0 → Type 0

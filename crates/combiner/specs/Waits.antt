@@ -1,11 +1,11 @@
 -- What a call that waited for its answer did.
 use Rattle.std.specs.Prelude.{◌≡◌, ℕ, ◌+◌, ◌<◌, [], ◌∷◌, ◌++◌, length, All}
 use Rattle.model.specs.declared.AnyOp.{AnyOp}
-use Rattle.world.specs.World.{AnyRequest, AnyAnswer, kind_at, logged, entries_of, served, IsLegal, StartsWith}
-use Rattle.world.specs.declared.JournalEvent.TheVariants.{Invoked, Returned}
-use Rattle.desk_rule.specs.declared.board.Own.TheVariants as own
-use Rattle.desk_rule.specs.declared.board.View.{View}
-use Rattle.desk_rule.specs.Views.{journal, seen_of}
+use Rattle.desk_model.specs.World.{AnyRequest, AnyAnswer, kind_at, logged, entries_of, served, IsLegal, StartsWith}
+use Rattle.desk_model.specs.declared.JournalEvent.TheVariants.{Invoked, Returned}
+use Rattle.desk_invariant.specs.declared.board.Own.TheVariants as own
+use Rattle.desk_invariant.specs.declared.board.DeskView.{DeskView}
+use Rattle.desk_invariant.specs.Views.{journal, seen_of}
 use Rattle.publication.specs.Handles.{DeskSeen, Known}
 use Rattle.publication.specs.Calls.{Posted, PostRefused}
 use Rattle.combiner.specs.Passes.{KeepsCalls}
@@ -14,13 +14,13 @@ use Rattle.combiner.specs.declared.waiting.CallFault.TheVariants as fault
 
 -- What the client has seen of the request's object after its call is over: a legal log, which holds of its own calls those
 -- before and this one, and in which all were invoked before this one returned.
-pub record IsLogged (v : View) (request : AnyRequest) (a : AnyAnswer) (returned : ℕ) (w : View) : Type 0 where
+pub record IsLogged (v : DeskView) (request : AnyRequest) (a : AnyAnswer) (returned : ℕ) (w : DeskView) : Type 0 where
   pub legal : IsLegal (kind_at v.kinds request.object) (seen_of w request.object)
   pub counted : entries_of v.number (seen_of w request.object) ≡ served request.object v.number v.done ++ logged v.number request a
   pub later : All (λ e. e.ticket < returned) (seen_of w request.object)
 
 -- the outstanding call is over, with this answer
-pub record Returns (v : View) (a : AnyAnswer) (w : View) : Type 0 where
+pub record Returns (v : DeskView) (a : AnyAnswer) (w : DeskView) : Type 0 where
   pub ticket : ℕ
   pub number : w.number ≡ v.number
   pub kinds : w.kinds ≡ v.kinds
@@ -34,7 +34,7 @@ pub record Returns (v : View) (a : AnyAnswer) (w : View) : Type 0 where
 
 -- An idle client made one call, with this answer: its invocation and its return are the last events of the journal, and
 -- the client is idle. What it has seen goes on, and has the call.
-pub record Called (v : View) (object : ℕ) (op : AnyOp) (a : AnyAnswer) (w : View) : Type 0 where
+pub record Called (v : DeskView) (object : ℕ) (op : AnyOp) (a : AnyAnswer) (w : DeskView) : Type 0 where
   pub invoked : ℕ
   pub returned : ℕ
   pub was_idle : v.own ≡ own.Idle
@@ -47,8 +47,8 @@ pub record Called (v : View) (object : ℕ) (op : AnyOp) (a : AnyAnswer) (w : Vi
   pub logged : IsLogged v (record { object = object; ticket = invoked; op = op }) a returned w
 
 -- the call was posted, and is outstanding still
-abbrev pub IsOutstanding : View → ℕ → AnyOp → View → Type 0
-IsOutstanding v object op w = (u : View) × Posted v object op u × KeepsCalls u w
+abbrev pub IsOutstanding : DeskView → ℕ → AnyOp → DeskView → Type 0
+IsOutstanding v object op w = (u : DeskView) × Posted v object op u × KeepsCalls u w
 
 -- why the call on the object x was not answered: it was not posted, and the client is as it was; or memory was refused
 abbrev pub Faulted : DeskSeen → Known → ℕ → AnyOp → CallFault → Known → Type 0

@@ -2,9 +2,9 @@
 
 ghost use Rattle.std.specs.Prelude.{◌≡◌, ◌<◌, ◌≤◌, length, IfSome, IfNone};
 ghost use Rattle.model.specs.Objects.{kind_of};
-ghost use Rattle.world.specs.World.{kind_at};
-ghost use Rattle.world.specs.Images.{answer_in};
-ghost use Rattle.desk_rule.specs.Views.{after_miss};
+ghost use Rattle.desk_model.specs.World.{kind_at};
+ghost use Rattle.desk_model.specs.Images.{answer_in};
+ghost use Rattle.desk_invariant.specs.Views.{after_miss};
 ghost use Rattle.publication.specs.Calls.{MayPost};
 ghost use Rattle.combiner.specs.Waits.{Called};
 ghost use Rattle.combiner.specs.Passes.{Goes, KeepsCalls, IsTried, IsSettled, IsSettledNow, IsSameBut, HasLearnt, IfServed, IfBusy, IfNoMemory};

@@ -1,7 +1,7 @@
 //! A call that is posted and waits for its answer, and one that is made at once where the object is free.
 
 ghost use Rattle.std.specs.Prelude.{◌≡◌, ◌<◌, length, IfOk, IfErr};
-ghost use Rattle.world.specs.Images.{answer_in};
+ghost use Rattle.desk_model.specs.Images.{answer_in};
 ghost use Rattle.combiner.specs.Passes.{KeepsCalls};
 ghost use Rattle.combiner.specs.Waits.{Called, Returns, Faulted};
 

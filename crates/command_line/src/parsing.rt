@@ -440,7 +440,7 @@ fn run_found(alloc: Global, matches: &ArgMatches<'_>) -> Result<Line, LineFault>
 }
 
 /// The command that was found.
-fn found(alloc: Global, matches: &ArgMatches<'_>) -> Result<Line, LineFault>
+fn line_of(alloc: Global, matches: &ArgMatches<'_>) -> Result<Line, LineFault>
     requires { spec.IsCommand (subcommand_rows_of matches.now) }
     ensures found { IfOk result (spec.Finds (subcommand_rows_of matches.now)) }
     ensures lacks { IfErr result (λ f. f ≢ LineFault.NoMemory →
@@ -486,7 +486,7 @@ pub fn line<S: AsStr>(alloc: Global, words: &[S]) -> Result<Line, LineFault>
         IfErr result (λ e. e ≡ LineFault.NoMemory) }
 {
     match command(alloc)?.try_get_matches_from(words) {
-        Ok(matches) => found(alloc, &matches),
+        Ok(matches) => line_of(alloc, &matches),
         Err(error) => Err(fault_of(alloc, &error)),
     }
 }

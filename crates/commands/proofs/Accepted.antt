@@ -1,8 +1,8 @@
 -- What is put out of a sound record is a yes, but for want of memory.
 use Rattle.std.proofs.Common.{◌≡◌, ◌≢◌, ◌∙◌, ℕ, List, [], ◌++◌, true, inl, inr, refl, sym, ap, append_assoc}
 use Rattle.model.specs.declared.Kind.{Kind}
-use Rattle.world.specs.World.{AnyEntry, AnyEvent}
-use Rattle.world.specs.Records.{IsSoundRecord}
+use Rattle.desk_model.specs.World.{AnyEntry, AnyEvent}
+use Rattle.desk_model.specs.Records.{IsSoundRecord}
 use Rattle.report.specs.Lines.{verdict_text}
 use Rattle.report.specs.declared.verdict.Verdict.{Verdict}
 use Rattle.report.specs.declared.verdict.Verdict.TheVariants.{Yes, No, Malformed, NoMemory}

@@ -10,9 +10,9 @@ use Rattle.certificate.specs.declared.Certificate.{Certificate}
 use Rattle.certificate.specs.Lines.{lines_of}
 use Rattle.checker.specs.Refusals.{AreValid}
 use Rattle.search.specs.declared.found.Search.{Search}
-use Rattle.search.specs.declared.found.Found.{Found}
-use Rattle.search.specs.declared.found.Found.TheVariants as found
-use Rattle.search.specs.declared.found.Found.TheVariants.{Impossible, OutOfSteps, TooLarge, NoMemory}
+use Rattle.search.specs.declared.found.SearchOutcome.{SearchOutcome}
+use Rattle.search.specs.declared.found.SearchOutcome.TheVariants as found
+use Rattle.search.specs.declared.found.SearchOutcome.TheVariants.{Impossible, OutOfSteps, TooLarge, NoMemory}
 use Rattle.search.specs.Answers.{IsAnswerOn, IsFound, certificate_in, certificates_in}
 use Rattle.commands.specs.Statuses.{failed_status}
 use Rattle.commands.specs.Searches.{answer_line, answers_text, is_impossible, is_found, search_status, AreSearched}
@@ -27,7 +27,7 @@ one_impossible (a ∷ rest) e = go a.1.found refl e (one_impossible rest)
     later : Any (λ a. a.1.found ≡ Impossible) rest → Any (λ a. a.1.found ≡ Impossible) (a ∷ rest)
     later r = (suc r.0, r.1, omega (arith, r.2), r.3, r.4)
 
-    go : (f : Found) → a.1.found ≡ f → (is_impossible f || list_any (λ a. is_impossible a.1.found) rest) ≡ true → (list_any (λ a. is_impossible a.1.found) rest ≡ true → Any (λ a. a.1.found ≡ Impossible) rest)
+    go : (f : SearchOutcome) → a.1.found ≡ f → (is_impossible f || list_any (λ a. is_impossible a.1.found) rest) ≡ true → (list_any (λ a. is_impossible a.1.found) rest ≡ true → Any (λ a. a.1.found ≡ Impossible) rest)
         → Any (λ a. a.1.found ≡ Impossible) (a ∷ rest)
     go (found.Found c) q t again = later (again t)
     go Impossible q t again = (0, a, omega arith, refl, q)
@@ -40,7 +40,7 @@ one_impossible (a ∷ rest) e = go a.1.found refl e (one_impossible rest)
 has_one : (a : ℕ × Search) → is_found a.1.found ≡ true → (c : Certificate) × (certificate_in a.1.found ≡ Some c) × (answer_line a.0 a.1.steps a.1.found ≡ lines_of (c ∷ []))
 has_one a = go a.1.found
   where
-    go : (f : Found) → is_found f ≡ true → (c : Certificate) × (certificate_in f ≡ Some c) × (answer_line a.0 a.1.steps f ≡ lines_of (c ∷ []))
+    go : (f : SearchOutcome) → is_found f ≡ true → (c : Certificate) × (certificate_in f ≡ Some c) × (answer_line a.0 a.1.steps f ≡ lines_of (c ∷ []))
     go (found.Found c) e = (c, refl, refl)
     go Impossible e = absurd cc
     go OutOfSteps e = absurd cc

@@ -7,30 +7,30 @@ use Rattle.events.specs.Events.{IsNamed}
 use Rattle.certificate.specs.declared.Certificate.{Certificate}
 use Rattle.certificate.specs.Lines.{lines_of}
 use Rattle.checker.specs.Refusals.{AreValid}
-use Rattle.finder.specs.declared.finding.Found.{Found}
-use Rattle.finder.specs.declared.finding.Found.TheVariants.{Order, Open}
+use Rattle.finder.specs.declared.finding.FindOutcome.{FindOutcome}
+use Rattle.finder.specs.declared.finding.FindOutcome.TheVariants.{Order, Open}
 use Rattle.finder.specs.Finds.{IsFoundOn, IsFound, certificate_in, certificates_in}
 use Rattle.commands.specs.Statuses.{failed_status}
 use Rattle.commands.specs.Findings.{finding_line, findings_text, has_order, find_status, AreFound}
 use Rattle.commands.proofs.AllFound.{each_found, found_text, not_failed, yes_of}
 
-has_one : (a : ℕ × Found) → has_order a.1 ≡ true → (c : Certificate) × (certificate_in a.1 ≡ Some c) × (finding_line a.0 a.1 ≡ lines_of (c ∷ []))
+has_one : (a : ℕ × FindOutcome) → has_order a.1 ≡ true → (c : Certificate) × (certificate_in a.1 ≡ Some c) × (finding_line a.0 a.1 ≡ lines_of (c ∷ []))
 has_one a = go a.1
   where
-    go : (f : Found) → has_order f ≡ true → (c : Certificate) × (certificate_in f ≡ Some c) × (finding_line a.0 f ≡ lines_of (c ∷ []))
+    go : (f : FindOutcome) → has_order f ≡ true → (c : Certificate) × (certificate_in f ≡ Some c) × (finding_line a.0 f ≡ lines_of (c ∷ []))
     go (Order c) e = (c, refl, refl)
     go Open e = absurd cc
 
-abbrev certificate_of : ℕ × Found → Option Certificate
+abbrev certificate_of : ℕ × FindOutcome → Option Certificate
 certificate_of a = certificate_in a.1
 
-abbrev line_on : ℕ × Found → List ℕ
+abbrev line_on : ℕ × FindOutcome → List ℕ
 line_on a = finding_line a.0 a.1
 
-pub never_failed : {status : ℕ} (answers : List (ℕ × Found)) → status ≡ find_status answers → status ≢ failed_status
-never_failed answers is e = not_failed false (list_all (λ (a : ℕ × Found). has_order a.1) answers) (sym is ∙ e)
+pub never_failed : {status : ℕ} (answers : List (ℕ × FindOutcome)) → status ≡ find_status answers → status ≢ failed_status
+never_failed answers is e = not_failed false (list_all (λ (a : ℕ × FindOutcome). has_order a.1) answers) (sym is ∙ e)
 
-pub all_found : (es : List Event) (answers : List (ℕ × Found)) → AllPairs (λ a b. a.0 < b.0) answers → ((x : ℕ) → Contains (map (λ a. a.0) answers) x ↔ IsNamed es x) → All (λ a. IsFoundOn es a.0 a.1) answers
+pub all_found : (es : List Event) (answers : List (ℕ × FindOutcome)) → AllPairs (λ a b. a.0 < b.0) answers → ((x : ℕ) → Contains (map (λ a. a.0) answers) x ↔ IsNamed es x) → All (λ a. IsFoundOn es a.0 a.1) answers
     → (All (λ a. IsFound a.1) answers → AreValid es (certificates_in answers)) → AreFound es (find_status answers) (findings_text answers)
 all_found es answers rising named each valid = record {
   answers = answers;
@@ -39,5 +39,5 @@ all_found es answers rising named each valid = record {
   each = each;
   status_is = refl;
   text_is = refl;
-  certified = λ e. let all_is = yes_of false (list_all (λ (a : ℕ × Found). has_order a.1) answers) e in (certificates_in answers, valid (each_found (λ (a : ℕ × Found). has_order a.1) certificate_of line_on findings_text has_one refl (λ a rest. refl) answers all_is), found_text (λ (a : ℕ × Found). has_order a.1) certificate_of line_on findings_text has_one refl (λ a rest. refl) answers all_is);
+  certified = λ e. let all_is = yes_of false (list_all (λ (a : ℕ × FindOutcome). has_order a.1) answers) e in (certificates_in answers, valid (each_found (λ (a : ℕ × FindOutcome). has_order a.1) certificate_of line_on findings_text has_one refl (λ a rest. refl) answers all_is), found_text (λ (a : ℕ × FindOutcome). has_order a.1) certificate_of line_on findings_text has_one refl (λ a rest. refl) answers all_is);
 }

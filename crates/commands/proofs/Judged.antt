@@ -7,7 +7,7 @@ use Rattle.model.specs.Orders.{events}
 use Rattle.events.specs.declared.event.Event.{Event}
 use Rattle.events.specs.Events.{IsNamed, kind_at, denoted}
 use Rattle.search.specs.declared.found.Search.{Search}
-use Rattle.search.specs.declared.found.Found.TheVariants.{Impossible}
+use Rattle.search.specs.declared.found.SearchOutcome.TheVariants.{Impossible}
 use Rattle.deciding.specs.Decisions.{IsDecisionOn}
 use Rattle.report.specs.declared.verdict.Verdict.{Verdict}
 use Rattle.report.specs.declared.verdict.Verdict.TheVariants as verdict

@@ -3,9 +3,9 @@ use Rattle.std.proofs.Common.{◌≡◌, ◌∙◌, ℕ, List, ◌∷◌, ◌++�
 use Rattle.std.proofs.lemmas.List.{drop_more}
 use Rattle.model.specs.declared.AnyOp.{AnyOp}
 use Rattle.model.specs.declared.AnyReply.{AnyReply}
-use Rattle.world.specs.World.{AnyEntry, AnyEvent}
-use Rattle.world.specs.Records.{IsSoundRecord}
-use Rattle.world.proofs.Entries.{events_as_they_are, entries_as_they_are}
+use Rattle.desk_model.specs.World.{AnyEntry, AnyEvent}
+use Rattle.desk_model.specs.Records.{IsSoundRecord}
+use Rattle.desk_model.proofs.Entries.{events_as_they_are, entries_as_they_are}
 use Rattle.certificate.specs.declared.Certificate.{Certificate}
 use Rattle.certificate.specs.Lines.{line_of}
 use Rattle.recorder.specs.Records.{Recorded, journal_at, log_at}

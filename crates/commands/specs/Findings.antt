@@ -7,8 +7,8 @@ use Rattle.events.specs.Events.{IsNamed}
 use Rattle.certificate.specs.declared.Certificate.{Certificate}
 use Rattle.certificate.specs.Lines.{lines_of}
 use Rattle.checker.specs.Refusals.{AreValid}
-use Rattle.finder.specs.declared.finding.Found.{Found}
-use Rattle.finder.specs.declared.finding.Found.TheVariants.{Order, Open}
+use Rattle.finder.specs.declared.finding.FindOutcome.{FindOutcome}
+use Rattle.finder.specs.declared.finding.FindOutcome.TheVariants.{Order, Open}
 use Rattle.finder.specs.Finds.{IsFoundOn}
 use Rattle.judging.specs.Texts.{DenotesHistory}
 use Rattle.commands.specs.Searches.{IsUnsearched}
@@ -16,25 +16,25 @@ use Rattle.commands.specs.Outputs.{IsOutput}
 use Rattle.commands.specs.Statuses.{yes_status, no_memory_status}
 
 -- the line of what was found for an object: its certificate, or that it is open
-abbrev pub finding_line : ℕ → Found → List ℕ
+abbrev pub finding_line : ℕ → FindOutcome → List ℕ
 finding_line x (Order c) = lines_of (c ∷ [])
 finding_line x Open = (codes "; object " ++ decimal x) ++ codes ": open\n"
 
-abbrev pub findings_text : List (ℕ × Found) → List ℕ
+abbrev pub findings_text : List (ℕ × FindOutcome) → List ℕ
 findings_text [] = []
 findings_text (a ∷ rest) = finding_line a.0 a.1 ++ findings_text rest
 
-abbrev pub has_order : Found → Bool
+abbrev pub has_order : FindOutcome → Bool
 has_order (Order c) = true
 has_order Open = false
 
 -- yes, where each object has a certificate
-abbrev pub find_status : List (ℕ × Found) → ℕ
+abbrev pub find_status : List (ℕ × FindOutcome) → ℕ
 find_status answers = if list_all (λ a. has_order a.1) answers then yes_status else no_memory_status
 
 -- What was found for the objects of a history, in rising number, and what it shows.
 pub record AreFound (es : List Event) (status : ℕ) (text : List ℕ) : Type 0 where
-  pub answers : List (ℕ × Found)
+  pub answers : List (ℕ × FindOutcome)
   pub rising : AllPairs (λ a b. a.0 < b.0) answers
   pub named : (x : ℕ) → Contains (map (λ a. a.0) answers) x ↔ IsNamed es x
   pub each : All (λ a. IsFoundOn es a.0 a.1) answers

@@ -9,19 +9,19 @@ use Rattle.events.specs.Events.{IsNamed, kind_at, denoted}
 use Rattle.certificate.specs.declared.Certificate.{Certificate}
 use Rattle.checker.specs.Refusals.{AreValid}
 use Rattle.search.specs.declared.found.Search.{Search}
-use Rattle.search.specs.declared.found.Found.{Found}
+use Rattle.search.specs.declared.found.SearchOutcome.{SearchOutcome}
 use Rattle.deciding.specs.Decisions.{IsDecisionOn}
 use Rattle.report.specs.declared.verdict.Summary.{Summary}
 use Rattle.report.specs.declared.verdict.Verdict.{Verdict}
 use Rattle.report.specs.declared.verdict.Verdict.TheVariants as verdict
-use Rattle.judging.specs.declared.texts.Stop.TheVariants.{Stopped}
+use Rattle.judging.specs.declared.texts.TextFailure.TheVariants.{Faulty}
 use Rattle.judging.specs.Texts.{AreCountsOf, DenotesHistory, IsHistoryFault}
 use Rattle.commands.specs.Searches.{answer_line, is_found, search_status}
 use Rattle.commands.specs.Outputs.{IsOutput}
 use Rattle.commands.specs.Statuses.{no_status}
 
 -- the line on an object that has no certificate, and nothing on one that has
-abbrev pub note_line : ℕ → ℕ → Found → List ℕ
+abbrev pub note_line : ℕ → ℕ → SearchOutcome → List ℕ
 note_line x n f = if is_found f then [] else answer_line x n f
 
 abbrev pub notes_text : List (ℕ × Search) → List ℕ
@@ -58,7 +58,7 @@ IsVerdictOn es verdict.NoMemory = ⊤
 abbrev pub IsVerdictOnText : List ℕ → Verdict → Type 0
 IsVerdictOnText h (verdict.Yes s) = IsShort h × (es : List Event) × DenotesHistory h es × IsCertified es s
 IsVerdictOnText h (verdict.No r) = ⊥
-IsVerdictOnText h (verdict.Malformed f) = IsHistoryFault h (Stopped f)
+IsVerdictOnText h (verdict.Malformed f) = IsHistoryFault h (Faulty f)
 IsVerdictOnText h verdict.NoMemory = ⊤
 
 -- Some object of the history that the text denotes has no certificate. The text is not too long to be read.

@@ -6,8 +6,8 @@ use Rattle.seq_objects.specs.Kinds.{kinds_of}
 use Rattle.workload.specs.Workloads.{Work}
 use Rattle.workload.specs.Drawing.{client_calls}
 use Rattle.clients.specs.Made.{Ran}
-use Rattle.world.specs.World.{AnyEntry, AnyEvent}
-use Rattle.world.specs.Records.{IsSoundRecord}
+use Rattle.desk_model.specs.World.{AnyEntry, AnyEvent}
+use Rattle.desk_model.specs.Records.{IsSoundRecord}
 use Rattle.events.specs.declared.event.Event.{Event}
 use Rattle.model.specs.declared.AnyOp.{AnyOp}
 use Rattle.model.specs.declared.AnyReply.{AnyReply}

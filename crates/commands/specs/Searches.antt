@@ -10,19 +10,19 @@ use Rattle.certificate.specs.declared.Certificate.{Certificate}
 use Rattle.certificate.specs.Lines.{lines_of}
 use Rattle.checker.specs.Refusals.{AreValid}
 use Rattle.search.specs.declared.found.Search.{Search}
-use Rattle.search.specs.declared.found.Found.{Found}
-use Rattle.search.specs.declared.found.Found.TheVariants as found
-use Rattle.search.specs.declared.found.Found.TheVariants.{Impossible, OutOfSteps, TooLarge, NoMemory}
+use Rattle.search.specs.declared.found.SearchOutcome.{SearchOutcome}
+use Rattle.search.specs.declared.found.SearchOutcome.TheVariants as found
+use Rattle.search.specs.declared.found.SearchOutcome.TheVariants.{Impossible, OutOfSteps, TooLarge, NoMemory}
 use Rattle.search.specs.Answers.{IsAnswerOn}
 use Rattle.report.specs.declared.verdict.Verdict.{Verdict}
 use Rattle.report.specs.declared.verdict.Verdict.TheVariants as verdict
-use Rattle.judging.specs.declared.texts.Stop.TheVariants.{Stopped}
+use Rattle.judging.specs.declared.texts.TextFailure.TheVariants.{Faulty}
 use Rattle.judging.specs.Texts.{DenotesHistory, IsHistoryFault}
 use Rattle.commands.specs.Outputs.{IsOutput}
 use Rattle.commands.specs.Statuses.{yes_status, no_status, no_memory_status}
 
 -- the line of an answer on an object: its certificate, or why it has none
-abbrev pub answer_line : ℕ → ℕ → Found → List ℕ
+abbrev pub answer_line : ℕ → ℕ → SearchOutcome → List ℕ
 answer_line x n (found.Found c) = lines_of (c ∷ [])
 answer_line x n Impossible = (codes "; object " ++ decimal x) ++ codes ": impossible\n"
 answer_line x n OutOfSteps = (codes "; object " ++ decimal x) ++ (codes ": out of steps after " ++ (decimal n ++ codes "\n"))
@@ -33,14 +33,14 @@ abbrev pub answers_text : List (ℕ × Search) → List ℕ
 answers_text [] = []
 answers_text (a ∷ rest) = answer_line a.0 a.1.steps a.1.found ++ answers_text rest
 
-abbrev pub is_impossible : Found → Bool
+abbrev pub is_impossible : SearchOutcome → Bool
 is_impossible (found.Found c) = false
 is_impossible Impossible = true
 is_impossible OutOfSteps = false
 is_impossible TooLarge = false
 is_impossible NoMemory = false
 
-abbrev pub is_found : Found → Bool
+abbrev pub is_found : SearchOutcome → Bool
 is_found (found.Found c) = true
 is_found Impossible = false
 is_found OutOfSteps = false
@@ -71,7 +71,7 @@ IsSearched h limit status text = IsShort h × (es : List Event) × DenotesHistor
 abbrev pub IsUnsearched : List ℕ → Verdict → Type 0
 IsUnsearched h (verdict.Yes s) = ⊥
 IsUnsearched h (verdict.No r) = ⊥
-IsUnsearched h (verdict.Malformed f) = IsHistoryFault h (Stopped f)
+IsUnsearched h (verdict.Malformed f) = IsHistoryFault h (Faulty f)
 IsUnsearched h verdict.NoMemory = ⊤
 
 abbrev pub IsSearchOutput : List ℕ → ℕ → ℕ → List ℕ → Type 0

@@ -2,7 +2,7 @@
 
 ghost use Rattle.std.specs.Prelude.{◌≡◌, ◌≢◌, ◌⊎◌, ℕ, List, codes, false, true, IfOk, IfErr};
 ghost use Rattle.std.specs.Io.KnownBytes.{Appends};
-ghost use Rattle.edn.specs.Sent.{SendsFront};
+ghost use Rattle.edn.specs.Sent.{WritesPrefix};
 ghost use Rattle.judging.specs.Texts.{IsLinearizableText};
 ghost use Rattle.judging.specs.Verdicts.{Holds};
 ghost use Rattle.report.specs.Lines.{verdict_text};
@@ -48,7 +48,7 @@ pub fn check_sources<R: Threads + Sync, H: Source, C: Source, S: Sink>(
     ensures front { IfOk result (λ status. status ≡ failed_status →
         IsCutOff (H.remaining history.old) (H.remaining history.new) (C.remaining certificates.old)
         (C.remaining certificates.new) (S.sent sink.old) (S.sent sink.new)
-        ⊎ SendsFront (S.sent sink.old) (S.sent sink.new) (codes "out of memory\n")) }
+        ⊎ WritesPrefix (S.sent sink.old) (S.sent sink.new) (codes "out of memory\n")) }
     // The first text that could not be read is named, and nothing is written.
     ensures unread_history { IfErr result (λ text. text ≡ unread.History →
         (H.broken history.new ≡ true) × (certificates.new ≡ certificates.old)) }

@@ -3,7 +3,7 @@
 ghost use Rattle.std.specs.Prelude.{◌≡◌, ◌≢◌, ◌++◌, ℕ, List, false, true, codes, decimal, OnOk, IfOk, IfErr};
 ghost use Rattle.std.specs.Io.KnownBytes.{Appends};
 ghost use Rattle.std.specs.List.{list_all};
-ghost use Rattle.edn.specs.Sent.{SendsFront};
+ghost use Rattle.edn.specs.Sent.{WritesPrefix};
 ghost use Rattle.commands.specs.Findings.{finding_line, findings_text, find_status, has_order, AreFound, AreFoundIn, IsFindOutput};
 ghost use Rattle.commands.specs.Searches.{IsUnsearched};
 ghost use Rattle.commands.specs.Statuses.{failed_status};
@@ -14,7 +14,7 @@ use crate::searching::push_note;
 use crate::statuses::NO_MEMORY;
 use crate::texts::history_of;
 use edn::Sink;
-use finder::{Found, find_all};
+use finder::{FindOutcome, find_all};
 use history::History;
 use report::Verdict;
 use std::alloc::{AllocError, Global};
@@ -24,21 +24,21 @@ fn push_finding(
     alloc: Global,
     text: &mut Vec<u8>,
     object: u32,
-    found: &Found,
+    found: &FindOutcome,
 ) -> Result<(), AllocError>
     ensures { OnOk result (text.new.items ≡ text.old.items ++ finding_line object found.now) }
 {
     match found {
-        Found::Order(certificate) => {
+        FindOutcome::Order(certificate) => {
             let line = certificates_text(alloc, std::slice::from_ref(certificate))?;
             text.extend_from_slice(&line)
         }
-        Found::Open => push_note(text, object, b": open\n"),
+        FindOutcome::Open => push_note(text, object, b": open\n"),
     }
 }
 
 /// The lines for all objects.
-fn text_of(alloc: Global, answers: &[(u32, Found)]) -> Result<Vec<u8>, AllocError>
+fn text_of(alloc: Global, answers: &[(u32, FindOutcome)]) -> Result<Vec<u8>, AllocError>
     ensures { IfOk result (λ text. text.items ≡ findings_text answers.now) }
 {
     let mut text = Vec::new(alloc);
@@ -50,21 +50,21 @@ fn text_of(alloc: Global, answers: &[(u32, Found)]) -> Result<Vec<u8>, AllocErro
     Ok(text)
 }
 
-fn is_found(answer: &(u32, Found)) -> bool
+fn is_found(answer: &(u32, FindOutcome)) -> bool
     ensures { result ≡ has_order answer.now.1 }
 {
-    matches!(answer.1, Found::Order(_))
+    matches!(answer.1, FindOutcome::Order(_))
 }
 
 /// Whether each object has a certificate.
-fn are_all_found(answers: &[(u32, Found)]) -> bool
+fn are_all_found(answers: &[(u32, FindOutcome)]) -> bool
     ensures { result ≡ list_all (λ a. has_order a.1) answers.now }
 {
     answers.iter().all(|answer| is_found(answer))
 }
 
 /// 0 where a certificate was found for each object, else 3.
-fn status_for(answers: &[(u32, Found)]) -> u8
+fn status_for(answers: &[(u32, FindOutcome)]) -> u8
     ensures { result ≡ find_status answers.now }
 {
     if are_all_found(answers) { 0 } else { NO_MEMORY }
@@ -103,7 +103,7 @@ pub(crate) fn report_find<S: Sink>(alloc: Global, text: &[u8], sink: &mut S) -> 
     ensures failed { result ≡ failed_status → S.broken sink.new ≡ true }
     ensures front { result ≡ failed_status →
         (status : ℕ) × (out : List ℕ) × IsFindOutput text.now status out
-        × SendsFront (S.sent sink.old) (S.sent sink.new) out }
+        × WritesPrefix (S.sent sink.old) (S.sent sink.new) out }
 {
     put_out(find_text(alloc, text), sink)
 }

@@ -5,7 +5,7 @@ ghost use Rattle.std.specs.Io.KnownBytes.{Appends};
 ghost use Rattle.certificate.specs.Denotes.{AreDistinct};
 ghost use Rattle.checker.specs.Refusals.{AreValid};
 ghost use Rattle.search.specs.Answers.{certificates_in};
-ghost use Rattle.edn.specs.Sent.{SendsFront};
+ghost use Rattle.edn.specs.Sent.{WritesPrefix};
 ghost use Rattle.judging.specs.Texts.{IsLinearizableText};
 ghost use Rattle.commands.specs.Judged.{note_line, notes_text, AreOpen, IsJudgeOutput, IsOpenText, IsVerdictOn, IsVerdictOnText};
 ghost use Rattle.commands.specs.Searches.{search_status, IsNotLinearizableText};
@@ -16,7 +16,7 @@ use crate::searching::{are_all_found, push_answer, status_for};
 use crate::texts::history_of;
 use certificate::Certificate;
 use checker::Refusal;
-use deciding::{Found, Search, decide_all};
+use deciding::{Search, SearchOutcome, decide_all};
 use edn::Sink;
 use history::History;
 use judging::judge_history;
@@ -35,7 +35,7 @@ fn push_note_on(
         ++ note_line object answer.now.steps answer.now.found) }
 {
     match answer.found {
-        Found::Found(_) => Ok(()),
+        SearchOutcome::Found(_) => Ok(()),
         _ => push_answer(alloc, text, object, answer),
     }
 }
@@ -73,7 +73,7 @@ fn certificates_of(
 {
     let mut certificates = Vec::new(alloc);
     for (_, answer) in answers {
-        if let Found::Found(certificate) = answer.found {
+        if let SearchOutcome::Found(certificate) = answer.found {
             certificates.push(certificate)?;
         }
     }
@@ -172,7 +172,7 @@ pub(crate) fn report_judgement<R: Threads + Sync, S: Sink>(
     ensures failed { result ≡ failed_status → S.broken sink.new ≡ true }
     ensures front { result ≡ failed_status →
         (status : ℕ) × (out : List ℕ) × IsJudgeOutput text.now steps status out
-        × SendsFront (S.sent sink.old) (S.sent sink.new) out }
+        × WritesPrefix (S.sent sink.old) (S.sent sink.new) out }
     ensures linearizable { result ≡ yes_status → IsLinearizableText text.now }
     ensures refuted { result ≡ no_status → IsNotLinearizableText text.now }
 {

@@ -2,7 +2,7 @@
 
 ghost use Rattle.std.specs.Prelude.{◌≡◌, ◌≢◌, false, true, IfOk};
 ghost use Rattle.std.specs.Io.KnownBytes.{Appends};
-ghost use Rattle.edn.specs.Sent.{SendsFront};
+ghost use Rattle.edn.specs.Sent.{WritesPrefix};
 ghost use Rattle.report.specs.Lines.{verdict_text};
 ghost use Rattle.commands.specs.Outputs.{status_in, text_in};
 ghost use Rattle.commands.specs.Statuses as spec;
@@ -19,7 +19,7 @@ pub(crate) struct Output {
     pub(crate) text: Vec<u8>,
 }
 
-/// Sends the lines, and answers their exit status.
+/// Writes the lines, and answers their exit status.
 pub(crate) fn send<S: Sink>(lines: &[u8], status: u8, sink: &mut S) -> u8
     requires working { S.broken sink.old ≡ false }
     requires other { status ≢ failed_status }
@@ -27,7 +27,7 @@ pub(crate) fn send<S: Sink>(lines: &[u8], status: u8, sink: &mut S) -> u8
         (result ≡ status) × Appends (S.sent sink.old) (S.sent sink.new) lines.now }
     ensures usable { result ≢ failed_status → S.broken sink.new ≡ false }
     ensures failed { result ≡ failed_status → S.broken sink.new ≡ true }
-    ensures front { result ≡ failed_status → SendsFront (S.sent sink.old) (S.sent sink.new) lines.now }
+    ensures front { result ≡ failed_status → WritesPrefix (S.sent sink.old) (S.sent sink.new) lines.now }
 {
     match write_bytes(lines, sink) {
         Ok(()) => status,
@@ -35,7 +35,7 @@ pub(crate) fn send<S: Sink>(lines: &[u8], status: u8, sink: &mut S) -> u8
     }
 }
 
-/// Sends the lines of the verdict, as comments or as they are, and answers its exit status.
+/// Writes the lines of the verdict, as comments or as they are, and answers its exit status.
 pub(crate) fn send_verdict<S: Sink>(verdict: &Verdict, commented: bool, sink: &mut S) -> u8
     requires { S.broken sink.old ≡ false }
     ensures written { result ≢ failed_status →
@@ -44,7 +44,7 @@ pub(crate) fn send_verdict<S: Sink>(verdict: &Verdict, commented: bool, sink: &m
     ensures usable { result ≢ failed_status → S.broken sink.new ≡ false }
     ensures failed { result ≡ failed_status → S.broken sink.new ≡ true }
     ensures front { result ≡ failed_status →
-        SendsFront (S.sent sink.old) (S.sent sink.new) (verdict_text commented verdict.now) }
+        WritesPrefix (S.sent sink.old) (S.sent sink.new) (verdict_text commented verdict.now) }
 {
     match write_verdict(verdict, commented, sink) {
         Ok(()) => status_of(verdict),
@@ -52,7 +52,7 @@ pub(crate) fn send_verdict<S: Sink>(verdict: &Verdict, commented: bool, sink: &m
     }
 }
 
-/// Sends what was made, or the verdict that says why there is nothing, and answers the exit status.
+/// Writes what was made, or the verdict that says why there is nothing, and answers the exit status.
 pub(crate) fn put_out<S: Sink>(made: Result<Output, Verdict>, sink: &mut S) -> u8
     requires working { S.broken sink.old ≡ false }
     requires other { IfOk made (λ o. o.status ≢ failed_status) }
@@ -60,7 +60,7 @@ pub(crate) fn put_out<S: Sink>(made: Result<Output, Verdict>, sink: &mut S) -> u
         (result ≡ status_in made) × Appends (S.sent sink.old) (S.sent sink.new) (text_in made) }
     ensures usable { result ≢ failed_status → S.broken sink.new ≡ false }
     ensures failed { result ≡ failed_status → S.broken sink.new ≡ true }
-    ensures front { result ≡ failed_status → SendsFront (S.sent sink.old) (S.sent sink.new) (text_in made) }
+    ensures front { result ≡ failed_status → WritesPrefix (S.sent sink.old) (S.sent sink.new) (text_in made) }
 {
     match made {
         Ok(output) => send(&output.text, output.status, sink),

@@ -2,7 +2,7 @@
 
 ghost use Rattle.std.specs.Prelude.{◌≡◌, ◌≢◌, ℕ, List, false, true};
 ghost use Rattle.std.specs.Io.KnownBytes.{Appends};
-ghost use Rattle.edn.specs.Sent.{SendsFront};
+ghost use Rattle.edn.specs.Sent.{WritesPrefix};
 ghost use Rattle.report.specs.Lines.{verdict_text};
 ghost use Rattle.report.specs.declared.verdict.Verdict.{Verdict};
 ghost use Rattle.commands.specs.Statuses as spec;
@@ -47,7 +47,7 @@ fn check<R: Threads + Sync, S: Sink>(
     ensures failed { result ≡ failed_status → S.broken sink.new ≡ true }
     ensures front { result ≡ failed_status →
         (v : Verdict) × Holds first.now second.now v
-        × SendsFront (S.sent sink.old) (S.sent sink.new) (verdict_text false v) }
+        × WritesPrefix (S.sent sink.old) (S.sent sink.new) (verdict_text false v) }
 {
     match check_bytes(rt, alloc, first, second, workers, sink) {
         Ok(verdict) => status_of(&verdict),
@@ -78,14 +78,14 @@ pub fn perform<R: Threads + Wait + Sync, S: Sink>(
     ensures failed { result ≡ failed_status → S.broken sink.new ≡ true }
     ensures front { IsCheck line.now → result ≡ failed_status →
         (v : Verdict) × Holds first.now second.now v
-        × SendsFront (S.sent sink.old) (S.sent sink.new) (verdict_text false v) }
+        × WritesPrefix (S.sent sink.old) (S.sent sink.new) (verdict_text false v) }
     // A search finds certificates that are valid for the history, or says that it is not linearizable.
     ensures search_written { IfSearch line.now (λ steps. result ≢ failed_status →
         (out : List ℕ) × IsSearchOutput first.now steps result out
         × Appends (S.sent sink.old) (S.sent sink.new) out) }
     ensures search_front { IfSearch line.now (λ steps. result ≡ failed_status →
         (status : ℕ) × (out : List ℕ) × IsSearchOutput first.now steps status out
-        × SendsFront (S.sent sink.old) (S.sent sink.new) out) }
+        × WritesPrefix (S.sent sink.old) (S.sent sink.new) out) }
     ensures certified { IfSearch line.now (λ _. result ≡ yes_status →
         (out : List ℕ) × AreCertificatesFor first.now out
         × Appends (S.sent sink.old) (S.sent sink.new) out) }
@@ -97,7 +97,7 @@ pub fn perform<R: Threads + Wait + Sync, S: Sink>(
         × Appends (S.sent sink.old) (S.sent sink.new) out }
     ensures find_front { IsFind line.now → result ≡ failed_status →
         (status : ℕ) × (out : List ℕ) × IsFindOutput first.now status out
-        × SendsFront (S.sent sink.old) (S.sent sink.new) out }
+        × WritesPrefix (S.sent sink.old) (S.sent sink.new) out }
     ensures found_certified { IsFind line.now → result ≡ yes_status →
         (out : List ℕ) × AreCertificatesFor first.now out
         × Appends (S.sent sink.old) (S.sent sink.new) out }
@@ -112,7 +112,7 @@ pub fn perform<R: Threads + Wait + Sync, S: Sink>(
         × Appends (S.sent sink.old) (S.sent sink.new) out) }
     ensures judge_front { IfJudge line.now (λ steps. result ≡ failed_status →
         (status : ℕ) × (out : List ℕ) × IsJudgeOutput first.now steps status out
-        × SendsFront (S.sent sink.old) (S.sent sink.new) out) }
+        × WritesPrefix (S.sent sink.old) (S.sent sink.new) out) }
     // A run comes to the record of clients that made the calls asked for, whose certificates are accepted, or to the line that
     // says why not.
     ensures run_written { IfRun line.now (λ o. result ≢ failed_status →
@@ -120,7 +120,7 @@ pub fn perform<R: Threads + Wait + Sync, S: Sink>(
         × Appends (S.sent sink.old) (S.sent sink.new) text) }
     ensures run_front { IfRun line.now (λ o. result ≡ failed_status →
         (status : ℕ) × (text : List ℕ) × IsRunOutput o status text
-        × SendsFront (S.sent sink.old) (S.sent sink.new) text) }
+        × WritesPrefix (S.sent sink.old) (S.sent sink.new) text) }
     ensures run_accepted { IfRun line.now (λ o. result ≡ yes_status →
         (out : List ℕ) × IsAcceptedRun o out × Appends (S.sent sink.old) (S.sent sink.new) out) }
     ensures run_never_no { IfRun line.now (λ _. result ≢ no_status) }
@@ -130,7 +130,7 @@ pub fn perform<R: Threads + Wait + Sync, S: Sink>(
         × Appends (S.sent sink.old) (S.sent sink.new) out }
     ensures simulate_front { IsSimulate line.now → result ≡ failed_status →
         (status : ℕ) × (out : List ℕ) × IsSimulateOutput first.now status out
-        × SendsFront (S.sent sink.old) (S.sent sink.new) out }
+        × WritesPrefix (S.sent sink.old) (S.sent sink.new) out }
     ensures simulated { IsSimulate line.now → result ≡ yes_status →
         (out : List ℕ) × IsAcceptedSimulation first.now out
         × Appends (S.sent sink.old) (S.sent sink.new) out }

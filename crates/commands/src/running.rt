@@ -3,8 +3,8 @@
 ghost use Rattle.std.specs.Prelude.{◌≡◌, ◌≢◌, ◌<◌, ◌++◌, ℕ, List, false, true, IfOk, IfErr};
 ghost use Rattle.std.specs.Io.KnownBytes.{Appends};
 ghost use Rattle.model.specs.declared.Kind.{Kind};
-ghost use Rattle.world.specs.Records.{IsSoundRecord};
-ghost use Rattle.edn.specs.Sent.{SendsFront};
+ghost use Rattle.desk_model.specs.Records.{IsSoundRecord};
+ghost use Rattle.edn.specs.Sent.{WritesPrefix};
 ghost use Rattle.judging.specs.Verdicts.{IsYesUnlessMemory};
 ghost use Rattle.commands.specs.Runs.{HaveCounts, IsAcceptedRun, IsRecordOutput, IsRunOutput, IsTextOf, Says, journals_of, logs_of, work_of};
 ghost use Rattle.report.specs.Lines.{verdict_text};
@@ -70,7 +70,7 @@ fn verdict_on(alloc: Global, record: &Record<AnyObject>) -> Verdict
     }
 }
 
-/// Sends the text, and then the verdict.
+/// Writes the text, and then the verdict.
 fn send_both<S: Sink>(text: &[u8], verdict: &Verdict, sink: &mut S) -> u8
     requires { S.broken sink.old ≡ false }
     ensures written { result ≢ failed_status →
@@ -79,7 +79,7 @@ fn send_both<S: Sink>(text: &[u8], verdict: &Verdict, sink: &mut S) -> u8
     ensures usable { result ≢ failed_status → S.broken sink.new ≡ false }
     ensures failed { result ≡ failed_status → S.broken sink.new ≡ true }
     ensures front { result ≡ failed_status →
-        SendsFront (S.sent sink.old) (S.sent sink.new) (text.now ++ verdict_text true verdict.now) }
+        WritesPrefix (S.sent sink.old) (S.sent sink.new) (text.now ++ verdict_text true verdict.now) }
 {
     if write_bytes(text, sink).is_err() {
         return FAILED;
@@ -104,7 +104,7 @@ pub(crate) fn report_record<S: Sink>(
     ensures front { result ≡ failed_status →
         (status : ℕ) × (text : List ℕ)
         × IsRecordOutput (journals_of record.now) (logs_of record.now) between.now status text
-        × SendsFront (S.sent sink.old) (S.sent sink.new) text }
+        × WritesPrefix (S.sent sink.old) (S.sent sink.new) text }
 {
     let Ok(text) = text_of(alloc, record, between) else {
         return send(b"out of memory\n", NO_MEMORY, sink);
@@ -114,7 +114,7 @@ pub(crate) fn report_record<S: Sink>(
 }
 
 /// What the clients did, each in a thread of its own.
-fn recorded<R: Threads + Wait + Sync>(
+fn record_of<R: Threads + Wait + Sync>(
     rt: &R,
     alloc: Global,
     options: RunOptions,
@@ -149,13 +149,13 @@ pub(crate) fn run<R: Threads + Wait + Sync, S: Sink>(
     ensures failed { result ≡ failed_status → S.broken sink.new ≡ true }
     ensures front { result ≡ failed_status →
         (status : ℕ) × (text : List ℕ) × IsRunOutput options status text
-        × SendsFront (S.sent sink.old) (S.sent sink.new) text }
+        × WritesPrefix (S.sent sink.old) (S.sent sink.new) text }
     ensures accepted { result ≡ yes_status →
         (out : List ℕ) × IsAcceptedRun options out
         × Appends (S.sent sink.old) (S.sent sink.new) out }
     ensures never_no { result ≢ no_status }
 {
-    match recorded(rt, alloc, options) {
+    match record_of(rt, alloc, options) {
         Ok(record) => report_record(alloc, &record, b"", sink),
         Err(RunFault::NoMemory) => send(b"out of memory\n", NO_MEMORY, sink),
         Err(RunFault::NoThread) => send(b"no thread\n", NO_MEMORY, sink),

@@ -3,7 +3,7 @@
 ghost use Rattle.std.specs.Prelude.{◌≡◌, ◌≢◌, ◌++◌, ℕ, List, false, true, codes, decimal, OnOk, IfOk, IfErr};
 ghost use Rattle.std.specs.Io.KnownBytes.{Appends};
 ghost use Rattle.std.specs.List.{list_all, list_any};
-ghost use Rattle.edn.specs.Sent.{SendsFront};
+ghost use Rattle.edn.specs.Sent.{WritesPrefix};
 ghost use Rattle.commands.specs.Searches.{answer_line, answers_text, search_status, is_impossible, is_found, AreSearched, IsSearched, IsUnsearched, IsSearchOutput};
 ghost use Rattle.commands.specs.Statuses.{failed_status};
 
@@ -15,7 +15,7 @@ use edn::Sink;
 use history::History;
 use itoa::Buffer;
 use report::Verdict;
-use search::{Found, Search, TryFirst, search_all_by};
+use search::{Search, SearchOutcome, TryFirst, search_all_by};
 use std::alloc::{AllocError, Global};
 
 pub(crate) fn push_decimal(text: &mut Vec<u8>, n: u64) -> Result<(), AllocError>
@@ -65,14 +65,14 @@ pub(crate) fn push_answer(
         ++ answer_line object answer.now.steps answer.now.found) }
 {
     match &answer.found {
-        Found::Found(certificate) => {
+        SearchOutcome::Found(certificate) => {
             let line = certificates_text(alloc, std::slice::from_ref(certificate))?;
             text.extend_from_slice(&line)
         }
-        Found::Impossible => push_note(text, object, b": impossible\n"),
-        Found::OutOfSteps => push_steps(text, object, answer.steps),
-        Found::TooLarge => push_note(text, object, b": too large\n"),
-        Found::NoMemory => push_note(text, object, b": out of memory\n"),
+        SearchOutcome::Impossible => push_note(text, object, b": impossible\n"),
+        SearchOutcome::OutOfSteps => push_steps(text, object, answer.steps),
+        SearchOutcome::TooLarge => push_note(text, object, b": too large\n"),
+        SearchOutcome::NoMemory => push_note(text, object, b": out of memory\n"),
     }
 }
 
@@ -92,13 +92,13 @@ fn text_of(alloc: Global, answers: &[(u32, Search)]) -> Result<Vec<u8>, AllocErr
 fn is_impossible(answer: &(u32, Search)) -> bool
     ensures { result ≡ is_impossible answer.now.1.found }
 {
-    matches!(answer.1.found, Found::Impossible)
+    matches!(answer.1.found, SearchOutcome::Impossible)
 }
 
 fn is_found(answer: &(u32, Search)) -> bool
     ensures { result ≡ is_found answer.now.1.found }
 {
-    matches!(answer.1.found, Found::Found(_))
+    matches!(answer.1.found, SearchOutcome::Found(_))
 }
 
 /// Whether some object is impossible.
@@ -172,7 +172,7 @@ pub(crate) fn report_search<S: Sink>(
     ensures failed { result ≡ failed_status → S.broken sink.new ≡ true }
     ensures front { result ≡ failed_status →
         (status : ℕ) × (out : List ℕ) × IsSearchOutput text.now steps status out
-        × SendsFront (S.sent sink.old) (S.sent sink.new) out }
+        × WritesPrefix (S.sent sink.old) (S.sent sink.new) out }
 {
     put_out(search_text(alloc, text, steps, first), sink)
 }

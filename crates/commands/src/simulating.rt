@@ -2,7 +2,7 @@
 
 ghost use Rattle.std.specs.Prelude.{◌≡◌, ◌≢◌, ◌++◌, ℕ, List, false, true, codes, decimal, IfOk};
 ghost use Rattle.std.specs.Io.KnownBytes.{Appends};
-ghost use Rattle.edn.specs.Sent.{SendsFront};
+ghost use Rattle.edn.specs.Sent.{WritesPrefix};
 ghost use Rattle.commands.specs.Runs.{IsRecordOutput, journals_of, logs_of};
 ghost use Rattle.commands.specs.Simulated as spec;
 ghost use Rattle.commands.specs.Simulated.{IsAcceptedSimulation, IsFaultOutput, IsSimulateOutput};
@@ -20,7 +20,12 @@ use std::alloc::{AllocError, Global};
 const MALFORMED: u8 = 2;
 
 /// A text with one number in it.
-fn numbered(alloc: Global, before: &[u8], n: u64, after: &[u8]) -> Result<Vec<u8>, AllocError>
+fn text_with_number(
+    alloc: Global,
+    before: &[u8],
+    n: u64,
+    after: &[u8],
+) -> Result<Vec<u8>, AllocError>
     ensures { IfOk result (λ v. v.items ≡ before.now ++ (decimal n ++ after.now)) }
 {
     let mut text = Vec::new(alloc);
@@ -31,7 +36,7 @@ fn numbered(alloc: Global, before: &[u8], n: u64, after: &[u8]) -> Result<Vec<u8
 }
 
 /// The line of a fault with its number and its place.
-fn placed(
+fn line_with_place(
     alloc: Global,
     before: &[u8],
     number: u8,
@@ -41,7 +46,7 @@ fn placed(
     ensures { IfOk result (λ v.
         v.items ≡ before.now ++ (decimal number ++ (at.now ++ (decimal place ++ codes "\n")))) }
 {
-    let mut text = numbered(alloc, before, u64::from(number), at)?;
+    let mut text = text_with_number(alloc, before, u64::from(number), at)?;
     push_decimal(&mut text, place as u64)?;
     text.extend_from_slice(b"\n")?;
     Ok(text)
@@ -52,21 +57,21 @@ fn fault_line(alloc: Global, fault: SimulationFault) -> Result<Vec<u8>, AllocErr
     ensures { IfOk result (λ v. v.items ≡ spec.fault_line fault) }
 {
     match fault {
-        SimulationFault::Text(e) => placed(
+        SimulationFault::Text(e) => line_with_place(
             alloc,
             b"malformed schedule: E",
             e.kind.number(),
             b" at byte ",
             e.place,
         ),
-        SimulationFault::Form(f) => placed(
+        SimulationFault::Form(f) => line_with_place(
             alloc,
             b"malformed schedule: S",
             f.kind.number(),
             b" at form ",
             f.form,
         ),
-        SimulationFault::NotEnded(client) => numbered(
+        SimulationFault::NotEnded(client) => text_with_number(
             alloc,
             b"client ",
             u64::from(client),
@@ -95,7 +100,7 @@ fn report_fault<S: Sink>(alloc: Global, fault: SimulationFault, sink: &mut S) ->
     ensures failed { result ≡ failed_status → S.broken sink.new ≡ true }
     ensures front { result ≡ failed_status →
         (status : ℕ) × (out : List ℕ) × IsFaultOutput fault status out
-        × SendsFront (S.sent sink.old) (S.sent sink.new) out }
+        × WritesPrefix (S.sent sink.old) (S.sent sink.new) out }
 {
     match fault_line(alloc, fault) {
         Ok(line) => send(&line, fault_status(fault), sink),
@@ -116,9 +121,9 @@ fn report_played<S: Sink>(alloc: Global, played: &Played, sink: &mut S) -> u8
         (status : ℕ) × (out : List ℕ)
         × IsRecordOutput (journals_of played.now.record) (logs_of played.now.record)
         (spec.refused_line played.now.refused) status out
-        × SendsFront (S.sent sink.old) (S.sent sink.new) out }
+        × WritesPrefix (S.sent sink.old) (S.sent sink.new) out }
 {
-    match numbered(alloc, b"; refused steps: ", played.refused as u64, b"\n") {
+    match text_with_number(alloc, b"; refused steps: ", played.refused as u64, b"\n") {
         Ok(line) => report_record(alloc, &played.record, &line, sink),
         Err(AllocError) => send(b"out of memory\n", NO_MEMORY, sink),
     }
@@ -134,7 +139,7 @@ pub(crate) fn report_simulation<S: Sink>(alloc: Global, text: &[u8], sink: &mut 
     ensures failed { result ≡ failed_status → S.broken sink.new ≡ true }
     ensures front { result ≡ failed_status →
         (status : ℕ) × (out : List ℕ) × IsSimulateOutput text.now status out
-        × SendsFront (S.sent sink.old) (S.sent sink.new) out }
+        × WritesPrefix (S.sent sink.old) (S.sent sink.new) out }
     ensures simulated { result ≡ yes_status →
         (out : List ℕ) × IsAcceptedSimulation text.now out
         × Appends (S.sent sink.old) (S.sent sink.new) out }

@@ -6,7 +6,7 @@ ghost use Rattle.judging.specs.Texts.{DenotesHistory};
 ghost use Rattle.commands.specs.Searches.{IsUnsearched};
 
 use history::History;
-use judging::{Stop, history_in};
+use judging::{TextFailure, history_in};
 use report::Verdict;
 use std::alloc::Global;
 
@@ -18,7 +18,7 @@ pub(crate) fn history_of(alloc: Global, text: &[u8]) -> Result<History, Verdict>
 {
     match history_in(alloc, text) {
         Ok(history) => Ok(history),
-        Err(Stop::Stopped(fault)) => Err(Verdict::Malformed(fault)),
-        Err(Stop::NoMemory) => Err(Verdict::NoMemory),
+        Err(TextFailure::Faulty(fault)) => Err(Verdict::Malformed(fault)),
+        Err(TextFailure::NoMemory) => Err(Verdict::NoMemory),
     }
 }

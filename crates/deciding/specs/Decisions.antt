@@ -6,7 +6,7 @@ use Rattle.events.specs.declared.event.Event.{Event}
 use Rattle.events.specs.Events.{kind_at, denoted}
 use Rattle.order_search.specs.Outcomes.{max_operations, IsNoneValid}
 use Rattle.search.specs.declared.found.Search.{Search}
-use Rattle.search.specs.declared.found.Found.TheVariants.{Impossible, OutOfSteps, TooLarge, NoMemory}
+use Rattle.search.specs.declared.found.SearchOutcome.TheVariants.{Impossible, OutOfSteps, TooLarge, NoMemory}
 use Rattle.search.specs.Answers.{IfFound, IsFor}
 
 -- What may be decided of the calls of an object, with a search of so many steps at most. Many calls are too large for a search

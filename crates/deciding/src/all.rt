@@ -6,7 +6,7 @@ ghost use Rattle.model.specs.Orders.{events};
 ghost use Rattle.events.specs.Events.{IsNamed, kind_at, denoted};
 ghost use Rattle.certificate.specs.Denotes.{AreDistinct};
 ghost use Rattle.checker.specs.Refusals.{AreValid};
-ghost use Rattle.search.specs.declared.found.Found.{Found};
+ghost use Rattle.search.specs.declared.found.SearchOutcome.{SearchOutcome};
 ghost use Rattle.search.specs.Answers.{IsFound, certificates_in};
 ghost use Rattle.deciding.specs.Decisions.{IsDecisionOn};
 
@@ -31,7 +31,7 @@ pub fn decide_all(
     ensures decisions { IfOk result (λ v. All
         (λ a. IsDecisionOn history.now limit a.0 a.1) v.items) }
     // Where one is impossible the history is not linearizable.
-    ensures impossible { IfOk result (λ v. Any (λ a. a.1.found ≡ Found.Impossible) v.items
+    ensures impossible { IfOk result (λ v. Any (λ a. a.1.found ≡ SearchOutcome.Impossible) v.items
         → IsLinearizable (kind_at history.now) (events (denoted history.now)) → ⊥) }
     // Where all are found `check_all` accepts the certificates.
     ensures distinct { IfOk result (λ v. AreDistinct (certificates_in v.items)) }

@@ -7,4 +7,4 @@ mod object;
 
 pub use all::decide_all;
 pub use object::decide;
-pub use search::{Found, Search};
+pub use search::{Search, SearchOutcome};

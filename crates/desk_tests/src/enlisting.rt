@@ -2,7 +2,7 @@
 
 ghost use Rattle.std.specs.Prelude.{◌≡◌, IfOk};
 
-use roster::{Enlist, Place, Roster, Walker};
+use publication_list::{Enlist, Place, Roster, Walker};
 use std::alloc::{AllocError, Global};
 use std::process::Abort;
 use std::test::Fail;

@@ -5,7 +5,7 @@ use Rattle.std.proofs.lemmas.Bool.{ne_eqb}
 use Rattle.std.proofs.lemmas.List.{append-nil}
 use Rattle.edn.specs.Datum.{nil, keyword, Datum, atom, vector, dictionary, Items, no_items, item, Entries, no_entries, entry}
 use Rattle.edn.specs.Token.{Token, open_vector, close_vector, open_map, close_map, leaf, tokens_of, items_tokens, entries_tokens}
-use Rattle.edn.specs.Briefs.{most_items, brief_item, brief_items, brief_value, brief_entries, brief, kept_of, Keep, nothing_kept, keep_outside, keep_item, keep_inside, pass_over, keep, keep_all}
+use Rattle.edn.specs.Truncation.{most_items, truncated_item, truncated_items, truncated_value, truncated_entries, truncated, kept_of, Keep, nothing_kept, keep_outside, keep_item, keep_inside, pass_over, keep, keep_all}
 
 pub keep_append : (ts us : List Token) (k : Keep) → keep_all (ts ++ us) k ≡ keep_all us (keep_all ts k)
 keep_append [] us k = refl
@@ -72,7 +72,7 @@ took t ts m r =
     let l : suc r - 1 ≡ r = omega arith in
     ap (λ (b : Bool). if b then k else at (ts ++ t ∷ []) m 1 (suc r - 1)) z ∙ ap (λ (x : ℕ). at (ts ++ t ∷ []) m 1 x) l
 
-item_kept : (d : Datum) (us ts : List Token) (m : Bool) (r : ℕ) → keep_all (tokens_of d ++ us) (at ts m 1 (suc r)) ≡ keep_all us (at (ts ++ tokens_of (brief_item d)) m 1 r)
+item_kept : (d : Datum) (us ts : List Token) (m : Bool) (r : ℕ) → keep_all (tokens_of d ++ us) (at ts m 1 (suc r)) ≡ keep_all us (at (ts ++ tokens_of (truncated_item d)) m 1 r)
 item_kept (atom a) us ts m r = ap (keep_all us) (took (leaf (atom a)) ts m r)
 item_kept (vector ds) us ts m r =
     ap (λ (k : Keep). keep_all ((items_tokens ds ++ close_vector ∷ []) ++ us) (record k { below = 2 })) (took (leaf (atom nil)) ts m r)
@@ -85,7 +85,7 @@ item_kept (dictionary es) us ts m r =
     ∙ entries_passed es (close_map ∷ us) (ts ++ leaf (atom nil) ∷ []) m 0 r
     ∙ ap (keep_all us) (out_of close_map (ts ++ leaf (atom nil) ∷ []) m r refl)
 
-items_kept : (ds : Items) (us ts : List Token) (m : Bool) (r : ℕ) → keep_all (items_tokens ds ++ close_vector ∷ us) (at ts m 1 r) ≡ keep_all us (at (ts ++ (items_tokens (brief_items r ds) ++ close_vector ∷ [])) m 0 0)
+items_kept : (ds : Items) (us ts : List Token) (m : Bool) (r : ℕ) → keep_all (items_tokens ds ++ close_vector ∷ us) (at ts m 1 r) ≡ keep_all us (at (ts ++ (items_tokens (truncated_items r ds) ++ close_vector ∷ [])) m 0 0)
 items_kept no_items us ts m zero = refl
 items_kept no_items us ts m (suc r) = refl
 items_kept (item d ds) us ts m zero =
@@ -94,25 +94,25 @@ items_kept (item d ds) us ts m zero =
     ∙ items_kept ds us ts m zero
     ∙ ap (λ (xs : Items). keep_all us (at (ts ++ (items_tokens xs ++ close_vector ∷ [])) m 0 0)) (none_kept ds)
   where
-    none_kept : (xs : Items) → brief_items zero xs ≡ no_items
+    none_kept : (xs : Items) → truncated_items zero xs ≡ no_items
     none_kept xs = refl
 items_kept (item d ds) us ts m (suc r) =
     ap (λ (vs : List Token). keep_all vs (at ts m 1 (suc r))) (append_assoc (tokens_of d) (items_tokens ds) (close_vector ∷ us))
     ∙ item_kept d (items_tokens ds ++ close_vector ∷ us) ts m r
-    ∙ items_kept ds us (ts ++ tokens_of (brief_item d)) m r
-    ∙ ap (λ (vs : List Token). keep_all us (at vs m 0 0)) (append_assoc ts (tokens_of (brief_item d)) (items_tokens (brief_items r ds) ++ close_vector ∷ []) ∙ ap (λ (vs : List Token). ts ++ vs) (sym (append_assoc (tokens_of (brief_item d)) (items_tokens (brief_items r ds)) (close_vector ∷ []))))
+    ∙ items_kept ds us (ts ++ tokens_of (truncated_item d)) m r
+    ∙ ap (λ (vs : List Token). keep_all us (at vs m 0 0)) (append_assoc ts (tokens_of (truncated_item d)) (items_tokens (truncated_items r ds) ++ close_vector ∷ []) ∙ ap (λ (vs : List Token). ts ++ vs) (sym (append_assoc (tokens_of (truncated_item d)) (items_tokens (truncated_items r ds)) (close_vector ∷ []))))
 
 entries_dropped : (es : Entries) (us ts : List Token) (m : Bool) → keep_all (entries_tokens es ++ us) (at ts m 1 0) ≡ keep_all us (at ts m 1 0)
 entries_dropped no_entries us ts m = refl
 entries_dropped (entry k d es) us ts m = ap (λ (vs : List Token). keep_all vs (at ts m 1 0)) (append_assoc (tokens_of d) (entries_tokens es) us) ∙ item_dropped d (entries_tokens es ++ us) ts m ∙ entries_dropped es us ts m
 
-vector_kept : (ds : Items) (us ts : List Token) (m : Bool) → keep_all (tokens_of (vector ds) ++ us) (at ts m 0 0) ≡ keep_all us (at (ts ++ tokens_of (vector (brief_items most_items ds))) m 0 0)
+vector_kept : (ds : Items) (us ts : List Token) (m : Bool) → keep_all (tokens_of (vector ds) ++ us) (at ts m 0 0) ≡ keep_all us (at (ts ++ tokens_of (vector (truncated_items most_items ds))) m 0 0)
 vector_kept ds us ts m =
     ap (λ (vs : List Token). keep_all vs (at (ts ++ open_vector ∷ []) m 1 most_items)) (append_assoc (items_tokens ds) (close_vector ∷ []) us)
     ∙ items_kept ds us (ts ++ open_vector ∷ []) m most_items
-    ∙ ap (λ (vs : List Token). keep_all us (at vs m 0 0)) (append_assoc ts (open_vector ∷ []) (items_tokens (brief_items most_items ds) ++ close_vector ∷ []))
+    ∙ ap (λ (vs : List Token). keep_all us (at vs m 0 0)) (append_assoc ts (open_vector ∷ []) (items_tokens (truncated_items most_items ds) ++ close_vector ∷ []))
 
-value_kept : (d : Datum) (us ts : List Token) → keep_all (tokens_of d ++ us) (at ts true 0 0) ≡ keep_all us (at (ts ++ tokens_of (brief_value d)) true 0 0)
+value_kept : (d : Datum) (us ts : List Token) → keep_all (tokens_of d ++ us) (at ts true 0 0) ≡ keep_all us (at (ts ++ tokens_of (truncated_value d)) true 0 0)
 value_kept (atom a) us ts = refl
 value_kept (vector ds) us ts = vector_kept ds us ts true
 value_kept (dictionary es) us ts =
@@ -120,14 +120,14 @@ value_kept (dictionary es) us ts =
     ∙ entries_dropped es (close_map ∷ us) (ts ++ open_map ∷ []) true
     ∙ ap (λ (vs : List Token). keep_all us (at vs true 0 0)) (append_assoc ts (open_map ∷ []) (close_map ∷ []))
 
-entries_kept : (es : Entries) (us ts : List Token) → keep_all (entries_tokens es ++ us) (at ts true 0 0) ≡ keep_all us (at (ts ++ entries_tokens (brief_entries es)) true 0 0)
+entries_kept : (es : Entries) (us ts : List Token) → keep_all (entries_tokens es ++ us) (at ts true 0 0) ≡ keep_all us (at (ts ++ entries_tokens (truncated_entries es)) true 0 0)
 entries_kept no_entries us ts = ap (λ (vs : List Token). keep_all us (at vs true 0 0)) (sym (append-nil ts))
 entries_kept (entry k d es) us ts =
     let name = leaf (atom (keyword k)) in
     ap (λ (vs : List Token). keep_all vs (at (ts ++ name ∷ []) true 0 0)) (append_assoc (tokens_of d) (entries_tokens es) us)
     ∙ value_kept d (entries_tokens es ++ us) (ts ++ name ∷ [])
-    ∙ entries_kept es us ((ts ++ name ∷ []) ++ tokens_of (brief_value d))
-    ∙ ap (λ (vs : List Token). keep_all us (at vs true 0 0)) (append_assoc (ts ++ name ∷ []) (tokens_of (brief_value d)) (entries_tokens (brief_entries es)) ∙ append_assoc ts (name ∷ []) (tokens_of (brief_value d) ++ entries_tokens (brief_entries es)))
+    ∙ entries_kept es us ((ts ++ name ∷ []) ++ tokens_of (truncated_value d))
+    ∙ ap (λ (vs : List Token). keep_all us (at vs true 0 0)) (append_assoc (ts ++ name ∷ []) (tokens_of (truncated_value d)) (entries_tokens (truncated_entries es)) ∙ append_assoc ts (name ∷ []) (tokens_of (truncated_value d) ++ entries_tokens (truncated_entries es)))
 
 -- ---- an element
 
@@ -142,11 +142,11 @@ whole_tokens ts (t ∷ us) m = one t ∙ whole_tokens (ts ++ t ∷ []) us m ∙ 
     one close_map = refl
     one (leaf d) = refl
 
-brief_tokens : (d : Datum) → (keep_all (tokens_of d) (nothing_kept true)).tokens ≡ tokens_of (brief d)
-brief_tokens (atom a) = refl
-brief_tokens (vector ds) = ap (λ (us : List Token). (keep_all us (nothing_kept true)).tokens) (sym (append-nil (tokens_of (vector ds)))) ∙ ap (λ (k : Keep). k.tokens) (vector_kept ds [] [] false)
-brief_tokens (dictionary es) = ap (λ (k : Keep). k.tokens) (entries_kept es (close_map ∷ []) (open_map ∷ []))
+truncated_tokens : (d : Datum) → (keep_all (tokens_of d) (nothing_kept true)).tokens ≡ tokens_of (truncated d)
+truncated_tokens (atom a) = refl
+truncated_tokens (vector ds) = ap (λ (us : List Token). (keep_all us (nothing_kept true)).tokens) (sym (append-nil (tokens_of (vector ds)))) ∙ ap (λ (k : Keep). k.tokens) (vector_kept ds [] [] false)
+truncated_tokens (dictionary es) = ap (λ (k : Keep). k.tokens) (entries_kept es (close_map ∷ []) (open_map ∷ []))
 
 pub kept_tokens : (cuts : Bool) (d : Datum) → (keep_all (tokens_of d) (nothing_kept cuts)).tokens ≡ tokens_of (kept_of cuts d)
-kept_tokens true d = brief_tokens d
+kept_tokens true d = truncated_tokens d
 kept_tokens false d = ap (λ (k : Keep). k.tokens) (whole_tokens [] (tokens_of d) false)

@@ -7,7 +7,7 @@ use Rattle.edn.specs.Elements.{SpellsFront, SpellsNothing, ReadsElement, ReadsNe
 use Rattle.edn.specs.Sound.{BeginWith, IsShort, IsSoundAt, IsSoundFrom, IsUnreadable}
 use Rattle.edn.specs.Spells.{Spells}
 use Rattle.edn.specs.Token.{Token, tokens_of}
-use Rattle.edn.specs.Briefs.{Keeping, kept_of, row_kept}
+use Rattle.edn.specs.Truncation.{Keeping, kept_of, integer_vector_kept}
 use Rattle.edn.specs.declared.fault.EdnFault.{EdnFault}
 use Rattle.edn.specs.declared.fault.FaultKind.TheVariants.{TooLong, NoMemory}
 use Rattle.std.proofs.lemmas.List.{append-nil}
@@ -67,10 +67,10 @@ pub record Along (P : List Datum → Type 0) (text rest : List ℕ) (start : ℕ
   pub place : start + length rest ≡ length text
 
 -- one element more
-pub along_more : (keeping : Keeping) (P Q : List Datum → Type 0) (text mid rest : List ℕ) (before start : ℕ) (tokens : List Token) (row : Option (List ℤ)) → ReadsElement keeping mid tokens row rest → start + length rest ≡ before + length mid
-    → ((ds : List Datum) (d : Datum) → tokens ≡ tokens_of (kept_of keeping.cuts d) → row ≡ row_kept keeping d → P ds → Q (ds ++ d ∷ [])) → Along P text mid before → Along Q text rest start
-along_more keeping P Q text mid rest before start tokens row e moves put a =
-    record { forms = a.forms ++ e.element ∷ []; front = front_more text mid rest a.forms (e.element ∷ []) a.front e.front; holds = put a.forms e.element e.own e.own_row a.holds; place = moves ∙ a.place }
+pub along_more : (keeping : Keeping) (P Q : List Datum → Type 0) (text mid rest : List ℕ) (before start : ℕ) (tokens : List Token) (integer_vector : Option (List ℤ)) → ReadsElement keeping mid tokens integer_vector rest → start + length rest ≡ before + length mid
+    → ((ds : List Datum) (d : Datum) → tokens ≡ tokens_of (kept_of keeping.cuts d) → integer_vector ≡ integer_vector_kept keeping d → P ds → Q (ds ++ d ∷ [])) → Along P text mid before → Along Q text rest start
+along_more keeping P Q text mid rest before start tokens integer_vector e moves put a =
+    record { forms = a.forms ++ e.element ∷ []; front = front_more text mid rest a.forms (e.element ∷ []) a.front e.front; holds = put a.forms e.element e.own e.own_integer_vector a.holds; place = moves ∙ a.place }
 
 -- the same place by another name
 pub along_moved : (P : List Datum → Type 0) (text rest other : List ℕ) (start from : ℕ) → other ≡ rest → from ≡ start → Along P text rest start → Along P text other from
@@ -94,10 +94,10 @@ unreadable_behind P text rest start e short a not_long none not_memory =
       nothing = λ _. along_none P text rest start a (none not_memory);
     }
 
-pub reads_some : (keeping : Keeping) (b : Bool) (text : List ℕ) (tokens : List Token) (row : Option (List ℤ)) (rest : List ℕ) → b ≡ true → ReadsNext keeping text tokens row (cond b (Some rest) None) → ReadsElement keeping text tokens row rest
-reads_some keeping true text tokens row rest e h = h
-reads_some keeping false text tokens row rest e h = absurd cc
+pub reads_some : (keeping : Keeping) (b : Bool) (text : List ℕ) (tokens : List Token) (integer_vector : Option (List ℤ)) (rest : List ℕ) → b ≡ true → ReadsNext keeping text tokens integer_vector (cond b (Some rest) None) → ReadsElement keeping text tokens integer_vector rest
+reads_some keeping true text tokens integer_vector rest e h = h
+reads_some keeping false text tokens integer_vector rest e h = absurd cc
 
-pub reads_none : (keeping : Keeping) (b : Bool) (text : List ℕ) (tokens : List Token) (row : Option (List ℤ)) (rest : List ℕ) → b ≡ false → ReadsNext keeping text tokens row (cond b (Some rest) None) → SpellsNothing text
-reads_none keeping true text tokens row rest e h = absurd cc
-reads_none keeping false text tokens row rest e h = h
+pub reads_none : (keeping : Keeping) (b : Bool) (text : List ℕ) (tokens : List Token) (integer_vector : Option (List ℤ)) (rest : List ℕ) → b ≡ false → ReadsNext keeping text tokens integer_vector (cond b (Some rest) None) → SpellsNothing text
+reads_none keeping true text tokens integer_vector rest e h = absurd cc
+reads_none keeping false text tokens integer_vector rest e h = h

@@ -7,7 +7,7 @@ use Rattle.edn.specs.Text.{InProfile, ItemsInProfile, EntriesInProfile, AtomInPr
 use Rattle.edn.specs.Forming.{BeginsForm, BeginsItems, BeginsPairs}
 use Rattle.std.specs.Borrow.{Bor}
 use Rattle.edn.specs.Names.{name_bytes}
-use Rattle.edn.specs.Pieces.{piece_token, tape_tokens, unquoted}
+use Rattle.edn.specs.Pieces.{piece_token, token_buffer_tokens, unquoted}
 use Rattle.edn.specs.View.{view, views, pair_views}
 use Rattle.edn.specs.declared.form.Form.{Form}
 use Rattle.edn.specs.declared.form.Name.{Name}
@@ -191,11 +191,11 @@ map_whole all rest behind es e f =
 
 -- ---- some tokens
 
-pub some_form : (ps : List Piece) → BeginsForm (tape_tokens ps) → 0 < length ps
+pub some_form : (ps : List Piece) → BeginsForm (token_buffer_tokens ps) → 0 < length ps
 some_form [] b = absurd (nothing_begins b)
 some_form (p ∷ ps) b = omega arith
 
-pub some_pairs : (ps : List Piece) → BeginsPairs (tape_tokens ps) → 0 < length ps
+pub some_pairs : (ps : List Piece) → BeginsPairs (token_buffer_tokens ps) → 0 < length ps
 some_pairs [] b = absurd (no_pairs b)
 some_pairs (p ∷ ps) b = omega arith
 

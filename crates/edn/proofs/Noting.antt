@@ -1,4 +1,4 @@
--- What is noted of an element's tokens, one by one, is the row of the element.
+-- What is noted of an element's tokens, one by one, is the integer vector of the element.
 use Rattle.std.proofs.Common.{◌≡◌, ℕ, suc, ◌+◌, ◌-◌, Bool, true, false, List, [], ◌∷◌, ◌++◌, Option, Some, None, refl, sym, ap, ◌∙◌, append_assoc, add-one, arith}
 use Rattle.std.specs.Prelude.{ℤ, ◌==◌, nat_le, if◌then◌else◌, option_map, option_and_then}
 use Rattle.std.specs.Str.{bytes_eq}
@@ -6,15 +6,15 @@ use Rattle.std.proofs.lemmas.Bool.{ne_eqb}
 use Rattle.std.proofs.lemmas.List.{append-nil}
 use Rattle.edn.specs.Datum.{nil, boolean, integer, string, keyword, Datum, atom, vector, dictionary, Items, no_items, item, Entries, no_entries, entry}
 use Rattle.edn.specs.Token.{Token, open_vector, close_vector, open_map, close_map, tokens_of, items_tokens, entries_tokens}
-use Rattle.edn.specs.Briefs.{integers_in, row_of, row_under, row_at, Keeping, row_kept, Keep, keep_all}
-use Rattle.edn.specs.Rows.{Row, nothing_noted, behind_other, note_all, noted, Held, nothing_held, hold, hold_all}
-use Rattle.edn.specs.declared.row.Stage.{Stage}
-use Rattle.edn.specs.declared.row.Stage.TheVariants.{Start, Key, Value, Other, Numbers, Whole, Over}
+use Rattle.edn.specs.Truncation.{integers_in, integer_vector_of, integer_vector_under, integer_vector_at, Keeping, integer_vector_kept, Keep, keep_all}
+use Rattle.edn.specs.IntegerVectors.{IntegerVector, nothing_noted, behind_other, note_all, noted, Held, nothing_held, hold, hold_all}
+use Rattle.edn.specs.declared.integer_vector.Stage.{Stage}
+use Rattle.edn.specs.declared.integer_vector.Stage.TheVariants.{Start, Key, Value, Other, Numbers, Whole, Over}
 
-abbrev at : List ℕ → Stage → List ℤ → Row
+abbrev at : List ℕ → Stage → List ℤ → IntegerVector
 at key s zs = record { key = key; stage = s; numbers = zs }
 
--- ---- what is behind the row, or where none is
+-- ---- what is behind the integer vector, or where none is
 
 over_stays : (ts : List Token) (key : List ℕ) (zs : List ℤ) → noted (note_all ts (at key Over zs)) ≡ None
 over_stays [] key zs = refl
@@ -38,7 +38,7 @@ closed n =
 within : (n : ℕ) → (if suc n == 0 then Key else Other (suc n)) ≡ Other (suc n)
 within n = let z : (suc n == 0) ≡ false = ne_eqb (suc n) 0 (λ e. absurd (omega (arith, e))) in ap (λ (b : Bool). if b then Key else Other (suc n)) z
 
-abbrev noted_from : List Token → List ℕ → Stage → Row
+abbrev noted_from : List Token → List ℕ → Stage → IntegerVector
 noted_from ts key s = note_all ts (at key s [])
 
 -- what is between two brackets
@@ -85,50 +85,50 @@ one_more : (done : List ℤ) (z : ℤ) (o : Option (List ℤ)) → behind (done 
 one_more done z None = refl
 one_more done z (Some zs) = ap Some (append_assoc done (z ∷ []) zs)
 
-row_noted : (ds : Items) (us : List Token) (key : List ℕ) (done : List ℤ) → noted (note_all (items_tokens ds ++ close_vector ∷ us) (at key Numbers done)) ≡ behind done (integers_in ds)
-row_noted no_items us key done = whole_stays us key done ∙ ap Some (sym (append-nil done))
-row_noted (item (atom nil) ds) us key done = over_stays (items_tokens ds ++ close_vector ∷ us) key done
-row_noted (item (atom (boolean b)) ds) us key done = over_stays (items_tokens ds ++ close_vector ∷ us) key done
-row_noted (item (atom (integer z)) ds) us key done = row_noted ds us key (done ++ z ∷ []) ∙ one_more done z (integers_in ds)
-row_noted (item (atom (string s)) ds) us key done = over_stays (items_tokens ds ++ close_vector ∷ us) key done
-row_noted (item (atom (keyword k)) ds) us key done = over_stays (items_tokens ds ++ close_vector ∷ us) key done
-row_noted (item (vector es) ds) us key done = over_stays (((items_tokens es ++ close_vector ∷ []) ++ items_tokens ds) ++ close_vector ∷ us) key done
-row_noted (item (dictionary es) ds) us key done = over_stays (((entries_tokens es ++ close_map ∷ []) ++ items_tokens ds) ++ close_vector ∷ us) key done
+integer_vector_noted : (ds : Items) (us : List Token) (key : List ℕ) (done : List ℤ) → noted (note_all (items_tokens ds ++ close_vector ∷ us) (at key Numbers done)) ≡ behind done (integers_in ds)
+integer_vector_noted no_items us key done = whole_stays us key done ∙ ap Some (sym (append-nil done))
+integer_vector_noted (item (atom nil) ds) us key done = over_stays (items_tokens ds ++ close_vector ∷ us) key done
+integer_vector_noted (item (atom (boolean b)) ds) us key done = over_stays (items_tokens ds ++ close_vector ∷ us) key done
+integer_vector_noted (item (atom (integer z)) ds) us key done = integer_vector_noted ds us key (done ++ z ∷ []) ∙ one_more done z (integers_in ds)
+integer_vector_noted (item (atom (string s)) ds) us key done = over_stays (items_tokens ds ++ close_vector ∷ us) key done
+integer_vector_noted (item (atom (keyword k)) ds) us key done = over_stays (items_tokens ds ++ close_vector ∷ us) key done
+integer_vector_noted (item (vector es) ds) us key done = over_stays (((items_tokens es ++ close_vector ∷ []) ++ items_tokens ds) ++ close_vector ∷ us) key done
+integer_vector_noted (item (dictionary es) ds) us key done = over_stays (((entries_tokens es ++ close_map ∷ []) ++ items_tokens ds) ++ close_vector ∷ us) key done
 
 none_before : (o : Option (List ℤ)) → behind [] o ≡ o
 none_before None = refl
 none_before (Some zs) = refl
 
-value_noted : (d : Datum) (us : List Token) (key : List ℕ) → noted (noted_from (tokens_of d ++ us) key Value) ≡ row_of d
+value_noted : (d : Datum) (us : List Token) (key : List ℕ) → noted (noted_from (tokens_of d ++ us) key Value) ≡ integer_vector_of d
 value_noted (atom a) us key = over_stays us key []
-value_noted (vector ds) us key = ap (λ (vs : List Token). noted (noted_from vs key Numbers)) (append_assoc (items_tokens ds) (close_vector ∷ []) us) ∙ row_noted ds us key [] ∙ none_before (integers_in ds)
+value_noted (vector ds) us key = ap (λ (vs : List Token). noted (noted_from vs key Numbers)) (append_assoc (items_tokens ds) (close_vector ∷ []) us) ∙ integer_vector_noted ds us key [] ∙ none_before (integers_in ds)
 value_noted (dictionary es) us key = over_stays ((entries_tokens es ++ close_map ∷ []) ++ us) key []
 
 -- ---- an element
 
-entries_noted : (es : Entries) (us : List Token) (key : List ℕ) → noted (noted_from (entries_tokens es ++ close_map ∷ us) key Key) ≡ row_under key es
+entries_noted : (es : Entries) (us : List Token) (key : List ℕ) → noted (noted_from (entries_tokens es ++ close_map ∷ us) key Key) ≡ integer_vector_under key es
 entries_noted no_entries us key = over_stays us key []
 entries_noted (entry k d es) us key =
     ap (λ (vs : List Token). noted (noted_from vs key (if bytes_eq key k then Value else Other 0))) (append_assoc (tokens_of d) (entries_tokens es) (close_map ∷ us)) ∙ by_key (bytes_eq key k) (entries_noted es us key)
   where
-    by_key : (b : Bool) → noted (noted_from (entries_tokens es ++ close_map ∷ us) key Key) ≡ row_under key es
-        → noted (noted_from (tokens_of d ++ (entries_tokens es ++ close_map ∷ us)) key (if b then Value else Other 0)) ≡ (if b then row_of d else row_under key es)
+    by_key : (b : Bool) → noted (noted_from (entries_tokens es ++ close_map ∷ us) key Key) ≡ integer_vector_under key es
+        → noted (noted_from (tokens_of d ++ (entries_tokens es ++ close_map ∷ us)) key (if b then Value else Other 0)) ≡ (if b then integer_vector_of d else integer_vector_under key es)
     by_key true h = value_noted d (entries_tokens es ++ close_map ∷ us) key
     by_key false h = ap noted (other_passed d (entries_tokens es ++ close_map ∷ us) key) ∙ h
 
-element_noted : (d : Datum) (key : List ℕ) → noted (noted_from (tokens_of d) key Start) ≡ row_at key d
+element_noted : (d : Datum) (key : List ℕ) → noted (noted_from (tokens_of d) key Start) ≡ integer_vector_at key d
 element_noted (atom a) key = refl
 element_noted (vector ds) key = over_stays (items_tokens ds ++ close_vector ∷ []) key []
 element_noted (dictionary es) key = entries_noted es [] key
 
-row_tokens : (o : Option (List ℕ)) (d : Datum) → noted (note_all (tokens_of d) (nothing_noted o)) ≡ option_and_then (λ key. row_at key d) o
-row_tokens None d = over_stays (tokens_of d) [] []
-row_tokens (Some key) d = element_noted d key
+integer_vector_tokens : (o : Option (List ℕ)) (d : Datum) → noted (note_all (tokens_of d) (nothing_noted o)) ≡ option_and_then (λ key. integer_vector_at key d) o
+integer_vector_tokens None d = over_stays (tokens_of d) [] []
+integer_vector_tokens (Some key) d = element_noted d key
 
 -- ---- both
 
-pub held_both : (k l : Keep) (r s : Row) → k ≡ l → r ≡ s → (let h : Held = record { kept = k; row = r } in h) ≡ record { kept = l; row = s }
-held_both k l r s e f = ap (λ (x : Keep). let h : Held = record { kept = x; row = r } in h) e ∙ ap (λ (x : Row). let h : Held = record { kept = l; row = x } in h) f
+pub held_both : (k l : Keep) (r s : IntegerVector) → k ≡ l → r ≡ s → (let h : Held = record { kept = k; integer_vector = r } in h) ≡ record { kept = l; integer_vector = s }
+held_both k l r s e f = ap (λ (x : Keep). let h : Held = record { kept = x; integer_vector = r } in h) e ∙ ap (λ (x : IntegerVector). let h : Held = record { kept = l; integer_vector = x } in h) f
 
 pub hold_append : (ts us : List Token) (h : Held) → hold_all (ts ++ us) h ≡ hold_all us (hold_all ts h)
 hold_append [] us h = refl
@@ -138,9 +138,9 @@ pub held_kept : (ts : List Token) (h : Held) → (hold_all ts h).kept ≡ keep_a
 held_kept [] h = refl
 held_kept (t ∷ ts) h = held_kept ts (hold t h)
 
-held_row : (ts : List Token) (h : Held) → (hold_all ts h).row ≡ note_all ts h.row
-held_row [] h = refl
-held_row (t ∷ ts) h = held_row ts (hold t h)
+held_integer_vector : (ts : List Token) (h : Held) → (hold_all ts h).integer_vector ≡ note_all ts h.integer_vector
+held_integer_vector [] h = refl
+held_integer_vector (t ∷ ts) h = held_integer_vector ts (hold t h)
 
-pub row_held : (k : Keeping) (d : Datum) → noted (hold_all (tokens_of d) (nothing_held k)).row ≡ row_kept k d
-row_held k d = ap noted (held_row (tokens_of d) (nothing_held k)) ∙ row_tokens k.row_key d
+pub integer_vector_held : (k : Keeping) (d : Datum) → noted (hold_all (tokens_of d) (nothing_held k)).integer_vector ≡ integer_vector_kept k d
+integer_vector_held k d = ap noted (held_integer_vector (tokens_of d) (nothing_held k)) ∙ integer_vector_tokens k.integer_vector_key d

@@ -10,14 +10,14 @@ use Rattle.edn.specs.Spells.{Lexes, Spells}
 use Rattle.edn.specs.Reading.{Next, after_token, end, bad, got, got_string, string_at, skip, first, next, Frame, in_text, in_vector, in_map, in_pair, put, takes_key, close_as, close_vector_at, close_map_at, open_at, State, step, steps, opening, closed}
 use Rattle.edn.specs.Shapes.{Shape, whole_text, a_vector, a_map, Shapes, shape_list, shapes_of, shape_step, after_piece, nothing_open, waits_for_key, put_in}
 use Rattle.edn.specs.Elements.{SpellsFront, SpellsNothing, ReadsElement, HoldsToken}
-use Rattle.edn.specs.Briefs.{Keeping, Keep}
-use Rattle.edn.specs.Rows.{Held, nothing_held, hold, hold_all, noted}
+use Rattle.edn.specs.Truncation.{Keeping, Keep}
+use Rattle.edn.specs.IntegerVectors.{Held, nothing_held, hold, hold_all, noted}
 use Rattle.edn.proofs.Cutting.{kept_tokens}
-use Rattle.edn.proofs.Noting.{hold_append, held_kept, row_held}
+use Rattle.edn.proofs.Noting.{hold_append, held_kept, integer_vector_held}
 use Rattle.edn.proofs.Strings.{some_is}
 use Rattle.edn.proofs.Consumed.{consumed, step_tokens, list_tokens, mapped, kept_if, unless_so}
 use Rattle.edn.proofs.Lexical.{first_shorter, skip_within}
-use Rattle.edn.specs.Tapes.{IsSoundBehind}
+use Rattle.edn.specs.TokenBuffers.{IsSoundBehind}
 use Rattle.edn.proofs.Progress.{Progress, plain, left, is_next, goes_on, next_at, at_end, ends_there, spells_there, closed_are, stops, sound}
 use Rattle.edn.proofs.Prefixes.{same_front}
 use Rattle.edn.proofs.Shaped.{step_shape}
@@ -217,10 +217,10 @@ next_turn keeping text rest here r old new kept more h inside e k m =
     }
 
 -- nothing is open: the element is whole
-pub whole : (keeping : Keeping) (text rest : List ℕ) (now_open : Shapes) (kept : Held) → IsUtf8 text → now_open.outer ≡ [] → Midway keeping text rest now_open kept → ReadsElement keeping text kept.kept.tokens (noted kept.row) rest
+pub whole : (keeping : Keeping) (text rest : List ℕ) (now_open : Shapes) (kept : Held) → IsUtf8 text → now_open.outer ≡ [] → Midway keeping text rest now_open kept → ReadsElement keeping text kept.kept.tokens (noted kept.integer_vector) rest
 whole keeping text rest now_open kept u e m = by_going m.going
   where
-    by_going : IsGoing m.state → ReadsElement keeping text kept.kept.tokens (noted kept.row) rest
+    by_going : IsGoing m.state → ReadsElement keeping text kept.kept.tokens (noted kept.integer_vector) rest
     by_going (inl i) = absurd (not_inside m.state.outer i (ap (λ (x : Shapes). x.outer) m.shaped ∙ e))
       where
         not_inside : (fs : List Frame) → IsInside fs → shape_list fs ≡ [] → ⊥
@@ -232,7 +232,7 @@ whole keeping text rest now_open kept u e m = by_going m.going
         record {
           element = d;
           own = ap (λ (k : Held). k.kept.tokens) held ∙ ap (λ (k : Keep). k.tokens) (held_kept (tokens_of d) (nothing_held keeping)) ∙ kept_tokens keeping.cuts d;
-          own_row = ap (λ (k : Held). noted k.row) held ∙ row_held keeping d;
+          own_integer_vector = ap (λ (k : Held). noted k.integer_vector) held ∙ integer_vector_held keeping d;
           front = element_front text rest d p u;
           utf8 = p.utf8;
         }
@@ -298,7 +298,7 @@ pub loop_turn : (keeping : Keeping) (text rest here r : List ℕ) (old new : Sha
     → Midway keeping text rest old kept → Midway keeping text r new more
 loop_turn keeping text rest here r old new kept more h o e k m = next_turn keeping text rest here r old new kept more h (is_open old o) e k m
 
-pub loop_whole : (keeping : Keeping) (text rest : List ℕ) (now_open : Shapes) (kept : Held) → IsUtf8 text → true ≡ (length now_open.outer == 0) → Midway keeping text rest now_open kept → ReadsElement keeping text kept.kept.tokens (noted kept.row) rest
+pub loop_whole : (keeping : Keeping) (text rest : List ℕ) (now_open : Shapes) (kept : Held) → IsUtf8 text → true ≡ (length now_open.outer == 0) → Midway keeping text rest now_open kept → ReadsElement keeping text kept.kept.tokens (noted kept.integer_vector) rest
 loop_whole keeping text rest now_open kept u o m = whole keeping text rest now_open kept u (nothing_in now_open.outer o) m
 
 pub loop_fresh : (keeping : Keeping) (text rest : List ℕ) (now_open : Shapes) (kept : Held) → true ≡ (length now_open.outer == 0) → Midway keeping text rest now_open kept → now_open ≡ nothing_open

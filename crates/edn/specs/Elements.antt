@@ -5,8 +5,8 @@ use Rattle.edn.specs.Datum.{Datum, ItemsFit, items_of, max_open}
 use Rattle.edn.specs.Spells.{Spells}
 use Rattle.edn.specs.Sound.{BeginWith}
 use Rattle.edn.specs.Token.{Token, tokens_of, items_tokens}
-use Rattle.edn.specs.Briefs.{Keeping, kept_of, row_kept}
-use Rattle.edn.specs.Rows.{Held, hold}
+use Rattle.edn.specs.Truncation.{Keeping, kept_of, integer_vector_kept}
+use Rattle.edn.specs.IntegerVectors.{Held, hold}
 use Rattle.edn.specs.Reading.{Next, got}
 
 -- The text begins with these forms, and this rest follows them: what the rest spells, the text spells behind them, and
@@ -22,18 +22,18 @@ pub record SpellsNothing (text : List ℕ) : Type 0 where
   pub spelled : Spells [] text
   pub only : (es : List Datum) → Spells es text → es ≡ []
 
--- One element was read, these being the tokens of what is kept of it and its row, and this rest follows it.
-pub record ReadsElement (keeping : Keeping) (text : List ℕ) (tokens : List Token) (row : Option (List ℤ)) (rest : List ℕ) : Type 0 where
+-- One element was read, these being the tokens of what is kept of it and its integer vector, and this rest follows it.
+pub record ReadsElement (keeping : Keeping) (text : List ℕ) (tokens : List Token) (integer_vector : Option (List ℤ)) (rest : List ℕ) : Type 0 where
   pub element : Datum
   pub own : tokens ≡ tokens_of (kept_of keeping.cuts element)
-  pub own_row : row ≡ row_kept keeping element
+  pub own_integer_vector : integer_vector ≡ integer_vector_kept keeping element
   pub front : SpellsFront text (element ∷ []) rest
   pub utf8 : IsUtf8 rest
 
 -- what a text begins with, or that it has no element more
 abbrev pub ReadsNext : Keeping → List ℕ → List Token → Option (List ℤ) → Option (List ℕ) → Type 0
-ReadsNext keeping text tokens row None = SpellsNothing text
-ReadsNext keeping text tokens row (Some rest) = ReadsElement keeping text tokens row rest
+ReadsNext keeping text tokens integer_vector None = SpellsNothing text
+ReadsNext keeping text tokens integer_vector (Some rest) = ReadsElement keeping text tokens integer_vector rest
 
 -- one more token is kept and noted, as far as it is
 abbrev pub HoldsToken : Held → Next → Held → Type 0

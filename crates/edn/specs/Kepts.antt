@@ -1,18 +1,18 @@
 -- What is kept of an element, as the code has it. No public clause speaks of it.
 use Rattle.std.specs.Prelude.{option_map}
-use Rattle.edn.specs.Briefs.{Keeping, Keep}
-use Rattle.edn.specs.Rows.{Row}
-use Rattle.edn.specs.Pieces.{tape_tokens}
-use Rattle.edn.specs.declared.brief.Brief.{Brief}
-use Rattle.edn.specs.declared.row.Row as code
-use Rattle.edn.specs.declared.tape.Keeping as asked
+use Rattle.edn.specs.Truncation.{Keeping, Keep}
+use Rattle.edn.specs.IntegerVectors.{IntegerVector}
+use Rattle.edn.specs.Pieces.{token_buffer_tokens}
+use Rattle.edn.specs.declared.truncated.TruncatedTokens.{TruncatedTokens}
+use Rattle.edn.specs.declared.integer_vector.IntegerVector as code
+use Rattle.edn.specs.declared.token_buffer.Keeping as asked
 
-abbrev pub kept_in : Brief → Keep
-kept_in b = record { tokens = tape_tokens b.pieces.items; cuts = b.cuts; in_map = b.in_map; below = b.below; room = b.room }
+abbrev pub kept_in : TruncatedTokens → Keep
+kept_in b = record { tokens = token_buffer_tokens b.pieces.items; cuts = b.cuts; in_map = b.in_map; below = b.below; room = b.room }
 
-abbrev pub noted_in : code.Row → Row
+abbrev pub noted_in : code.IntegerVector → IntegerVector
 noted_in r = record { key = r.key.now; stage = r.stage; numbers = r.numbers.items }
 
 -- what a reader is asked to keep
 abbrev pub keeping_of : asked.Keeping → Keeping
-keeping_of k = record { cuts = k.cuts; row_key = option_map (λ b. b.now) k.row_key }
+keeping_of k = record { cuts = k.cuts; integer_vector_key = option_map (λ b. b.now) k.integer_vector_key }

@@ -1,9 +1,9 @@
 -- What a reader of elements has.
 use Rattle.std.specs.Prelude.{ℕ, ◌-◌, ℤ, List, length, Option}
 use Rattle.edn.specs.Token.{Token}
-use Rattle.edn.specs.Briefs.{Keeping}
+use Rattle.edn.specs.Truncation.{Keeping}
 use Rattle.edn.specs.Kepts.{keeping_of}
-use Rattle.edn.specs.Tapes.{tokens_on, row_on}
+use Rattle.edn.specs.TokenBuffers.{tokens_on, integer_vector_on}
 use Rattle.edn.specs.declared.elements.Elements.{Elements}
 
 -- what is left of the text
@@ -20,8 +20,8 @@ keeping_in e = keeping_of e.keeping
 
 -- the tokens that were kept of the element that was read last
 abbrev pub tokens_in : Elements → List Token
-tokens_in e = tokens_on e.tape
+tokens_in e = tokens_on e.token_buffer
 
--- its row, where one was kept and was not taken yet
-abbrev pub row_in : Elements → Option (List ℤ)
-row_in e = row_on e.tape
+-- its integer vector, where one was kept and was not taken yet
+abbrev pub integer_vector_in : Elements → Option (List ℤ)
+integer_vector_in e = integer_vector_on e.token_buffer

@@ -22,9 +22,9 @@ pub mod Pieces
 pub mod Forming
 pub mod Formings
 pub mod Levels
-pub mod Briefs
-pub mod Rows
+pub mod Truncation
+pub mod IntegerVectors
 pub mod Kepts
 pub mod Elements
-pub mod Tapes
+pub mod TokenBuffers
 pub mod Left

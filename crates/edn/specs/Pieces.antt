@@ -1,4 +1,4 @@
--- What the pieces of a tape stand for.
+-- What the pieces of a token buffer stand for.
 use Rattle.std.specs.Prelude.{◌≡◌, true, false, ℕ, ◌==◌, if◌then◌else◌, List, [], ◌∷◌, map, Option, Some, None, Result, MatchResult, unwrap_or, option_map}
 use Rattle.std.specs.Borrow.{Bor}
 use Rattle.edn.specs.Datum.{Atom, nil, boolean, integer, string, keyword, atom}
@@ -34,8 +34,8 @@ piece_token (Int z) = spec.leaf (atom (integer z))
 piece_token (Str raw) = spec.leaf (atom (string (unquoted raw.now)))
 piece_token (Keyword k) = spec.leaf (atom (keyword k.now))
 
-abbrev pub tape_tokens : List Piece → List Token
-tape_tokens ps = map piece_token ps
+abbrev pub token_buffer_tokens : List Piece → List Token
+token_buffer_tokens ps = map piece_token ps
 
 -- a token and what follows it; no memory is taken
 abbrev pub GivesPiece : Result (Piece × Bor (List ℕ)) Stop → Next → Type 0

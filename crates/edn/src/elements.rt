@@ -6,17 +6,17 @@ ghost use Rattle.edn.specs.Elements.{ReadsNext};
 ghost use Rattle.edn.specs.Shapes.{nothing_open};
 ghost use Rattle.edn.specs.Sound.{IsShort, IsUnreadable, IsSoundFrom};
 ghost use Rattle.edn.specs.Spells.{Spells};
-ghost use Rattle.edn.specs.Tapes.{open_on};
+ghost use Rattle.edn.specs.TokenBuffers.{open_on};
 
 use crate::fault::{EdnFault, FaultKind};
 use crate::lexer::skip;
 use crate::piece::Piece;
 use crate::reader::MAX_LENGTH;
-use crate::tape::{Keeping, Tape};
+use crate::token_buffer::{Keeping, TokenBuffer};
 use std::alloc::Global;
 
 /// What is left of a text, and the tokens that were kept of the element that was read last: all, or
-/// the beginning of each value; and its row, where one is kept. The room of the tokens is used again
+/// the beginning of each value; and its integer vector, where one is kept. The room of the tokens is used again
 /// for the next element.
 #[derive(Drop)]
 pub struct Elements<'a> {
@@ -24,16 +24,16 @@ pub struct Elements<'a> {
     rest: &'a str,
     whole: usize,
     keeping: Keeping<'a>,
-    tape: Tape<'a>,
-    ghost fresh: { open_on tape ≡ nothing_open },
+    token_buffer: TokenBuffer<'a>,
+    ghost fresh: { open_on token_buffer ≡ nothing_open },
     ghost within: { length rest.now ≤ whole },
 }
 
 impl<'a> Elements<'a> {
     ghost use Rattle.std.specs.Prelude.{true, option_map};
-    ghost use Rattle.edn.specs.Left.{left_of, start_of, keeping_in, tokens_in, row_in};
-    ghost use Rattle.edn.specs.Briefs.{all_kept, brief_kept, brief_and_row};
-    ghost use Rattle.edn.specs.Pieces.{tape_tokens};
+    ghost use Rattle.edn.specs.Left.{left_of, start_of, keeping_in, tokens_in, integer_vector_in};
+    ghost use Rattle.edn.specs.Truncation.{all_kept, truncated_kept, truncated_and_integer_vector};
+    ghost use Rattle.edn.specs.Pieces.{token_buffer_tokens};
     ghost use Rattle.edn.specs.Reading.{skip};
 
     /// A text that is too long is not looked at; then comes whether it is UTF-8 as a whole. No memory
@@ -41,12 +41,12 @@ impl<'a> Elements<'a> {
     fn over(
         alloc: Global,
         cuts: bool,
-        row_key: Option<&'a [u8]>,
+        integer_vector_key: Option<&'a [u8]>,
         text: &'a [u8],
     ) -> Result<Elements<'a>, EdnFault>
         ensures text { IfOk result (λ r. (left_of r ≡ text.entry.now) × (start_of r ≡ 0)) }
         ensures keeps { IfOk result (λ r. keeping_in r
-            ≡ record { cuts = cuts; row_key = option_map (λ k. k.now) row_key.entry }) }
+            ≡ record { cuts = cuts; integer_vector_key = option_map (λ k. k.now) integer_vector_key.entry }) }
         ensures short { IfOk result (λ r. IsShort text.entry.now × IsUtf8 text.entry.now) }
         ensures unreadable { IfErr result (IsUnreadable text.entry.now) }
     {
@@ -61,8 +61,11 @@ impl<'a> Elements<'a> {
                 alloc,
                 rest,
                 whole: text.len(),
-                keeping: Keeping { cuts, row_key },
-                tape: Tape::new(alloc),
+                keeping: Keeping {
+                    cuts,
+                    integer_vector_key,
+                },
+                token_buffer: TokenBuffer::new(alloc),
             }),
             Err(e) => Err(EdnFault {
                 kind: FaultKind::BadUtf8,
@@ -85,21 +88,25 @@ impl<'a> Elements<'a> {
     /// Elements of which only the beginning of each value is kept: of a vector three elements, with
     /// nil in place of those that are vectors and maps, and of a map none. An element that is no map
     /// is kept as a value is. What is not kept takes no memory, and is read as all else is.
-    pub fn brief(alloc: Global, text: &'a [u8]) -> Result<Elements<'a>, EdnFault>
+    pub fn truncated(alloc: Global, text: &'a [u8]) -> Result<Elements<'a>, EdnFault>
         ensures text { IfOk result (λ r. (left_of r ≡ text.entry.now) × (start_of r ≡ 0)) }
-        ensures keeps { IfOk result (λ r. keeping_in r ≡ brief_kept) }
+        ensures keeps { IfOk result (λ r. keeping_in r ≡ truncated_kept) }
         ensures short { IfOk result (λ r. IsShort text.entry.now × IsUtf8 text.entry.now) }
         ensures unreadable { IfErr result (IsUnreadable text.entry.now) }
     {
         Elements::over(alloc, true, None, text)
     }
 
-    /// The same, and beside it the row of each element: where an element is a map, and the first value
-    /// that it has for the key is a vector of integers alone, the whole of these. A row takes eight
+    /// The same, and beside it the integer vector of each element: where an element is a map, and the first value
+    /// that it has for the key is a vector of integers alone, the whole of these. An integer vector takes eight
     /// bytes for each number.
-    pub fn with_row(alloc: Global, text: &'a [u8], key: &'a [u8]) -> Result<Elements<'a>, EdnFault>
+    pub fn with_integer_vector(
+        alloc: Global,
+        text: &'a [u8],
+        key: &'a [u8],
+    ) -> Result<Elements<'a>, EdnFault>
         ensures text { IfOk result (λ r. (left_of r ≡ text.entry.now) × (start_of r ≡ 0)) }
-        ensures keeps { IfOk result (λ r. keeping_in r ≡ brief_and_row key.entry.now) }
+        ensures keeps { IfOk result (λ r. keeping_in r ≡ truncated_and_integer_vector key.entry.now) }
         ensures short { IfOk result (λ r. IsShort text.entry.now × IsUtf8 text.entry.now) }
         ensures unreadable { IfErr result (IsUnreadable text.entry.now) }
     {
@@ -119,7 +126,7 @@ impl<'a> Elements<'a> {
     pub fn advance(&mut self) -> Result<bool, EdnFault>
         ensures reads { IfOk result (λ more.
             ReadsNext (keeping_in self.old) (left_of self.old) (tokens_in self.new)
-            (row_in self.new)
+            (integer_vector_in self.new)
             (if more then Some (left_of self.new) else None)) }
         ensures keeps { keeping_in self.new ≡ keeping_in self.old }
         ensures moves { start_of self.new + length (left_of self.new)
@@ -135,7 +142,7 @@ impl<'a> Elements<'a> {
         ensures short { IfErr result (λ e. e.kind ≢ FaultKind.TooLong) }
     {
         match self
-            .tape
+            .token_buffer
             .read(self.alloc, self.keeping, self.rest.as_bytes())
         {
             Ok(Some(rest)) => {
@@ -150,20 +157,20 @@ impl<'a> Elements<'a> {
 
     /// The tokens that were kept of the element that was read last.
     pub fn pieces(&self) -> &[Piece<'a>]
-        ensures { tape_tokens result.now ≡ tokens_in self.now }
+        ensures { token_buffer_tokens result.now ≡ tokens_in self.now }
     {
-        self.tape.pieces()
+        self.token_buffer.pieces()
     }
 
-    /// The row of the element that was read last, which is gone then.
-    pub fn take_row(&mut self) -> Option<Vec<i64>>
-        ensures row { option_map (λ v. v.items) result ≡ row_in self.old }
-        ensures gone { row_in self.new ≡ None }
+    /// The integer vector of the element that was read last, which is gone then.
+    pub fn take_integer_vector(&mut self) -> Option<Vec<i64>>
+        ensures integer_vector { option_map (λ v. v.items) result ≡ integer_vector_in self.old }
+        ensures gone { integer_vector_in self.new ≡ None }
         ensures tokens { tokens_in self.new ≡ tokens_in self.old }
         ensures keeps { keeping_in self.new ≡ keeping_in self.old }
         ensures left { (left_of self.new ≡ left_of self.old)
             × (start_of self.new ≡ start_of self.old) }
     {
-        self.tape.take_row(self.alloc)
+        self.token_buffer.take_integer_vector(self.alloc)
     }
 }

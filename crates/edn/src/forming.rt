@@ -2,7 +2,7 @@
 ghost use Rattle.std.specs.Prelude.{◌≡◌, ◌<◌, ◌≤◌, ◌∷◌, ◌++◌, [], List, length, true, false, IfOk, OnOk, MatchOption};
 ghost use Rattle.edn.specs.Datum.{keyword, atom};
 ghost use Rattle.edn.specs.Forming.{BeginsForm, BeginsItems, BeginsPairs};
-ghost use Rattle.edn.specs.Pieces.{piece_token, tape_tokens};
+ghost use Rattle.edn.specs.Pieces.{piece_token, token_buffer_tokens};
 ghost use Rattle.edn.specs.Token.{Token, tokens_of, leaf, open_vector, close_vector, open_map, close_map};
 ghost use Rattle.edn.specs.View.{view};
 
@@ -131,9 +131,9 @@ impl<'p, 'a> Tokens<'p, 'a> {
 
 /// The form whose tokens stand at the front.
 pub fn form_at(alloc: Global, pieces: &[Piece]) -> Result<Form, AllocError>
-    requires { BeginsForm (tape_tokens pieces.now) }
+    requires { BeginsForm (token_buffer_tokens pieces.now) }
     ensures { IfOk result (λ form. (behind : List Token)
-        × (tape_tokens pieces.now ≡ tokens_of (view form) ++ behind)) }
+        × (token_buffer_tokens pieces.now ≡ tokens_of (view form) ++ behind)) }
 {
     let mut tokens = Tokens { rest: pieces };
     tokens.form(alloc)

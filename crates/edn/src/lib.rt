@@ -7,23 +7,23 @@
 //! line feed or the end. `specs/Spells.antt` says it exactly.
 #![tactic(auto)]
 
-mod brief;
 mod bytes;
 mod elements;
 mod fault;
 mod form;
 mod forming;
+mod integer_vector;
 mod laws;
 mod levels;
 mod lexer;
 mod limits;
 mod piece;
 mod reader;
-mod row;
 mod sink;
 mod source;
 mod string;
-mod tape;
+mod token_buffer;
+mod truncated;
 mod word;
 mod writer;
 

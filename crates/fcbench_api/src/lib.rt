@@ -12,6 +12,6 @@ pub use events::{Action, End, Event, History, Invocation, ObjectHistory, split};
 pub use history::{HistoryFault, HistoryFaultKind, TextFault, read_history_text};
 pub use judging::judge;
 pub use report::{Fault, KindCount, Summary, Verdict};
-pub use search::{Found, Search, search, search_all};
+pub use search::{Search, SearchOutcome, search, search_all};
 pub use seq_objects::{AnyOp, AnyReply, Kind};
 pub use sources::{Bytes, NamedFile, Text, ToolFault, check_over};

@@ -4,12 +4,12 @@ use Rattle.std.proofs.lemmas.Option.{same_Some}
 use Rattle.model.specs.declared.Kind.{Kind}
 use Rattle.model.specs.Orders.{Call}
 use Rattle.checker.proofs.Collected.{Certifies}
-use Rattle.finder.specs.declared.finding.Found.{Found}
-use Rattle.finder.specs.declared.finding.Found.TheVariants.{Order, Open}
+use Rattle.finder.specs.declared.finding.FindOutcome.{FindOutcome}
+use Rattle.finder.specs.declared.finding.FindOutcome.TheVariants.{Order, Open}
 use Rattle.finder.specs.Finds.{certificate_in, IfOrder, IsFor}
 
 -- where an order was found, it is one of the object
-abbrev pub IsForOrder : ℕ → Kind → List Call → Found → Type 0
+abbrev pub IsForOrder : ℕ → Kind → List Call → FindOutcome → Type 0
 IsForOrder object kind calls f = IfOrder f (IsFor object kind calls)
 
 -- what is found is certified

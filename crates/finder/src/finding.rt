@@ -4,7 +4,7 @@ ghost use Rattle.std.specs.Prelude.{◌≡◌, IfOk, IfSome};
 ghost use Rattle.events.specs.Operations.{calls_of};
 ghost use Rattle.finder.specs.Finds.{IfOrder, IsFor};
 
-use crate::ways::{Way, order_by};
+use crate::methods::{Method, order_by};
 use certificate::Certificate;
 use checker::{Refusal, check_object};
 use events::ObjectHistory;
@@ -12,23 +12,23 @@ use std::alloc::{AllocError, Global};
 
 /// What was found for an object.
 #[derive(Debug, Drop)]
-pub enum Found {
+pub enum FindOutcome {
     /// A certificate whose order is valid.
     Order(Certificate),
     /// Nothing: there may be a valid order, or none.
     Open,
 }
 
-/// The certificate that is found by one way. What is handed out was checked.
+/// The certificate that is found by one method. What is handed out was checked.
 fn find_by(
     alloc: Global,
-    way: Way,
+    method: Method,
     history: &ObjectHistory,
 ) -> Result<Option<Certificate>, AllocError>
     ensures valid { IfOk result (λ found. IfSome found
         (IsFor history.now.object history.now.kind (calls_of history.now.ops))) }
 {
-    let Some(order) = order_by(alloc, way, history)? else {
+    let Some(order) = order_by(alloc, method, history)? else {
         return Ok(None);
     };
     let object = history.object();
@@ -40,16 +40,16 @@ fn find_by(
     }
 }
 
-/// Looks for a certificate of an object, first by the way that is made for its kind, and then, among at most 4,096 operations, by
+/// Looks for a certificate of an object, first by the method that is made for its kind, and then, among at most 4,096 operations, by
 /// a bounded search of 20,000 steps and 20 more for each operation.
-pub fn find(alloc: Global, history: &ObjectHistory) -> Result<Found, AllocError>
+pub fn find(alloc: Global, history: &ObjectHistory) -> Result<FindOutcome, AllocError>
     ensures valid { IfOk result (λ f. IfOrder f
         (IsFor history.now.object history.now.kind (calls_of history.now.ops))) }
 {
-    for way in [Way::OfTheKind, Way::Search] {
-        if let Some(certificate) = find_by(alloc, way, history)? {
-            return Ok(Found::Order(certificate));
+    for method in [Method::OfTheKind, Method::Search] {
+        if let Some(certificate) = find_by(alloc, method, history)? {
+            return Ok(FindOutcome::Order(certificate));
         }
     }
-    Ok(Found::Open)
+    Ok(FindOutcome::Open)
 }

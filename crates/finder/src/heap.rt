@@ -6,7 +6,7 @@
 
 use crate::calls::{PENDING, TimedCall, moment_count};
 use crate::gaps::Gaps;
-use crate::stays::{Stay, Stays};
+use crate::residences::{Residence, Residences};
 use std::alloc::{AllocError, Global};
 
 /// What comes first in one gap: extracts by rising value, each behind its insert where that is in the same gap, then calls that
@@ -27,13 +27,13 @@ struct Placed {
     number: u32,
 }
 
-fn insert_at(stay: &Stay, gap: u32, phase: Phase) -> Placed {
+fn insert_at(residence: &Residence, gap: u32, phase: Phase) -> Placed {
     Placed {
         gap,
         phase,
-        value: stay.value,
+        value: residence.value,
         extracts: false,
-        number: stay.put.number,
+        number: residence.put.number,
     }
 }
 
@@ -50,31 +50,31 @@ fn last_gap(call: &TimedCall) -> u32 {
 fn place(
     gaps: &mut Gaps,
     placed: &mut Vec<Placed>,
-    stay: &Stay,
+    residence: &Residence,
     end: u32,
 ) -> Result<bool, AllocError> {
-    let latest = last_gap(&stay.put);
-    let Some(take) = stay.take else {
-        placed.push(insert_at(stay, latest, Phase::Inserts))?;
-        gaps.cover(stay.put.end, end);
+    let latest = last_gap(&residence.put);
+    let Some(take) = residence.take else {
+        placed.push(insert_at(residence, latest, Phase::Inserts))?;
+        gaps.cover(residence.put.end, end);
         return Ok(true);
     };
-    let gap = gaps.first_free(stay.surely_to());
+    let gap = gaps.first_free(residence.surely_to());
     if gap >= take.end {
         return Ok(false);
     }
     placed.push(Placed {
         gap,
         phase: Phase::Extracts,
-        value: stay.value,
+        value: residence.value,
         extracts: true,
         number: take.number,
     })?;
     if latest < gap {
-        placed.push(insert_at(stay, latest, Phase::Inserts))?;
-        gaps.cover(stay.put.end, stay.surely_to());
+        placed.push(insert_at(residence, latest, Phase::Inserts))?;
+        gaps.cover(residence.put.end, residence.surely_to());
     } else {
-        placed.push(insert_at(stay, gap, Phase::Extracts))?;
+        placed.push(insert_at(residence, gap, Phase::Extracts))?;
     }
     Ok(true)
 }
@@ -102,15 +102,15 @@ fn place_empty(
 fn place_all(
     gaps: &mut Gaps,
     placed: &mut Vec<Placed>,
-    stays: &Stays,
+    residences: &Residences,
     end: u32,
 ) -> Result<bool, AllocError> {
-    for stay in &stays.stays {
-        if !place(gaps, placed, stay, end)? {
+    for residence in &residences.residences {
+        if !place(gaps, placed, residence, end)? {
             return Ok(false);
         }
     }
-    for call in &stays.empties {
+    for call in &residences.empties {
         if !place_empty(gaps, placed, call)? {
             return Ok(false);
         }
@@ -118,19 +118,19 @@ fn place_all(
     Ok(true)
 }
 
-/// Gives takings that are pending to the values that nobody is known to take and that must be gone: a greater one is extracted, or
+/// Gives removals that are pending to the values that nobody is known to take and that must be gone: a greater one is extracted, or
 /// nothing is found, by a call that begins when their insert has returned.
-fn give_takings(alloc: Global, stays: &mut Stays) -> Result<(), AllocError> {
-    let mut latest = stays.last_empty();
+fn give_removals(alloc: Global, residences: &mut Residences) -> Result<(), AllocError> {
+    let mut latest = residences.last_empty();
     let mut needed = Vec::new(alloc);
-    for (place, stay) in stays.stays.iter().enumerate().rev() {
-        match stay.take {
+    for (place, residence) in residences.residences.iter().enumerate().rev() {
+        match residence.take {
             Some(take) => latest = take.begin.max(latest),
-            None if stay.put.end <= latest => needed.push((stay.put.end, place))?,
+            None if residence.put.end <= latest => needed.push((residence.put.end, place))?,
             None => (),
         }
     }
-    stays.give(needed);
+    residences.give(needed);
     Ok(())
 }
 
@@ -138,13 +138,13 @@ fn give_takings(alloc: Global, stays: &mut Stays) -> Result<(), AllocError> {
 pub(crate) fn heap_order(
     alloc: Global,
     calls: &[TimedCall],
-    mut stays: Stays,
+    mut residences: Residences,
 ) -> Result<Option<Vec<i64>>, AllocError> {
-    give_takings(alloc, &mut stays)?;
+    give_removals(alloc, &mut residences)?;
     let end = moment_count(calls);
     let mut gaps = Gaps::new(alloc, end)?;
     let mut placed = Vec::new(alloc);
-    if !place_all(&mut gaps, &mut placed, &stays, end)? {
+    if !place_all(&mut gaps, &mut placed, &residences, end)? {
         return Ok(None);
     }
     placed.sort_unstable_by_key(|p| (p.gap, p.phase, p.value, p.extracts));

@@ -7,7 +7,7 @@
 
 use crate::calls::{TimedCall, moment_count};
 use crate::gaps::Gaps;
-use crate::stays::{NEVER, Stay, Stays};
+use crate::residences::{NEVER, Residence, Residences};
 use std::alloc::{AllocError, Global};
 
 /// A call that finds nothing, and its gap.
@@ -18,13 +18,17 @@ struct Cut {
 }
 
 /// Gaps for the calls that find nothing, in rising order; none where one has no gap.
-fn cuts_of(alloc: Global, stays: &Stays, end: u32) -> Result<Option<Vec<Cut>>, AllocError> {
+fn cuts_of(
+    alloc: Global,
+    residences: &Residences,
+    end: u32,
+) -> Result<Option<Vec<Cut>>, AllocError> {
     let mut gaps = Gaps::new(alloc, end)?;
-    for stay in &stays.stays {
-        gaps.cover(stay.surely_from(), stay.surely_to());
+    for residence in &residences.residences {
+        gaps.cover(residence.surely_from(), residence.surely_to());
     }
     let mut cuts = Vec::new(alloc);
-    for call in &stays.empties {
+    for call in &residences.empties {
         let gap = gaps.first_free(call.begin);
         if gap >= call.end {
             return Ok(None);
@@ -47,20 +51,20 @@ struct Row {
     put_by: u32,
     take_from: u32,
     take_by: u32,
-    stay: Stay,
+    residence: Residence,
 }
 
-fn row_of(cuts: &[Cut], stay: Stay) -> Row {
-    let gone = stay.surely_to();
+fn row_of(cuts: &[Cut], residence: Residence) -> Row {
+    let gone = residence.surely_to();
     let phase = cuts.partition_point(|cut| cut.gap < gone);
     let mut row = Row {
         phase,
         from: 0,
-        put_from: stay.put.begin,
-        put_by: stay.surely_from(),
-        take_from: stay.taken_from(),
-        take_by: stay.taken_by(),
-        stay,
+        put_from: residence.put.begin,
+        put_by: residence.surely_from(),
+        take_from: residence.taken_from(),
+        take_by: residence.taken_by(),
+        residence,
     };
     if let Some(before) = phase.checked_sub(1).and_then(|last| cuts.get(last)) {
         let after = before.gap.saturating_add(1);
@@ -232,15 +236,15 @@ fn steps_of(alloc: Global, line: &[Row]) -> Result<Vec<Step>, AllocError> {
     let mut take_at = 0;
     for (turn, row) in line.iter().enumerate() {
         let phase = row.phase;
-        put_at = row.stay.put.begin.max(row.from).max(put_at);
+        put_at = row.residence.put.begin.max(row.from).max(put_at);
         steps.push(Step {
             phase,
             gap: put_at,
             rank: Rank::Puts,
             turn,
-            number: row.stay.put.number,
+            number: row.residence.put.number,
         })?;
-        if let Some(take) = row.stay.take {
+        if let Some(take) = row.residence.take {
             take_at = take.begin.max(put_at).max(take_at);
             steps.push(Step {
                 phase,
@@ -267,17 +271,17 @@ fn add_cuts(steps: &mut Vec<Step>, cuts: &[Cut]) -> Result<(), AllocError> {
     Ok(())
 }
 
-/// Gives takings that are pending to the values that nobody is known to take and that must be gone: their put returned before
+/// Gives removals that are pending to the values that nobody is known to take and that must be gone: their put returned before
 /// another that is taken was put, or before a call that finds nothing.
-fn give_takings(alloc: Global, stays: &mut Stays) -> Result<(), AllocError> {
-    let mut latest = stays.last_empty();
-    for stay in &stays.stays {
-        if stay.take.is_some() {
-            latest = stay.put.begin.max(latest);
+fn give_removals(alloc: Global, residences: &mut Residences) -> Result<(), AllocError> {
+    let mut latest = residences.last_empty();
+    for residence in &residences.residences {
+        if residence.take.is_some() {
+            latest = residence.put.begin.max(latest);
         }
     }
-    let needed = stays.left_before(alloc, |_| latest)?;
-    stays.give(needed);
+    let needed = residences.left_before(alloc, |_| latest)?;
+    residences.give(needed);
     Ok(())
 }
 
@@ -285,15 +289,15 @@ fn give_takings(alloc: Global, stays: &mut Stays) -> Result<(), AllocError> {
 pub(crate) fn queue_order(
     alloc: Global,
     calls: &[TimedCall],
-    mut stays: Stays,
+    mut residences: Residences,
 ) -> Result<Option<Vec<i64>>, AllocError> {
-    give_takings(alloc, &mut stays)?;
-    let Some(cuts) = cuts_of(alloc, &stays, moment_count(calls))? else {
+    give_removals(alloc, &mut residences)?;
+    let Some(cuts) = cuts_of(alloc, &residences, moment_count(calls))? else {
         return Ok(None);
     };
     let mut rows = Vec::new(alloc);
-    for stay in &stays.stays {
-        rows.push(row_of(&cuts, *stay))?;
+    for residence in &residences.residences {
+        rows.push(row_of(&cuts, *residence))?;
     }
     let Some(line) = lined_up(alloc, &rows)? else {
         return Ok(None);

@@ -1,13 +1,13 @@
 //! Stacks in which each value comes once.
 //!
-//! A value whose put and taking overlap is put and taken in one gap, anywhere. The others surely are in the stack for a while, and
+//! A value whose put and removal overlap is put and taken in one gap, anywhere. The others surely are in the stack for a while, and
 //! are cut where none of them surely is: what is behind the cut can stand behind all that is before it. Where there is no such gap
 //! one value lies below all others, and any that can be put before them all and taken behind them all may be that one. That a stack
 //! of such calls has a valid order only where this finds one is not proved.
 
 use crate::calls::{TimedCall, moment_count};
 use crate::gaps::Gaps;
-use crate::stays::{Stay, Stays};
+use crate::residences::{Residence, Residences};
 use crate::trees::{ABSENT, Counts, Least};
 use std::alloc::{AllocError, Global};
 
@@ -31,7 +31,7 @@ struct Turn {
 /// The values that surely are in the stack for a while, by the gap from which on they are, and what is left of them.
 #[derive(Debug, Drop)]
 struct Values {
-    stays: Vec<Stay>,
+    residences: Vec<Residence>,
     /// The number of moments.
     end: u32,
     /// The places of values that are left.
@@ -54,37 +54,45 @@ fn small(place: usize) -> u32 {
     u32::try_from(place).unwrap_or(u32::MAX)
 }
 
-fn surely_to(stay: &Stay, end: u32) -> u32 {
-    stay.surely_to().min(end)
+fn surely_to(residence: &Residence, end: u32) -> u32 {
+    residence.surely_to().min(end)
 }
 
 /// A number of each value.
-fn numbers_of<F: Fn(&Stay) -> i64>(
+fn numbers_of<F: Fn(&Residence) -> i64>(
     alloc: Global,
-    stays: &[Stay],
+    residences: &[Residence],
     number: F,
 ) -> Result<Vec<i64>, AllocError>
     requires { F.IsAlwaysCallable number }
 {
     let mut numbers = Vec::new(alloc);
-    for stay in stays {
-        numbers.push(number(stay))?;
+    for residence in residences {
+        numbers.push(number(residence))?;
     }
     Ok(numbers)
 }
 
 impl Values {
     /// The values, which come in rising order of the gap from which on they surely are in the stack.
-    fn new(alloc: Global, stays: Vec<Stay>, end: u32) -> Result<Values, AllocError> {
+    fn new(alloc: Global, residences: Vec<Residence>, end: u32) -> Result<Values, AllocError> {
         let mut cover = Counts::new(alloc, (end as usize).saturating_add(1))?;
-        for stay in &stays {
-            let to = surely_to(stay, end);
-            cover.add(stay.surely_from() as usize, to as usize, 1);
+        for residence in &residences {
+            let to = surely_to(residence, end);
+            cover.add(residence.surely_from() as usize, to as usize, 1);
         }
-        let count = stays.len();
-        let last = numbers_of(alloc, &stays, |stay| -(surely_to(stay, end) as i64))?;
-        let put = numbers_of(alloc, &stays, |stay| stay.put.begin as i64)?;
-        let take = numbers_of(alloc, &stays, |stay| -(stay.taken_by() as i64))?;
+        let count = residences.len();
+        let last = numbers_of(
+            alloc,
+            &residences,
+            |residence| -(surely_to(residence, end) as i64),
+        )?;
+        let put = numbers_of(alloc, &residences, |residence| residence.put.begin as i64)?;
+        let take = numbers_of(
+            alloc,
+            &residences,
+            |residence| -(residence.taken_by() as i64),
+        )?;
         let none = vec![in alloc; ABSENT; count]?;
         Ok(Values {
             left: Gaps::new(alloc, small(count))?,
@@ -94,7 +102,7 @@ impl Values {
             lowest_take: Least::new(alloc, &take)?,
             lowest: Least::new(alloc, &none)?,
             known: vec![in alloc; 0; count]?,
-            stays,
+            residences,
             end,
         })
     }
@@ -111,7 +119,7 @@ impl Values {
 
     /// Notes the values that can be put before this gap.
     fn note_puts(&mut self, from: usize, to: usize, gap: i64) {
-        for _ in 0..self.stays.len() {
+        for _ in 0..self.residences.len() {
             let Some(place) = self.lowest_put.take_at_most(from, to, gap) else {
                 break;
             };
@@ -122,7 +130,7 @@ impl Values {
     /// Notes the values that can be taken behind this gap.
     fn note_takes(&mut self, from: usize, to: usize, gap: i64) {
         let behind = gap.saturating_neg().saturating_sub(1);
-        for _ in 0..self.stays.len() {
+        for _ in 0..self.residences.len() {
             let Some(place) = self.lowest_take.take_at_most(from, to, behind) else {
                 break;
             };
@@ -132,11 +140,12 @@ impl Values {
 
     /// Takes a value out.
     fn remove(&mut self, place: usize) {
-        let Some(stay) = self.stays.get(place).copied() else {
+        let Some(residence) = self.residences.get(place).copied() else {
             return;
         };
-        let to = surely_to(&stay, self.end);
-        self.cover.add(stay.surely_from() as usize, to as usize, -1);
+        let to = surely_to(&residence, self.end);
+        self.cover
+            .add(residence.surely_from() as usize, to as usize, -1);
         self.lowest_put.set(place, ABSENT);
         self.lowest_take.set(place, ABSENT);
         self.lowest.set(place, ABSENT);
@@ -158,8 +167,8 @@ impl Ordering {
     /// The place from which on the values surely are in the stack behind this gap.
     fn behind(&self, gap: u32) -> usize {
         self.values
-            .stays
-            .partition_point(|stay| stay.surely_from() <= gap)
+            .residences
+            .partition_point(|residence| residence.surely_from() <= gap)
     }
 
     /// Plans the values between the calls that find nothing, and these calls. False where one has no gap.
@@ -173,7 +182,7 @@ impl Ordering {
             cuts.push((small(gap), call.number, *call))?;
         }
         cuts.sort_unstable_by_key(|cut| (cut.0, cut.1));
-        let mut to = self.values.stays.len();
+        let mut to = self.values.residences.len();
         for (gap, _, call) in cuts.iter().rev() {
             let from = self.behind(*gap);
             self.tasks.push(Task::Order(from, to))?;
@@ -197,12 +206,12 @@ impl Ordering {
         let Some(place) = self.values.lowest.first_at_most(from, to, 0) else {
             return Ok(false);
         };
-        let Some(stay) = self.values.stays.get(place).copied() else {
+        let Some(residence) = self.values.residences.get(place).copied() else {
             return Ok(false);
         };
         self.values.remove(place);
         self.turns.push(Turn {
-            call: stay.put,
+            call: residence.put,
             from: 0,
         })?;
         self.tasks.push(Task::Take(place))?;
@@ -214,13 +223,13 @@ impl Ordering {
     fn order(&mut self, from: usize, to: usize) -> Result<bool, AllocError> {
         let at = small(from);
         let next = self.values.left.first_free(at) as usize;
-        let Some(stay) = self.values.stays.get(next) else {
+        let Some(residence) = self.values.residences.get(next) else {
             return Ok(true);
         };
         if next >= to {
             return Ok(true);
         }
-        let first = stay.surely_from();
+        let first = residence.surely_from();
         let last = self.values.last.least(from, to).saturating_neg();
         let Some(gap) = self
             .values
@@ -240,7 +249,12 @@ impl Ordering {
             Task::Order(from, to) => return self.order(from, to),
             Task::FindsNone(call, from) => self.turns.push(Turn { call, from })?,
             Task::Take(place) => {
-                if let Some(call) = self.values.stays.get(place).and_then(|stay| stay.take) {
+                if let Some(call) = self
+                    .values
+                    .residences
+                    .get(place)
+                    .and_then(|residence| residence.take)
+                {
                     self.turns.push(Turn { call, from: 0 })?;
                 }
             }
@@ -253,7 +267,7 @@ impl Ordering {
         // each value is put and taken once, and is the first behind a cut at most once
         let most = self
             .values
-            .stays
+            .residences
             .len()
             .saturating_add(self.tasks.len())
             .saturating_mul(5);
@@ -272,19 +286,19 @@ impl Ordering {
 /// Adds the values that are put and taken in one gap before this one, from a place on; the first place that is left.
 fn add_short(
     order: &mut Vec<i64>,
-    short: &[Stay],
+    short: &[Residence],
     from: usize,
     gap: u32,
 ) -> Result<usize, AllocError> {
     for k in from..short.len() {
-        let Some(stay) = short.get(k) else {
+        let Some(residence) = short.get(k) else {
             return Ok(k);
         };
-        if stay.surely_to() >= gap {
+        if residence.surely_to() >= gap {
             return Ok(k);
         }
-        order.push(stay.put.number as i64)?;
-        if let Some(take) = stay.take {
+        order.push(residence.put.number as i64)?;
+        if let Some(take) = residence.take {
             order.push(take.number as i64)?;
         }
     }
@@ -292,7 +306,7 @@ fn add_short(
 }
 
 /// The turns, each at the first gap that those before it leave, and between them the values that are put and taken in one gap.
-fn merged(alloc: Global, turns: &[Turn], short: &[Stay]) -> Result<Vec<i64>, AllocError> {
+fn merged(alloc: Global, turns: &[Turn], short: &[Residence]) -> Result<Vec<i64>, AllocError> {
     let mut order = Vec::new(alloc);
     let mut gap = 0;
     let mut next = 0;
@@ -305,26 +319,29 @@ fn merged(alloc: Global, turns: &[Turn], short: &[Stay]) -> Result<Vec<i64>, All
     Ok(order)
 }
 
-/// Gives takings that are pending to the values that nobody is known to take and that must be gone: nothing is found by a call that
+/// Gives removals that are pending to the values that nobody is known to take and that must be gone: nothing is found by a call that
 /// begins when their put has returned, or a value that was put before them is taken then.
-fn give_takings(alloc: Global, stays: &mut Stays) -> Result<(), AllocError> {
+fn give_removals(alloc: Global, residences: &mut Residences) -> Result<(), AllocError> {
     let mut below = Vec::new(alloc);
-    for stay in &stays.stays {
-        if let Some(take) = stay.take {
-            below.push((stay.put.end, take.begin))?;
+    for residence in &residences.residences {
+        if let Some(take) = residence.take {
+            below.push((residence.put.end, take.begin))?;
         }
     }
     below.sort_unstable();
     raise(&mut below);
-    let empty = stays.last_empty();
-    let needed = stays.left_before(alloc, |stay| taken_below(&below, stay).max(empty))?;
-    stays.give(needed);
+    let empty = residences.last_empty();
+    let needed = residences.left_before(
+        alloc,
+        |residence| taken_below(&below, residence).max(empty),
+    )?;
+    residences.give(needed);
     Ok(())
 }
 
-/// When the last taking begins of the values that were put before this one; 0 where none is taken.
-fn taken_below(below: &[(u32, u32)], stay: &Stay) -> u32 {
-    let under = below.partition_point(|(end, _)| *end < stay.put.begin);
+/// When the last removal begins of the values that were put before this one; 0 where none is taken.
+fn taken_below(below: &[(u32, u32)], residence: &Residence) -> u32 {
+    let under = below.partition_point(|(end, _)| *end < residence.put.begin);
     under
         .checked_sub(1)
         .and_then(|last| below.get(last))
@@ -341,18 +358,21 @@ fn raise(pairs: &mut [(u32, u32)]) {
 }
 
 /// The values apart: those that surely are in the stack for a while, and the others, each in rising order of their gaps.
-fn apart(alloc: Global, stays: &[Stay]) -> Result<(Vec<Stay>, Vec<Stay>), AllocError> {
+fn apart(
+    alloc: Global,
+    residences: &[Residence],
+) -> Result<(Vec<Residence>, Vec<Residence>), AllocError> {
     let mut long = Vec::new(alloc);
     let mut short = Vec::new(alloc);
-    for stay in stays {
-        if stay.surely_from() > stay.surely_to() {
-            short.push(*stay)?;
+    for residence in residences {
+        if residence.surely_from() > residence.surely_to() {
+            short.push(*residence)?;
         } else {
-            long.push(*stay)?;
+            long.push(*residence)?;
         }
     }
-    long.sort_unstable_by_key(|stay| stay.surely_from());
-    short.sort_unstable_by_key(|stay| stay.surely_to());
+    long.sort_unstable_by_key(|residence| residence.surely_from());
+    short.sort_unstable_by_key(|residence| residence.surely_to());
     Ok((long, short))
 }
 
@@ -360,16 +380,16 @@ fn apart(alloc: Global, stays: &[Stay]) -> Result<(Vec<Stay>, Vec<Stay>), AllocE
 pub(crate) fn stack_order(
     alloc: Global,
     calls: &[TimedCall],
-    mut stays: Stays,
+    mut residences: Residences,
 ) -> Result<Option<Vec<i64>>, AllocError> {
-    give_takings(alloc, &mut stays)?;
-    let (long, short) = apart(alloc, &stays.stays)?;
+    give_removals(alloc, &mut residences)?;
+    let (long, short) = apart(alloc, &residences.residences)?;
     let mut ordering = Ordering {
         values: Values::new(alloc, long, moment_count(calls))?,
         tasks: Vec::new(alloc),
         turns: Vec::new(alloc),
     };
-    if !ordering.plan(alloc, &stays.empties)? || !ordering.run_all()? {
+    if !ordering.plan(alloc, &residences.empties)? || !ordering.run_all()? {
         return Ok(None);
     }
     Ok(Some(merged(alloc, &ordering.turns, &short)?))

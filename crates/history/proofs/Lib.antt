@@ -7,5 +7,5 @@ pub mod Laws
 pub mod Proper
 pub mod Reading
 pub mod Saying
-pub mod Briefly
+pub mod Truncated
 pub mod TextReading

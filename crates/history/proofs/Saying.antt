@@ -1,20 +1,20 @@
 -- What a form says, by its entries or by its tokens.
 use Rattle.std.proofs.Common.{◌≡◌, ℕ, ℤ, ◌==◌, true, false, Option, Some, None, IfSome, List, [], ◌∷◌, ◌++◌, length, codes, refl, sym, ap, subst, ◌∙◌}
 use Rattle.std.specs.Prelude.{option_map, option_and_then, is_some}
-use Rattle.edn.specs.Briefs.{integer_in}
+use Rattle.edn.specs.Truncation.{integer_in}
 use Rattle.edn.specs.Datum.{nil, boolean, integer, string, keyword, Datum, atom, vector, dictionary, Items, no_items, item, Entries}
 use Rattle.edn.specs.Token.{Token, close_vector, leaf, tokens_of, items_tokens}
-use Rattle.edn.specs.Pieces.{tape_tokens}
+use Rattle.edn.specs.Pieces.{token_buffer_tokens}
 use Rattle.edn.specs.declared.Piece.{Piece}
 use Rattle.edn.proofs.Prefixes.{not_nothing}
 use Rattle.seq_objects.specs.declared.value.Value.{Value}
 use Rattle.seq_objects.specs.declared.value.Value.TheVariants.{Pair}
-use Rattle.fields.specs.Fields.{value_at, natural_in, keyword_in, object_in, value_in}
-use Rattle.fields.specs.Values.{IsValue, natural_first, keyword_first}
-use Rattle.fields.specs.Operations.{HasValues, IsMapWith}
-use Rattle.fields.specs.declared.operation.OperationValues.{OperationValues}
-use Rattle.fields.proofs.Operating.{empty_is}
-use Rattle.fields.proofs.Shapes.{natural_is, keyword_is}
+use Rattle.edn_fields.specs.Fields.{value_at, natural_in, keyword_in, object_in, value_in}
+use Rattle.edn_fields.specs.Values.{IsValue, natural_first, keyword_first}
+use Rattle.edn_fields.specs.Operations.{HasValues, IsMapWith}
+use Rattle.edn_fields.specs.declared.operation.OperationValues.{OperationValues}
+use Rattle.edn_fields.proofs.Operating.{empty_is}
+use Rattle.edn_fields.proofs.Shapes.{natural_is, keyword_is}
 use Rattle.history.specs.Maps as spec
 use Rattle.history.specs.Maps.{type_named, object_at, pair_in, plain_value, client_with, client_in}
 use Rattle.history.specs.Views.{client_map, IsClient, Says, pair_first, plain_first}
@@ -69,17 +69,17 @@ plain_by (atom (keyword k)) ts = refl
 plain_by (vector ds) ts = pair_by ds ts
 plain_by (dictionary es) ts = refl
 
-pub plain_is : (ps : List Piece) (o : Option Datum) → IsValue ps o → plain_first (tape_tokens ps) ≡ plain_value (value_in o)
-plain_is ps None h = ap (λ (x : List Piece). plain_first (tape_tokens x)) h
+pub plain_is : (ps : List Piece) (o : Option Datum) → IsValue ps o → plain_first (token_buffer_tokens ps) ≡ plain_value (value_in o)
+plain_is ps None h = ap (λ (x : List Piece). plain_first (token_buffer_tokens x)) h
 plain_is ps (Some d) h = ap plain_first h.1 ∙ plain_by d h.0
 
 -- ---- the object
 
 pub object_absent : (ps : List Piece) (o : Option Datum) → true ≡ (length ps == 0) → IsValue ps o → Some 0 ≡ object_at o
 object_absent ps None e h = refl
-object_absent ps (Some d) e h = absurd (not_nothing d h.0 (sym (ap tape_tokens (empty_is ps e)) ∙ h.1))
+object_absent ps (Some d) e h = absurd (not_nothing d h.0 (sym (ap token_buffer_tokens (empty_is ps e)) ∙ h.1))
 
-pub object_there : (ps : List Piece) (o : Option Datum) → false ≡ (length ps == 0) → IsValue ps o → object_in (natural_first (tape_tokens ps)) ≡ object_at o
+pub object_there : (ps : List Piece) (o : Option Datum) → false ≡ (length ps == 0) → IsValue ps o → object_in (natural_first (token_buffer_tokens ps)) ≡ object_at o
 object_there ps None e h = let z : (length ps == 0) ≡ true = ap (λ (x : List Piece). length x == 0) h in absurd cc
 object_there ps (Some d) e h = ap object_in (natural_is ps (Some d) h)
 
@@ -111,8 +111,8 @@ no_map tokens h (dictionary es) e = absurd (h es e)
 pub a_client : (v : OperationValues) (d : Datum) (c : ClientMap) → IsMapWith v d → ((es : Entries) → HasValues v es → IsClient (Some c) (client_in es)) → Says (OfClient c) d
 a_client v d c (es, q, h) k = subst (λ (x : Datum). Says (OfClient c) x) (sym q) (k es h)
 
-pub an_ignored : (v : OperationValues) (d : Datum) → IsMapWith v d → ((es : Entries) → HasValues v es → IsClient None (client_in es)) → is_some (keyword_first (tape_tokens v.process.now)) ≡ true → Says Ignored d
+pub an_ignored : (v : OperationValues) (d : Datum) → IsMapWith v d → ((es : Entries) → HasValues v es → IsClient None (client_in es)) → is_some (keyword_first (token_buffer_tokens v.process.now)) ≡ true → Says Ignored d
 an_ignored v d (es, q, h) k e = subst (λ (x : Datum). Says Ignored x) (sym q) (k es h, sym (ap is_some (keyword_is v.process.now (value_at (codes "process") es) h.process)) ∙ e)
 
-pub neither : (v : OperationValues) (d : Datum) → IsMapWith v d → ((es : Entries) → HasValues v es → IsClient None (client_in es)) → is_some (keyword_first (tape_tokens v.process.now)) ≡ false → Says Neither d
+pub neither : (v : OperationValues) (d : Datum) → IsMapWith v d → ((es : Entries) → HasValues v es → IsClient None (client_in es)) → is_some (keyword_first (token_buffer_tokens v.process.now)) ≡ false → Says Neither d
 neither v d (es, q, h) k e = subst (λ (x : Datum). Says Neither x) (sym q) (k es h, sym (ap is_some (keyword_is v.process.now (value_at (codes "process") es) h.process)) ∙ e)

@@ -1,9 +1,9 @@
 //! From a text to a history, element by element.
 
 ghost use Rattle.std.specs.Prelude.{◌≡◌, ◌≢◌, ◌<◌, ◌+◌, ◌++◌, ◌∷◌, [], List, length, IfOk, IfErr, OnOk, MatchResult};
-ghost use Rattle.edn.specs.Briefs.{brief};
+ghost use Rattle.edn.specs.Truncation.{truncated};
 ghost use Rattle.edn.specs.Datum.{Datum};
-ghost use Rattle.edn.specs.Pieces.{tape_tokens};
+ghost use Rattle.edn.specs.Pieces.{token_buffer_tokens};
 ghost use Rattle.edn.specs.Sound.{IsShort};
 ghost use Rattle.edn.specs.Spells.{Spells};
 ghost use Rattle.edn.specs.Token.{tokens_of};
@@ -45,7 +45,7 @@ impl Reading {
     /// Reads one more map, where none was faulty. Of each value only the beginning is given.
     fn take_next(&mut self, pieces: &[Piece])
         requires { self.old.fault ≡ None }
-        ensures { (ds : List Datum) (d : Datum) → tape_tokens pieces.now ≡ tokens_of (brief d)
+        ensures { (ds : List Datum) (d : Datum) → token_buffer_tokens pieces.now ≡ tokens_of (truncated d)
             → IsReading self.old ds → IsReading self.new (ds ++ d ∷ []) }
     {
         let map = self.map;
@@ -57,7 +57,7 @@ impl Reading {
 
     /// Reads one more map, unless an earlier one is faulty.
     fn take(&mut self, pieces: &[Piece])
-        ensures { (ds : List Datum) (d : Datum) → tape_tokens pieces.now ≡ tokens_of (brief d)
+        ensures { (ds : List Datum) (d : Datum) → token_buffer_tokens pieces.now ≡ tokens_of (truncated d)
             → IsReading self.old ds → IsReading self.new (ds ++ d ∷ []) }
     {
         if self.fault.is_none() {
@@ -93,7 +93,7 @@ pub fn read_history_text(alloc: Global, text: &[u8]) -> Result<History, TextFaul
     ensures short { OnOk result (IsShort text.now) }
     ensures fault { IfErr result (IsTextFault text.now) }
 {
-    let mut elements = match Elements::brief(alloc, text) {
+    let mut elements = match Elements::truncated(alloc, text) {
         Ok(elements) => elements,
         Err(fault) => return Err(TextFault::Text(fault)),
     };

@@ -12,10 +12,10 @@ use Rattle.history.specs.declared.fault.TextFault.TheVariants.{Text, Maps}
 use Rattle.history.proofs.Reading.{fault_refutes}
 use Rattle.report.specs.declared.verdict.Fault.{Fault}
 use Rattle.report.specs.declared.verdict.Fault.TheVariants.{HistoryText, HistoryMaps, CertificateText, CertificateForms}
-use Rattle.judging.specs.declared.texts.Stop.{Stop}
-use Rattle.judging.specs.declared.texts.Stop.TheVariants as stop
-use Rattle.judging.specs.declared.texts.Stop.TheVariants.{Stopped}
-use Rattle.judging.specs.Texts.{DenotesHistory, DenotesCertificates, IsStopOf, IsHistoryFault, IsCertificatesFault}
+use Rattle.judging.specs.declared.texts.TextFailure.{TextFailure}
+use Rattle.judging.specs.declared.texts.TextFailure.TheVariants as stop
+use Rattle.judging.specs.declared.texts.TextFailure.TheVariants.{Faulty}
+use Rattle.judging.specs.Texts.{DenotesHistory, DenotesCertificates, IsFailureOf, IsHistoryFault, IsCertificatesFault}
 use Rattle.certificate.specs.declared.Certificate.{Certificate}
 use Rattle.certificate.specs.declared.fault.CertFault.{CertFault}
 use Rattle.certificate.specs.declared.fault.CertTextFault.TheVariants.{Forms}
@@ -24,34 +24,34 @@ use Rattle.certificate.specs.Texts as certificate_texts
 use Rattle.certificate.proofs.Reading.{not_denoted}
 
 -- what stops the reading of a history's text
-pub stopped_text : (h : List ℕ) (e : EdnFault) (s : Stop) → IsTextFault h (Text e) → IsStopOf (HistoryText e) s → IsHistoryFault h s
-stopped_text h e (Stopped g) t k = subst (λ (x : Fault). IsHistoryFault h (Stopped x)) (sym k.0) (t.0 k.1)
+pub stopped_text : (h : List ℕ) (e : EdnFault) (s : TextFailure) → IsTextFault h (Text e) → IsFailureOf (HistoryText e) s → IsHistoryFault h s
+stopped_text h e (Faulty g) t k = subst (λ (x : Fault). IsHistoryFault h (Faulty x)) (sym k.0) (t.0 k.1)
 stopped_text h e stop.NoMemory t k = let a = t.1 k in (a.0, inl (e.place, a.1))
 
-pub stopped_maps : (h : List ℕ) (f : HistoryFault) (s : Stop) → IsTextFault h (Maps f) → IsStopOf (HistoryMaps f) s → IsHistoryFault h s
-stopped_maps h f (Stopped g) (short, ds, spells, found) k = subst (λ (x : Fault). IsHistoryFault h (Stopped x)) (sym k.0) (short, ds, spells, found.0 k.1)
+pub stopped_maps : (h : List ℕ) (f : HistoryFault) (s : TextFailure) → IsTextFault h (Maps f) → IsFailureOf (HistoryMaps f) s → IsHistoryFault h s
+stopped_maps h f (Faulty g) (short, ds, spells, found) k = subst (λ (x : Fault). IsHistoryFault h (Faulty x)) (sym k.0) (short, ds, spells, found.0 k.1)
 stopped_maps h f stop.NoMemory (short, ds, spells, found) k = let a = found.1 k in (short, inr (ds, spells, f.map, a.0, a.1))
 
 -- a text that denotes a history stops it for want of memory alone
-pub stops_for_memory : (h : List ℕ) (s : Stop) (es : List Event) → IsHistoryFault h s → DenotesHistory h es → IsShort h → s ≡ stop.NoMemory
+pub stops_for_memory : (h : List ℕ) (s : TextFailure) (es : List Event) → IsHistoryFault h s → DenotesHistory h es → IsShort h → s ≡ stop.NoMemory
 stops_for_memory h stop.NoMemory es f d short = refl
-stops_for_memory h (Stopped (HistoryText e)) es f d short =
+stops_for_memory h (Faulty (HistoryText e)) es f d short =
     absurd (f.nothing (λ t. (let long : max_length < length h = f.too_long.0 t in omega (arith, long, short))) d.forms d.spelled)
-stops_for_memory h (Stopped (HistoryMaps g)) es (a, ds, spells, first) d short =
+stops_for_memory h (Faulty (HistoryMaps g)) es (a, ds, spells, first) d short =
     absurd (fault_refutes ds g es first (subst (λ (x : List Datum). Denotes x es) (one_reading_of d.forms ds h d.spelled spells) d.denoted))
-stops_for_memory h (Stopped (CertificateText e)) es f d short = absurd f
-stops_for_memory h (Stopped (CertificateForms g)) es f d short = absurd f
+stops_for_memory h (Faulty (CertificateText e)) es f d short = absurd f
+stops_for_memory h (Faulty (CertificateForms g)) es f d short = absurd f
 
 -- the same of a text of certificates
-pub stopped_forms : (c : List ℕ) (f : CertFault) (s : Stop) → certificate_texts.IsTextFault c (Forms f) → IsStopOf (CertificateForms f) s → IsCertificatesFault c s
-stopped_forms c f (Stopped g) (short, ds, spells, found) k = subst (λ (x : Fault). IsCertificatesFault c (Stopped x)) (sym k.0) (short, ds, spells, found.0 k.1)
+pub stopped_forms : (c : List ℕ) (f : CertFault) (s : TextFailure) → certificate_texts.IsTextFault c (Forms f) → IsFailureOf (CertificateForms f) s → IsCertificatesFault c s
+stopped_forms c f (Faulty g) (short, ds, spells, found) k = subst (λ (x : Fault). IsCertificatesFault c (Faulty x)) (sym k.0) (short, ds, spells, found.0 k.1)
 stopped_forms c f stop.NoMemory (short, ds, spells, found) k = (short, inr (ds, spells, f.form, found.1 k))
 
-pub certificates_for_memory : (c : List ℕ) (s : Stop) (cs : List Certificate) → IsCertificatesFault c s → DenotesCertificates c cs → IsShort c → s ≡ stop.NoMemory
+pub certificates_for_memory : (c : List ℕ) (s : TextFailure) (cs : List Certificate) → IsCertificatesFault c s → DenotesCertificates c cs → IsShort c → s ≡ stop.NoMemory
 certificates_for_memory c stop.NoMemory cs f d short = refl
-certificates_for_memory c (Stopped (HistoryText e)) cs f d short = absurd f
-certificates_for_memory c (Stopped (HistoryMaps g)) cs f d short = absurd f
-certificates_for_memory c (Stopped (CertificateText e)) cs f d short =
+certificates_for_memory c (Faulty (HistoryText e)) cs f d short = absurd f
+certificates_for_memory c (Faulty (HistoryMaps g)) cs f d short = absurd f
+certificates_for_memory c (Faulty (CertificateText e)) cs f d short =
     absurd (f.nothing (λ t. (let long : max_length < length c = f.too_long.0 t in omega (arith, long, short))) d.forms d.spelled)
-certificates_for_memory c (Stopped (CertificateForms g)) cs (a, ds, spells, first) d short =
+certificates_for_memory c (Faulty (CertificateForms g)) cs (a, ds, spells, first) d short =
     absurd (not_denoted ds g first cs (subst (λ (x : List Datum). certificate_meaning.Denotes x cs) (one_reading_of d.forms ds c d.spelled spells) d.denoted))

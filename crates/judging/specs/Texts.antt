@@ -25,8 +25,8 @@ use Rattle.report.specs.declared.verdict.Fault.{Fault}
 use Rattle.report.specs.declared.verdict.Verdict.{Verdict}
 use Rattle.report.specs.declared.verdict.Verdict.TheVariants as verdict
 use Rattle.report.specs.declared.verdict.Verdict.TheVariants.{Malformed}
-use Rattle.judging.specs.declared.texts.Stop.{Stop}
-use Rattle.judging.specs.declared.texts.Stop.TheVariants.{Stopped, NoMemory}
+use Rattle.judging.specs.declared.texts.TextFailure.{TextFailure}
+use Rattle.judging.specs.declared.texts.TextFailure.TheVariants.{Faulty, NoMemory}
 use Rattle.report.specs.declared.verdict.Fault.TheVariants.{HistoryText, HistoryMaps, CertificateText, CertificateForms}
 
 -- The text spells forms that denote these client events. It denotes one list of them at most (`one_history`).
@@ -58,9 +58,9 @@ WantsMemory (CertificateText e) = e.kind ≡ edn_kind.NoMemory
 WantsMemory (CertificateForms f) = f.kind ≡ certificate_kind.NoMemory
 
 -- Reading stops for want of memory where that is the fault, and nowhere else.
-abbrev pub IsStopOf : Fault → Stop → Type 0
-IsStopOf fault (Stopped f) = (f ≡ fault) × ¬ (WantsMemory fault)
-IsStopOf fault NoMemory = WantsMemory fault
+abbrev pub IsFailureOf : Fault → TextFailure → Type 0
+IsFailureOf fault (Faulty f) = (f ≡ fault) × ¬ (WantsMemory fault)
+IsFailureOf fault NoMemory = WantsMemory fault
 
 -- Nothing is wrong with the text of certificates as far as it was looked at: up to a token and with it, or, where it
 -- spells forms, up to one of them and with it.
@@ -68,23 +68,23 @@ abbrev pub AreCertificatesSound : List ℕ → Type 0
 AreCertificatesSound c = IsShort c × (((place : ℕ) × IsSoundAt place c) ⊎ ((ds : List Datum) × Spells ds c × (form : ℕ) × certificate_fault.IsSoundAt ds form))
 
 -- what stops the reading of a history's text, or of a certificates' text
-abbrev pub IsHistoryFault : List ℕ → Stop → Type 0
-IsHistoryFault h (Stopped (HistoryText e)) = IsUnreadable h e
-IsHistoryFault h (Stopped (HistoryMaps f)) = IsShort h × (ds : List Datum) × Spells ds h × history_fault.IsFirstFault ds f
-IsHistoryFault h (Stopped (CertificateText e)) = ⊥
-IsHistoryFault h (Stopped (CertificateForms f)) = ⊥
+abbrev pub IsHistoryFault : List ℕ → TextFailure → Type 0
+IsHistoryFault h (Faulty (HistoryText e)) = IsUnreadable h e
+IsHistoryFault h (Faulty (HistoryMaps f)) = IsShort h × (ds : List Datum) × Spells ds h × history_fault.IsFirstFault ds f
+IsHistoryFault h (Faulty (CertificateText e)) = ⊥
+IsHistoryFault h (Faulty (CertificateForms f)) = ⊥
 IsHistoryFault h NoMemory = IsHistorySound h
 
-abbrev pub IsCertificatesFault : List ℕ → Stop → Type 0
-IsCertificatesFault c (Stopped (HistoryText e)) = ⊥
-IsCertificatesFault c (Stopped (HistoryMaps f)) = ⊥
-IsCertificatesFault c (Stopped (CertificateText e)) = IsUnreadable c e
-IsCertificatesFault c (Stopped (CertificateForms f)) = IsShort c × (ds : List Datum) × Spells ds c × certificate_fault.IsFirstFault ds f
+abbrev pub IsCertificatesFault : List ℕ → TextFailure → Type 0
+IsCertificatesFault c (Faulty (HistoryText e)) = ⊥
+IsCertificatesFault c (Faulty (HistoryMaps f)) = ⊥
+IsCertificatesFault c (Faulty (CertificateText e)) = IsUnreadable c e
+IsCertificatesFault c (Faulty (CertificateForms f)) = IsShort c × (ds : List Datum) × Spells ds c × certificate_fault.IsFirstFault ds f
 IsCertificatesFault c NoMemory = AreCertificatesSound c
 
 -- What reading the text of a history comes to: the client events that it denotes and no others, or what stops it, which is want of
 -- memory where it denotes some and is not too long.
-pub record IsHistoryRead (h : List ℕ) (r : Result (List Event) Stop) : Type 0 where
+pub record IsHistoryRead (h : List ℕ) (r : Result (List Event) TextFailure) : Type 0 where
   pub denotes : IfOk r (DenotesHistory h)
   pub only : IfOk r (λ es. (fs : List Event) → DenotesHistory h fs → fs ≡ es)
   pub short : IfOk r (λ _. IsShort h)
@@ -92,7 +92,7 @@ pub record IsHistoryRead (h : List ℕ) (r : Result (List Event) Stop) : Type 0 
   pub accepts : IfErr r (λ s. (es : List Event) → DenotesHistory h es → IsShort h → s ≡ NoMemory)
 
 -- the same of the text of certificates, of which no two are of one object
-pub record AreCertificatesRead {V : Type 0} (items : V → List Certificate) (c : List ℕ) (r : Result V Stop) : Type 0 where
+pub record AreCertificatesRead {V : Type 0} (items : V → List Certificate) (c : List ℕ) (r : Result V TextFailure) : Type 0 where
   pub denotes : IfOk r (λ v. DenotesCertificates c (items v))
   pub only : IfOk r (λ v. (ds : List Certificate) → DenotesCertificates c ds → map certificate_meaning.reading_of ds ≡ map certificate_meaning.reading_of (items v))
   pub distinct : IfOk r (λ v. certificate_meaning.AreDistinct (items v))
@@ -142,8 +142,8 @@ pub record IsFirstRefusalText (h c : List ℕ) (r : Refusal) : Type 0 where
   pub not_memory : r ≢ refusal.NoMemory
 
 -- what is answered where a text could not be read
-abbrev pub verdict_of : Stop → Verdict
-verdict_of (Stopped f) = Malformed f
+abbrev pub verdict_of : TextFailure → Verdict
+verdict_of (Faulty f) = Malformed f
 verdict_of NoMemory = verdict.NoMemory
 
 -- the counts are those of these client events

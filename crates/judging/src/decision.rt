@@ -9,7 +9,7 @@ ghost use Rattle.checker.specs.Refusals.{AreValid, IsFirstRefusal};
 ghost use Rattle.judging.specs.Texts.{AreValidTexts, IsLinearizableText, verdict_of};
 ghost use Rattle.judging.specs.Verdicts.{Judges, OnYes, IsYesUnlessMemory};
 
-use crate::texts::{Stop, texts_in};
+use crate::texts::{TextFailure, texts_in};
 use certificate::Certificate;
 use checker::Refusal;
 use history::History;
@@ -71,7 +71,7 @@ pub fn judge<R: Threads + Sync>(
 {
     let (client_events, orders) = match texts_in(rt, alloc, history, certificates, workers) {
         Ok(texts) => texts,
-        Err(stop) => return stopped(stop),
+        Err(stop) => return verdict_on_failure(stop),
     };
     match judge_history(rt, alloc, &client_events, &orders, workers) {
         Ok(()) => match summary(alloc, &client_events) {
@@ -83,11 +83,11 @@ pub fn judge<R: Threads + Sync>(
     }
 }
 
-fn stopped(stop: Stop) -> Verdict
+fn verdict_on_failure(stop: TextFailure) -> Verdict
     ensures { result ≡ verdict_of stop }
 {
     match stop {
-        Stop::Stopped(fault) => Verdict::Malformed(fault),
-        Stop::NoMemory => Verdict::NoMemory,
+        TextFailure::Faulty(fault) => Verdict::Malformed(fault),
+        TextFailure::NoMemory => Verdict::NoMemory,
     }
 }

@@ -5,7 +5,7 @@ ghost use Rattle.events.specs.declared.event.Event.{Event};
 ghost use Rattle.certificate.specs.declared.Certificate.{Certificate};
 ghost use Rattle.certificate.specs.Denotes.{AreDistinct, reading_of};
 ghost use Rattle.edn.specs.Sound.{IsShort};
-ghost use Rattle.judging.specs.Texts.{DenotesHistory, DenotesCertificates, DenoteOnly, AreValidTexts, WantsMemory, IsStopOf, IsHistoryFault, IsCertificatesFault, IsHistoryRead, AreCertificatesRead, verdict_of};
+ghost use Rattle.judging.specs.Texts.{DenotesHistory, DenotesCertificates, DenoteOnly, AreValidTexts, WantsMemory, IsFailureOf, IsHistoryFault, IsCertificatesFault, IsHistoryRead, AreCertificatesRead, verdict_of};
 ghost use Rattle.judging.specs.Verdicts.{Judges};
 
 use crate::laws::one_history;
@@ -18,8 +18,8 @@ use std::thread::{Threads, join};
 
 /// What stops the reading of a text: a fault of it, or that memory was refused.
 #[derive(Clone, Copy, Debug, PartialEq, Eq)]
-pub enum Stop {
-    Stopped(Fault),
+pub enum TextFailure {
+    Faulty(Fault),
     NoMemory,
 }
 
@@ -36,37 +36,37 @@ fn wants_memory(fault: &Fault) -> bool
 }
 
 /// What stops the reading where this fault was found.
-fn stop_of(fault: Fault) -> Stop
-    ensures { IsStopOf fault result }
+fn failure_of_fault(fault: Fault) -> TextFailure
+    ensures { IsFailureOf fault result }
 {
     if wants_memory(&fault) {
-        Stop::NoMemory
+        TextFailure::NoMemory
     } else {
-        Stop::Stopped(fault)
+        TextFailure::Faulty(fault)
     }
 }
 
 /// The history that a text denotes, or the first fault of the text.
-pub fn history_in(alloc: Global, text: &[u8]) -> Result<History, Stop>
+pub fn history_in(alloc: Global, text: &[u8]) -> Result<History, TextFailure>
     ensures denotes { IfOk result (λ es. DenotesHistory text.now es) }
     ensures only { IfOk result (λ es. (fs : List Event) → DenotesHistory text.now fs → fs ≡ es) }
     ensures short { IfOk result (λ _. IsShort text.now) }
     ensures stop { IfErr result (IsHistoryFault text.now) }
     ensures accepts { IfErr result (λ s. (es : List Event) → DenotesHistory text.now es →
         IsShort text.now →
-        s ≡ Stop.NoMemory) }
+        s ≡ TextFailure.NoMemory) }
 {
     // This does nothing: it says that the text denotes one history at most.
     one_history();
     match read_history_text(alloc, text) {
         Ok(history) => Ok(history),
-        Err(TextFault::Text(fault)) => Err(stop_of(Fault::HistoryText(fault))),
-        Err(TextFault::Maps(fault)) => Err(stop_of(Fault::HistoryMaps(fault))),
+        Err(TextFault::Text(fault)) => Err(failure_of_fault(Fault::HistoryText(fault))),
+        Err(TextFault::Maps(fault)) => Err(failure_of_fault(Fault::HistoryMaps(fault))),
     }
 }
 
 /// The certificates that the text denotes.
-pub(crate) fn certificates_in(alloc: Global, text: &[u8]) -> Result<Vec<Certificate>, Stop>
+pub(crate) fn certificates_in(alloc: Global, text: &[u8]) -> Result<Vec<Certificate>, TextFailure>
     ensures denotes { IfOk result (λ cs. DenotesCertificates text.now cs.items) }
     ensures only { IfOk result (λ cs. (ds : List Certificate) → DenotesCertificates text.now ds →
         map reading_of ds ≡ map reading_of cs.items) }
@@ -74,12 +74,12 @@ pub(crate) fn certificates_in(alloc: Global, text: &[u8]) -> Result<Vec<Certific
     ensures short { IfOk result (λ _. IsShort text.now) }
     ensures stop { IfErr result (IsCertificatesFault text.now) }
     ensures accepts { IfErr result (λ s. (cs : List Certificate) → DenotesCertificates text.now cs →
-        IsShort text.now → s ≡ Stop.NoMemory) }
+        IsShort text.now → s ≡ TextFailure.NoMemory) }
 {
     match read_certificates_text(alloc, text) {
         Ok(certificates) => Ok(certificates),
-        Err(CertTextFault::Text(fault)) => Err(stop_of(Fault::CertificateText(fault))),
-        Err(CertTextFault::Forms(fault)) => Err(stop_of(Fault::CertificateForms(fault))),
+        Err(CertTextFault::Text(fault)) => Err(failure_of_fault(Fault::CertificateText(fault))),
+        Err(CertTextFault::Forms(fault)) => Err(failure_of_fault(Fault::CertificateForms(fault))),
     }
 }
 
@@ -91,12 +91,12 @@ pub(crate) fn texts_in<R: Threads + Sync>(
     history: &[u8],
     certificates: &[u8],
     workers: u32,
-) -> Result<(History, Vec<Certificate>), Stop>
+) -> Result<(History, Vec<Certificate>), TextFailure>
     ensures texts { IfOk result (λ r. DenoteOnly history.now certificates.now r.0 r.1.items) }
     ensures distinct { IfOk result (λ r. AreDistinct r.1.items) }
     ensures stop { IfErr result (λ s. Judges history.now certificates.now (verdict_of s)) }
     ensures accepts { IfErr result (λ s. AreValidTexts history.now certificates.now →
-        s ≡ Stop.NoMemory) }
+        s ≡ TextFailure.NoMemory) }
 {
     if workers < 2 {
         let client_events = history_in(alloc, history)?;
@@ -105,10 +105,10 @@ pub(crate) fn texts_in<R: Threads + Sync>(
     }
     let (client_events, orders) = join(
         rt,
-        || -> Result<History, Stop>
+        || -> Result<History, TextFailure>
             ensures { IsHistoryRead history.entry.now result }
         { history_in(alloc, history) },
-        || -> Result<Vec<Certificate>, Stop>
+        || -> Result<Vec<Certificate>, TextFailure>
             ensures { AreCertificatesRead (λ v. v.items) certificates.entry.now result }
         { certificates_in(alloc, certificates) },
     );

@@ -5,8 +5,8 @@ use Rattle.std.specs.declared.vec.Vec.{Vec}
 use Rattle.std.proofs.lemmas.List.{map-set, get_or-map, map-append, set-get_or}
 use Rattle.std.proofs.Math.ListN as ListN
 use Rattle.recorder.specs.Records.{items_of}
-use Rattle.world.specs.declared.JournalEvent.TheVariants.{Returned}
-use Rattle.world.specs.World.{AnyRequest, AnyAnswer, AnyDone, invoked, journal_of}
+use Rattle.desk_model.specs.declared.JournalEvent.TheVariants.{Returned}
+use Rattle.desk_model.specs.World.{AnyRequest, AnyAnswer, AnyDone, invoked, journal_of}
 use Rattle.machine.specs.Machines.{done_in}
 
 pub done_in-journal_of : (ds : List AnyDone) (q : Option AnyRequest) → done_in (journal_of ds q) ≡ ds

@@ -7,17 +7,17 @@ use Rattle.std.proofs.lemmas.Option.{same_Some}
 use mathlib.Core.Logic.{dite}
 use native.Mathlib.Decide.{ℕ_discrete}
 use Rattle.model.specs.Objects.{Content, empty, next, kind_of, kind_with}
-use Rattle.world.specs.World as world
+use Rattle.desk_model.specs.World as world
 use Rattle.model.specs.declared.AnyOp.{AnyOp}
-use Rattle.world.specs.declared.JournalEvent.TheVariants.{Returned}
-use Rattle.world.specs.World.{AnyRequest, AnyAnswer, AnyDone, AnyEvent, World, Stage, AnyEntry, kind_at, logged, Serves, request_of, invoked, calls_made, journal_of, journal_in, Replays}
-use Rattle.world.specs.Transitions.{Step, Takes, Transition, MayEnd, HoldsNothing, changed, staged, ticked, held_by, handed, ended_by, served_by, draw_call, draw_return, answer, win, release, end}
-use Rattle.world.proofs.Changed.{changed_here, changed_else, changed_all}
+use Rattle.desk_model.specs.declared.JournalEvent.TheVariants.{Returned}
+use Rattle.desk_model.specs.World.{AnyRequest, AnyAnswer, AnyDone, AnyEvent, World, Stage, AnyEntry, kind_at, logged, Serves, request_of, invoked, calls_made, journal_of, journal_in, Replays}
+use Rattle.desk_model.specs.Transitions.{Step, Takes, Transition, MayEnd, HoldsNothing, changed, staged, ticked, held_by, handed, ended_by, served_by, draw_call, draw_return, answer, win, release, end}
+use Rattle.desk_model.proofs.Changed.{changed_here, changed_else, changed_all}
 use Rattle.machine.specs.declared.step.Stage.TheVariants.{Idle, Drawn, Posted, Picked, Answered, Taken}
 use Rattle.machine.specs.Machines.{State, AnyStage, HasRun, IsMachine, clients_of, world_of, stage_of, done_in}
 use Rattle.machine.specs.Runs.{Leads, IsWorldOfRun, IsImpossible}
 use Rattle.machine.specs.Steps.{IsGoing, IsTaken}
-use Rattle.world.proofs.Entries.{replays_more}
+use Rattle.desk_model.proofs.Entries.{replays_more}
 use Rattle.machine.proofs.Lists.{get_or-set, slice_get-set_same, slice_get-set_other, map-set_same_at}
 use Rattle.machine.proofs.States.{world-staged, world-ticked, world-held, world-handed, world-served, world-ended}
 use Rattle.machine.proofs.Journals.{done_in-journal_of, journal_called, journal_returned}

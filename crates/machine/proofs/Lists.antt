@@ -5,8 +5,8 @@ use Rattle.std.proofs.lemmas.Option.{same_Some}
 use mathlib.Core.Logic.{dite}
 use native.Mathlib.Decide.{ℕ_discrete}
 use Rattle.std.proofs.lemmas.Bool.{cases_order}
-use Rattle.world.specs.Transitions.{changed}
-use Rattle.world.proofs.Changed.{changed_here, changed_else}
+use Rattle.desk_model.specs.Transitions.{changed}
+use Rattle.desk_model.proofs.Changed.{changed_here, changed_else}
 
 -- what no number below the length finds, no number finds
 pub none_past : {A : Type 0} (xs : List (Option A)) (n : ℕ) (v : A) → length xs ≡ n → ((x : ℕ) → x < n → get_or xs x None ≢ Some v) → (x : ℕ) → get_or xs x None ≢ Some v

@@ -8,10 +8,10 @@ use Rattle.recorder.specs.Records.{Recorded, recorded, items_of, journal_at, log
 use Rattle.recorder.specs.Histories.{IsRecord, IsRecordOf}
 use Rattle.recorder.proofs.Making.{is_record}
 use Rattle.std.proofs.lemmas.List.{length-map}
-use Rattle.world.specs.World.{AnyEntry, AnyEvent, journal_in}
-use Rattle.world.specs.Images.{entry_in, event_in}
-use Rattle.world.specs.Records.{IsSoundRecord}
-use Rattle.world.proofs.RecordOrders.{sound_record}
+use Rattle.desk_model.specs.World.{AnyEntry, AnyEvent, journal_in}
+use Rattle.desk_model.specs.Images.{entry_in, event_in}
+use Rattle.desk_model.specs.Records.{IsSoundRecord}
+use Rattle.desk_model.proofs.RecordOrders.{sound_record}
 use Rattle.machine.specs.declared.machine.Machine.TheInside.{Inside}
 use Rattle.machine.specs.Machines.{State, IsMachine, clients_of, world_of}
 use Rattle.machine.proofs.Rows.{state_in}

@@ -1,21 +1,21 @@
 -- What a client does on its own row, by the fields of the machine.
 use Rattle.std.proofs.Common.{◌≡◌, ℕ, ◌+◌, ◌<◌, List, [], ◌∷◌, ◌++◌, length, Option, Some, None, IsSome, true, set, get_or, map, refl, ap, sym, ◌∙◌, subst, arith}
 use Rattle.std.proofs.lemmas.List.{map-set, length-map, get_or-map, get_or-set_same}
-use Rattle.world.specs.declared.Request.{Request}
-use Rattle.world.specs.declared.Answer.{Answer}
+use Rattle.desk_model.specs.declared.Request.{Request}
+use Rattle.desk_model.specs.declared.Answer.{Answer}
 use Rattle.model.specs.declared.AnyOp.{AnyOp}
 use Rattle.model.specs.declared.AnyReply.{AnyReply}
 use Rattle.std.proofs.Common.{slice_get}
 use Rattle.model.specs.declared.Kind.TheVariants.{Queue}
 use Rattle.model.specs.Objects.{Content, kind_of, kind_with, next}
 use Rattle.recorder.specs.Records.{items_of}
-use Rattle.world.specs.World as world
-use Rattle.world.specs.World.{AnyRequest, AnyAnswer, World, kind_at, calls_made, logged, Serves, request_of}
-use Rattle.world.specs.Transitions.{Step, Takes, MayEnd, HoldsNothing, staged, draw_call, draw_return, post, take, win, release, end, pick, put_back, answer}
-use Rattle.world.specs.Images.{request_in, answer_in, entry_in, event_in}
-use Rattle.world.specs.declared.LogEntry.{LogEntry}
-use Rattle.world.specs.declared.JournalEvent.{JournalEvent}
-use Rattle.world.specs.declared.JournalEvent.TheVariants.{Invoked, Returned}
+use Rattle.desk_model.specs.World as world
+use Rattle.desk_model.specs.World.{AnyRequest, AnyAnswer, World, kind_at, calls_made, logged, Serves, request_of}
+use Rattle.desk_model.specs.Transitions.{Step, Takes, MayEnd, HoldsNothing, staged, draw_call, draw_return, post, take, win, release, end, pick, put_back, answer}
+use Rattle.desk_model.specs.Images.{request_in, answer_in, entry_in, event_in}
+use Rattle.desk_model.specs.declared.LogEntry.{LogEntry}
+use Rattle.desk_model.specs.declared.JournalEvent.{JournalEvent}
+use Rattle.desk_model.specs.declared.JournalEvent.TheVariants.{Invoked, Returned}
 use Rattle.std.specs.declared.vec.Vec.{Vec}
 use Rattle.std.specs.declared.alloc.Global.{Global}
 use Rattle.std.proofs.Math.ListN as ListN

@@ -3,12 +3,12 @@ use Rattle.std.proofs.Common.{◌≡◌, ◌≢◌, ℕ, ◌*◌, ◌<◌, ◌�
 use Rattle.std.proofs.lemmas.List.Elements.{All-nil}
 use Rattle.model.specs.declared.Kind.{Kind}
 use Rattle.model.specs.Objects.{empty}
-use Rattle.world.specs.World.{AnyEntry, AnyRequest, Stage, absent, idle, picked, World, kind_at, request_of, served_now, journal_of, ticket_of, tickets_drawn, calls_made}
-use Rattle.world.specs.Transitions.{Step}
-use Rattle.world.specs.Sound.{Sound, IsAmong, IsInTime}
-use Rattle.world.proofs.Transitions.{transition_keeps_soundness}
-use Rattle.world.proofs.Effects.{clock_few}
-use Rattle.world.proofs.Totals.{total_le}
+use Rattle.desk_model.specs.World.{AnyEntry, AnyRequest, Stage, absent, idle, picked, World, kind_at, request_of, served_now, journal_of, ticket_of, tickets_drawn, calls_made}
+use Rattle.desk_model.specs.Transitions.{Step}
+use Rattle.desk_model.specs.Sound.{Sound, IsAmong, IsInTime}
+use Rattle.desk_model.proofs.Transitions.{transition_keeps_soundness}
+use Rattle.desk_model.proofs.Effects.{clock_few}
+use Rattle.desk_model.proofs.Totals.{total_le}
 use Rattle.machine.specs.Runs.{start_of, Leads, IsWorldOfRun}
 
 -- a client is idle or has not come

@@ -6,16 +6,16 @@ use Rattle.std.proofs.lemmas.Option.{same_Some}
 use Rattle.std.proofs.lemmas.Bool.Decides.{nat_tests}
 use Rattle.std.specs.declared.vec.Vec.{Vec}
 use Rattle.recorder.specs.Records.{items_of}
-use Rattle.world.specs.declared.LogEntry.{LogEntry}
-use Rattle.world.specs.declared.JournalEvent.{JournalEvent}
-use Rattle.world.specs.Images.{entry_in, event_in}
+use Rattle.desk_model.specs.declared.LogEntry.{LogEntry}
+use Rattle.desk_model.specs.declared.JournalEvent.{JournalEvent}
+use Rattle.desk_model.specs.Images.{entry_in, event_in}
 use Rattle.machine.specs.declared.step.Stage.{Stage}
 use Rattle.model.specs.declared.Kind.{Kind}
 use Rattle.model.specs.declared.AnyOp.{AnyOp}
 use Rattle.model.specs.declared.AnyReply.{AnyReply}
 use Rattle.model.specs.Objects.{Content, empty, kind_with}
-use Rattle.world.specs.World as world
-use Rattle.world.specs.World.{AnyEntry, AnyEvent, World, request_of, journal_of, journal_in, Replays}
+use Rattle.desk_model.specs.World as world
+use Rattle.desk_model.specs.World.{AnyEntry, AnyEvent, World, request_of, journal_of, journal_in, Replays}
 use Rattle.machine.specs.declared.step.Stage.TheVariants.{Idle}
 use Rattle.machine.specs.Machines.{State, IsMachine, world_of, state_of, stage_in, stage_of, done_in}
 use Rattle.machine.specs.Runs.{start_of, IsWorldOfRun}

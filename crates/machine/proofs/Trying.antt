@@ -1,7 +1,7 @@
 -- What a step that was tried says.
 use Rattle.std.proofs.Common.{◌≡◌, ℕ, Result, Ok, Err, IfErr, IsErrAnd, sym, subst, ◌∙◌}
 use Rattle.model.specs.declared.AnyReply.{AnyReply}
-use Rattle.world.specs.Transitions.{Step}
+use Rattle.desk_model.specs.Transitions.{Step}
 use Rattle.machine.specs.declared.step.Outcome.{Outcome}
 use Rattle.machine.specs.declared.step.StepFault.{StepFault}
 use Rattle.machine.specs.declared.step.StepFault.TheVariants.{NotNow, NoMemory}

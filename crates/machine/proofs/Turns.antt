@@ -1,8 +1,8 @@
 -- Steps taken or passed over, one list behind another.
 use Rattle.std.proofs.Common.{◌≡◌, inl, inr, ℕ, zero, suc, add-one, ◌+◌, ◌<◌, List, [], ◌∷◌, ◌++◌, take, length, get_or, map, ap, sym, ◌∙◌, subst, arith}
 use Rattle.model.specs.declared.Kind.{Kind}
-use Rattle.world.specs.World.{World}
-use Rattle.world.specs.Transitions.{Step}
+use Rattle.desk_model.specs.World.{World}
+use Rattle.desk_model.specs.Transitions.{Step}
 use Rattle.machine.specs.Machines.{State}
 use Rattle.machine.specs.Runs.{TakesPossible}
 use Rattle.machine.specs.Steps.{IsLike}

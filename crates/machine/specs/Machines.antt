@@ -4,12 +4,12 @@ use Rattle.model.specs.declared.Kind.{Kind}
 use Rattle.model.specs.declared.AnyOp.{AnyOp}
 use Rattle.model.specs.declared.AnyReply.{AnyReply}
 use Rattle.model.specs.Objects.{Content, empty, kind_with}
-use Rattle.world.specs.declared.LogEntry.{LogEntry}
-use Rattle.world.specs.declared.JournalEvent.{JournalEvent}
-use Rattle.world.specs.declared.JournalEvent.TheVariants.{Invoked, Returned}
-use Rattle.world.specs.World as world
-use Rattle.world.specs.World.{AnyEntry, AnyEvent, AnyDone, World, journal_in, Replays}
-use Rattle.world.specs.Images.{request_in, answer_in, entry_in, event_in}
+use Rattle.desk_model.specs.declared.LogEntry.{LogEntry}
+use Rattle.desk_model.specs.declared.JournalEvent.{JournalEvent}
+use Rattle.desk_model.specs.declared.JournalEvent.TheVariants.{Invoked, Returned}
+use Rattle.desk_model.specs.World as world
+use Rattle.desk_model.specs.World.{AnyEntry, AnyEvent, AnyDone, World, journal_in, Replays}
+use Rattle.desk_model.specs.Images.{request_in, answer_in, entry_in, event_in}
 use Rattle.machine.specs.declared.step.Stage.{Stage}
 use Rattle.machine.specs.declared.step.Stage.TheVariants.{Idle, Drawn, Posted, Picked, Answered, Taken}
 use Rattle.machine.specs.Runs.{IsWorldOfRun}

@@ -1,8 +1,8 @@
 -- Runs: lists of transitions from the world at the start.
 use Rattle.std.specs.Prelude.{◌≡◌, ◌⊎◌, ℕ, ◌+◌, List, [], ◌∷◌, nat_lt, if◌then◌else◌}
 use Rattle.model.specs.declared.Kind.{Kind}
-use Rattle.world.specs.World.{World, absent, idle, initial_world}
-use Rattle.world.specs.Transitions.{Step, Transition}
+use Rattle.desk_model.specs.World.{World, absent, idle, initial_world}
+use Rattle.desk_model.specs.Transitions.{Step, Transition}
 
 -- The world once the first clients have come, and nothing else has happened: no ticket was drawn, and no object is held.
 abbrev pub start_of : ℕ → World

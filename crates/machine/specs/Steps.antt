@@ -3,10 +3,10 @@ use Rattle.std.specs.Prelude.{◌≡◌, ℕ, ◌<◌, true, false, List, map, l
 use Rattle.model.specs.declared.AnyOp.{AnyOp}
 use Rattle.model.specs.declared.AnyReply.{AnyReply}
 use Rattle.model.specs.Objects.{Content, empty, kind_of, next}
-use Rattle.world.specs.World.{World, AnyRequest, picked, answered, kind_at, Replays}
-use Rattle.world.specs.Transitions as world
-use Rattle.world.specs.Transitions.{Transition}
-use Rattle.world.specs.Images.{answer_in}
+use Rattle.desk_model.specs.World.{World, AnyRequest, picked, answered, kind_at, Replays}
+use Rattle.desk_model.specs.Transitions as world
+use Rattle.desk_model.specs.Transitions.{Transition}
+use Rattle.desk_model.specs.Images.{answer_in}
 use Rattle.machine.specs.declared.step.Step.{Step}
 use Rattle.machine.specs.declared.step.Step.TheVariants as step
 use Rattle.machine.specs.declared.step.Outcome.{Outcome}

@@ -2,17 +2,17 @@
 
 ghost use Rattle.std.specs.Prelude.{◌≡◌, ◌≢◌, ◌↔◌, ℕ, ◌+◌, ◌<◌, false, [], length, slice_index_or, IsTrue, IfSome, IfNone, Some, None};
 ghost use Rattle.model.specs.Objects.{kind_of};
-ghost use Rattle.world.specs.World.{AnyRequest, idle, posted, picked, kind_at, calls_made};
-ghost use Rattle.world.specs.Transitions.{HoldsNothing, MayEnd};
-ghost use Rattle.world.specs.Images.{request_in};
+ghost use Rattle.desk_model.specs.World.{AnyRequest, idle, posted, picked, kind_at, calls_made};
+ghost use Rattle.desk_model.specs.Transitions.{HoldsNothing, MayEnd};
+ghost use Rattle.desk_model.specs.Images.{request_in};
 ghost use Rattle.machine.specs.Machines.{HasRun, clients_of, stage_in, stage_of, world_of};
 ghost use Rattle.machine.specs.Steps.{CanDo, HasContent, HasPicked, IsInHand};
 
 use crate::machine::Machine;
 use crate::step::Stage;
+use desk_model::Request;
 use model::Kind;
 use seq_objects::SeqObject;
-use world::Request;
 
 impl<S: SeqObject> Machine<S> {
     /// How many objects there are.

@@ -4,10 +4,10 @@ ghost use Rattle.std.specs.Prelude.{◌≡◌, ◌<◌, All, length, map, IfOk, 
 ghost use Rattle.model.specs.Objects.{empty, kind_with};
 
 use crate::step::{Outcome, Stage, Step, StepFault};
+use desk_model::{JournalEvent, LogEntry};
 use seq_objects::SeqObject;
 use std::alloc::{AllocError, Global};
 use std::marker::Model;
-use world::{JournalEvent, LogEntry};
 
 /// Objects and clients, each by number, and the clock. No two steps of it happen at once.
 #[derive(Drop)]

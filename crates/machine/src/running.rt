@@ -1,9 +1,9 @@
 //! Many steps, and the end.
 
 ghost use Rattle.std.specs.Prelude.{◌≡◌, ◌≢◌, ℕ, ◌<◌, ◌≤◌, true, false, length, map, take, slice_get, IfOk, IfErr, IfSome, IfNone, OnErr, Some, [], ◌∷◌};
-ghost use Rattle.world.specs.World.{journal_in};
-ghost use Rattle.world.specs.Records.{IsSoundRecord};
-ghost use Rattle.world.specs.Images.{entry_in, event_in};
+ghost use Rattle.desk_model.specs.World.{journal_in};
+ghost use Rattle.desk_model.specs.Records.{IsSoundRecord};
+ghost use Rattle.desk_model.specs.Images.{entry_in, event_in};
 ghost use Rattle.recorder.specs.Records.{journal_at, log_at};
 ghost use Rattle.machine.specs.Machines.{HasRun, clients_of, world_of};
 ghost use Rattle.machine.specs.Runs.{TakesPossible};

@@ -1,6 +1,6 @@
 //! The steps that a client takes on an object.
 
-ghost use Rattle.world.specs.Transitions.{win, pick, answer, put_back, release};
+ghost use Rattle.desk_model.specs.Transitions.{win, pick, answer, put_back, release};
 ghost use Rattle.machine.specs.Steps.{IsGoing, Tries};
 
 use crate::machine::Machine;

@@ -1,7 +1,7 @@
 //! What a client may do, and what comes of it.
 
+use desk_model::{Answer, Request};
 use std::alloc::{AllocError, AllocFailed};
-use world::{Answer, Request};
 
 /// One step of one client.
 #[derive(Clone, Copy)]

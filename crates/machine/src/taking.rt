@@ -2,14 +2,14 @@
 
 ghost use Rattle.std.specs.Prelude.{◌≡◌, ◌<◌, [], ◌∷◌, ◌++◌, length, slice_set, slice_index_or, OnOk, IfErr};
 ghost use Rattle.recorder.specs.Records.{items_of};
-ghost use Rattle.world.specs.Transitions.{post, take, end, draw_call, draw_return};
+ghost use Rattle.desk_model.specs.Transitions.{post, take, end, draw_call, draw_return};
 ghost use Rattle.machine.specs.declared.step.Step.TheVariants.{Draw};
 ghost use Rattle.machine.specs.Steps.{IsGoing, Tries, step_in};
 
 use crate::machine::Machine;
 use crate::step::{Outcome, Stage, StepFault};
+use desk_model::{JournalEvent, Request};
 use seq_objects::SeqObject;
-use world::{JournalEvent, Request};
 
 impl<S: SeqObject> Machine<S> {
     pub(crate) fn draw(

@@ -1,4 +1,4 @@
-use numbers::NumberMap;
+use number_map::NumberMap;
 use std::test::Fail;
 
 #[test]

@@ -51,7 +51,7 @@ fn order_of(alloc: Global, items: &[Invocation], levels: &[Level]) -> Result<Vec
 }
 
 /// Searches from nothing.
-fn ordered(
+fn search_from_start(
     alloc: Global,
     trials: &Trials,
     left: usize,
@@ -77,7 +77,7 @@ fn ordered(
 }
 
 /// Searches where some operation returned and there are not too many. Want of memory is an error.
-fn searched(
+fn search_operations(
     alloc: Global,
     history: &ObjectHistory,
     first: TryFirst,
@@ -100,7 +100,7 @@ fn searched(
     // This does nothing. It says that the operations are those of an object's history.
     history.ops();
     let trials = Trials::new(alloc, history, first)?;
-    ordered(alloc, &trials, left, limit, steps)
+    search_from_start(alloc, &trials, left, limit, steps)
 }
 
 /// Searches for an order of the operations that is valid, depth first, in at most so many steps. A step is one
@@ -135,7 +135,7 @@ pub fn find_order(alloc: Global, history: &ObjectHistory, first: TryFirst, limit
         };
     }
     let mut steps = 0;
-    let outcome = match searched(alloc, history, first, left, limit, &mut steps) {
+    let outcome = match search_operations(alloc, history, first, left, limit, &mut steps) {
         Ok(outcome) => outcome,
         Err(_) => Outcome::NoMemory,
     };

@@ -12,7 +12,7 @@ use Rattle.checker.specs.declared.refusal.Refusal.TheVariants.{NoMemory}
 use Rattle.checker.specs.Refusals.{AreValid, IsFirstRefusal}
 use Rattle.checker.specs.Checking.{IsFine, IsRefused}
 use Rattle.checker.proofs.Certificates.{AreObjects, AreFine, next_fine, element, next_is_first}
-use Rattle.parallel.specs.declared.share.Found.{Found}
+use Rattle.parallel.specs.declared.share.RefusedPiece.{RefusedPiece}
 use Rattle.parallel.specs.Shares.{FallsTo, IsFinePiece, IsRefusedPiece, IsShare, IsNotBefore, IsEarlier}
 
 -- numbers that rise are no less than their places
@@ -89,7 +89,7 @@ fine_below es certificates os n objects fine o i =
     next_fine es certificates os p.0 o objects p.2 (sym p.3) here
 
 -- the least of what was found so far
-abbrev pub IsLeastOf : List (Result (Unit {0}) Found) → Option Found → Type 0
+abbrev pub IsLeastOf : List (Result (Unit {0}) RefusedPiece) → Option RefusedPiece → Type 0
 IsLeastOf rs None = All IsOk rs
 IsLeastOf rs (Some f) = Contains rs (Err f) × All (IsNotBefore f) rs
 
@@ -102,17 +102,17 @@ all_more P xs x h p = all_from_in P (xs ++ x ∷ []) (λ y i. elim (in_append y 
   ]
 ])
 
-all_weaker : (f g : Found) (rs : List (Result (Unit {0}) Found)) → g.piece < f.piece → All (IsNotBefore f) rs → All (IsNotBefore g) rs
+all_weaker : (f g : RefusedPiece) (rs : List (Result (Unit {0}) RefusedPiece)) → g.piece < f.piece → All (IsNotBefore f) rs → All (IsNotBefore g) rs
 all_weaker f g rs l h = all_from_in (IsNotBefore g) rs (λ r i. weaker r (all_at (IsNotBefore f) rs h r i))
   where
-    weaker : (r : Result (Unit {0}) Found) → IsNotBefore f r → IsNotBefore g r
+    weaker : (r : Result (Unit {0}) RefusedPiece) → IsNotBefore f r → IsNotBefore g r
     weaker (Ok u) n = tt
     weaker (Err k) n = omega arith
 
-all_ok : (g : Found) (rs : List (Result (Unit {0}) Found)) → All IsOk rs → All (IsNotBefore g) rs
+all_ok : (g : RefusedPiece) (rs : List (Result (Unit {0}) RefusedPiece)) → All IsOk rs → All (IsNotBefore g) rs
 all_ok g rs h = all_from_in (IsNotBefore g) rs (λ r i. go r (all_at IsOk rs h r i))
   where
-    go : (r : Result (Unit {0}) Found) → IsOk r → IsNotBefore g r
+    go : (r : Result (Unit {0}) RefusedPiece) → IsOk r → IsNotBefore g r
     go (Ok u) k = tt
     go (Err e) k = cc k
 
@@ -122,7 +122,7 @@ stands_last xs x = contains_from_in (xs ++ x ∷ []) x (in_right x xs (x ∷ [])
 stands_still : {X : Type 0} (xs : List X) (x y : X) → Contains xs x → Contains (xs ++ y ∷ []) x
 stands_still xs x y h = contains_from_in (xs ++ y ∷ []) x (in_left x xs (y ∷ []) (in_from_contains xs x h))
 
-pub one_more_found : (rs : List (Result (Unit {0}) Found)) (r : Result (Unit {0}) Found) (least next : Option Found) → IsLeastOf rs least → IsEarlier least r next → IsLeastOf (rs ++ r ∷ []) next
+pub one_more_found : (rs : List (Result (Unit {0}) RefusedPiece)) (r : Result (Unit {0}) RefusedPiece) (least next : Option RefusedPiece) → IsLeastOf rs least → IsEarlier least r next → IsLeastOf (rs ++ r ∷ []) next
 one_more_found rs (Ok u) None next h is = subst (IsLeastOf (rs ++ Ok u ∷ [])) (sym is) (all_more IsOk rs (Ok u) h refl)
 one_more_found rs (Ok u) (Some f) next h is = subst (IsLeastOf (rs ++ Ok u ∷ [])) (sym is) (stands_still rs (Err f) (Ok u) h.0, all_more (IsNotBefore f) rs (Ok u) h.1 tt)
 one_more_found rs (Err g) None next h is = subst (IsLeastOf (rs ++ Err g ∷ [])) (sym is) (stands_last rs (Err g), all_more (IsNotBefore g) rs (Err g) (all_ok g rs h) (omega arith))
@@ -131,7 +131,7 @@ one_more_found rs (Err g) (Some f) next h is = elim is [
   | inr e ↦ subst (IsLeastOf (rs ++ Err g ∷ [])) (sym e.1) (stands_last rs (Err g), all_more (IsNotBefore g) rs (Err g) (all_weaker f g rs e.0 h.1) (omega arith))
 ]
 
-pub none_found : (rs : List (Result (Unit {0}) Found)) (least : Option Found) → IsLeastOf rs least → IfNone least (All IsOk rs)
+pub none_found : (rs : List (Result (Unit {0}) RefusedPiece)) (least : Option RefusedPiece) → IsLeastOf rs least → IfNone least (All IsOk rs)
 none_found rs None h = h
 none_found rs (Some f) h = tt
 
@@ -146,37 +146,37 @@ fine_at os certificates k o l is h = λ d. subst (λ (q : ObjectCalls). IsFine q
 -- ---- what all workers found
 
 -- what so many workers found, each on its share of the objects
-pub record AreShares (count : ℕ) (os : List ObjectCalls) (certificates : List Certificate) (rs : List (Result (Unit {0}) Found)) : Type 0 where
+pub record AreShares (count : ℕ) (os : List ObjectCalls) (certificates : List Certificate) (rs : List (Result (Unit {0}) RefusedPiece)) : Type 0 where
   pub some : 0 < count
   pub long : length rs ≡ count
-  pub each : (i : ℕ) (d : Result (Unit {0}) Found) → i < count → IsShare i count os certificates (get_or rs i d)
+  pub each : (i : ℕ) (d : Result (Unit {0}) RefusedPiece) → i < count → IsShare i count os certificates (get_or rs i d)
 
 -- a place below the first that was found is fine
-fine_before : (count : ℕ) (os : List ObjectCalls) (certificates : List Certificate) (rs : List (Result (Unit {0}) Found)) (f : Found) → AreShares count os certificates rs → All (IsNotBefore f) rs → (k : ℕ) → k < f.piece → k < length os → IsFinePiece os certificates k
+fine_before : (count : ℕ) (os : List ObjectCalls) (certificates : List Certificate) (rs : List (Result (Unit {0}) RefusedPiece)) (f : RefusedPiece) → AreShares count os certificates rs → All (IsNotBefore f) rs → (k : ℕ) → k < f.piece → k < length os → IsFinePiece os certificates k
 fine_before count os certificates rs f shares least k below inside =
     let w = its_worker count k shares.some in
     let i = k % count in
     let at = least i (Err f) (subst (λ n. i < n) (sym shares.long) w.0) in
     go (get_or rs i (Err f)) (shares.each i (Err f) w.0) at w.1
   where
-    go : (r : Result (Unit {0}) Found) → IsShare (k % count) count os certificates r → IsNotBefore f r → FallsTo (k % count) count k → IsFinePiece os certificates k
+    go : (r : Result (Unit {0}) RefusedPiece) → IsShare (k % count) count os certificates r → IsNotBefore f r → FallsTo (k % count) count k → IsFinePiece os certificates k
     go (Ok u) h n own = h.fine k inside own
     go (Err g) h n own = h.found.before k (omega arith) own
 
 -- where nothing was found, each place is fine
-all_fine : (count : ℕ) (os : List ObjectCalls) (certificates : List Certificate) (rs : List (Result (Unit {0}) Found)) → AreShares count os certificates rs → All IsOk rs → (k : ℕ) → k < length os → IsFinePiece os certificates k
+all_fine : (count : ℕ) (os : List ObjectCalls) (certificates : List Certificate) (rs : List (Result (Unit {0}) RefusedPiece)) → AreShares count os certificates rs → All IsOk rs → (k : ℕ) → k < length os → IsFinePiece os certificates k
 all_fine count os certificates rs shares ok k inside =
     let w = its_worker count k shares.some in
     let i = k % count in
     let d = Ok tt in
     go (get_or rs i d) (shares.each i d w.0) (ok i d (subst (λ n. i < n) (sym shares.long) w.0)) w.1
   where
-    go : (r : Result (Unit {0}) Found) → IsShare (k % count) count os certificates r → IsOk r → FallsTo (k % count) count k → IsFinePiece os certificates k
+    go : (r : Result (Unit {0}) RefusedPiece) → IsShare (k % count) count os certificates r → IsOk r → FallsTo (k % count) count k → IsFinePiece os certificates k
     go (Ok u) h n own = h.fine k inside own
     go (Err g) h n own = cc n
 
 -- what was found at the least place is what its worker found first
-found_first : (count : ℕ) (os : List ObjectCalls) (certificates : List Certificate) (rs : List (Result (Unit {0}) Found)) (f : Found) → AreShares count os certificates rs → Contains rs (Err f) → (f.piece < length os) × IsRefusedPiece os certificates f.piece f.refusal
+found_first : (count : ℕ) (os : List ObjectCalls) (certificates : List Certificate) (rs : List (Result (Unit {0}) RefusedPiece)) (f : RefusedPiece) → AreShares count os certificates rs → Contains rs (Err f) → (f.piece < length os) × IsRefusedPiece os certificates f.piece f.refusal
 found_first count os certificates rs f shares stands =
     let i = stands.0 in
     let s = shares.each i (Err f) (subst (λ n. i < n) shares.long stands.1) in
@@ -184,7 +184,7 @@ found_first count os certificates rs f shares stands =
     (h.found.inside, h.found.refused)
 
 -- What was found at the least place is the first refusal. Certificates that are valid are refused by want of memory alone.
-pub first_of_all : (es : List Event) (count : ℕ) (os : List ObjectCalls) (certificates : List Certificate) (rs : List (Result (Unit {0}) Found)) (f : Found) → AllPairs (λ a b. a.object ≢ b.object) certificates → AreObjects es os
+pub first_of_all : (es : List Event) (count : ℕ) (os : List ObjectCalls) (certificates : List Certificate) (rs : List (Result (Unit {0}) RefusedPiece)) (f : RefusedPiece) → AllPairs (λ a b. a.object ≢ b.object) certificates → AreObjects es os
     → AreShares count os certificates rs → Contains rs (Err f) → All (IsNotBefore f) rs → IsFirstRefusal es certificates f.refusal × (AreValid es certificates → f.refusal ≡ NoMemory)
 first_of_all es count os certificates rs f distinct objects shares stands least =
     let k = f.piece in
@@ -194,6 +194,6 @@ first_of_all es count os certificates rs f distinct objects shares stands least 
     let here = subst (λ (q : ObjectCalls). IsRefused q.kind (calls_of q.ops) certificates q.object f.refusal) (sym o.1) (found.1 o.0) in
     next_is_first es certificates os k o.0 f.refusal distinct objects below found.0 o.1 here
 
-pub all_are_fine : (es : List Event) (count : ℕ) (os : List ObjectCalls) (certificates : List Certificate) (rs : List (Result (Unit {0}) Found)) → AreObjects es os → AreShares count os certificates rs → All IsOk rs → AreFine es certificates os
+pub all_are_fine : (es : List Event) (count : ℕ) (os : List ObjectCalls) (certificates : List Certificate) (rs : List (Result (Unit {0}) RefusedPiece)) → AreObjects es os → AreShares count os certificates rs → All IsOk rs → AreFine es certificates os
 all_are_fine es count os certificates rs objects shares ok =
     subst (AreFine es certificates) (take_all (length os) os (omega arith)) (fine_below es certificates os (length os) objects (λ k l inside. all_fine count os certificates rs shares ok k inside))

@@ -26,7 +26,7 @@ fn put_in(
 }
 
 /// The objects of all parts, in rising number, unless memory was refused.
-fn joined(
+fn join_parts(
     alloc: Global,
     found: Vec<Result<Vec<ObjectHistory>, AllocError>>,
 ) -> Result<BTreeMap<u32, ObjectHistory>, AllocError>
@@ -65,7 +65,7 @@ pub(crate) fn split_by_workers<R: Threads + Sync>(
             ensures { IfOk result (λ v. IsPart history.entry.now worker workers v.items) }
         { split_part(alloc, history, worker as u32, workers) },
     )?;
-    let sorted = joined(alloc, found)?;
+    let sorted = join_parts(alloc, found)?;
     let mut objects = Vec::new(alloc);
     for (_, object) in sorted {
         objects.push(object)?;

@@ -14,7 +14,7 @@ use std::collections::BTreeMap;
 
 /// A refusal, and the place of its object among those of the history.
 #[derive(Clone, Copy, Debug, PartialEq, Eq)]
-pub(crate) struct Found {
+pub(crate) struct RefusedPiece {
     pub(crate) piece: usize,
     pub(crate) refusal: Refusal,
 }
@@ -37,7 +37,7 @@ pub(crate) fn check_share<G: Gate>(
     worker: usize,
     workers: usize,
     gate: &G,
-) -> Result<(), Found>
+) -> Result<(), RefusedPiece>
     requires rising { AllPairs (λ a b. a.object < b.object) objects.now }
     requires places { AreAllPlaces places.now certificates.now }
     requires worker { worker < workers }
@@ -53,7 +53,7 @@ pub(crate) fn check_share<G: Gate>(
         let checked = check_piece(alloc, &objects[piece], places, certificates);
         gate.after(worker as u32, number);
         if let Err(refusal) = checked {
-            return Err(Found { piece, refusal });
+            return Err(RefusedPiece { piece, refusal });
         }
         piece += workers;
     }
@@ -61,7 +61,7 @@ pub(crate) fn check_share<G: Gate>(
 }
 
 // Of what was found so far and what this worker found, that of the lesser place.
-fn earlier(least: Option<Found>, share: &Result<(), Found>) -> Option<Found>
+fn earlier(least: Option<RefusedPiece>, share: &Result<(), RefusedPiece>) -> Option<RefusedPiece>
     ensures { IsEarlier least share.now result }
 {
     let Err(next) = share else {
@@ -74,7 +74,7 @@ fn earlier(least: Option<Found>, share: &Result<(), Found>) -> Option<Found>
 }
 
 /// What was found at the least place.
-pub(crate) fn least(found: &[Result<(), Found>]) -> Option<Found>
+pub(crate) fn least(found: &[Result<(), RefusedPiece>]) -> Option<RefusedPiece>
     ensures none { IfNone result (All IsOk found.now) }
     ensures stands { IfSome result (λ f. Contains found.now (Err f)) }
     ensures least { IfSome result (λ f. All (IsNotBefore f) found.now) }

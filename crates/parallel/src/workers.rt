@@ -7,7 +7,7 @@ ghost use Rattle.checker.specs.Checking.{AreAllPlaces};
 ghost use Rattle.parallel.specs.Shares.{IsShare};
 
 use crate::gathering::split_by_workers;
-use crate::share::{Found, check_share, least};
+use crate::share::{RefusedPiece, check_share, least};
 use certificate::Certificate;
 use checker::{Refusal, places, strange_object};
 use events::History;
@@ -54,7 +54,7 @@ pub fn check_parallel<R: Threads + Sync, G: Gate>(
         rt,
         alloc,
         count,
-        &|worker: usize| -> Result<(), Found>
+        &|worker: usize| -> Result<(), RefusedPiece>
             requires { (worker < count) × (count < 17)
                 × AllPairs (λ a b. a.object < b.object) pieces.now
                 × AreAllPlaces places certificates.now }

@@ -8,9 +8,9 @@ use Rattle.std.specs.declared.vec.Vec.{Vec}
 use Rattle.std.proofs.lemmas.List.{map-append}
 use Rattle.atomic_table.specs.Seated.{TableId}
 use Rattle.atomic_table.proofs.Lists.{at_map}
-use Rattle.roster.specs.declared.board.Enlist.{Enlist}
-use Rattle.roster.specs.Calls.{PlaceSeen, WalkerSeen}
-use Rattle.roster.specs.Dealing.{AreGrown, HaveRoom}
+use Rattle.publication_list.specs.declared.board.Enlist.{Enlist}
+use Rattle.publication_list.specs.Calls.{PlaceSeen, WalkerSeen}
+use Rattle.publication_list.specs.Dealing.{AreGrown, HaveRoom}
 use Rattle.publication.specs.Handles.{trying, fresh_places, ArePlacesOf}
 use Rattle.publication.specs.Making.{HasPlaces, AreDealt, rosters_of}
 use Rattle.publication.proofs.Growing.{there}

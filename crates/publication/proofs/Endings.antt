@@ -6,18 +6,18 @@ use Rattle.std.proofs.lemmas.List.Elements.{Contains-push, Contains-append_left}
 use Rattle.atomic_table.specs.Table.{Me}
 use Rattle.model.specs.declared.AnyOp.{AnyOp}
 use Rattle.model.specs.declared.AnyReply.{AnyReply}
-use Rattle.desk_rule.specs.declared.board.Journal.{Journal}
-use Rattle.desk_rule.specs.declared.board.Leaving.{Leaving}
-use Rattle.desk_rule.specs.declared.board.Slot.{Slot}
-use Rattle.desk_rule.specs.declared.board.View.{View}
-use Rattle.desk_rule.specs.Views.{after_end_seen, after_end_unset}
+use Rattle.desk_invariant.specs.declared.board.Journal.{Journal}
+use Rattle.desk_invariant.specs.declared.board.Leaving.{Leaving}
+use Rattle.desk_invariant.specs.declared.board.Slot.{Slot}
+use Rattle.desk_invariant.specs.declared.board.DeskView.{DeskView}
+use Rattle.desk_invariant.specs.Views.{after_end_seen, after_end_unset}
 use Rattle.publication.specs.Handles.{DeskSeen, Known, IsClient}
 use Rattle.publication.specs.Calls.{StillThere}
 use Rattle.publication.specs.Closing.{HaveEnded, HasLearntEnds}
 use Rattle.publication.proofs.Holds.{agrees_light}
 
 -- one of two views, as the word was 1 or not
-pub either_view : (found d : ℕ) (v v' w : View) → v ≡ v' → (found ≡ 1 → w ≡ after_end_seen d v) → (found ≢ 1 → w ≡ after_end_unset d v) → w ≡ (if eqb found 1 then after_end_seen d v' else after_end_unset d v')
+pub either_view : (found d : ℕ) (v v' w : DeskView) → v ≡ v' → (found ≡ 1 → w ≡ after_end_seen d v) → (found ≢ 1 → w ≡ after_end_unset d v) → w ≡ (if eqb found 1 then after_end_seen d v' else after_end_unset d v')
 either_view found d v v' w same hit miss = dite (ℕ_discrete found 1)
     (λ e. hit e ∙ (ap (after_end_seen d) same ∙ ap (λ (b : Bool). if b then after_end_seen d v' else after_end_unset d v') (sym (eq-eqb found 1 e))))
     (λ n. miss n ∙ (ap (after_end_unset d) same ∙ ap (λ (b : Bool). if b then after_end_seen d v' else after_end_unset d v') (sym (ne_eqb found 1 n))))
@@ -47,11 +47,11 @@ there_still d n a b b' low other e before is untold = let same = ap (λ z. z.kno
 
 module _ {S O R : Type 0} (op_in : O → AnyOp) (reply_in : R → AnyReply) where
   -- a client that has only looked at ends
-  watching : (number calls quota : ℕ) (outstanding : Bool) (j : Journal O R) (m m' : Me (Slot S O R) View) (retired still_there : List ℕ) → IsClient op_in reply_in number calls quota outstanding j m
+  watching : (number calls quota : ℕ) (outstanding : Bool) (j : Journal O R) (m m' : Me (Slot S O R) DeskView) (retired still_there : List ℕ) → IsClient op_in reply_in number calls quota outstanding j m
       → m' ≡ (record m.0 { retired = retired; still_there = still_there }, m.1) → IsClient op_in reply_in number calls quota outstanding j m'
   watching number calls quota outstanding j m m' retired still_there k e = subst (IsClient op_in reply_in number calls quota outstanding j) (sym e) record { agrees = agrees_light k.agrees; free = k.free; in_hand = k.in_hand }
 
-  pub watching_ok : (number calls quota : ℕ) (outstanding : Bool) (j : Journal O R) (found d : ℕ) (m m' : Me (Slot S O R) View) → IsClient op_in reply_in number calls quota outstanding j m
+  pub watching_ok : (number calls quota : ℕ) (outstanding : Bool) (j : Journal O R) (found d : ℕ) (m m' : Me (Slot S O R) DeskView) → IsClient op_in reply_in number calls quota outstanding j m
       → (found ≡ 1 → m' ≡ (after_end_seen d m.0, m.1)) → (found ≢ 1 → m' ≡ (after_end_unset d m.0, m.1)) → IsClient op_in reply_in number calls quota outstanding j m'
   watching_ok number calls quota outstanding j found d m m' k hit miss = dite (ℕ_discrete found 1)
       (λ e. watching number calls quota outstanding j m m' (after_end_seen d m.0).retired m.0.still_there k (hit e))

@@ -5,32 +5,32 @@ use lib.ListN.{get_elem?, length-map}
 use Rattle.std.proofs.Common.{◌≡◌, ℕ, ◌+◌, ◌-◌, ◌<◌, ◌≤◌, Bool, List, [], ◌∷◌, ◌++◌, length, length-append, get_or, vec_len, vec_capacity, refl, sym, ap, subst, ◌∙◌, arith, length-set}
 use Rattle.atomic_table.specs.Table.{rest, Me}
 use Rattle.atomic_table.specs.Seated.{TableId}
-use Rattle.roster.specs.Calls.{WalkerSeen}
+use Rattle.publication_list.specs.Calls.{WalkerSeen}
 use Rattle.model.specs.declared.Kind.{Kind}
 use Rattle.model.specs.declared.AnyOp.{AnyOp}
 use Rattle.model.specs.declared.AnyReply.{AnyReply}
 use Rattle.model.specs.Objects.{Content, empty, kind_of}
-use Rattle.world.specs.declared.Request.{Request}
-use Rattle.world.specs.declared.Answer.{Answer}
-use Rattle.world.specs.World.{AnyEntry, AnyRequest, kind_at, logged, Replays, IsLegal, Serves}
-use Rattle.world.specs.Images.{request_in, answer_in, entry_in}
-use Rattle.world.proofs.Entries.{replays_more}
-use Rattle.desk_rule.specs.declared.board.Core.{Core}
-use Rattle.desk_rule.specs.declared.board.Journal.{Journal}
-use Rattle.desk_rule.specs.declared.board.Leaving.{Leaving}
-use Rattle.desk_rule.specs.declared.board.PutBack.{PutBack}
-use Rattle.desk_rule.specs.declared.board.Slot.{Slot}
-use Rattle.desk_rule.specs.declared.board.Slot.TheVariants as slot
-use Rattle.desk_rule.specs.declared.board.Held.{Held}
-use Rattle.desk_rule.specs.declared.board.Held.TheVariants as held
-use Rattle.desk_rule.specs.declared.board.Role.TheVariants as role
-use Rattle.desk_rule.specs.declared.board.View.{View}
-use Rattle.desk_rule.specs.Views.{after_miss, after_row_miss, after_win, after_pick, after_put_back, after_answer, after_release, after_meet, IsAtRest, IsAccount}
-use Rattle.desk_rule.specs.Rule.{Fits}
-use Rattle.desk_rule.proofs.Seeing.{seen_all}
+use Rattle.desk_model.specs.declared.Request.{Request}
+use Rattle.desk_model.specs.declared.Answer.{Answer}
+use Rattle.desk_model.specs.World.{AnyEntry, AnyRequest, kind_at, logged, Replays, IsLegal, Serves}
+use Rattle.desk_model.specs.Images.{request_in, answer_in, entry_in}
+use Rattle.desk_model.proofs.Entries.{replays_more}
+use Rattle.desk_invariant.specs.declared.board.Core.{Core}
+use Rattle.desk_invariant.specs.declared.board.Journal.{Journal}
+use Rattle.desk_invariant.specs.declared.board.Leaving.{Leaving}
+use Rattle.desk_invariant.specs.declared.board.PutBack.{PutBack}
+use Rattle.desk_invariant.specs.declared.board.Slot.{Slot}
+use Rattle.desk_invariant.specs.declared.board.Slot.TheVariants as slot
+use Rattle.desk_invariant.specs.declared.board.Held.{Held}
+use Rattle.desk_invariant.specs.declared.board.Held.TheVariants as held
+use Rattle.desk_invariant.specs.declared.board.Role.TheVariants as role
+use Rattle.desk_invariant.specs.declared.board.DeskView.{DeskView}
+use Rattle.desk_invariant.specs.Views.{after_miss, after_row_miss, after_win, after_pick, after_put_back, after_answer, after_release, after_meet, IsAtRest, IsAccount}
+use Rattle.desk_invariant.specs.Rule.{Fits}
+use Rattle.desk_invariant.proofs.Seeing.{seen_all}
 use Rattle.publication.specs.Handles.{Agrees, log_of, IsClient, IsPass, IsHand}
 
-module _ {O R : Type 0} {op_in : O → AnyOp} {reply_in : R → AnyReply} {number calls quota : ℕ} {outstanding : Bool} {j : Journal O R} {v : View} where
+module _ {O R : Type 0} {op_in : O → AnyOp} {reply_in : R → AnyReply} {number calls quota : ℕ} {outstanding : Bool} {j : Journal O R} {v : DeskView} where
   -- the client has seen other lists
   agrees_seen : {seen received : List (List AnyEntry)} {h : Held} {back : List PutBack} {left : List Leaving} {missed retired still_there : List ℕ} {won : ℕ} {ready : Bool} → length seen ≡ 16 → ((x : ℕ) → IsLegal (kind_at v.kinds x) (get_or seen x [])) → ((x : ℕ) → IsAccount x v (get_or seen x [])) → Agrees op_in reply_in number calls quota outstanding j v
       → Agrees op_in reply_in number calls quota outstanding j (record v { seen = seen; received = received; held = h; back = back; left = left; missed = missed; won = won; retired = retired; still_there = still_there; ready = ready })
@@ -82,7 +82,7 @@ module _ {S O R : Type 0} (content : S → Content) (op_in : O → AnyOp) (reply
 
 module _ {S O R : Type 0} (content : S → Content) (op_in : O → AnyOp) (reply_in : R → AnyReply) (number calls quota : ℕ) (outstanding : Bool) (j : Journal O R) where
   abbrev M : Type 0
-  M = Me (Slot S O R) View
+  M = Me (Slot S O R) DeskView
 
   abbrev TheClient : M → Type 0
   TheClient = IsClient op_in reply_in number calls quota outstanding j

@@ -11,34 +11,34 @@ use Rattle.model.specs.declared.Kind.{Kind}
 use Rattle.model.specs.declared.AnyOp.{AnyOp}
 use Rattle.model.specs.declared.AnyReply.{AnyReply}
 use Rattle.model.specs.Objects.{Content}
-use Rattle.world.specs.World.{AnyEntry, AnyEvent, absent, World, kind_at, journal_of, journal_in, IsLegal, StartsWith}
-use Rattle.world.specs.Sound.{Sound}
-use Rattle.world.specs.Records.{IsSoundRecord}
-use Rattle.world.proofs.Entries.{starts_same}
-use Rattle.world.proofs.RecordOrders.{sound_record}
-use Rattle.world.proofs.Beyond.{no_log_beyond, no_journal_beyond}
-use Rattle.world.specs.Images.{entry_in, event_in}
+use Rattle.desk_model.specs.World.{AnyEntry, AnyEvent, absent, World, kind_at, journal_of, journal_in, IsLegal, StartsWith}
+use Rattle.desk_model.specs.Sound.{Sound}
+use Rattle.desk_model.specs.Records.{IsSoundRecord}
+use Rattle.desk_model.proofs.Entries.{starts_same}
+use Rattle.desk_model.proofs.RecordOrders.{sound_record}
+use Rattle.desk_model.proofs.Beyond.{no_log_beyond, no_journal_beyond}
+use Rattle.desk_model.specs.Images.{entry_in, event_in}
 use Rattle.recorder.specs.Records.{Recorded}
-use Rattle.desk_rule.specs.declared.board.Core.{Core}
-use Rattle.desk_rule.specs.declared.board.Journal.{Journal}
-use Rattle.desk_rule.specs.declared.board.Plan.{Plan}
-use Rattle.desk_rule.specs.declared.board.Slot.{Slot}
-use Rattle.desk_rule.specs.declared.board.Slot.TheVariants as slot
-use Rattle.desk_rule.specs.declared.board.Held.TheVariants as held
-use Rattle.desk_rule.specs.declared.board.Role.TheVariants as role
-use Rattle.desk_rule.specs.declared.board.View.{View}
-use Rattle.desk_rule.specs.Views.{seen_of, journal, IsAtRest, IsAccount}
-use Rattle.desk_rule.specs.Rule.{HeldOk, Kept}
-use Rattle.desk_rule.proofs.Ends.{own_is}
-use Rattle.desk_rule.proofs.Seats.{mine}
-use Rattle.desk_rule.proofs.Seeing.{all_covered, accounts}
+use Rattle.desk_invariant.specs.declared.board.Core.{Core}
+use Rattle.desk_invariant.specs.declared.board.Journal.{Journal}
+use Rattle.desk_invariant.specs.declared.board.Plan.{Plan}
+use Rattle.desk_invariant.specs.declared.board.Slot.{Slot}
+use Rattle.desk_invariant.specs.declared.board.Slot.TheVariants as slot
+use Rattle.desk_invariant.specs.declared.board.Held.TheVariants as held
+use Rattle.desk_invariant.specs.declared.board.Role.TheVariants as role
+use Rattle.desk_invariant.specs.declared.board.DeskView.{DeskView}
+use Rattle.desk_invariant.specs.Views.{seen_of, journal, IsAtRest, IsAccount}
+use Rattle.desk_invariant.specs.Rule.{HeldOk, Kept}
+use Rattle.desk_invariant.proofs.Ends.{own_is}
+use Rattle.desk_invariant.proofs.Seats.{mine}
+use Rattle.desk_invariant.proofs.Seeing.{all_covered, accounts}
 use Rattle.publication.specs.Handles.{DeskSeen, Known, log_of}
 use Rattle.publication.specs.Calls.{Closed}
 use Rattle.publication.specs.Closing.{IsJournalOf, AreLogs, HaveEnded, HasLearntEnds}
 
 module _ {S O R : Type 0} (op_in : O → AnyOp) (reply_in : R → AnyReply) where
   -- the slots are those of a sound world, in which the last client has the view v
-  pub record Leavings (kinds : List Kind) (clients quota : ℕ) (v : View) (xs : List (Slot S O R)) : Type 0 where
+  pub record Leavings (kinds : List Kind) (clients quota : ℕ) (v : DeskView) (xs : List (Slot S O R)) : Type 0 where
     pub world : World
     pub sound : Sound kinds quota world
     pub number_low : v.number < clients
@@ -55,7 +55,7 @@ none_held None never = refl
 none_held (Some c) never = absurd (never c refl)
 
 module _ {S O R : Type 0} (content : S → Content) (op_in : O → AnyOp) (reply_in : R → AnyReply) (kinds : List Kind) (clients quota : ℕ) where
-  leavings : (id : ℕ) (v : View) (words : List ℕ) (xs : List (Slot S O R)) → v.role ≡ role.Client → v.held ≡ held.Free → IsAtRest v.own → ((c : ℕ) → c < clients → c ≢ v.number → Contains v.retired c)
+  leavings : (id : ℕ) (v : DeskView) (words : List ℕ) (xs : List (Slot S O R)) → v.role ≡ role.Client → v.held ≡ held.Free → IsAtRest v.own → ((c : ℕ) → c < clients → c ≢ v.number → Contains v.retired c)
       → Final (Seen (Kept content op_in reply_in kinds clients quota) id v) words xs → Leavings op_in reply_in kinds clients quota v xs
   leavings id v words xs cl free rest all f =
       let s = f.0 in let k = f.1.0 in let at = f.1.1 in let home = f.4 in let w : World = k.world in let ok = mine content op_in reply_in kinds clients quota s k id v cl at in let few = k.few_clients in
@@ -127,8 +127,8 @@ module _ {O R : Type 0} (op_in : O → AnyOp) (reply_in : R → AnyReply) where
 
 module _ {S O R : Type 0} (content : S → Content) (op_in : O → AnyOp) (reply_in : R → AnyReply) where
   -- the same of a desk and its last client, as they are seen
-  pub left_by : (plan : Plan) (d : DeskSeen) (last : Known) (id : ℕ) (v : View) (words : List ℕ) (xs : List (Slot S O R)) → plan.kinds.items ≡ d.id.kinds → plan.clients ≡ d.clients → plan.quota ≡ d.id.quota → v ≡ last.knows → v.role ≡ role.Client → v.held ≡ held.Free → IsAtRest v.own
+  pub left_by : (plan : Plan) (d : DeskSeen) (last : Known) (id : ℕ) (v : DeskView) (words : List ℕ) (xs : List (Slot S O R)) → plan.kinds.items ≡ d.id.kinds → plan.clients ≡ d.clients → plan.quota ≡ d.id.quota → v ≡ last.knows → v.role ≡ role.Client → v.held ≡ held.Free → IsAtRest v.own
       → HaveEnded d.clients last → Final (Seen (Kept content op_in reply_in plan.kinds.items plan.clients plan.quota) id v) words xs → Leavings op_in reply_in d.id.kinds d.clients d.id.quota last.knows xs
-  left_by plan d last id v words xs kinds clients quota same cl free rest all f = subst (λ (t : List Kind × ℕ × ℕ × View). Leavings op_in reply_in t.0 t.1 t.2 t.3 xs) (λ i. (kinds i, clients i, quota i, same i))
+  left_by plan d last id v words xs kinds clients quota same cl free rest all f = subst (λ (t : List Kind × ℕ × ℕ × DeskView). Leavings op_in reply_in t.0 t.1 t.2 t.3 xs) (λ i. (kinds i, clients i, quota i, same i))
       (leavings content op_in reply_in plan.kinds.items plan.clients plan.quota id v words xs cl free rest
-      (subst (λ (t : ℕ × View). (c : ℕ) → c < t.0 → c ≢ t.1.number → Contains t.1.retired c) (λ i. (sym clients i, sym same i)) all) f)
+      (subst (λ (t : ℕ × DeskView). (c : ℕ) → c < t.0 → c ≢ t.1.number → Contains t.1.retired c) (λ i. (sym clients i, sym same i)) all) f)

@@ -8,17 +8,17 @@ use Rattle.model.specs.declared.Kind.{Kind}
 use Rattle.model.specs.declared.AnyOp.{AnyOp}
 use Rattle.model.specs.declared.AnyReply.{AnyReply}
 use Rattle.model.specs.Objects.{Content, empty, kind_with}
-use Rattle.world.specs.World.{kind_at, entries_of, IsLegal}
-use Rattle.world.specs.Images.{entry_in, event_in}
-use Rattle.desk_rule.specs.declared.board.Journal.{Journal}
-use Rattle.desk_rule.specs.declared.board.Plan.{Plan}
-use Rattle.desk_rule.specs.declared.board.Slot.{Slot}
-use Rattle.desk_rule.specs.declared.board.Slot.TheVariants as slot
-use Rattle.desk_rule.specs.declared.board.Own.TheVariants as own
-use Rattle.desk_rule.specs.declared.board.View.{View}
-use Rattle.desk_rule.specs.Views.{new_client, first_maker, maker_of, with_own}
-use Rattle.desk_rule.specs.Rule.{Kept}
-use Rattle.desk_rule.proofs.Beginnings.{get_or-replicate_same, opening_keeps_rule}
+use Rattle.desk_model.specs.World.{kind_at, entries_of, IsLegal}
+use Rattle.desk_model.specs.Images.{entry_in, event_in}
+use Rattle.desk_invariant.specs.declared.board.Journal.{Journal}
+use Rattle.desk_invariant.specs.declared.board.Plan.{Plan}
+use Rattle.desk_invariant.specs.declared.board.Slot.{Slot}
+use Rattle.desk_invariant.specs.declared.board.Slot.TheVariants as slot
+use Rattle.desk_invariant.specs.declared.board.Own.TheVariants as own
+use Rattle.desk_invariant.specs.declared.board.DeskView.{DeskView}
+use Rattle.desk_invariant.specs.Views.{new_client, first_maker, maker_of, with_own}
+use Rattle.desk_invariant.specs.Rule.{Kept}
+use Rattle.desk_invariant.proofs.Beginnings.{get_or-replicate_same, opening_keeps_rule}
 use Rattle.publication.specs.Handles.{IsClient, at_hand}
 use Rattle.publication.proofs.Growing.{there}
 use Rattle.publication.specs.Making.{IsLaid, AreEmpty, kinds_with, HasRoom, IsSmall}
@@ -47,7 +47,7 @@ module _ {S O R : Type 0} (content : S → Content) (op_in : O → AnyOp) (reply
 
 module _ {S O R : Type 0} (op_in : O → AnyOp) (reply_in : R → AnyReply) where
   -- a client after its first step
-  pub begun_ok : (kinds : List Kind) (lists : List TableId) (number quota : ℕ) (j : Journal O R) (m : Me (Slot S O R) View) → number < 32 → quota < 10001 → HasRoom quota j → m ≡ (with_own own.Idle (new_client kinds lists number), at_hand number own.Idle)
+  pub begun_ok : (kinds : List Kind) (lists : List TableId) (number quota : ℕ) (j : Journal O R) (m : Me (Slot S O R) DeskView) → number < 32 → quota < 10001 → HasRoom quota j → m ≡ (with_own own.Idle (new_client kinds lists number), at_hand number own.Idle)
       → IsClient op_in reply_in number 0 quota false j m
   begun_ok kinds lists number quota j m low few room is = subst (IsClient op_in reply_in number 0 quota false j) (sym is) record {
     agrees = record {
@@ -72,7 +72,7 @@ module _ {S O R : Type 0} (op_in : O → AnyOp) (reply_in : R → AnyReply) wher
 
 module _ {S O R : Type 0} where
   -- its seat: the maker's, then split off, then after its first step
-  pub entered : (kinds : List Kind) (lists : List TableId) (number : ℕ) (f new m : Me (Slot S O R) View) → f ≡ (maker_of kinds lists number, []) → new ≡ (new_client f.0.kinds f.0.lists f.0.made, [])
+  pub entered : (kinds : List Kind) (lists : List TableId) (number : ℕ) (f new m : Me (Slot S O R) DeskView) → f ≡ (maker_of kinds lists number, []) → new ≡ (new_client f.0.kinds f.0.lists f.0.made, [])
       → m ≡ (with_own own.Idle new.0, (16 + number, slot.Nothing) ∷ (48 + number, slot.Nothing) ∷ new.1) → m ≡ (with_own own.Idle (new_client kinds lists number), at_hand number own.Idle)
-  entered kinds lists number f new m a b e = e ∙ (ap (λ (z : Me (Slot S O R) View). (with_own own.Idle z.0, (16 + number, slot.Nothing) ∷ (48 + number, slot.Nothing) ∷ z.1)) b
-      ∙ ap (λ (z : Me (Slot S O R) View). (with_own own.Idle (new_client z.0.kinds z.0.lists z.0.made), at_hand number own.Idle)) a)
+  entered kinds lists number f new m a b e = e ∙ (ap (λ (z : Me (Slot S O R) DeskView). (with_own own.Idle z.0, (16 + number, slot.Nothing) ∷ (48 + number, slot.Nothing) ∷ z.1)) b
+      ∙ ap (λ (z : Me (Slot S O R) DeskView). (with_own own.Idle (new_client z.0.kinds z.0.lists z.0.made), at_hand number own.Idle)) a)

@@ -7,27 +7,27 @@ use Rattle.atomic_table.specs.Table.{Step, step, rest, turned, Me}
 use Rattle.model.specs.declared.AnyOp.{AnyOp}
 use Rattle.model.specs.declared.AnyReply.{AnyReply}
 use Rattle.model.specs.Objects.{Content}
-use Rattle.world.specs.declared.Request.{Request}
-use Rattle.world.specs.declared.Answer.{Answer}
-use Rattle.world.specs.declared.JournalEvent.TheVariants.{Invoked, Returned}
-use Rattle.world.specs.World.{AnyEntry, AnyRequest, AnyAnswer, AnyDone, kind_at, logged, logged_on, entries_of, served, calls_made, tickets_drawn, invoked, journal_of, IsLegal, StartsWith}
-use Rattle.world.specs.Images.{request_in, answer_in, event_in}
-use Rattle.world.proofs.Entries.{served_more, logged_here, logged_else}
-use Rattle.desk_rule.specs.declared.board.Core.{Core}
-use Rattle.desk_rule.specs.declared.board.Journal.{Journal}
-use Rattle.desk_rule.specs.declared.board.Slot.{Slot}
-use Rattle.desk_rule.specs.declared.board.Slot.TheVariants as slot
-use Rattle.desk_rule.specs.declared.board.Own.TheVariants as own
-use Rattle.desk_rule.specs.declared.board.View.{View}
-use Rattle.desk_rule.specs.Views.{seen_of, own_request, is_waiting, with_own, after_perform, MayHold, IsAccount}
-use Rattle.desk_rule.specs.Plays.{draws, performs}
-use Rattle.desk_rule.specs.Rule.{Fits}
-use Rattle.desk_rule.proofs.Seeing.{seen_all}
+use Rattle.desk_model.specs.declared.Request.{Request}
+use Rattle.desk_model.specs.declared.Answer.{Answer}
+use Rattle.desk_model.specs.declared.JournalEvent.TheVariants.{Invoked, Returned}
+use Rattle.desk_model.specs.World.{AnyEntry, AnyRequest, AnyAnswer, AnyDone, kind_at, logged, logged_on, entries_of, served, calls_made, tickets_drawn, invoked, journal_of, IsLegal, StartsWith}
+use Rattle.desk_model.specs.Images.{request_in, answer_in, event_in}
+use Rattle.desk_model.proofs.Entries.{served_more, logged_here, logged_else}
+use Rattle.desk_invariant.specs.declared.board.Core.{Core}
+use Rattle.desk_invariant.specs.declared.board.Journal.{Journal}
+use Rattle.desk_invariant.specs.declared.board.Slot.{Slot}
+use Rattle.desk_invariant.specs.declared.board.Slot.TheVariants as slot
+use Rattle.desk_invariant.specs.declared.board.Own.TheVariants as own
+use Rattle.desk_invariant.specs.declared.board.DeskView.{DeskView}
+use Rattle.desk_invariant.specs.Views.{seen_of, own_request, is_waiting, with_own, after_perform, MayHold, IsAccount}
+use Rattle.desk_invariant.specs.Plays.{draws, performs}
+use Rattle.desk_invariant.specs.Rule.{Fits}
+use Rattle.desk_invariant.proofs.Seeing.{seen_all}
 use Rattle.publication.specs.Handles.{DeskId, PassState, Holding, Agrees, IsPass, at_hand, log_of}
 use Rattle.publication.specs.Calls.{Performed}
 use Rattle.publication.proofs.Holds.{room_taken}
 use Rattle.publication.proofs.Turns.{events_long}
-use Rattle.world.proofs.Tickets.{journal_begun, journal_over}
+use Rattle.desk_model.proofs.Tickets.{journal_begun, journal_over}
 
 -- the journal with a whole call more
 journal_calls : (ds : List AnyDone) (q : AnyRequest) (a : AnyAnswer) (t : ℕ) → journal_of (ds ++ record { request = q; answer = a; returned = t } ∷ []) None ≡ journal_of ds None ++ invoked q ∷ Returned t a ∷ []
@@ -35,7 +35,7 @@ journal_calls ds q a t = journal_over ds q a t ∙ (ap (λ z. z ++ Returned t a 
 
 module _ {O R : Type 0} (op_in : O → AnyOp) (reply_in : R → AnyReply) where
   -- there is room for a whole call more
-  pub room_for_call : (number calls quota : ℕ) (outstanding : Bool) (j : Journal O R) (v : View) → Agrees op_in reply_in number calls quota outstanding j v → v.own ≡ own.Idle → calls < quota → vec_len j.events + 2 ≤ vec_capacity j.events
+  pub room_for_call : (number calls quota : ℕ) (outstanding : Bool) (j : Journal O R) (v : DeskView) → Agrees op_in reply_in number calls quota outstanding j v → v.own ≡ own.Idle → calls < quota → vec_len j.events + 2 ≤ vec_capacity j.events
   room_for_call number calls quota outstanding j v k is few = let n = events_long op_in reply_in number calls quota outstanding j v k in let room = k.room in let count = k.calls_is in
       let tickets : tickets_drawn v.done (own_request v.own) ≡ tickets_drawn v.done None = ap (λ o. tickets_drawn v.done (own_request o)) is in
       let calls' : calls_made v.done (own_request v.own) ≡ calls_made v.done None = ap (λ o. calls_made v.done (own_request o)) is in omega arith
@@ -48,7 +48,7 @@ module _ {S O R : Type 0} (op_in : O → AnyOp) (reply_in : R → AnyReply) wher
 
 module _ {S O R : Type 0} (content : S → Content) (op_in : O → AnyOp) (reply_in : R → AnyReply) where
   abbrev pub M : Type 0
-  M = Me (Slot S O R) View
+  M = Me (Slot S O R) DeskView
 
   -- what a step of the clock tells does not hang on these
   abbrev any_step : Step (Slot S O R)
@@ -64,15 +64,15 @@ module _ {S O R : Type 0} (content : S → Content) (op_in : O → AnyOp) (reply
   request_there n x p m a b hand is ea eb = eb ∙ (ap (λ (z : M). (z.0, (16 + n, slot.Request p) ∷ rest z.1)) ea ∙ ap (λ z. (m.0, (16 + n, slot.Request p) ∷ rest (turned z))) (hand ∙ ap (λ o. (x, slot.Nothing) ∷ at_hand n o) is))
 
   -- d after the draw
-  pub drawn_there : (n x t : ℕ) (p : Request O) (v : View) (b d : M) → b ≡ (v, (16 + n, slot.Request p) ∷ others n x) → draws content op_in reply_in any_step b t d
+  pub drawn_there : (n x t : ℕ) (p : Request O) (v : DeskView) (b d : M) → b ≡ (v, (16 + n, slot.Request p) ∷ others n x) → draws content op_in reply_in any_step b t d
       → d ≡ (with_own (own.Drawn (request_in op_in (record p { ticket = t }))) v, (16 + n, slot.Request p) ∷ others n x)
   drawn_there n x t p v b d eb told = subst (λ z. draws content op_in reply_in any_step z t d) eb told (16 + n) p (others n x) refl
 
   -- e with the answer in its slot
-  pub answer_there : (n x : ℕ) (p : Request O) (a : Answer R) (v : View) (d e : M) → d ≡ (v, (16 + n, slot.Request p) ∷ others n x) → e ≡ (d.0, (16 + n, slot.Answer a) ∷ rest d.1) → e ≡ (v, (16 + n, slot.Answer a) ∷ others n x)
+  pub answer_there : (n x : ℕ) (p : Request O) (a : Answer R) (v : DeskView) (d e : M) → d ≡ (v, (16 + n, slot.Request p) ∷ others n x) → e ≡ (d.0, (16 + n, slot.Answer a) ∷ rest d.1) → e ≡ (v, (16 + n, slot.Answer a) ∷ others n x)
   answer_there n x p a v d e ed ee = ee ∙ ap (λ (z : M). (z.0, (16 + n, slot.Answer a) ∷ rest z.1)) ed
 
-module _ {S O R : Type 0} (content : S → Content) (op_in : O → AnyOp) (reply_in : R → AnyReply) (number calls quota : ℕ) (outstanding : Bool) (j : Journal O R) (x t r : ℕ) (op : O) (k k' : Core S O R) (a : Answer R) (m : Me (Slot S O R) View) where
+module _ {S O R : Type 0} (content : S → Content) (op_in : O → AnyOp) (reply_in : R → AnyReply) (number calls quota : ℕ) (outstanding : Bool) (j : Journal O R) (x t r : ℕ) (op : O) (k k' : Core S O R) (a : Answer R) (m : Me (Slot S O R) DeskView) where
   -- the request and the answer, and the log after them
   abbrev pub Q : AnyRequest
   Q = record { object = x; ticket = t; op = op_in op }
@@ -87,7 +87,7 @@ module _ {S O R : Type 0} (content : S → Content) (op_in : O → AnyOp) (reply
   The l = All (λ e. e.ticket < r) l × StartsWith l (seen_of m.0 x) × (entries_of m.0.number l ≡ served x m.0.number m.0.done ++ logged m.0.number Q A)
 
   -- f after the ticket of the return
-  pub performed_there : (e f : Me (Slot S O R) View) → IsPass content op_in reply_in number calls quota outstanding j x k m → e ≡ (with_own (own.Drawn Q) m.0, (16 + number, slot.Answer a) ∷ others content op_in reply_in number x)
+  pub performed_there : (e f : Me (Slot S O R) DeskView) → IsPass content op_in reply_in number calls quota outstanding j x k m → e ≡ (with_own (own.Drawn Q) m.0, (16 + number, slot.Answer a) ∷ others content op_in reply_in number x)
       → performs content op_in reply_in (any_step content op_in reply_in) e r f → (f ≡ (after_perform Q A L r m.0, (16 + number, slot.Answer a) ∷ others content op_in reply_in number x)) × The L
   performed_there e f p ee told =
       let t = subst (λ z. performs content op_in reply_in (any_step content op_in reply_in) z r f) ee told (16 + number) (log_of op_in reply_in k) Q a (others content op_in reply_in number x) p.holds refl refl in (t.0, (t.1, t.2, t.3))
@@ -97,7 +97,7 @@ module _ {S O R : Type 0} (content : S → Content) (op_in : O → AnyOp) (reply
   log_now p log = ap (λ z. log_of op_in reply_in k ++ logged z Q A) p.agrees.number_is ∙ sym log
 
   -- g with nothing in its slot, h and i after the turns
-  pub performed_turn : (f g h i : Me (Slot S O R) View) → IsPass content op_in reply_in number calls quota outstanding j x k m → log_of op_in reply_in k' ≡ log_of op_in reply_in k ++ logged number Q A
+  pub performed_turn : (f g h i : Me (Slot S O R) DeskView) → IsPass content op_in reply_in number calls quota outstanding j x k m → log_of op_in reply_in k' ≡ log_of op_in reply_in k ++ logged number Q A
       → f ≡ (after_perform Q A L r m.0, (16 + number, slot.Answer a) ∷ others content op_in reply_in number x) → g ≡ (f.0, (16 + number, slot.Nothing) ∷ rest f.1) → h ≡ (g.0, turned g.1) → i ≡ (h.0, turned h.1)
       → i ≡ (after_perform Q A (log_of op_in reply_in k') r m.0, (x, slot.Nothing) ∷ (16 + number, slot.Nothing) ∷ (48 + number, slot.Nothing) ∷ [])
   performed_turn f g h i p log ef eg eh ei =
@@ -109,7 +109,7 @@ module _ {S O R : Type 0} (content : S → Content) (op_in : O → AnyOp) (reply
   told_now p log told = subst The (log_now p log) told
 
   -- the pass after the call
-  pub performed_ok : (j' : Journal O R) (i : Me (Slot S O R) View) → IsPass content op_in reply_in number calls quota outstanding j x k m → m.0.own ≡ own.Idle → Fits content op_in reply_in (kind_at m.0.kinds x) (get_elem? m.0.lists x) k' (log_of op_in reply_in k')
+  pub performed_ok : (j' : Journal O R) (i : Me (Slot S O R) DeskView) → IsPass content op_in reply_in number calls quota outstanding j x k m → m.0.own ≡ own.Idle → Fits content op_in reply_in (kind_at m.0.kinds x) (get_elem? m.0.lists x) k' (log_of op_in reply_in k')
       → The (log_of op_in reply_in k') → i ≡ (after_perform Q A (log_of op_in reply_in k') r m.0, (x, slot.Nothing) ∷ (16 + number, slot.Nothing) ∷ (48 + number, slot.Nothing) ∷ []) → calls < quota
       → j'.events.items ≡ j.events.items ++ Invoked t x op ∷ Returned r a ∷ [] → vec_capacity j'.events ≡ vec_capacity j.events → IsPass content op_in reply_in number (calls + 1) quota outstanding j' x k' i
   performed_ok j' i p is fits told e few more same =
@@ -145,7 +145,7 @@ module _ {S O R : Type 0} (content : S → Content) (op_in : O → AnyOp) (reply
       }
 
   -- what the call says
-  pub performed : (p v : Holding) (z : DeskId) (s : PassState) (i : Me (Slot S O R) View) → p ≡ v → v ≡ record { desk = v.desk; knows = m.0; object = x; log = log_of op_in reply_in k; state = v.state } → v.desk.kinds ≡ m.0.kinds
+  pub performed : (p v : Holding) (z : DeskId) (s : PassState) (i : Me (Slot S O R) DeskView) → p ≡ v → v ≡ record { desk = v.desk; knows = m.0; object = x; log = log_of op_in reply_in k; state = v.state } → v.desk.kinds ≡ m.0.kinds
       → IsPass content op_in reply_in number calls quota outstanding j x k m → m.0.own ≡ own.Idle → Fits content op_in reply_in (kind_at m.0.kinds x) (get_elem? m.0.lists x) k' (log_of op_in reply_in k')
       → log_of op_in reply_in k' ≡ log_of op_in reply_in k ++ logged number Q A → The (log_of op_in reply_in k')
       → i ≡ (after_perform Q A (log_of op_in reply_in k') r m.0, (x, slot.Nothing) ∷ (16 + number, slot.Nothing) ∷ (48 + number, slot.Nothing) ∷ [])

@@ -1,11 +1,11 @@
 -- What an exchange of a slot in hand gives.
 use Rattle.std.proofs.Common.{◌≡◌, ℕ, List, [], ◌∷◌, sym, ap, ◌∙◌}
 use Rattle.atomic_table.specs.Table.{rest}
-use Rattle.world.specs.declared.Request.{Request}
-use Rattle.world.specs.declared.Answer.{Answer}
-use Rattle.desk_rule.specs.declared.board.Core.{Core}
-use Rattle.desk_rule.specs.declared.board.Slot.{Slot}
-use Rattle.desk_rule.specs.declared.board.Slot.TheVariants as slot
+use Rattle.desk_model.specs.declared.Request.{Request}
+use Rattle.desk_model.specs.declared.Answer.{Answer}
+use Rattle.desk_invariant.specs.declared.board.Core.{Core}
+use Rattle.desk_invariant.specs.declared.board.Slot.{Slot}
+use Rattle.desk_invariant.specs.declared.board.Slot.TheVariants as slot
 
 module _ {S O R : Type 0} where
   abbrev head_or : Slot S O R → List (ℕ × Slot S O R) → Slot S O R

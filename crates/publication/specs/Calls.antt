@@ -4,15 +4,15 @@ use Rattle.model.specs.declared.Kind.{Kind}
 use Rattle.model.specs.declared.AnyOp.{AnyOp}
 use Rattle.model.specs.declared.AnyReply.{AnyReply}
 use Rattle.model.specs.Objects.{Content, empty, kind_of, next}
-use Rattle.world.specs.declared.JournalEvent.TheVariants.{Invoked, Returned}
-use Rattle.world.specs.World.{AnyEntry, AnyRequest, AnyAnswer, kind_at, logged, entries_of, served, calls_made, Replays, IsLegal, StartsWith}
-use Rattle.desk_rule.specs.declared.board.Own.TheVariants as own
-use Rattle.desk_rule.specs.declared.board.View.{View}
-use Rattle.desk_rule.specs.Views.{row_place, seen_of, own_request, journal, is_waiting, after_miss, after_row_miss, after_win, after_pick, after_put_back, after_answer, with_own, after_take, after_return, after_perform, after_meet, after_end_unset, IsAccount}
-use Rattle.world.specs.Images.{entry_in, event_in}
-use Rattle.world.specs.Records.{IsSoundRecord}
+use Rattle.desk_model.specs.declared.JournalEvent.TheVariants.{Invoked, Returned}
+use Rattle.desk_model.specs.World.{AnyEntry, AnyRequest, AnyAnswer, kind_at, logged, entries_of, served, calls_made, Replays, IsLegal, StartsWith}
+use Rattle.desk_invariant.specs.declared.board.Own.TheVariants as own
+use Rattle.desk_invariant.specs.declared.board.DeskView.{DeskView}
+use Rattle.desk_invariant.specs.Views.{row_place, seen_of, own_request, journal, is_waiting, after_miss, after_row_miss, after_win, after_pick, after_put_back, after_answer, with_own, after_take, after_return, after_perform, after_meet, after_end_unset, IsAccount}
+use Rattle.desk_model.specs.Images.{entry_in, event_in}
+use Rattle.desk_model.specs.Records.{IsSoundRecord}
 use Rattle.recorder.specs.Records.{Recorded, journal_at, log_at}
-use Rattle.roster.specs.Calls.{PlaceSeen}
+use Rattle.publication_list.specs.Calls.{PlaceSeen}
 use Rattle.publication.specs.declared.desk.Post.{Post}
 use Rattle.publication.specs.declared.desk.Post.TheVariants as post
 use Rattle.publication.specs.declared.desk.Win.{Win}
@@ -22,14 +22,14 @@ use Rattle.publication.specs.declared.desk.Picked.TheVariants as pick
 use Rattle.publication.specs.Handles.{DeskId, DeskSeen, Known, PassState, Holding, Handling}
 
 -- The call was posted as the outstanding one of an idle client: its invocation is the last event of the journal.
-pub record Posted (v : View) (object : ℕ) (op : AnyOp) (w : View) : Type 0 where
+pub record Posted (v : DeskView) (object : ℕ) (op : AnyOp) (w : DeskView) : Type 0 where
   pub ticket : ℕ
   pub was_idle : v.own ≡ own.Idle
   pub knows : w ≡ with_own (own.Waiting record { object = object; ticket = ticket; op = op }) v
   pub journal : journal w ≡ journal v ++ Invoked ticket object op ∷ []
 
 -- of the client that knows this no call is outstanding, and it may make one more
-abbrev pub HasCallLeft : DeskId → View → Type 0
+abbrev pub HasCallLeft : DeskId → DeskView → Type 0
 HasCallLeft d v = (is_waiting v.own ≡ false) × (calls_made v.done (own_request v.own) < d.quota)
 
 -- the client has no call outstanding, and may post one more
@@ -51,7 +51,7 @@ PostRefused d c x op e = MayPost c × IsNotOfKind d.id.kinds x (kind_of op) e
 -- The own call is over, with this answer. The log of its object that was seen is legal, begins with all that was seen
 -- before, and holds of the client's own calls those that are over and this one. The ticket of the return is greater than
 -- each in it, and the return is the last event of the journal.
-pub record Polled (v : View) (a : AnyAnswer) (w : View) : Type 0 where
+pub record Polled (v : DeskView) (a : AnyAnswer) (w : DeskView) : Type 0 where
   pub request : AnyRequest
   pub log : List AnyEntry
   pub ticket : ℕ
@@ -65,7 +65,7 @@ pub record Polled (v : View) (a : AnyAnswer) (w : View) : Type 0 where
   pub journal : journal w ≡ journal v ++ Returned ticket a ∷ []
 
 -- nothing was outstanding, or the row was tried once, and the client did not know that it was answered
-abbrev pub NotPolled : View → View → Type 0
+abbrev pub NotPolled : DeskView → DeskView → Type 0
 NotPolled v w = ((is_waiting v.own ≡ false) × (w ≡ v)) ⊎ ((w ≡ after_miss (row_place v.number) v) × (v.ready ≡ false))
 
 -- The object x is held. Its log is legal, and begins with all that was seen of it.
@@ -161,7 +161,7 @@ pub record StillThere (d : DeskSeen) (last : Known) (client : ℕ) (after : Know
   pub untold : All (λ l. l.client ≢ client) last.knows.left
   pub least : (c : ℕ) → c < client → c ≢ last.knows.number → Contains after.knows.retired c
   -- of the last client nothing else has changed: it knows who has retired, and found this one there
-  pub looked : (v : View) × (after.knows ≡ after_end_unset client v) × (v ≡ record last.knows { retired = v.retired })
+  pub looked : (v : DeskView) × (after.knows ≡ after_end_unset client v) × (v ≡ record last.knows { retired = v.retired })
 
 module _ {O R : Type 0} (op_in : O → AnyOp) (reply_in : R → AnyReply) where
   -- The record has a journal for each client and a log for each object, and is sound: its history is well-formed, and each

@@ -5,12 +5,12 @@ use Rattle.std.specs.Slots.Ownership.{Filled}
 use Rattle.atomic_table.specs.declared.owned.Closed.{Closed}
 use mathlib.Core.Option.{some}
 use lib.ListN.{get_elem?}
-use Rattle.world.specs.declared.JournalEvent.{JournalEvent}
-use Rattle.world.specs.declared.LogEntry.{LogEntry}
-use Rattle.desk_rule.specs.declared.board.Core.{Core}
-use Rattle.desk_rule.specs.declared.board.Journal.{Journal}
-use Rattle.desk_rule.specs.declared.board.Slot.{Slot}
-use Rattle.desk_rule.specs.declared.board.Slot.TheVariants as slot
+use Rattle.desk_model.specs.declared.JournalEvent.{JournalEvent}
+use Rattle.desk_model.specs.declared.LogEntry.{LogEntry}
+use Rattle.desk_invariant.specs.declared.board.Core.{Core}
+use Rattle.desk_invariant.specs.declared.board.Journal.{Journal}
+use Rattle.desk_invariant.specs.declared.board.Slot.{Slot}
+use Rattle.desk_invariant.specs.declared.board.Slot.TheVariants as slot
 use Rattle.publication.specs.Handles.{Known}
 
 -- the values of all slots

@@ -9,24 +9,24 @@ use Rattle.model.specs.declared.Kind.{Kind}
 use Rattle.model.specs.declared.AnyOp.{AnyOp}
 use Rattle.model.specs.declared.AnyReply.{AnyReply}
 use Rattle.model.specs.Objects.{Content, kind_of}
-use Rattle.world.specs.declared.Request.{Request}
-use Rattle.world.specs.World.{AnyEntry, AnyRequest, kind_at, calls_made, IsLegal}
-use Rattle.world.specs.Images.{request_in, entry_in, event_in}
-use Rattle.roster.specs.declared.board.Enlist.{Enlist}
-use Rattle.roster.specs.Calls.{PlaceSeen, WalkerSeen}
-use Rattle.desk_rule.specs.declared.board.Core.{Core}
-use Rattle.desk_rule.specs.declared.board.Journal.{Journal}
-use Rattle.desk_rule.specs.declared.board.Leaving.{Leaving}
-use Rattle.desk_rule.specs.declared.board.Plan.{Plan}
-use Rattle.desk_rule.specs.declared.board.Slot.{Slot}
-use Rattle.desk_rule.specs.declared.board.Slot.TheVariants as slot
-use Rattle.desk_rule.specs.declared.board.Own.{Own}
-use Rattle.desk_rule.specs.declared.board.Own.TheVariants as own
-use Rattle.desk_rule.specs.declared.board.Held.TheVariants as held
-use Rattle.desk_rule.specs.declared.board.Role.TheVariants as role
-use Rattle.desk_rule.specs.declared.board.View.{View}
-use Rattle.desk_rule.specs.Views.{new_client, with_own, own_request, journal, is_waiting, seen_of, IsAtRest, IsAccount}
-use Rattle.desk_rule.specs.Rule.{Fits}
+use Rattle.desk_model.specs.declared.Request.{Request}
+use Rattle.desk_model.specs.World.{AnyEntry, AnyRequest, kind_at, calls_made, IsLegal}
+use Rattle.desk_model.specs.Images.{request_in, entry_in, event_in}
+use Rattle.publication_list.specs.declared.board.Enlist.{Enlist}
+use Rattle.publication_list.specs.Calls.{PlaceSeen, WalkerSeen}
+use Rattle.desk_invariant.specs.declared.board.Core.{Core}
+use Rattle.desk_invariant.specs.declared.board.Journal.{Journal}
+use Rattle.desk_invariant.specs.declared.board.Leaving.{Leaving}
+use Rattle.desk_invariant.specs.declared.board.Plan.{Plan}
+use Rattle.desk_invariant.specs.declared.board.Slot.{Slot}
+use Rattle.desk_invariant.specs.declared.board.Slot.TheVariants as slot
+use Rattle.desk_invariant.specs.declared.board.Own.{Own}
+use Rattle.desk_invariant.specs.declared.board.Own.TheVariants as own
+use Rattle.desk_invariant.specs.declared.board.Held.TheVariants as held
+use Rattle.desk_invariant.specs.declared.board.Role.TheVariants as role
+use Rattle.desk_invariant.specs.declared.board.DeskView.{DeskView}
+use Rattle.desk_invariant.specs.Views.{new_client, with_own, own_request, journal, is_waiting, seen_of, IsAtRest, IsAccount}
+use Rattle.desk_invariant.specs.Rule.{Fits}
 
 -- which desk: its table, the quota of each of its clients, the kind of each of its objects, and which roster the
 -- publication list of each object is
@@ -47,7 +47,7 @@ pub record DeskSeen : Type 0 where
 -- a client: its desk, what it knows, and its place in the list of each object
 pub record Known : Type 0 where
   pub desk : DeskId
-  pub knows : View
+  pub knows : DeskView
   pub places : List PlaceSeen
 
 -- one try more at the place in the list of x
@@ -77,7 +77,7 @@ pub record PassState : Type 0 where
 -- a client that holds an object: also the object's number and its log
 pub record Holding : Type 0 where
   pub desk : DeskId
-  pub knows : View
+  pub knows : DeskView
   pub object : ℕ
   pub log : List AnyEntry
   pub state : PassState
@@ -85,7 +85,7 @@ pub record Holding : Type 0 where
 -- a client that holds an object and a request: also the row that the request is of
 pub record Handling : Type 0 where
   pub desk : DeskId
-  pub knows : View
+  pub knows : DeskView
   pub object : ℕ
   pub log : List AnyEntry
   pub state : PassState
@@ -107,7 +107,7 @@ IsDesk table plan d = (table.words ≡ 81) × (table.slots ≡ 80) × (plan.kind
 
 module _ {O R : Type 0} (op_in : O → AnyOp) (reply_in : R → AnyReply) where
   -- what the client's fields say of what it knows
-  pub record Agrees (number calls quota : ℕ) (outstanding : Bool) (j : Journal O R) (v : View) : Type 0 where
+  pub record Agrees (number calls quota : ℕ) (outstanding : Bool) (j : Journal O R) (v : DeskView) : Type 0 where
     pub client_is : v.role ≡ role.Client
     pub number_is : v.number ≡ number
     pub number_low : number < 32
@@ -130,7 +130,7 @@ module _ {S O R : Type 0} where
   at_hand c o = (48 + c, slot.Nothing) ∷ []
 
 module _ {S O R : Type 0} (op_in : O → AnyOp) (reply_in : R → AnyReply) where
-  pub record IsClient (number calls quota : ℕ) (outstanding : Bool) (j : Journal O R) (me : Me (Slot S O R) View) : Type 0 where
+  pub record IsClient (number calls quota : ℕ) (outstanding : Bool) (j : Journal O R) (me : Me (Slot S O R) DeskView) : Type 0 where
     pub agrees : Agrees op_in reply_in number calls quota outstanding j me.0
     pub free : me.0.held ≡ held.Free
     pub in_hand : me.1 ≡ at_hand number me.0.own
@@ -144,14 +144,14 @@ module _ {S O R : Type 0} where
   state_of core places = record { passes = core.passes; room = vec_capacity core.log - vec_len core.log; list = core.list; ages = core.ages; places = places }
 
 module _ {S O R : Type 0} (content : S → Content) (op_in : O → AnyOp) (reply_in : R → AnyReply) where
-  pub record IsPass (number calls quota : ℕ) (outstanding : Bool) (j : Journal O R) (object : ℕ) (core : Core S O R) (me : Me (Slot S O R) View) : Type 0 where
+  pub record IsPass (number calls quota : ℕ) (outstanding : Bool) (j : Journal O R) (object : ℕ) (core : Core S O R) (me : Me (Slot S O R) DeskView) : Type 0 where
     pub agrees : Agrees op_in reply_in number calls quota outstanding j me.0
     pub holds : me.0.held ≡ held.Pass object (log_of op_in reply_in core)
     pub in_hand : me.1 ≡ (object, slot.Nothing) ∷ at_hand number me.0.own
     pub fits : Fits content op_in reply_in (kind_at me.0.kinds object) (get_elem? me.0.lists object) core (log_of op_in reply_in core)
     pub low : object < 16
 
-  pub record IsHand (number calls quota : ℕ) (outstanding : Bool) (j : Journal O R) (object : ℕ) (core : Core S O R) (row : ℕ) (request : Request O) (me : Me (Slot S O R) View) : Type 0 where
+  pub record IsHand (number calls quota : ℕ) (outstanding : Bool) (j : Journal O R) (object : ℕ) (core : Core S O R) (row : ℕ) (request : Request O) (me : Me (Slot S O R) DeskView) : Type 0 where
     pub agrees : Agrees op_in reply_in number calls quota outstanding j me.0
     pub holds : me.0.held ≡ held.Hand object (log_of op_in reply_in core) row (request_in op_in request)
     pub in_hand : me.1 ≡ (16 + row, slot.Nothing) ∷ (object, slot.Nothing) ∷ at_hand number me.0.own

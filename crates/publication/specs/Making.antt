@@ -2,16 +2,16 @@
 use Rattle.std.specs.Prelude.{◌≡◌, ℕ, ◌+◌, ◌<◌, ◌≤◌, List, [], map, length, slice_index_or, All, vec_len, vec_capacity}
 use Rattle.std.specs.declared.vec.Vec.{Vec}
 use Rattle.atomic_table.specs.Seated.{TableId}
-use Rattle.roster.specs.Calls.{PlaceSeen, WalkerSeen}
+use Rattle.publication_list.specs.Calls.{PlaceSeen, WalkerSeen}
 use mathlib.Core.Option.{some}
 use lib.ListN.{get_elem?}
 use Rattle.model.specs.declared.Kind.{Kind}
 use Rattle.model.specs.Objects.{Content, empty, kind_with}
-use Rattle.desk_rule.specs.declared.board.Core.{Core}
-use Rattle.desk_rule.specs.declared.board.Journal.{Journal}
-use Rattle.desk_rule.specs.declared.board.Plan.{Plan}
-use Rattle.desk_rule.specs.declared.board.Slot.{Slot}
-use Rattle.desk_rule.specs.declared.board.Slot.TheVariants as slot
+use Rattle.desk_invariant.specs.declared.board.Core.{Core}
+use Rattle.desk_invariant.specs.declared.board.Journal.{Journal}
+use Rattle.desk_invariant.specs.declared.board.Plan.{Plan}
+use Rattle.desk_invariant.specs.declared.board.Slot.{Slot}
+use Rattle.desk_invariant.specs.declared.board.Slot.TheVariants as slot
 use Rattle.publication.specs.Handles.{IsRoom, fresh_places}
 
 module _ {S O R : Type 0} where

@@ -1,20 +1,20 @@
 //! A client, and what it becomes while it holds an object.
 
 ghost use Rattle.std.specs.Prelude.{◌≡◌, ◌+◌, ◌<◌, ◌≤◌, ℕ, [], ◌∷◌, ◌++◌, vec_len, vec_capacity};
-ghost use Rattle.world.specs.declared.JournalEvent.TheVariants.{Invoked, Returned};
-ghost use Rattle.world.specs.World.{kind_at, IsLegal};
-ghost use Rattle.desk_rule.specs.Views.{is_waiting, seen_of, IsAccount};
+ghost use Rattle.desk_model.specs.declared.JournalEvent.TheVariants.{Invoked, Returned};
+ghost use Rattle.desk_model.specs.World.{kind_at, IsLegal};
+ghost use Rattle.desk_invariant.specs.Views.{is_waiting, seen_of, IsAccount};
 ghost use Rattle.publication.specs.Handles.{trying};
 
 use atomic_table::Seat;
-use desk_rule::{BoxedCore, Journal, Slot, View};
+use desk_invariant::{BoxedCore, DeskView, Journal, Slot};
+use desk_model::Request;
+use publication_list::{Enlist, SharedPlace};
 use recorder::{Answer, JournalEvent};
-use roster::{Enlist, SharedPlace};
 use seq_objects::SeqObject;
 use std::marker::Model;
-use world::Request;
 
-pub(crate) type Place<S, O, R> = Seat<Slot<S, O, R>, View>;
+pub(crate) type Place<S, O, R> = Seat<Slot<S, O, R>, DeskView>;
 
 /// A client's place in the publication list of each object.
 #[derive(Drop)]
@@ -24,7 +24,7 @@ pub(crate) struct Places {
 
 impl Model for Places {
     ghost use Rattle.std.specs.Prelude.{◌≡◌, List, length};
-    ghost use Rattle.roster.specs.Calls.{PlaceSeen};
+    ghost use Rattle.publication_list.specs.Calls.{PlaceSeen};
 
     ghost Value = { List PlaceSeen };
 
@@ -127,7 +127,7 @@ pub struct Hand<S: SeqObject> {
 }
 
 impl<S: SeqObject> Model for Hand<S> {
-    ghost use Rattle.world.specs.Images.{request_in};
+    ghost use Rattle.desk_model.specs.Images.{request_in};
     ghost use Rattle.std.specs.Prelude.{map};
     ghost use Rattle.publication.specs.Handles.{Handling, IsHand, ArePlacesOf, log_of, state_of};
 

@@ -2,7 +2,7 @@
 
 ghost use Rattle.std.specs.Prelude.{◌≡◌, ◌≢◌, ℕ, ◌+◌, ◌<◌, ◌≤◌, ◌∷◌, [], All, false, length, slice_index_or, vec_len, vec_capacity, IfOk, IfErr, IfSome, IfNone, if◌then◌else◌};
 ghost use Rattle.recorder.specs.Records.{items_of};
-ghost use Rattle.desk_rule.specs.Views.{after_end_seen, after_end_unset, end_notice, after_notice};
+ghost use Rattle.desk_invariant.specs.Views.{after_end_seen, after_end_unset, end_notice, after_notice};
 ghost use Rattle.publication.specs.Handles.{IsRoom};
 ghost use Rattle.publication.specs.Calls.{Closed, StillThere};
 ghost use Rattle.publication.specs.Closing.{values_of, IsTakenTo, HasCore, HasJournal, IsLogOf, IsJournalOf, AreLogs, AreJournals, IsSameBelow, HaveEnded, HasLearntEnds};
@@ -11,7 +11,7 @@ use crate::client::{Client, Member, Place};
 use crate::desk::{Desk, ENDS};
 use crate::making::SLOTS;
 use crate::plays::{Ends, SeesEnd, SendsEnd, TakesNotice};
-use desk_rule::{Journal, Slot};
+use desk_invariant::{Journal, Slot};
 use recorder::{JournalEvent, LogEntry, Record};
 use seq_objects::SeqObject;
 use std::alloc::Global;

@@ -2,24 +2,24 @@
 
 ghost use Rattle.std.specs.Prelude.{◌≡◌, ◌<◌, length, IfOk, IfErr, IfSome, IfNone, OnOk};
 ghost use Rattle.model.specs.Objects.{kind_of};
-ghost use Rattle.world.specs.World.{kind_at};
-ghost use Rattle.world.specs.Images.{answer_in};
-ghost use Rattle.desk_rule.specs.Views.{after_miss};
+ghost use Rattle.desk_model.specs.World.{kind_at};
+ghost use Rattle.desk_model.specs.Images.{answer_in};
+ghost use Rattle.desk_invariant.specs.Views.{after_miss};
 
 use crate::client::{Client, Hand, Member, Pass};
 use crate::looking::look_and_exchange;
 use crate::plays::{Draws, LooksAtLock, LooksForAnswer, Posts, Returns, Takes, Wins};
 use atomic_table::Table;
-use desk_rule::{Core, DeskRule, Journal, Plan, Slot, View};
+use desk_invariant::{Core, DeskRule, DeskView, Journal, Plan, Slot};
+use desk_model::Request;
 use model::Kind;
+use publication_list::SharedRoster;
 use recorder::{Answer, JournalEvent, LogEntry};
-use roster::SharedRoster;
 use seq_objects::SeqObject;
 use std::alloc::Global;
 use std::marker::Model;
-use world::Request;
 
-pub(crate) type Board<S, O, R> = Table<Slot<S, O, R>, View, Plan, DeskRule, Global>;
+pub(crate) type Board<S, O, R> = Table<Slot<S, O, R>, DeskView, Plan, DeskRule, Global>;
 
 /// Word x is the lock of object x, and slot x its core. This is the row of client 0, and the slot of its call.
 pub(crate) const ROWS: usize = 16;

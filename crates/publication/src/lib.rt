@@ -19,6 +19,6 @@ mod walking;
 pub use client::{Client, Hand, Pass};
 pub use closing::{Retired, Unretired};
 pub use desk::{Desk, Picked, Post, Win};
+pub use desk_model::Request;
+pub use publication_list::{Enlist, Place, Roster, Walker};
 pub use recorder::{Answer, JournalEvent, LogEntry, Record};
-pub use roster::{Enlist, Place, Roster, Walker};
-pub use world::Request;

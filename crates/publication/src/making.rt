@@ -2,7 +2,7 @@
 
 ghost use Rattle.std.specs.Prelude.{◌≡◌, ◌+◌, ◌<◌, ◌≤◌, [], length, map, All, IfOk, vec_len, vec_capacity};
 ghost use Rattle.model.specs.Objects.{empty, kind_with};
-ghost use Rattle.desk_rule.specs.Views.{maker_of};
+ghost use Rattle.desk_invariant.specs.Views.{maker_of};
 ghost use Rattle.publication.specs.Handles.{AllBegun, IsRoom, begun, fresh_places};
 ghost use Rattle.publication.specs.Making.{AreCores, IsLaid, AreEmpty, kinds_with, HasRoom, IsSmall, AreDealt, rosters_of, AreWalkersOf};
 
@@ -10,9 +10,9 @@ use crate::client::{Client, Member, Place, Places};
 use crate::desk::{Board, Desk, ROWS};
 use crate::plays::{Begins, Makes};
 use atomic_table::Table;
-use desk_rule::{BoxedCore, Core, Journal, Plan, Slot};
+use desk_invariant::{BoxedCore, Core, Journal, Plan, Slot};
 use model::Kind;
-use roster::{Roster, SharedPlace, SharedRoster, SharedWalker};
+use publication_list::{Roster, SharedPlace, SharedRoster, SharedWalker};
 use seq_objects::SeqObject;
 use std::alloc::{AllocError, Global};
 

@@ -2,19 +2,19 @@
 
 ghost use Rattle.std.specs.Prelude.{◌≡◌, ◌+◌, ◌-◌, ◌^◌, ◌<◌, ◌++◌, ◌↔◌, length, min, map, vec_len, vec_capacity, IsTrue, IsSome};
 ghost use Rattle.model.specs.Objects.{kind_of, kind_with, next};
-ghost use Rattle.world.specs.World.{logged, Serves};
-ghost use Rattle.world.specs.Images.{request_in, answer_in, entry_in};
-ghost use Rattle.desk_rule.specs.Views.{after_release, seen_of};
+ghost use Rattle.desk_model.specs.World.{logged, Serves};
+ghost use Rattle.desk_model.specs.Images.{request_in, answer_in, entry_in};
+ghost use Rattle.desk_invariant.specs.Views.{after_release, seen_of};
 ghost use Rattle.publication.specs.Calls.{Got, NotGot, HasCallLeft, CanDo, kind_held, kind_in, Performed, Answered, IsPutBack, desk_after_pick, state_after_pick, IfGot, IfNot};
 
 use crate::client::{Client, Hand, Pass};
 use crate::desk::{ANSWERED, CLOCK, Desk, PICKED, POSTED, Picked, ROWS};
 use crate::looking::look_and_exchange;
 use crate::plays::{Answers, Draws, LooksAtRow, Performs, Picks, PutsBack, Releases};
-use desk_rule::{BoxedCore, Core, Slot};
+use desk_invariant::{BoxedCore, Core, Slot};
+use desk_model::Request;
 use recorder::Answer;
 use seq_objects::SeqObject;
-use world::Request;
 
 impl<S: SeqObject> Pass<S> {
     /// The number of the client that holds the object.

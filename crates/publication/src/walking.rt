@@ -1,12 +1,12 @@
 //! The publication list of an object: a client puts its row in front, and who holds the object walks it.
 
 ghost use Rattle.std.specs.Prelude.{◌≡◌, ◌<◌, ◌≤◌, ◌∷◌, ◌++◌, All, [], length, remove, slice_index, slice_set, OnOk};
-ghost use Rattle.roster.specs.PublicationList.{WalkMeets};
+ghost use Rattle.publication_list.specs.PublicationList.{WalkMeets};
 ghost use Rattle.publication.specs.Handles.{HasPlaceAt, IsListOf, trying};
 
 use crate::client::{Client, Pass};
 use crate::desk::Desk;
-use roster::Enlist;
+use publication_list::Enlist;
 use seq_objects::SeqObject;
 use std::alloc::AllocError;
 

@@ -6,11 +6,11 @@ use Rattle.model.specs.declared.AnyOp.{AnyOp}
 use Rattle.model.specs.Orders.{Numbered, Return, ProcessCall, calls_in}
 use Rattle.model.proofs.Lists.{In}
 use Rattle.locality.proofs.ProcessHistories.{first, calls_in-call}
-use Rattle.world.specs.declared.Answer.TheVariants.{Reply, Refused}
-use Rattle.world.specs.declared.JournalEvent.TheVariants.{Invoked, Returned}
-use Rattle.world.specs.World.{AnyAnswer, AnyEvent, ticket_of}
-use Rattle.world.specs.Sound.{IsAmong}
-use Rattle.world.specs.Records.{Denotes}
+use Rattle.desk_model.specs.declared.Answer.TheVariants.{Reply, Refused}
+use Rattle.desk_model.specs.declared.JournalEvent.TheVariants.{Invoked, Returned}
+use Rattle.desk_model.specs.World.{AnyAnswer, AnyEvent, ticket_of}
+use Rattle.desk_model.specs.Sound.{IsAmong}
+use Rattle.desk_model.specs.Records.{Denotes}
 use Rattle.events.specs.declared.event.Action.TheVariants.{Invoke}
 use Rattle.events.specs.declared.event.Event.{Event}
 use Rattle.events.specs.Events.{HasShape}

@@ -4,12 +4,12 @@ use Rattle.model.specs.declared.Kind.{Kind}
 use Rattle.model.specs.Orders.{Return, ProcessCall, calls_in, calls_on}
 use Rattle.model.proofs.Lists.{In, Pairs, in_filter, in_filter_from, in_map_from, in_from_contains, all_at, all_from_in, all_from_pairs, pairs_from_all, pairs_from_map}
 use Rattle.locality.proofs.ProcessHistories.{part, calls_in-part}
-use Rattle.world.specs.declared.JournalEvent.TheVariants.{Invoked}
-use Rattle.world.specs.World.{AnyEntry, AnyEvent, kind_at, ticket_of}
-use Rattle.world.specs.Sound.{IsAmong}
-use Rattle.world.specs.Records.{order_of, IsSoundRecord}
-use Rattle.world.proofs.Owners.{owner, drawn_by}
-use Rattle.world.proofs.Shares.{Shares, merged, merged_rises, merged_part}
+use Rattle.desk_model.specs.declared.JournalEvent.TheVariants.{Invoked}
+use Rattle.desk_model.specs.World.{AnyEntry, AnyEvent, kind_at, ticket_of}
+use Rattle.desk_model.specs.Sound.{IsAmong}
+use Rattle.desk_model.specs.Records.{order_of, IsSoundRecord}
+use Rattle.desk_model.proofs.Owners.{owner, drawn_by}
+use Rattle.desk_model.proofs.Shares.{Shares, merged, merged_rises, merged_part}
 use Rattle.events.specs.declared.event.Event.{Event}
 use Rattle.events.specs.Events.{HasShape, IsProper}
 use Rattle.events.proofs.Runs.{idle, Runs}

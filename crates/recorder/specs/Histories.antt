@@ -3,10 +3,10 @@
 use Rattle.std.specs.Prelude.{◌≡◌, ℕ, ◌<◌, ◌==◌, List, [], ◌∷◌, All, AllPairs, Contains, filter, map, length}
 use Rattle.model.specs.declared.AnyOp.{AnyOp}
 use Rattle.model.specs.declared.AnyReply.{AnyReply}
-use Rattle.world.specs.declared.Answer.TheVariants.{Reply, Refused}
-use Rattle.world.specs.declared.JournalEvent.TheVariants.{Invoked, Returned}
-use Rattle.world.specs.World.{AnyAnswer, AnyEntry, AnyEvent}
-use Rattle.world.specs.Images.{entry_in, event_in}
+use Rattle.desk_model.specs.declared.Answer.TheVariants.{Reply, Refused}
+use Rattle.desk_model.specs.declared.JournalEvent.TheVariants.{Invoked, Returned}
+use Rattle.desk_model.specs.World.{AnyAnswer, AnyEntry, AnyEvent}
+use Rattle.desk_model.specs.Images.{entry_in, event_in}
 use Rattle.events.specs.declared.event.Action.{Action}
 use Rattle.events.specs.declared.event.Action.TheVariants.{Invoke, Ok, Fail}
 use Rattle.events.specs.declared.event.Event.{Event}

@@ -1,8 +1,8 @@
 -- A record: what each client did, and the log of each object.
 use Rattle.std.specs.Prelude.{ℕ, List, [], map, slice_index_or}
 use Rattle.std.specs.declared.vec.Vec.{Vec}
-use Rattle.world.specs.declared.LogEntry.{LogEntry}
-use Rattle.world.specs.declared.JournalEvent.{JournalEvent}
+use Rattle.desk_model.specs.declared.LogEntry.{LogEntry}
+use Rattle.desk_model.specs.declared.JournalEvent.{JournalEvent}
 
 pub record Recorded (O R : Type 0) : Type 0 where
   pub journals : List (List (JournalEvent O R))

@@ -2,8 +2,8 @@
 
 ghost use Rattle.std.specs.Prelude.{◌≡◌, ◌<◌, ℕ, List, length};
 ghost use Rattle.model.specs.declared.Kind.{Kind};
-ghost use Rattle.world.specs.World.{AnyEntry, AnyEvent};
-ghost use Rattle.world.specs.Records.{IsSoundRecord};
+ghost use Rattle.desk_model.specs.World.{AnyEntry, AnyEvent};
+ghost use Rattle.desk_model.specs.Records.{IsSoundRecord};
 ghost use Rattle.events.specs.declared.event.Event.{Event};
 ghost use Rattle.recorder.specs.Histories.{AreEventsOf, IsRecord};
 

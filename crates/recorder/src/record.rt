@@ -3,9 +3,9 @@
 ghost use Rattle.std.specs.Prelude.{◌≡◌, ◌<◌, length};
 ghost use Rattle.recorder.specs.Records.{journal_at, log_at};
 
+use desk_model::{JournalEvent, LogEntry};
 use seq_objects::SeqObject;
 use std::marker::Model;
-use world::{JournalEvent, LogEntry};
 
 /// The journals of the clients and the logs of the objects, each by number. No ticket stands twice in the journals, all
 /// tickets are below 640,000, each object that a journal names has a log, and in order of tickets the events of the

@@ -2,11 +2,11 @@
 
 ghost use Rattle.std.specs.Prelude.{◌≡◌, ◌<◌, ◌++◌, map, IsSome, vec_len, vec_capacity};
 ghost use Rattle.model.specs.Objects.{kind_with, next};
-ghost use Rattle.world.specs.World.{logged, Serves};
-ghost use Rattle.world.specs.Images.{request_in, answer_in, entry_in};
+ghost use Rattle.desk_model.specs.World.{logged, Serves};
+ghost use Rattle.desk_model.specs.Images.{request_in, answer_in, entry_in};
 
+use desk_model::{Answer, LogEntry, Request};
 use seq_objects::SeqObject;
-use world::{Answer, LogEntry, Request};
 
 /// Does the operation of a request, which the object can do, and logs it for the client of this row. Refused where memory was: then
 /// nothing is done and nothing logged. An entry for which there is room takes no memory.

@@ -4,7 +4,7 @@ ghost use Rattle.std.specs.Prelude.{◌≡◌, ◌≢◌, ◌==◌, ◌+◌, ◌
 ghost use Rattle.std.specs.Prelude.{List, [], ◌∷◌, ◌≤◌, is_some, unwrap_or};
 ghost use Rattle.std.specs.List.{list_any};
 ghost use Rattle.indexmap.specs.IndexMap.{keys, values};
-ghost use Rattle.numbers.specs.Lookup.{value_of};
+ghost use Rattle.number_map.specs.Lookup.{value_of};
 ghost use Rattle.events.specs.Events as spec;
 ghost use Rattle.events.specs.Events.{IsNamed};
 ghost use Rattle.report.specs.Counts.{same_kind, with_new, first_seen, uses, objects_in, kinds_in, operations_in, count_of};
@@ -14,7 +14,7 @@ ghost use Rattle.report.specs.declared.counting.Invoked.{Invoked};
 use crate::verdict::{KindCount, Summary};
 use events::{Action, Event, History};
 use indexmap::IndexMap;
-use numbers::NumberMap;
+use number_map::NumberMap;
 use seq_objects::{AnyObject, Kind, SeqObject};
 use std::alloc::{AllocError, Global};
 

@@ -1,7 +1,7 @@
 //! Lines made of pieces.
 
 ghost use Rattle.std.specs.Prelude.{◌≡◌, ◌++◌, false, true, decimal};
-ghost use Rattle.edn.specs.Sent.{Sends};
+ghost use Rattle.edn.specs.Sent.{Writes};
 ghost use Rattle.report.specs.Lines.{comment_text};
 ghost use Rattle.report.specs.Pieces.{piece_text, pieces_text};
 
@@ -18,7 +18,7 @@ pub(crate) enum Piece {
 
 fn write_natural<S: Sink>(n: usize, sink: &mut S) -> Result<(), Failed>
     requires { S.broken sink.old ≡ false }
-    ensures sent { Sends result (S.sent sink.old) (S.sent sink.new) (S.broken sink.new)
+    ensures sent { Writes result (S.sent sink.old) (S.sent sink.new) (S.broken sink.new)
         (decimal n) }
 {
     let mut buffer = Buffer::new();
@@ -28,7 +28,7 @@ fn write_natural<S: Sink>(n: usize, sink: &mut S) -> Result<(), Failed>
 
 fn write_piece<S: Sink>(piece: Piece, sink: &mut S) -> Result<(), Failed>
     requires { S.broken sink.old ≡ false }
-    ensures sent { Sends result (S.sent sink.old) (S.sent sink.new) (S.broken sink.new)
+    ensures sent { Writes result (S.sent sink.old) (S.sent sink.new) (S.broken sink.new)
         (piece_text piece) }
 {
     match piece {
@@ -38,10 +38,10 @@ fn write_piece<S: Sink>(piece: Piece, sink: &mut S) -> Result<(), Failed>
     }
 }
 
-/// Sends the pieces, one after the other.
+/// Writes the pieces, one after the other.
 fn write_pieces<S: Sink>(pieces: &[Piece], sink: &mut S) -> Result<(), Failed>
     requires { S.broken sink.old ≡ false }
-    ensures sent { Sends result (S.sent sink.old) (S.sent sink.new) (S.broken sink.new)
+    ensures sent { Writes result (S.sent sink.old) (S.sent sink.new) (S.broken sink.new)
         (pieces_text pieces.now) }
 {
     for piece in pieces {
@@ -50,23 +50,23 @@ fn write_pieces<S: Sink>(pieces: &[Piece], sink: &mut S) -> Result<(), Failed>
     Ok(())
 }
 
-/// Sends `; ` where the line is a comment.
+/// Writes `; ` where the line is a comment.
 fn write_comment<S: Sink>(commented: bool, sink: &mut S) -> Result<(), Failed>
     requires { S.broken sink.old ≡ false }
-    ensures sent { Sends result (S.sent sink.old) (S.sent sink.new) (S.broken sink.new)
+    ensures sent { Writes result (S.sent sink.old) (S.sent sink.new) (S.broken sink.new)
         (comment_text commented) }
 {
     write_bytes(if commented { b"; " } else { b"" }, sink)
 }
 
-/// Sends these pieces, of which the last has the line feed, as a line.
+/// Writes these pieces, of which the last has the line feed, as a line.
 pub(crate) fn write_line<S: Sink>(
     commented: bool,
     pieces: &[Piece],
     sink: &mut S,
 ) -> Result<(), Failed>
     requires { S.broken sink.old ≡ false }
-    ensures sent { Sends result (S.sent sink.old) (S.sent sink.new) (S.broken sink.new)
+    ensures sent { Writes result (S.sent sink.old) (S.sent sink.new) (S.broken sink.new)
         (comment_text commented ++ pieces_text pieces.now) }
 {
     write_comment(commented, sink)?;

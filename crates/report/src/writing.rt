@@ -1,7 +1,7 @@
 //! The lines of a verdict, written.
 
 ghost use Rattle.std.specs.Prelude.{◌≡◌, ◌++◌, false, true, IfErr};
-ghost use Rattle.edn.specs.Sent.{Sends};
+ghost use Rattle.edn.specs.Sent.{Writes};
 ghost use Rattle.report.specs.Lines as text;
 ghost use Rattle.report.specs.Lines.{comment_text};
 
@@ -12,7 +12,7 @@ use edn::{Failed, Sink, WriteFault};
 
 fn write_kinds<S: Sink>(kinds: &[KindCount], commented: bool, sink: &mut S) -> Result<(), Failed>
     requires { S.broken sink.old ≡ false }
-    ensures sent { Sends result (S.sent sink.old) (S.sent sink.new) (S.broken sink.new)
+    ensures sent { Writes result (S.sent sink.old) (S.sent sink.new) (S.broken sink.new)
         (text.kind_lines commented kinds.now) }
 {
     for kind in kinds {
@@ -23,7 +23,7 @@ fn write_kinds<S: Sink>(kinds: &[KindCount], commented: bool, sink: &mut S) -> R
 
 fn write_summary<S: Sink>(summary: &Summary, commented: bool, sink: &mut S) -> Result<(), Failed>
     requires { S.broken sink.old ≡ false }
-    ensures sent { Sends result (S.sent sink.old) (S.sent sink.new) (S.broken sink.new)
+    ensures sent { Writes result (S.sent sink.old) (S.sent sink.new) (S.broken sink.new)
         (text.verdict_text commented (Verdict.Yes summary.now)) }
 {
     write_line(commented, &total_line(summary), sink)?;
@@ -32,7 +32,7 @@ fn write_summary<S: Sink>(summary: &Summary, commented: bool, sink: &mut S) -> R
 
 fn write_lines<S: Sink>(verdict: &Verdict, commented: bool, sink: &mut S) -> Result<(), Failed>
     requires { S.broken sink.old ≡ false }
-    ensures sent { Sends result (S.sent sink.old) (S.sent sink.new) (S.broken sink.new)
+    ensures sent { Writes result (S.sent sink.old) (S.sent sink.new) (S.broken sink.new)
         (text.verdict_text commented verdict.now) }
 {
     let line = match verdict {
@@ -52,7 +52,7 @@ pub fn write_verdict<S: Sink>(
     sink: &mut S,
 ) -> Result<(), WriteFault>
     requires working { S.broken sink.old ≡ false }
-    ensures sent { Sends result (S.sent sink.old) (S.sent sink.new) (S.broken sink.new)
+    ensures sent { Writes result (S.sent sink.old) (S.sent sink.new) (S.broken sink.new)
         (text.verdict_text commented verdict.now) }
     ensures device { IfErr result (λ e. e ≡ WriteFault.Device) }
 {

@@ -3,7 +3,7 @@ use Rattle.std.specs.Prelude.{◌≡◌, ℕ, ◌<◌, ◌≤◌, nat_le, ◌&&�
 use Rattle.edn.specs.Datum.{Datum, atom, vector, dictionary, Entries}
 use Rattle.model.specs.declared.AnyOp.{AnyOp}
 use Rattle.seq_objects.specs.Values.{op_with}
-use Rattle.fields.specs.Fields.{same_bytes, value_at, natural_in, keyword_in, value_in}
+use Rattle.edn_fields.specs.Fields.{same_bytes, value_at, natural_in, keyword_in, value_in}
 use Rattle.history.specs.Maps.{plain_value}
 use Rattle.history.specs.Names.{function_named}
 use Rattle.machine.specs.declared.step.Step.{Step}

@@ -7,7 +7,7 @@ ghost use Rattle.schedule.specs.Schedules as spec;
 ghost use Rattle.schedule.specs.Schedules.{IsWithin};
 
 use edn::{Form, Name};
-use fields::{keyword, natural, value_at};
+use edn_fields::{keyword, natural, value_at};
 use seq_objects::{Kinds, kinds_named};
 
 /// What a machine is to be made of.

@@ -3,12 +3,12 @@
 ghost use Rattle.std.specs.Prelude.{◌≡◌, Some, codes, option_and_then, option_map};
 ghost use Rattle.edn.specs.Datum.{dictionary, entries_of};
 ghost use Rattle.edn.specs.View.{view, pair_views};
-ghost use Rattle.fields.specs.Fields.{keyword_in, value_at};
+ghost use Rattle.edn_fields.specs.Fields.{keyword_in, value_at};
 ghost use Rattle.schedule.specs.Schedules as spec;
 
 use crate::header::number_at;
 use edn::{Form, Name};
-use fields::{is_same, keyword, value_at};
+use edn_fields::{is_same, keyword, value_at};
 use history::{function, plain_value};
 use machine::Step;
 use model::AnyOp;

@@ -12,9 +12,9 @@ use Rattle.certificate.specs.declared.Certificate.{Certificate}
 use Rattle.checker.proofs.Collected.{Certifies, AreOnAll}
 use Rattle.order_search.specs.Outcomes.{IsNoneValid}
 use Rattle.search.specs.declared.found.Search.{Search}
-use Rattle.search.specs.declared.found.Found.{Found}
-use Rattle.search.specs.declared.found.Found.TheVariants.{Impossible, OutOfSteps, TooLarge, NoMemory}
-use Rattle.search.specs.declared.found.Found.TheVariants as found
+use Rattle.search.specs.declared.found.SearchOutcome.{SearchOutcome}
+use Rattle.search.specs.declared.found.SearchOutcome.TheVariants.{Impossible, OutOfSteps, TooLarge, NoMemory}
+use Rattle.search.specs.declared.found.SearchOutcome.TheVariants as found
 use Rattle.search.specs.Answers.{certificate_in, IfFound, IsFor, IsAnswer}
 
 -- an answer within this limit
@@ -22,7 +22,7 @@ abbrev pub IsWithin : ℕ → ℕ → Kind → List Call → Search → Type 0
 IsWithin limit object kind calls s = IsAnswer object kind calls limit s
 
 -- what holds of a certificate that was found
-if_found : (f : Found) (P : Certificate → Type 0) (c : Certificate) → IfFound f P → certificate_in f ≡ Some c → P c
+if_found : (f : SearchOutcome) (P : Certificate → Type 0) (c : Certificate) → IfFound f P → certificate_in f ≡ Some c → P c
 if_found (found.Found d) P c h e = subst P (same_Some d c e) h
 if_found Impossible P c h e = absurd (cc e)
 if_found OutOfSteps P c h e = absurd (cc e)

@@ -11,12 +11,12 @@ use Rattle.order_search.specs.Outcomes.{IsNoneValid}
 use Rattle.order_search.specs.declared.finding.Outcome.{Outcome}
 use Rattle.order_search.specs.declared.finding.Outcome.TheVariants as outcome
 use Rattle.search.specs.declared.found.Search.{Search}
-use Rattle.search.specs.declared.found.Found.{Found}
-use Rattle.search.specs.declared.found.Found.TheVariants.{Impossible, OutOfSteps, TooLarge, NoMemory}
-use Rattle.search.specs.declared.found.Found.TheVariants as found
+use Rattle.search.specs.declared.found.SearchOutcome.{SearchOutcome}
+use Rattle.search.specs.declared.found.SearchOutcome.TheVariants.{Impossible, OutOfSteps, TooLarge, NoMemory}
+use Rattle.search.specs.declared.found.SearchOutcome.TheVariants as found
 
 -- the certificate that was found, if there is one
-abbrev pub certificate_in : Found → Option Certificate
+abbrev pub certificate_in : SearchOutcome → Option Certificate
 certificate_in (found.Found c) = Some c
 certificate_in Impossible = None
 certificate_in OutOfSteps = None
@@ -24,7 +24,7 @@ certificate_in TooLarge = None
 certificate_in NoMemory = None
 
 -- what an outcome is for the object with this number
-abbrev pub found_in : ℕ → Outcome → Found
+abbrev pub found_in : ℕ → Outcome → SearchOutcome
 found_in object (outcome.Found order) = found.Found (record { object = object; order = order })
 found_in object outcome.Impossible = Impossible
 found_in object outcome.OutOfSteps = OutOfSteps
@@ -32,7 +32,7 @@ found_in object outcome.TooLarge = TooLarge
 found_in object outcome.NoMemory = NoMemory
 
 -- where a certificate was found, this holds of it
-abbrev pub IfFound : Found → (Certificate → Type 0) → Type 0
+abbrev pub IfFound : SearchOutcome → (Certificate → Type 0) → Type 0
 IfFound (found.Found c) P = P c
 IfFound Impossible P = ⊤
 IfFound OutOfSteps P = ⊤

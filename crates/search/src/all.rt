@@ -8,7 +8,7 @@ ghost use Rattle.certificate.specs.Denotes.{AreDistinct};
 ghost use Rattle.checker.specs.Refusals.{AreValid};
 ghost use Rattle.search.specs.Answers.{IsAnswerOn, IsFound, certificates_in};
 
-use crate::found::{Found, Search};
+use crate::found::{Search, SearchOutcome};
 use crate::object::search_by;
 use events::{History, split};
 use locality::linearizable_has_orders;
@@ -30,7 +30,7 @@ pub fn search_all(
         → Contains (map (λ a. a.0) v.items) x ↔ IsNamed history.now x) }
     ensures answers { IfOk result (λ v. All (λ a. IsAnswerOn history.now limit a.0 a.1) v.items) }
     // Where one is impossible the history is not linearizable.
-    ensures impossible { IfOk result (λ v. Any (λ a. a.1.found ≡ Found.Impossible) v.items
+    ensures impossible { IfOk result (λ v. Any (λ a. a.1.found ≡ SearchOutcome.Impossible) v.items
         → IsLinearizable (kind_at history.now) (events (denoted history.now)) → ⊥) }
     // Where all are found `check_all` accepts the certificates.
     ensures distinct { IfOk result (λ v. AreDistinct (certificates_in v.items)) }
@@ -52,7 +52,7 @@ pub fn search_all_by(
     ensures named { IfOk result (λ v. (x : ℕ)
         → Contains (map (λ a. a.0) v.items) x ↔ IsNamed history.now x) }
     ensures answers { IfOk result (λ v. All (λ a. IsAnswerOn history.now limit a.0 a.1) v.items) }
-    ensures impossible { IfOk result (λ v. Any (λ a. a.1.found ≡ Found.Impossible) v.items
+    ensures impossible { IfOk result (λ v. Any (λ a. a.1.found ≡ SearchOutcome.Impossible) v.items
         → IsLinearizable (kind_at history.now) (events (denoted history.now)) → ⊥) }
     ensures distinct { IfOk result (λ v. AreDistinct (certificates_in v.items)) }
     ensures valid { IfOk result (λ v. All (λ a. IsFound a.1) v.items

@@ -4,7 +4,7 @@ use certificate::Certificate;
 
 /// What a search has found.
 #[derive(Debug, Drop)]
-pub enum Found {
+pub enum SearchOutcome {
     /// A certificate, whose order is valid.
     Found(Certificate),
     /// No order of the operations is valid.
@@ -20,6 +20,6 @@ pub enum Found {
 /// The answer of a search, with the number of operations that were tried.
 #[derive(Debug, Drop)]
 pub struct Search {
-    pub found: Found,
+    pub found: SearchOutcome,
     pub steps: u64,
 }

@@ -6,6 +6,6 @@ mod found;
 mod object;
 
 pub use all::{search_all, search_all_by};
-pub use found::{Found, Search};
+pub use found::{Search, SearchOutcome};
 pub use object::{search, search_by};
 pub use order_search::TryFirst;

@@ -5,22 +5,22 @@ ghost use Rattle.events.specs.Operations.{calls_of};
 ghost use Rattle.order_search.specs.Outcomes.{IsNoneValid, max_operations};
 ghost use Rattle.search.specs.Answers.{IfFound, IsFor, IsAnswer, found_in};
 
-use crate::found::{Found, Search};
+use crate::found::{Search, SearchOutcome};
 use certificate::Certificate;
 use events::ObjectHistory;
 use order_search::{Attempt, Outcome, TryFirst, find_order};
 use std::alloc::Global;
 
 /// What was found, for the object with this number.
-fn found_of(object: u32, outcome: Outcome) -> Found
+fn found_of(object: u32, outcome: Outcome) -> SearchOutcome
     ensures { result ≡ found_in object outcome }
 {
     match outcome {
-        Outcome::Found(order) => Found::Found(Certificate { object, order }),
-        Outcome::Impossible => Found::Impossible,
-        Outcome::OutOfSteps => Found::OutOfSteps,
-        Outcome::TooLarge => Found::TooLarge,
-        Outcome::NoMemory => Found::NoMemory,
+        Outcome::Found(order) => SearchOutcome::Found(Certificate { object, order }),
+        Outcome::Impossible => SearchOutcome::Impossible,
+        Outcome::OutOfSteps => SearchOutcome::OutOfSteps,
+        Outcome::TooLarge => SearchOutcome::TooLarge,
+        Outcome::NoMemory => SearchOutcome::NoMemory,
     }
 }
 
@@ -32,14 +32,14 @@ pub fn search(alloc: Global, history: &ObjectHistory, limit: u64) -> Search
     ensures found { IfFound result.found
         (IsFor history.now.object history.now.kind (calls_of history.now.ops)) }
     // No order is valid, and so the history is not linearizable.
-    ensures impossible { result.found ≡ Found.Impossible
+    ensures impossible { result.found ≡ SearchOutcome.Impossible
         → IsNoneValid history.now.kind (calls_of history.now.ops) }
     ensures steps { result.steps ≤ limit }
-    ensures out_of_steps { result.found ≡ Found.OutOfSteps → result.steps ≡ limit }
-    ensures too_large { (result.found ≡ Found.TooLarge)
+    ensures out_of_steps { result.found ≡ SearchOutcome.OutOfSteps → result.steps ≡ limit }
+    ensures too_large { (result.found ≡ SearchOutcome.TooLarge)
         ↔ (max_operations < length (calls_of history.now.ops)) }
     // Memory is asked for only where some operation returned.
-    ensures memory { result.found ≡ Found.NoMemory
+    ensures memory { result.found ≡ SearchOutcome.NoMemory
         → Any (λ call. IsSome call.returned) (calls_of history.now.ops) }
 {
     search_by(alloc, history, TryFirst::LeastNumber, limit)

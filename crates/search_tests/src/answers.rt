@@ -2,7 +2,7 @@
 
 use checker::check_object;
 use events::ObjectHistory;
-use search::{Found, Search};
+use search::{Search, SearchOutcome};
 use std::alloc::Global;
 use std::test::Fail;
 
@@ -10,21 +10,24 @@ use std::test::Fail;
 pub(crate) fn words_of(alloc: Global, answer: &Search) -> Result<String, Fail> {
     let steps = answer.steps;
     Ok(match &answer.found {
-        Found::Found(certificate) => format!(in alloc; "{:?} after {steps}", certificate.order)?,
-        Found::Impossible => format!(in alloc; "impossible after {steps}")?,
-        Found::OutOfSteps => format!(in alloc; "out of steps after {steps}")?,
-        Found::TooLarge => format!(in alloc; "too large")?,
-        Found::NoMemory => format!(in alloc; "no memory")?,
+        SearchOutcome::Found(certificate) => format!(in alloc;
+            "{:?} after {steps}",
+            certificate.order
+        )?,
+        SearchOutcome::Impossible => format!(in alloc; "impossible after {steps}")?,
+        SearchOutcome::OutOfSteps => format!(in alloc; "out of steps after {steps}")?,
+        SearchOutcome::TooLarge => format!(in alloc; "too large")?,
+        SearchOutcome::NoMemory => format!(in alloc; "no memory")?,
     })
 }
 
 /// Whether what was found, if anything was, is accepted by the checker.
 pub(crate) fn is_accepted(alloc: Global, object: &ObjectHistory, answer: &Search) -> bool {
     match &answer.found {
-        Found::Found(certificate) if certificate.object == object.object() => {
+        SearchOutcome::Found(certificate) if certificate.object == object.object() => {
             check_object(alloc, object, certificate).is_ok()
         }
-        Found::Found(_) => false,
+        SearchOutcome::Found(_) => false,
         _ => true,
     }
 }

@@ -1,8 +1,8 @@
 //! The library by its one crate: a history is searched, and what was found is judged.
 
 use fcbench_api::{
-    Bytes, Found, Out, Verdict, check_over, judge, read_history_text, search, search_all, split,
-    write_certificates,
+    Bytes, Out, SearchOutcome, Verdict, check_over, judge, read_history_text, search, search_all,
+    split, write_certificates,
 };
 use std::test::Fail;
 
@@ -21,7 +21,7 @@ fn certificates_that_are_found_are_judged(rt: HostRuntime) -> Result<(), Fail> {
     let history = read_history_text(alloc, AT_ONCE).map_err(|_| Fail::new("a history is refused"))?;
     let mut certificates = Vec::new(alloc);
     for (_, answer) in search_all(alloc, &history, 6)? {
-        if let Found::Found(certificate) = answer.found {
+        if let SearchOutcome::Found(certificate) = answer.found {
             certificates.push(certificate)?;
         }
     }

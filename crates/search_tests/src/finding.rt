@@ -5,7 +5,7 @@ mod small;
 
 use checker::check_object;
 use events::{ObjectHistory, split};
-use finder::{Found, find};
+use finder::{FindOutcome, find};
 use history::read_history_text;
 use std::alloc::Global;
 use std::test::Fail;
@@ -25,13 +25,13 @@ fn found_in(alloc: Global, text: &str) -> Result<String, Fail> {
         return Err(Fail::new("no object is named"));
     };
     match find(alloc, object)? {
-        Found::Order(certificate) => {
+        FindOutcome::Order(certificate) => {
             if check_object(alloc, object, &certificate).is_err() {
                 return Err(Fail::new("what is found is refused"));
             }
             Ok(format!(in alloc; "{:?}", certificate.order)?)
         }
-        Found::Open => Ok(String::from_str(alloc, "open")?),
+        FindOutcome::Open => Ok(String::from_str(alloc, "open")?),
     }
 }
 

@@ -10,8 +10,8 @@ use Rattle.model.specs.Objects.{empty, kind_with}
 use Rattle.model.proofs.Objects.{kind_of_empty}
 use Rattle.seq_objects.specs.declared.any_object.AnyObject.{AnyObject}
 use Rattle.seq_objects.specs.AnyContent.{content_of}
-use Rattle.world.specs.World.{World, journal_in}
-use Rattle.world.specs.Records.{IsSoundRecord}
+use Rattle.desk_model.specs.World.{World, journal_in}
+use Rattle.desk_model.specs.Records.{IsSoundRecord}
 use Rattle.recorder.specs.Records.{Recorded}
 use Rattle.recorder.specs.Histories.{journals_in, logs_in}
 use Rattle.machine.specs.Machines.{State, HasRun, clients_of, world_of}

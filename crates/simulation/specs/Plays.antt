@@ -4,8 +4,8 @@ use Rattle.model.specs.declared.AnyOp.{AnyOp}
 use Rattle.model.specs.declared.AnyReply.{AnyReply}
 use Rattle.model.specs.declared.Kind.{Kind}
 use Rattle.seq_objects.specs.Kinds as mixing
-use Rattle.world.specs.World.{World, journal_in}
-use Rattle.world.specs.Records.{IsSoundRecord}
+use Rattle.desk_model.specs.World.{World, journal_in}
+use Rattle.desk_model.specs.Records.{IsSoundRecord}
 use Rattle.recorder.specs.Records.{Recorded}
 use Rattle.recorder.specs.Histories.{journals_in, logs_in}
 use Rattle.machine.specs.Runs.{start_of, TakesPossible, IsWorldOfRun}

@@ -7,7 +7,7 @@ use Rattle.edn.specs.Sound.{IsShort, IsSoundAt, IsUnreadable}
 use Rattle.edn.specs.Spells.{Spells}
 use Rattle.edn.specs.declared.fault.EdnFault.{EdnFault}
 use Rattle.edn.specs.declared.fault.FaultKind.TheVariants as edn_kind
-use Rattle.world.specs.World.{World}
+use Rattle.desk_model.specs.World.{World}
 use Rattle.recorder.specs.Records.{Recorded}
 use Rattle.machine.specs.Runs.{IsWorldOfRun}
 use Rattle.schedule.specs.Schedules.{AnyStep, Denotes}

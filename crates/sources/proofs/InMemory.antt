@@ -4,7 +4,7 @@ use Rattle.std.proofs.lemmas.Bool.{cases_lt}
 use Rattle.std.proofs.lemmas.List.{append-nil, length-append}
 use Rattle.edn.specs.Datum.{max_length}
 use Rattle.edn.specs.Given.{WasRead}
-use Rattle.edn.specs.Sent.{SendsFront}
+use Rattle.edn.specs.Sent.{WritesPrefix}
 use Rattle.edn.specs.Sound.{IsShort, IsUnreadable}
 use Rattle.edn.specs.declared.fault.EdnFault.{EdnFault}
 use Rattle.std.specs.Io.KnownBytes.{Appends}
@@ -113,5 +113,5 @@ module _ (h c first second : List ℕ) (history_left certificates_left sent_befo
   pub judged_in_memory : (v : Verdict) → IsJudged (Some first) history_left (Some second) certificates_left sent_before sent v → Holds h c v × Appends sent_before sent (verdict_text false v)
   judged_in_memory v j = (both v j.first j.second j.first_read j.second_read j.holds, j.written)
 
-  pub cut_off_in_memory : IsCutOff (Some first) history_left (Some second) certificates_left sent_before sent → (v : Verdict) × Holds h c v × SendsFront sent_before sent (verdict_text false v)
+  pub cut_off_in_memory : IsCutOff (Some first) history_left (Some second) certificates_left sent_before sent → (v : Verdict) × Holds h c v × WritesPrefix sent_before sent (verdict_text false v)
   cut_off_in_memory j = (j.verdict, both j.verdict j.first j.second j.first_read j.second_read j.holds, j.front)

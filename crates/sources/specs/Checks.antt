@@ -2,7 +2,7 @@
 use Rattle.std.specs.Prelude.{ℕ, List, Option, false}
 use Rattle.std.specs.Io.KnownBytes.{Appends}
 use Rattle.edn.specs.Given.{WasRead}
-use Rattle.edn.specs.Sent.{SendsFront}
+use Rattle.edn.specs.Sent.{WritesPrefix}
 use Rattle.judging.specs.Verdicts.{Holds}
 use Rattle.report.specs.Lines.{verdict_text}
 use Rattle.report.specs.declared.verdict.Verdict.{Verdict}
@@ -26,4 +26,4 @@ pub record IsCutOff (history history_left certificates certificates_left sent_be
   pub second_read : WasRead read_limit certificates certificates_left second
   pub verdict : Verdict
   pub holds : Holds first second verdict
-  pub front : SendsFront sent_before sent (verdict_text false verdict)
+  pub front : WritesPrefix sent_before sent (verdict_text false verdict)

@@ -2,7 +2,7 @@
 
 ghost use Rattle.std.specs.Prelude.{◌≡◌, ◌≢◌, false, true, IfOk, IfErr, OnErr};
 ghost use Rattle.std.specs.Io.KnownBytes.{Appends};
-ghost use Rattle.edn.specs.Sent.{SendsFront};
+ghost use Rattle.edn.specs.Sent.{WritesPrefix};
 ghost use Rattle.judging.specs.Verdicts.{Holds};
 ghost use Rattle.report.specs.Lines.{verdict_text};
 ghost use Rattle.report.specs.declared.verdict.Verdict.{Verdict as ReportVerdict};
@@ -40,7 +40,7 @@ pub enum ToolFault {
 }
 
 /// Why there is no verdict where this text was not read.
-fn unread(text: Text, fault: ReadFault) -> ToolFault
+fn fault_of_reading(text: Text, fault: ReadFault) -> ToolFault
     ensures failed { fault ≡ ReadFault.Failed → result ≡ ToolFault.Read text }
     ensures memory { fault ≡ ReadFault.NoMemory → result ≡ ToolFault.NoMemory }
 {
@@ -65,7 +65,7 @@ fn judge_and_write<R: Threads + Sync, W: Sink>(
     ensures usable { IfOk result (λ _. W.broken sink.new ≡ false) }
     ensures failed { OnErr result (W.broken sink.new ≡ true) }
     ensures front { OnErr result ((v : ReportVerdict) × Holds history.now certificates.now v
-        × SendsFront (W.sent sink.old) (W.sent sink.new) (verdict_text false v)) }
+        × WritesPrefix (W.sent sink.old) (W.sent sink.new) (verdict_text false v)) }
 {
     let verdict = judge(rt, alloc, history, certificates, workers);
     match write_verdict(&verdict, false, sink) {
@@ -114,11 +114,11 @@ pub fn check_over<R: Threads + Sync, H: Source, C: Source, W: Sink>(
 {
     let first = match read_text(alloc, history) {
         Ok(bytes) => bytes,
-        Err(fault) => return Err(unread(Text::History, fault)),
+        Err(fault) => return Err(fault_of_reading(Text::History, fault)),
     };
     let second = match read_text(alloc, certificates) {
         Ok(bytes) => bytes,
-        Err(fault) => return Err(unread(Text::Certificates, fault)),
+        Err(fault) => return Err(fault_of_reading(Text::Certificates, fault)),
     };
     match judge_and_write(rt, alloc, &first, &second, workers, sink) {
         Ok(verdict) => Ok(verdict),
@@ -142,7 +142,7 @@ pub fn check_bytes<R: Threads + Sync, W: Sink>(
     ensures usable { IfOk result (λ _. W.broken sink.new ≡ false) }
     ensures failed { OnErr result (W.broken sink.new ≡ true) }
     ensures front { OnErr result ((v : ReportVerdict) × Holds history.now certificates.now v
-        × SendsFront (W.sent sink.old) (W.sent sink.new) (verdict_text false v)) }
+        × WritesPrefix (W.sent sink.old) (W.sent sink.new) (verdict_text false v)) }
 {
     let (mut first, mut second) = (Bytes::new(history), Bytes::new(certificates));
     match check_over(rt, alloc, &mut first, &mut second, workers, sink) {

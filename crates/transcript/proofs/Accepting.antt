@@ -7,10 +7,10 @@ use Rattle.model.specs.Objects.{kind_of}
 use Rattle.model.specs.Histories.{process_of}
 use Rattle.model.specs.Orders.{Numbered, IsValidOrder, calls_on}
 use Rattle.model.proofs.Lists.{In, in_map, in_map_from, in_from_contains, contains_from_in, all_at, all_from_in, pairs_from_all}
-use Rattle.world.specs.World as world
-use Rattle.world.specs.World.{AnyEntry, AnyEvent}
-use Rattle.world.specs.declared.JournalEvent.TheVariants.{Invoked}
-use Rattle.world.specs.Records.{order_of, IsSoundRecord}
+use Rattle.desk_model.specs.World as world
+use Rattle.desk_model.specs.World.{AnyEntry, AnyEvent}
+use Rattle.desk_model.specs.declared.JournalEvent.TheVariants.{Invoked}
+use Rattle.desk_model.specs.Records.{order_of, IsSoundRecord}
 use Rattle.events.specs.declared.event.Action.{Action}
 use Rattle.events.specs.declared.event.Action.TheVariants.{Invoke, Ok, Fail, Info}
 use Rattle.events.specs.declared.event.Event.{Event}

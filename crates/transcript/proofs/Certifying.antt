@@ -4,10 +4,10 @@ use Rattle.std.proofs.lemmas.List.{map-append, take_more}
 use Rattle.model.proofs.Lists.{In, in_from_get, in_map_from, in_from_contains, contains_from_in, all_at, all_from_in, pairs_from_all, all_from_pairs, pairs_map, pairs_from_map}
 use Rattle.model.specs.declared.AnyOp.{AnyOp}
 use Rattle.model.specs.declared.AnyReply.{AnyReply}
-use Rattle.world.specs.declared.LogEntry.{LogEntry}
-use Rattle.world.specs.World.{AnyEntry, AnyEvent}
-use Rattle.world.specs.Images.{entry_in}
-use Rattle.world.specs.Records.{order_of}
+use Rattle.desk_model.specs.declared.LogEntry.{LogEntry}
+use Rattle.desk_model.specs.World.{AnyEntry, AnyEvent}
+use Rattle.desk_model.specs.Images.{entry_in}
+use Rattle.desk_model.specs.Records.{order_of}
 use Rattle.events.specs.declared.event.Event.{Event}
 use Rattle.events.specs.Events.{IsNamed}
 use Rattle.events.specs.Operations.{ObjectCalls}

@@ -6,10 +6,10 @@ use Rattle.model.specs.Histories.{Inv, Res, process_of}
 use Rattle.model.specs.Orders.{Numbered}
 use Rattle.model.proofs.Lists.{In, filter_all, filter_none}
 use Rattle.locality.proofs.ProcessHistories.{part}
-use Rattle.world.specs.declared.Answer.TheVariants.{Reply, Refused}
-use Rattle.world.specs.declared.JournalEvent.TheVariants.{Invoked, Returned}
-use Rattle.world.specs.World.{AnyAnswer, AnyEvent}
-use Rattle.world.specs.Records.{Denotes}
+use Rattle.desk_model.specs.declared.Answer.TheVariants.{Reply, Refused}
+use Rattle.desk_model.specs.declared.JournalEvent.TheVariants.{Invoked, Returned}
+use Rattle.desk_model.specs.World.{AnyAnswer, AnyEvent}
+use Rattle.desk_model.specs.Records.{Denotes}
 use Rattle.events.specs.declared.event.Action.{Action}
 use Rattle.events.specs.declared.event.Action.TheVariants.{Invoke, Ok, Fail, Info}
 use Rattle.events.specs.declared.event.Event.{Event}

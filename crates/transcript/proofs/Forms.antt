@@ -10,7 +10,7 @@ use Rattle.seq_objects.specs.Functions.{name_of}
 use Rattle.seq_objects.specs.Values.{function_in, op_with, op_value, reply_value, reply_with}
 use Rattle.events.specs.declared.event.Action.{Action}
 use Rattle.events.specs.declared.event.Action.TheVariants.{Invoke, Ok, Fail, Info}
-use Rattle.fields.specs.Fields.{max_object, object_in}
+use Rattle.edn_fields.specs.Fields.{max_object, object_in}
 use Rattle.history.specs.Maps.{ClientMap, MapType, invoke, ok, fail, info, client_of, client_with, type_named, plain_value}
 use Rattle.history.specs.Names.{function_named}
 use Rattle.history.specs.Denotes.{action_of}

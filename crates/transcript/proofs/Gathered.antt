@@ -8,9 +8,9 @@ use Rattle.std.proofs.lemmas.List.Sorted.{IsPermutation-map, IsPermutation-sym, 
 use Rattle.std.proofs.lemmas.Map.Keys.{IsDistinct-from_apart, IsDistinct-IsPermutation, apart_from_distinct}
 use Rattle.std.proofs.lemmas.Bool.{eqb-true, eqb-false, eq-eqb, ne_eqb}
 use Rattle.model.proofs.Lists.{In, Pairs, in_append, in_filter, in_filter_passes, in_filter_from, in_map_from, in_from_contains, contains_from_in, pairs_append, pairs_filter, pairs_weaker, pairs_from_all, pairs_from_map, pairs_map, all_from_pairs, filter_all, filter_none}
-use Rattle.world.specs.declared.Answer.TheVariants.{Reply, Refused}
-use Rattle.world.specs.declared.JournalEvent.TheVariants.{Invoked, Returned}
-use Rattle.world.specs.World.{AnyAnswer, AnyEvent}
+use Rattle.desk_model.specs.declared.Answer.TheVariants.{Reply, Refused}
+use Rattle.desk_model.specs.declared.JournalEvent.TheVariants.{Invoked, Returned}
+use Rattle.desk_model.specs.World.{AnyAnswer, AnyEvent}
 use Rattle.events.specs.declared.event.Event.{Event}
 use Rattle.events.specs.Events.{IsProper}
 use Rattle.events.proofs.Parts.{same_event}

@@ -1,7 +1,7 @@
 -- The lines of a journal, one event after the other.
 use Rattle.std.proofs.Common.{◌≡◌, ℕ, ◌+◌, ◌<◌, List, ◌∷◌, ◌++◌, length, drop, map, get_or, Option, ap, sym, ◌∙◌, append_assoc}
 use Rattle.std.proofs.lemmas.List.{drop_more}
-use Rattle.world.specs.World.{AnyEvent}
+use Rattle.desk_model.specs.World.{AnyEvent}
 use Rattle.transcript.specs.declared.line.Call.{Call}
 use Rattle.transcript.specs.declared.line.Line.{Line}
 use Rattle.transcript.specs.Lines.{call_after, line_with, lines_from, lines_of, lines_in}

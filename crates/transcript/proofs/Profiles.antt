@@ -13,8 +13,8 @@ use Rattle.seq_objects.specs.Functions.{name_of}
 use Rattle.seq_objects.specs.Values.{function_in}
 use Rattle.events.specs.declared.event.Action.{Action}
 use Rattle.events.specs.declared.event.Action.TheVariants.{Invoke, Ok, Fail, Info}
-use Rattle.world.specs.World.{AnyEvent}
-use Rattle.world.specs.Images.{event_in}
+use Rattle.desk_model.specs.World.{AnyEvent}
+use Rattle.desk_model.specs.Images.{event_in}
 use Rattle.recorder.specs.Records.{Recorded}
 use Rattle.recorder.specs.Histories.{journals_in}
 use Rattle.transcript.specs.declared.line.Line.{Line}

@@ -17,7 +17,7 @@ use Rattle.seq_objects.specs.Values.{function_in}
 use Rattle.events.specs.declared.event.Action.{Action}
 use Rattle.events.specs.declared.event.Action.TheVariants.{Invoke, Ok, Fail, Info}
 use Rattle.events.specs.declared.event.Event.{Event}
-use Rattle.fields.specs.Fields.{max_object}
+use Rattle.edn_fields.specs.Fields.{max_object}
 use Rattle.history.specs.declared.fault.HistoryFaultKind.{HistoryFaultKind}
 use Rattle.history.specs.declared.fault.HistoryFaultKind.TheVariants.{NotAnOperation, UnknownF, BadValue, MixedKinds, Busy, Stray, Mismatch, AfterInfo, TooMany, NoMemory}
 use Rattle.history.specs.Maps.{ClientMap, MapType, invoke, ok, fail, info, client_of, clients, op_in, reply_in}
@@ -26,9 +26,9 @@ use Rattle.history.specs.Denotes.{action_of, event_with, event_of, events_from}
 use Rattle.history.specs.Seen.{FaultOf}
 use Rattle.history.proofs.OneMore.{fault_of}
 use Rattle.history.proofs.Laws.{kind_of_op}
-use Rattle.world.specs.declared.JournalEvent.TheVariants.{Invoked, Returned}
-use Rattle.world.specs.World.{AnyEntry, AnyEvent, ticket_of}
-use Rattle.world.specs.Sound.{ShareOut}
+use Rattle.desk_model.specs.declared.JournalEvent.TheVariants.{Invoked, Returned}
+use Rattle.desk_model.specs.World.{AnyEntry, AnyEvent, ticket_of}
+use Rattle.desk_model.specs.Sound.{ShareOut}
 use Rattle.recorder.specs.Histories.{AreEventsOf, IsRecord, events_of, max_tickets}
 use Rattle.recorder.specs.Histories.{events_from as journal_events}
 use Rattle.recorder.proofs.Same.{same_by_parts}

@@ -3,9 +3,9 @@ use Rattle.std.proofs.Common.{◌≡◌, ℕ, ◌==◌, Bool, true, false, cond,
 use Rattle.std.proofs.lemmas.List.{reverse-append}
 use Rattle.std.proofs.lemmas.Bool.{eq-eqb}
 use Rattle.model.specs.declared.AnyOp.{AnyOp}
-use Rattle.world.specs.declared.Answer.TheVariants.{Reply, Refused}
-use Rattle.world.specs.declared.JournalEvent.TheVariants.{Invoked, Returned}
-use Rattle.world.specs.World.{AnyAnswer, AnyEvent}
+use Rattle.desk_model.specs.declared.Answer.TheVariants.{Reply, Refused}
+use Rattle.desk_model.specs.declared.JournalEvent.TheVariants.{Invoked, Returned}
+use Rattle.desk_model.specs.World.{AnyAnswer, AnyEvent}
 use Rattle.events.specs.declared.event.Action.{Action}
 use Rattle.events.specs.declared.event.Action.TheVariants.{Invoke, Ok, Fail, Info}
 use Rattle.events.specs.Events.{HasShape}

@@ -6,9 +6,9 @@ use Rattle.std.proofs.lemmas.List.{get_or-map, append-nil, at_drop_all}
 use Rattle.model.specs.declared.AnyOp.{AnyOp}
 use Rattle.model.specs.declared.AnyReply.{AnyReply}
 use Rattle.model.proofs.Lists.{In, in_map, in_map_from, in_filter, in_from_get, all_at}
-use Rattle.world.specs.declared.JournalEvent.{JournalEvent}
-use Rattle.world.specs.World.{AnyEntry, AnyEvent, ticket_of}
-use Rattle.world.specs.Images.{event_in}
+use Rattle.desk_model.specs.declared.JournalEvent.{JournalEvent}
+use Rattle.desk_model.specs.World.{AnyEntry, AnyEvent, ticket_of}
+use Rattle.desk_model.specs.Images.{event_in}
 use Rattle.events.specs.declared.event.Event.{Event}
 use Rattle.recorder.specs.Records.{Recorded, items_of, journal_at}
 use Rattle.recorder.specs.Histories.{events_of, max_tickets, IsRecord, IsRecordOf, journals_in}

@@ -1,7 +1,7 @@
 -- What is said of a record: its certificates, and that they are accepted.
 use Rattle.std.specs.Prelude.{◌≡◌, ℕ, ◌<◌, ◌↔◌, List, All, AllPairs, Contains, map}
-use Rattle.world.specs.World.{AnyEntry, AnyEvent}
-use Rattle.world.specs.Records.{order_of}
+use Rattle.desk_model.specs.World.{AnyEntry, AnyEvent}
+use Rattle.desk_model.specs.Records.{order_of}
 use Rattle.events.specs.declared.event.Event.{Event}
 use Rattle.checker.specs.declared.refusal.Refusal.{Refusal}
 use Rattle.checker.specs.Refusals.{AreValid, IsFirstRefusal}

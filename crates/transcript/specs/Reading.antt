@@ -4,11 +4,11 @@ use Rattle.edn.specs.Datum.{Datum}
 use Rattle.edn.specs.Spells.{Spells}
 use Rattle.history.specs.Denotes.{Denotes}
 use Rattle.model.specs.declared.Kind.{Kind}
-use Rattle.world.specs.World.{AnyEntry, AnyEvent, ticket_of}
-use Rattle.world.specs.Sound.{ShareOut}
-use Rattle.world.specs.Records.{IsSoundRecord}
+use Rattle.desk_model.specs.World.{AnyEntry, AnyEvent, ticket_of}
+use Rattle.desk_model.specs.Sound.{ShareOut}
+use Rattle.desk_model.specs.Records.{IsSoundRecord}
 use Rattle.events.specs.declared.event.Event.{Event}
-use Rattle.fields.specs.Fields.{max_object}
+use Rattle.edn_fields.specs.Fields.{max_object}
 use Rattle.recorder.specs.Histories.{AreEventsOf, IsRecord}
 use Rattle.transcript.specs.Written.{IsHistoryText}
 

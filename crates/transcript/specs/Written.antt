@@ -1,9 +1,9 @@
 -- What is written of a record.
 use Rattle.std.specs.Prelude.{◌≡◌, ℕ, List, Option, All}
 use Rattle.std.specs.Io.KnownBytes.{Appends}
-use Rattle.edn.specs.Sent.{SendsFront}
+use Rattle.edn.specs.Sent.{WritesPrefix}
 use Rattle.edn.specs.Text.{InProfile}
-use Rattle.world.specs.World.{AnyEvent}
+use Rattle.desk_model.specs.World.{AnyEvent}
 use Rattle.transcript.specs.declared.line.Line.{Line}
 use Rattle.transcript.specs.Lines.{AreLinesOf, form_of, history_text}
 
@@ -24,4 +24,4 @@ pub record AppendsHistory (journals : ℕ → List AnyEvent) (old new : Option (
 pub record SendsFrontOfHistory (journals : ℕ → List AnyEvent) (old new : Option (List ℕ)) : Type 0 where
   pub text : List ℕ
   pub of_journals : IsHistoryText journals text
-  pub sent : SendsFront old new text
+  pub sent : WritesPrefix old new text

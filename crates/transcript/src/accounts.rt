@@ -2,9 +2,9 @@
 
 ghost use Rattle.std.specs.Prelude.{◌≡◌, ◌≢◌, ◌<◌, ℕ, List, All, IfOk, IfErr, OnOk, map};
 ghost use Rattle.model.specs.declared.Kind.{Kind};
-ghost use Rattle.world.specs.Images.{entry_in};
-ghost use Rattle.world.specs.Records as world;
-ghost use Rattle.world.specs.Records.{IsSoundRecord};
+ghost use Rattle.desk_model.specs.Images.{entry_in};
+ghost use Rattle.desk_model.specs.Records as world;
+ghost use Rattle.desk_model.specs.Records.{IsSoundRecord};
 ghost use Rattle.recorder.specs.Histories.{AreEventsOf, IsRecordOf, journals_in, logs_in, max_tickets};
 ghost use Rattle.checker.specs.declared.refusal.Refusal.{Refusal};
 ghost use Rattle.transcript.specs.Lines as spec;

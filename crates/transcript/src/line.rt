@@ -1,8 +1,8 @@
 //! The lines of a record, in memory.
 
 ghost use Rattle.std.specs.Prelude.{◌≡◌, ◌<◌, ◌^◌, ◌++◌, All, OnOk, IfOk, map, length};
-ghost use Rattle.world.specs.World.{ticket_of};
-ghost use Rattle.world.specs.Images.{event_in, answer_in};
+ghost use Rattle.desk_model.specs.World.{ticket_of};
+ghost use Rattle.desk_model.specs.Images.{event_in, answer_in};
 ghost use Rattle.events.specs.Events.{IsProper};
 ghost use Rattle.recorder.specs.Histories as recorder;
 ghost use Rattle.recorder.specs.Histories.{AreEventsOf, IsRecordOf, journals_in, max_tickets};

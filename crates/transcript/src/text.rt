@@ -3,7 +3,7 @@
 ghost use Rattle.std.specs.Prelude.{◌≡◌, ◌<◌, ◌^◌, ◌++◌, false, true, codes, decimal, All, IfErr, IfOk, OnOk};
 ghost use Rattle.std.specs.Fmt.{signed_decimal};
 ghost use Rattle.std.specs.Io.KnownBytes.{Appends, Keeps};
-ghost use Rattle.edn.specs.Sent.{SendsFront};
+ghost use Rattle.edn.specs.Sent.{WritesPrefix};
 ghost use Rattle.edn.specs.Text.{InProfile, IsInt64};
 ghost use Rattle.recorder.specs.Histories.{journals_in};
 ghost use Rattle.transcript.specs.Lines as spec;
@@ -157,7 +157,7 @@ fn history_text(alloc: Global, lines: &[Line]) -> Result<Vec<u8>, AllocError>
     }
 }
 
-/// Sends the lines of a record's history, in order of tickets. Where memory is refused nothing goes out.
+/// Writes the lines of a record's history, in order of tickets. Where memory is refused nothing goes out.
 pub fn write_history<S: SeqObject, K: Sink>(
     alloc: Global,
     account: &Record<S>,

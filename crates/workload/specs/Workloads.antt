@@ -3,7 +3,7 @@ use Rattle.std.specs.Prelude.{◌≡◌, ℕ, ◌<◌, List, [], length, All, sl
 use Rattle.model.specs.declared.Kind.{Kind}
 use Rattle.model.specs.declared.AnyOp.{AnyOp}
 use Rattle.model.specs.Objects.{kind_of}
-use Rattle.world.specs.World.{kind_at}
+use Rattle.desk_model.specs.World.{kind_at}
 
 -- a call: the number of its object, and the operation
 abbrev pub Call : Type 0

@@ -4,7 +4,7 @@
 use super::objects_of;
 use checker::check_object;
 use events::ObjectHistory;
-use finder::{Found, find};
+use finder::{SearchOutcome, find};
 use order_search::{Outcome, TryFirst, find_order};
 use seq_objects::Kind;
 use std::alloc::{AllocError, Global};
@@ -302,13 +302,13 @@ fn searched(alloc: Global, history: &ObjectHistory) -> Result<Option<bool>, Fail
 /// Whether the finder finds an order of the object, which the checker accepts.
 fn found(alloc: Global, history: &ObjectHistory) -> Result<bool, Fail> {
     match find(alloc, history)? {
-        Found::Order(certificate) => {
+        SearchOutcome::Order(certificate) => {
             if check_object(alloc, history, &certificate).is_err() {
                 return Err(Fail::new("what is found is refused"));
             }
             Ok(true)
         }
-        Found::Open => Ok(false),
+        SearchOutcome::Open => Ok(false),
     }
 }
 

@@ -4,7 +4,7 @@
 use super::objects_of;
 use super::random::Random;
 use events::ObjectHistory;
-use finder::{Found, find};
+use finder::{SearchOutcome, find};
 use order_search::{Outcome, TryFirst, find_order};
 use std::alloc::{AllocError, Global};
 use std::test::Fail;
@@ -131,7 +131,7 @@ struct Counts {
 /// Whether an order is found, which it is where the search finds one.
 fn is_found(alloc: Global, object: &ObjectHistory) -> Result<bool, Fail> {
     let search = find_order(alloc, object, TryFirst::LeastNumber, 1_000_000);
-    let found = matches!(find(alloc, object)?, Found::Order(_));
+    let found = matches!(find(alloc, object)?, SearchOutcome::Order(_));
     if found != matches!(search.outcome, Outcome::Found(_)) {
         return Err(Fail::new("the search finds what is not found"));
     }

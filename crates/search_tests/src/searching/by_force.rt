@@ -5,7 +5,7 @@ use crate::answers::is_accepted;
 use certificate::Certificate;
 use checker::check_object;
 use events::{ObjectHistory, split};
-use search::{Found, TryFirst, search_by};
+use search::{SearchOutcome, TryFirst, search_by};
 use std::alloc::{AllocError, Global};
 use std::test::Fail;
 
@@ -161,8 +161,8 @@ fn has_valid_order(alloc: Global, object: &ObjectHistory) -> Result<bool, Fail> 
 fn finds(alloc: Global, object: &ObjectHistory, first: TryFirst) -> Result<bool, Fail> {
     let answer = search_by(alloc, object, first, AMPLE);
     match &answer.found {
-        Found::Found(_) if is_accepted(alloc, object, &answer) => Ok(true),
-        Found::Impossible => Ok(false),
+        SearchOutcome::Found(_) if is_accepted(alloc, object, &answer) => Ok(true),
+        SearchOutcome::Impossible => Ok(false),
         _ => Err(Fail::new("no answer, or an order that is not valid")),
     }
 }

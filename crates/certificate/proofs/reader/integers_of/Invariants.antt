@@ -1,5 +1,5 @@
 use Rattle.std.proofs.Common.{◌≡◌, drop}
-use Rattle.edn.specs.Briefs.{integers_in}
+use Rattle.edn.specs.Truncation.{integers_in}
 use Rattle.edn.specs.Datum.{items_of}
 use Rattle.edn.specs.View.{views}
 use Rattle.certificate.proofs.Reading.{integers_behind}

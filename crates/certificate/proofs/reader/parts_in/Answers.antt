@@ -3,8 +3,8 @@ use Rattle.std.specs.Prelude.{codes}
 use Rattle.edn.specs.Datum.{entries_of, items_of}
 use Rattle.edn.specs.View.{view, views, pair_views}
 use Rattle.edn.proofs.Pairs.{map_view}
-use Rattle.fields.specs.Fields.{value_at}
-use Rattle.edn.specs.Briefs.{integers_in}
+use Rattle.edn_fields.specs.Fields.{value_at}
+use Rattle.edn.specs.Truncation.{integers_in}
 use Rattle.certificate.proofs.Reading.{no_object, both_keys}
 use Rattle.certificate.proofs.reader.parts_in.Goals as goal
 

@@ -1,5 +1,5 @@
 use Rattle.std.proofs.Common.{◌≡◌, ◌∷◌, [], ◌∙◌, ap, subst, sym}
-use Rattle.desk_rule.specs.Views.{end_notice, after_notice}
+use Rattle.desk_invariant.specs.Views.{end_notice, after_notice}
 use Rattle.clients.specs.Made.{HasMet, Keeps}
 use Rattle.clients.proofs.Meetings.{has_met, keeps_on, keeps_told}
 use Rattle.clients.proofs.meeting.part.Goals as goal

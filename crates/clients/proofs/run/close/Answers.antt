@@ -1,6 +1,6 @@
 use Rattle.std.proofs.Common.{◌≢◌}
 use Rattle.std.proofs.lemmas.List.Elements.{All-contains}
-use Rattle.desk_rule.specs.declared.board.Leaving.{Leaving}
+use Rattle.desk_invariant.specs.declared.board.Leaving.{Leaving}
 use Rattle.clients.proofs.run.close.Goals as goal
 
 -- who is still there was not told of, and each other client was

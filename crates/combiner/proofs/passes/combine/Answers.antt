@@ -1,6 +1,6 @@
 use Rattle.std.proofs.Common.{sym, ap, subst, ◌∙◌}
-use Rattle.world.specs.World.{StartsWith}
-use Rattle.desk_rule.specs.Views.{seen_of, after_win}
+use Rattle.desk_model.specs.World.{StartsWith}
+use Rattle.desk_invariant.specs.Views.{seen_of, after_win}
 use Rattle.combiner.proofs.Served.{goes_on, goes_same, goes_room, same_settled, settled_after, keeps_learnt, keeps_missed}
 use Rattle.combiner.proofs.passes.combine.Goals as goal
 

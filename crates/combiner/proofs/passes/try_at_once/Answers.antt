@@ -1,6 +1,6 @@
 use Rattle.std.proofs.Common.{sym, ap, subst, ◌∙◌, rules}
-use Rattle.world.specs.World.{kind_at, StartsWith}
-use Rattle.desk_rule.specs.Views.{seen_of, after_win}
+use Rattle.desk_model.specs.World.{kind_at, StartsWith}
+use Rattle.desk_invariant.specs.Views.{seen_of, after_win}
 use Rattle.combiner.proofs.Served.{goes_on, goes_same, goes_room, keeps_learnt}
 use Rattle.combiner.proofs.Waited.{called_at_once}
 use Rattle.combiner.proofs.passes.try_at_once.Goals as goal

@@ -1,5 +1,5 @@
 use Rattle.std.proofs.Common.{IfOk, IfErr, subst}
-use Rattle.world.specs.Images.{answer_in}
+use Rattle.desk_model.specs.Images.{answer_in}
 use Rattle.combiner.specs.Passes.{KeepsCalls}
 use Rattle.combiner.specs.Waits.{Returns}
 use Rattle.combiner.proofs.Waited.{called}

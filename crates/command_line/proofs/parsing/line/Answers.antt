@@ -27,38 +27,38 @@ returns-in-Err-clause-runs g c p = only_memory_run (map g.S.AsStr.text c.args.wo
 pub returns-in-Err-clause-simulates : goal.returns-in-Err-clause-simulates
 returns-in-Err-clause-simulates g c p = only_memory_simulate (map g.S.AsStr.text c.args.words.now) c.fault_of.result p (returns-in-Err-clause-refused g c)
 
-pub found-requires : goal.found-requires
-found-requires g c = (found (app_of c.in_ok-command.field-0) _ c.in-Ok.matches c.in_ok-command.ensures c.in-Ok.ensures.kinds c.in-Ok.ensures.matches).0
+pub line_of-requires : goal.line_of-requires
+line_of-requires g c = (found (app_of c.in_ok-command.field-0) _ c.in-Ok.matches c.in_ok-command.ensures c.in-Ok.ensures.kinds c.in-Ok.ensures.matches).0
 
 pub returns-in-Ok-clause-asked : goal.returns-in-Ok-clause-asked
 returns-in-Ok-clause-asked g c =
     let parse = found (app_of c.in_ok-command.field-0) (map g.S.AsStr.text c.args.words.now) c.in-Ok.matches c.in_ok-command.ensures c.in-Ok.ensures.kinds c.in-Ok.ensures.matches in
-    IfOk-weaker c.found.result _ _ parse.1 c.found.ensures.found
+    IfOk-weaker c.line_of.result _ _ parse.1 c.line_of.ensures.found
 
 pub returns-in-Ok-clause-refused : goal.returns-in-Ok-clause-refused
 returns-in-Ok-clause-refused g c =
     let parse = found (app_of c.in_ok-command.field-0) (map g.S.AsStr.text c.args.words.now) c.in-Ok.matches c.in_ok-command.ensures c.in-Ok.ensures.kinds c.in-Ok.ensures.matches in
-    IfErr-weaker c.found.result _ _ (λ f l. lacking (map g.S.AsStr.text c.args.words.now) f (subst (λ m. f ≢ NoMemory → Lacks m f) parse.2 l)) c.found.ensures.lacks
+    IfErr-weaker c.line_of.result _ _ (λ f l. lacking (map g.S.AsStr.text c.args.words.now) f (subst (λ m. f ≢ NoMemory → Lacks m f) parse.2 l)) c.line_of.ensures.lacks
 
 pub returns-in-Ok-clause-accepts : goal.returns-in-Ok-clause-accepts
-returns-in-Ok-clause-accepts g c p = IfErr-weaker c.found.result _ _ (λ f. only_memory (map g.S.AsStr.text c.args.words.now) f p) (returns-in-Ok-clause-refused g c)
+returns-in-Ok-clause-accepts g c p = IfErr-weaker c.line_of.result _ _ (λ f. only_memory (map g.S.AsStr.text c.args.words.now) f p) (returns-in-Ok-clause-refused g c)
 
 pub returns-in-Ok-clause-searches : goal.returns-in-Ok-clause-searches
-returns-in-Ok-clause-searches g c p = IfErr-weaker c.found.result _ _ (λ f. only_memory_search (map g.S.AsStr.text c.args.words.now) f p) (returns-in-Ok-clause-refused g c)
+returns-in-Ok-clause-searches g c p = IfErr-weaker c.line_of.result _ _ (λ f. only_memory_search (map g.S.AsStr.text c.args.words.now) f p) (returns-in-Ok-clause-refused g c)
 
 pub returns-in-Ok-clause-finds : goal.returns-in-Ok-clause-finds
-returns-in-Ok-clause-finds g c p = IfErr-weaker c.found.result _ _ (λ f. only_memory_find (map g.S.AsStr.text c.args.words.now) f p) (returns-in-Ok-clause-refused g c)
+returns-in-Ok-clause-finds g c p = IfErr-weaker c.line_of.result _ _ (λ f. only_memory_find (map g.S.AsStr.text c.args.words.now) f p) (returns-in-Ok-clause-refused g c)
 
 pub returns-in-Ok-clause-judges : goal.returns-in-Ok-clause-judges
-returns-in-Ok-clause-judges g c p = IfErr-weaker c.found.result _ _ (λ f. only_memory_judge (map g.S.AsStr.text c.args.words.now) f p) (returns-in-Ok-clause-refused g c)
+returns-in-Ok-clause-judges g c p = IfErr-weaker c.line_of.result _ _ (λ f. only_memory_judge (map g.S.AsStr.text c.args.words.now) f p) (returns-in-Ok-clause-refused g c)
 
 pub returns-in-Ok-clause-runs : goal.returns-in-Ok-clause-runs
-returns-in-Ok-clause-runs g c p = IfErr-weaker c.found.result _ _ (λ f. only_memory_run (map g.S.AsStr.text c.args.words.now) f p) (returns-in-Ok-clause-refused g c)
+returns-in-Ok-clause-runs g c p = IfErr-weaker c.line_of.result _ _ (λ f. only_memory_run (map g.S.AsStr.text c.args.words.now) f p) (returns-in-Ok-clause-refused g c)
 
 pub returns-in-Ok-clause-simulates : goal.returns-in-Ok-clause-simulates
-returns-in-Ok-clause-simulates g c p = IfErr-weaker c.found.result _ _ (λ f. only_memory_simulate (map g.S.AsStr.text c.args.words.now) f p) (returns-in-Ok-clause-refused g c)
+returns-in-Ok-clause-simulates g c p = IfErr-weaker c.line_of.result _ _ (λ f. only_memory_simulate (map g.S.AsStr.text c.args.words.now) f p) (returns-in-Ok-clause-refused g c)
 
 pub returns-in-Ok-clause-faultless : goal.returns-in-Ok-clause-faultless
 returns-in-Ok-clause-faultless g c =
     let parse = found (app_of c.in_ok-command.field-0) (map g.S.AsStr.text c.args.words.now) c.in-Ok.matches c.in_ok-command.ensures c.in-Ok.ensures.kinds c.in-Ok.ensures.matches in
-    on_ok c.found.result parse.3
+    on_ok c.line_of.result parse.3

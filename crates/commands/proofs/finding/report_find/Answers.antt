@@ -1,6 +1,6 @@
 use Rattle.std.specs.Io.KnownBytes.{Appends}
 use Rattle.std.proofs.lemmas.Result.{IfOk-weaker}
-use Rattle.edn.specs.Sent.{SendsFront}
+use Rattle.edn.specs.Sent.{WritesPrefix}
 use Rattle.commands.specs.Findings.{AreFoundIn}
 use Rattle.commands.specs.Searches.{IsUnsearched}
 use Rattle.commands.proofs.Outputs.{front, written}
@@ -14,4 +14,4 @@ pub returns-clause-written : goal.returns-clause-written
 returns-clause-written g c e = written (AreFoundIn c.args.text.now) (IsUnsearched c.args.text.now) c.find_text.result c.find_text.ensures.found c.find_text.ensures.unread (Appends (g.S.Sink.sent c.args.sink.now) (g.S.Sink.sent c.put_out.new.sink)) c.put_out.result (c.put_out.ensures.written e)
 
 pub returns-clause-front : goal.returns-clause-front
-returns-clause-front g c e = front (AreFoundIn c.args.text.now) (IsUnsearched c.args.text.now) c.find_text.result c.find_text.ensures.found c.find_text.ensures.unread (SendsFront (g.S.Sink.sent c.args.sink.now) (g.S.Sink.sent c.put_out.new.sink)) (c.put_out.ensures.front e)
+returns-clause-front g c e = front (AreFoundIn c.args.text.now) (IsUnsearched c.args.text.now) c.find_text.result c.find_text.ensures.found c.find_text.ensures.unread (WritesPrefix (g.S.Sink.sent c.args.sink.now) (g.S.Sink.sent c.put_out.new.sink)) (c.put_out.ensures.front e)

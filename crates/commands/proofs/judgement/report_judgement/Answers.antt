@@ -1,7 +1,7 @@
 use Rattle.std.proofs.Common.{◌∙◌, sym}
 use Rattle.std.specs.Io.KnownBytes.{Appends}
 use Rattle.std.proofs.lemmas.Result.{IfOk-weaker}
-use Rattle.edn.specs.Sent.{SendsFront}
+use Rattle.edn.specs.Sent.{WritesPrefix}
 use Rattle.commands.specs.Judged.{IsOpenText, IsVerdictOnText}
 use Rattle.commands.proofs.Outputs.{front, written}
 use Rattle.commands.proofs.Answering.{never_failed}
@@ -15,7 +15,7 @@ pub returns-clause-written : goal.returns-clause-written
 returns-clause-written g c e = written (IsOpenText c.args.text.now c.args.steps) (IsVerdictOnText c.args.text.now) c.judge_text.result c.judge_text.ensures.notes c.judge_text.ensures.judged (Appends (g.S.Sink.sent c.args.sink.now) (g.S.Sink.sent c.put_out.new.sink)) c.put_out.result (c.put_out.ensures.written e)
 
 pub returns-clause-front : goal.returns-clause-front
-returns-clause-front g c e = front (IsOpenText c.args.text.now c.args.steps) (IsVerdictOnText c.args.text.now) c.judge_text.result c.judge_text.ensures.notes c.judge_text.ensures.judged (SendsFront (g.S.Sink.sent c.args.sink.now) (g.S.Sink.sent c.put_out.new.sink)) (c.put_out.ensures.front e)
+returns-clause-front g c e = front (IsOpenText c.args.text.now c.args.steps) (IsVerdictOnText c.args.text.now) c.judge_text.result c.judge_text.ensures.notes c.judge_text.ensures.judged (WritesPrefix (g.S.Sink.sent c.args.sink.now) (g.S.Sink.sent c.put_out.new.sink)) (c.put_out.ensures.front e)
 
 pub returns-clause-linearizable : goal.returns-clause-linearizable
 returns-clause-linearizable g c e =

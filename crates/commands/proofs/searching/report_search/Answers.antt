@@ -1,6 +1,6 @@
 use Rattle.std.specs.Io.KnownBytes.{Appends}
 use Rattle.std.proofs.lemmas.Result.{IfOk-weaker}
-use Rattle.edn.specs.Sent.{SendsFront}
+use Rattle.edn.specs.Sent.{WritesPrefix}
 use Rattle.commands.specs.Searches.{IsSearched, IsUnsearched}
 use Rattle.commands.proofs.Outputs.{front, written}
 use Rattle.commands.proofs.Answering.{never_failed}
@@ -13,4 +13,4 @@ pub returns-clause-written : goal.returns-clause-written
 returns-clause-written g c e = written (IsSearched c.args.text.now c.args.steps) (IsUnsearched c.args.text.now) c.search_text.result c.search_text.ensures.searched c.search_text.ensures.unsearched (Appends (g.S.Sink.sent c.args.sink.now) (g.S.Sink.sent c.put_out.new.sink)) c.put_out.result (c.put_out.ensures.written e)
 
 pub returns-clause-front : goal.returns-clause-front
-returns-clause-front g c e = front (IsSearched c.args.text.now c.args.steps) (IsUnsearched c.args.text.now) c.search_text.result c.search_text.ensures.searched c.search_text.ensures.unsearched (SendsFront (g.S.Sink.sent c.args.sink.now) (g.S.Sink.sent c.put_out.new.sink)) (c.put_out.ensures.front e)
+returns-clause-front g c e = front (IsSearched c.args.text.now c.args.steps) (IsUnsearched c.args.text.now) c.search_text.result c.search_text.ensures.searched c.search_text.ensures.unsearched (WritesPrefix (g.S.Sink.sent c.args.sink.now) (g.S.Sink.sent c.put_out.new.sink)) (c.put_out.ensures.front e)

@@ -1,6 +1,6 @@
 use Rattle.std.proofs.Common.{◌≡◌, List, length}
 use Rattle.std.specs.Str.{IsUtf8}
-use Rattle.edn.specs.Briefs.{all_kept}
+use Rattle.edn.specs.Truncation.{all_kept}
 use Rattle.edn.specs.Datum.{Datum}
 use Rattle.edn.specs.Left.{left_of, start_of, keeping_in}
 use Rattle.edn.specs.Sound.{IsShort}

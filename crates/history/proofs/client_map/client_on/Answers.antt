@@ -1,6 +1,6 @@
 use Rattle.std.proofs.Common.{codes, ◌∙◌}
-use Rattle.fields.specs.Fields.{value_at}
-use Rattle.fields.proofs.Shapes.{natural_is, keyword_is}
+use Rattle.edn_fields.specs.Fields.{value_at}
+use Rattle.edn_fields.proofs.Shapes.{natural_is, keyword_is}
 use Rattle.history.proofs.Saying.{client_is, plain_is}
 use Rattle.history.proofs.client_map.client_on.Goals as goal
 

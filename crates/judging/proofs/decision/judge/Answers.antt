@@ -8,7 +8,7 @@ use Rattle.judging.proofs.Accepting.{same_valid}
 use Rattle.judging.proofs.decision.judge.Goals as goal
 
 pub returns-in-Err-clause-accepts : goal.returns-in-Err-clause-accepts
-returns-in-Err-clause-accepts g c v = subst IsYesUnlessMemory (sym (c.stopped.ensures ∙ ap verdict_of (c.in-Err.ensures.accepts v))) tt
+returns-in-Err-clause-accepts g c v = subst IsYesUnlessMemory (sym (c.verdict_on_failure.ensures ∙ ap verdict_of (c.in-Err.ensures.accepts v))) tt
 
 pub returns-in-Ok-summary-clause-judges : goal.returns-in-Ok-summary-clause-judges
 returns-in-Ok-summary-clause-judges g c =

@@ -24,14 +24,14 @@ returns-then-left-eq0-clause-too_large c =
     let m = c.if-call_count-gt-MOST.false in
     (λ u. absurd (cc u), λ l. absurd (omega arith))
 
-pub searched-requires-clause-few : goal.searched-requires-clause-few
-searched-requires-clause-few c =
+pub search_operations-requires-clause-few : goal.search_operations-requires-clause-few
+search_operations-requires-clause-few c =
     let n = c.call_count.ensures ∙ ap (count_by happens) c.ops-operations.ensures.ops ∙ count-calls c.args.history.now.ops in
     let m = c.if-call_count-gt-MOST.false in
     omega arith
 
 pub returns-clause-impossible : goal.returns-clause-impossible
-returns-clause-impossible c u = elim c.match-searched.branch [
+returns-clause-impossible c u = elim c.match-search_operations.branch [
   | in-Ok w ↦ w.in-Ok.ensures.impossible (sym w.outcome-is ∙ u)
   | in-Err w ↦ (let e = w.outcome-is in absurd (cc (e, u)))
 ]
@@ -40,7 +40,7 @@ pub returns-clause-too_large : goal.returns-clause-too_large
 returns-clause-too_large c =
     let n = c.call_count.ensures ∙ ap (count_by happens) c.ops-operations.ensures.ops ∙ count-calls c.args.history.now.ops in
     let m = c.if-call_count-gt-MOST.false in (
-      λ u. elim c.match-searched.branch [
+      λ u. elim c.match-search_operations.branch [
         | in-Ok w ↦ absurd (w.in-Ok.ensures.decided.0 (sym w.outcome-is ∙ u))
         | in-Err w ↦ (let e = w.outcome-is in absurd (cc (e, u)))
       ],

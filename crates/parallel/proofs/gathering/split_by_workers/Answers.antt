@@ -3,8 +3,8 @@ use Rattle.parallel.specs.Parts.{IsPart, ArePartsOf}
 use Rattle.parallel.proofs.Joining.{AreListed, list_more, all_listed}
 use Rattle.parallel.proofs.gathering.split_by_workers.Goals as goal
 
-pub joined-requires : goal.joined-requires
-joined-requires g c =
+pub join_parts-requires : goal.join_parts-requires
+join_parts-requires g c =
     let ok = c.in_ok-found.found.ok in
     let long = c.in_ok-found.ensures.len in
     let some = c.requires in

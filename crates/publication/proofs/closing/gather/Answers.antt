@@ -1,9 +1,9 @@
 use Rattle.std.proofs.Common.{rules, arith, ◌≡◌, [], map, length, get_or, vec_len, sym, ap, subst, ◌∙◌}
 use Rattle.std.specs.Slots.{slots_items}
-use Rattle.world.specs.Images.{event_in}
+use Rattle.desk_model.specs.Images.{event_in}
 use Rattle.recorder.specs.Records.{recorded, items_of}
 use Rattle.recorder.proofs.Making.{record_from}
-use Rattle.desk_rule.specs.Views.{journal}
+use Rattle.desk_invariant.specs.Views.{journal}
 use Rattle.publication.specs.Closing.{values_of, HasJournal, IsJournalOf, AreLogs}
 use Rattle.publication.proofs.Leavings.{left_by, closed_ok}
 use Rattle.publication.proofs.closing.gather.Goals as goal

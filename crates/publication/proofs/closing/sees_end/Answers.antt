@@ -3,8 +3,8 @@ use Rattle.publication.proofs.Dealing.{own_still}
 use Rattle.publication.specs.Handles.{Known}
 use mathlib.Core.Logic.{dite}
 use native.Mathlib.Decide.{ℕ_discrete}
-use Rattle.roster.specs.Calls.{PlaceSeen}
-use Rattle.desk_rule.proofs.Ends.{look_at_end_keeps_rule}
+use Rattle.publication_list.specs.Calls.{PlaceSeen}
+use Rattle.desk_invariant.proofs.Ends.{look_at_end_keeps_rule}
 use Rattle.publication.proofs.Endings.{either_view, watching_ok}
 use Rattle.publication.proofs.closing.sees_end.Goals as goal
 

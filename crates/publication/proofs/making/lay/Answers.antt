@@ -1,5 +1,5 @@
 use Rattle.std.proofs.Common.{rules, arith, ◌≡◌, ◌+◌, ◌∷◌, [], length}
-use Rattle.desk_rule.specs.declared.board.Slot.TheVariants as slot
+use Rattle.desk_invariant.specs.declared.board.Slot.TheVariants as slot
 use Rattle.publication.specs.Making.{rosters_of}
 use Rattle.publication.proofs.Growing.{cores_longer, nothing_more}
 use Rattle.publication.proofs.making.lay.Goals as goal

@@ -1,7 +1,7 @@
 use Rattle.std.proofs.Common.{◌≡◌, ℕ, ◌-◌, ◌<◌, ◌≤◌, length, vec_len, vec_capacity}
 use mathlib.Core.Option.{some}
 use lib.ListN.{get_elem?}
-use Rattle.desk_rule.specs.declared.board.Slot.TheVariants as slot
+use Rattle.desk_invariant.specs.declared.board.Slot.TheVariants as slot
 use Rattle.publication.specs.Making.{AreCores, rosters_of}
 use Rattle.publication.proofs.making.lay.Given as goal
 

@@ -1,6 +1,6 @@
 use Rattle.std.proofs.Common.{arith, ◌∷◌, ◌++◌, [], sym, ap, ◌∙◌}
 use Rattle.std.proofs.lemmas.List.{map-append}
-use Rattle.roster.specs.Calls.{WalkerSeen}
+use Rattle.publication_list.specs.Calls.{WalkerSeen}
 use Rattle.publication.specs.Making.{rosters_of}
 use Rattle.publication.proofs.Dealing.{room_left, one_dealt}
 use Rattle.publication.proofs.making.lists.Goals as goal

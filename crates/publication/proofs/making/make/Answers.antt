@@ -1,5 +1,5 @@
 use Rattle.std.proofs.Common.{arith, refl, ap, ◌∙◌}
-use Rattle.desk_rule.proofs.Beginnings.{making_keeps_rule, begin_keeps_rule}
+use Rattle.desk_invariant.proofs.Beginnings.{making_keeps_rule, begin_keeps_rule}
 use Rattle.publication.proofs.Dealing.{own_still, fresh_own}
 use Rattle.publication.proofs.NewClients.{begun_ok, entered}
 use Rattle.publication.proofs.making.make.Goals as goal

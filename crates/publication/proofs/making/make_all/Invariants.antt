@@ -1,5 +1,5 @@
 use Rattle.std.proofs.Common.{◌≡◌, ◌+◌, ◌≤◌, [], length, All, vec_len, vec_capacity}
-use Rattle.desk_rule.specs.Views.{maker_of}
+use Rattle.desk_invariant.specs.Views.{maker_of}
 use Rattle.publication.specs.Handles.{AllBegun}
 use Rattle.publication.specs.Making.{HasRoom, AreDealt}
 use Rattle.publication.proofs.making.make_all.Given as goal

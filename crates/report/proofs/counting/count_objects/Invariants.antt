@@ -1,5 +1,5 @@
 use Rattle.std.proofs.Common.{◌≤◌, take, is_some}
-use Rattle.numbers.specs.Lookup.{value_of}
+use Rattle.number_map.specs.Lookup.{value_of}
 use Rattle.report.specs.Invoked.{named, AreSeen}
 use Rattle.report.proofs.counting.count_objects.Given as goal
 

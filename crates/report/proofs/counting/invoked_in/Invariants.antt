@@ -1,5 +1,5 @@
 use Rattle.std.proofs.Common.{◌≡◌, ℕ, false, drop, reverse, unwrap_or}
-use Rattle.numbers.specs.Lookup.{value_of}
+use Rattle.number_map.specs.Lookup.{value_of}
 use Rattle.events.specs.Events.{next_event, fails}
 use Rattle.report.specs.Invoked.{invoked}
 use Rattle.report.proofs.counting.invoked_in.Given as goal

@@ -4,8 +4,8 @@ use Rattle.std.proofs.lemmas.List.Elements.{All-push}
 use Rattle.events.specs.Operations.{ObjectCalls}
 use Rattle.events.specs.Events.{IsNamed}
 use Rattle.certificate.specs.declared.Certificate.{Certificate}
-use Rattle.world.specs.Images.{entry_in}
-use Rattle.world.specs.Records.{order_of}
+use Rattle.desk_model.specs.Images.{entry_in}
+use Rattle.desk_model.specs.Records.{order_of}
 use Rattle.recorder.specs.Histories.{journals_in, logs_in}
 use Rattle.transcript.proofs.Certifying.{has_log, log_low, objects_more, name_of_item, names_rise, are_certificates}
 use Rattle.transcript.proofs.accounts.certificates.Goals as goal

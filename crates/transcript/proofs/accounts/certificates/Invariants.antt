@@ -1,5 +1,5 @@
 use Rattle.std.proofs.Common.{◌≡◌, map, take, All}
-use Rattle.world.specs.Records.{order_of}
+use Rattle.desk_model.specs.Records.{order_of}
 use Rattle.recorder.specs.Histories.{logs_in}
 use Rattle.transcript.proofs.accounts.certificates.Given as goal
 

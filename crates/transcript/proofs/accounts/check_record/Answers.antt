@@ -1,5 +1,5 @@
 use Rattle.std.proofs.Common.{◌≢◌, ℕ, List, Result, Ok, Err, IfErr, sym, subst}
-use Rattle.world.specs.World.{AnyEntry, AnyEvent}
+use Rattle.desk_model.specs.World.{AnyEntry, AnyEvent}
 use Rattle.events.specs.declared.event.Event.{Event}
 use Rattle.certificate.specs.declared.Certificate.{Certificate}
 use Rattle.checker.specs.declared.refusal.Refusal.{Refusal}

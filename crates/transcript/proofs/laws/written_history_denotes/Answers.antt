@@ -2,7 +2,7 @@ use Rattle.std.proofs.Common.{ℕ, ◌<◌, ◌≤◌, List, length, sym, subst,
 use Rattle.model.specs.declared.Kind.{Kind}
 use Rattle.model.proofs.Lists.{all_at, all_from_in}
 use Rattle.events.specs.declared.event.Event.{Event}
-use Rattle.fields.specs.Fields.{max_object}
+use Rattle.edn_fields.specs.Fields.{max_object}
 use Rattle.recorder.proofs.Making.{is_record}
 use Rattle.transcript.specs.Reading.{DenotesEvents, SoundWrittenDenotes, WrittenDenotes}
 use Rattle.transcript.proofs.ReadBack.{read_back}

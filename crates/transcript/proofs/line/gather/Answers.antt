@@ -1,5 +1,5 @@
 use Rattle.std.proofs.Common.{◌++◌, map, ap, ◌∙◌}
-use Rattle.world.specs.Images.{event_in}
+use Rattle.desk_model.specs.Images.{event_in}
 use Rattle.transcript.specs.Lines.{lines_of}
 use Rattle.transcript.proofs.Journals.{journal_more}
 use Rattle.transcript.proofs.Tickets.{all_lines, low_in}

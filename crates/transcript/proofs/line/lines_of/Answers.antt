@@ -1,7 +1,7 @@
 use Rattle.std.proofs.Common.{rules, ◌^◌, map, subst}
 use Rattle.std.specs.List.Sorted.{IsPermutation}
 use Rattle.std.proofs.lemmas.List.Sorted.{IsNonDecreasingBy-from_sort_by_key}
-use Rattle.world.specs.Images.{event_in}
+use Rattle.desk_model.specs.Images.{event_in}
 use Rattle.recorder.specs.Histories.{journals_in}
 use Rattle.transcript.proofs.Gathered as gathered
 use Rattle.transcript.proofs.Tickets.{journal_is}

@@ -1,5 +1,5 @@
 use Rattle.std.proofs.Common.{◌≡◌, ◌++◌, map, drop}
-use Rattle.world.specs.Images.{event_in}
+use Rattle.desk_model.specs.Images.{event_in}
 use Rattle.transcript.specs.Lines.{lines_from, lines_of}
 use Rattle.transcript.proofs.line.push_journal.Given as goal
 

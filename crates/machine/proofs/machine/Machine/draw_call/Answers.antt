@@ -2,7 +2,7 @@ use Rattle.std.proofs.Common.{◌+◌, refl, sym, ◌∙◌, ap}
 use Rattle.machine.specs.Machines.{State}
 use Rattle.std.proofs.Common.{◌++◌, ◌∷◌, [], set, get_or}
 use Rattle.recorder.specs.Records.{items_of}
-use Rattle.world.specs.declared.JournalEvent.TheVariants.{Invoked}
+use Rattle.desk_model.specs.declared.JournalEvent.TheVariants.{Invoked}
 use Rattle.machine.proofs.Trying.{no_memory}
 use Rattle.machine.proofs.Rows.{call_done, unticked}
 use Rattle.machine.proofs.machine.Machine.draw_call.Goals as goal

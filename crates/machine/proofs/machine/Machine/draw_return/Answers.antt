@@ -1,11 +1,11 @@
 use Rattle.std.proofs.Common.{◌≡◌, ◌+◌, refl, sym, subst, ◌∙◌, ap}
 use Rattle.machine.specs.Machines.{State, world_of, stage_of, stage_in}
 use Rattle.machine.specs.declared.step.Stage.TheVariants.{Taken}
-use Rattle.world.specs.Transitions.{draw_return}
+use Rattle.desk_model.specs.Transitions.{draw_return}
 use Rattle.machine.proofs.Kept.{going_of, not_of}
 use Rattle.std.proofs.Common.{◌++◌, ◌∷◌, [], set, get_or}
 use Rattle.recorder.specs.Records.{items_of}
-use Rattle.world.specs.declared.JournalEvent.TheVariants.{Returned}
+use Rattle.desk_model.specs.declared.JournalEvent.TheVariants.{Returned}
 use Rattle.machine.proofs.Trying.{no_memory}
 use Rattle.machine.proofs.Rows.{return_done, stage_found, return_not, unticked}
 use Rattle.machine.proofs.machine.Machine.draw_return.Goals as goal

@@ -1,5 +1,5 @@
 use Rattle.std.proofs.Common.{◌≡◌, ◌<◌, [], get_or, length, sym, subst, arith}
-use Rattle.world.specs.Images.{event_in}
+use Rattle.desk_model.specs.Images.{event_in}
 use Rattle.machine.specs.Machines.{State, clients_of}
 use Rattle.machine.proofs.Looks.{length_seen}
 use Rattle.machine.proofs.Rows.{journal_there}

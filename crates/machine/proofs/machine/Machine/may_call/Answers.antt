@@ -1,6 +1,6 @@
 use Rattle.std.proofs.Common.{◌≡◌, ◌*◌, [], None, get_or, length, ap, subst, arith}
 use Rattle.std.proofs.lemmas.Bool.Decides.{nat_tests}
-use Rattle.world.specs.World.{idle, calls_made}
+use Rattle.desk_model.specs.World.{idle, calls_made}
 use Rattle.machine.specs.Machines.{State, world_of}
 use Rattle.machine.proofs.Looks.{calls_half}
 use Rattle.machine.proofs.machine.Machine.may_call.Goals as goal

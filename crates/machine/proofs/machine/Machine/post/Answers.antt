@@ -1,5 +1,5 @@
 use Rattle.std.proofs.Common.{refl}
-use Rattle.world.specs.Transitions.{post}
+use Rattle.desk_model.specs.Transitions.{post}
 use Rattle.machine.proofs.Kept.{taken_of, not_of, going_of}
 use Rattle.machine.proofs.Rows.{post_taken, post_not}
 use Rattle.machine.proofs.machine.Machine.post.Goals as goal

@@ -1,7 +1,7 @@
 use Rattle.std.proofs.Common.{◌+◌, ◌∷◌, [], subst, arith}
 use Rattle.model.specs.declared.Kind.{Kind}
 use Rattle.std.proofs.Common.{List, ℕ}
-use Rattle.world.specs.Transitions.{Step}
+use Rattle.desk_model.specs.Transitions.{Step}
 use Rattle.machine.specs.Machines.{world_of}
 use Rattle.machine.specs.Runs.{TakesPossible}
 use Rattle.machine.specs.Steps.{step_in}

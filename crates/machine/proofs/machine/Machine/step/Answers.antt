@@ -1,5 +1,5 @@
 use Rattle.std.proofs.Common.{ap}
-use Rattle.world.specs.Transitions as world
+use Rattle.desk_model.specs.Transitions as world
 use Rattle.machine.specs.Steps.{step_in}
 use Rattle.machine.proofs.Trying.{not_now, tried_run}
 use Rattle.machine.proofs.machine.Machine.step.Goals as goal

@@ -1,5 +1,5 @@
 use Rattle.std.proofs.Common.{refl}
-use Rattle.world.specs.Transitions.{take}
+use Rattle.desk_model.specs.Transitions.{take}
 use Rattle.machine.proofs.Kept.{taken_of, not_of, going_of}
 use Rattle.machine.proofs.Rows.{take_taken, take_not}
 use Rattle.machine.proofs.machine.Machine.take.Goals as goal

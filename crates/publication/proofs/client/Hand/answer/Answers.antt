@@ -1,10 +1,10 @@
 use Rattle.std.proofs.Common.{map, ◌≡◌, ◌+◌, ◌-◌, ◌<◌, length, vec_len, vec_capacity, rules, arith, sym, ap, subst, ◌∙◌}
-use Rattle.world.specs.World.{logged}
-use Rattle.world.specs.Images.{answer_in}
-use Rattle.roster.specs.Calls.{PlaceSeen}
+use Rattle.desk_model.specs.World.{logged}
+use Rattle.desk_model.specs.Images.{answer_in}
+use Rattle.publication_list.specs.Calls.{PlaceSeen}
 use Rattle.publication.proofs.Dealing.{own_still}
 use Rattle.publication.specs.Handles.{Handling}
-use Rattle.desk_rule.proofs.Rows.{answer_keeps_rule}
+use Rattle.desk_invariant.proofs.Rows.{answer_keeps_rule}
 use Rattle.publication.proofs.Holds.{answer_ready, room_taken, core_grows, answered_ok}
 use Rattle.publication.proofs.Said.{may_serve, answered}
 use Rattle.publication.proofs.client.Hand.answer.Goals as goal

@@ -1,6 +1,6 @@
 use Rattle.std.proofs.Common.{sym, ◌∙◌}
 use Rattle.publication.proofs.Said.{can_says}
-use Rattle.world.proofs.SameKind.{kind_replayed}
+use Rattle.desk_model.proofs.SameKind.{kind_replayed}
 use Rattle.publication.proofs.client.Hand.possible.Goals as goal
 
 pub can_do-requires-after_bounds : goal.can_do-requires-after_bounds

@@ -1,6 +1,6 @@
 use Rattle.std.proofs.Common.{map, ◌≡◌, rules, arith, refl, sym, ap, ◌∙◌}
-use Rattle.roster.specs.Calls.{PlaceSeen}
-use Rattle.desk_rule.proofs.Rows.{put_back_keeps_rule}
+use Rattle.publication_list.specs.Calls.{PlaceSeen}
+use Rattle.desk_invariant.proofs.Rows.{put_back_keeps_rule}
 use Rattle.publication.proofs.Dealing.{own_still}
 use Rattle.publication.proofs.Holds.{back_ready, back_ok}
 use Rattle.publication.proofs.Said.{is_put_back}

@@ -1,9 +1,9 @@
 use Rattle.std.proofs.Common.{rules, map, ◌≡◌, ◌+◌, ◌-◌, ◌<◌, ◌++◌, length, vec_len, vec_capacity, refl, sym, ap, subst, ◌∙◌, arith}
-use Rattle.world.specs.World.{kind_at, calls_made, logged, IsLegal}
-use Rattle.roster.specs.Calls.{PlaceSeen}
-use Rattle.desk_rule.specs.Views.{own_request, is_waiting}
-use Rattle.desk_rule.proofs.Calls.{draws_holding}
-use Rattle.desk_rule.proofs.Performs.{perform_keeps_rule}
+use Rattle.desk_model.specs.World.{kind_at, calls_made, logged, IsLegal}
+use Rattle.publication_list.specs.Calls.{PlaceSeen}
+use Rattle.desk_invariant.specs.Views.{own_request, is_waiting}
+use Rattle.desk_invariant.proofs.Calls.{draws_holding}
+use Rattle.desk_invariant.proofs.Performs.{perform_keeps_rule}
 use Rattle.publication.specs.Handles.{Holding, IsPass, ArePlacesOf, log_of}
 use Rattle.publication.specs.Calls.{kind_in}
 use Rattle.publication.proofs.Dealing.{own_still}

@@ -1,7 +1,7 @@
 use Rattle.std.proofs.Common.{map, ◌≡◌, ◌+◌, rules, refl, sym, ap, ◌∙◌}
-use Rattle.roster.specs.Calls.{PlaceSeen}
-use Rattle.desk_rule.proofs.Locks.{held_object}
-use Rattle.desk_rule.proofs.Rows.{look_at_row_keeps_rule, pick_keeps_rule}
+use Rattle.publication_list.specs.Calls.{PlaceSeen}
+use Rattle.desk_invariant.proofs.Locks.{held_object}
+use Rattle.desk_invariant.proofs.Rows.{look_at_row_keeps_rule, pick_keeps_rule}
 use Rattle.publication.proofs.Dealing.{own_still}
 use Rattle.publication.proofs.Slots.{came_out, same_request, can_exchange}
 use Rattle.publication.proofs.Holds.{noted_ok, hand_ok}

@@ -1,7 +1,7 @@
 use Rattle.std.proofs.Common.{sym, ap, ◌∙◌}
 use Rattle.publication.specs.Calls.{kind_in}
 use Rattle.publication.proofs.Said.{pass_says}
-use Rattle.world.proofs.SameKind.{kind_replayed}
+use Rattle.desk_model.proofs.SameKind.{kind_replayed}
 use Rattle.publication.proofs.client.Pass.possible.Goals as goal
 
 pub can_do-requires-after_bounds : goal.can_do-requires-after_bounds

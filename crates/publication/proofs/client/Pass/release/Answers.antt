@@ -1,6 +1,6 @@
 use Rattle.std.proofs.Common.{map, ◌≡◌, rules, arith, sym, ap, ◌∙◌}
-use Rattle.roster.specs.Calls.{PlaceSeen}
-use Rattle.desk_rule.proofs.Locks.{release_keeps_rule}
+use Rattle.publication_list.specs.Calls.{PlaceSeen}
+use Rattle.desk_invariant.proofs.Locks.{release_keeps_rule}
 use Rattle.publication.proofs.Dealing.{own_still}
 use Rattle.publication.proofs.Holds.{release_ready, released_ok}
 use Rattle.publication.proofs.Said.{is_released, log_is_seen}

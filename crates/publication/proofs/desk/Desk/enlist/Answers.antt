@@ -1,5 +1,5 @@
 use Rattle.std.proofs.Common.{rules, arith, ◌<◌, List, length, map, sym, ap, subst, ◌∙◌}
-use Rattle.roster.specs.Calls.{PlaceSeen}
+use Rattle.publication_list.specs.Calls.{PlaceSeen}
 use Rattle.publication.specs.Handles.{Known, HasPlaceAt, ArePlacesOf, trying}
 use Rattle.publication.proofs.Dealing.{same_rosters, still_own, own_place}
 use Rattle.publication.proofs.desk.Desk.enlist.Goals as goal

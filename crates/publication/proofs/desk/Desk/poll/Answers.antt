@@ -1,10 +1,10 @@
 use Rattle.std.proofs.Common.{map, ◌≡◌, rules, arith, refl, ℕ, ◌+◌, ◌∷◌, ◌++◌, [], inr, sym, ap, ◌∙◌, subst}
-use Rattle.roster.specs.Calls.{PlaceSeen}
-use Rattle.desk_rule.specs.declared.board.View.{View}
-use Rattle.desk_rule.specs.Views.{row_place, after_miss}
-use Rattle.desk_rule.proofs.Calls.{look_for_answer_keeps_rule, take_keeps_rule, return_keeps_rule}
-use Rattle.world.specs.declared.JournalEvent.TheVariants.{Returned}
-use Rattle.world.specs.Images.{answer_in}
+use Rattle.publication_list.specs.Calls.{PlaceSeen}
+use Rattle.desk_invariant.specs.declared.board.DeskView.{DeskView}
+use Rattle.desk_invariant.specs.Views.{row_place, after_miss}
+use Rattle.desk_invariant.proofs.Calls.{look_for_answer_keeps_rule, take_keeps_rule, return_keeps_rule}
+use Rattle.desk_model.specs.declared.JournalEvent.TheVariants.{Returned}
+use Rattle.desk_model.specs.Images.{answer_in}
 use Rattle.publication.proofs.Dealing.{own_still}
 use Rattle.publication.specs.Calls.{Polled, NotPolled}
 use Rattle.publication.proofs.Slots.{can_exchange, came_out, same_answer}
@@ -34,7 +34,7 @@ invariant_of-client-then-found-ne-ANSWERED g c = let k = c.client.invariant.0 in
 pub returns-then-found-ne-ANSWERED-clause-missed : goal.returns-then-found-ne-ANSWERED-clause-missed
 returns-then-found-ne-ANSWERED-clause-missed g c = let k = c.client.invariant.0 in let o = own_waiting _ k.agrees.at_rest (sym k.agrees.outstanding_is ∙ c.if-not-member.false) in
     let t = (c.look_and_exchange-found.ensures.tried c.client.inside.member.number o.0 k.agrees.number_is refl o.1).1 (search rules) in
-    subst (λ (v : View). NotPolled v c.look_and_exchange-found.new.seat.me.0) (ap (λ v. v.knows) c.client.view_is) (inr (ap (λ z. z.0) t.0 ∙ ap (λ (n : ℕ). after_miss (row_place n) c.client.inside.member.seat.me.0) (sym k.agrees.number_is), t.1))
+    subst (λ (v : DeskView). NotPolled v c.look_and_exchange-found.new.seat.me.0) (ap (λ v. v.knows) c.client.view_is) (inr (ap (λ z. z.0) t.0 ∙ ap (λ (n : ℕ). after_miss (row_place n) c.client.inside.member.seat.me.0) (sym k.agrees.number_is), t.1))
 
 pub exchange-requires : goal.exchange-requires
 exchange-requires g c = let k = c.client.invariant.0 in let o = own_waiting _ k.agrees.at_rest (sym k.agrees.outstanding_is ∙ c.if-not-member.false) in

@@ -1,11 +1,11 @@
 use Rattle.std.proofs.Common.{map, rules, arith, ◌≡◌, ◌<◌, ◌+◌, ◌++◌, ◌∷◌, [], List, length, refl, sym, ap, ◌∙◌, subst}
 use Rattle.model.specs.declared.Kind.{Kind}
-use Rattle.world.specs.declared.JournalEvent.TheVariants.{Invoked}
-use Rattle.world.specs.World.{kind_at, calls_made}
-use Rattle.roster.specs.Calls.{PlaceSeen}
-use Rattle.desk_rule.specs.Views.{own_request, is_waiting}
+use Rattle.desk_model.specs.declared.JournalEvent.TheVariants.{Invoked}
+use Rattle.desk_model.specs.World.{kind_at, calls_made}
+use Rattle.publication_list.specs.Calls.{PlaceSeen}
+use Rattle.desk_invariant.specs.Views.{own_request, is_waiting}
 use Rattle.publication.specs.Handles.{Known}
-use Rattle.desk_rule.proofs.Calls.{draw_keeps_rule, post_keeps_rule}
+use Rattle.desk_invariant.proofs.Calls.{draw_keeps_rule, post_keeps_rule}
 use Rattle.publication.proofs.Dealing.{own_still}
 use Rattle.publication.proofs.Slots.{can_exchange}
 use Rattle.publication.proofs.Turns.{own_idle, outstanding_is, post_turn, post_ok, posted, room_to_call}

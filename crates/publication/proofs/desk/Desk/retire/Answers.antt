@@ -1,14 +1,14 @@
 use Rattle.std.proofs.Common.{rules, arith, ◌∷◌, [], sym, ap, subst, ◌∙◌}
-use Rattle.desk_rule.specs.declared.board.View.{View}
-use Rattle.desk_rule.specs.Views.{journal, end_notice, after_end, IsAtRest}
-use Rattle.desk_rule.proofs.Ends.{end_keeps_rule}
-use Rattle.desk_rule.proofs.Notices.{end_message_keeps_rule}
+use Rattle.desk_invariant.specs.declared.board.DeskView.{DeskView}
+use Rattle.desk_invariant.specs.Views.{journal, end_notice, after_end, IsAtRest}
+use Rattle.desk_invariant.proofs.Ends.{end_keeps_rule}
+use Rattle.desk_invariant.proofs.Notices.{end_message_keeps_rule}
 use Rattle.publication.proofs.desk.Desk.retire.Goals as goal
 
 pub store-requires : goal.store-requires
 store-requires g c = let d = c.self.invariant.0 in let wide = d.0 in let k = c.client.invariant.0 in let low = k.agrees.number_low in let e = c.exchange.ensures in let t = c.turn.ensures in
     let same = ap (λ m. m.0) e.3 ∙ ap (λ m. m.0) t.2 in
-    let calm = subst (λ (v : View). IsAtRest v.own) (sym same) k.agrees.at_rest in (
+    let calm = subst (λ (v : DeskView). IsAtRest v.own) (sym same) k.agrees.at_rest in (
       e.0 ∙ (t.0 ∙ (ap (λ k. k.desk.table) c.client.view_is ∙ (ap (λ s. s.table) c.requires ∙ sym (ap (λ s. s.id.table) c.self.view_is)))),
       omega arith,
       end_keeps_rule _ _ _ _ _ _ _ _ _ _ c.client.inside.member.journal _ (ap (λ v. v.role) same ∙ k.agrees.client_is) (ap (λ v. v.number) same ∙ k.agrees.number_is) calm (ap (λ v. v.held) same ∙ k.free)

@@ -1,5 +1,5 @@
 use Rattle.std.proofs.Common.{arith, sym, ap, subst, ◌∙◌}
-use Rattle.desk_rule.proofs.Notices.{notice_keeps_rule}
+use Rattle.desk_invariant.proofs.Notices.{notice_keeps_rule}
 use Rattle.publication.proofs.Dealing.{own_still}
 use Rattle.publication.specs.Handles.{IsClient}
 use Rattle.publication.proofs.Holds.{agrees_light}

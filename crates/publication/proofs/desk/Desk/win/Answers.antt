@@ -1,5 +1,5 @@
 use Rattle.std.proofs.Common.{rules, arith, ◌≡◌, ◌<◌, ℕ, ◌+◌, length, refl, sym, ap, ◌∙◌, subst}
-use Rattle.desk_rule.proofs.Locks.{look_at_lock_keeps_rule, win_keeps_rule}
+use Rattle.desk_invariant.proofs.Locks.{look_at_lock_keeps_rule, win_keeps_rule}
 use Rattle.publication.proofs.Dealing.{own_still}
 use Rattle.publication.proofs.Slots.{came_out, same_core, can_exchange}
 use Rattle.publication.proofs.Holds.{missed_ok, pass_ok}

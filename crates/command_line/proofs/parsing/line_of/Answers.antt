@@ -1,0 +1,14 @@
+use Rattle.std.proofs.Common.{rules, inl, inr}
+use Rattle.std.proofs.lemmas.Result.{IfErr-weaker}
+use Rattle.clap.specs.Words.{found_of, rows_of}
+use Rattle.command_line.proofs.parsing.line_of.Goals as goal
+
+pub returns-in-Some-subcommand_matches-2-clause-lacks : goal.returns-in-Some-subcommand_matches-2-clause-lacks
+returns-in-Some-subcommand_matches-2-clause-lacks c =
+    let rows = rows_of (found_of c.in-Some-subcommand_matches-2.search.now) in
+    IfErr-weaker c.search_found.result _ _ (λ f h other. let l = h other in inl (record { rows = rows; entered = search rules; none = l.1; refused = l.0 })) c.search_found.ensures.lacks
+
+pub returns-in-Some-subcommand_matches-4-clause-lacks : goal.returns-in-Some-subcommand_matches-4-clause-lacks
+returns-in-Some-subcommand_matches-4-clause-lacks c =
+    let rows = rows_of (found_of c.in-Some-subcommand_matches-4.judge.now) in
+    IfErr-weaker c.judge_found.result _ _ (λ f h other. let l = h other in inr (inr (inr (record { rows = rows; entered = search rules; none = l.1; refused = l.0 })))) c.judge_found.ensures.lacks

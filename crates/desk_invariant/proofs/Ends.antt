@@ -1,0 +1,130 @@
+-- The end of a client, and the sight of another's.
+use Rattle.std.proofs.Common.{◌≡◌, ◌≢◌, ℕ, ◌+◌, ◌<◌, Bool, true, false, List, ◌∷◌, map, length, get_or, set, Some, refl, sym, ap, ◌∙◌, subst, ◌⊎◌, ⊎_elim, arith}
+use mathlib.Core.Logic.{dite}
+use mathlib.Core.Option as maybe
+use native.Mathlib.Decide.{ℕ_discrete}
+use Rattle.std.proofs.lemmas.List.Elements.{All-push}
+use Rattle.atomic_table.specs.Table.{State, Me, step, keeps, gives, put_back, Allows}
+use Rattle.model.specs.declared.Kind.{Kind}
+use Rattle.model.specs.declared.AnyOp.{AnyOp}
+use Rattle.model.specs.declared.AnyReply.{AnyReply}
+use Rattle.model.specs.Objects.{Content}
+use Rattle.desk_invariant.specs.declared.board.Journal.{Journal}
+use Rattle.desk_invariant.specs.declared.board.Slot.{Slot}
+use Rattle.desk_invariant.specs.declared.board.Slot.TheVariants as slot
+use Rattle.desk_invariant.specs.declared.board.Own.{Own}
+use Rattle.desk_invariant.specs.declared.board.Own.TheVariants as own
+use Rattle.desk_invariant.specs.declared.board.Held.TheVariants as held
+use Rattle.desk_invariant.specs.declared.board.Role.TheVariants as role
+use Rattle.desk_invariant.specs.declared.board.DeskView.{DeskView}
+use Rattle.desk_model.specs.World.{AnyAnswer, Stage, absent, posted, picked, answered, World, request_of, journal_of}
+use Rattle.desk_model.specs.Transitions.{changed, ended_by}
+use Rattle.desk_model.specs.Images.{event_in}
+use Rattle.desk_model.proofs.Changed.{changed_here, changed_else, changed_all}
+use Rattle.desk_model.proofs.Entries.{starts_same}
+use Rattle.desk_model.proofs.Effects.{sound_ended}
+use Rattle.desk_invariant.specs.Views.{end_place, own_request, journal, IsAtRest, after_end, after_end_seen, after_end_unset}
+use Rattle.desk_invariant.specs.Rule.{end_word, OwnOk, HeldOk, SeatOk}
+use Rattle.desk_invariant.specs.Plays as play
+use Rattle.desk_invariant.proofs.Seats.{Later, alike, kept_after, seat_knowing, mine, unmoved, Rule}
+use Rattle.desk_invariant.proofs.Ties.{tied_end}
+
+still_ended : (w : World) (c d : ℕ) → w.ended d ≡ true → changed w.ended c true d ≡ true
+still_ended w c = changed_all (λ d b. w.ended d ≡ true → b ≡ true) w.ended c true (λ e. refl) (λ d _ e. e)
+
+later_ended : (w : World) (c d : ℕ) → d ≢ c → Later w (ended_by w c) d
+later_ended w c d other = record {
+  own = λ o e. e;
+  ready = λ q a e. e;
+  done = refl;
+  logs = λ y. starts_same (w.log y);
+  held = λ y g. (refl, refl, refl);
+  holds = λ y g. g;
+  picked = λ y j p g h e. e;
+  posted = λ j p g e. e;
+  ended = changed_else w.ended c true d other;
+}
+
+is_ended : (b : Bool) → end_word b ≡ 1 → b ≡ true
+is_ended true e = refl
+is_ended false e = absurd (omega arith)
+
+-- what a client knows of its call is what the stage says
+pub own_is : (o : Own) (t : Stage) → OwnOk o t → own_request o ≡ request_of t
+own_is own.Absent t is = ap request_of (sym is)
+own_is own.Idle t is = ap request_of (sym is)
+own_is (own.Drawn q) t is = ap request_of (sym is)
+own_is (own.Waiting q) t is = ⊎_elim (λ (e : t ≡ posted q). ap request_of (sym e)) (λ (f : (t ≡ picked q) ⊎ ((a : AnyAnswer) × (t ≡ answered q a))).
+    ⊎_elim (λ (e : t ≡ picked q). ap request_of (sym e)) (λ (e : (a : AnyAnswer) × (t ≡ answered q a)). ap request_of (sym e.1)) f) is
+own_is (own.Taken q a) t is = ap request_of (sym is)
+
+-- a client at rest has come
+has_come : (o : Own) (t : Stage) → IsAtRest o → OwnOk o t → t ≢ absent
+has_come own.Absent t calm is gone = absurd calm
+has_come own.Idle t calm is gone = let e = sym is ∙ gone in absurd (cc)
+has_come (own.Drawn q) t calm is gone = absurd calm
+has_come (own.Waiting q) t calm is gone = let e : Some q ≡ request_of absent = own_is (own.Waiting q) t is ∙ ap request_of gone in absurd (cc)
+has_come (own.Taken q a) t calm is gone = absurd calm
+
+module _ {S O R : Type 0} (content : S → Content) (op_in : O → AnyOp) (reply_in : R → AnyReply) (kinds : List Kind) (clients quota : ℕ) where
+  abbrev K : State (Slot S O R) DeskView → Type 0
+  K = Rule content op_in reply_in kinds clients quota
+
+  pub end_keeps_rule : (slots id c : ℕ) (m : Me (Slot S O R) DeskView) (j : Journal O R) (tl : List (ℕ × Slot S O R)) → m.0.role ≡ role.Client → m.0.number ≡ c → IsAtRest m.0.own → m.0.held ≡ held.Free
+      → map (event_in op_in reply_in) j.events.items ≡ journal m.0 → m.1 ≡ (48 + c, slot.Journal j) ∷ tl
+      → Allows K slots id m (end_place c) (λ _. 1) (λ _. play.ends content op_in reply_in (step slots (end_place c) 1 0 maybe.none) m 1)
+  end_keeps_rule slots id c m j tl cl number calm free says carried s k deep at small =
+      let w : World = k.world in let ok = subst (λ z. SeatOk kinds w z m.0) number (mine content op_in reply_in kinds clients quota s k id m.0 cl at) in let v' : DeskView = after_end m.0 in
+      let says' : map (event_in op_in reply_in) j.events.items ≡ journal_of (w.done c) (request_of (w.stage c)) = says ∙ λ i. journal_of (ok.done i) (own_is m.0.own (w.stage c) ok.own i) in (
+        v',
+        gives,
+        tt,
+        subst (λ cs. K record { words = set s.words (end_place c) 1; homes = put_back s.homes cs; views = set s.views id v' }) (sym carried) (kept_after content op_in reply_in kinds clients quota s k id m.0 v' at cl alike record {
+          world = ended_by w c;
+          holders = λ x d e. let b = k.holders x d e in (b.0, changed_else w.ended c true d (λ same. subst (HeldOk (length kinds) w c) free ok.held x (e ∙ ap Some same)) ∙ b.1);
+          come = k.come;
+          sound = sound_ended kinds quota w c k.sound;
+          tied = tied_end content op_in reply_in kinds k.lists w c j s.words s.homes ok.small (has_come m.0.own (w.stage c) calm ok.own) says' k.tied;
+          leave = λ d e. (still_ended w c d e, refl);
+          others = λ d other. later_ended w c d (λ e. other (e ∙ sym number));
+          own = subst (λ z. SeatOk kinds (ended_by w c) z v') (sym number) record {
+            number = ok.number;
+            small = ok.small;
+            kinds_are = ok.kinds_are;
+            done = ok.done;
+            own = ok.own;
+            ready = ok.ready;
+            wide_seen = ok.wide_seen;
+            seen = ok.seen;
+            covers = ok.covers;
+            held = ok.held;
+            ended = changed_here w.ended c true;
+            retired = λ i d l. still_ended w c (get_or m.0.retired i d) (ok.retired i d l);
+            back = ok.back;
+          };
+        }),
+        refl,
+      )
+
+  pub look_at_end_keeps_rule : (slots id d : ℕ) (m : Me (Slot S O R) DeskView) → m.0.role ≡ role.Client → d < 32
+      → Allows K slots id m (end_place d) (λ f. f) (play.sees_end content op_in reply_in (step slots (end_place d) 0 0 maybe.none) m)
+  look_at_end_keeps_rule slots id d m cl low s k deep at small =
+      let w : World = k.world in let ok = mine content op_in reply_in kinds clients quota s k id m.0 cl at in let word = k.tied.ends d low in dite (ℕ_discrete (get_or s.words (end_place d) 0) 1)
+      (λ hit. let is : w.ended d ≡ true = is_ended (w.ended d) (sym word ∙ hit) in (
+        after_end_seen d m.0,
+        keeps,
+        tt,
+        unmoved content op_in reply_in kinds clients quota s k (end_place d) id m.0 (after_end_seen d m.0) m.1 at cl
+            alike (seat_knowing ok.ready (All-push (λ e. w.ended e ≡ true) m.0.retired d ok.retired is) ok),
+        λ e same. let f : d ≡ e = omega arith in ((λ _. ap (λ z. (after_end_seen z m.0, m.1)) f), λ miss. absurd (miss hit)),
+      ))
+      (λ miss. (
+        after_end_unset d m.0,
+        keeps,
+        tt,
+        unmoved content op_in reply_in kinds clients quota s k (end_place d) id m.0 (after_end_unset d m.0) m.1 at cl alike (seat_knowing ok.ready ok.retired ok),
+        λ e same. let f : d ≡ e = omega arith in (
+          (λ hit. absurd (miss hit)),
+          λ _. (ap (λ z. (after_end_unset z m.0, m.1)) f, λ i z l g. miss (word ∙ ap end_word (ap w.ended (f ∙ sym g) ∙ ((k.seats id m.0 at).left i z l).0))),
+        ),
+      ))

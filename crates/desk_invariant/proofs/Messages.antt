@@ -1,0 +1,103 @@
+-- Views that are no client's and only carry what one client tells another: such a view comes, and is spent.
+use Rattle.std.proofs.Common.{◌≡◌, ◌≢◌, ℕ, List, [], ◌∷◌, ◌++◌, length, set, All, refl, sym, ap, ◌∙◌, subst, ◌⊎◌, ⊎_elim, inl, inr}
+use mathlib.Core.Option.{some}
+use lib.ListN.{get_elem?}
+use Rattle.std.proofs.lemmas.List.Elements.{All-nil}
+use Rattle.atomic_table.specs.Table.{State, Splits, Joins}
+use Rattle.atomic_table.specs.Seated.{TableId}
+use Rattle.atomic_table.proofs.Lists.{at_set, set_again, set_else}
+use Rattle.model.specs.declared.Kind.{Kind}
+use Rattle.model.specs.declared.AnyOp.{AnyOp}
+use Rattle.model.specs.declared.AnyReply.{AnyReply}
+use Rattle.model.specs.Objects.{Content}
+use Rattle.desk_invariant.specs.declared.board.Slot.{Slot}
+use Rattle.desk_invariant.specs.declared.board.Role.TheVariants as role
+use Rattle.desk_invariant.specs.declared.board.DeskView.{DeskView}
+use Rattle.desk_model.specs.World.{World, StartsWith}
+use Rattle.desk_invariant.specs.Views.{seen_of, received_of, empty_message}
+use Rattle.desk_invariant.specs.Rule.{HasLeft, ViewOk, Makers}
+use Rattle.desk_invariant.proofs.Seats.{makers_stay, Rule}
+use Rattle.desk_invariant.proofs.Beginnings.{get_or-replicate_same}
+use Rattle.publication_list.proofs.RosterMaking.{at_end}
+
+-- a list whose views are those of another list, and one that is no client's and no maker's
+makers_with : (clients : ℕ) (vs us : List DeskView) (b : DeskView) → b.role ≡ role.Message → ((a : ℕ) (z : DeskView) → get_elem? us a ≡ some z → (get_elem? vs a ≡ some z) ⊎ (b ≡ z)) → Makers clients vs → Makers clients us
+makers_with clients vs us b idle old k = record {
+  made = λ j v e is i u f. ⊎_elim (λ (p : get_elem? vs j ≡ some v). ⊎_elim (λ (q : get_elem? vs i ≡ some u). k.made j v p is i u q)
+      (λ (q : b ≡ u). ((λ tc. let h = sym idle ∙ (ap (λ z. z.role) q ∙ tc) in absurd (cc)), λ tm. let h = sym idle ∙ (ap (λ z. z.role) q ∙ tm) in absurd (cc))) (old i u f))
+      (λ (p : b ≡ v). let h = sym idle ∙ (ap (λ z. z.role) p ∙ is) in absurd (cc)) (old j v e);
+  numbers = λ j v e is. ⊎_elim (λ (p : get_elem? vs j ≡ some v). k.numbers j v p is) (λ (p : b ≡ v). let h = sym idle ∙ (ap (λ z. z.role) p ∙ is) in absurd (cc)) (old j v e);
+}
+
+pub makers_more : (clients : ℕ) (vs : List DeskView) (b : DeskView) → b.role ≡ role.Message → Makers clients vs → Makers clients (vs ++ b ∷ [])
+makers_more clients vs b idle = makers_with clients vs (vs ++ b ∷ []) b idle
+    (λ a z q. ⊎_elim (λ t. inl t) (λ (t : (a ≡ length vs) × (b ≡ z)). inr t.1) (at_end vs b z a q))
+
+pub makers_drop : (clients : ℕ) (vs : List DeskView) (id : ℕ) (b : DeskView) → b.role ≡ role.Message → Makers clients vs → Makers clients (set vs id b)
+makers_drop clients vs id b idle = makers_with clients vs (set vs id b) b idle
+    (λ a z q. ⊎_elim (λ (t : (a ≡ id) × (b ≡ z)). inr t.1) (λ (t : (a ≢ id) × (get_elem? vs a ≡ some z)). inl t.1) (at_set vs id a b z q))
+
+-- a view that is no client's and no maker's owes the truth of what it carries, and nothing more
+pub message_ok : (kinds : List Kind) (lists : List TableId) (w : World) (so : ℕ → ℕ) (j : ℕ) (v : DeskView) → v.role ≡ role.Message
+    → ((x : ℕ) → StartsWith (w.log x) (seen_of v x)) → ((x : ℕ) → StartsWith (w.log x) (received_of v x)) → All (HasLeft w) v.left → ViewOk kinds lists w so j v
+message_ok kinds lists w so j v none seen received left = record {
+  seen = seen;
+  received = received;
+  left = left;
+  client = λ f. let e = sym none ∙ f in absurd (cc);
+  unmade = λ f. let e = sym none ∙ f in absurd (cc);
+  maker_kinds = λ f. let e = sym none ∙ f in absurd (cc);
+  lists_are = λ f. let e = sym none ∙ f in absurd (cc);
+  maker_lists = λ f. let e = sym none ∙ f in absurd (cc);
+}
+
+-- nothing was seen, which each log begins with
+pub nothing_seen : (w : World) (x : ℕ) → StartsWith (w.log x) (seen_of empty_message x)
+nothing_seen w x = (w.log x, ap (λ z. z ++ w.log x) (sym (get_or-replicate_same [] 16 x)))
+
+empty_message_ok : (kinds : List Kind) (lists : List TableId) (w : World) (so : ℕ → ℕ) (j : ℕ) → ViewOk kinds lists w so j empty_message
+empty_message_ok kinds lists w so j = message_ok kinds lists w so j empty_message refl (nothing_seen w) (λ x. (w.log x, refl)) (All-nil (HasLeft w))
+
+module _ {S O R : Type 0} (content : S → Content) (op_in : O → AnyOp) (reply_in : R → AnyReply) (kinds : List Kind) (clients quota : ℕ) where
+  abbrev K : State (Slot S O R) DeskView → Type 0
+  K = Rule content op_in reply_in kinds clients quota
+
+  -- a message b more
+  pub sending_keeps_rule : (id : ℕ) (v b : DeskView) → b.role ≡ role.Message
+      → ((s : State (Slot S O R) DeskView) (k : K s) → get_elem? s.views id ≡ some v → (j : ℕ) → ViewOk kinds k.lists k.world k.seat_of j b) → Splits K id v v b
+  sending_keeps_rule id v b idle ok s k at = subst (λ (z : List DeskView). K record { words = s.words; homes = s.homes; views = z ++ b ∷ [] }) (sym (set_again s.views id v at)) record {
+    world = k.world;
+    seat_of = k.seat_of;
+    lists = k.lists;
+    few_calls = k.few_calls;
+    few_clients = k.few_clients;
+    holders = k.holders;
+    come = k.come;
+    sound = k.sound;
+    tied = k.tied;
+    seats = λ j u e. ⊎_elim (k.seats j u) (λ (t : (j ≡ length s.views) × (b ≡ u)). subst (λ z. ViewOk kinds k.lists k.world k.seat_of j z) t.1 (ok s k at j)) (at_end s.views b u j e);
+    makers = makers_more clients s.views b idle k.makers;
+  }
+
+  -- the view v takes in the message t, which is spent, and becomes v'
+  pub receiving_keeps_rule : (id : ℕ) (v v' : DeskView) (other : ℕ) (t : DeskView) → v'.role ≡ v.role → v'.number ≡ v.number → v'.made ≡ v.made
+      → ((s : State (Slot S O R) DeskView) (k : K s) → get_elem? s.views id ≡ some v → get_elem? s.views other ≡ some t → ViewOk kinds k.lists k.world k.seat_of id v') → Joins K id v other t v' empty_message
+  receiving_keeps_rule id v v' other t alike number made ok s k at apart there = let mid : List DeskView = set s.views id v' in record {
+    world = k.world;
+    seat_of = k.seat_of;
+    lists = k.lists;
+    few_calls = k.few_calls;
+    few_clients = k.few_clients;
+    holders = k.holders;
+    come = k.come;
+    sound = k.sound;
+    tied = k.tied;
+    seats = λ j u e. ⊎_elim
+        (λ (h : (j ≡ other) × (empty_message ≡ u)). subst (λ z. ViewOk kinds k.lists k.world k.seat_of j z) h.1 (empty_message_ok kinds k.lists k.world k.seat_of j))
+        (λ (h : (j ≢ other) × (get_elem? mid j ≡ some u)). ⊎_elim
+        (λ (g : (j ≡ id) × (v' ≡ u)). subst (λ (z : ℕ × DeskView). ViewOk kinds k.lists k.world k.seat_of z.0 z.1) (λ i. (sym g.0 i, g.1 i)) (ok s k at (sym (set_else s.views id other v' apart) ∙ there)))
+        (λ (g : (j ≢ id) × (get_elem? s.views j ≡ some u)). k.seats j u g.1)
+        (at_set s.views id j v' u h.1))
+        (at_set mid other j empty_message u e);
+    makers = makers_drop clients mid other empty_message refl (makers_stay clients s.views id v v' at alike number made k.makers);
+  }

@@ -1,0 +1,33 @@
+-- Each transition keeps the invariant.
+use Rattle.std.proofs.Common.{◌≡◌, ℕ, ◌<◌, List, Some, None, refl, sym, ap, subst, ◌∙◌}
+use Rattle.model.specs.declared.Kind.{Kind}
+use Rattle.model.specs.Objects.{empty}
+use Rattle.desk_model.specs.World.{AnyRequest, posted, picked, taken, World, kind_at, served_now, request_of}
+use Rattle.desk_model.specs.Transitions.{Step, draw_call, draw_return, post, win, pick, answer, put_back, take, release, end, Takes, Transition}
+use Rattle.desk_model.specs.Sound.{Sound}
+use Rattle.desk_model.proofs.Entries.{replays_more}
+use Rattle.desk_model.proofs.Effects.{sound_held, sound_ended, sound_staged, sound_called, sound_returned, sound_picked, sound_put_back, sound_served}
+
+module _ (kinds : List Kind) (quota : ℕ) where
+  abbrev S : World → Type 0
+  S = Sound kinds quota
+
+  -- the request in hand is for the object that is held
+  on_object : (w : World) (x r : ℕ) (q : AnyRequest) → w.hand x ≡ Some r → w.stage r ≡ picked q → S w → q.object ≡ x
+  on_object w x r q held is k = let b = k.in_hand x r held in let f : picked q ≡ picked b.0 = sym is ∙ b.1 in let same : q ≡ b.0 = cc in ap (λ z. z.object) same ∙ b.2
+
+  takes_sound : (s : Step) (w w' : World) (c : ℕ) → c < 32 → Takes kinds quota s w c w' → S w → S w'
+  takes_sound (draw_call x op) w w' c low t k = subst S (sym t.4) (sound_called kinds quota w c (record { object = x; ticket = w.clock; op = op }) low t.0 t.1 t.2 t.3 refl k)
+  takes_sound draw_return w w' c low t k = subst S (sym t.3) (sound_returned kinds quota w c w.clock t.0 t.1 low t.2 refl k)
+  takes_sound post w w' c low t k = subst S (sym t.2) (sound_staged kinds quota w c (posted t.0) (λ r e. let g = sym t.1 ∙ e in absurd (cc)) (λ r e. absurd (cc)) (ap request_of (sym t.1)) (λ e. absurd (cc)) (λ y. ap (served_now y c) (sym t.1)) k)
+  takes_sound (win x) w w' c low t k = subst S (sym t.3) (sound_held kinds quota w x (Some c) (λ e. absurd (cc)) k)
+  takes_sound (pick r) w w' c low t k = subst S (sym t.6) (sound_picked kinds quota w t.0 r c t.1 t.4 t.5 t.2 t.3 k)
+  takes_sound answer w w' c low t k = let x : ℕ = t.0 in let r : ℕ = t.1 in let q : AnyRequest = t.2 in let h = t.6 in let on = on_object w x r q h.1 h.2 k in
+      subst S (sym t.9) (sound_served kinds quota w x r c q t.5 h.2 on h.0 h.1 (t.4, replays_more (empty (kind_at kinds x)) t.3 t.4 (w.log x) r q t.5 h.3 t.8) k)
+  takes_sound put_back w w' c low t k = let h = t.4 in subst S (sym t.6) (sound_put_back kinds quota w t.0 t.1 c t.2 h.2 (on_object w t.0 t.1 t.2 h.1 h.2 k) h.0 h.1 k)
+  takes_sound take w w' c low t k = subst S (sym t.3) (sound_staged kinds quota w c (taken t.0 t.1) (λ r e. let g = sym t.2 ∙ e in absurd (cc)) (λ r e. absurd (cc)) (ap request_of (sym t.2)) (λ e. absurd (cc)) (λ y. ap (served_now y c) (sym t.2)) k)
+  takes_sound release w w' c low t k = subst S (sym t.3) (sound_held kinds quota w t.0 None (λ _. t.2) k)
+  takes_sound end w w' c low t k = subst S (sym t.2) (sound_ended kinds quota w c k)
+
+  pub transition_keeps_soundness : (s : Step) (w w' : World) (c : ℕ) → Transition kinds quota s w c w' → S w → S w'
+  transition_keeps_soundness s w w' c m k = takes_sound s w w' c m.0 m.3 k

@@ -1,0 +1,7 @@
+pub mod Finding
+pub mod Skipping
+pub mod Operating
+pub mod Shapes
+pub mod Seeking
+pub mod Truncation
+pub mod FirstFaults

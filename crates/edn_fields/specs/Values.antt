@@ -1,0 +1,66 @@
+-- The values that a map has for its keys, on a token buffer.
+use Rattle.std.specs.Prelude.{◌≡◌, pos, negsuc, ℕ, zero, suc, List, [], ◌∷◌, ◌++◌, Option, Some, None}
+use Rattle.edn.specs.Datum.{nil, boolean, integer, string, keyword, Datum, atom, vector, dictionary}
+use Rattle.edn.specs.Token.{Token, open_vector, close_vector, open_map, close_map, leaf, tokens_of}
+use Rattle.edn.specs.Pieces.{token_buffer_tokens}
+use Rattle.edn.specs.Shapes.{key_in}
+use Rattle.edn.specs.declared.Piece.{Piece}
+use Rattle.edn_fields.specs.Fields.{value_at}
+
+-- the token buffer begins with the value's tokens, or there is no value and it is empty
+abbrev pub IsValue : List Piece → Option Datum → Type 0
+IsValue ps None = ps ≡ []
+IsValue ps (Some d) = (ts : List Token) × (token_buffer_tokens ps ≡ tokens_of d ++ ts)
+
+-- the same of a key of a map
+abbrev pub IsValueIn : List Piece → List ℕ → Datum → Type 0
+IsValueIn ps k (atom a) = ⊥
+IsValueIn ps k (vector ds) = ⊥
+IsValueIn ps k (dictionary es) = IsValue ps (value_at k es)
+
+-- what follows so many closing brackets, but for those of what is opened here
+abbrev pub behind : ℕ → List Token → List Token
+behind zero ts = ts
+behind (suc n) [] = []
+behind (suc n) (open_vector ∷ ts) = behind (suc (suc n)) ts
+behind (suc n) (open_map ∷ ts) = behind (suc (suc n)) ts
+behind (suc n) (close_vector ∷ ts) = behind n ts
+behind (suc n) (close_map ∷ ts) = behind n ts
+behind (suc n) (leaf d ∷ ts) = behind (suc n) ts
+
+-- what follows the element at the front
+abbrev pub after_one : List Token → List Token
+after_one [] = []
+after_one (open_vector ∷ ts) = behind 1 ts
+after_one (open_map ∷ ts) = behind 1 ts
+after_one (close_vector ∷ ts) = ts
+after_one (close_map ∷ ts) = ts
+after_one (leaf d ∷ ts) = ts
+
+-- the number that a form is, which is not negative
+abbrev pub natural_of : Datum → Option ℕ
+natural_of (atom nil) = None
+natural_of (atom (boolean b)) = None
+natural_of (atom (integer (pos n))) = Some n
+natural_of (atom (integer (negsuc n))) = None
+natural_of (atom (string s)) = None
+natural_of (atom (keyword k)) = None
+natural_of (vector ds) = None
+natural_of (dictionary es) = None
+
+-- of a value whose tokens come first
+abbrev pub natural_first : List Token → Option ℕ
+natural_first [] = None
+natural_first (open_vector ∷ ts) = None
+natural_first (close_vector ∷ ts) = None
+natural_first (open_map ∷ ts) = None
+natural_first (close_map ∷ ts) = None
+natural_first (leaf d ∷ ts) = natural_of d
+
+abbrev pub keyword_first : List Token → Option (List ℕ)
+keyword_first [] = None
+keyword_first (open_vector ∷ ts) = None
+keyword_first (close_vector ∷ ts) = None
+keyword_first (open_map ∷ ts) = None
+keyword_first (close_map ∷ ts) = None
+keyword_first (leaf d ∷ ts) = key_in d

@@ -1,0 +1,82 @@
+//! The values that a map has for its keys, by their shapes.
+#![tactic(auto)]
+
+ghost use Rattle.std.specs.Prelude.{◌≡◌, ◌<◌, ◌^◌, option_map};
+ghost use Rattle.edn.specs.Truncation.{integer_in};
+ghost use Rattle.edn.specs.Datum.{entries_of};
+ghost use Rattle.edn.specs.Names.{name_bytes};
+ghost use Rattle.edn.specs.View.{view, pair_views};
+ghost use Rattle.edn_fields.specs.Fields as spec;
+
+mod operation;
+mod seek;
+mod values;
+
+use edn::{Form, Name};
+pub use operation::{OperationValues, values_of};
+pub use seek::value_on;
+pub use values::{keyword_at, natural_at};
+
+/// The greatest object number.
+pub const MAX_OBJECT: u64 = 65_535;
+
+/// Whether the bytes are the same.
+pub fn is_same(left: &[u8], right: &[u8]) -> bool
+    ensures { result ≡ spec.same_bytes left.now right.now }
+{
+    left == right
+}
+
+/// The value of a key, where the map has it.
+pub fn value_at<'a>(entries: &'a [(Name, Form)], key: &[u8]) -> Option<&'a Form>
+    ensures { option_map (λ f. view f.now) result
+        ≡ spec.value_at key.now (entries_of (pair_views entries.now)) }
+{
+    for entry in entries {
+        if is_same(key, entry.0.as_bytes()) {
+            return Some(&entry.1);
+        }
+    }
+    None
+}
+
+/// The integer, where the form is one.
+pub fn integer(form: &Form) -> Option<i64>
+    ensures { result ≡ integer_in (view form.now) }
+{
+    match form {
+        Form::Int(n) => Some(*n),
+        _ => None,
+    }
+}
+
+/// The number, where it is not negative.
+pub fn natural(value: Option<&Form>) -> Option<u64>
+    ensures { result ≡ spec.natural_in (option_map (λ f. view f.now) value.entry) }
+{
+    match value {
+        Some(Form::Int(n)) if *n >= 0 => Some(*n as u64),
+        _ => None,
+    }
+}
+
+/// The keyword without its colon.
+pub fn keyword<'a>(value: Option<&'a Form>) -> Option<&'a Name>
+    ensures { option_map (λ k. name_bytes k.now) result
+        ≡ spec.keyword_in (option_map (λ f. view f.now) value.entry) }
+{
+    match value {
+        Some(Form::Keyword(name)) => Some(name),
+        _ => None,
+    }
+}
+
+/// The number of an object.
+pub fn object(number: Option<u64>) -> Option<u32>
+    ensures { result ≡ spec.object_in number }
+{
+    match number {
+        Some(n) if n <= MAX_OBJECT => Some(n as u32),
+        _ => None,
+    }
+}

@@ -1,0 +1,107 @@
+//! The values of an operation map, where its tokens lie on a token buffer.
+
+ghost use Rattle.std.specs.Prelude.{◌≡◌, ◌++◌, ◌∷◌, [], ℕ, List, IfSome, IfNone};
+ghost use Rattle.edn.specs.Datum.{Datum, Entries, dictionary, entries_of};
+ghost use Rattle.edn.specs.Token.{Token, tokens_of, entries_tokens, close_map};
+ghost use Rattle.edn.specs.Pieces.{token_buffer_tokens};
+ghost use Rattle.edn_fields.specs.Fields.{value_at};
+ghost use Rattle.edn_fields.specs.Values.{IsValue};
+ghost use Rattle.edn_fields.specs.Operations.{HasValues, IsMapWith};
+
+use crate::is_same;
+use crate::seek::{behind_bracket, pair_at};
+use crate::values::after_value;
+use edn::Piece;
+
+/// The token buffer from each value on, which is empty where the map has no such key.
+#[derive(Clone, Copy)]
+pub struct OperationValues<'p, 'a> {
+    pub process: &'p [Piece<'a>],
+    pub map_type: &'p [Piece<'a>],
+    pub function: &'p [Piece<'a>],
+    pub object: &'p [Piece<'a>],
+    pub value: &'p [Piece<'a>],
+}
+
+/// The value that was found for the key, or this one, where it is the key's.
+#[inline]
+fn first_of<'p, 'a>(
+    found: &'p [Piece<'a>],
+    key: &[u8],
+    name: &[u8],
+    value: &'p [Piece<'a>],
+) -> &'p [Piece<'a>]
+    ensures { (before : List (List ℕ × Datum)) (d : Datum) (ts : List Token)
+        → IsValue found.entry.now (value_at key.now (entries_of before))
+        → token_buffer_tokens value.entry.now ≡ tokens_of d ++ ts
+        → IsValue result.now (value_at key.now (entries_of (before ++ (name.now, d) ∷ []))) }
+{
+    if !found.is_empty() {
+        return found;
+    }
+    if is_same(key, name) {
+        return value;
+    }
+    found
+}
+
+impl<'p, 'a> OperationValues<'p, 'a> {
+    /// No values. The token buffer is any.
+    fn none(pieces: &'p [Piece<'a>]) -> OperationValues<'p, 'a>
+        ensures { HasValues result (entries_of []) }
+    {
+        let empty = &pieces[..0];
+        OperationValues {
+            process: empty,
+            map_type: empty,
+            function: empty,
+            object: empty,
+            value: empty,
+        }
+    }
+
+    /// With one pair more.
+    #[inline]
+    fn with(self, name: &[u8], value: &'p [Piece<'a>]) -> OperationValues<'p, 'a>
+        ensures { (before : List (List ℕ × Datum)) (d : Datum) (ts : List Token)
+            → HasValues self.entry (entries_of before)
+            → token_buffer_tokens value.entry.now ≡ tokens_of d ++ ts
+            → HasValues result (entries_of (before ++ (name.now, d) ∷ [])) }
+    {
+        OperationValues {
+            process: first_of(self.process, b"process", name, value),
+            map_type: first_of(self.map_type, b"type", name, value),
+            function: first_of(self.function, b"f", name, value),
+            object: first_of(self.object, b"object", name, value),
+            value: first_of(self.value, b"value", name, value),
+        }
+    }
+}
+
+/// The values in a map, behind its bracket.
+fn values_in<'p, 'a>(inside: &'p [Piece<'a>]) -> OperationValues<'p, 'a>
+    ensures { (es : Entries) → token_buffer_tokens inside.entry.now ≡ entries_tokens es ++ close_map ∷ [] →
+        HasValues result es }
+{
+    let mut values = OperationValues::none(inside);
+    let mut rest = inside;
+    'pairs: while let Some((name, value)) = pair_at(rest) {
+        values = values.with(name.as_bytes(), value);
+        rest = after_value(value);
+    }
+    values
+}
+
+/// The values of the map whose tokens these are, if it is a map.
+pub fn values_of<'p, 'a>(pieces: &'p [Piece<'a>]) -> Option<OperationValues<'p, 'a>>
+    ensures map { IfSome result (λ v. (d : Datum) → token_buffer_tokens pieces.entry.now ≡ tokens_of d →
+        IsMapWith v d) }
+    ensures other { IfNone result ((es : Entries) →
+        token_buffer_tokens pieces.entry.now ≡ tokens_of (dictionary es) →
+        ⊥) }
+{
+    match behind_bracket(pieces) {
+        Some(inside) => Some(values_in(inside)),
+        None => None,
+    }
+}

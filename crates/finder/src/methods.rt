@@ -1,0 +1,80 @@
+//! The methods of looking for an order of the calls of an object.
+
+use crate::calls::{TimedCall, timed_calls};
+use crate::cells::cells_order;
+use crate::heap::heap_order;
+use crate::mutex::mutex_order;
+use crate::queue::queue_order;
+use crate::residences::residences_of;
+use crate::stack::stack_order;
+use events::{Invocation, ObjectHistory};
+use order_search::{Outcome, TryFirst, find_order};
+use seq_objects::Kind;
+use std::alloc::{AllocError, Global};
+
+/// A method of looking for an order.
+#[derive(Clone, Copy, Debug, PartialEq, Eq)]
+pub(crate) enum Method {
+    /// The one that is made for the kind of the object.
+    OfTheKind,
+    /// The bounded search, where there are few enough operations for it.
+    Search,
+}
+
+/// An order of the calls of a queue, stack or heap that may be valid.
+fn residences_order(
+    alloc: Global,
+    kind: Kind,
+    calls: &[TimedCall],
+) -> Result<Option<Vec<i64>>, AllocError> {
+    let Some(residences) = residences_of(alloc, calls)? else {
+        return Ok(None);
+    };
+    match kind {
+        Kind::Queue => queue_order(alloc, calls, residences),
+        Kind::Stack => stack_order(alloc, calls, residences),
+        Kind::Heap => heap_order(alloc, calls, residences),
+        _ => Ok(None),
+    }
+}
+
+/// An order of the calls that may be valid.
+fn order_of_kind(
+    alloc: Global,
+    kind: Kind,
+    operations: &[Invocation],
+) -> Result<Option<Vec<i64>>, AllocError> {
+    let calls = timed_calls(alloc, operations)?;
+    match kind {
+        Kind::Register | Kind::Map => cells_order(alloc, &calls),
+        Kind::Mutex => mutex_order(alloc, &calls),
+        Kind::Queue | Kind::Stack | Kind::Heap => residences_order(alloc, kind, &calls),
+    }
+}
+
+/// The most steps of the search among so many operations.
+fn most_steps(operations: usize) -> u64 {
+    20_000_u64.saturating_add((operations as u64).saturating_mul(20))
+}
+
+/// The order that the bounded search finds, if it finds one.
+fn searched_order(alloc: Global, history: &ObjectHistory) -> Result<Option<Vec<i64>>, AllocError> {
+    let limit = most_steps(history.ops().len());
+    match find_order(alloc, history, TryFirst::LeastReturn, limit).outcome {
+        Outcome::Found(order) => Ok(Some(order)),
+        Outcome::NoMemory => Err(AllocError),
+        Outcome::Impossible | Outcome::OutOfSteps | Outcome::TooLarge => Ok(None),
+    }
+}
+
+/// An order of the operations that may be valid, by one method.
+pub(crate) fn order_by(
+    alloc: Global,
+    method: Method,
+    history: &ObjectHistory,
+) -> Result<Option<Vec<i64>>, AllocError> {
+    match method {
+        Method::OfTheKind => order_of_kind(alloc, history.kind(), history.ops()),
+        Method::Search => searched_order(alloc, history),
+    }
+}

@@ -1,0 +1,9 @@
+-- What a map from numbers has for each number.
+use Rattle.std.specs.Prelude.{ℕ, nat_lt, Option, None, slice_index_or, if◌then◌else◌}
+use Rattle.std.specs.Ordering.{nat_cmp}
+use Rattle.std.specs.BTreeMap.{get}
+use Rattle.number_map.specs.declared.NumberMap.{NumberMap}
+
+-- the value of a key
+abbrev pub value_of : {V : Type 0} → NumberMap V → ℕ → Option V
+value_of m k = if nat_lt k 65536 then slice_index_or m.table.items k None else get nat_cmp m.others k

@@ -1,0 +1,33 @@
+-- What contracts see of a roster, of its places and of its walker.
+use Rattle.std.specs.Prelude.{◌≡◌, ℕ, ◌<◌, List, [], length}
+use mathlib.Core.Option.{some}
+use lib.ListN.{get_elem?}
+use Rattle.atomic_table.specs.Seated.{TableId}
+use Rattle.publication_list.specs.declared.board.Enlist.{Enlist}
+
+-- a roster: which it is, and how many rows have a place
+pub record RosterSeen : Type 0 where
+  pub id : TableId
+  pub rows : ℕ
+
+-- the place of a row
+pub record PlaceSeen : Type 0 where
+  pub roster : TableId
+  pub row : ℕ
+  -- what each try to enlist the row came to
+  pub tries : List Enlist
+
+-- the walker
+pub record WalkerSeen : Type 0 where
+  pub roster : TableId
+  -- how many rows have a place
+  pub places : ℕ
+  -- the rows of the last walk, less those unlinked since
+  pub rows : List ℕ
+  -- the whole list as each walk found it
+  pub walks : List (List ℕ)
+
+-- a place for each of n rows, in rising order, at which nothing was tried
+abbrev pub ArePlaces : TableId → ℕ → List PlaceSeen → Type 0
+ArePlaces id n places =
+    (length places ≡ n) × ((k : ℕ) → k < n → get_elem? places k ≡ some (record { roster = id; row = k; tries = [] }))

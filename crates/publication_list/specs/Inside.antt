@@ -1,0 +1,69 @@
+-- What holds of the fields of a place and of a walker, and in the middle of a walk.
+use Rattle.std.specs.Prelude.{◌≡◌, ℕ, ◌<◌, ◌≤◌, Bool, true, false, List, [], ◌∷◌, ◌++◌, length, slice_index, take, None, vec_capacity}
+use Rattle.std.specs.declared.vec.Vec.{Vec}
+use Rattle.atomic_table.specs.Table.{Me}
+use Rattle.publication_list.specs.declared.board.Enlist.{Enlist}
+use Rattle.publication_list.specs.declared.board.Enlist.TheVariants.{Already, Listed, Missed}
+use Rattle.publication_list.specs.declared.board.RowKnowledge.{RowKnowledge}
+use Rattle.publication_list.specs.declared.board.RowKnowledge.TheVariants as own
+use Rattle.publication_list.specs.declared.board.ListView.{ListView}
+use Rattle.publication_list.specs.declared.board.ListView.TheVariants as view
+use Rattle.publication_list.specs.PublicationList.{WalkMeets, word_at}
+
+-- what a place has tried
+abbrev pub tries_of : ListView → List Enlist
+tries_of (view.Place row o tries) = tries
+tries_of v = []
+
+-- a row is between two tries to enlist it where its owner has woken it
+abbrev pub OwnAtRest : Bool → RowKnowledge → Type 0
+OwnAtRest false o = o ≡ own.Unknown
+OwnAtRest true o = (n : ℕ) × (o ≡ own.Awake n)
+
+abbrev pub IsPlace : {S : Type 0} → ℕ → Bool → List Enlist → Me S ListView → Type 0
+IsPlace row trying tries me = (row < 32) × ((o : RowKnowledge) × (me ≡ (view.Place row o tries, [])) × OwnAtRest trying o)
+
+-- where the row was not asleep, the try is over
+abbrev pub after_look : Bool → List Enlist → List Enlist
+after_look true tries = tries
+after_look false tries = tries ++ Already ∷ []
+
+abbrev pub is_missed : Enlist → Bool
+is_missed Already = false
+is_missed Listed = false
+is_missed Missed = true
+
+-- what the walker's view has of the list
+abbrev pub left_of : ListView → List ℕ
+left_of (view.Walker made left out walks) = left
+left_of v = []
+
+abbrev pub made_of : ListView → ℕ
+made_of (view.Walker made left out walks) = made
+made_of v = 0
+
+abbrev pub walks_of : ListView → List (List ℕ)
+walks_of (view.Walker made left out walks) = walks
+walks_of v = []
+
+-- the walker has met these rows, and has marked all that it has taken out
+abbrev pub HasMet : {S : Type 0} → List ℕ → List (List ℕ) → Me S ListView → Type 0
+HasMet rows walks me = me ≡ (view.Walker (made_of me.0) rows None walks, [])
+
+-- In a walk these rows were met so far, where the last one left `left`, and the word `at` leads on.
+pub record Meeting {S : Type 0} (left : List ℕ) (walks : List (List ℕ)) (places : ℕ) (rows : List ℕ) (at : ℕ) (me : Me S ListView) : Type 0 where
+  pub met : HasMet (left_of me.0) (walks ++ left_of me.0 ∷ []) me
+  pub made : made_of me.0 ≡ places
+  pub walk : WalkMeets left (left_of me.0)
+  pub low : (k : ℕ) → k < length (left_of me.0) → slice_index (left_of me.0) k < places
+  pub few : length (left_of me.0) ≤ places
+  pub so_far : rows ≡ take (length rows) (left_of me.0)
+  pub within : length rows ≤ length (left_of me.0)
+  pub at_is : at ≡ word_at (left_of me.0) (length rows)
+
+pub record IsWalker {S Z : Type 0} (places : ℕ) (rows : Vec ℕ Z) (walks : List (List ℕ)) (me : Me S ListView) : Type 0 where
+  pub within : length rows.items ≤ places
+  pub met : me ≡ (view.Walker places rows.items None walks, [])
+  pub few : places ≤ 32
+  pub room : places ≤ vec_capacity rows
+  pub low : (k : ℕ) → k < length rows.items → slice_index rows.items k < places

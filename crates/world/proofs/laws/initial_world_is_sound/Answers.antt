@@ -1,5 +1,0 @@
-use Rattle.world.proofs.Initial.{sound_initial}
-use Rattle.world.proofs.laws.initial_world_is_sound.Goals as goal
-
-pub returns : goal.returns
-returns g = sound_initial

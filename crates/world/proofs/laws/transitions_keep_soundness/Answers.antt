@@ -1,5 +1,0 @@
-use Rattle.world.proofs.Transitions.{transition_keeps_soundness}
-use Rattle.world.proofs.laws.transitions_keep_soundness.Goals as goal
-
-pub returns : goal.returns
-returns g = transition_keeps_soundness
