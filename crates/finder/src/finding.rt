@@ -4,7 +4,7 @@ ghost use Rattle.std.specs.Prelude.{◌≡◌, IfOk, IfSome};
 ghost use Rattle.events.specs.Operations.{calls_of};
 ghost use Rattle.finder.specs.Finds.{IfOrder, IsFor};
 
-use crate::methods::{Method, order_by};
+use candidate_orders::{Method, order_by};
 use certificate::Certificate;
 use checker::{Refusal, check_object};
 use events::ObjectHistory;

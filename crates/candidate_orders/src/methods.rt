@@ -14,7 +14,7 @@ use std::alloc::{AllocError, Global};
 
 /// A method of looking for an order.
 #[derive(Clone, Copy, Debug, PartialEq, Eq)]
-pub(crate) enum Method {
+pub enum Method {
     /// The one that is made for the kind of the object.
     OfTheKind,
     /// The bounded search, where there are few enough operations for it.
@@ -67,8 +67,8 @@ fn searched_order(alloc: Global, history: &ObjectHistory) -> Result<Option<Vec<i
     }
 }
 
-/// An order of the operations that may be valid, by one method.
-pub(crate) fn order_by(
+/// An order of the operations that may be valid, by one method. Nothing is promised of it: `finder` checks it.
+pub fn order_by(
     alloc: Global,
     method: Method,
     history: &ObjectHistory,
