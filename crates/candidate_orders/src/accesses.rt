@@ -1,5 +1,6 @@
-//! What each call of a register or map asks of one cell, and what it leaves there. A register is one cell, and a map has one for
-//! each key. A cell holds a value or nothing, and is empty at first.
+//! What each call of a register or map asks of one cell, and what it leaves there. A register is
+//! one cell, and a map has one for each key. A cell holds a value or nothing, and is empty at
+//! first.
 
 use crate::calls::{PENDING, TimedCall};
 use seq_objects::{AnyOp, AnyReply};
@@ -56,7 +57,8 @@ pub(crate) struct Access {
     pub(crate) sets: Option<usize>,
 }
 
-/// The calls on one cell, in the order of their invocations, and how many values there are, nothing too.
+/// The calls on one cell, in the order of their invocations, and how many values there are, nothing
+/// too.
 #[derive(Debug, Drop)]
 pub(crate) struct CellCalls {
     pub(crate) accesses: Vec<Access>,
@@ -87,8 +89,8 @@ impl Numbers {
     }
 }
 
-/// The access that has this effect. What sets the value that it asks for sets nothing; what sets nothing and is pending need not
-/// have happened.
+/// The access that has this effect. What sets the value that it asks for sets nothing; what sets
+/// nothing and is pending need not have happened.
 fn access_of(
     numbers: &mut Numbers,
     call: &TimedCall,

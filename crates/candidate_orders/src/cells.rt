@@ -1,4 +1,5 @@
-//! Registers and maps, where each value is set once at most in each cell: the orders of the cells, merged by gaps.
+//! Registers and maps, where each value is set once at most in each cell: the orders of the cells,
+//! merged by gaps.
 
 use crate::accesses::{CellCalls, cells_of};
 use crate::calls::TimedCall;

@@ -1,16 +1,17 @@
 //! Heaps in which each value comes once.
 //!
-//! Values are placed from the least up. An extract takes the first gap of its time, behind the begin of its insert, in which no
-//! lesser value surely is in the heap; an insert goes as late as its return and that extract allow. That a heap of
-//! such calls has a valid order only where this finds a gap for each is not proved.
+//! Values are placed from the least up. An extract takes the first gap of its time, behind the
+//! begin of its insert, in which no lesser value surely is in the heap; an insert goes as late as
+//! its return and that extract allow. That a heap of such calls has a valid order only where this
+//! finds a gap for each is not proved.
 
 use crate::calls::{PENDING, TimedCall, moment_count};
 use crate::gaps::Gaps;
 use crate::residences::{Residence, Residences};
 use std::alloc::{AllocError, Global};
 
-/// What comes first in one gap: extracts by rising value, each behind its insert where that is in the same gap, then calls that
-/// find nothing, then inserts of what is extracted later.
+/// What comes first in one gap: extracts by rising value, each behind its insert where that is in
+/// the same gap, then calls that find nothing, then inserts of what is extracted later.
 #[derive(Clone, Copy, PartialEq, Eq, PartialOrd, Ord, Debug)]
 enum Phase {
     Extracts,
@@ -118,8 +119,9 @@ fn place_all(
     Ok(true)
 }
 
-/// Gives removals that are pending to the values that nobody is known to take and that must be gone: a greater one is extracted, or
-/// nothing is found, by a call that begins when their insert has returned.
+/// Gives removals that are pending to the values that nobody is known to take and that must be
+/// gone: a greater one is extracted, or nothing is found, by a call that begins when their insert
+/// has returned.
 fn give_removals(alloc: Global, residences: &mut Residences) -> Result<(), AllocError> {
     let mut latest = residences.last_empty();
     let mut needed = Vec::new(alloc);

@@ -1,8 +1,9 @@
-//! Orders of an object's calls that may be valid, each looked for by a method that is made for its kind. No contract says that one is: `finder`
-//! checks each before it hands it out.
+//! Orders of an object's calls that may be valid, each looked for by a method that is made for its
+//! kind. No contract says that one is: `finder` checks each before it hands it out.
 //!
-//! The methods are made to find an order of a queue, stack, heap, register or map in which each value is put in once, and of any mutex, in
-//! some n log n steps of n calls. They do not find each: a pending call may be needed, or values may come more than once.
+//! The methods are made to find an order of a queue, stack, heap, register or map in which each
+//! value is put in once, and of any mutex, in some n log n steps of n calls. They do not find each:
+//! a pending call may be needed, or values may come more than once.
 #![tactic(auto)]
 
 mod accesses;

@@ -1,5 +1,5 @@
-//! How the calls of one cell follow one another, where each value is set once at most: which call sets a value, which see it,
-//! and which takes it away and sets the next.
+//! How the calls of one cell follow one another, where each value is set once at most: which call
+//! sets a value, which see it, and which takes it away and sets the next.
 
 use crate::accesses::{Access, CellCalls, NOTHING, Need};
 use crate::calls::PENDING;
@@ -41,7 +41,8 @@ fn returned(alloc: Global, accesses: &[Access]) -> Result<Vec<usize>, AllocError
     Ok(places)
 }
 
-/// The calls that have happened: those that returned, and those that set what such a call needs. None where nothing sets that.
+/// The calls that have happened: those that returned, and those that set what such a call needs.
+/// None where nothing sets that.
 fn happened(
     alloc: Global,
     accesses: &[Access],
@@ -142,8 +143,8 @@ fn linked(
     Ok(Some(links))
 }
 
-/// How the calls of a cell that have happened follow one another; none where two set, or take away, the same value, or nothing
-/// sets one that is there.
+/// How the calls of a cell that have happened follow one another; none where two set, or take away,
+/// the same value, or nothing sets one that is there.
 pub(crate) fn links_of(alloc: Global, cell: &CellCalls) -> Result<Option<Links>, AllocError> {
     let accesses = cell.accesses.as_slice();
     let Some(setters) = setters_of(alloc, accesses, cell.values)? else {

@@ -1,5 +1,6 @@
-//! Mutexes. A call is placed when it returns, or when one that returns needs it: then, of all calls of its kind that are
-//! running, the one that returns first. All acquires are alike, and so are all releases, so nothing better can be chosen.
+//! Mutexes. A call is placed when it returns, or when one that returns needs it: then, of all calls
+//! of its kind that are running, the one that returns first. All acquires are alike, and so are all
+//! releases, so nothing better can be chosen.
 
 use crate::calls::{TimedCall, moments_of};
 use seq_objects::AnyOp;

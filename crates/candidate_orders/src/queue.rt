@@ -1,9 +1,11 @@
 //! Queues in which each value comes once.
 //!
-//! A call that finds nothing stands in a gap in which no value surely is in the queue, and cuts the values in two: those that can
-//! have come and gone before it, and the others. Values leave in the order in which they come, so a value goes before another where
-//! its enqueue or its dequeue returns before that of the other begins; a queue of such calls has a valid order only where that
-//! leads nowhere back to itself (Henzinger, Sezgin, Vafeiadis, CONCUR 2013), which is not proved here.
+//! A call that finds nothing stands in a gap in which no value surely is in the queue, and cuts the
+//! values in two: those that can have come and gone before it, and the others. Values leave in the
+//! order in which they come, so a value goes before another where its enqueue or its dequeue
+//! returns before that of the other begins; a queue of such calls has a valid order only where that
+//! leads nowhere back to itself (Henzinger, Sezgin, Vafeiadis, CONCUR 2013), which is not proved
+//! here.
 
 use crate::calls::{TimedCall, moment_count};
 use crate::gaps::Gaps;
@@ -79,7 +81,8 @@ fn row_of(cuts: &[Cut], residence: Residence) -> Row {
     row
 }
 
-/// What is left to be lined up: for each value how many of its two calls wait for others, and whether it is lined up.
+/// What is left to be lined up: for each value how many of its two calls wait for others, and
+/// whether it is lined up.
 #[derive(Clone, Copy, Debug)]
 struct Waiting {
     calls: u8,
@@ -129,7 +132,8 @@ impl Front {
         Some(place)
     }
 
-    /// Notes the values whose time is at most this: one of their two calls waits no more. Those that wait no more are ready.
+    /// Notes the values whose time is at most this: one of their two calls waits no more. Those
+    /// that wait no more are ready.
     fn admit_all(
         &mut self,
         most: u32,
@@ -271,8 +275,9 @@ fn add_cuts(steps: &mut Vec<Step>, cuts: &[Cut]) -> Result<(), AllocError> {
     Ok(())
 }
 
-/// Gives removals that are pending to the values that nobody is known to take and that must be gone: their put returned before
-/// another that is taken was put, or before a call that finds nothing.
+/// Gives removals that are pending to the values that nobody is known to take and that must be
+/// gone: their put returned before another that is taken was put, or before a call that finds
+/// nothing.
 fn give_removals(alloc: Global, residences: &mut Residences) -> Result<(), AllocError> {
     let mut latest = residences.last_empty();
     for residence in &residences.residences {

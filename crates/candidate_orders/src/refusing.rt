@@ -107,7 +107,8 @@ fn spot_for(spots: &[Spot], access: &Access, value: usize, floor: usize) -> Opti
     }
 }
 
-/// The spots of the calls with their places, in rising order of the spots; none where one has no spot.
+/// The spots of the calls with their places, in rising order of the spots; none where one has no
+/// spot.
 fn spots_for(
     alloc: Global,
     accesses: &[Access],

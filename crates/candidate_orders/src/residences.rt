@@ -1,5 +1,6 @@
-//! How long each value is in a queue, stack or heap. Where a value comes more than once, its puts and removals are paired in the
-//! order of their begins, and each pair counts as a value of its own.
+//! How long each value is in a queue, stack or heap. Where a value comes more than once, its puts
+//! and removals are paired in the order of their begins, and each pair counts as a value of its
+//! own.
 
 use crate::calls::{PENDING, TimedCall};
 use seq_objects::{AnyOp, AnyReply};
@@ -17,7 +18,8 @@ pub(crate) struct Residence {
 }
 
 impl Residence {
-    /// The first gap in which the value surely is in the object, if it surely is in any: the put has returned, or the removal has.
+    /// The first gap in which the value surely is in the object, if it surely is in any: the put
+    /// has returned, or the removal has.
     pub(crate) fn surely_from(&self) -> u32 {
         self.put.end.min(self.taken_by())
     }
@@ -77,7 +79,8 @@ pub(crate) struct Residences {
     pub(crate) unknown: Vec<TimedCall>,
 }
 
-/// Values that are paired with their puts and removals, in rising value: those of one value in the order of their begins.
+/// Values that are paired with their puts and removals, in rising value: those of one value in the
+/// order of their begins.
 #[derive(Debug, Drop)]
 struct Pairing {
     residences: Vec<Residence>,
@@ -86,7 +89,8 @@ struct Pairing {
 }
 
 impl Pairing {
-    /// Adds a put, or a removal to the first put of its value that has none. False where there is none.
+    /// Adds a put, or a removal to the first put of its value that has none. False where there is
+    /// none.
     fn add(&mut self, touch: &Touch) -> Result<bool, AllocError> {
         let value = touch.value;
         if touch.takes {
@@ -176,8 +180,8 @@ impl Residences {
         latest
     }
 
-    /// The values that nobody is known to take and whose put returned before the moment that is told of each. With each the
-    /// moment of that return.
+    /// The values that nobody is known to take and whose put returned before the moment that is
+    /// told of each. With each the moment of that return.
     pub(crate) fn left_before<F: Fn(&Residence) -> u32>(
         &self,
         alloc: Global,
@@ -194,7 +198,8 @@ impl Residences {
         Ok(left)
     }
 
-    /// Gives removals that are pending to these values, of which each has its moment: the least moment and the first removal first.
+    /// Gives removals that are pending to these values, of which each has its moment: the least
+    /// moment and the first removal first.
     pub(crate) fn give(&mut self, mut needed: Vec<(u32, usize)>) {
         needed.sort_unstable();
         for ((_, place), call) in needed.iter().zip(self.unknown.iter()) {

@@ -1,9 +1,10 @@
-//! The order of one cell's calls, where each value is set once at most (Gibbons and Korach, "Testing shared memories", SIAM Journal
-//! on Computing 1997).
+//! The order of one cell's calls, where each value is set once at most (Gibbons and Korach,
+//! "Testing shared memories", SIAM Journal on Computing 1997).
 //!
-//! The calls fall into runs: one that sets a value, those that see it, then the one that takes it away and sets the next, and so on.
-//! The zone of a run lies between the first return and the last begin of its calls. Where the return comes first, the cell is in
-//! that run's hands over the whole zone, so such zones may not overlap; another run stands at one gap, outside of these zones.
+//! The calls fall into runs: one that sets a value, those that see it, then the one that takes it
+//! away and sets the next, and so on. The zone of a run lies between the first return and the last
+//! begin of its calls. Where the return comes first, the cell is in that run's hands over the whole
+//! zone, so such zones may not overlap; another run stands at one gap, outside of these zones.
 
 use crate::accesses::{Access, NOTHING};
 use crate::calls::PENDING;
@@ -93,7 +94,8 @@ fn single(alloc: Global, place: usize) -> Result<Vec<usize>, AllocError> {
     Ok(places)
 }
 
-/// The calls that see that the cell is empty: each may stand between two runs where runs empty it, and else they come first.
+/// The calls that see that the cell is empty: each may stand between two runs where runs empty it,
+/// and else they come first.
 fn add_empties(
     alloc: Global,
     links: &Links,
@@ -153,7 +155,8 @@ fn zones_of(alloc: Global, runs: &[Run]) -> Result<Vec<Zone>, AllocError> {
     Ok(zones)
 }
 
-/// The gap at which a run stands that holds the cell over no zone; none where a zone of another is in the way.
+/// The gap at which a run stands that holds the cell over no zone; none where a zone of another is
+/// in the way.
 fn gap_outside(zones: &[Zone], run: &Run) -> Option<i64> {
     let at = zones.partition_point(|zone| zone.from < run.last_begin);
     let before = at.checked_sub(1).and_then(|last| zones.get(last));
@@ -165,7 +168,8 @@ fn gap_outside(zones: &[Zone], run: &Run) -> Option<i64> {
     }
 }
 
-/// The runs in order: their gaps, runs without a zone first, and their places. None where a zone is in the way of a run.
+/// The runs in order: their gaps, runs without a zone first, and their places. None where a zone is
+/// in the way of a run.
 fn placed_runs(alloc: Global, runs: &[Run]) -> Result<Option<Vec<(i64, bool, usize)>>, AllocError> {
     let zones = zones_of(alloc, runs)?;
     let mut placed = Vec::new(alloc);

@@ -1,9 +1,10 @@
 //! Stacks in which each value comes once.
 //!
-//! A value whose put and removal overlap is put and taken in one gap, anywhere. The others surely are in the stack for a while, and
-//! are cut where none of them surely is: what is behind the cut can stand behind all that is before it. Where there is no such gap
-//! one value lies below all others, and any that can be put before them all and taken behind them all may be that one. That a stack
-//! of such calls has a valid order only where this finds one is not proved.
+//! A value whose put and removal overlap is put and taken in one gap, anywhere. The others surely
+//! are in the stack for a while, and are cut where none of them surely is: what is behind the cut
+//! can stand behind all that is before it. Where there is no such gap one value lies below all
+//! others, and any that can be put before them all and taken behind them all may be that one. That
+//! a stack of such calls has a valid order only where this finds one is not proved.
 
 use crate::calls::{TimedCall, moment_count};
 use crate::gaps::Gaps;
@@ -28,7 +29,8 @@ struct Turn {
     from: u32,
 }
 
-/// The values that surely are in the stack for a while, by the gap from which on they are, and what is left of them.
+/// The values that surely are in the stack for a while, by the gap from which on they are, and what
+/// is left of them.
 #[derive(Debug, Drop)]
 struct Values {
     residences: Vec<Residence>,
@@ -40,12 +42,14 @@ struct Values {
     cover: Counts,
     /// For each value that is left the gap up to which it surely is in the stack, negated.
     last: Least,
-    /// When it can be put, for values that are not known to be possible below the others, and when taken, negated.
+    /// When it can be put, for values that are not known to be possible below the others, and when
+    /// taken, negated.
     lowest_put: Least,
     lowest_take: Least,
     /// 0 for values that can be put before all others that are left, and taken behind them.
     lowest: Least,
-    /// For each value how many of the two are known: that it can be put before the others, and taken behind them.
+    /// For each value how many of the two are known: that it can be put before the others, and
+    /// taken behind them.
     known: Vec<u8>,
 }
 
@@ -74,7 +78,8 @@ fn numbers_of<F: Fn(&Residence) -> i64>(
 }
 
 impl Values {
-    /// The values, which come in rising order of the gap from which on they surely are in the stack.
+    /// The values, which come in rising order of the gap from which on they surely are in the
+    /// stack.
     fn new(alloc: Global, residences: Vec<Residence>, end: u32) -> Result<Values, AllocError> {
         let mut cover = Counts::new(alloc, (end as usize).saturating_add(1))?;
         for residence in &residences {
@@ -171,7 +176,8 @@ impl Ordering {
             .partition_point(|residence| residence.surely_from() <= gap)
     }
 
-    /// Plans the values between the calls that find nothing, and these calls. False where one has no gap.
+    /// Plans the values between the calls that find nothing, and these calls. False where one has
+    /// no gap.
     fn plan(&mut self, alloc: Global, empties: &[TimedCall]) -> Result<bool, AllocError> {
         let mut cuts = Vec::new(alloc);
         for call in empties {
@@ -193,7 +199,8 @@ impl Ordering {
         Ok(true)
     }
 
-    /// Puts a value below the others of its range, and plans the rest above it. False where none can be.
+    /// Puts a value below the others of its range, and plans the rest above it. False where none
+    /// can be.
     fn lay_lowest(
         &mut self,
         from: usize,
@@ -283,7 +290,8 @@ impl Ordering {
     }
 }
 
-/// Adds the values that are put and taken in one gap before this one, from a place on; the first place that is left.
+/// Adds the values that are put and taken in one gap before this one, from a place on; the first
+/// place that is left.
 fn add_short(
     order: &mut Vec<i64>,
     short: &[Residence],
@@ -305,7 +313,8 @@ fn add_short(
     Ok(short.len())
 }
 
-/// The turns, each at the first gap that those before it leave, and between them the values that are put and taken in one gap.
+/// The turns, each at the first gap that those before it leave, and between them the values that
+/// are put and taken in one gap.
 fn merged(alloc: Global, turns: &[Turn], short: &[Residence]) -> Result<Vec<i64>, AllocError> {
     let mut order = Vec::new(alloc);
     let mut gap = 0;
@@ -319,8 +328,9 @@ fn merged(alloc: Global, turns: &[Turn], short: &[Residence]) -> Result<Vec<i64>
     Ok(order)
 }
 
-/// Gives removals that are pending to the values that nobody is known to take and that must be gone: nothing is found by a call that
-/// begins when their put has returned, or a value that was put before them is taken then.
+/// Gives removals that are pending to the values that nobody is known to take and that must be
+/// gone: nothing is found by a call that begins when their put has returned, or a value that was
+/// put before them is taken then.
 fn give_removals(alloc: Global, residences: &mut Residences) -> Result<(), AllocError> {
     let mut below = Vec::new(alloc);
     for residence in &residences.residences {
@@ -357,7 +367,8 @@ fn raise(pairs: &mut [(u32, u32)]) {
     }
 }
 
-/// The values apart: those that surely are in the stack for a while, and the others, each in rising order of their gaps.
+/// The values apart: those that surely are in the stack for a while, and the others, each in rising
+/// order of their gaps.
 fn apart(
     alloc: Global,
     residences: &[Residence],

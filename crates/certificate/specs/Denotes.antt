@@ -1,5 +1,6 @@
 -- The certificates that the forms of a text denote.
-use Rattle.std.specs.Prelude.{◌≡◌, ◌≢◌, ℕ, ℤ, List, Option, Some, None, option_and_then, map, codes, AllPairs}
+use Rattle.std.specs.Prelude.{◌≡◌, ◌≢◌, ℕ, ℤ, List, Option, Some, None, option_and_then, map, codes}
+use Rattle.std.specs.Prelude.{AllPairs}
 use Rattle.edn.specs.Truncation.{integer_vector_of}
 use Rattle.edn.specs.Datum.{Datum, atom, vector, dictionary}
 use Rattle.edn_fields.specs.Fields.{value_at, natural_in, object_in}
@@ -18,12 +19,14 @@ abbrev pub reading_with : Option ℕ → Option (List ℤ) → Option Reading
 reading_with (Some x) (Some zs) = Some (record { object = x; order = zs })
 reading_with x zs = None
 
--- The certificate that a form is, if it is one: a map whose :object is a number from 0 to 65,535 and whose :order is a
--- vector of integers. Other keys are ignored.
+-- The certificate that a form is, if it is one: a map whose :object is a number from 0 to 65,535
+-- and whose :order is a vector of integers. Other keys are ignored.
 abbrev pub certificate_of : Datum → Option Reading
 certificate_of (atom a) = None
 certificate_of (vector ds) = None
-certificate_of (dictionary es) = reading_with (object_in (natural_in (value_at (codes "object") es))) (order_in (value_at (codes "order") es))
+certificate_of (dictionary es) =
+    reading_with (object_in (natural_in (value_at (codes "object") es)))
+    (order_in (value_at (codes "order") es))
 
 -- what a certificate in memory says
 abbrev pub reading_of : Certificate → Reading

@@ -4,7 +4,8 @@ use Rattle.edn.specs.Datum.{Datum}
 use Rattle.edn_fields.specs.FirstFaults.{AreFaultless, IsFirstFaultBy}
 use Rattle.certificate.specs.Denotes.{Reading, certificate_of}
 use Rattle.certificate.specs.declared.fault.CertFaultKind.{CertFaultKind}
-use Rattle.certificate.specs.declared.fault.CertFaultKind.TheVariants.{NotACertificate, TwoForOneObject, NoMemory}
+use Rattle.certificate.specs.declared.fault.CertFaultKind.TheVariants.{NotACertificate}
+use Rattle.certificate.specs.declared.fault.CertFaultKind.TheVariants.{TwoForOneObject, NoMemory}
 use Rattle.certificate.specs.declared.fault.CertFault.{CertFault}
 
 -- the number that is printed behind the letter K

@@ -1,17 +1,22 @@
--- How the reader judges a form by the objects of the forms before it. No public clause speaks of it.
+-- How the reader judges a form by the objects of the forms before it. No public clause speaks of
+-- it.
 use Rattle.std.specs.Prelude.{◌≡◌, ◌==◌, ℕ, Bool, true, false, Some, None, List}
 use Rattle.std.specs.List.{list_any}
 use Rattle.edn.specs.Datum.{Datum}
 use Rattle.certificate.specs.Denotes.{Reading, certificate_of, Denotes}
 use Rattle.certificate.specs.declared.Certificate.{Certificate}
 use Rattle.certificate.specs.declared.fault.CertFaultKind.{CertFaultKind}
-use Rattle.certificate.specs.declared.fault.CertFaultKind.TheVariants.{NotACertificate, TwoForOneObject, NoMemory}
+use Rattle.certificate.specs.declared.fault.CertFaultKind.TheVariants.{NotACertificate}
+use Rattle.certificate.specs.declared.fault.CertFaultKind.TheVariants.{TwoForOneObject, NoMemory}
 
--- what is wrong with a form, or that nothing is where memory was refused, by whether an object is that of an earlier form
+-- what is wrong with a form, or that nothing is where memory was refused, by whether an object is
+-- that of an earlier form
 abbrev pub IsFaultAmong : (ℕ → Bool) → Datum → CertFaultKind → Type 0
 IsFaultAmong among d NotACertificate = certificate_of d ≡ None
-IsFaultAmong among d TwoForOneObject = (r : Reading) × (certificate_of d ≡ Some r) × (among r.object ≡ true)
-IsFaultAmong among d NoMemory = (r : Reading) × (certificate_of d ≡ Some r) × (among r.object ≡ false)
+IsFaultAmong among d TwoForOneObject =
+    (r : Reading) × (certificate_of d ≡ Some r) × (among r.object ≡ true)
+IsFaultAmong among d NoMemory =
+    (r : Reading) × (certificate_of d ≡ Some r) × (among r.object ≡ false)
 
 -- the forms so far, their certificates, and which objects these are of
 pub record AreRead (ds : List Datum) (cs : List Certificate) (among : ℕ → Bool) : Type 0 where

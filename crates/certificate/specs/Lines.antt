@@ -1,5 +1,6 @@
 -- The text that is written for certificates.
-use Rattle.std.specs.Prelude.{ℕ, ◌≤◌, ℤ, Bool, true, false, List, [], ◌∷◌, ◌++◌, codes, decimal, All}
+use Rattle.std.specs.Prelude.{ℕ, ◌≤◌, ℤ, Bool, true, false, List, [], ◌∷◌, ◌++◌, codes, decimal}
+use Rattle.std.specs.Prelude.{All}
 use Rattle.std.specs.Fmt.{signed_decimal}
 use Rattle.edn.specs.Datum.{Datum}
 use Rattle.edn.specs.Spells.{Spells}
@@ -11,11 +12,15 @@ use Rattle.certificate.specs.declared.Certificate.{Certificate}
 -- the integers with a space between them
 abbrev pub numbers_text : Bool → List ℤ → List ℕ
 numbers_text first [] = []
-numbers_text first (z ∷ zs) = (between first (codes " ") ++ signed_decimal z) ++ numbers_text false zs
+numbers_text first (z ∷ zs) =
+    (between first (codes " ") ++ signed_decimal z) ++ numbers_text false zs
 
 -- the line of a certificate, as {:object 0, :order [0 2]}
 abbrev pub line_of : Certificate → List ℕ
-line_of c = codes "{:object " ++ (decimal c.object ++ (codes ", :order [" ++ (numbers_text true c.order.items ++ codes "]}\n")))
+line_of c =
+    codes "{:object "
+    ++ (decimal c.object
+    ++ (codes ", :order [" ++ (numbers_text true c.order.items ++ codes "]}\n")))
 
 abbrev pub lines_of : List Certificate → List ℕ
 lines_of [] = []

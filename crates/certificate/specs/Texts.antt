@@ -16,13 +16,17 @@ use Rattle.certificate.specs.declared.text_reader.Reading.{Reading}
 use Rattle.certificate.specs.Faults.{IsFirstFault, IsSoundAt}
 use Rattle.certificate.specs.Inside.{AreRead}
 
--- The first fault of the forms; or memory was refused for one of them, and up to it and with it there is none.
+-- The first fault of the forms; or memory was refused for one of them, and up to it and with it
+-- there is none.
 abbrev pub IsFoundIn : List Datum → CertFault → Type 0
 IsFoundIn ds f = (f.kind ≢ NoMemory → IsFirstFault ds f) × (f.kind ≡ NoMemory → IsSoundAt ds f.form)
 
--- The text is unreadable, or memory was refused for a token; or it is short and spells forms in which this was found.
+-- The text is unreadable, or memory was refused for a token; or it is short and spells forms in
+-- which this was found.
 abbrev pub IsTextFault : List ℕ → CertTextFault → Type 0
-IsTextFault text (Text e) = (e.kind ≢ edn_kind.NoMemory → IsUnreadable text e) × (e.kind ≡ edn_kind.NoMemory → IsShort text × edn_sound.IsSoundAt e.place text)
+IsTextFault text (Text e) =
+    (e.kind ≢ edn_kind.NoMemory → IsUnreadable text e)
+    × (e.kind ≡ edn_kind.NoMemory → IsShort text × edn_sound.IsSoundAt e.place text)
 IsTextFault text (Forms f) = IsShort text × (ds : List Datum) × Spells ds text × IsFoundIn ds f
 
 -- ---- the elements so far

@@ -14,7 +14,9 @@ numbers_of integer_vector = option_map (λ v. v.items) integer_vector
 
 -- the beginnings of its values, and the integer vector of its order
 abbrev pub IsKept : List Piece → Option (List ℤ) → Datum → Type 0
-IsKept pieces integer_vector d = (token_buffer_tokens pieces ≡ tokens_of (truncated d)) × (integer_vector ≡ integer_vector_at (codes "order") d)
+IsKept pieces integer_vector d =
+    (token_buffer_tokens pieces ≡ tokens_of (truncated d))
+    × (integer_vector ≡ integer_vector_at (codes "order") d)
 
 -- the object of a map
 abbrev pub object_of : Datum → Option ℕ

@@ -11,7 +11,8 @@ pub use reader::read_certificates;
 pub use text_reader::read_certificates_text;
 pub use writer::write_certificates;
 
-/// An order of an object's operations, by the numbers of their invocations. Nothing is promised of the numbers.
+/// An order of an object's operations, by the numbers of their invocations. Nothing is promised of
+/// the numbers.
 #[derive(Debug, PartialEq, Eq, Drop)]
 pub struct Certificate {
     pub object: u32,

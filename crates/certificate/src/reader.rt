@@ -79,7 +79,8 @@ fn parts_in(form: &Form) -> Option<(u32, &[Form])>
     Some((object, forms))
 }
 
-/// The certificate that a form is, whose object is then among the objects. What is wrong with it is found without memory.
+/// The certificate that a form is, whose object is then among the objects. What is wrong with it is
+/// found without memory.
 fn next_certificate(
     alloc: Global,
     form: &Form,
@@ -109,7 +110,8 @@ fn next_certificate(
 }
 
 /// The certificates that the forms are, one by one and in order.
-/// A fault is that of the least faulty form, but for want of memory, which names the form that was being read.
+/// A fault is that of the least faulty form, but for want of memory, which names the form that was
+/// being read.
 pub fn read_certificates(alloc: Global, forms: Vec<Form>) -> Result<Vec<Certificate>, CertFault>
     requires fit { All (λ f. Fits max_open (view f)) forms.items }
     ensures denotes { IfOk result (λ v. Denotes (views forms.items) v.items) }

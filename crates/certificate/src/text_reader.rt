@@ -23,7 +23,8 @@ use std::collections::BTreeSet;
 
 /// The object of a certificate, of whose values these are the beginnings.
 fn object_on(pieces: &[Piece]) -> Option<u32>
-    ensures { (d : Datum) → token_buffer_tokens pieces.now ≡ tokens_of (truncated d) → result ≡ object_of d }
+    ensures { (d : Datum) → token_buffer_tokens pieces.now ≡ tokens_of (truncated d)
+        → result ≡ object_of d }
 {
     let Some(number) = edn_fields::value_on(pieces, b"object") else {
         return None;
@@ -31,8 +32,8 @@ fn object_on(pieces: &[Piece]) -> Option<u32>
     edn_fields::object(edn_fields::natural_at(number))
 }
 
-/// The certificate of which this is kept, and whose object is then among the objects. What is wrong with it is found without
-/// memory.
+/// The certificate of which this is kept, and whose object is then among the objects. What is wrong
+/// with it is found without memory.
 fn next_certificate(
     pieces: &[Piece],
     integer_vector: Option<Vec<i64>>,
@@ -59,7 +60,8 @@ fn next_certificate(
     }
 }
 
-/// What was read: the certificates so far and their objects, and what is wrong with the first element that is faulty.
+/// What was read: the certificates so far and their objects, and what is wrong with the first
+/// element that is faulty.
 #[derive(Drop)]
 struct Reading {
     certificates: Vec<Certificate>,
@@ -80,7 +82,8 @@ impl Reading {
         }
     }
 
-    /// Reads one more element, where none was faulty. Of each value the beginning is given, and the integer vector of its order.
+    /// Reads one more element, where none was faulty. Of each value the beginning is given, and the
+    /// integer vector of its order.
     fn take_next(&mut self, pieces: &[Piece], integer_vector: Option<Vec<i64>>)
         requires { self.old.fault ≡ None }
         ensures { (ds : List Datum) (d : Datum) → IsKept pieces.now (numbers_of integer_vector) d
@@ -126,9 +129,10 @@ impl Reading {
     }
 }
 
-/// The certificates that the text denotes, each element being one, or what is wrong. What is wrong with the text comes
-/// before what is wrong with an element: behind the first that is faulty, or for which memory was refused, the text is
-/// still read to its end. Of an element its order is kept, and of any other value no more than its beginning.
+/// The certificates that the text denotes, each element being one, or what is wrong. What is wrong
+/// with the text comes before what is wrong with an element: behind the first that is faulty, or
+/// for which memory was refused, the text is still read to its end. Of an element its order is
+/// kept, and of any other value no more than its beginning.
 pub fn read_certificates_text(alloc: Global, text: &[u8]) -> Result<Vec<Certificate>, CertTextFault>
     ensures denotes { IfOk result (λ v.
         (ds : List Datum) × Spells ds text.now × Denotes ds v.items) }

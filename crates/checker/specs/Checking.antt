@@ -7,7 +7,8 @@ use Rattle.model.specs.Orders.{Call, IsValidOrder}
 use Rattle.certificate.specs.declared.Certificate.{Certificate}
 use Rattle.checker.specs.declared.refusal.OrderFault.{OrderFault}
 use Rattle.checker.specs.declared.refusal.Refusal.{Refusal}
-use Rattle.checker.specs.declared.refusal.Refusal.TheVariants.{NoCertificate, StrangeObject, BadOrder, NoMemory}
+use Rattle.checker.specs.declared.refusal.Refusal.TheVariants.{NoCertificate, StrangeObject}
+use Rattle.checker.specs.declared.refusal.Refusal.TheVariants.{BadOrder, NoMemory}
 use Rattle.checker.specs.Faults.{IsFirstFault}
 use Rattle.checker.specs.Refusals.{HasCertificate}
 
@@ -21,10 +22,12 @@ abbrev pub ArePlaces : BTreeMap ℕ ℕ → List Certificate → Type 0
 ArePlaces m certificates = (x k : ℕ) → get nat_cmp m x ≡ Some k → IsPlace certificates x k
 
 -- the object has a certificate, and its order is valid, and so without a fault
-pub record IsFine (kind : Kind) (calls : List Call) (certificates : List Certificate) (x : ℕ) : Type 0 where
+pub record IsFine (kind : Kind) (calls : List Call) (certificates : List Certificate) (x : ℕ) : Type
+    0 where
   pub certificate : HasCertificate certificates x
   pub valid : IsValidOrder kind calls certificate.certificate.order.items
-  pub faultless : (f : OrderFault) → IsFirstFault kind calls certificate.certificate.order.items f → ⊥
+  pub faultless : (f : OrderFault) → IsFirstFault kind calls certificate.certificate.order.items f
+      → ⊥
 
 -- each certificate of the list has a place
 pub record AreAllPlaces (m : BTreeMap ℕ ℕ) (certificates : List Certificate) : Type 0 where
@@ -33,9 +36,13 @@ pub record AreAllPlaces (m : BTreeMap ℕ ℕ) (certificates : List Certificate)
 
 -- why an object is refused: it has no certificate, or its order has a first fault and is not valid
 abbrev pub IsRefused : Kind → List Call → List Certificate → ℕ → Refusal → Type 0
-IsRefused kind calls certificates x (NoCertificate y) = (y ≡ x) × (HasCertificate certificates x → ⊥)
+IsRefused kind calls certificates x (NoCertificate y) =
+    (y ≡ x) × (HasCertificate certificates x → ⊥)
 IsRefused kind calls certificates x (StrangeObject y) = ⊥
-IsRefused kind calls certificates x (BadOrder y fault) = (y ≡ x) × (c : HasCertificate certificates x) × IsFirstFault kind calls c.certificate.order.items fault × (IsValidOrder kind calls c.certificate.order.items → ⊥)
+IsRefused kind calls certificates x (BadOrder y fault) =
+    (y ≡ x) × (c : HasCertificate certificates x)
+    × IsFirstFault kind calls c.certificate.order.items fault
+    × (IsValidOrder kind calls c.certificate.order.items → ⊥)
 IsRefused kind calls certificates x NoMemory = ⊤
 
 -- each certificate is for one of these objects

@@ -1,5 +1,6 @@
 -- What the ends of operations say of a walk.
-use Rattle.std.specs.Prelude.{◌≡◌, ◌<◌, ◌≤◌, ℕ, Bool, true, false, List, length, Option, Some, is_some, slice_index_or}
+use Rattle.std.specs.Prelude.{◌≡◌, ◌<◌, ◌≤◌, ℕ, Bool, true, false, List, length, Option, Some}
+use Rattle.std.specs.Prelude.{is_some, slice_index_or}
 use Rattle.events.specs.declared.operations.Invocation.{Invocation}
 use Rattle.model.specs.Orders.{Return}
 use Rattle.events.specs.declared.operations.End.{End}
@@ -14,7 +15,9 @@ IsEarly e greatest = (r : Return) (by : ℕ) → return_of e ≡ Some r → grea
 
 -- each operation below place n that returned is marked
 abbrev pub AreMarked : List Invocation → List Bool → ℕ → Type 0
-AreMarked ops marks n = (j : ℕ) (d : Invocation) → j < n → is_some (return_of (slice_index_or ops j d).«end») ≡ true → slice_index_or marks j false ≡ true
+AreMarked ops marks n =
+    (j : ℕ) (d : Invocation) → j < n → is_some (return_of (slice_index_or ops j d).«end») ≡ true
+    → slice_index_or marks j false ≡ true
 
 -- this is the number of the first operation that returned and is not marked
 pub record IsFirstUnmarked (ops : List Invocation) (marks : List Bool) (number : ℕ) : Type 0 where

@@ -65,8 +65,8 @@ pub fn strange_object(
     Some(*object)
 }
 
-/// Checks the certificates of a history's objects. `Ok` exactly where each named object has a valid order and no other
-/// object has a certificate, and else the first refusal, but for want of memory.
+/// Checks the certificates of a history's objects. `Ok` exactly where each named object has a valid
+/// order and no other object has a certificate, and else the first refusal, but for want of memory.
 pub fn check_all(
     alloc: Global,
     history: &History,

@@ -18,8 +18,9 @@ pub fn one_first_fault()
         → IsFirstFault kind calls order one → IsFirstFault kind calls order other → one ≡ other }
 {}
 
-/// Certificates of different objects have one first refusal at most. So two checks of the same certificates, as `check_all`
-/// and `check_parallel`, have one answer. Where memory was refused nothing is said.
+/// Certificates of different objects have one first refusal at most. So two checks of the same
+/// certificates, as `check_all` and `check_parallel`, have one answer. Where memory was refused
+/// nothing is said.
 pub fn one_first_refusal()
     ensures refusal { (events : List Event) (certificates : List Certificate)
         → AreDistinct certificates → (one other : Refusal)

@@ -13,8 +13,8 @@ use events::ObjectHistory;
 use seq_objects::AnyObject;
 use std::alloc::Global;
 
-/// Checks the certificate of an object. `Ok` exactly where its order is valid, and else the first fault, but for want
-/// of memory.
+/// Checks the certificate of an object. `Ok` exactly where its order is valid, and else the first
+/// fault, but for want of memory.
 pub fn check_object(
     alloc: Global,
     history: &ObjectHistory,

@@ -41,7 +41,8 @@ fn nearby_place(ops: &[Invocation], entry: i64, near: usize) -> Option<usize>
     None
 }
 
-/// The place of the operation with this number, if there is one that did not fail. It is looked for near this place first.
+/// The place of the operation with this number, if there is one that did not fail. It is looked for
+/// near this place first.
 pub fn place_of(ops: &[Invocation], entry: i64, near: usize) -> Option<usize>
     requires { AllPairs (λ a b. a.number < b.number) ops.now }
     ensures some { IfSome result (λ k. (k < length ops.now)

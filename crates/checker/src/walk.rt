@@ -61,7 +61,8 @@ fn refused(object: u32, fault: OrderFault) -> Result<(), Refusal>
 }
 
 /// Checks the entries of an order one by one, from an empty object, and what the order leaves out.
-// Apart from `check_order`, so that what follows from these clauses is proved once, and not at each return.
+// Apart from `check_order`, so that what follows from these clauses is proved once, and not at each
+// return.
 fn check_entries<S: SeqObject<Op = AnyOp, Reply = AnyReply>>(
     alloc: Global,
     number: u32,
@@ -115,8 +116,9 @@ fn check_entries<S: SeqObject<Op = AnyOp, Reply = AnyReply>>(
     }
 }
 
-/// Checks an order of the operations of the object with this number, from an object of its kind that is empty. `Ok`
-/// exactly where the order is valid, and else the first fault, but for want of memory.
+/// Checks an order of the operations of the object with this number, from an object of its kind
+/// that is empty. `Ok` exactly where the order is valid, and else the first fault, but for want of
+/// memory.
 pub fn check_order<S: SeqObject<Op = AnyOp, Reply = AnyReply>>(
     alloc: Global,
     number: u32,

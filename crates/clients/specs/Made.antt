@@ -1,5 +1,6 @@
 -- What a record says of the calls that the clients of a desk were to make.
-use Rattle.std.specs.Prelude.{◌≡◌, ◌≢◌, ◌⊎◌, ℕ, ◌+◌, ◌<◌, ◌≤◌, List, [], ◌∷◌, ◌++◌, length, All, Contains}
+use Rattle.std.specs.Prelude.{◌≡◌, ◌≢◌, ◌⊎◌, ℕ, ◌+◌, ◌<◌, ◌≤◌, List, [], ◌∷◌, ◌++◌, length, All}
+use Rattle.std.specs.Prelude.{Contains}
 use Rattle.model.specs.declared.AnyOp.{AnyOp}
 use Rattle.model.specs.declared.AnyReply.{AnyReply}
 use Rattle.desk_model.specs.declared.JournalEvent.TheVariants.{Invoked, Returned}
@@ -18,11 +19,14 @@ use Rattle.workload.specs.Workloads.{Work, Call, calls_at, IsCall}
 -- the events are those of the calls, in order: the invocation of each, and its return
 abbrev pub Made : List Call → List AnyEvent → Type 0
 Made [] es = es ≡ []
-Made (c ∷ cs) es = (t u : ℕ) × (a : AnyAnswer) × (rest : List AnyEvent) × (es ≡ Invoked t c.0 c.1 ∷ Returned u a ∷ rest) × Made cs rest
+Made (c ∷ cs) es =
+    (t u : ℕ) × (a : AnyAnswer) × (rest : List AnyEvent)
+    × (es ≡ Invoked t c.0 c.1 ∷ Returned u a ∷ rest) × Made cs rest
 
--- These events are of the calls up to one, in order: those in front of it were made; of this one there is the invocation
--- alone, and of those after it nothing. A client stops so where memory is refused to the call. That it was refused is not
--- said here, since no clause knows what the allocator refused: a client that stopped at any call would meet this too.
+-- These events are of the calls up to one, in order: those in front of it were made; of this one
+-- there is the invocation alone, and of those after it nothing. A client stops so where memory is
+-- refused to the call. That it was refused is not said here, since no clause knows what the
+-- allocator refused: a client that stopped at any call would meet this too.
 pub record IsStopped (cs : List Call) (es : List AnyEvent) : Type 0 where
   pub front : List Call
   pub call : Call
@@ -81,15 +85,17 @@ pub record Keeps (v w : DeskView) : Type 0 where
 abbrev pub HaveSeenAlike : ℕ → DeskView → DeskView → Type 0
 HaveSeenAlike n v w = (x : ℕ) → x < n → seen_of v x ≡ seen_of w x
 
--- The log of x begins with a list that both clients have seen. Of each one's calls on x it holds just those that were answered
--- by a reply, each once and in order, and perhaps the one that is pending.
+-- The log of x begins with a list that both clients have seen. Of each one's calls on x it holds
+-- just those that were answered by a reply, each once and in order, and perhaps the one that is
+-- pending.
 pub record HaveMet (x : ℕ) (v w : DeskView) (log : List AnyEntry) : Type 0 where
   pub seen : List AnyEntry
   pub begins : StartsWith log seen
   pub first : IsAccount x v seen
   pub second : IsAccount x w seen
 
--- The client met c, which had made its calls of the workload, on each object, and was told of its end.
+-- The client met c, which had made its calls of the workload, on each object, and was told of its
+-- end.
 pub record HasMet (w : Work) (v : DeskView) (c : ℕ) : Type 0 where
   pub other : DeskView
   pub number : other.number ≡ c
@@ -126,8 +132,8 @@ pub record HasRun (w : Work) (r : Recorded AnyOp AnyReply) (first : DeskView) (c
   pub knew : DeskView
   pub number : knew.number ≡ c
   pub says : journal_at r c ≡ journal knew
-  -- Each log begins with a list that has just those calls of both on its object that were answered by a reply, each client's
-  -- once and in order, and perhaps one that is pending.
+  -- Each log begins with a list that has just those calls of both on its object that were answered
+  -- by a reply, each client's once and in order, and perhaps one that is pending.
   pub met : (x : ℕ) → x < length w.kinds → HaveMet x first knew (log_at r x)
 
 -- The record of a closed desk of the workload's objects and clients.
@@ -138,9 +144,10 @@ pub record Ran (w : Work) (r : Recorded AnyOp AnyReply) : Type 0 where
   pub knew : DeskView
   pub number : knew.number ≡ 0
   pub says : journal_at r 0 ≡ journal knew
-  -- Of client 0's calls each log holds just those on its object that were answered by a reply, each once and in order, and
-  -- perhaps the one that is pending.
+  -- Of client 0's calls each log holds just those on its object that were answered by a reply, each
+  -- once and in order, and perhaps the one that is pending.
   pub accounts : (x : ℕ) → IsAccount x knew (log_at r x)
   pub each : (c : ℕ) → c < length w.calls → HasRun w r knew c
-  -- the journals of all clients are a well-formed history, and each log is legal, and a valid order of the calls on its object
+  -- the journals of all clients are a well-formed history, and each log is legal, and a valid order
+  -- of the calls on its object
   pub sound : IsSoundRecord w.kinds 10000 (journal_at r) (log_at r)

@@ -54,10 +54,11 @@ impl<'a> Promise<Client<AnyObject>> for WorkerOf<'a> {
     ghost kept_by = { λ p client. HasWorked p.0.now p.1.now p.2 client };
 }
 
-/// Makes the calls of the workload on a new desk, and closes it. Client 0 runs in the calling thread, and each other in a
-/// thread of its own; then client 0 meets each other on each object. A client to whose call memory is refused makes no more,
-/// and that call is pending in the record. That memory was refused there is in no clause: `Ran` lets a client stop at any call.
-/// The gate is called around each call.
+/// Makes the calls of the workload on a new desk, and closes it. Client 0 runs in the calling
+/// thread, and each other in a thread of its own; then client 0 meets each other on each object. A
+/// client to whose call memory is refused makes no more, and that call is pending in the record.
+/// That memory was refused there is in no clause: `Ran` lets a client stop at any call. The gate is
+/// called around each call.
 pub fn run_workers<R: Threads + Wait + Sync, G: Gate>(
     rt: &R,
     alloc: Global,
@@ -77,7 +78,8 @@ pub fn run_workers<R: Threads + Wait + Sync, G: Gate>(
 
 type Worker<'a> = PromisedHandle<Client<AnyObject>, WorkerOf<'a>>;
 
-// Runs the clients of a new desk, and hands client 0 back, which has met the others. There is room for their threads.
+// Runs the clients of a new desk, and hands client 0 back, which has met the others. There is room
+// for their threads.
 fn run_all<'a, R: Threads + Wait + Sync, G: Gate>(
     rt: &R,
     gate: &G,
@@ -97,7 +99,8 @@ fn run_all<'a, R: Threads + Wait + Sync, G: Gate>(
         thread::scope_env(),
         rt,
         |scope| -> Result<Client<AnyObject>, RunFault>
-            requires { IsDeskFor desk.now workload.now × (length clients.items ≡ length workload.now.calls)
+            requires { IsDeskFor desk.now workload.now
+                × (length clients.items ≡ length workload.now.calls)
                 × AllBegun desk.now.id clients.items × (workers.items ≡ [])
                 × (length clients.items ≤ vec_capacity workers) }
             ensures { IfOk result (IsDone desk.entry.now workload.entry.now)
@@ -112,7 +115,8 @@ fn run_all<'a, R: Threads + Wait + Sync, G: Gate>(
                     WorkerOf(desk, workload, number),
                     || -> Client<AnyObject>
                         requires { IsNew desk.now workload.now client }
-                        ensures { HasWorked desk.entry.now workload.entry.now client.knows.number result }
+                        ensures { HasWorked desk.entry.now workload.entry.now client.knows.number
+                            result }
                     { work(rt, gate, desk, workload, client) },
                 )?;
                 workers.push_reserved(worker);

@@ -14,8 +14,9 @@ use seq_objects::{AnyObject, Gate};
 use std::sync::Wait;
 use workload::Workload;
 
-/// Makes the client's calls of the workload, one after another, and hands the client back. Where memory is refused to a
-/// call it makes no more, and that one is outstanding. The clause does not say that memory was refused.
+/// Makes the client's calls of the workload, one after another, and hands the client back. Where
+/// memory is refused to a call it makes no more, and that one is outstanding. The clause does not
+/// say that memory was refused.
 pub(crate) fn work<R: Wait, G: Gate>(
     rt: &R,
     gate: &G,
@@ -70,7 +71,8 @@ fn make<R: Wait>(
     requires room { length client.knows.done < client.desk.quota }
     requires fits { IsCall desk.now.id.kinds (object, op) }
     ensures desk { result.0.desk ≡ client.desk }
-    ensures called { result.1 ≡ true → (a : AnyAnswer) × Called client.knows object op a result.0.knows }
+    ensures called { result.1 ≡ true
+        → (a : AnyAnswer) × Called client.knows object op a result.0.knows }
     ensures outstanding { result.1 ≡ false → IsOutstanding client.knows object op result.0.knows }
 {
     let (client, answered) = call(rt, desk, client, object, op);

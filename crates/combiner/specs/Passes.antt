@@ -20,10 +20,12 @@ pub record KeepsCalls (v w : DeskView) : Type 0 where
   pub done : w.done ≡ v.done
   pub seen : (x : ℕ) → StartsWith (seen_of w x) (seen_of v x)
 
--- A call of the client on the object x that is outstanding is known to be answered; or the object cannot do it after
--- this log.
+-- A call of the client on the object x that is outstanding is known to be answered; or the object
+-- cannot do it after this log.
 abbrev pub IsSettledBy : ℕ → List AnyEntry → DeskView → Type 0
-IsSettledBy x log v = (q : AnyRequest) → v.own ≡ own.Waiting q → q.object ≡ x → (v.ready ≡ true) ⊎ (CanDo (kind_at v.kinds x) log q.op → ⊥)
+IsSettledBy x log v =
+    (q : AnyRequest) → v.own ≡ own.Waiting q → q.object ≡ x
+    → (v.ready ≡ true) ⊎ (CanDo (kind_at v.kinds x) log q.op → ⊥)
 
 -- the same, after the log that the client has seen
 abbrev pub IsSettled : ℕ → DeskView → Type 0
@@ -35,7 +37,9 @@ IsSettledNow p = IsSettledBy p.object p.log p.knows
 
 -- nothing of the pass has changed but its list and ages
 abbrev pub IsSameBut : Holding → Holding → Type 0
-IsSameBut p q = (l : WalkerSeen) × (ages : List ℕ) × (q ≡ record p { state = record p.state { list = l; ages = ages } })
+IsSameBut p q =
+    (l : WalkerSeen) × (ages : List ℕ)
+    × (q ≡ record p { state = record p.state { list = l; ages = ages } })
 
 -- from p to q rows were tried
 pub record Goes (p q : Holding) : Type 0 where
@@ -47,13 +51,17 @@ pub record Goes (p q : Holding) : Type 0 where
   pub calls : KeepsCalls p.knows q.knows
   pub ready : p.knows.ready ≡ true → q.knows.ready ≡ true
 
--- The own row was tried: its request for the object, if there is one, is known to be answered, or it was put back,
--- since the object cannot do it now.
+-- The own row was tried: its request for the object, if there is one, is known to be answered, or
+-- it was put back, since the object cannot do it now.
 abbrev pub IsTried : Holding → Tried → Type 0
-IsTried p tried.PutBack = (q : AnyRequest) → p.knows.own ≡ own.Waiting q → CanDo (kind_at p.knows.kinds p.object) p.log q.op → ⊥
-IsTried p t = (q : AnyRequest) → p.knows.own ≡ own.Waiting q → q.object ≡ p.object → p.knows.ready ≡ true
+IsTried p tried.PutBack =
+    (q : AnyRequest) → p.knows.own ≡ own.Waiting q
+    → CanDo (kind_at p.knows.kinds p.object) p.log q.op → ⊥
+IsTried p t =
+    (q : AnyRequest) → p.knows.own ≡ own.Waiting q → q.object ≡ p.object → p.knows.ready ≡ true
 
--- the client won the object x and put it back with this log, which it has seen, and nothing else of it has changed
+-- the client won the object x and put it back with this log, which it has seen, and nothing else of
+-- it has changed
 abbrev pub HasLearnt : ℕ → DeskView → DeskView → Type 0
 HasLearnt x v w = w ≡ after_release x (seen_of w x) (after_win x (seen_of w x) v)
 

@@ -1,7 +1,8 @@
 -- What a call that waited for its answer did.
 use Rattle.std.specs.Prelude.{◌≡◌, ℕ, ◌+◌, ◌<◌, [], ◌∷◌, ◌++◌, length, All}
 use Rattle.model.specs.declared.AnyOp.{AnyOp}
-use Rattle.desk_model.specs.World.{AnyRequest, AnyAnswer, kind_at, logged, entries_of, served, IsLegal, StartsWith}
+use Rattle.desk_model.specs.World.{AnyRequest, AnyAnswer, kind_at, logged, entries_of, served}
+use Rattle.desk_model.specs.World.{IsLegal, StartsWith}
 use Rattle.desk_model.specs.declared.JournalEvent.TheVariants.{Invoked, Returned}
 use Rattle.desk_invariant.specs.declared.board.Own.TheVariants as own
 use Rattle.desk_invariant.specs.declared.board.DeskView.{DeskView}
@@ -12,11 +13,14 @@ use Rattle.combiner.specs.Passes.{KeepsCalls}
 use Rattle.combiner.specs.declared.waiting.CallFault.{CallFault}
 use Rattle.combiner.specs.declared.waiting.CallFault.TheVariants as fault
 
--- What the client has seen of the request's object after its call is over: a legal log, which holds of its own calls those
--- before and this one, and in which all were invoked before this one returned.
-pub record IsLogged (v : DeskView) (request : AnyRequest) (a : AnyAnswer) (returned : ℕ) (w : DeskView) : Type 0 where
+-- What the client has seen of the request's object after its call is over: a legal log, which holds
+-- of its own calls those before and this one, and in which all were invoked before this one
+-- returned.
+pub record IsLogged (v : DeskView) (request : AnyRequest) (a : AnyAnswer) (returned : ℕ)
+    (w : DeskView) : Type 0 where
   pub legal : IsLegal (kind_at v.kinds request.object) (seen_of w request.object)
-  pub counted : entries_of v.number (seen_of w request.object) ≡ served request.object v.number v.done ++ logged v.number request a
+  pub counted : entries_of v.number (seen_of w request.object)
+      ≡ served request.object v.number v.done ++ logged v.number request a
   pub later : All (λ e. e.ticket < returned) (seen_of w request.object)
 
 -- the outstanding call is over, with this answer
@@ -32,25 +36,27 @@ pub record Returns (v : DeskView) (a : AnyAnswer) (w : DeskView) : Type 0 where
   pub seen : (x : ℕ) → StartsWith (seen_of w x) (seen_of v x)
   pub logged : IsLogged v request a ticket w
 
--- An idle client made one call, with this answer: its invocation and its return are the last events of the journal, and
--- the client is idle. What it has seen goes on, and has the call.
-pub record Called (v : DeskView) (object : ℕ) (op : AnyOp) (a : AnyAnswer) (w : DeskView) : Type 0 where
-  pub invoked : ℕ
-  pub returned : ℕ
-  pub was_idle : v.own ≡ own.Idle
-  pub number : w.number ≡ v.number
-  pub kinds : w.kinds ≡ v.kinds
-  pub idle : w.own ≡ own.Idle
-  pub calls : length w.done ≡ length v.done + 1
-  pub journal : journal w ≡ journal v ++ Invoked invoked object op ∷ Returned returned a ∷ []
-  pub seen : (x : ℕ) → StartsWith (seen_of w x) (seen_of v x)
-  pub logged : IsLogged v (record { object = object; ticket = invoked; op = op }) a returned w
+-- An idle client made one call, with this answer: its invocation and its return are the last events
+-- of the journal, and the client is idle. What it has seen goes on, and has the call.
+pub record Called (v : DeskView) (object : ℕ) (op : AnyOp) (a : AnyAnswer) (w : DeskView) : Type 0
+  where
+    pub invoked : ℕ
+    pub returned : ℕ
+    pub was_idle : v.own ≡ own.Idle
+    pub number : w.number ≡ v.number
+    pub kinds : w.kinds ≡ v.kinds
+    pub idle : w.own ≡ own.Idle
+    pub calls : length w.done ≡ length v.done + 1
+    pub journal : journal w ≡ journal v ++ Invoked invoked object op ∷ Returned returned a ∷ []
+    pub seen : (x : ℕ) → StartsWith (seen_of w x) (seen_of v x)
+    pub logged : IsLogged v (record { object = object; ticket = invoked; op = op }) a returned w
 
 -- the call was posted, and is outstanding still
 abbrev pub IsOutstanding : DeskView → ℕ → AnyOp → DeskView → Type 0
 IsOutstanding v object op w = (u : DeskView) × Posted v object op u × KeepsCalls u w
 
--- why the call on the object x was not answered: it was not posted, and the client is as it was; or memory was refused
+-- why the call on the object x was not answered: it was not posted, and the client is as it was; or
+-- memory was refused
 abbrev pub Faulted : DeskSeen → Known → ℕ → AnyOp → CallFault → Known → Type 0
 Faulted d c x op (fault.Post e) k = (k ≡ c) × PostRefused d c x op e
 Faulted d c x op fault.NoMemory k = IsOutstanding c.knows x op k.knows

@@ -39,10 +39,11 @@ const CLEANING: u64 = 64;
 /// A row that was of no use for more passes than this goes out of the list.
 const IDLE: u64 = 128;
 
-/// Tries to win the object. If it is won, and the log has room for a call of each client, serves the client's own row, then each other row of the publication list, and
-/// then the own one again if its request was put back. A request whose operation is not possible is put back. In each pass
-/// whose number is a multiple of 64 it takes rows out of the list that were of no use in the last 128 passes, but never the
-/// first.
+/// Tries to win the object. If it is won, and the log has room for a call of each client, serves
+/// the client's own row, then each other row of the publication list, and then the own one again if
+/// its request was put back. A request whose operation is not possible is put back. In each pass
+/// whose number is a multiple of 64 it takes rows out of the list that were of no use in the last
+/// 128 passes, but never the first.
 pub fn combine<S: SeqObject>(
     desk: &Desk<S>,
     client: Client<S>,
@@ -54,8 +55,8 @@ pub fn combine<S: SeqObject>(
     // It does not enlist.
     ensures places { result.0.places ≡ client.places }
     ensures same { KeepsCalls client.knows result.0.knows }
-    // A call of its own on the object that is outstanding is answered, so that the next poll is Some; or the object cannot
-    // do it after the log that the client has then seen.
+    // A call of its own on the object that is outstanding is answered, so that the next poll is
+    // Some; or the object cannot do it after the log that the client has then seen.
     ensures served { IfServed result.1 (IsSettled object result.0.knows) }
     ensures busy { IfBusy result.1 (result.0.knows ≡ after_miss object client.knows) }
     // Nothing was served: the client has seen the log, and knows nothing else.
@@ -75,9 +76,9 @@ pub fn combine<S: SeqObject>(
     }
 }
 
-/// Tries to win the object. If it is won, and the log has room for a call of each client, serves each row of the publication
-/// list, and then makes a call of the client's own, if the object can do it: no request goes through the client's row. None:
-/// the call was not made.
+/// Tries to win the object. If it is won, and the log has room for a call of each client, serves
+/// each row of the publication list, and then makes a call of the client's own, if the object can
+/// do it: no request goes through the client's row. None: the call was not made.
 pub(crate) fn try_at_once<S: SeqObject>(
     desk: &Desk<S>,
     client: Client<S>,
@@ -112,7 +113,8 @@ pub(crate) fn try_at_once<S: SeqObject>(
     (held.release(desk), Some(answer))
 }
 
-// Serves the own row, the others, and the own one again if its request was put back. Answers how many were answered.
+// Serves the own row, the others, and the own one again if its request was put back. Answers how
+// many were answered.
 fn serve<S: SeqObject>(desk: &Desk<S>, pass: Pass<S>) -> (Pass<S>, u64)
     requires { pass.desk ≡ desk.now.id }
     ensures goes { Goes pass result.0 }
@@ -217,7 +219,8 @@ fn serve_others<S: SeqObject>(desk: &Desk<S>, pass: Pass<S>, own: u32) -> (Pass<
     (pass, count)
 }
 
-// Tries a row once. A request that is there is answered, and the row is as old as this pass; or it is put back.
+// Tries a row once. A request that is there is answered, and the row is as old as this pass; or it
+// is put back.
 fn try_row<S: SeqObject>(desk: &Desk<S>, pass: Pass<S>, row: u32) -> (Pass<S>, Tried)
     requires desk { pass.desk ≡ desk.now.id }
     requires row { row < 32 }

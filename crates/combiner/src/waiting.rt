@@ -1,4 +1,5 @@
-//! A call that is posted and waits for its answer, and one that is made at once where the object is free.
+//! A call that is posted and waits for its answer, and one that is made at once where the object is
+//! free.
 
 ghost use Rattle.std.specs.Prelude.{◌≡◌, ◌<◌, length, IfOk, IfErr};
 ghost use Rattle.desk_model.specs.Images.{answer_in};
@@ -17,11 +18,13 @@ use std::sync::Wait;
 pub enum CallFault {
     /// P1 to P4: it was not posted.
     Post(Post),
-    /// Memory was refused to a pass of its own. The call is outstanding, and `wait_for` goes on with it.
+    /// Memory was refused to a pass of its own. The call is outstanding, and `wait_for` goes on
+    /// with it.
     NoMemory,
 }
 
-/// Makes a call: posts it, and then polls, enlists the row and combines, with a yield between tries, until it is answered.
+/// Makes a call: posts it, and then polls, enlists the row and combines, with a yield between
+/// tries, until it is answered.
 pub fn call<S: SeqObject, R: Wait>(
     rt: &R,
     desk: &Desk<S>,
@@ -47,8 +50,9 @@ pub fn call<S: SeqObject, R: Wait>(
     }
 }
 
-/// Makes a call without posting it, where the client wins the object at its first try and the object can do the operation after the
-/// listed rows. Otherwise it makes the call as `call` does. This way is no part of flat combining as it was published.
+/// Makes a call without posting it, where the client wins the object at its first try and the
+/// object can do the operation after the listed rows. Otherwise it makes the call as `call` does.
+/// This way is no part of flat combining as it was published.
 pub fn call_at_once<S: SeqObject, R: Wait>(
     rt: &R,
     desk: &Desk<S>,
@@ -73,8 +77,8 @@ pub fn call_at_once<S: SeqObject, R: Wait>(
     }
 }
 
-/// Polls, enlists the row and combines until the outstanding call is answered, or memory is refused to a pass of its own. There is
-/// a yield after each try, also after a pass that served the call.
+/// Polls, enlists the row and combines until the outstanding call is answered, or memory is refused
+/// to a pass of its own. There is a yield after each try, also after a pass that served the call.
 pub fn wait_for<S: SeqObject, R: Wait>(
     rt: &R,
     desk: &Desk<S>,
@@ -84,7 +88,8 @@ pub fn wait_for<S: SeqObject, R: Wait>(
     requires desk { client.desk ≡ desk.now.id }
     requires object { object < length desk.now.id.kinds }
     ensures desk { result.0.desk ≡ client.desk }
-    ensures returns { IfOk result.1 (λ a. Returns client.knows (answer_in S.reply_in a) result.0.knows) }
+    ensures returns { IfOk result.1 (λ a. Returns client.knows (answer_in S.reply_in a)
+        result.0.knows) }
     // The call stays outstanding.
     ensures stays { IfErr result.1 (λ _. KeepsCalls client.knows result.0.knows) }
 {
@@ -99,7 +104,8 @@ pub fn wait_for<S: SeqObject, R: Wait>(
         client = after;
         match combined {
             Combined::NoMemory => return (client, Err(AllocError)),
-            // Something was answered, the own call too unless it was put back: the next yields are short ones.
+            // Something was answered, the own call too unless it was put back: the next yields are
+            // short ones.
             Combined::Served { count, .. } if count > 0 => backoff.reset(),
             _ => {}
         }

@@ -12,7 +12,8 @@ use seq_objects::{AnyObject, AnyOp, Kind};
 use std::process::Abort;
 use std::test::Fail;
 
-// Client 0 posts enqueue 1 and retires, and client 1 enqueues 2. That is served alone, or with the other call.
+// Client 0 posts enqueue 1 and retires, and client 1 enqueues 2. That is served alone, or with the
+// other call.
 fn after_retiring<R: Abort>(
     rt: &R,
     desk: Desk<AnyObject>,

@@ -22,7 +22,8 @@ fn a_lone_client_is_not_listed(rt: HostRuntime) -> Result<(), Fail> {
     Ok(())
 }
 
-// `call` posts, polls in vain, and enlists its row before it combines. A call that is made at once fails here.
+// `call` posts, polls in vain, and enlists its row before it combines. A call that is made at once
+// fails here.
 #[test]
 fn a_lone_client_posts_and_is_listed(rt: HostRuntime) -> Result<(), Fail> {
     let (desk, client) = for_one(rt.alloc(), Kind::Queue, 2)?;

@@ -65,7 +65,8 @@ pub(crate) fn for_two(
     quota: u32,
 ) -> Result<(Desk<AnyObject>, Client<AnyObject>, Client<AnyObject>), AllocError>
     requires { quota < 10001 }
-    ensures desk { IfOk result (λ r. (r.1.desk ≡ r.0.id) × (r.2.desk ≡ r.0.id) × (length r.0.id.kinds ≡ 1)) }
+    ensures desk { IfOk result (λ r. (r.1.desk ≡ r.0.id) × (r.2.desk ≡ r.0.id)
+        × (length r.0.id.kinds ≡ 1)) }
 {
     let (desk, mut clients) = desk_of(alloc, kind, 2, quota)?;
     let one = next(&desk, &mut clients);
@@ -222,7 +223,8 @@ pub(crate) fn acquired<R: Abort>(
     rt: &R,
     alloc: Global,
 ) -> Result<(Desk<AnyObject>, Client<AnyObject>, Client<AnyObject>), AllocError>
-    ensures desk { IfOk result (λ r. (r.1.desk ≡ r.0.id) × (r.2.desk ≡ r.0.id) × (length r.0.id.kinds ≡ 1)) }
+    ensures desk { IfOk result (λ r. (r.1.desk ≡ r.0.id) × (r.2.desk ≡ r.0.id)
+        × (length r.0.id.kinds ≡ 1)) }
 {
     let (desk, mut zero, one) = for_two(alloc, Kind::Mutex, 2)?;
     post(rt, &desk, &mut zero, AnyOp::Acquire);

@@ -1,5 +1,5 @@
-//! Tests of the public calls of `combiner`, on desks of `publication`. They are a crate of their own, so that the
-//! libraries are proved once, and not again for their tests.
+//! Tests of the public calls of `combiner`, on desks of `publication`. They are a crate of their
+//! own, so that the libraries are proved once, and not again for their tests.
 #![tactic(auto)]
 
 #[cfg(test)]

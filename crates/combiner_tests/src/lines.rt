@@ -1,4 +1,5 @@
-//! What a record comes to: the lines of its history, its certificates, and the verdict of the check on both.
+//! What a record comes to: the lines of its history, its certificates, and the verdict of the check
+//! on both.
 
 use certificate::write_certificates;
 use edn::Out;

@@ -59,8 +59,9 @@ fn goes_on<R: Wait + Abort>(
     assert!(rt; !client.outstanding());
 }
 
-// The log has no room yet, so the pass of the first call must make some. `rt try --test --fail-alloc N` refuses a test's Nth
-// allocation: at the one of that room the test prints that the call is outstanding.
+// The log has no room yet, so the pass of the first call must make some. `rt try --test
+// --fail-alloc N` refuses a test's Nth allocation: at the one of that room the test prints that the
+// call is outstanding.
 #[test]
 fn a_call_whose_pass_gets_no_memory_is_outstanding(rt: HostRuntime) -> Result<(), Fail> {
     let Ok((desk, client)) = for_one(rt.alloc(), Kind::Mutex, 1) else {
@@ -80,10 +81,11 @@ fn a_call_whose_pass_gets_no_memory_is_outstanding(rt: HostRuntime) -> Result<()
     Ok(())
 }
 
-// Client 3 calls acquire after four entries, for which the log has room, with the rows of a release and an acquire listed. It
-// serves the acquire, so that its own and the release are served in its second pass. That pass needs more room, for the
-// first time. `rt try --test --fail-alloc N` refuses a test's Nth allocation: at the one of that room the test prints that
-// the call is outstanding.
+// Client 3 calls acquire after four entries, for which the log has room, with the rows of a release
+// and an acquire listed. It serves the acquire, so that its own and the release are served in its
+// second pass. That pass needs more room, for the first time. `rt try --test --fail-alloc N`
+// refuses a test's Nth allocation: at the one of that room the test prints that the call is
+// outstanding.
 #[test]
 fn a_call_that_was_not_made_at_once_is_outstanding(rt: HostRuntime) -> Result<(), Fail> {
     let Ok((desk, mut clients)) = desk_of(rt.alloc(), Kind::Mutex, 4, 5) else {

@@ -213,9 +213,10 @@ fn a_log_that_cannot_grow_so_far_is_as_it_was(rt: HostRuntime) -> Result<(), Fai
     Ok(())
 }
 
-// The log has no room yet, so the first pass must reserve some. `rt try --test --fail-alloc N` refuses a test's Nth
-// allocation: at 96 it is the one of that reserve, and the test prints that nothing was served. Below 96 a part of the desk
-// is refused, above 96 something that is made later.
+// The log has no room yet, so the first pass must reserve some. `rt try --test --fail-alloc N`
+// refuses a test's Nth allocation: at 96 it is the one of that reserve, and the test prints that
+// nothing was served. Below 96 a part of the desk is refused, above 96 something that is made
+// later.
 #[test]
 fn a_pass_whose_log_cannot_grow_serves_nothing(rt: HostRuntime) -> Result<(), Fail> {
     let Ok((desk, mut client)) = for_one(rt.alloc(), Kind::Queue, 2) else {

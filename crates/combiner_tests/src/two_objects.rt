@@ -13,7 +13,8 @@ use std::test::Fail;
 type Opened = (Desk<AnyObject>, Client<AnyObject>, Client<AnyObject>);
 
 fn queue_and_stack(alloc: Global) -> Result<Opened, AllocError>
-    ensures { IfOk result (λ r. (r.1.desk ≡ r.0.id) × (r.2.desk ≡ r.0.id) × (length r.0.id.kinds ≡ 2)) }
+    ensures { IfOk result (λ r. (r.1.desk ≡ r.0.id) × (r.2.desk ≡ r.0.id)
+        × (length r.0.id.kinds ≡ 2)) }
 {
     let mut objects = Vec::with_capacity(alloc, 2)?;
     objects.push_reserved(AnyObject::empty(alloc, Kind::Queue));

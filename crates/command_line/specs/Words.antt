@@ -1,16 +1,19 @@
 -- What the words of a command line ask for.
-use Rattle.std.specs.Prelude.{◌≡◌, ◌≢◌, ◌⊎◌, ◌≤◌, ◌∷◌, [], ⊤, ℕ, ℤ, pos, List, true, codes, Option, Some, None, IfSome, if◌then◌else◌}
+use Rattle.std.specs.Prelude.{◌≡◌, ◌≢◌, ◌⊎◌, ◌≤◌, ◌∷◌, [], ⊤, ℕ, ℤ, pos, List, true, codes, Option}
+use Rattle.std.specs.Prelude.{Some, None, IfSome, if◌then◌else◌}
 use Rattle.std.specs.Str.{bytes_eq}
 use Rattle.std.specs.String.{string_bytes}
 use Rattle.clap.specs.Faults.{fault_of}
 use Rattle.clap.specs.Kinds.{IsAmong}
 use Rattle.clap.specs.Lexer.{long_of}
 use Rattle.std.specs.Str.Parse.{IsNumeral, digits_value, without_leading_plus}
-use Rattle.clap.specs.Simple.{App, new_app, new_rule, on_top, subcommand_of, with_rule, with_subcommand}
+use Rattle.clap.specs.Simple.{App, new_app, new_rule, on_top, subcommand_of, with_rule}
+use Rattle.clap.specs.Simple.{with_subcommand}
 use Rattle.clap.specs.declared.builder.value_parser.ValueParser.TheVariants as vp
 use Rattle.clap.specs.Walk.{Row, Rule, Text, first_of}
 use Rattle.clap.specs.declared.error.kind.ErrorKind.{ErrorKind}
-use Rattle.clap.specs.declared.error.kind.ErrorKind.TheVariants.{DisplayHelp, DisplayVersion, OutOfMemory}
+use Rattle.clap.specs.declared.error.kind.ErrorKind.TheVariants.{DisplayHelp, DisplayVersion}
+use Rattle.clap.specs.declared.error.kind.ErrorKind.TheVariants.{OutOfMemory}
 use Rattle.order_search.specs.declared.trials.TryFirst.{TryFirst}
 use Rattle.order_search.specs.declared.trials.TryFirst.TheVariants.{LeastNumber, LeastReturn}
 use Rattle.seq_objects.specs.declared.kinds.Kinds.{Kinds}
@@ -19,7 +22,8 @@ use Rattle.model.specs.declared.Kind.TheVariants.{Queue}
 use Rattle.seq_objects.specs.Kinds.{kinds_named}
 use Rattle.command_line.specs.declared.asking.RunOptions.{RunOptions}
 use Rattle.command_line.specs.declared.asking.Line.{Line}
-use Rattle.command_line.specs.declared.asking.Line.TheVariants.{Check, Search, Find, Judge, Run, Simulate}
+use Rattle.command_line.specs.declared.asking.Line.TheVariants.{Check, Search, Find, Judge, Run}
+use Rattle.command_line.specs.declared.asking.Line.TheVariants.{Simulate}
 use Rattle.command_line.specs.declared.asking.LineFault.{LineFault}
 use Rattle.command_line.specs.declared.asking.LineFault.TheVariants.{Help, Refused, NoMemory}
 
@@ -35,7 +39,8 @@ max_steps = 1000000000
 abbrev pub default_steps : ℕ
 default_steps = 1000000
 
--- the most objects, clients and calls of each client that a run may be asked to have, and its greatest seed
+-- the most objects, clients and calls of each client that a run may be asked to have, and its
+-- greatest seed
 abbrev pub max_objects : ℕ
 max_objects = 16
 
@@ -55,14 +60,17 @@ required name = record (new_rule name) { required = true }
 
 -- an option with a number from one to another
 abbrev pub number_rule : Text → ℤ → ℤ → Rule
-number_rule name least most = record (new_rule name) { long = Some name; parser = Some (vp.Signed least most) }
+number_rule name least most =
+    record (new_rule name) { long = Some name; parser = Some (vp.Signed least most) }
 
 -- a command of this name on the history in a file
 abbrev pub on_history : Text → App
 on_history name = with_rule (new_app name) (required (codes "HISTORY"))
 
 abbrev pub check : App
-check = with_rule (with_rule (on_history (codes "check")) (required (codes "CERTS"))) (number_rule (codes "workers") (pos 1) (pos max_workers))
+check =
+    with_rule (with_rule (on_history (codes "check")) (required (codes "CERTS")))
+    (number_rule (codes "workers") (pos 1) (pos max_workers))
 
 abbrev pub steps_rule : Rule
 steps_rule = number_rule (codes "steps") (pos 0) (pos max_steps)
@@ -80,11 +88,16 @@ abbrev pub kind_rule : Rule
 kind_rule = record (new_rule (codes "kind")) { long = Some (codes "kind") }
 
 abbrev pub seed_rule : Rule
-seed_rule = record (new_rule (codes "seed")) { long = Some (codes "seed"); parser = Some (vp.Unsigned 0 max_seed) }
+seed_rule =
+    record (new_rule (codes "seed"))
+    { long = Some (codes "seed"); parser = Some (vp.Unsigned 0 max_seed) }
 
 -- a run of so many clients at so many objects of some kinds
 abbrev pub run_on : App
-run_on = with_rule (with_rule (with_rule (new_app (codes "run")) kind_rule) (number_rule (codes "objects") (pos 1) (pos max_objects))) (number_rule (codes "clients") (pos 1) (pos max_clients))
+run_on =
+    with_rule (with_rule (with_rule (new_app (codes "run")) kind_rule)
+    (number_rule (codes "objects") (pos 1) (pos max_objects))) (number_rule (codes "clients")
+    (pos 1) (pos max_clients))
 
 abbrev pub run : App
 run = with_rule (with_rule run_on (number_rule (codes "calls") (pos 0) (pos max_calls))) seed_rule
@@ -96,7 +109,10 @@ abbrev pub find_command : App
 find_command = on_history (codes "find")
 
 abbrev pub judging_commands : App
-judging_commands = with_subcommand (with_subcommand (with_subcommand (with_subcommand (on_top (λ s. record s { subcommand_required = true }) (new_app (codes "fcbench"))) judge_command.top) check.top) search_command.top) find_command.top
+judging_commands =
+    with_subcommand (with_subcommand (with_subcommand (with_subcommand
+    (on_top (λ s. record s { subcommand_required = true }) (new_app (codes "fcbench")))
+    judge_command.top) check.top) search_command.top) find_command.top
 
 abbrev pub command : App
 command = with_subcommand (with_subcommand judging_commands run.top) simulate_command.top
@@ -108,7 +124,8 @@ abbrev pub values : List Text → List Text
 values [] = []
 values (w ∷ ws) = if bytes_eq w (codes "--") then ws else w ∷ values ws
 
--- The words are the program's name, that of a command, and the name of a file, among which `--` may stand.
+-- The words are the program's name, that of a command, and the name of a file, among which `--` may
+-- stand.
 pub record AskOnFile (name : Text) (words : List Text) (file : Text) : Type 0 where
   pub program : Text
   pub rest : List Text
@@ -121,11 +138,13 @@ AskToSimulate words schedule = AskOnFile (codes "simulate") words schedule
 abbrev pub AskToFind : List Text → Text → Type 0
 AskToFind words history = AskOnFile (codes "find") words history
 
--- This number is named by a decimal number within these bounds, before which a plus may stand; where none is given, it is
--- another one.
+-- This number is named by a decimal number within these bounds, before which a plus may stand;
+-- where none is given, it is another one.
 abbrev pub IsNumber : ℕ → ℕ → ℕ → Option Text → ℕ → Type 0
 IsNumber least most default None n = n ≡ default
-IsNumber least most default (Some t) n = IsNumeral 10 (without_leading_plus t) × (n ≡ digits_value 10 (without_leading_plus t)) × (least ≤ n) × (n ≤ most)
+IsNumber least most default (Some t) n =
+    IsNumeral 10 (without_leading_plus t) × (n ≡ digits_value 10 (without_leading_plus t))
+    × (least ≤ n) × (n ≤ most)
 
 abbrev pub AreSteps : Option Text → ℕ → Type 0
 AreSteps o n = IsNumber 0 max_steps default_steps o n
@@ -137,18 +156,20 @@ pub record HasCheck (rows : List Row) (history certs : Text) (workers : ℕ) : T
   pub workers_first : IsNumber 1 max_workers 1 (first_of (codes "workers") rows) workers
 
 -- The parse has found `check`, with these values.
-pub record IsCheckFound (m : Option (Text × List Row)) (history certs : Text) (workers : ℕ) : Type 0 where
-  pub rows : List Row
-  pub entered : m ≡ Some (codes "check", rows)
-  pub values : HasCheck rows history certs workers
+pub record IsCheckFound (m : Option (Text × List Row)) (history certs : Text) (workers : ℕ) : Type 0
+  where
+    pub rows : List Row
+    pub entered : m ≡ Some (codes "check", rows)
+    pub values : HasCheck rows history certs workers
 
 -- no word is `--workers`, alone or with a number behind `=`
 abbrev pub AreNoOptions : List Text → Type 0
 AreNoOptions [] = ⊤
 AreNoOptions (w ∷ ws) = IfSome (long_of w) (λ p. p.0 ≢ codes "workers") × AreNoOptions ws
 
--- The words are the program's name, `check`, and words in which clap finds these values. Where no option stands among them they are
--- the names of two files, among which `--` may stand, and ask for one worker.
+-- The words are the program's name, `check`, and words in which clap finds these values. Where no
+-- option stands among them they are the names of two files, among which `--` may stand, and ask for
+-- one worker.
 pub record AskToCheck (words : List Text) (history certs : Text) (workers : ℕ) : Type 0 where
   pub program : Text
   pub rest : List Text
@@ -178,16 +199,19 @@ pub record IsRunFound (m : Option (Text × List Row)) (o : RunOptions) : Type 0 
 -- which operation is tried first, by a name; where none is given, that with the least number
 abbrev pub IsFirst : Option Text → TryFirst → Type 0
 IsFirst None first = first ≡ LeastNumber
-IsFirst (Some t) first = ((t ≡ codes "number") × (first ≡ LeastNumber)) ⊎ ((t ≡ codes "return") × (first ≡ LeastReturn))
+IsFirst (Some t) first =
+    ((t ≡ codes "number") × (first ≡ LeastNumber)) ⊎ ((t ≡ codes "return") × (first ≡ LeastReturn))
 
 -- these are the values of a search
-pub record HasSearch (rows : List Row) (history : Text) (steps : ℕ) (first : TryFirst) : Type 0 where
-  pub history_first : first_of (codes "HISTORY") rows ≡ Some history
-  pub steps_first : AreSteps (first_of (codes "steps") rows) steps
-  pub first_first : IsFirst (first_of (codes "first") rows) first
+pub record HasSearch (rows : List Row) (history : Text) (steps : ℕ) (first : TryFirst) : Type 0
+  where
+    pub history_first : first_of (codes "HISTORY") rows ≡ Some history
+    pub steps_first : AreSteps (first_of (codes "steps") rows) steps
+    pub first_first : IsFirst (first_of (codes "first") rows) first
 
 -- The parse has found `search`, with these values.
-pub record IsSearchFound (m : Option (Text × List Row)) (history : Text) (steps : ℕ) (first : TryFirst) : Type 0 where
+pub record IsSearchFound (m : Option (Text × List Row)) (history : Text) (steps : ℕ)
+    (first : TryFirst) : Type 0 where
   pub rows : List Row
   pub entered : m ≡ Some (codes "search", rows)
   pub values : HasSearch rows history steps first
@@ -204,10 +228,13 @@ pub record IsJudgeFound (m : Option (Text × List Row)) (history : Text) (steps 
   pub values : HasJudge rows history steps
 
 abbrev pub AskFor : List Text → Line → Type 0
-AskFor words (Check history certs workers) = AskToCheck words (string_bytes history) (string_bytes certs) workers
-AskFor words (Search history steps first) = IsSearchFound (subcommand_of command words) (string_bytes history) steps first
+AskFor words (Check history certs workers) =
+    AskToCheck words (string_bytes history) (string_bytes certs) workers
+AskFor words (Search history steps first) =
+    IsSearchFound (subcommand_of command words) (string_bytes history) steps first
 AskFor words (Find history) = AskToFind words (string_bytes history)
-AskFor words (Judge history steps) = IsJudgeFound (subcommand_of command words) (string_bytes history) steps
+AskFor words (Judge history steps) =
+    IsJudgeFound (subcommand_of command words) (string_bytes history) steps
 AskFor words (Run options) = IsRunFound (subcommand_of command words) options
 AskFor words (Simulate schedule) = AskToSimulate words (string_bytes schedule)
 
@@ -312,10 +339,11 @@ IfRun (Simulate schedule) P = ⊤
 -- ---- what a parse finds
 
 -- the parse has found the command of this name, with this value of its argument
-pub record IsFileFound (name argument : Text) (m : Option (Text × List Row)) (file : Text) : Type 0 where
-  pub rows : List Row
-  pub entered : m ≡ Some (name, rows)
-  pub file_first : first_of argument rows ≡ Some file
+pub record IsFileFound (name argument : Text) (m : Option (Text × List Row)) (file : Text) : Type 0
+  where
+    pub rows : List Row
+    pub entered : m ≡ Some (name, rows)
+    pub file_first : first_of argument rows ≡ Some file
 
 abbrev pub IsScheduleFound : Option (Text × List Row) → Text → Type 0
 IsScheduleFound m schedule = IsFileFound (codes "simulate") (codes "SCHEDULE") m schedule
@@ -325,10 +353,17 @@ IsHistoryFound m history = IsFileFound (codes "find") (codes "HISTORY") m histor
 
 -- the parse has found a command
 abbrev pub IsCommand : Option (Text × List Row) → Type 0
-IsCommand m = ((rows : List Row) × (m ≡ Some (codes "check", rows))) ⊎ ((rows : List Row) × (m ≡ Some (codes "search", rows))) ⊎ ((rows : List Row) × (m ≡ Some (codes "run", rows))) ⊎ ((schedule : Text) × IsScheduleFound m schedule) ⊎ ((history : Text) × IsHistoryFound m history) ⊎ ((rows : List Row) × (m ≡ Some (codes "judge", rows)))
+IsCommand m =
+    ((rows : List Row) × (m ≡ Some (codes "check", rows)))
+    ⊎ ((rows : List Row) × (m ≡ Some (codes "search", rows)))
+    ⊎ ((rows : List Row) × (m ≡ Some (codes "run", rows)))
+    ⊎ ((schedule : Text) × IsScheduleFound m schedule)
+    ⊎ ((history : Text) × IsHistoryFound m history)
+    ⊎ ((rows : List Row) × (m ≡ Some (codes "judge", rows)))
 
 abbrev pub FindsCheck : List Row → Line → Type 0
-FindsCheck rows (Check history certs workers) = HasCheck rows (string_bytes history) (string_bytes certs) workers
+FindsCheck rows (Check history certs workers) =
+    HasCheck rows (string_bytes history) (string_bytes certs) workers
 FindsCheck rows (Search history steps first) = ⊥
 FindsCheck rows (Find history) = ⊥
 FindsCheck rows (Judge history steps) = ⊥
@@ -365,7 +400,8 @@ FindsSchedule rows (Search history steps first) = ⊥
 FindsSchedule rows (Find history) = ⊥
 FindsSchedule rows (Judge history steps) = ⊥
 FindsSchedule rows (Run options) = ⊥
-FindsSchedule rows (Simulate schedule) = first_of (codes "SCHEDULE") rows ≡ Some (string_bytes schedule)
+FindsSchedule rows (Simulate schedule) =
+    first_of (codes "SCHEDULE") rows ≡ Some (string_bytes schedule)
 
 abbrev pub FindsHistory : List Row → Line → Type 0
 FindsHistory rows (Check history certs workers) = ⊥
@@ -376,7 +412,8 @@ FindsHistory rows (Run options) = ⊥
 FindsHistory rows (Simulate schedule) = ⊥
 
 abbrev pub Finds : Option (Text × List Row) → Line → Type 0
-Finds m (Check history certs workers) = IsCheckFound m (string_bytes history) (string_bytes certs) workers
+Finds m (Check history certs workers) =
+    IsCheckFound m (string_bytes history) (string_bytes certs) workers
 Finds m (Search history steps first) = IsSearchFound m (string_bytes history) steps first
 Finds m (Find history) = IsHistoryFound m (string_bytes history)
 Finds m (Judge history steps) = IsJudgeFound m (string_bytes history) steps
@@ -398,9 +435,11 @@ IsFor k NoMemory = ⊤
 abbrev pub HasNoCheck : List Row → Type 0
 HasNoCheck rows = (history certs : Text) (workers : ℕ) → HasCheck rows history certs workers → ⊥
 
--- the rows of a search name no file, or no number of steps that a search may take, or no order of trying
+-- the rows of a search name no file, or no number of steps that a search may take, or no order of
+-- trying
 abbrev pub HasNoSearch : List Row → Type 0
-HasNoSearch rows = (history : Text) (steps : ℕ) (first : TryFirst) → HasSearch rows history steps first → ⊥
+HasNoSearch rows =
+    (history : Text) (steps : ℕ) (first : TryFirst) → HasSearch rows history steps first → ⊥
 
 -- the rows of a judgement name no file, or no number of steps that a search may take
 abbrev pub HasNoJudge : List Row → Type 0
@@ -416,8 +455,10 @@ IsRefused (Help text) = ⊥
 IsRefused (Refused text) = ⊤
 IsRefused NoMemory = ⊥
 
--- The parse has found the command of this name, of whose rows this holds, and the words are refused.
-pub record LacksFor (name : Text) (HasNone : List Row → Type 0) (m : Option (Text × List Row)) (f : LineFault) : Type 0 where
+-- The parse has found the command of this name, of whose rows this holds, and the words are
+-- refused.
+pub record LacksFor (name : Text) (HasNone : List Row → Type 0) (m : Option (Text × List Row))
+    (f : LineFault) : Type 0 where
   pub rows : List Row
   pub entered : m ≡ Some (name, rows)
   pub none : HasNone rows
@@ -425,9 +466,13 @@ pub record LacksFor (name : Text) (HasNone : List Row → Type 0) (m : Option (T
 
 -- the parse has found a search, a run, a check or a judgement without its values
 abbrev pub Lacks : Option (Text × List Row) → LineFault → Type 0
-Lacks m f = LacksFor (codes "search") HasNoSearch m f ⊎ LacksFor (codes "run") HasNoRun m f ⊎ LacksFor (codes "check") HasNoCheck m f ⊎ LacksFor (codes "judge") HasNoJudge m f
+Lacks m f =
+    LacksFor (codes "search") HasNoSearch m f ⊎ LacksFor (codes "run") HasNoRun m f
+    ⊎ LacksFor (codes "check") HasNoCheck m f ⊎ LacksFor (codes "judge") HasNoJudge m f
 
--- The fault is want of memory, or clap refuses the words with an error of a kind for which it is, or it finds a
--- search, a run, a check or a judgement without its values.
+-- The fault is want of memory, or clap refuses the words with an error of a kind for which it is,
+-- or it finds a search, a run, a check or a judgement without its values.
 abbrev pub IsFault : List Text → LineFault → Type 0
-IsFault words f = (f ≡ NoMemory) ⊎ ((k : ErrorKind) × IsAmong k (fault_of command words) × IsFor k f) ⊎ Lacks (subcommand_of command words) f
+IsFault words f =
+    (f ≡ NoMemory) ⊎ ((k : ErrorKind) × IsAmong k (fault_of command words) × IsFor k f)
+    ⊎ Lacks (subcommand_of command words) f

@@ -28,13 +28,15 @@ pub struct RunOptions {
 /// What the words ask for.
 #[derive(Debug, PartialEq, Eq, Drop)]
 pub enum Line {
-    /// To judge the history in one file by the certificates in another, with so many workers, from 1 to 16.
+    /// To judge the history in one file by the certificates in another, with so many workers, from
+    /// 1 to 16.
     Check {
         history: String,
         certs: String,
         workers: u32,
     },
-    /// To search for certificates of the history in a file, with at most so many steps for each object.
+    /// To search for certificates of the history in a file, with at most so many steps for each
+    /// object.
     Search {
         history: String,
         steps: u32,
@@ -44,8 +46,8 @@ pub enum Line {
     Find {
         history: String,
     },
-    /// To find certificates of the history in a file, with a search of at most so many steps for each object where that finds
-    /// none, and to judge it by them.
+    /// To find certificates of the history in a file, with a search of at most so many steps for
+    /// each object where that finds none, and to judge it by them.
     Judge {
         history: String,
         steps: u32,

@@ -40,7 +40,8 @@ const NO_KIND: &str =
 /// Said of a run that has a number outside its bounds. clap never lets it come to this.
 const NO_RUN: &str = "error: a run has a number outside its bounds\n";
 
-/// Said of a judgement that lacks a value. Of its file and its steps clap never lets it come to this.
+/// Said of a judgement that lacks a value. Of its file and its steps clap never lets it come to
+/// this.
 const NO_JUDGEMENT: &str =
     "error: a judgement has no file, or no number of steps from 0 to 1000000000\n";
 
@@ -338,7 +339,8 @@ fn check_found(alloc: Global, matches: &ArgMatches<'_>) -> Result<Line, LineFaul
     })
 }
 
-/// The history's file and the most steps for an object of it; or the words are refused, for this reason.
+/// The history's file and the most steps for an object of it; or the words are refused, for this
+/// reason.
 fn history_and_steps(
     alloc: Global,
     matches: &ArgMatches<'_>,
@@ -427,7 +429,8 @@ fn why_no_run(matches: &ArgMatches<'_>) -> &'static str {
     }
 }
 
-/// The run whose matches these are. Of its numbers clap lets none come here that is outside its bounds.
+/// The run whose matches these are. Of its numbers clap lets none come here that is outside its
+/// bounds.
 fn run_found(alloc: Global, matches: &ArgMatches<'_>) -> Result<Line, LineFault>
     ensures found { IfOk result (spec.FindsRun (rows_of (found_of matches.now))) }
     ensures lacks { IfErr result (λ f. f ≢ LineFault.NoMemory →

@@ -1,5 +1,6 @@
 -- What is put out where the finder looks for certificates, and its exit status.
-use Rattle.std.specs.Prelude.{◌≡◌, ◌<◌, ◌↔◌, ℕ, Bool, true, false, List, [], ◌∷◌, ◌++◌, codes, decimal, map, All, AllPairs, Contains, if◌then◌else◌}
+use Rattle.std.specs.Prelude.{◌≡◌, ◌<◌, ◌↔◌, ℕ, Bool, true, false, List, [], ◌∷◌, ◌++◌, codes}
+use Rattle.std.specs.Prelude.{decimal, map, All, AllPairs, Contains, if◌then◌else◌}
 use Rattle.std.specs.List.{list_all}
 use Rattle.edn.specs.Sound.{IsShort}
 use Rattle.events.specs.declared.event.Event.{Event}
@@ -41,11 +42,13 @@ pub record AreFound (es : List Event) (status : ℕ) (text : List ℕ) : Type 0 
   pub status_is : status ≡ find_status answers
   pub text_is : text ≡ findings_text answers
   -- a yes comes with valid certificates
-  pub certified : status ≡ yes_status → (cs : List Certificate) × AreValid es cs × (text ≡ lines_of cs)
+  pub certified : status ≡ yes_status
+      → (cs : List Certificate) × AreValid es cs × (text ≡ lines_of cs)
 
 -- The same of the history that a text denotes, which is not too long to be read.
 abbrev pub AreFoundIn : List ℕ → ℕ → List ℕ → Type 0
-AreFoundIn h status text = IsShort h × (es : List Event) × DenotesHistory h es × AreFound es status text
+AreFoundIn h status text =
+    IsShort h × (es : List Event) × DenotesHistory h es × AreFound es status text
 
 abbrev pub IsFindOutput : List ℕ → ℕ → List ℕ → Type 0
 IsFindOutput h status text = IsOutput (AreFoundIn h) (IsUnsearched h) status text

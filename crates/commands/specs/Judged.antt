@@ -1,5 +1,6 @@
 -- What is put out where a history is judged without certificates, and the exit status.
-use Rattle.std.specs.Prelude.{◌≡◌, ◌<◌, ◌↔◌, ℕ, false, ⊤, List, [], ◌∷◌, ◌++◌, map, All, AllPairs, Contains, if◌then◌else◌}
+use Rattle.std.specs.Prelude.{◌≡◌, ◌<◌, ◌↔◌, ℕ, false, ⊤, List, [], ◌∷◌, ◌++◌, map, All, AllPairs}
+use Rattle.std.specs.Prelude.{Contains, if◌then◌else◌}
 use Rattle.std.specs.List.{list_all}
 use Rattle.edn.specs.Sound.{IsShort}
 use Rattle.model.specs.Linearizable.{IsLinearizable}
@@ -28,7 +29,8 @@ abbrev pub notes_text : List (ℕ × Search) → List ℕ
 notes_text [] = []
 notes_text (a ∷ rest) = note_line a.0 a.1.steps a.1.found ++ notes_text rest
 
--- Some object of the history has no certificate: the decisions on all objects, in rising number, and what they show.
+-- Some object of the history has no certificate: the decisions on all objects, in rising number,
+-- and what they show.
 pub record AreOpen (es : List Event) (limit status : ℕ) (text : List ℕ) : Type 0 where
   pub answers : List (ℕ × Search)
   pub rising : AllPairs (λ a b. a.0 < b.0) answers
@@ -54,16 +56,20 @@ IsVerdictOn es (verdict.No r) = ⊥
 IsVerdictOn es (verdict.Malformed f) = ⊥
 IsVerdictOn es verdict.NoMemory = ⊤
 
--- The same of the history that a text denotes, which is not too long to be read, or the fault of the text.
+-- The same of the history that a text denotes, which is not too long to be read, or the fault of
+-- the text.
 abbrev pub IsVerdictOnText : List ℕ → Verdict → Type 0
-IsVerdictOnText h (verdict.Yes s) = IsShort h × (es : List Event) × DenotesHistory h es × IsCertified es s
+IsVerdictOnText h (verdict.Yes s) =
+    IsShort h × (es : List Event) × DenotesHistory h es × IsCertified es s
 IsVerdictOnText h (verdict.No r) = ⊥
 IsVerdictOnText h (verdict.Malformed f) = IsHistoryFault h (Faulty f)
 IsVerdictOnText h verdict.NoMemory = ⊤
 
--- Some object of the history that the text denotes has no certificate. The text is not too long to be read.
+-- Some object of the history that the text denotes has no certificate. The text is not too long to
+-- be read.
 abbrev pub IsOpenText : List ℕ → ℕ → ℕ → List ℕ → Type 0
-IsOpenText h limit status text = IsShort h × (es : List Event) × DenotesHistory h es × AreOpen es limit status text
+IsOpenText h limit status text =
+    IsShort h × (es : List Event) × DenotesHistory h es × AreOpen es limit status text
 
 abbrev pub IsJudgeOutput : List ℕ → ℕ → ℕ → List ℕ → Type 0
 IsJudgeOutput h limit status text = IsOutput (IsOpenText h limit) (IsVerdictOnText h) status text

@@ -13,6 +13,9 @@ abbrev pub text_in : Result Output Verdict → List ℕ
 text_in (Ok o) = o.text.items
 text_in (Err v) = verdict_text false v
 
--- The first holds of the status and the lines; or they are those of a verdict of which the second holds.
+-- The first holds of the status and the lines; or they are those of a verdict of which the second
+-- holds.
 abbrev pub IsOutput : (ℕ → List ℕ → Type 0) → (Verdict → Type 0) → ℕ → List ℕ → Type 0
-IsOutput IsMade IsSaid status text = IsMade status text ⊎ ((v : Verdict) × IsSaid v × (status ≡ status_of v) × (text ≡ verdict_text false v))
+IsOutput IsMade IsSaid status text =
+    IsMade status text
+    ⊎ ((v : Verdict) × IsSaid v × (status ≡ status_of v) × (text ≡ verdict_text false v))

@@ -40,14 +40,15 @@ logs_of r = logs_in (λ (op : AnyOp). op) (λ (reply : AnyReply). reply) r
 
 -- the record is sound, for objects of some kinds and some quota
 abbrev pub IsSound : Recorded AnyOp AnyReply → Type 0
-IsSound r = (kinds : List Kind) × (quota : ℕ) × IsSoundRecord kinds quota (journals_of r) (logs_of r)
+IsSound r =
+    (kinds : List Kind) × (quota : ℕ) × IsSoundRecord kinds quota (journals_of r) (logs_of r)
 
 -- the counts are those of the journals' history
 abbrev pub HaveCounts : (ℕ → List AnyEvent) → Summary → Type 0
 HaveCounts journals s = (es : List Event) × AreEventsOf journals es × AreCountsOf es s
 
--- What a verdict says of a record's journals and logs: its certificates are accepted, and the counts are those of its
--- history; or this is their first refusal.
+-- What a verdict says of a record's journals and logs: its certificates are accepted, and the
+-- counts are those of its history; or this is their first refusal.
 abbrev pub Says : (ℕ → List AnyEvent) → (ℕ → List AnyEntry) → Verdict → Type 0
 Says journals logs (Yes s) = IsAccepted journals logs × HaveCounts journals s
 Says journals logs (No r) = IsRefused journals logs r
@@ -55,20 +56,24 @@ Says journals logs (Malformed f) = ⊥
 Says journals logs NoMemory = ⊤
 
 -- the lines of the record's history, then this text, and its certificates as comments
-pub record IsTextOf (journals : ℕ → List AnyEvent) (logs : ℕ → List AnyEntry) (between text : List ℕ) : Type 0 where
+pub record IsTextOf (journals : ℕ → List AnyEvent) (logs : ℕ → List AnyEntry)
+    (between text : List ℕ) : Type 0 where
   pub history : List ℕ
   pub certificates : List Certificate
   pub is_history : IsHistoryText journals history
   pub are_certificates : AreCertificatesOf journals logs certificates
   pub text_is : text ≡ history ++ (between ++ commented certificates)
 
--- The same, and the verdict on the record as comments. That of a sound record is yes, but for want of memory.
-pub record IsReported (journals : ℕ → List AnyEvent) (logs : ℕ → List AnyEntry) (between : List ℕ) (status : ℕ) (text : List ℕ) : Type 0 where
+-- The same, and the verdict on the record as comments. That of a sound record is yes, but for want
+-- of memory.
+pub record IsReported (journals : ℕ → List AnyEvent) (logs : ℕ → List AnyEntry) (between : List ℕ)
+    (status : ℕ) (text : List ℕ) : Type 0 where
   pub own : List ℕ
   pub verdict : Verdict
   pub is_text : IsTextOf journals logs between own
   pub says : Says journals logs verdict
-  pub accepted : (kinds : List Kind) (quota : ℕ) → IsSoundRecord kinds quota journals logs → IsYesUnlessMemory verdict
+  pub accepted : (kinds : List Kind) (quota : ℕ) → IsSoundRecord kinds quota journals logs
+      → IsYesUnlessMemory verdict
   pub status_is : status ≡ status_of verdict
   pub text_is : text ≡ own ++ verdict_text true verdict
 
@@ -78,15 +83,19 @@ IsOutOfMemory status text = (status ≡ no_memory_status) × (text ≡ codes "ou
 
 -- There is nothing to judge, and one line says why. A client alone wants no thread.
 abbrev pub IsGivenUp : ℕ → ℕ → List ℕ → Type 0
-IsGivenUp clients status text = IsOutOfMemory status text ⊎ ((status ≡ no_memory_status) × (text ≡ codes "no thread\n") × (1 < clients))
+IsGivenUp clients status text =
+    IsOutOfMemory status text
+    ⊎ ((status ≡ no_memory_status) × (text ≡ codes "no thread\n") × (1 < clients))
 
 -- what is put out of a record
 abbrev pub IsRecordOutput : (ℕ → List AnyEvent) → (ℕ → List AnyEntry) → List ℕ → ℕ → List ℕ → Type 0
-IsRecordOutput journals logs between status text = IsReported journals logs between status text ⊎ IsOutOfMemory status text
+IsRecordOutput journals logs between status text =
+    IsReported journals logs between status text ⊎ IsOutOfMemory status text
 
--- The certificates of the record are accepted. The lines are those of its history, then this text, its certificates as
--- comments, and a yes with the counts of its history.
-pub record IsAcceptedOutput (journals : ℕ → List AnyEvent) (logs : ℕ → List AnyEntry) (between out : List ℕ) : Type 0 where
+-- The certificates of the record are accepted. The lines are those of its history, then this text,
+-- its certificates as comments, and a yes with the counts of its history.
+pub record IsAcceptedOutput (journals : ℕ → List AnyEvent) (logs : ℕ → List AnyEntry)
+    (between out : List ℕ) : Type 0 where
   pub accepted : IsAccepted journals logs
   pub history : List ℕ
   pub is_history : IsHistoryText journals history
@@ -94,15 +103,24 @@ pub record IsAcceptedOutput (journals : ℕ → List AnyEvent) (logs : ℕ → L
   pub are_certificates : AreCertificatesOf journals logs certificates
   pub counts : Summary
   pub are_counts : HaveCounts journals counts
-  pub out_is : out ≡ history ++ (between ++ (commented certificates ++ verdict_text true (Yes counts)))
+  pub out_is : out
+      ≡ history ++ (between ++ (commented certificates ++ verdict_text true (Yes counts)))
 
 -- the objects of a run with these options, and the calls of its clients, as they are drawn
 abbrev pub work_of : RunOptions → Work
-work_of o = record { kinds = kinds_of o.kinds o.objects; calls = map (client_calls o.kinds o.objects o.calls o.seed) (range_with_len 0 o.clients) }
+work_of o =
+    record {
+      kinds = kinds_of o.kinds o.objects;
+      calls = map (client_calls o.kinds o.objects o.calls o.seed) (range_with_len 0 o.clients);
+    }
 
--- What is put out of a run: the record of clients that made these calls, or the line that says why there is none.
+-- What is put out of a run: the record of clients that made these calls, or the line that says why
+-- there is none.
 abbrev pub IsRunOutput : RunOptions → ℕ → List ℕ → Type 0
-IsRunOutput o status text = ((r : Recorded AnyOp AnyReply) × Ran (work_of o) r × IsRecordOutput (journals_of r) (logs_of r) [] status text) ⊎ IsGivenUp o.clients status text
+IsRunOutput o status text =
+    ((r : Recorded AnyOp AnyReply) × Ran (work_of o) r
+    × IsRecordOutput (journals_of r) (logs_of r) [] status text)
+    ⊎ IsGivenUp o.clients status text
 
 -- the record of such a run, the certificates of which are accepted, and its lines
 pub record IsAcceptedRun (o : RunOptions) (out : List ℕ) : Type 0 where

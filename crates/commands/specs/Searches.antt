@@ -1,5 +1,6 @@
 -- What a search puts out, and its exit status.
-use Rattle.std.specs.Prelude.{◌≡◌, ◌<◌, ◌↔◌, ℕ, Bool, true, false, ⊤, List, [], ◌∷◌, ◌++◌, codes, decimal, map, All, AllPairs, Contains, if◌then◌else◌}
+use Rattle.std.specs.Prelude.{◌≡◌, ◌<◌, ◌↔◌, ℕ, Bool, true, false, ⊤, List, [], ◌∷◌, ◌++◌, codes}
+use Rattle.std.specs.Prelude.{decimal, map, All, AllPairs, Contains, if◌then◌else◌}
 use Rattle.std.specs.List.{list_all, list_any}
 use Rattle.edn.specs.Sound.{IsShort}
 use Rattle.model.specs.Linearizable.{IsLinearizable}
@@ -12,7 +13,8 @@ use Rattle.checker.specs.Refusals.{AreValid}
 use Rattle.search.specs.declared.found.Search.{Search}
 use Rattle.search.specs.declared.found.SearchOutcome.{SearchOutcome}
 use Rattle.search.specs.declared.found.SearchOutcome.TheVariants as found
-use Rattle.search.specs.declared.found.SearchOutcome.TheVariants.{Impossible, OutOfSteps, TooLarge, NoMemory}
+use Rattle.search.specs.declared.found.SearchOutcome.TheVariants.{Impossible, OutOfSteps, TooLarge}
+use Rattle.search.specs.declared.found.SearchOutcome.TheVariants.{NoMemory}
 use Rattle.search.specs.Answers.{IsAnswerOn}
 use Rattle.report.specs.declared.verdict.Verdict.{Verdict}
 use Rattle.report.specs.declared.verdict.Verdict.TheVariants as verdict
@@ -25,7 +27,8 @@ use Rattle.commands.specs.Statuses.{yes_status, no_status, no_memory_status}
 abbrev pub answer_line : ℕ → ℕ → SearchOutcome → List ℕ
 answer_line x n (found.Found c) = lines_of (c ∷ [])
 answer_line x n Impossible = (codes "; object " ++ decimal x) ++ codes ": impossible\n"
-answer_line x n OutOfSteps = (codes "; object " ++ decimal x) ++ (codes ": out of steps after " ++ (decimal n ++ codes "\n"))
+answer_line x n OutOfSteps =
+    (codes "; object " ++ decimal x) ++ (codes ": out of steps after " ++ (decimal n ++ codes "\n"))
 answer_line x n TooLarge = (codes "; object " ++ decimal x) ++ codes ": too large\n"
 answer_line x n NoMemory = (codes "; object " ++ decimal x) ++ codes ": out of memory\n"
 
@@ -49,7 +52,9 @@ is_found NoMemory = false
 
 -- no, where some object is impossible; yes, where each has a certificate
 abbrev pub search_status : List (ℕ × Search) → ℕ
-search_status answers = if list_any (λ a. is_impossible a.1.found) answers then no_status else if list_all (λ a. is_found a.1.found) answers then yes_status else no_memory_status
+search_status answers =
+    if list_any (λ a. is_impossible a.1.found) answers then no_status else if list_all (λ a.
+    is_found a.1.found) answers then yes_status else no_memory_status
 
 -- The answers on the objects of a history, in rising number, and what they show.
 pub record AreSearched (es : List Event) (limit status : ℕ) (text : List ℕ) : Type 0 where
@@ -60,12 +65,14 @@ pub record AreSearched (es : List Event) (limit status : ℕ) (text : List ℕ) 
   pub status_is : status ≡ search_status answers
   pub text_is : text ≡ answers_text answers
   -- a yes comes with valid certificates, and where it is a no the history is not linearizable
-  pub certified : status ≡ yes_status → (cs : List Certificate) × AreValid es cs × (text ≡ lines_of cs)
+  pub certified : status ≡ yes_status
+      → (cs : List Certificate) × AreValid es cs × (text ≡ lines_of cs)
   pub refuted : status ≡ no_status → IsLinearizable (kind_at es) (events (denoted es)) → ⊥
 
 -- The same of the history that a text denotes, which is not too long to be read.
 abbrev pub IsSearched : List ℕ → ℕ → ℕ → List ℕ → Type 0
-IsSearched h limit status text = IsShort h × (es : List Event) × DenotesHistory h es × AreSearched es limit status text
+IsSearched h limit status text =
+    IsShort h × (es : List Event) × DenotesHistory h es × AreSearched es limit status text
 
 -- the text could not be read, or memory was refused
 abbrev pub IsUnsearched : List ℕ → Verdict → Type 0

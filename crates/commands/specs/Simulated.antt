@@ -7,9 +7,11 @@ use Rattle.recorder.specs.Records.{Recorded}
 use Rattle.schedule.specs.Faults.{number_of}
 use Rattle.simulation.specs.Simulations.{IsSimulated, IsSimulationFault}
 use Rattle.simulation.specs.declared.simulating.SimulationFault.{SimulationFault}
-use Rattle.simulation.specs.declared.simulating.SimulationFault.TheVariants.{Text, Form, NotEnded, NoMemory}
+use Rattle.simulation.specs.declared.simulating.SimulationFault.TheVariants.{Text, Form, NotEnded}
+use Rattle.simulation.specs.declared.simulating.SimulationFault.TheVariants.{NoMemory}
 use Rattle.commands.specs.Statuses.{malformed_status, no_memory_status}
-use Rattle.commands.specs.Runs.{IsAcceptedOutput, IsOutOfMemory, IsRecordOutput, journals_of, logs_of}
+use Rattle.commands.specs.Runs.{IsAcceptedOutput, IsOutOfMemory, IsRecordOutput, journals_of}
+use Rattle.commands.specs.Runs.{logs_of}
 
 -- how many steps were not possible at their turn
 abbrev pub refused_line : ℕ → List ℕ
@@ -17,8 +19,12 @@ refused_line n = codes "; refused steps: " ++ (decimal n ++ codes "\n")
 
 -- the line that says why there is no record
 abbrev pub fault_line : SimulationFault → List ℕ
-fault_line (Text e) = codes "malformed schedule: E" ++ (decimal (edn.number_of e.kind) ++ (codes " at byte " ++ (decimal e.place ++ codes "\n")))
-fault_line (Form f) = codes "malformed schedule: S" ++ (decimal (number_of f.kind) ++ (codes " at form " ++ (decimal f.form ++ codes "\n")))
+fault_line (Text e) =
+    codes "malformed schedule: E"
+    ++ (decimal (edn.number_of e.kind) ++ (codes " at byte " ++ (decimal e.place ++ codes "\n")))
+fault_line (Form f) =
+    codes "malformed schedule: S"
+    ++ (decimal (number_of f.kind) ++ (codes " at form " ++ (decimal f.form ++ codes "\n")))
 fault_line (NotEnded c) = codes "client " ++ (decimal c ++ codes " has not ended\n")
 fault_line NoMemory = codes "out of memory\n"
 
@@ -30,15 +36,19 @@ fault_status NoMemory = no_memory_status
 
 -- the line of the fault and its status, or memory for the line was refused
 abbrev pub IsFaultOutput : SimulationFault → ℕ → List ℕ → Type 0
-IsFaultOutput f status out = ((status ≡ fault_status f) × (out ≡ fault_line f)) ⊎ IsOutOfMemory status out
+IsFaultOutput f status out =
+    ((status ≡ fault_status f) × (out ≡ fault_line f)) ⊎ IsOutOfMemory status out
 
--- What is put out of a schedule's text: the history, the refused steps, the certificates and the verdict of the record that it
--- comes to, or the line that says why there is none.
+-- What is put out of a schedule's text: the history, the refused steps, the certificates and the
+-- verdict of the record that it comes to, or the line that says why there is none.
 abbrev pub IsSimulateOutput : List ℕ → ℕ → List ℕ → Type 0
-IsSimulateOutput text status out = ((refused : ℕ) × (r : Recorded AnyOp AnyReply) × IsSimulated text refused r × IsRecordOutput (journals_of r) (logs_of r) (refused_line refused) status out)
+IsSimulateOutput text status out =
+    ((refused : ℕ) × (r : Recorded AnyOp AnyReply) × IsSimulated text refused r
+    × IsRecordOutput (journals_of r) (logs_of r) (refused_line refused) status out)
     ⊎ ((f : SimulationFault) × IsSimulationFault text f × IsFaultOutput f status out)
 
--- The text comes to a record, the certificates of which are accepted, and its lines, with how many steps were refused.
+-- The text comes to a record, the certificates of which are accepted, and its lines, with how many
+-- steps were refused.
 pub record IsAcceptedSimulation (text out : List ℕ) : Type 0 where
   pub refused : ℕ
   pub recorded : Recorded AnyOp AnyReply

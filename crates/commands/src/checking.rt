@@ -20,8 +20,8 @@ use sources::{Text, ToolFault, check_over};
 use std::alloc::Global;
 use std::thread::Threads;
 
-/// Judges the texts that come from two sources with so many workers, writes the verdict, and gives the exit status; or names the
-/// text that could not be read, and writes nothing.
+/// Judges the texts that come from two sources with so many workers, writes the verdict, and gives
+/// the exit status; or names the text that could not be read, and writes nothing.
 pub fn check_sources<R: Threads + Sync, H: Source, C: Source, S: Sink>(
     rt: &R,
     alloc: Global,
@@ -33,8 +33,8 @@ pub fn check_sources<R: Threads + Sync, H: Source, C: Source, S: Sink>(
     requires history { H.broken history.old ≡ false }
     requires certificates { C.broken certificates.old ≡ false }
     requires sink { S.broken sink.old ≡ false }
-    // Where the output did not fail, the lines of a verdict that holds of the bytes that were read are written, and the status is
-    // its own; or memory was refused before they were judged.
+    // Where the output did not fail, the lines of a verdict that holds of the bytes that were read
+    // are written, and the status is its own; or memory was refused before they were judged.
     ensures written { IfOk result (λ status. status ≢ failed_status →
         ((v : Verdict) × (status ≡ spec.status_of v)
         × IsJudged (H.remaining history.old) (H.remaining history.new)

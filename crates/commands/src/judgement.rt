@@ -118,7 +118,8 @@ fn verdict_on_found<R: Threads + Sync>(
     }
 }
 
-/// Finds certificates, and gives the verdict on them as an error, or else what is said of objects that have none.
+/// Finds certificates, and gives the verdict on them as an error, or else what is said of objects
+/// that have none.
 fn judge_events<R: Threads + Sync>(
     rt: &R,
     alloc: Global,
@@ -155,8 +156,8 @@ fn judge_text<R: Threads + Sync>(
     judge_events(rt, alloc, &history, steps)
 }
 
-/// Finds certificates of the history in the text, judges it by them, puts out the verdict, or what is said of objects without a
-/// certificate, and gives the exit status.
+/// Finds certificates of the history in the text, judges it by them, puts out the verdict, or what
+/// is said of objects without a certificate, and gives the exit status.
 pub(crate) fn report_judgement<R: Threads + Sync, S: Sink>(
     rt: &R,
     alloc: Global,

@@ -27,7 +27,8 @@ pub(crate) fn send<S: Sink>(lines: &[u8], status: u8, sink: &mut S) -> u8
         (result ≡ status) × Appends (S.sent sink.old) (S.sent sink.new) lines.now }
     ensures usable { result ≢ failed_status → S.broken sink.new ≡ false }
     ensures failed { result ≡ failed_status → S.broken sink.new ≡ true }
-    ensures front { result ≡ failed_status → WritesPrefix (S.sent sink.old) (S.sent sink.new) lines.now }
+    ensures front { result ≡ failed_status
+        → WritesPrefix (S.sent sink.old) (S.sent sink.new) lines.now }
 {
     match write_bytes(lines, sink) {
         Ok(()) => status,
@@ -52,7 +53,8 @@ pub(crate) fn send_verdict<S: Sink>(verdict: &Verdict, commented: bool, sink: &m
     }
 }
 
-/// Writes what was made, or the verdict that says why there is nothing, and answers the exit status.
+/// Writes what was made, or the verdict that says why there is nothing, and answers the exit
+/// status.
 pub(crate) fn put_out<S: Sink>(made: Result<Output, Verdict>, sink: &mut S) -> u8
     requires working { S.broken sink.old ≡ false }
     requires other { IfOk made (λ o. o.status ≢ failed_status) }
@@ -60,7 +62,8 @@ pub(crate) fn put_out<S: Sink>(made: Result<Output, Verdict>, sink: &mut S) -> u
         (result ≡ status_in made) × Appends (S.sent sink.old) (S.sent sink.new) (text_in made) }
     ensures usable { result ≢ failed_status → S.broken sink.new ≡ false }
     ensures failed { result ≡ failed_status → S.broken sink.new ≡ true }
-    ensures front { result ≡ failed_status → WritesPrefix (S.sent sink.old) (S.sent sink.new) (text_in made) }
+    ensures front { result ≡ failed_status
+        → WritesPrefix (S.sent sink.old) (S.sent sink.new) (text_in made) }
 {
     match made {
         Ok(output) => send(&output.text, output.status, sink),

@@ -55,10 +55,11 @@ fn check<R: Threads + Sync, S: Sink>(
     }
 }
 
-/// Does the command on the bytes of its first and second file (empty where it has none), writes its output, and gives
-/// the exit status: 0 for yes, or where each object has a certificate; 1 for no, or where an object is impossible; 2 where a
-/// text is malformed or a client of a schedule has not ended; 3 where memory was refused, a thread could not be started, or some
-/// object stays open; 4 where the output failed.
+/// Does the command on the bytes of its first and second file (empty where it has none), writes its
+/// output, and gives the exit status: 0 for yes, or where each object has a certificate; 1 for no,
+/// or where an object is impossible; 2 where a text is malformed or a client of a schedule has not
+/// ended; 3 where memory was refused, a thread could not be started, or some object stays open; 4
+/// where the output failed.
 pub fn perform<R: Threads + Wait + Sync, S: Sink>(
     rt: &R,
     alloc: Global,
@@ -69,7 +70,8 @@ pub fn perform<R: Threads + Wait + Sync, S: Sink>(
 ) -> u8
     requires working { S.broken sink.old ≡ false }
     ensures linearizable { IsCheck line.now → result ≡ yes_status → IsLinearizableText first.now }
-    // Where the output did not fail, the lines of a verdict that holds are written, and the status is its own.
+    // Where the output did not fail, the lines of a verdict that holds are written, and the status
+    // is its own.
     ensures written { IsCheck line.now → result ≢ failed_status →
         (v : Verdict) × Holds first.now second.now v × (result ≡ spec.status_of v)
         × Appends (S.sent sink.old) (S.sent sink.new) (verdict_text false v) }
@@ -79,7 +81,8 @@ pub fn perform<R: Threads + Wait + Sync, S: Sink>(
     ensures front { IsCheck line.now → result ≡ failed_status →
         (v : Verdict) × Holds first.now second.now v
         × WritesPrefix (S.sent sink.old) (S.sent sink.new) (verdict_text false v) }
-    // A search finds certificates that are valid for the history, or says that it is not linearizable.
+    // A search finds certificates that are valid for the history, or says that it is not
+    // linearizable.
     ensures search_written { IfSearch line.now (λ steps. result ≢ failed_status →
         (out : List ℕ) × IsSearchOutput first.now steps result out
         × Appends (S.sent sink.old) (S.sent sink.new) out) }
@@ -101,8 +104,8 @@ pub fn perform<R: Threads + Wait + Sync, S: Sink>(
     ensures found_certified { IsFind line.now → result ≡ yes_status →
         (out : List ℕ) × AreCertificatesFor first.now out
         × Appends (S.sent sink.old) (S.sent sink.new) out }
-    // A judgement finds valid certificates, or says of which objects it found none; it is never a no but of a history that is not
-    // linearizable.
+    // A judgement finds valid certificates, or says of which objects it found none; it is never a
+    // no but of a history that is not linearizable.
     ensures judged_linearizable { IfJudge line.now
         (λ _. result ≡ yes_status → IsLinearizableText first.now) }
     ensures judged_refuted { IfJudge line.now
@@ -113,8 +116,8 @@ pub fn perform<R: Threads + Wait + Sync, S: Sink>(
     ensures judge_front { IfJudge line.now (λ steps. result ≡ failed_status →
         (status : ℕ) × (out : List ℕ) × IsJudgeOutput first.now steps status out
         × WritesPrefix (S.sent sink.old) (S.sent sink.new) out) }
-    // A run comes to the record of clients that made the calls asked for, whose certificates are accepted, or to the line that
-    // says why not.
+    // A run comes to the record of clients that made the calls asked for, whose certificates are
+    // accepted, or to the line that says why not.
     ensures run_written { IfRun line.now (λ o. result ≢ failed_status →
         (text : List ℕ) × IsRunOutput o result text
         × Appends (S.sent sink.old) (S.sent sink.new) text) }
@@ -124,7 +127,8 @@ pub fn perform<R: Threads + Wait + Sync, S: Sink>(
     ensures run_accepted { IfRun line.now (λ o. result ≡ yes_status →
         (out : List ℕ) × IsAcceptedRun o out × Appends (S.sent sink.old) (S.sent sink.new) out) }
     ensures run_never_no { IfRun line.now (λ _. result ≢ no_status) }
-    // A schedule that is played comes to the record of a run, whose certificates are accepted, or to the line that says why not.
+    // A schedule that is played comes to the record of a run, whose certificates are accepted, or
+    // to the line that says why not.
     ensures simulate_written { IsSimulate line.now → result ≢ failed_status →
         (out : List ℕ) × IsSimulateOutput first.now result out
         × Appends (S.sent sink.old) (S.sent sink.new) out }

@@ -87,7 +87,8 @@ fn send_both<S: Sink>(text: &[u8], verdict: &Verdict, sink: &mut S) -> u8
     send_verdict(verdict, true, sink)
 }
 
-/// Puts out the history of the record, this text, its certificates and the verdict on it, and gives the exit status.
+/// Puts out the history of the record, this text, its certificates and the verdict on it, and gives
+/// the exit status.
 pub(crate) fn report_record<S: Sink>(
     alloc: Global,
     record: &Record<AnyObject>,

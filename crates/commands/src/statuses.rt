@@ -16,8 +16,8 @@ pub const FAILED: u8 = 4;
 /// The exit status where the command line is refused.
 pub const USAGE: u8 = 64;
 
-/// The exit status where the words ask for nothing: 0 where they ask for help, 64 where they are refused, 3 where memory
-/// was refused.
+/// The exit status where the words ask for nothing: 0 where they ask for help, 64 where they are
+/// refused, 3 where memory was refused.
 pub fn status_of_fault(fault: &LineFault) -> u8
     ensures { result ≡ spec.status_of_fault fault.now }
 {

@@ -6,12 +6,15 @@ use Rattle.events.specs.declared.event.Event.{Event}
 use Rattle.events.specs.Events.{kind_at, denoted}
 use Rattle.order_search.specs.Outcomes.{max_operations, IsNoneValid}
 use Rattle.search.specs.declared.found.Search.{Search}
-use Rattle.search.specs.declared.found.SearchOutcome.TheVariants.{Impossible, OutOfSteps, TooLarge, NoMemory}
+use Rattle.search.specs.declared.found.SearchOutcome.TheVariants.{Impossible, OutOfSteps, TooLarge}
+use Rattle.search.specs.declared.found.SearchOutcome.TheVariants.{NoMemory}
 use Rattle.search.specs.Answers.{IfFound, IsFor}
 
--- What may be decided of the calls of an object, with a search of so many steps at most. Many calls are too large for a search
--- alone, so that is answered only where there are too many, and not each time.
-pub record IsDecision (object : ℕ) (kind : Kind) (calls : List Call) (limit : ℕ) (s : Search) : Type 0 where
+-- What may be decided of the calls of an object, with a search of so many steps at most. Many calls
+-- are too large for a search alone, so that is answered only where there are too many, and not each
+-- time.
+pub record IsDecision (object : ℕ) (kind : Kind) (calls : List Call) (limit : ℕ) (s : Search) : Type
+    0 where
   -- what was found is valid
   pub found : IfFound s.found (IsFor object kind calls)
   -- impossible is answered only where no order is valid

@@ -16,7 +16,8 @@ use locality::linearizable_has_orders;
 use search::Search;
 use std::alloc::{AllocError, Global};
 
-/// Decides on each object of a history, each within the limit, and answers in rising number of the objects.
+/// Decides on each object of a history, each within the limit, and answers in rising number of the
+/// objects.
 ///
 /// An error stands only where the split, or the list of answers, was refused memory.
 pub fn decide_all(
@@ -38,8 +39,8 @@ pub fn decide_all(
     ensures valid { IfOk result (λ v. All (λ a. IsFound a.1) v.items
         → AreValid history.now (certificates_in v.items)) }
 {
-    // These two do nothing. The first says that the events denote a well-formed history, the second that each object
-    // of a linearizable one has a valid order.
+    // These two do nothing. The first says that the events denote a well-formed history, the second
+    // that each object of a linearizable one has a valid order.
     history.events();
     linearizable_has_orders();
     let objects = split(alloc, history)?;

@@ -1,5 +1,5 @@
-//! A decision on each object of a history: a certificate that the finder finds, and where it finds none the answer of the bounded
-//! search.
+//! A decision on each object of a history: a certificate that the finder finds, and where it finds
+//! none the answer of the bounded search.
 #![tactic(auto)]
 
 mod all;

@@ -65,7 +65,8 @@ fn op_of(object: u32, which: u32, n: i64) -> AnyOp {
 }
 
 fn sixteen(alloc: Global) -> Result<Vec<AnyObject>, AllocError>
-    ensures { IfOk result (λ v. (length v.items ≡ 16) × AreEmpty ⟦<AnyObject as SeqObject>⟧.content v.items) }
+    ensures { IfOk result (λ v. (length v.items ≡ 16)
+        × AreEmpty ⟦<AnyObject as SeqObject>⟧.content v.items) }
 {
     let mut objects = Vec::with_capacity(alloc, 16)?;
     for object in 0..16 {

@@ -1,4 +1,5 @@
-//! The desk in a few lines: two clients of one queue, each of which is the combiner of its own call.
+//! The desk in a few lines: two clients of one queue, each of which is the combiner of its own
+//! call.
 #![tactic(auto)]
 
 ghost use Rattle.std.specs.Prelude.{◌≡◌, IfOk};
@@ -28,8 +29,9 @@ fn desk_for_two(
 
 fn main(rt: HostRuntime) -> std::io::Result<()> {
     let (desk, zero, one) = desk_for_two(rt.alloc())?;
-    // A call posts a request on object 0, and then polls, enlists the row and combines until it is answered. Here the pass that
-    // answers it is the client's own. A client can go to a thread of its own, and then another's pass may serve it.
+    // A call posts a request on object 0, and then polls, enlists the row and combines until it is
+    // answered. Here the pass that answers it is the client's own. A client can go to a thread of
+    // its own, and then another's pass may serve it.
     let (zero, enqueued) = call(&rt, &desk, zero, 0, AnyOp::Enqueue(7));
     let (mut one, dequeued) = call(&rt, &desk, one, 0, AnyOp::Dequeue);
     println!(rt; "{enqueued:?}, {dequeued:?}")?;

@@ -1,6 +1,8 @@
--- The rule of the desk's table. Word x is the lock of object x; the places of the rows, the ends and the clock have names.
+-- The rule of the desk's table. Word x is the lock of object x; the places of the rows, the ends
+-- and the clock have names.
 -- Slot x is the core of object x, 16 + c the request or answer of client c, and 48 + c its journal.
-use Rattle.std.specs.Prelude.{◌≡◌, ◌≢◌, ◌⊎◌, ℕ, ◌+◌, ◌<◌, ◌≤◌, Bool, true, false, List, [], ◌++◌, map, length, slice_index, Option, Some, None, All}
+use Rattle.std.specs.Prelude.{◌≡◌, ◌≢◌, ◌⊎◌, ℕ, ◌+◌, ◌<◌, ◌≤◌, Bool, true, false, List, [], ◌++◌}
+use Rattle.std.specs.Prelude.{map, length, slice_index, Option, Some, None, All}
 use mathlib.Core.Option.{some}
 use mathlib.Core.Option as maybe
 use lib.ListN.{get_elem?}
@@ -23,10 +25,14 @@ use Rattle.desk_invariant.specs.declared.board.Role.TheVariants as role
 use Rattle.desk_invariant.specs.declared.board.DeskView.{DeskView}
 use Rattle.desk_model.specs.declared.Request.{Request}
 use Rattle.desk_model.specs.declared.Answer.{Answer}
-use Rattle.desk_model.specs.World.{AnyEntry, AnyRequest, AnyAnswer, AnyDone, Stage, absent, idle, drawn, posted, picked, answered, taken, World, kind_at, entries_of, served, request_of, journal_of, journal_in, Replays, StartsWith}
+use Rattle.desk_model.specs.World.{AnyEntry, AnyRequest, AnyAnswer, AnyDone, Stage, absent, idle}
+use Rattle.desk_model.specs.World.{drawn, posted, picked, answered, taken, World, kind_at}
+use Rattle.desk_model.specs.World.{entries_of, served, request_of, journal_of, journal_in, Replays}
+use Rattle.desk_model.specs.World.{StartsWith}
 use Rattle.desk_model.specs.Sound.{Sound}
 use Rattle.desk_model.specs.Images.{request_in, answer_in, entry_in, event_in}
-use Rattle.desk_invariant.specs.Views.{row_place, end_place, clock_place, seen_of, received_of, owed}
+use Rattle.desk_invariant.specs.Views.{row_place, end_place, clock_place, seen_of, received_of}
+use Rattle.desk_invariant.specs.Views.{owed}
 
 -- a place for a slot's value, which may be out
 abbrev pub Home : (S O R : Type 0) → Type 0
@@ -60,8 +66,12 @@ OwnOk (own.Taken q a) t = t ≡ taken q a
 -- what the client c holds, by its view, is what it holds in the world, where there are n objects
 abbrev pub HeldOk : ℕ → World → ℕ → Held → Type 0
 HeldOk n w c held.Free = (x : ℕ) → w.holder x ≢ Some c
-HeldOk n w c (held.Pass x l) = (x < n) × (w.holder x ≡ Some c) × (w.hand x ≡ None) × (w.log x ≡ l) × ((y : ℕ) → w.holder y ≡ Some c → y ≡ x)
-HeldOk n w c (held.Hand x l r q) = (x < n) × (w.holder x ≡ Some c) × (w.hand x ≡ Some r) × (w.log x ≡ l) × ((y : ℕ) → w.holder y ≡ Some c → y ≡ x) × (r < 32) × (w.stage r ≡ picked q)
+HeldOk n w c (held.Pass x l) =
+    (x < n) × (w.holder x ≡ Some c) × (w.hand x ≡ None) × (w.log x ≡ l)
+    × ((y : ℕ) → w.holder y ≡ Some c → y ≡ x)
+HeldOk n w c (held.Hand x l r q) =
+    (x < n) × (w.holder x ≡ Some c) × (w.hand x ≡ Some r) × (w.log x ≡ l)
+    × ((y : ℕ) → w.holder y ≡ Some c → y ≡ x) × (r < 32) × (w.stage r ≡ picked q)
 
 -- the view of the client c
 pub record SeatOk (kinds : List Kind) (w : World) (c : ℕ) (v : DeskView) : Type 0 where
@@ -72,27 +82,33 @@ pub record SeatOk (kinds : List Kind) (w : World) (c : ℕ) (v : DeskView) : Typ
   pub own : OwnOk v.own (w.stage c)
   -- where the client knows that its row is answered, it is
   pub ready : v.ready ≡ true → (q : AnyRequest) × (a : AnyAnswer) × (w.stage c ≡ answered q a)
-  -- what it has seen of an object is a beginning of its log, which has the client's calls that are over
+  -- what it has seen of an object is a beginning of its log, which has the client's calls that are
+  -- over
   pub wide_seen : length v.seen ≡ 16
   pub seen : (x : ℕ) → StartsWith (w.log x) (seen_of v x)
-  pub covers : (x : ℕ) → StartsWith (entries_of c (seen_of v x)) (served x c v.done ++ owed x c v.own)
+  pub covers : (x : ℕ)
+      → StartsWith (entries_of c (seen_of v x)) (served x c v.done ++ owed x c v.own)
   pub held : HeldOk (length kinds) w c v.held
   pub ended : w.ended c ≡ v.ended
   pub retired : All (λ d. w.ended d ≡ true) v.retired
   -- what was put back stands in its row, and its object is held
-  pub back : All (λ b. (w.stage b.row ≡ posted b.request) × (w.holder b.request.object ≡ Some c)) v.back
+  pub back : All (λ b. (w.stage b.row ≡ posted b.request)
+      × (w.holder b.request.object ≡ Some c)) v.back
 
 -- the client has ended, and this is its journal
 abbrev pub HasLeft : World → Leaving → Type 0
 HasLeft w l = (w.ended l.client ≡ true) × (journal_in w l.client ≡ l.journal)
 
 -- any view: a client's, the maker's, or a message
-pub record ViewOk (kinds : List Kind) (lists : List TableId) (w : World) (seat_of : ℕ → ℕ) (j : ℕ) (v : DeskView) : Type 0 where
+pub record ViewOk (kinds : List Kind) (lists : List TableId) (w : World) (seat_of : ℕ → ℕ) (j : ℕ)
+    (v : DeskView) : Type 0 where
   pub seen : (x : ℕ) → StartsWith (w.log x) (seen_of v x)
   pub received : (x : ℕ) → StartsWith (w.log x) (received_of v x)
   pub left : All (HasLeft w) v.left
   pub client : v.role ≡ role.Client → (seat_of v.number ≡ j) × SeatOk kinds w v.number v
-  pub unmade : v.role ≡ role.Maker → (c : ℕ) → v.made ≤ c → (w.stage c ≡ absent) × (w.done c ≡ []) × (w.ended c ≡ false) × ((x : ℕ) → w.holder x ≢ Some c)
+  pub unmade : v.role ≡ role.Maker → (c : ℕ) → v.made ≤ c
+      → (w.stage c ≡ absent) × (w.done c ≡ []) × (w.ended c ≡ false)
+      × ((x : ℕ) → w.holder x ≢ Some c)
   pub maker_kinds : v.role ≡ role.Maker → v.kinds ≡ kinds
   -- which roster the publication list of each object is
   pub lists_are : v.role ≡ role.Client → v.lists ≡ lists
@@ -100,56 +116,74 @@ pub record ViewOk (kinds : List Kind) (lists : List TableId) (w : World) (seat_o
 
 -- the maker is one, and has made every client, and no more than there are to be
 pub record Makers (clients : ℕ) (views : List DeskView) : Type 0 where
-  pub made : (j : ℕ) (v : DeskView) → get_elem? views j ≡ some v → v.role ≡ role.Maker → (i : ℕ) (u : DeskView) → get_elem? views i ≡ some u → (u.role ≡ role.Client → u.number < v.made) × (u.role ≡ role.Maker → i ≡ j)
-  pub numbers : (j : ℕ) (v : DeskView) → get_elem? views j ≡ some v → v.role ≡ role.Client → v.number < clients
+  pub made : (j : ℕ) (v : DeskView) → get_elem? views j ≡ some v → v.role ≡ role.Maker
+      → (i : ℕ) (u : DeskView) → get_elem? views i ≡ some u
+      → (u.role ≡ role.Client → u.number < v.made) × (u.role ≡ role.Maker → i ≡ j)
+  pub numbers : (j : ℕ) (v : DeskView) → get_elem? views j ≡ some v → v.role ≡ role.Client
+      → v.number < clients
 
-module _ {S O R : Type 0} (content : S → Content) (op_in : O → AnyOp) (reply_in : R → AnyReply) where
-  -- The core has this log, its object what the log leaves, and its walker walks this list: the one of the object, if the
-  -- object has one.
-  abbrev pub Fits : Kind → maybe.Option TableId → Core S O R → List AnyEntry → Type 0
-  Fits kind list k log = (map (entry_in op_in reply_in) k.log.items ≡ log) × Replays (empty kind) log (content k.object) × (list ≡ some k.list.roster)
+module _ {S O R : Type 0} (content : S → Content) (op_in : O → AnyOp) (reply_in : R → AnyReply)
+  where
+    -- The core has this log, its object what the log leaves, and its walker walks this list: the
+    -- one of the object, if the object has one.
+    abbrev pub Fits : Kind → maybe.Option TableId → Core S O R → List AnyEntry → Type 0
+    Fits kind list k log =
+        (map (entry_in op_in reply_in) k.log.items ≡ log)
+        × Replays (empty kind) log (content k.object) × (list ≡ some k.list.roster)
 
-  abbrev pub CoreAt : Kind → maybe.Option TableId → Home S O R → List AnyEntry → Type 0
-  CoreAt kind list home log = (k : Core S O R) × (home ≡ some (some (slot.Core k))) × Fits kind list k log
+    abbrev pub CoreAt : Kind → maybe.Option TableId → Home S O R → List AnyEntry → Type 0
+    CoreAt kind list home log =
+        (k : Core S O R) × (home ≡ some (some (slot.Core k))) × Fits kind list k log
 
-  -- the slot of a client's request or answer
-  abbrev pub CallAt : Home S O R → Stage → Type 0
-  CallAt home absent = home ≡ some (some slot.Nothing)
-  CallAt home (posted q) = (p : Request O) × (home ≡ some (some (slot.Request p))) × (request_in op_in p ≡ q)
-  CallAt home (answered q a) = (b : Answer R) × (home ≡ some (some (slot.Answer b))) × (answer_in reply_in b ≡ a)
-  CallAt home t = Unit {0}
+    -- the slot of a client's request or answer
+    abbrev pub CallAt : Home S O R → Stage → Type 0
+    CallAt home absent = home ≡ some (some slot.Nothing)
+    CallAt home (posted q) =
+        (p : Request O) × (home ≡ some (some (slot.Request p))) × (request_in op_in p ≡ q)
+    CallAt home (answered q a) =
+        (b : Answer R) × (home ≡ some (some (slot.Answer b))) × (answer_in reply_in b ≡ a)
+    CallAt home t = Unit {0}
 
-  -- the slot of a client's journal: empty until the client has come, and out until it has ended
-  pub record JournalAt (home : Home S O R) (t : Stage) (ds : List AnyDone) (ended : Bool) : Type 0 where
-    pub at_first : t ≡ absent → home ≡ some (some slot.Nothing)
-    pub at_last : ended ≡ true → (j : Journal O R) × (home ≡ some (some (slot.Journal j))) × (map (event_in op_in reply_in) j.events.items ≡ journal_of ds (request_of t))
+    -- the slot of a client's journal: empty until the client has come, and out until it has ended
+    pub record JournalAt (home : Home S O R) (t : Stage) (ds : List AnyDone) (ended : Bool) : Type 0
+      where
+        pub at_first : t ≡ absent → home ≡ some (some slot.Nothing)
+        pub at_last : ended ≡ true
+            → (j : Journal O R) × (home ≡ some (some (slot.Journal j)))
+            × (map (event_in op_in reply_in) j.events.items ≡ journal_of ds (request_of t))
 
-  -- the words and the slots at home
-  pub record Tied (kinds : List Kind) (lists : List TableId) (w : World) (words : List ℕ) (homes : List (maybe.Option (Slot S O R))) : Type 0 where
-    pub wide : length words ≡ 81
-    pub deep : length homes ≡ 80
-    pub objects : length kinds < 17
-    pub locks : (x : ℕ) → x < length kinds → slice_index words x ≡ lock_word (w.holder x)
-    pub rows : (r : ℕ) → r < 32 → slice_index words (row_place r) ≡ row_word (w.stage r)
-    pub ends : (c : ℕ) → c < 32 → slice_index words (end_place c) ≡ end_word (w.ended c)
-    pub clock : slice_index words clock_place ≡ w.clock
-    pub cores : (x : ℕ) → x < length kinds → w.holder x ≡ None → CoreAt (kind_at kinds x) (get_elem? lists x) (get_elem? homes x) (w.log x)
-    pub calls : (r : ℕ) → r < 32 → CallAt (get_elem? homes (16 + r)) (w.stage r)
-    pub journals : (c : ℕ) → c < 32 → JournalAt (get_elem? homes (48 + c)) (w.stage c) (w.done c) (w.ended c)
+    -- the words and the slots at home
+    pub record Tied (kinds : List Kind) (lists : List TableId) (w : World) (words : List ℕ)
+        (homes : List (maybe.Option (Slot S O R))) : Type 0 where
+      pub wide : length words ≡ 81
+      pub deep : length homes ≡ 80
+      pub objects : length kinds < 17
+      pub locks : (x : ℕ) → x < length kinds → slice_index words x ≡ lock_word (w.holder x)
+      pub rows : (r : ℕ) → r < 32 → slice_index words (row_place r) ≡ row_word (w.stage r)
+      pub ends : (c : ℕ) → c < 32 → slice_index words (end_place c) ≡ end_word (w.ended c)
+      pub clock : slice_index words clock_place ≡ w.clock
+      pub cores : (x : ℕ) → x < length kinds → w.holder x ≡ None
+          → CoreAt (kind_at kinds x) (get_elem? lists x) (get_elem? homes x) (w.log x)
+      pub calls : (r : ℕ) → r < 32 → CallAt (get_elem? homes (16 + r)) (w.stage r)
+      pub journals : (c : ℕ) → c < 32
+          → JournalAt (get_elem? homes (48 + c)) (w.stage c) (w.done c) (w.ended c)
 
-  -- the rule: there is a sound world to which words, slots and views are tied
-  pub record Kept (kinds : List Kind) (clients quota : ℕ) (s : State (Slot S O R) DeskView) : Type 0 where
-    pub world : World
-    pub seat_of : ℕ → ℕ
-    -- which roster the publication list of each object is
-    pub lists : List TableId
-    pub few_calls : quota < 10001
-    pub few_clients : clients < 33
-    pub sound : Sound kinds quota world
-    pub tied : Tied kinds lists world s.words s.homes
-    pub seats : (j : ℕ) (v : DeskView) → get_elem? s.views j ≡ some v → ViewOk kinds lists world seat_of j v
-    pub makers : Makers clients s.views
-    -- who holds an object has not ended
-    pub holders : (x c : ℕ) → world.holder x ≡ Some c → (c < clients) × (world.ended c ≡ false)
-    -- who has come is one of the clients
-    pub come : (c : ℕ) → world.stage c ≢ absent → c < clients
+    -- the rule: there is a sound world to which words, slots and views are tied
+    pub record Kept (kinds : List Kind) (clients quota : ℕ) (s : State (Slot S O R) DeskView) : Type
+        0
+      where
+        pub world : World
+        pub seat_of : ℕ → ℕ
+        -- which roster the publication list of each object is
+        pub lists : List TableId
+        pub few_calls : quota < 10001
+        pub few_clients : clients < 33
+        pub sound : Sound kinds quota world
+        pub tied : Tied kinds lists world s.words s.homes
+        pub seats : (j : ℕ) (v : DeskView) → get_elem? s.views j ≡ some v
+            → ViewOk kinds lists world seat_of j v
+        pub makers : Makers clients s.views
+        -- who holds an object has not ended
+        pub holders : (x c : ℕ) → world.holder x ≡ Some c → (c < clients) × (world.ended c ≡ false)
+        -- who has come is one of the clients
+        pub come : (c : ℕ) → world.stage c ≢ absent → c < clients

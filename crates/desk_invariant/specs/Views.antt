@@ -1,5 +1,7 @@
 -- What a client knows, and how a step of its own changes that.
-use Rattle.std.specs.Prelude.{◌==◌, ◌&&◌, ◌||◌, ◌≡◌, ◌⊎◌, ℕ, ◌+◌, ◌<◌, Bool, true, false, List, [], ◌∷◌, ◌++◌, slice_index_or, slice_set, replicate, filter, not, Option, Some, None}
+use Rattle.std.specs.Prelude.{◌==◌, ◌&&◌, ◌||◌, ◌≡◌, ◌⊎◌, ℕ, ◌+◌, ◌<◌, Bool, true, false, List, []}
+use Rattle.std.specs.Prelude.{◌∷◌, ◌++◌, slice_index_or, slice_set, replicate, filter, not, Option}
+use Rattle.std.specs.Prelude.{Some, None}
 use Rattle.atomic_table.specs.Seated.{TableId}
 use Rattle.model.specs.declared.Kind.{Kind}
 use Rattle.desk_invariant.specs.declared.board.Own.{Own}
@@ -8,10 +10,11 @@ use Rattle.desk_invariant.specs.declared.board.Held.TheVariants as held
 use Rattle.desk_invariant.specs.declared.board.Leaving.{Leaving}
 use Rattle.desk_invariant.specs.declared.board.Role.TheVariants as role
 use Rattle.desk_invariant.specs.declared.board.DeskView.{DeskView}
-use Rattle.desk_model.specs.World.{AnyEntry, AnyRequest, AnyAnswer, AnyEvent, logged_on, entries_of, served, journal_of}
+use Rattle.desk_model.specs.World.{AnyEntry, AnyRequest, AnyAnswer, AnyEvent, logged_on, entries_of}
+use Rattle.desk_model.specs.World.{served, journal_of}
 
--- Where the words of the table stand: first the locks, by the number of the object, then the rows and the ends of the
--- clients, and the clock last.
+-- Where the words of the table stand: first the locks, by the number of the object, then the rows
+-- and the ends of the clients, and the clock last.
 abbrev pub row_place : ℕ → ℕ
 row_place c = 16 + c
 
@@ -23,7 +26,27 @@ clock_place = 80
 
 -- a client that has not come yet
 abbrev pub new_client : List Kind → List TableId → ℕ → DeskView
-new_client kinds lists c = record { role = role.Client; number = c; made = 0; kinds = kinds; lists = lists; done = []; own = own.Absent; ready = false; seen = replicate 16 []; received = []; back = []; missed = []; won = 0; held = held.Free; ended = false; left = []; retired = []; still_there = [] }
+new_client kinds lists c =
+    record {
+      role = role.Client;
+      number = c;
+      made = 0;
+      kinds = kinds;
+      lists = lists;
+      done = [];
+      own = own.Absent;
+      ready = false;
+      seen = replicate 16 [];
+      received = [];
+      back = [];
+      missed = [];
+      won = 0;
+      held = held.Free;
+      ended = false;
+      left = [];
+      retired = [];
+      still_there = [];
+    }
 
 -- the first view is no client's, and makes the clients
 abbrev pub maker_of : List Kind → List TableId → ℕ → DeskView
@@ -72,10 +95,12 @@ abbrev pub MayHold : ℕ → ℕ → Own → List AnyEntry → Type 0
 MayHold x c (own.Waiting q) now = (now ≡ []) ⊎ ((a : AnyAnswer) × (now ≡ logged_on x c q a))
 MayHold x c o now = now ≡ []
 
--- Of the client's own calls on x this log holds just those that are over and were not refused, each once and in order,
--- and perhaps the one that is not over.
+-- Of the client's own calls on x this log holds just those that are over and were not refused, each
+-- once and in order, and perhaps the one that is not over.
 abbrev pub IsAccount : ℕ → DeskView → List AnyEntry → Type 0
-IsAccount x v log = (now : List AnyEntry) × (entries_of v.number log ≡ served x v.number v.done ++ now) × MayHold x v.number v.own now
+IsAccount x v log =
+    (now : List AnyEntry) × (entries_of v.number log ≡ served x v.number v.done ++ now)
+    × MayHold x v.number v.own now
 
 -- a call on x was posted and its answer was not taken
 abbrev pub waits_on : ℕ → Own → Bool
@@ -86,13 +111,18 @@ abbrev pub is_waiting : Own → Bool
 is_waiting (own.Waiting q) = true
 is_waiting o = false
 
--- one more try missed at this word: a load found nothing to do there, or an exchange found another value
+-- one more try missed at this word: a load found nothing to do there, or an exchange found another
+-- value
 abbrev pub after_miss : ℕ → DeskView → DeskView
 after_miss i v = record v { missed = v.missed ++ i ∷ [] }
 
 -- The row word i had no request for x. At the own row, a request for x is then answered.
 abbrev pub after_row_miss : ℕ → ℕ → DeskView → DeskView
-after_row_miss i x v = record v { missed = v.missed ++ i ∷ []; ready = v.ready || ((i == row_place v.number) && waits_on x v.own) }
+after_row_miss i x v =
+    record v {
+      missed = v.missed ++ i ∷ [];
+      ready = v.ready || ((i == row_place v.number) && waits_on x v.own);
+    }
 
 -- the object x was won once more by the client, which holds it, and this is its log
 abbrev pub after_win : ℕ → List AnyEntry → DeskView → DeskView
@@ -100,11 +130,13 @@ after_win x l v = record v { held = held.Pass x l; won = v.won + 1 }
 
 -- the request q of the row r is in hand
 abbrev pub after_pick : ℕ → List AnyEntry → ℕ → AnyRequest → DeskView → DeskView
-after_pick x l r q v = record v { held = held.Hand x l r q; back = filter (λ b. not (b.row == r)) v.back }
+after_pick x l r q v =
+    record v { held = held.Hand x l r q; back = filter (λ b. not (b.row == r)) v.back }
 
 -- the request q of the row r was put back, and x is held with this log
 abbrev pub after_put_back : ℕ → List AnyEntry → ℕ → AnyRequest → DeskView → DeskView
-after_put_back x l r q v = record v { held = held.Pass x l; back = v.back ++ record { row = r; request = q } ∷ [] }
+after_put_back x l r q v =
+    record v { held = held.Pass x l; back = v.back ++ record { row = r; request = q } ∷ [] }
 
 -- the row r is answered, and the object x has this log
 abbrev pub after_answer : ℕ → ℕ → List AnyEntry → DeskView → DeskView
@@ -120,16 +152,20 @@ with_own o v = record v { own = o }
 
 -- the own call is answered, and this log of its object was seen
 abbrev pub after_take : AnyRequest → AnyAnswer → List AnyEntry → DeskView → DeskView
-after_take q a l v = record v { own = own.Taken q a; ready = false; seen = slice_set v.seen q.object l }
+after_take q a l v =
+    record v { own = own.Taken q a; ready = false; seen = slice_set v.seen q.object l }
 
 -- the own call is over, and its return has the ticket t
 abbrev pub after_return : AnyRequest → AnyAnswer → ℕ → DeskView → DeskView
-after_return q a t v = record v { own = own.Idle; done = v.done ++ record { request = q; answer = a; returned = t } ∷ [] }
+after_return q a t v =
+    record v
+    { own = own.Idle; done = v.done ++ record { request = q; answer = a; returned = t } ∷ [] }
 
--- The own call, which had its ticket, was served by the client itself while it held the object, whose log is this now: it is
--- over, and its return has the ticket t.
+-- The own call, which had its ticket, was served by the client itself while it held the object,
+-- whose log is this now: it is over, and its return has the ticket t.
 abbrev pub after_perform : AnyRequest → AnyAnswer → List AnyEntry → ℕ → DeskView → DeskView
-after_perform q a l t v = record (after_return q a t (after_take q a l v)) { held = held.Pass q.object l }
+after_perform q a l t v =
+    record (after_return q a t (after_take q a l v)) { held = held.Pass q.object l }
 
 -- this log of the object x was seen
 abbrev pub after_meet : ℕ → List AnyEntry → DeskView → DeskView

@@ -107,7 +107,8 @@ pub struct DeskView {
     pub received: LinkedList<LinkedList<LogEntry<AnyOp, AnyReply>>>,
     /// The requests that were put back into their rows while the object is held.
     pub back: LinkedList<PutBack>,
-    /// The words at which a try missed: a load found nothing to do there, or an exchange found another value.
+    /// The words at which a try missed: a load found nothing to do there, or an exchange found
+    /// another value.
     pub missed: LinkedList<u64>,
     /// How many times the client won an object.
     pub won: u64,
@@ -121,8 +122,8 @@ pub struct DeskView {
     pub still_there: LinkedList<u32>,
 }
 
-/// What the desk is made for: objects of these kinds, with these publication lists, this many clients, and so many calls for
-/// each of them.
+/// What the desk is made for: objects of these kinds, with these publication lists, this many
+/// clients, and so many calls for each of them.
 #[derive(Drop)]
 pub struct Plan {
     pub kinds: Vec<Kind>,

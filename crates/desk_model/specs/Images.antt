@@ -1,4 +1,5 @@
--- An object may have types of its own for its operations and replies, which stand for some of those of all kinds.
+-- An object may have types of its own for its operations and replies, which stand for some of those
+-- of all kinds.
 -- These are requests, answers, entries and events with what they stand for.
 use Rattle.model.specs.declared.AnyOp.{AnyOp}
 use Rattle.model.specs.declared.AnyReply.{AnyReply}
@@ -21,7 +22,8 @@ module _ {R : Type 0} (reply_in : R → AnyReply) where
 
 module _ {O R : Type 0} (op_in : O → AnyOp) (reply_in : R → AnyReply) where
   abbrev pub entry_in : LogEntry O R → AnyEntry
-  entry_in e = record { client = e.client; ticket = e.ticket; op = op_in e.op; reply = reply_in e.reply }
+  entry_in e =
+      record { client = e.client; ticket = e.ticket; op = op_in e.op; reply = reply_in e.reply }
 
   abbrev pub event_in : JournalEvent O R → AnyEvent
   event_in (Invoked t x op) = Invoked t x (op_in op)

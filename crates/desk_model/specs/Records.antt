@@ -1,6 +1,8 @@
--- The record of a world, which is its journals and its logs, as a history with an order for each object; and when it is
--- sound. A client is a process of the history, and a ticket the number of its event.
-use Rattle.std.specs.Prelude.{◌≡◌, ℕ, pos, ◌*◌, ◌<◌, ◌≤◌, ◌==◌, ℤ, List, [], ◌∷◌, map, filter, All, AllPairs, Contains}
+-- The record of a world, which is its journals and its logs, as a history with an order for each
+-- object; and when it is sound. A client is a process of the history, and a ticket the number of
+-- its event.
+use Rattle.std.specs.Prelude.{◌≡◌, ℕ, pos, ◌*◌, ◌<◌, ◌≤◌, ◌==◌, ℤ, List, [], ◌∷◌, map, filter, All}
+use Rattle.std.specs.Prelude.{AllPairs, Contains}
 use Rattle.model.specs.declared.Kind.{Kind}
 use Rattle.model.specs.Histories.{Inv, Res, process_of}
 use Rattle.model.specs.Orders.{Numbered, IsHistory, IsValidOrder, calls_on}
@@ -9,16 +11,21 @@ use Rattle.desk_model.specs.declared.JournalEvent.TheVariants.{Invoked, Returned
 use Rattle.desk_model.specs.World.{AnyEntry, AnyEvent, kind_at, ticket_of, IsLegal}
 use Rattle.desk_model.specs.Sound.{ShareOut, IsAmong}
 
--- The journal of the client c denotes these events: its calls in turn, the last one perhaps pending, and none of those
--- that were refused.
+-- The journal of the client c denotes these events: its calls in turn, the last one perhaps
+-- pending, and none of those that were refused.
 abbrev pub Denotes : ℕ → List AnyEvent → List Numbered → Type 0
 Denotes c [] h = h ≡ []
 Denotes c (Invoked t x op ∷ []) h = h ≡ record { number = t; event = Inv c x op } ∷ []
-Denotes c (Invoked t x op ∷ Returned u (Reply r) ∷ es) h = (rest : List Numbered) × (h ≡ record { number = t; event = Inv c x op } ∷ record { number = u; event = Res c x r } ∷ rest) × Denotes c es rest
+Denotes c (Invoked t x op ∷ Returned u (Reply r) ∷ es) h =
+    (rest : List Numbered)
+    × (h
+    ≡ record { number = t; event = Inv c x op } ∷ record { number = u; event = Res c x r } ∷ rest)
+    × Denotes c es rest
 Denotes c (Invoked t x op ∷ Returned u Refused ∷ es) h = Denotes c es h
 Denotes c es h = ⊥
 
--- the history of the journals: the numbers rise, and each process does what its client's journal denotes
+-- the history of the journals: the numbers rise, and each process does what its client's journal
+-- denotes
 pub record IsHistoryOf (journals : ℕ → List AnyEvent) (h : List Numbered) : Type 0 where
   pub rising : AllPairs (λ a b. a.number < b.number) h
   pub each : (c : ℕ) → Denotes c (journals c) (filter (λ m. process_of m.event == c) h)
@@ -28,7 +35,8 @@ abbrev pub order_of : List AnyEntry → List ℤ
 order_of log = map (λ e. pos e.ticket) log
 
 -- The record of objects of these kinds, and of clients with this quota of calls.
-pub record IsSoundRecord (kinds : List Kind) (quota : ℕ) (journals : ℕ → List AnyEvent) (logs : ℕ → List AnyEntry) : Type 0 where
+pub record IsSoundRecord (kinds : List Kind) (quota : ℕ) (journals : ℕ → List AnyEvent)
+    (logs : ℕ → List AnyEntry) : Type 0 where
   -- the tickets in the journals are the numbers below some number, each once
   pub count : ℕ
   pub tickets : ShareOut count (λ c. map ticket_of (journals c))

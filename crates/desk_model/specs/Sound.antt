@@ -1,9 +1,12 @@
 -- The invariant of the world: what holds of it between any two transitions.
-use Rattle.std.specs.Prelude.{◌≡◌, ℕ, zero, suc, ◌+◌, ◌<◌, ◌≤◌, ⊤, List, [], ◌++◌, length, Some, None, All, AllPairs, Contains}
+use Rattle.std.specs.Prelude.{◌≡◌, ℕ, zero, suc, ◌+◌, ◌<◌, ◌≤◌, ⊤, List, [], ◌++◌, length, Some}
+use Rattle.std.specs.Prelude.{None, All, AllPairs, Contains}
 use Rattle.model.specs.declared.Kind.{Kind}
 use Rattle.model.specs.Objects.{kind_of}
 use Rattle.desk_model.specs.declared.JournalEvent.TheVariants.{Invoked, Returned}
-use Rattle.desk_model.specs.World.{AnyEntry, AnyRequest, AnyEvent, AnyDone, absent, picked, World, kind_at, logged, entries_of, served, served_now, request_of, calls_made, tickets_drawn, journal_in, tickets_in, IsLegal}
+use Rattle.desk_model.specs.World.{AnyEntry, AnyRequest, AnyEvent, AnyDone, absent, picked, World}
+use Rattle.desk_model.specs.World.{kind_at, logged, entries_of, served, served_now, request_of}
+use Rattle.desk_model.specs.World.{calls_made, tickets_drawn, journal_in, tickets_in, IsLegal}
 
 -- the sum of the first n values
 abbrev pub total : (ℕ → ℕ) → ℕ → ℕ
@@ -22,9 +25,13 @@ abbrev pub IsAmong : List Kind → AnyEvent → Type 0
 IsAmong kinds (Invoked t x op) = (x < length kinds) × (kind_of op ≡ kind_at kinds x)
 IsAmong kinds (Returned t a) = ⊤
 
--- what a call that is over has put into the log stands behind calls that were invoked before it returned
+-- what a call that is over has put into the log stands behind calls that were invoked before it
+-- returned
 abbrev pub IsInTime : World → ℕ → AnyDone → Type 0
-IsInTime w c d = (before : List AnyEntry) × (after : List AnyEntry) × (w.log d.request.object ≡ before ++ logged c d.request d.answer ++ after) × All (λ e. e.ticket < d.returned) before
+IsInTime w c d =
+    (before : List AnyEntry) × (after : List AnyEntry)
+    × (w.log d.request.object ≡ before ++ logged c d.request d.answer ++ after)
+    × All (λ e. e.ticket < d.returned) before
 
 -- what holds of the journals
 pub record SoundJournals (kinds : List Kind) (w : World) : Type 0 where
@@ -38,15 +45,19 @@ pub record SoundJournals (kinds : List Kind) (w : World) : Type 0 where
 pub record Sound (kinds : List Kind) (quota : ℕ) (w : World) : Type 0 where
   -- each log is legal
   pub legal : (x : ℕ) → IsLegal (kind_at kinds x) (w.log x)
-  -- the log of an object holds, of the calls of a client on it, just those that were answered by a reply, in order
-  pub counted : (c x : ℕ) → entries_of c (w.log x) ≡ served x c (w.done c) ++ served_now x c (w.stage c)
+  -- the log of an object holds, of the calls of a client on it, just those that were answered by a
+  -- reply, in order
+  pub counted : (c x : ℕ)
+      → entries_of c (w.log x) ≡ served x c (w.done c) ++ served_now x c (w.stage c)
   -- what is in hand is a request for the object, and each request that was picked up is in hand
-  pub in_hand : (x r : ℕ) → w.hand x ≡ Some r → (q : AnyRequest) × (w.stage r ≡ picked q) × (q.object ≡ x)
+  pub in_hand : (x r : ℕ) → w.hand x ≡ Some r
+      → (q : AnyRequest) × (w.stage r ≡ picked q) × (q.object ≡ x)
   pub picked_up : (r : ℕ) (q : AnyRequest) → w.stage r ≡ picked q → w.hand q.object ≡ Some r
   -- only a holder has something in hand
   pub empty_hand : (x : ℕ) → w.holder x ≡ None → w.hand x ≡ None
   -- a request is for an operation of its object's kind, and its ticket was drawn
-  pub fitting : (c : ℕ) (q : AnyRequest) → request_of (w.stage c) ≡ Some q → (kind_of q.op ≡ kind_at kinds q.object) × (q.ticket < w.clock)
+  pub fitting : (c : ℕ) (q : AnyRequest) → request_of (w.stage c) ≡ Some q
+      → (kind_of q.op ≡ kind_at kinds q.object) × (q.ticket < w.clock)
   -- each ticket in a log was drawn
   pub early : (x : ℕ) → All (λ e. e.ticket < w.clock) (w.log x)
   -- the clock counts the tickets, and no client makes more calls than its quota

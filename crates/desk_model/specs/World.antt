@@ -1,8 +1,10 @@
--- The world of flat combining: a clock that hands out tickets; of each object a holder, a row in hand and a log; of
--- each client the stage of its call and the calls that are over. Objects and clients are named by number.
--- After Hendler, Incze, Shavit, Tzafrir, SPAA 2010, section 2: a client's row is its publication record, and the holder
--- of an object is its combiner.
-use Rattle.std.specs.Prelude.{◌≡◌, ℕ, ◌+◌, ◌==◌, Bool, false, List, [], ◌∷◌, ◌++◌, map, length, slice_index_or, Option, Some, None, if◌then◌else◌}
+-- The world of flat combining: a clock that hands out tickets; of each object a holder, a row in
+-- hand and a log; of each client the stage of its call and the calls that are over. Objects and
+-- clients are named by number.
+-- After Hendler, Incze, Shavit, Tzafrir, SPAA 2010, section 2: a client's row is its publication
+-- record, and the holder of an object is its combiner.
+use Rattle.std.specs.Prelude.{◌≡◌, ℕ, ◌+◌, ◌==◌, Bool, false, List, [], ◌∷◌, ◌++◌, map, length}
+use Rattle.std.specs.Prelude.{slice_index_or, Option, Some, None, if◌then◌else◌}
 use Rattle.model.specs.declared.Kind.{Kind}
 use Rattle.model.specs.declared.Kind.TheVariants.{Queue}
 use Rattle.model.specs.declared.AnyOp.{AnyOp}
@@ -32,7 +34,8 @@ AnyEvent = JournalEvent AnyOp AnyReply
 abbrev pub AnyDone : Type 0
 AnyDone = DoneCall AnyOp AnyReply
 
--- How far a client's call has come. An absent client has not come yet; one that is idle has no call.
+-- How far a client's call has come. An absent client has not come yet; one that is idle has no
+-- call.
 pub data Stage : Type 0 where
   absent : Stage
   idle : Stage
@@ -62,7 +65,16 @@ pub record World : Type 0 where
 
 -- at the start no ticket was drawn, and no client has come
 abbrev pub initial_world : World
-initial_world = record { clock = 0; holder = λ _. None; hand = λ _. None; log = λ _. []; stage = λ _. absent; done = λ _. []; ended = λ _. false }
+initial_world =
+    record {
+      clock = 0;
+      holder = λ _. None;
+      hand = λ _. None;
+      log = λ _. [];
+      stage = λ _. absent;
+      done = λ _. [];
+      ended = λ _. false;
+    }
 
 -- the kind of an object
 abbrev pub kind_at : List Kind → ℕ → Kind
@@ -119,8 +131,8 @@ tickets_drawn ds q = length ds + length ds + under_way q
 abbrev pub invoked : AnyRequest → AnyEvent
 invoked q = Invoked q.ticket q.object q.op
 
--- The journal of a client: the invocation and the return of each call that is over, then the invocation of the call
--- that is not.
+-- The journal of a client: the invocation and the return of each call that is over, then the
+-- invocation of the call that is not.
 abbrev pub journal_of : List AnyDone → Option AnyRequest → List AnyEvent
 journal_of [] None = []
 journal_of [] (Some q) = invoked q ∷ []
@@ -137,11 +149,12 @@ ticket_of (Returned t a) = t
 abbrev pub tickets_in : World → ℕ → List ℕ
 tickets_in w c = map ticket_of (journal_in w c)
 
--- From this content on, each operation of the log was possible, and its reply is the one that `next` gives; and the
--- object contains this after it.
+-- From this content on, each operation of the log was possible, and its reply is the one that
+-- `next` gives; and the object contains this after it.
 abbrev pub Replays : Content → List AnyEntry → Content → Type 0
 Replays c [] after = c ≡ after
-Replays c (e ∷ es) after = (between : Content) × (next c e.op ≡ Some (between, e.reply)) × Replays between es after
+Replays c (e ∷ es) after =
+    (between : Content) × (next c e.op ≡ Some (between, e.reply)) × Replays between es after
 
 -- A log is legal where it is replayed from the empty content.
 abbrev pub IsLegal : Kind → List AnyEntry → Type 0

@@ -26,7 +26,8 @@ pub fn transitions_keep_soundness()
         Transition kinds quota step w client w' → Sound kinds quota w → Sound kinds quota w' }
 {}
 
-/// The record of a sound world is sound: its history is well-formed, and each log is a valid order. Calls may be under way.
+/// The record of a sound world is sound: its history is well-formed, and each log is a valid order.
+/// Calls may be under way.
 pub fn record_is_sound()
     ensures { (kinds : List Kind) (quota : ℕ) (w : World) → Sound kinds quota w →
         IsSoundRecord kinds quota (journal_in w) w.log }

@@ -1,8 +1,9 @@
-//! The world of flat combining as plain data: what the logs of objects, the requests and answers of clients, and
-//! their journals say. The initial world, the transitions and the invariant are in `specs/`; that each transition keeps the
-//! invariant is proved in `proofs/`.
+//! The world of flat combining as plain data: what the logs of objects, the requests and answers of
+//! clients, and their journals say. The initial world, the transitions and the invariant are in
+//! `specs/`; that each transition keeps the invariant is proved in `proofs/`.
 //!
-//! After Hendler, Incze, Shavit, Tzafrir, "Flat Combining and the Synchronization-Parallelism Tradeoff", SPAA 2010.
+//! After Hendler, Incze, Shavit, Tzafrir, "Flat Combining and the Synchronization-Parallelism
+//! Tradeoff", SPAA 2010.
 #![tactic(auto)]
 
 mod laws;
@@ -12,8 +13,8 @@ pub use laws::{
     transitions_keep_soundness,
 };
 
-/// What the log of an object says of one operation: whose it was, the ticket of its invocation, the operation, and
-/// its reply.
+/// What the log of an object says of one operation: whose it was, the ticket of its invocation, the
+/// operation, and its reply.
 #[derive(Clone, Copy, Debug, PartialEq, Eq)]
 pub struct LogEntry<O, R> {
     pub client: u32,

@@ -12,7 +12,8 @@ use std::test::Fail;
 
 // A queue and a stack.
 fn objects(alloc: Global) -> Result<Vec<AnyObject>, AllocError>
-    ensures { IfOk result (λ v. (length v.items ≡ 2) × AreEmpty ⟦<AnyObject as SeqObject>⟧.content v.items) }
+    ensures { IfOk result (λ v. (length v.items ≡ 2)
+        × AreEmpty ⟦<AnyObject as SeqObject>⟧.content v.items) }
 {
     let mut objects = Vec::with_capacity(alloc, 2)?;
     objects.push_reserved(AnyObject::empty(alloc, Kind::Queue));
@@ -166,8 +167,8 @@ fn finds_no_request(
     }
 }
 
-// Closes the desk: client 2 made a call of its own with the tickets 0 and 1, and client 1 posted one with ticket 2, which
-// is pending.
+// Closes the desk: client 2 made a call of its own with the tickets 0 and 1, and client 1 posted
+// one with ticket 2, which is pending.
 fn own_call_is_recorded(rt: &impl Abort, desk: Desk<AnyObject>, last: Client<AnyObject>)
     requires { last.desk ≡ desk.id }
 {

@@ -129,7 +129,8 @@ fn rows_enlist_while_another_thread_cleans(rt: HostRuntime) -> Result<(), Fail> 
         handle,
         || -> ((Place, bool), (Place, bool))
             requires { (zero.roster ≡ roster.now.id) × (one.roster ≡ roster.now.id) }
-            ensures { (result.0.0.roster ≡ roster.entry.now.id) × (result.1.0.roster ≡ roster.entry.now.id) }
+            ensures { (result.0.0.roster ≡ roster.entry.now.id)
+                × (result.1.0.roster ≡ roster.entry.now.id) }
         { (enlisted(roster, zero), enlisted(roster, one)) },
         || -> Walker
             requires { walker.roster ≡ roster.now.id }

@@ -1,5 +1,5 @@
-//! Calls that were worked out from the published generator, whose first words for state 42 and stream 54 are a15c02b7,
-//! 7b47f409, ba1d3330, .., by a program of its own.
+//! Calls that were worked out from the published generator, whose first words for state 42 and
+//! stream 54 are a15c02b7, 7b47f409, ba1d3330, .., by a program of its own.
 
 use model::{AnyOp, Kind};
 use seq_objects::Kinds;

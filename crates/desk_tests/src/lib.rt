@@ -1,5 +1,6 @@
-//! Tests of the public calls of `roster`, `publication`, `workload`, `clients`, `machine` and `simulation`. They are a
-//! crate of their own, so that each library is proved once, and not again for its tests.
+//! Tests of the public calls of `roster`, `publication`, `workload`, `clients`, `machine` and
+//! `simulation`. They are a crate of their own, so that each library is proved once, and not again
+//! for its tests.
 #![tactic(auto)]
 
 #[cfg(test)]

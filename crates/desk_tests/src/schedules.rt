@@ -112,7 +112,8 @@ fn serve(
     Ok(())
 }
 
-/// 300 random steps, then all end. Every third client has ended before with this call outstanding, where there is one.
+/// 300 random steps, then all end. Every third client has ended before with this call outstanding,
+/// where there is one.
 fn random_steps(
     alloc: Global,
     numbers: &mut Numbers,
@@ -166,8 +167,8 @@ fn puts_back(alloc: Global, schedule: &Schedule) -> Result<bool, AllocError>
     Ok(found)
 }
 
-// Each record of a list of random steps is accepted. In half of the runs a third of the clients have ended with a call
-// outstanding, and in some of all runs a request is put back.
+// Each record of a list of random steps is accepted. In half of the runs a third of the clients
+// have ended with a call outstanding, and in some of all runs a request is put back.
 #[test]
 fn random_runs_are_accepted(rt: HostRuntime) -> Result<(), Fail> {
     let mut numbers = Numbers { state: 14 };
@@ -212,7 +213,8 @@ fn a_client_has_not_ended(rt: HostRuntime) -> Result<(), Fail> {
     Ok(())
 }
 
-/// Two clients post, one of them serves both and ends; the other has ended before it takes its answer.
+/// Two clients post, one of them serves both and ends; the other has ended before it takes its
+/// answer.
 const SERVED: &str = "{:kind :queue, :objects 1, :clients 2, :quota 1}
 {:client 0, :step :draw, :f :enqueue, :value 1, :object 0}
 {:client 1, :step :draw, :f :enqueue, :value 2, :object 0}

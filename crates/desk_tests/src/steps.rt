@@ -124,7 +124,8 @@ fn impossible_steps_are_counted(rt: HostRuntime) -> Result<(), Fail> {
     Ok(())
 }
 
-// A mutex that is held can't be acquired: the request goes back, and the least client is there still.
+// A mutex that is held can't be acquired: the request goes back, and the least client is there
+// still.
 #[test]
 fn an_impossible_request_is_put_back(rt: HostRuntime) -> Result<(), Fail> {
     let mut machine = machine_for(rt.alloc(), Kind::Mutex, 2, 2)?;

@@ -20,7 +20,8 @@ type Entry = LogEntry<AnyOp, AnyReply>;
 /// How long a gate waits, each turn a yield.
 const TURNS: u32 = 10_000_000;
 
-/// Holds the first call of each client until all clients have come to theirs, and counts what it saw.
+/// Holds the first call of each client until all clients have come to theirs, and counts what it
+/// saw.
 #[derive(Drop)]
 struct Together {
     clients: u64,
@@ -41,7 +42,8 @@ impl Together {
         }
     }
 
-    /// Whether all clients were once before their first calls, and the gate was called around so many calls.
+    /// Whether all clients were once before their first calls, and the gate was called around so
+    /// many calls.
     fn held(&self, calls: u64) -> bool {
         self.gave_up.load(Ordering::SeqCst) == 0
             && self.before.load(Ordering::SeqCst) == calls
@@ -144,7 +146,8 @@ fn is_whole(record: &Record<AnyObject>, work: &Workload) -> bool {
         && calls_made(record, work) == Some(entries(record))
 }
 
-/// Runs so many clients, all of which are before their first calls at once, and checks that they make all their calls.
+/// Runs so many clients, all of which are before their first calls at once, and checks that they
+/// make all their calls.
 fn run_together<R: AllocGlobal + Abort + Threads + Wait + Sync>(
     rt: &R,
     kinds: Kinds,
@@ -219,7 +222,8 @@ fn returned_at(journal: &[Event], invoked: u64) -> Option<u64> {
     returned(journal.get(place.checked_add(1)?)?)
 }
 
-/// Whether two entries in a row are of two clients, and the second call was invoked before the first returned.
+/// Whether two entries in a row are of two clients, and the second call was invoked before the
+/// first returned.
 fn is_served_beside(record: &Record<AnyObject>, first: &Entry, second: &Entry) -> bool {
     let client = first.client;
     if client as usize >= record.clients() || client == second.client {
@@ -231,7 +235,8 @@ fn is_served_beside(record: &Record<AnyObject>, first: &Entry, second: &Entry) -
     }
 }
 
-/// At one queue, some passes of four clients serve more than one request: entries of two clients stand between two returns.
+/// At one queue, some passes of four clients serve more than one request: entries of two clients
+/// stand between two returns.
 #[test]
 fn passes_serve_others(rt: HostRuntime) -> Result<(), Fail> {
     for _ in 0..100 {

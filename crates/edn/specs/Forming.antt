@@ -4,8 +4,8 @@ use Rattle.edn.specs.Datum.{Datum, Items, Entries}
 use Rattle.edn.specs.Text.{InProfile, ItemsInProfile, EntriesInProfile}
 use Rattle.edn.specs.Token.{Token, close_vector, close_map, tokens_of, items_tokens, entries_tokens}
 
--- The tokens of a form, and then these. Its integers have 64 bits, its strings are text and its keywords are spelled as
--- keywords.
+-- The tokens of a form, and then these. Its integers have 64 bits, its strings are text and its
+-- keywords are spelled as keywords.
 pub record BeginsForm (tokens : List Token) : Type 0 where
   pub form : Datum
   pub behind : List Token

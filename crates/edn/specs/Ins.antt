@@ -20,7 +20,8 @@ is_want_of_memory (Some OutOfMemory) = true
 is_want_of_memory failure = false
 
 -- the supply failed in a call for a buffer of this length, for the reason that the source keeps
-pub record IsFailedRead {D : Type 0} (answers : D → ℕ → Result ℕ ErrorKind → D → Type 0) (old : In D) (length : ℕ) (new : In D) : Type 0 where
+pub record IsFailedRead {D : Type 0} (answers : D → ℕ → Result ℕ ErrorKind → D → Type 0)
+    (old : In D) (length : ℕ) (new : In D) : Type 0 where
   pub kind : ErrorKind
   pub answered : answers (supply_of old) length (Err kind) (supply_of new)
   pub failure : failure_in new ≡ Some kind

@@ -1,11 +1,14 @@
--- The vector of integers under a key of a map, token by token, beside the tokens that are kept. No public clause speaks of it.
-use Rattle.std.specs.Prelude.{ℕ, ◌+◌, ◌-◌, ◌==◌, nat_le, ℤ, if◌then◌else◌, List, [], ◌∷◌, ◌++◌, Option, Some, None}
+-- The vector of integers under a key of a map, token by token, beside the tokens that are kept. No
+-- public clause speaks of it.
+use Rattle.std.specs.Prelude.{ℕ, ◌+◌, ◌-◌, ◌==◌, nat_le, ℤ, if◌then◌else◌, List, [], ◌∷◌, ◌++◌}
+use Rattle.std.specs.Prelude.{Option, Some, None}
 use Rattle.std.specs.Str.{bytes_eq}
 use Rattle.edn.specs.Token.{Token, open_vector, close_vector, open_map, close_map, leaf}
 use Rattle.edn.specs.Shapes.{key_in}
 use Rattle.edn.specs.Truncation.{integer_in, Keeping, Keep, nothing_kept, keep}
 use Rattle.edn.specs.declared.integer_vector.Stage.{Stage}
-use Rattle.edn.specs.declared.integer_vector.Stage.TheVariants.{Start, Key, Value, Other, Numbers, Whole, Over}
+use Rattle.edn.specs.declared.integer_vector.Stage.TheVariants.{Start, Key, Value, Other, Numbers}
+use Rattle.edn.specs.declared.integer_vector.Stage.TheVariants.{Whole, Over}
 
 -- the key, how far the map is read, and the numbers so far
 pub record IntegerVector : Type 0 where
@@ -101,7 +104,8 @@ pub record Held : Type 0 where
   pub integer_vector : IntegerVector
 
 abbrev pub nothing_held : Keeping → Held
-nothing_held k = record { kept = nothing_kept k.cuts; integer_vector = nothing_noted k.integer_vector_key }
+nothing_held k =
+    record { kept = nothing_kept k.cuts; integer_vector = nothing_noted k.integer_vector_key }
 
 abbrev pub hold : Token → Held → Held
 hold t h = record { kept = keep t h.kept; integer_vector = note t h.integer_vector }

@@ -1,5 +1,6 @@
 -- What the pieces of a token buffer stand for.
-use Rattle.std.specs.Prelude.{◌≡◌, true, false, ℕ, ◌==◌, if◌then◌else◌, List, [], ◌∷◌, map, Option, Some, None, Result, MatchResult, unwrap_or, option_map}
+use Rattle.std.specs.Prelude.{◌≡◌, true, false, ℕ, ◌==◌, if◌then◌else◌, List, [], ◌∷◌, map, Option}
+use Rattle.std.specs.Prelude.{Some, None, Result, MatchResult, unwrap_or, option_map}
 use Rattle.std.specs.Borrow.{Bor}
 use Rattle.edn.specs.Datum.{Atom, nil, boolean, integer, string, keyword, atom}
 use Rattle.edn.specs.Spells.{escape_of}
@@ -10,7 +11,8 @@ use Rattle.edn.specs.declared.fault.Stop.{Stop}
 use Rattle.edn.specs.declared.fault.Cause.{Cause}
 use Rattle.edn.specs.declared.fault.Cause.TheVariants.{NoMemory}
 use Rattle.edn.specs.declared.piece.Piece.{Piece}
-use Rattle.edn.specs.declared.piece.Piece.TheVariants.{OpenVector, CloseVector, OpenMap, CloseMap, Nil, True, False, Int, Str, Keyword}
+use Rattle.edn.specs.declared.piece.Piece.TheVariants.{OpenVector, CloseVector, OpenMap, CloseMap}
+use Rattle.edn.specs.declared.piece.Piece.TheVariants.{Nil, True, False, Int, Str, Keyword}
 
 -- what stands between quotes, with the escapes resolved
 abbrev mutual
@@ -39,8 +41,13 @@ token_buffer_tokens ps = map piece_token ps
 
 -- a token and what follows it; no memory is taken
 abbrev pub GivesPiece : Result (Piece × Bor (List ℕ)) Stop → Next → Type 0
-GivesPiece r expected = MatchResult r (λ x. expected ≡ got (piece_token x.0) x.1.now) (λ e. (expected ≡ bad) × (e.cause ≡ NoMemory → ⊥))
+GivesPiece r expected =
+    MatchResult r (λ x. expected ≡ got (piece_token x.0) x.1.now) (λ e. (expected ≡ bad)
+    × (e.cause ≡ NoMemory → ⊥))
 
 -- a word's own
 abbrev pub IsWordPiece : Result Piece Cause → Option Atom → Type 0
-IsWordPiece r expected = MatchResult r (λ p. option_map (λ a. spec.leaf (atom a)) expected ≡ Some (piece_token p)) (λ e. (expected ≡ None) × (e ≡ NoMemory → ⊥))
+IsWordPiece r expected =
+    MatchResult r (λ p. option_map (λ a. spec.leaf (atom a)) expected
+    ≡ Some (piece_token p)) (λ e. (expected ≡ None)
+    × (e ≡ NoMemory → ⊥))

@@ -1,7 +1,10 @@
--- What is kept of an element of which a reader needs only the beginning of each value, and the vector of integers under one key.
-use Rattle.std.specs.Prelude.{ℕ, zero, suc, ◌+◌, ◌-◌, ◌==◌, ℤ, Bool, true, false, if◌then◌else◌, List, [], ◌∷◌, ◌++◌, Option, Some, None, option_map, option_and_then}
+-- What is kept of an element of which a reader needs only the beginning of each value, and the
+-- vector of integers under one key.
+use Rattle.std.specs.Prelude.{ℕ, zero, suc, ◌+◌, ◌-◌, ◌==◌, ℤ, Bool, true, false, if◌then◌else◌}
+use Rattle.std.specs.Prelude.{List, [], ◌∷◌, ◌++◌, Option, Some, None, option_map, option_and_then}
 use Rattle.std.specs.Str.{bytes_eq}
-use Rattle.edn.specs.Datum.{nil, integer, Datum, atom, vector, dictionary, Items, no_items, item, Entries, no_entries, entry}
+use Rattle.edn.specs.Datum.{nil, integer, Datum, atom, vector, dictionary, Items, no_items, item}
+use Rattle.edn.specs.Datum.{Entries, no_entries, entry}
 use Rattle.edn.specs.Token.{Token, open_vector, close_vector, open_map, close_map, leaf}
 
 -- how many elements of a vector are kept
@@ -49,7 +52,8 @@ integer_in other = None
 -- the elements of a vector, where all are integers
 abbrev pub integers_in : Items → Option (List ℤ)
 integers_in no_items = Some []
-integers_in (item d ds) = option_and_then (λ z. option_map (λ zs. z ∷ zs) (integers_in ds)) (integer_in d)
+integers_in (item d ds) =
+    option_and_then (λ z. option_map (λ zs. z ∷ zs) (integers_in ds)) (integer_in d)
 
 -- the numbers of a vector that holds integers alone
 abbrev pub integer_vector_of : Datum → Option (List ℤ)
@@ -59,7 +63,8 @@ integer_vector_of other = None
 -- the integer vector that stands under a key: under the first entry that has it
 abbrev pub integer_vector_under : List ℕ → Entries → Option (List ℤ)
 integer_vector_under key no_entries = None
-integer_vector_under key (entry k d es) = if bytes_eq key k then integer_vector_of d else integer_vector_under key es
+integer_vector_under key (entry k d es) =
+    if bytes_eq key k then integer_vector_of d else integer_vector_under key es
 
 abbrev pub integer_vector_at : List ℕ → Datum → Option (List ℤ)
 integer_vector_at key (dictionary es) = integer_vector_under key es
@@ -87,8 +92,8 @@ integer_vector_kept k d = option_and_then (λ key. integer_vector_at key d) k.in
 
 -- ---- token by token. No public clause speaks of it.
 
--- The tokens that are kept so far; whether a map is open that holds the values; how many brackets of a value are open,
--- and how many elements of it have room.
+-- The tokens that are kept so far; whether a map is open that holds the values; how many brackets
+-- of a value are open, and how many elements of it have room.
 pub record Keep : Type 0 where
   pub tokens : List Token
   pub cuts : Bool
@@ -108,7 +113,8 @@ into_vector k = if k.cuts then record k { below = 1; room = most_items } else k
 
 -- the map that holds the values, or a value
 abbrev pub into_map : Keep → Keep
-into_map k = if k.cuts then (if k.in_map then record k { below = 1 } else record k { in_map = true }) else k
+into_map k =
+    if k.cuts then (if k.in_map then record k { below = 1 } else record k { in_map = true }) else k
 
 abbrev pub keep_outside : Token → Keep → Keep
 keep_outside open_vector k = pushed open_vector (into_vector k)
@@ -118,7 +124,8 @@ keep_outside close_map k = pushed close_map k
 keep_outside (leaf d) k = pushed (leaf d) k
 
 abbrev pub keep_item : Token → Keep → Keep
-keep_item t k = if k.room == 0 then k else record k { tokens = k.tokens ++ t ∷ []; room = k.room - 1 }
+keep_item t k =
+    if k.room == 0 then k else record k { tokens = k.tokens ++ t ∷ []; room = k.room - 1 }
 
 abbrev pub keep_inside : Token → Keep → Keep
 keep_inside open_vector k = record (keep_item (leaf (atom nil)) k) { below = 2 }
@@ -135,7 +142,9 @@ pass_over close_map k = record k { below = k.below - 1 }
 pass_over (leaf d) k = k
 
 abbrev pub keep : Token → Keep → Keep
-keep t k = if k.below == 0 then keep_outside t k else if k.below == 1 then keep_inside t k else pass_over t k
+keep t k =
+    if k.below == 0 then keep_outside t k else if k.below == 1 then keep_inside t k else pass_over t
+    k
 
 abbrev pub keep_all : List Token → Keep → Keep
 keep_all [] k = k

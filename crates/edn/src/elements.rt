@@ -16,8 +16,8 @@ use crate::token_buffer::{Keeping, TokenBuffer};
 use std::alloc::Global;
 
 /// What is left of a text, and the tokens that were kept of the element that was read last: all, or
-/// the beginning of each value; and its integer vector, where one is kept. The room of the tokens is used again
-/// for the next element.
+/// the beginning of each value; and its integer vector, where one is kept. The room of the tokens
+/// is used again for the next element.
 #[derive(Drop)]
 pub struct Elements<'a> {
     alloc: Global,
@@ -36,8 +36,8 @@ impl<'a> Elements<'a> {
     ghost use Rattle.edn.specs.Pieces.{token_buffer_tokens};
     ghost use Rattle.edn.specs.Reading.{skip};
 
-    /// A text that is too long is not looked at; then comes whether it is UTF-8 as a whole. No memory
-    /// is taken.
+    /// A text that is too long is not looked at; then comes whether it is UTF-8 as a whole. No
+    /// memory is taken.
     fn over(
         alloc: Global,
         cuts: bool,
@@ -86,8 +86,8 @@ impl<'a> Elements<'a> {
     }
 
     /// Elements of which only the beginning of each value is kept: of a vector three elements, with
-    /// nil in place of those that are vectors and maps, and of a map none. An element that is no map
-    /// is kept as a value is. What is not kept takes no memory, and is read as all else is.
+    /// nil in place of those that are vectors and maps, and of a map none. An element that is no
+    /// map is kept as a value is. What is not kept takes no memory, and is read as all else is.
     pub fn truncated(alloc: Global, text: &'a [u8]) -> Result<Elements<'a>, EdnFault>
         ensures text { IfOk result (λ r. (left_of r ≡ text.entry.now) × (start_of r ≡ 0)) }
         ensures keeps { IfOk result (λ r. keeping_in r ≡ truncated_kept) }
@@ -97,23 +97,25 @@ impl<'a> Elements<'a> {
         Elements::over(alloc, true, None, text)
     }
 
-    /// The same, and beside it the integer vector of each element: where an element is a map, and the first value
-    /// that it has for the key is a vector of integers alone, the whole of these. An integer vector takes eight
-    /// bytes for each number.
+    /// The same, and beside it the integer vector of each element: where an element is a map, and
+    /// the first value that it has for the key is a vector of integers alone, the whole of these.
+    /// An integer vector takes eight bytes for each number.
     pub fn with_integer_vector(
         alloc: Global,
         text: &'a [u8],
         key: &'a [u8],
     ) -> Result<Elements<'a>, EdnFault>
         ensures text { IfOk result (λ r. (left_of r ≡ text.entry.now) × (start_of r ≡ 0)) }
-        ensures keeps { IfOk result (λ r. keeping_in r ≡ truncated_and_integer_vector key.entry.now) }
+        ensures keeps { IfOk result (λ r. keeping_in r
+            ≡ truncated_and_integer_vector key.entry.now) }
         ensures short { IfOk result (λ r. IsShort text.entry.now × IsUtf8 text.entry.now) }
         ensures unreadable { IfErr result (IsUnreadable text.entry.now) }
     {
         Elements::over(alloc, true, Some(key), text)
     }
 
-    /// The byte of the text at which the next token begins, or the text's length where there is none.
+    /// The byte of the text at which the next token begins, or the text's length where there is
+    /// none.
     pub(crate) fn place(&self) -> usize
         ensures { result + length (skip (left_of self.now))
             ≡ start_of self.now + length (left_of self.now) }

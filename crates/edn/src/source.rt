@@ -7,7 +7,8 @@ ghost use Rattle.edn.specs.Given.{GivesBytes};
 use crate::sink::Failed;
 use std::io::{ErrorKind, Read};
 
-/// A device that gives bytes in pieces, until it ends or fails. Each call asks that it has not failed.
+/// A device that gives bytes in pieces, until it ends or fails. Each call asks that it has not
+/// failed.
 pub trait Source {
     /// The bytes that will be given from here on, where they are known.
     ghost remaining: { Self → Option (List ℕ) };
@@ -16,8 +17,8 @@ pub trait Source {
     /// What it means that a call for a buffer of this length fails, with what it leaves.
     ghost refuses: { Self → ℕ → Self → Type 0 };
 
-    /// Puts bytes at the beginning of the buffer, and says how many they are. None for a buffer that is not empty is the
-    /// end.
+    /// Puts bytes at the beginning of the buffer, and says how many they are. None for a buffer
+    /// that is not empty is the end.
     fn get(&mut self, buf: &mut [u8]) -> Result<usize, Failed>
         requires { broken self.old ≡ false }
         ensures within { IfOk result (λ n. n ≤ length buf.new) }

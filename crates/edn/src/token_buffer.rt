@@ -17,15 +17,17 @@ use crate::piece::Piece;
 use crate::truncated::TruncatedTokens;
 use std::alloc::Global;
 
-/// What is kept of each element: whether it is cut, and under which key its integer vector is kept, if one is.
+/// What is kept of each element: whether it is cut, and under which key its integer vector is kept,
+/// if one is.
 #[derive(Clone, Copy)]
 pub struct Keeping<'a> {
     pub cuts: bool,
     pub integer_vector_key: Option<&'a [u8]>,
 }
 
-/// The tokens of one element that are kept, its integer vector, what is open while they are read, and what follows the last of them;
-/// and, where reading fails, how much of the text was left there.
+/// The tokens of one element that are kept, its integer vector, what is open while they are read,
+/// and what follows the last of them; and, where reading fails, how much of the text was left
+/// there.
 #[derive(Drop)]
 pub struct TokenBuffer<'a> {
     truncated: TruncatedTokens<'a>,
@@ -53,8 +55,9 @@ impl<'a> TokenBuffer<'a> {
     }
 
     /// Takes this token, which stands at the front, and keeps what follows it.
-    // Put in its callers' place, so that a token whose kind is known there is never copied. What follows, and where reading
-    // fails, are no part of the result: they would be copied in parts, and the parts read as one.
+    // Put in its callers' place, so that a token whose kind is known there is never copied. What
+    // follows, and where reading fails, are no part of the result: they would be copied in parts,
+    // and the parts read as one.
     #[inline(always)]
     fn put(
         &mut self,
@@ -107,7 +110,8 @@ impl<'a> TokenBuffer<'a> {
         }
     }
 
-    /// Takes the token at the front, and keeps what follows it. After an error the token buffer is of no use.
+    /// Takes the token at the front, and keeps what follows it. After an error the token buffer is
+    /// of no use.
     #[inline(always)]
     #[tactic(auto, unfolding(crate::specs::Reading::first))]
     fn take(&mut self, alloc: Global, here: &'a [u8]) -> Result<(), Cause>
@@ -179,7 +183,8 @@ impl<'a> TokenBuffer<'a> {
 
     /// Reads the next element of a text, and gives what follows it, or none where there is no
     /// element more. Of its tokens all are kept, or the beginning of each value where it is to be
-    /// cut, and its integer vector where there is a key for it. After an error nothing is open, as before.
+    /// cut, and its integer vector where there is a key for it. After an error nothing is open, as
+    /// before.
     pub fn read(
         &mut self,
         alloc: Global,

@@ -9,8 +9,8 @@ use std::alloc::{AllocError, Global};
 /// How many elements of a vector are kept, where it is cut.
 const MOST_ITEMS: usize = 3;
 
-/// The tokens so far that are kept: all, or the beginning of each value. How many brackets of a value
-/// are open is counted only where values are cut.
+/// The tokens so far that are kept: all, or the beginning of each value. How many brackets of a
+/// value are open is counted only where values are cut.
 #[derive(Drop)]
 pub struct TruncatedTokens<'a> {
     pieces: Vec<Piece<'a>>,

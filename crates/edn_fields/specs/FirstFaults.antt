@@ -1,13 +1,18 @@
--- Which of a list of forms is the first with a fault, where a fault is one of a form behind those before it.
+-- Which of a list of forms is the first with a fault, where a fault is one of a form behind those
+-- before it.
 use Rattle.std.specs.Prelude.{◌≡◌, ℕ, ◌≤◌, List, ◌∷◌, ◌++◌, length}
 use Rattle.edn.specs.Datum.{Datum}
 
 -- no form is faulty
-abbrev pub AreFaultless : {Kind : Type 0} → (List Datum → Datum → Kind → Type 0) → List Datum → Type 0
-AreFaultless {Kind} IsFault ds = (earlier later : List Datum) (d : Datum) (kind : Kind) → ds ≡ earlier ++ d ∷ later → IsFault earlier d kind → ⊥
+abbrev pub AreFaultless : {Kind : Type 0} → (List Datum → Datum → Kind → Type 0) → List Datum
+    → Type 0
+AreFaultless {Kind} IsFault ds =
+    (earlier later : List Datum) (d : Datum) (kind : Kind) → ds ≡ earlier ++ d ∷ later
+    → IsFault earlier d kind → ⊥
 
 -- the first fault: that of the least faulty form, and of the faults there that of the least number
-pub record IsFirstFaultBy {Kind : Type 0} (IsFault : List Datum → Datum → Kind → Type 0) (number_of : Kind → ℕ) (ds : List Datum) (at : ℕ) (kind : Kind) : Type 0 where
+pub record IsFirstFaultBy {Kind : Type 0} (IsFault : List Datum → Datum → Kind → Type 0)
+    (number_of : Kind → ℕ) (ds : List Datum) (at : ℕ) (kind : Kind) : Type 0 where
   pub earlier : List Datum
   pub form : Datum
   pub later : List Datum

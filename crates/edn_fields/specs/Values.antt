@@ -1,5 +1,6 @@
 -- The values that a map has for its keys, on a token buffer.
-use Rattle.std.specs.Prelude.{◌≡◌, pos, negsuc, ℕ, zero, suc, List, [], ◌∷◌, ◌++◌, Option, Some, None}
+use Rattle.std.specs.Prelude.{◌≡◌, pos, negsuc, ℕ, zero, suc, List, [], ◌∷◌, ◌++◌, Option, Some}
+use Rattle.std.specs.Prelude.{None}
 use Rattle.edn.specs.Datum.{nil, boolean, integer, string, keyword, Datum, atom, vector, dictionary}
 use Rattle.edn.specs.Token.{Token, open_vector, close_vector, open_map, close_map, leaf, tokens_of}
 use Rattle.edn.specs.Pieces.{token_buffer_tokens}

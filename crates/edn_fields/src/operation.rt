@@ -80,7 +80,8 @@ impl<'p, 'a> OperationValues<'p, 'a> {
 
 /// The values in a map, behind its bracket.
 fn values_in<'p, 'a>(inside: &'p [Piece<'a>]) -> OperationValues<'p, 'a>
-    ensures { (es : Entries) → token_buffer_tokens inside.entry.now ≡ entries_tokens es ++ close_map ∷ [] →
+    ensures { (es : Entries)
+        → token_buffer_tokens inside.entry.now ≡ entries_tokens es ++ close_map ∷ [] →
         HasValues result es }
 {
     let mut values = OperationValues::none(inside);
@@ -94,7 +95,8 @@ fn values_in<'p, 'a>(inside: &'p [Piece<'a>]) -> OperationValues<'p, 'a>
 
 /// The values of the map whose tokens these are, if it is a map.
 pub fn values_of<'p, 'a>(pieces: &'p [Piece<'a>]) -> Option<OperationValues<'p, 'a>>
-    ensures map { IfSome result (λ v. (d : Datum) → token_buffer_tokens pieces.entry.now ≡ tokens_of d →
+    ensures map { IfSome result (λ v. (d : Datum)
+        → token_buffer_tokens pieces.entry.now ≡ tokens_of d →
         IsMapWith v d) }
     ensures other { IfNone result ((es : Entries) →
         token_buffer_tokens pieces.entry.now ≡ tokens_of (dictionary es) →

@@ -38,7 +38,8 @@ pub fn pair_at<'p, 'a>(pieces: &'p [Piece<'a>]) -> Option<(&'a str, &'p [Piece<'
 
 /// The value of a key in a map, behind the map's bracket.
 fn value_behind<'p, 'a>(inside: &'p [Piece<'a>], key: &[u8]) -> &'p [Piece<'a>]
-    ensures { (es : Entries) → token_buffer_tokens inside.entry.now ≡ entries_tokens es ++ close_map ∷ [] →
+    ensures { (es : Entries)
+        → token_buffer_tokens inside.entry.now ≡ entries_tokens es ++ close_map ∷ [] →
         IsValue result.now (value_at key.now es) }
 {
     let mut rest = inside;
@@ -51,10 +52,11 @@ fn value_behind<'p, 'a>(inside: &'p [Piece<'a>], key: &[u8]) -> &'p [Piece<'a>]
     &rest[..0]
 }
 
-/// The token buffer from the value of a key on, which is empty where the map whose tokens these are has no
-/// such key. None where it is no map.
+/// The token buffer from the value of a key on, which is empty where the map whose tokens these are
+/// has no such key. None where it is no map.
 pub fn value_on<'p, 'a>(pieces: &'p [Piece<'a>], key: &[u8]) -> Option<&'p [Piece<'a>]>
-    ensures value { IfSome result (λ v. (d : Datum) → token_buffer_tokens pieces.entry.now ≡ tokens_of d →
+    ensures value { IfSome result (λ v. (d : Datum)
+        → token_buffer_tokens pieces.entry.now ≡ tokens_of d →
         IsValueIn v.now key.now d) }
     ensures other { IfNone result ((es : Entries)
         → token_buffer_tokens pieces.entry.now ≡ tokens_of (dictionary es) → ⊥) }

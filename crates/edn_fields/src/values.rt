@@ -9,7 +9,8 @@ use edn::Piece;
 /// What follows the closing bracket of the vector or map that is open.
 #[tactic(auto, using(crate::proofs::Skipping::behind_open_vector, crate::proofs::Skipping::behind_open_map, crate::proofs::Skipping::behind_close_vector, crate::proofs::Skipping::behind_close_map, crate::proofs::Skipping::behind_leaf, crate::proofs::Skipping::behind_none))]
 fn behind<'p, 'a>(pieces: &'p [Piece<'a>]) -> &'p [Piece<'a>]
-    ensures tokens { token_buffer_tokens result.now ≡ spec.behind 1 (token_buffer_tokens pieces.entry.now) }
+    ensures tokens { token_buffer_tokens result.now
+        ≡ spec.behind 1 (token_buffer_tokens pieces.entry.now) }
     ensures within { length result.now ≤ length pieces.entry.now }
 {
     let mut open: usize = 1;
@@ -33,7 +34,8 @@ fn behind<'p, 'a>(pieces: &'p [Piece<'a>]) -> &'p [Piece<'a>]
 /// What follows the element at the front.
 #[inline]
 pub fn after_value<'p, 'a>(pieces: &'p [Piece<'a>]) -> &'p [Piece<'a>]
-    ensures tokens { token_buffer_tokens result.now ≡ spec.after_one (token_buffer_tokens pieces.entry.now) }
+    ensures tokens { token_buffer_tokens result.now
+        ≡ spec.after_one (token_buffer_tokens pieces.entry.now) }
     ensures within { length result.now ≤ length pieces.entry.now }
 {
     let [first, tail @ ..] = pieces else {
@@ -61,7 +63,8 @@ pub fn natural_at(value: &[Piece]) -> Option<u64>
 
 /// The keyword without its colon.
 pub fn keyword_at<'a>(value: &[Piece<'a>]) -> Option<&'a str>
-    ensures { option_map (λ k. k.now) result ≡ spec.keyword_first (token_buffer_tokens value.entry.now) }
+    ensures { option_map (λ k. k.now) result
+        ≡ spec.keyword_first (token_buffer_tokens value.entry.now) }
 {
     let [first, ..] = value else {
         return None;

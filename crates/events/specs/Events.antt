@@ -1,5 +1,6 @@
 -- Client events, when a list of them is proper, and the history that it denotes.
-use Rattle.std.specs.Prelude.{◌≡◌, ℕ, ◌==◌, ◌<◌, ⊤, Bool, true, false, List, [], ◌∷◌, ◌++◌, Option, Some, None, AllPairs, Contains, find, reverse, if◌then◌else◌}
+use Rattle.std.specs.Prelude.{◌≡◌, ℕ, ◌==◌, ◌<◌, ⊤, Bool, true, false, List, [], ◌∷◌, ◌++◌, Option}
+use Rattle.std.specs.Prelude.{Some, None, AllPairs, Contains, find, reverse, if◌then◌else◌}
 use Rattle.std.specs.Option.{option_map_or}
 use Rattle.model.specs.declared.Kind.{Kind}
 use Rattle.model.specs.declared.Kind.TheVariants.{Queue}
@@ -23,7 +24,8 @@ last_event p earlier = find (λ e. e.process == p) (reverse earlier)
 
 -- ---- which lists of events are proper
 
--- A process may invoke where its last event, if there is one, completed an operation with Ok or Fail.
+-- A process may invoke where its last event, if there is one, completed an operation with Ok or
+-- Fail.
 abbrev pub IsIdleAfter : Action → Type 0
 IsIdleAfter (Invoke op) = ⊥
 IsIdleAfter (Ok r) = ⊤
@@ -36,7 +38,9 @@ IsIdle (Some e) = IsIdleAfter e.action
 
 -- the object is used by operations of one kind
 abbrev pub IsOfKindAt : List Event → ℕ → AnyOp → Type 0
-IsOfKindAt earlier x op = (e : Event) (earlier_op : AnyOp) → Contains earlier e → e.object ≡ x → e.action ≡ Invoke earlier_op → kind_of earlier_op ≡ kind_of op
+IsOfKindAt earlier x op =
+    (e : Event) (earlier_op : AnyOp) → Contains earlier e → e.object ≡ x
+    → e.action ≡ Invoke earlier_op → kind_of earlier_op ≡ kind_of op
 
 -- the process has this operation outstanding, on this object
 abbrev pub IsOutstanding : Option Event → ℕ → AnyOp → Type 0
@@ -46,18 +50,21 @@ IsOutstanding last x op = (e : Event) × (last ≡ Some e) × (e.object ≡ x) �
 abbrev pub HasShape : AnyOp → AnyReply → Type 0
 HasShape op r = reply_with (function_in op) (reply_value r) ≡ Some r
 
--- An event fits behind earlier ones: an invocation of an idle process, of the kind of the object's earlier ones, or
--- a completion of the operation that is outstanding, on its object, and with a reply of its shape.
+-- An event fits behind earlier ones: an invocation of an idle process, of the kind of the object's
+-- earlier ones, or a completion of the operation that is outstanding, on its object, and with a
+-- reply of its shape.
 abbrev pub Follows : List Event → ℕ → ℕ → Action → Type 0
 Follows earlier p x (Invoke op) = IsIdle (last_event p earlier) × IsOfKindAt earlier x op
-Follows earlier p x (Ok r) = (op : AnyOp) × IsOutstanding (last_event p earlier) x op × HasShape op r
+Follows earlier p x (Ok r) =
+    (op : AnyOp) × IsOutstanding (last_event p earlier) x op × HasShape op r
 Follows earlier p x Fail = (op : AnyOp) × IsOutstanding (last_event p earlier) x op
 Follows earlier p x Info = (op : AnyOp) × IsOutstanding (last_event p earlier) x op
 
 -- Numbers rise, and each event fits behind those before it.
 pub record IsProper (es : List Event) : Type 0 where
   pub rising : AllPairs (λ a b. a.number < b.number) es
-  pub each : (earlier later : List Event) (e : Event) → es ≡ earlier ++ e ∷ later → Follows earlier e.process e.object e.action
+  pub each : (earlier later : List Event) (e : Event) → es ≡ earlier ++ e ∷ later
+      → Follows earlier e.process e.object e.action
 
 -- ---- what a list of events denotes
 
@@ -69,18 +76,23 @@ is_fail a = false
 abbrev pub fails : Option Event → Bool
 fails next = option_map_or (λ e. is_fail e.action) next false
 
--- an invocation stands for itself unless its operation failed, Ok for the response, and nothing else leaves an event
+-- an invocation stands for itself unless its operation failed, Ok for the response, and nothing
+-- else leaves an event
 abbrev pub denoted_by : ℕ → ℕ → ℕ → Action → Bool → List Numbered
-denoted_by number p x (Invoke op) failed = if failed then [] else record { number = number; event = Inv p x op } ∷ []
+denoted_by number p x (Invoke op) failed =
+    if failed then [] else record { number = number; event = Inv p x op } ∷ []
 denoted_by number p x (Ok r) failed = record { number = number; event = Res p x r } ∷ []
 denoted_by number p x Fail failed = []
 denoted_by number p x Info failed = []
 
--- The history that events denote: in their order, and with their numbers, the invocations, but for those whose
--- process next fails, and the responses. Where nothing is known of an operation its invocation stays pending.
+-- The history that events denote: in their order, and with their numbers, the invocations, but for
+-- those whose process next fails, and the responses. Where nothing is known of an operation its
+-- invocation stays pending.
 abbrev pub denoted : List Event → List Numbered
 denoted [] = []
-denoted (e ∷ later) = denoted_by e.number e.process e.object e.action (fails (next_event e.process later)) ++ denoted later
+denoted (e ∷ later) =
+    denoted_by e.number e.process e.object e.action (fails (next_event e.process later))
+    ++ denoted later
 
 -- ---- objects
 
@@ -101,4 +113,5 @@ kind_in Info other = other
 -- the kind of an object: that of the first invocation that names it
 abbrev pub kind_at : List Event → ℕ → Kind
 kind_at [] x = Queue
-kind_at (e ∷ later) x = if e.object == x then kind_in e.action (kind_at later x) else kind_at later x
+kind_at (e ∷ later) x =
+    if e.object == x then kind_in e.action (kind_at later x) else kind_at later x

@@ -1,5 +1,6 @@
 -- The operations of one object, with their ends, and the calls that they are.
-use Rattle.std.specs.Prelude.{unwrap_or, ◌≡◌, ◌≢◌, ℕ, ◌==◌, ◌<◌, ⊤, reverse, List, [], ◌∷◌, ◌++◌, Option, Some, None, All, AllPairs, Contains, ◌%◌, ◌⊎◌, if◌then◌else◌}
+use Rattle.std.specs.Prelude.{unwrap_or, ◌≡◌, ◌≢◌, ℕ, ◌==◌, ◌<◌, ⊤, reverse, List, [], ◌∷◌, ◌++◌}
+use Rattle.std.specs.Prelude.{Option, Some, None, All, AllPairs, Contains, ◌%◌, ◌⊎◌, if◌then◌else◌}
 use Rattle.std.specs.List.{filter_map}
 use Rattle.model.specs.declared.Kind.{Kind}
 use Rattle.model.specs.declared.AnyOp.{AnyOp}
@@ -38,7 +39,9 @@ begun number Info how = []
 -- the operations on one object, in the order of their invocations
 abbrev pub operations_on : ℕ → List Event → List Invocation
 operations_on x [] = []
-operations_on x (e ∷ later) = (if e.object == x then begun e.number e.action (end_at (next_event e.process later)) else []) ++ operations_on x later
+operations_on x (e ∷ later) =
+    (if e.object == x then begun e.number e.action (end_at (next_event e.process later)) else [])
+    ++ operations_on x later
 
 -- those of an object whose number leaves the remainder part by parts, and none of another
 abbrev pub operations_in : ℕ → ℕ → ℕ → List Event → List Invocation
@@ -61,7 +64,8 @@ abbrev pub Agrees : Option Return → AnyReply → Type 0
 Agrees returned gives = (r : Return) → returned ≡ Some r → r.reply ≡ gives
 
 abbrev pub call_with : ℕ → AnyOp → End → Option Call
-call_with number op (Returned at reply) = Some (record { number = number; op = op; returned = Some (record { at = at; reply = reply }) })
+call_with number op (Returned at reply) =
+    Some (record { number = number; op = op; returned = Some (record { at = at; reply = reply }) })
 call_with number op Pending = Some (record { number = number; op = op; returned = None })
 call_with number op Failed = None
 
@@ -86,7 +90,8 @@ pub record ObjectCalls : Type 0 where
   pub kind : Kind
   pub ops : List Invocation
 
--- Numbers rise, the operations are of the kind, and a response stands behind its invocation, and at no invocation.
+-- Numbers rise, the operations are of the kind, and a response stands behind its invocation, and at
+-- no invocation.
 pub record IsObjectHistory (h : ObjectCalls) : Type 0 where
   pub rising : AllPairs (λ a b. a.number < b.number) h.ops
   pub of_kind : All (λ o. kind_of o.op ≡ h.kind) h.ops

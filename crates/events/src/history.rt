@@ -5,9 +5,9 @@ ghost use Rattle.std.specs.Prelude.{◌≡◌};
 use crate::event::Event;
 use std::marker::Model;
 
-/// A history. Its events are proper: numbers rise, a process invokes only while it is idle, a completion answers
-/// the operation that is outstanding on its object with a reply of its shape, nothing follows Info, and the
-/// operations on one object are of one kind.
+/// A history. Its events are proper: numbers rise, a process invokes only while it is idle, a
+/// completion answers the operation that is outstanding on its object with a reply of its shape,
+/// nothing follows Info, and the operations on one object are of one kind.
 #[derive(Debug, Drop)]
 pub struct History {
     events: Vec<Event>,

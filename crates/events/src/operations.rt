@@ -53,7 +53,8 @@ pub struct Invocation {
     pub end: End,
 }
 
-/// The operations of one object of a history, in the order of their invocations, which is that of their numbers.
+/// The operations of one object of a history, in the order of their invocations, which is that of
+/// their numbers.
 #[derive(Debug, Drop)]
 pub struct ObjectHistory {
     object: u32,
@@ -68,7 +69,8 @@ impl Model for ObjectHistory {
 
     ghost view = { λ h. record { object = h.object; kind = h.kind; ops = h.ops.items } };
 
-    ghost invariant = { λ h. IsObjectHistory (record { object = h.object; kind = h.kind; ops = h.ops.items }) };
+    ghost invariant = { λ h. IsObjectHistory
+        (record { object = h.object; kind = h.kind; ops = h.ops.items }) };
 }
 
 impl ObjectHistory {

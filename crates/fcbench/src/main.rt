@@ -25,7 +25,8 @@ impl<R: Files + AllocGlobal + Print + Eprint + Clock + Threads + Wait + Sync> Ho
 fn bytes_of<R: Files + Alloc>(rt: &R, name: &str) -> io::Result<Vec<u8, R::A>> {
     let file = std::fs::open(rt, name)?;
     let mut bytes = Vec::new(rt.alloc());
-    // Room for the whole file at once. Where that is refused, or the length is not known, it grows as it is read.
+    // Room for the whole file at once. Where that is refused, or the length is not known, it grows
+    // as it is read.
     if let Ok(about) = file.metadata() {
         let length = about.len().min(READ_LIMIT as u64) as usize;
         let _ = bytes.reserve(length);
@@ -130,8 +131,9 @@ fn run<R: Host + Env>(rt: &R) -> io::Result<u8> {
     }
 }
 
-/// Says after a second that the command is under way, unless it is done before. It looks each 5 milliseconds whether it is done, since
-/// the command ends only when this returns: no command takes more than a step longer for being watched.
+/// Says after a second that the command is under way, unless it is done before. It looks each 5
+/// milliseconds whether it is done, since the command ends only when this returns: no command takes
+/// more than a step longer for being watched.
 fn watch<R: Eprint + Clock>(rt: &R, is_done: &AtomicBool) {
     for _ in 0..200 {
         if is_done.load(Ordering::SeqCst) {

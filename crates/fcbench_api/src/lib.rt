@@ -1,8 +1,11 @@
-//! The judge of histories and the bounded search, as one library: the calls, and the types in their signatures.
+//! The judge of histories and the bounded search, as one library: the calls, and the types in their
+//! signatures.
 //!
-//! `judge` takes the two texts as bytes and gives a verdict; `check_over` takes them from sources, and writes the verdict's lines to a
-//! sink. `search` looks for an order of one object's operations, and `search_all` of all objects of a history, which
-//! `read_history_text` reads and `split` takes apart. `write_certificates` writes what was found as a text for `judge`.
+//! `judge` takes the two texts as bytes and gives a verdict; `check_over` takes them from sources,
+//! and writes the verdict's lines to a sink. `search` looks for an order of one object's
+//! operations, and `search_all` of all objects of a history, which
+//! `read_history_text` reads and `split` takes apart. `write_certificates` writes what was found as
+//! a text for `judge`.
 #![tactic(auto)]
 
 pub use certificate::{CertFault, CertFaultKind, Certificate, write_certificates};

@@ -10,7 +10,8 @@ use crate::finding::{FindOutcome, find};
 use events::{History, split};
 use std::alloc::{AllocError, Global};
 
-/// Looks for a certificate of each object of a history, and answers in rising number of the objects.
+/// Looks for a certificate of each object of a history, and answers in rising number of the
+/// objects.
 pub fn find_all(alloc: Global, history: &History) -> Result<Vec<(u32, FindOutcome)>, AllocError>
     ensures rising { IfOk result (λ v. AllPairs (λ a b. a.0 < b.0) v.items) }
     // the objects that some invocation names, and no others

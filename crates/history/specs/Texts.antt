@@ -15,18 +15,28 @@ use Rattle.history.specs.Faults.{IsFaultless, IsFirstFault}
 use Rattle.history.specs.Denotes.{events_from}
 use Rattle.history.specs.Seen.{IsSeen}
 
--- Nothing is wrong with the text of a history as far as it was looked at: up to a token and with it, or, where it spells
--- forms, up to one of them and with it.
+-- Nothing is wrong with the text of a history as far as it was looked at: up to a token and with
+-- it, or, where it spells forms, up to one of them and with it.
 abbrev pub IsHistorySound : List ℕ → Type 0
-IsHistorySound h = IsShort h × (((place : ℕ) × IsSoundAt place h) ⊎ ((ds : List Datum) × Spells ds h × (map : ℕ) × (map < length ds) × IsFaultless (take (map + 1) ds)))
+IsHistorySound h =
+    IsShort h
+    × (((place : ℕ) × IsSoundAt place h)
+    ⊎ ((ds : List Datum) × Spells ds h × (map : ℕ) × (map < length ds)
+    × IsFaultless (take (map + 1) ds)))
 
--- The first fault of the forms; or memory was refused for one of them, and up to it and with it there is none.
+-- The first fault of the forms; or memory was refused for one of them, and up to it and with it
+-- there is none.
 abbrev pub IsFoundIn : List Datum → HistoryFault → Type 0
-IsFoundIn ds f = (f.kind ≢ NoMemory → IsFirstFault ds f) × (f.kind ≡ NoMemory → (f.map < length ds) × IsFaultless (take (f.map + 1) ds))
+IsFoundIn ds f =
+    (f.kind ≢ NoMemory → IsFirstFault ds f)
+    × (f.kind ≡ NoMemory → (f.map < length ds) × IsFaultless (take (f.map + 1) ds))
 
--- The text is unreadable, or memory was refused for a token; or it is short and spells forms in which this was found.
+-- The text is unreadable, or memory was refused for a token; or it is short and spells forms in
+-- which this was found.
 abbrev pub IsTextFault : List ℕ → TextFault → Type 0
-IsTextFault text (Text e) = (e.kind ≢ edn_kind.NoMemory → IsUnreadable text e) × (e.kind ≡ edn_kind.NoMemory → IsShort text × IsSoundAt e.place text)
+IsTextFault text (Text e) =
+    (e.kind ≢ edn_kind.NoMemory → IsUnreadable text e)
+    × (e.kind ≡ edn_kind.NoMemory → IsShort text × IsSoundAt e.place text)
 IsTextFault text (Maps f) = IsShort text × (ds : List Datum) × Spells ds text × IsFoundIn ds f
 
 -- ---- the maps so far

@@ -45,7 +45,8 @@ impl Reading {
     /// Reads one more map, where none was faulty. Of each value only the beginning is given.
     fn take_next(&mut self, pieces: &[Piece])
         requires { self.old.fault ≡ None }
-        ensures { (ds : List Datum) (d : Datum) → token_buffer_tokens pieces.now ≡ tokens_of (truncated d)
+        ensures { (ds : List Datum) (d : Datum)
+            → token_buffer_tokens pieces.now ≡ tokens_of (truncated d)
             → IsReading self.old ds → IsReading self.new (ds ++ d ∷ []) }
     {
         let map = self.map;
@@ -57,7 +58,8 @@ impl Reading {
 
     /// Reads one more map, unless an earlier one is faulty.
     fn take(&mut self, pieces: &[Piece])
-        ensures { (ds : List Datum) (d : Datum) → token_buffer_tokens pieces.now ≡ tokens_of (truncated d)
+        ensures { (ds : List Datum) (d : Datum)
+            → token_buffer_tokens pieces.now ≡ tokens_of (truncated d)
             → IsReading self.old ds → IsReading self.new (ds ++ d ∷ []) }
     {
         if self.fault.is_none() {
@@ -85,9 +87,9 @@ impl Reading {
 }
 
 /// The history that the text denotes, each form being one operation map, or what is wrong. What is
-/// wrong with the text comes before what is wrong with a map: behind the first map that is faulty, or
-/// for which memory was refused, the text is still read to its end. The forms of the text are never
-/// in memory together, and of a value only what can be an argument or a reply.
+/// wrong with the text comes before what is wrong with a map: behind the first map that is faulty,
+/// or for which memory was refused, the text is still read to its end. The forms of the text are
+/// never in memory together, and of a value only what can be an argument or a reply.
 pub fn read_history_text(alloc: Global, text: &[u8]) -> Result<History, TextFault>
     ensures denotes { IfOk result (λ h. (ds : List Datum) × Spells ds text.now × Denotes ds h) }
     ensures short { OnOk result (IsShort text.now) }

@@ -273,7 +273,8 @@ fn several_objects_are_checked_in_rising_number(rt: HostRuntime) -> Result<(), F
             "{:object 0 :order [2 0]} {:object 1 :order [3 0]}",
             bad_order(1, OrderFault::UnknownOperation { op: 0 }),
         ),
-        // An object without a certificate comes before a fault of a later one, and behind that of an earlier one.
+        // An object without a certificate comes before a fault of a later one, and behind that of
+        // an earlier one.
         (
             TWO_QUEUES,
             "{:object 1 :order [1 3]}",

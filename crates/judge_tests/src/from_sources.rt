@@ -112,7 +112,8 @@ fn bytes_are_a_source(rt: HostRuntime) -> Result<(), Fail> {
     Ok(())
 }
 
-/// A file is opened when it is read, and a history that cannot be opened is found before the certificates are.
+/// A file is opened when it is read, and a history that cannot be opened is found before the
+/// certificates are.
 #[test]
 fn a_file_that_is_not_there_is_named(rt: HostRuntime) -> Result<(), Fail> {
     let mut sink = Out::new(Vec::new(rt.alloc()));
@@ -150,7 +151,8 @@ impl Read for Broken {
     }
 }
 
-/// The text whose reader fails in mid-stream is named, nothing is written, and the kind of the error is kept.
+/// The text whose reader fails in mid-stream is named, nothing is written, and the kind of the
+/// error is kept.
 #[test]
 fn readers_that_fail_in_mid_stream(rt: HostRuntime) -> Result<(), Fail> {
     let mut sink = Out::new(Vec::new(rt.alloc()));

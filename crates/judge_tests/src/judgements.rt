@@ -69,7 +69,8 @@ fn the_fault_of_the_history_comes_first(rt: HostRuntime) -> Result<(), Fail> {
     Ok(())
 }
 
-/// What is wrong with the certificates of a text, for the history above. The verdict on both texts says the same.
+/// What is wrong with the certificates of a text, for the history above. The verdict on both texts
+/// says the same.
 fn refusal<R: Threads + Sync>(
     rt: &R,
     alloc: Global,

@@ -128,7 +128,8 @@ const PUT_AND_TAKEN: &str = "
     {:process 0, :type :invoke, :f :dequeue}
     {:process 0, :type :ok, :f :dequeue, :value 1}";
 
-/// Operations on three objects: one failed, which was alone on its object, one returned, and one is left open.
+/// Operations on three objects: one failed, which was alone on its object, one returned, and one is
+/// left open.
 const ON_THREE_OBJECTS: &str = "
     {:process 0, :type :invoke, :f :push, :value 5, :object 9}
     {:process 1, :type :invoke, :f :write, :value 5, :object 2}

@@ -91,8 +91,8 @@ fn any_number_of_workers_gives_the_same_answer(rt: HostRuntime) -> Result<(), Fa
     Ok(())
 }
 
-/// A mutex on each of four objects whose numbers are multiples of 4; on the last one an operation that fails, and nothing is
-/// known of the other.
+/// A mutex on each of four objects whose numbers are multiples of 4; on the last one an operation
+/// that fails, and nothing is known of the other.
 const FOUR_MUTEXES: &str = "
     {:process 0, :type :invoke, :f :acquire, :object 0}
     {:process 1, :type :invoke, :f :acquire, :object 8}
@@ -106,7 +106,8 @@ const FOUR_MUTEXES: &str = "
     {:process 0, :type :ok, :f :release, :object 8}
     {:process 3, :type :info, :f :acquire, :object 12}";
 
-/// Certificates of the four mutexes, and the answer. Each object, and each of its operations, is told from any other.
+/// Certificates of the four mutexes, and the answer. Each object, and each of its operations, is
+/// told from any other.
 const MUTEX_ROWS: [(&str, Result<(), Refusal>); 16] = [
     // What is pending on 4 and 12 is left out, and put in.
     (
@@ -235,7 +236,8 @@ fn returns_are_known_to_each_worker(rt: HostRuntime) -> Result<(), Fail> {
     Ok(())
 }
 
-/// However many workers gather the operations, each object is checked with all of its own, and with no other.
+/// However many workers gather the operations, each object is checked with all of its own, and with
+/// no other.
 #[test]
 fn workers_split_a_history_as_one_does(rt: HostRuntime) -> Result<(), Fail> {
     let history = history_of(rt.alloc(), FOUR_MUTEXES)?;

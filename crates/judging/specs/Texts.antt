@@ -1,4 +1,5 @@
--- What a history's text and a certificates' text denote, and what is wrong with a text that denotes nothing.
+-- What a history's text and a certificates' text denote, and what is wrong with a text that denotes
+-- nothing.
 use Rattle.std.specs.Prelude.{◌≡◌, ◌≢◌, ℕ, ◌⊎◌, List, length, map, Result, IfOk, IfErr}
 use Rattle.report.specs.declared.verdict.Summary.{Summary}
 use Rattle.report.specs.Counts.{operations_in, objects_in, kinds_in, uses, count_of}
@@ -27,9 +28,11 @@ use Rattle.report.specs.declared.verdict.Verdict.TheVariants as verdict
 use Rattle.report.specs.declared.verdict.Verdict.TheVariants.{Malformed}
 use Rattle.judging.specs.declared.texts.TextFailure.{TextFailure}
 use Rattle.judging.specs.declared.texts.TextFailure.TheVariants.{Faulty, NoMemory}
-use Rattle.report.specs.declared.verdict.Fault.TheVariants.{HistoryText, HistoryMaps, CertificateText, CertificateForms}
+use Rattle.report.specs.declared.verdict.Fault.TheVariants.{HistoryText, HistoryMaps}
+use Rattle.report.specs.declared.verdict.Fault.TheVariants.{CertificateText, CertificateForms}
 
--- The text spells forms that denote these client events. It denotes one list of them at most (`one_history`).
+-- The text spells forms that denote these client events. It denotes one list of them at most
+-- (`one_history`).
 pub record DenotesHistory (text : List ℕ) (es : List Event) : Type 0 where
   pub forms : List Datum
   pub spelled : Spells forms text
@@ -41,14 +44,16 @@ pub record DenotesCertificates (text : List ℕ) (cs : List Certificate) : Type 
   pub spelled : Spells forms text
   pub denoted : certificate_meaning.Denotes forms cs
 
--- The texts denote these client events and certificates, and nothing that says something else. Neither is too long to be read.
+-- The texts denote these client events and certificates, and nothing that says something else.
+-- Neither is too long to be read.
 pub record DenoteOnly (h c : List ℕ) (es : List Event) (cs : List Certificate) : Type 0 where
   pub history_short : IsShort h
   pub certificates_short : IsShort c
   pub history_text : DenotesHistory h es
   pub certificate_text : DenotesCertificates c cs
   pub no_other_events : (fs : List Event) → DenotesHistory h fs → fs ≡ es
-  pub no_other_orders : (ds : List Certificate) → DenotesCertificates c ds → map certificate_meaning.reading_of ds ≡ map certificate_meaning.reading_of cs
+  pub no_other_orders : (ds : List Certificate) → DenotesCertificates c ds
+      → map certificate_meaning.reading_of ds ≡ map certificate_meaning.reading_of cs
 
 -- the fault is that memory was refused
 abbrev pub WantsMemory : Fault → Type 0
@@ -62,15 +67,19 @@ abbrev pub IsFailureOf : Fault → TextFailure → Type 0
 IsFailureOf fault (Faulty f) = (f ≡ fault) × ¬ (WantsMemory fault)
 IsFailureOf fault NoMemory = WantsMemory fault
 
--- Nothing is wrong with the text of certificates as far as it was looked at: up to a token and with it, or, where it
--- spells forms, up to one of them and with it.
+-- Nothing is wrong with the text of certificates as far as it was looked at: up to a token and with
+-- it, or, where it spells forms, up to one of them and with it.
 abbrev pub AreCertificatesSound : List ℕ → Type 0
-AreCertificatesSound c = IsShort c × (((place : ℕ) × IsSoundAt place c) ⊎ ((ds : List Datum) × Spells ds c × (form : ℕ) × certificate_fault.IsSoundAt ds form))
+AreCertificatesSound c =
+    IsShort c
+    × (((place : ℕ) × IsSoundAt place c)
+    ⊎ ((ds : List Datum) × Spells ds c × (form : ℕ) × certificate_fault.IsSoundAt ds form))
 
 -- what stops the reading of a history's text, or of a certificates' text
 abbrev pub IsHistoryFault : List ℕ → TextFailure → Type 0
 IsHistoryFault h (Faulty (HistoryText e)) = IsUnreadable h e
-IsHistoryFault h (Faulty (HistoryMaps f)) = IsShort h × (ds : List Datum) × Spells ds h × history_fault.IsFirstFault ds f
+IsHistoryFault h (Faulty (HistoryMaps f)) =
+    IsShort h × (ds : List Datum) × Spells ds h × history_fault.IsFirstFault ds f
 IsHistoryFault h (Faulty (CertificateText e)) = ⊥
 IsHistoryFault h (Faulty (CertificateForms f)) = ⊥
 IsHistoryFault h NoMemory = IsHistorySound h
@@ -79,11 +88,12 @@ abbrev pub IsCertificatesFault : List ℕ → TextFailure → Type 0
 IsCertificatesFault c (Faulty (HistoryText e)) = ⊥
 IsCertificatesFault c (Faulty (HistoryMaps f)) = ⊥
 IsCertificatesFault c (Faulty (CertificateText e)) = IsUnreadable c e
-IsCertificatesFault c (Faulty (CertificateForms f)) = IsShort c × (ds : List Datum) × Spells ds c × certificate_fault.IsFirstFault ds f
+IsCertificatesFault c (Faulty (CertificateForms f)) =
+    IsShort c × (ds : List Datum) × Spells ds c × certificate_fault.IsFirstFault ds f
 IsCertificatesFault c NoMemory = AreCertificatesSound c
 
--- What reading the text of a history comes to: the client events that it denotes and no others, or what stops it, which is want of
--- memory where it denotes some and is not too long.
+-- What reading the text of a history comes to: the client events that it denotes and no others, or
+-- what stops it, which is want of memory where it denotes some and is not too long.
 pub record IsHistoryRead (h : List ℕ) (r : Result (List Event) TextFailure) : Type 0 where
   pub denotes : IfOk r (DenotesHistory h)
   pub only : IfOk r (λ es. (fs : List Event) → DenotesHistory h fs → fs ≡ es)
@@ -92,29 +102,40 @@ pub record IsHistoryRead (h : List ℕ) (r : Result (List Event) TextFailure) : 
   pub accepts : IfErr r (λ s. (es : List Event) → DenotesHistory h es → IsShort h → s ≡ NoMemory)
 
 -- the same of the text of certificates, of which no two are of one object
-pub record AreCertificatesRead {V : Type 0} (items : V → List Certificate) (c : List ℕ) (r : Result V TextFailure) : Type 0 where
+pub record AreCertificatesRead {V : Type 0} (items : V → List Certificate) (c : List ℕ)
+    (r : Result V TextFailure) : Type 0 where
   pub denotes : IfOk r (λ v. DenotesCertificates c (items v))
-  pub only : IfOk r (λ v. (ds : List Certificate) → DenotesCertificates c ds → map certificate_meaning.reading_of ds ≡ map certificate_meaning.reading_of (items v))
+  pub only : IfOk r (λ v. (ds : List Certificate) → DenotesCertificates c ds
+      → map certificate_meaning.reading_of ds ≡ map certificate_meaning.reading_of (items v))
   pub distinct : IfOk r (λ v. certificate_meaning.AreDistinct (items v))
   pub short : IfOk r (λ _. IsShort c)
   pub stop : IfErr r (IsCertificatesFault c)
-  pub accepts : IfErr r (λ s. (cs : List Certificate) → DenotesCertificates c cs → IsShort c → s ≡ NoMemory)
+  pub accepts : IfErr r (λ s. (cs : List Certificate) → DenotesCertificates c cs → IsShort c
+      → s ≡ NoMemory)
 
--- The fault of the first text that has one, the history being looked at first: the text is too long, spells nothing, or
--- spells forms of which this is the first fault.
+-- The fault of the first text that has one, the history being looked at first: the text is too
+-- long, spells nothing, or spells forms of which this is the first fault.
 abbrev pub IsFirstFault : List ℕ → List ℕ → Fault → Type 0
 IsFirstFault h c (HistoryText e) = IsUnreadable h e
-IsFirstFault h c (HistoryMaps f) = IsShort h × (ds : List Datum) × Spells ds h × history_fault.IsFirstFault ds f
-IsFirstFault h c (CertificateText e) = IsShort h × ((es : List Event) × DenotesHistory h es) × IsUnreadable c e
-IsFirstFault h c (CertificateForms f) = IsShort h × ((es : List Event) × DenotesHistory h es) × IsShort c × (ds : List Datum) × Spells ds c × certificate_fault.IsFirstFault ds f
+IsFirstFault h c (HistoryMaps f) =
+    IsShort h × (ds : List Datum) × Spells ds h × history_fault.IsFirstFault ds f
+IsFirstFault h c (CertificateText e) =
+    IsShort h × ((es : List Event) × DenotesHistory h es) × IsUnreadable c e
+IsFirstFault h c (CertificateForms f) =
+    IsShort h × ((es : List Event) × DenotesHistory h es) × IsShort c × (ds : List Datum)
+    × Spells ds c × certificate_fault.IsFirstFault ds f
 
--- Nothing is wrong with the texts as far as they were looked at, the history first: with the history's, or, where it
--- denotes a history, with the certificates'; or both denote.
+-- Nothing is wrong with the texts as far as they were looked at, the history first: with the
+-- history's, or, where it denotes a history, with the certificates'; or both denote.
 abbrev pub AreSoundSoFar : List ℕ → List ℕ → Type 0
-AreSoundSoFar h c = IsHistorySound h ⊎ (IsShort h × ((es : List Event) × DenotesHistory h es) × (AreCertificatesSound c ⊎ (IsShort c × ((cs : List Certificate) × DenotesCertificates c cs))))
+AreSoundSoFar h c =
+    IsHistorySound h
+    ⊎ (IsShort h × ((es : List Event) × DenotesHistory h es)
+    × (AreCertificatesSound c
+    ⊎ (IsShort c × ((cs : List Certificate) × DenotesCertificates c cs))))
 
--- The texts denote a history, and certificates that are valid: one for each object that the history names, none
--- besides. Neither is too long to be read.
+-- The texts denote a history, and certificates that are valid: one for each object that the history
+-- names, none besides. Neither is too long to be read.
 pub record AreValidTexts (h c : List ℕ) : Type 0 where
   pub client_events : List Event
   pub certificates : List Certificate
@@ -130,7 +151,8 @@ pub record IsLinearizableText (h : List ℕ) : Type 0 where
   pub history_text : DenotesHistory h client_events
   pub linearizable : IsLinearizable (kind_at client_events) (events (denoted client_events))
 
--- The texts denote a history and certificates, of which this is the first refusal. Neither is too long to be read.
+-- The texts denote a history and certificates, of which this is the first refusal. Neither is too
+-- long to be read.
 pub record IsFirstRefusalText (h c : List ℕ) (r : Refusal) : Type 0 where
   pub client_events : List Event
   pub certificates : List Certificate

@@ -1,12 +1,14 @@
 -- What a verdict says.
 use Rattle.std.specs.Prelude.{⊤, ℕ, List}
 use Rattle.report.specs.declared.verdict.Verdict.{Verdict}
-use Rattle.judging.specs.Texts.{IsLinearizableText, AreValidTexts, IsFirstRefusalText, IsFirstFault, AreCountsOf, AreSoundSoFar}
+use Rattle.judging.specs.Texts.{IsLinearizableText, AreValidTexts, IsFirstRefusalText, IsFirstFault}
+use Rattle.judging.specs.Texts.{AreCountsOf, AreSoundSoFar}
 use Rattle.report.specs.declared.verdict.Verdict.TheVariants.{Yes, No, Malformed, NoMemory}
 
--- What a verdict says of the text of a history and that of certificates. Yes: they denote a history and valid
--- certificates, and the counts are those of that history. No: they denote a history and certificates, of which this is
--- the first refusal. Malformed: this is the fault of the first text that has one. Want of memory: nothing was wrong yet.
+-- What a verdict says of the text of a history and that of certificates. Yes: they denote a history
+-- and valid certificates, and the counts are those of that history. No: they denote a history and
+-- certificates, of which this is the first refusal. Malformed: this is the fault of the first text
+-- that has one. Want of memory: nothing was wrong yet.
 abbrev pub Judges : List ℕ → List ℕ → Verdict → Type 0
 Judges h c (Yes s) = (texts : AreValidTexts h c) × AreCountsOf texts.client_events s
 Judges h c (No r) = IsFirstRefusalText h c r

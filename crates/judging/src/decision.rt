@@ -22,8 +22,9 @@ use std::thread::Threads;
 
 /// Checks the certificates of a history. Where they are valid the history is linearizable.
 ///
-/// `Ok` exactly where each object that the history names has a valid order, and no other object has a certificate; else
-/// the first refusal. `NoMemory` says nothing. The work is shared by `workers` threads, at least 1 and at most 16.
+/// `Ok` exactly where each object that the history names has a valid order, and no other object has
+/// a certificate; else the first refusal. `NoMemory` says nothing. The work is shared by `workers`
+/// threads, at least 1 and at most 16.
 pub fn judge_history<R: Threads + Sync>(
     rt: &R,
     alloc: Global,
@@ -40,23 +41,27 @@ pub fn judge_history<R: Threads + Sync>(
     ensures exact { AreValid history.now certificates.now →
         IfErr result (λ e. e ≡ Refusal.NoMemory) }
 {
-    // These two do nothing. The first says that the events denote a well-formed history, the second is locality.
+    // These two do nothing. The first says that the events denote a well-formed history, the second
+    // is locality.
     history.events();
     named_objects();
     let workers = workers.clamp(1, 16);
     check_parallel(rt, alloc, history, certificates, workers, &Open)
 }
 
-/// Judges a history, as a text of Jepsen operation maps, by a text of certificates, an order of operations for each
-/// object.
+/// Judges a history, as a text of Jepsen operation maps, by a text of certificates, an order of
+/// operations for each object.
 ///
-/// Where `judge` answers Yes, the history that the text denotes is linearizable: some completion of it is, process by
-/// process, equal to one sequential history over all objects that is legal for every object and keeps every return
-/// before a later invocation; it answers No only with the first fault that truly stands in the certificates.
+/// Where `judge` answers Yes, the history that the text denotes is linearizable: some completion of
+/// it is, process by process, equal to one sequential history over all objects that is legal for
+/// every object and keeps every return before a later invocation; it answers No only with the first
+/// fault that truly stands in the certificates.
 ///
-/// The history's text comes first, then what its maps say, then the certificates' text, its forms, and the check; the
-/// first fault is the answer. `NoMemory` says that nothing was found to be wrong before. The check is shared by `workers`
-/// threads, at least 1 and at most 16, and two of them read the texts side by side. Linearizability is that of Herlihy and Wing, TOPLAS 1990, section 2.
+/// The history's text comes first, then what its maps say, then the certificates' text, its forms,
+/// and the check; the first fault is the answer. `NoMemory` says that nothing was found to be wrong
+/// before. The check is shared by `workers` threads, at least 1 and at most 16, and two of them
+/// read the texts side by side. Linearizability is that of Herlihy and Wing, TOPLAS 1990, section
+/// 2.
 pub fn judge<R: Threads + Sync>(
     rt: &R,
     alloc: Global,
@@ -66,7 +71,8 @@ pub fn judge<R: Threads + Sync>(
 ) -> Verdict
     ensures linearizable { OnYes result (IsLinearizableText history.now) }
     ensures judges { Judges history.now certificates.now result }
-    // With `judges`: Yes is answered exactly where both texts denote and the certificates are valid, but for want of memory.
+    // With `judges`: Yes is answered exactly where both texts denote and the certificates are
+    // valid, but for want of memory.
     ensures accepts { AreValidTexts history.now certificates.now → IsYesUnlessMemory result }
 {
     let (client_events, orders) = match texts_in(rt, alloc, history, certificates, workers) {

@@ -83,8 +83,8 @@ pub(crate) fn certificates_in(alloc: Global, text: &[u8]) -> Result<Vec<Certific
     }
 }
 
-/// What both texts denote, or what stops the reading of the first that is stopped. One worker reads the certificates behind the
-/// history, and only where that denotes; more read them side by side.
+/// What both texts denote, or what stops the reading of the first that is stopped. One worker reads
+/// the certificates behind the history, and only where that denotes; more read them side by side.
 pub(crate) fn texts_in<R: Threads + Sync>(
     rt: &R,
     alloc: Global,

@@ -9,8 +9,10 @@ pub record IsPendingIn (h : List Event) (invocation : Event) : Type 0 where
   pub whole : h ≡ before ++ invocation ∷ after
   pub pending : IsTrue (is_pending invocation after)
 
--- Each of the added events matches a pending invocation of H, and no two of them are of one process. As a process of a
--- well-formed history has one pending invocation at most, each has an invocation of its own.
+-- Each of the added events matches a pending invocation of H, and no two of them are of one
+-- process. As a process of a well-formed history has one pending invocation at most, each has an
+-- invocation of its own.
 pub record AnswersPending (h added : List Event) : Type 0 where
-  pub each : All (λ r. (invocation : Event) × IsPendingIn h invocation × IsTrue (matches invocation r)) added
+  pub each : All (λ r. (invocation : Event) × IsPendingIn h invocation
+      × IsTrue (matches invocation r)) added
   pub apart : AllPairs (λ r s. process_of r ≢ process_of s) added

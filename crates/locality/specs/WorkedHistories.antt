@@ -77,7 +77,8 @@ pending_overtakes_returned =
     ∷ reply 4 2 (Some (pos 2))
     ∷ []
 
--- Process 0 has acquired a mutex. Process 1 asks for it, process 0 releases it, and then process 1 has it.
+-- Process 0 has acquired a mutex. Process 1 asks for it, process 0 releases it, and then process 1
+-- has it.
 abbrev pub mutex_passed_on : List Numbered
 mutex_passed_on =
     invoke 0 0 Acquire
@@ -88,7 +89,8 @@ mutex_passed_on =
     ∷ reply 5 1 None
     ∷ []
 
--- Two queues, 0 and 1: on each a process begins to dequeue, another enqueues, and the first has the value.
+-- Two queues, 0 and 1: on each a process begins to dequeue, another enqueues, and the first has the
+-- value.
 abbrev pub two_queues : List Numbered
 two_queues =
     invoke_on 0 0 0 Dequeue

@@ -1,6 +1,7 @@
-//! Locality of linearizability, its converse, and what the definitions come to in worked histories: functions that do
-//! nothing, and whose contracts are theorems. Locality is the theorem of Herlihy and Wing, "Linearizability: A
-//! Correctness Condition for Concurrent Objects", TOPLAS 1990, section 3.
+//! Locality of linearizability, its converse, and what the definitions come to in worked histories:
+//! functions that do nothing, and whose contracts are theorems. Locality is the theorem of Herlihy
+//! and Wing, "Linearizability: A Correctness Condition for Concurrent Objects", TOPLAS 1990,
+//! section 3.
 #![tactic(auto)]
 
 mod worked_histories;
@@ -20,8 +21,8 @@ pub use worked_histories::{
     use_in_turn_is_linearizable,
 };
 
-/// Locality: a history is linearizable where the operations of each object alone have a valid order. The objects may be
-/// of any kinds.
+/// Locality: a history is linearizable where the operations of each object alone have a valid
+/// order. The objects may be of any kinds.
 pub fn locality()
     ensures { (kinds : ℕ → Kind) (h : List Numbered)
         → IsHistory h
@@ -37,7 +38,8 @@ pub fn named_objects()
         → IsLinearizable kinds (events h) }
 {}
 
-/// The converse of locality: where a history is linearizable, the operations of each object have a valid order.
+/// The converse of locality: where a history is linearizable, the operations of each object have a
+/// valid order.
 pub fn linearizable_has_orders()
     ensures { (kinds : ℕ → Kind) (h : List Numbered)
         → IsHistory h
@@ -45,8 +47,8 @@ pub fn linearizable_has_orders()
         → (x : ℕ) → HasValidOrder kinds h x }
 {}
 
-/// What a completion adds: a well-formed history goes on with responses into a well-formed history exactly where each
-/// of them matches a pending invocation, and no two are of one process.
+/// What a completion adds: a well-formed history goes on with responses into a well-formed history
+/// exactly where each of them matches a pending invocation, and no two are of one process.
 pub fn completion_in_words()
     ensures { (h added : List Event)
         → IsWellFormed h

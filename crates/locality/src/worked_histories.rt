@@ -6,7 +6,8 @@ ghost use Rattle.model.specs.Linearizable.{IsLinearizable};
 ghost use Rattle.model.specs.Orders.{events, IsHistory, calls_on, IsValidOrder};
 ghost use Rattle.locality.specs.WorkedHistories.{enqueued_then_dequeued, overlapping_enqueues, dequeued_out_of_turn, dequeued_while_pending, pending_overtakes_returned, mutex_passed_on, found_empty_while_pending, two_queues, invoked_while_pending, returned_unasked, returned_elsewhere, numbered_backwards};
 
-/// One process alone enqueues and dequeues. Its order names each operation that returned, once, and no others.
+/// One process alone enqueues and dequeues. Its order names each operation that returned, once, and
+/// no others.
 pub fn use_in_turn_is_linearizable()
     ensures history { IsHistory enqueued_then_dequeued }
     ensures valid { IsValidOrder Kind.Queue (calls_on 0 enqueued_then_dequeued)
@@ -20,8 +21,8 @@ pub fn use_in_turn_is_linearizable()
         (pos 0 ∷ pos 2 ∷ pos 3 ∷ []) }
 {}
 
-/// Operations that overlap may take effect in either order. Here the one that was invoked later comes first, and the
-/// reply of the dequeue refuses the other order.
+/// Operations that overlap may take effect in either order. Here the one that was invoked later
+/// comes first, and the reply of the dequeue refuses the other order.
 pub fn overlapping_operations_may_change_places()
     ensures history { IsHistory overlapping_enqueues }
     ensures valid { IsValidOrder Kind.Queue (calls_on 0 overlapping_enqueues)
@@ -54,8 +55,9 @@ pub fn pending_operation_may_be_left_out()
     ensures linearizable { IsLinearizable (λ x. Kind.Queue) (events found_empty_while_pending) }
 {}
 
-/// An operation that is pending takes effect behind those that returned before it was invoked. Read literally, Herlihy
-/// and Wing order only operations that returned; this project orders pending ones too.
+/// An operation that is pending takes effect behind those that returned before it was invoked. Read
+/// literally, Herlihy and Wing order only operations that returned; this project orders pending
+/// ones too.
 pub fn pending_operation_does_not_overtake()
     ensures history { IsHistory pending_overtakes_returned }
     ensures not_linearizable { ¬ IsLinearizable (λ x. Kind.Queue)
@@ -80,8 +82,8 @@ pub fn mutex_is_held_by_one()
     ensures linearizable { IsLinearizable (λ x. Kind.Mutex) (events mutex_passed_on) }
 {}
 
-/// A process has one operation at a time: it invokes none while one is pending, and none returns that it did not
-/// invoke.
+/// A process has one operation at a time: it invokes none while one is pending, and none returns
+/// that it did not invoke.
 pub fn process_is_sequential()
     ensures refuses_second_invocation { ¬ IsHistory invoked_while_pending }
     ensures refuses_stray_response { ¬ IsHistory returned_unasked }

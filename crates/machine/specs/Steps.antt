@@ -1,5 +1,6 @@
 -- What came of a step of a machine.
-use Rattle.std.specs.Prelude.{◌≡◌, ℕ, ◌<◌, true, false, List, map, length, Some, None, Result, Ok, Err, IsSome, ⊤}
+use Rattle.std.specs.Prelude.{◌≡◌, ℕ, ◌<◌, true, false, List, map, length, Some, None, Result, Ok}
+use Rattle.std.specs.Prelude.{Err, IsSome, ⊤}
 use Rattle.model.specs.declared.AnyOp.{AnyOp}
 use Rattle.model.specs.declared.AnyReply.{AnyReply}
 use Rattle.model.specs.Objects.{Content, empty, kind_of, next}
@@ -22,11 +23,14 @@ IsGoing s c = (c < clients_of s) × ((world_of s).ended c ≡ false)
 
 -- a request for x, and of its kind, that stood in the row r was picked up
 abbrev pub HasPicked : State → ℕ → ℕ → Type 0
-HasPicked s x r = (q : AnyRequest) × ((world_of s).stage r ≡ picked q) × (q.object ≡ x) × (kind_of q.op ≡ kind_at s.kinds x)
+HasPicked s x r =
+    (q : AnyRequest) × ((world_of s).stage r ≡ picked q) × (q.object ≡ x)
+    × (kind_of q.op ≡ kind_at s.kinds x)
 
 -- what the log of x leaves
 abbrev pub HasContent : State → ℕ → Type 0
-HasContent s x = (content : Content) × Replays (empty (kind_at s.kinds x)) ((world_of s).log x) content
+HasContent s x =
+    (content : Content) × Replays (empty (kind_at s.kinds x)) ((world_of s).log x) content
 
 -- the client c holds x, and has the request q of the row r in hand
 pub record IsInHand (s : State) (c x r : ℕ) (q : AnyRequest) : Type 0 where
@@ -42,7 +46,9 @@ pub record IsInHand (s : State) (c x r : ℕ) (q : AnyRequest) : Type 0 where
 
 -- after the log of x, an object of its kind can do the operation
 abbrev pub CanDo : State → ℕ → AnyOp → Type 0
-CanDo s x op = (content : Content) × Replays (empty (kind_at s.kinds x)) ((world_of s).log x) content × IsSome (next content op)
+CanDo s x op =
+    (content : Content) × Replays (empty (kind_at s.kinds x)) ((world_of s).log x) content
+    × IsSome (next content op)
 
 -- the client c can take the step
 abbrev pub IsPossible : State → ℕ → world.Step → Type 0
@@ -97,14 +103,17 @@ module _ {R : Type 0} (reply_in : R → AnyReply) where
   abbrev pub IsOutcome : State → ℕ → world.Step → State → Outcome R → Type 0
   IsOutcome s c (world.draw_call x op) s' (outcome.Drew t) = t ≡ s.clock
   IsOutcome s c world.draw_return s' (outcome.Drew t) = t ≡ s.clock
-  IsOutcome s c world.answer s' (outcome.Answered a) = (x : ℕ) × (r : ℕ) × (q : AnyRequest) × ((world_of s).holder x ≡ Some c) × ((world_of s).hand x ≡ Some r) × ((world_of s').stage r ≡ answered q (answer_in reply_in a))
+  IsOutcome s c world.answer s' (outcome.Answered a) =
+      (x : ℕ) × (r : ℕ) × (q : AnyRequest) × ((world_of s).holder x ≡ Some c)
+      × ((world_of s).hand x ≡ Some r) × ((world_of s').stage r ≡ answered q (answer_in reply_in a))
   IsOutcome s c (world.draw_call x op) s' o = ⊥
   IsOutcome s c world.draw_return s' o = ⊥
   IsOutcome s c world.answer s' o = ⊥
   IsOutcome s c w s' outcome.Done = ⊤
   IsOutcome s c w s' o = ⊥
 
-  -- The step was taken; or it is possible in no way; or memory was refused at a draw that is possible. If it was not taken nothing has changed.
+  -- The step was taken; or it is possible in no way; or memory was refused at a draw that is
+  -- possible. If it was not taken nothing has changed.
   abbrev pub Tries : State → ℕ → world.Step → Result (Outcome R) StepFault → State → Type 0
   Tries s c w (Ok o) s' = IsTaken s c w s' × IsOutcome s c w s' o
   Tries s c w (Err fault.NotNow) s' = (s' ≡ s) × IsImpossible s.kinds s.quota (world_of s) (c, w)

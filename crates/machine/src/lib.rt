@@ -1,7 +1,8 @@
-//! The pure machine of flat combining: one caller takes the steps of all clients, in any order, and each step is one
-//! transition of the world.
+//! The pure machine of flat combining: one caller takes the steps of all clients, in any order, and
+//! each step is one transition of the world.
 //!
-//! After Hendler, Incze, Shavit, Tzafrir, "Flat Combining and the Synchronization-Parallelism Tradeoff", SPAA 2010.
+//! After Hendler, Incze, Shavit, Tzafrir, "Flat Combining and the Synchronization-Parallelism
+//! Tradeoff", SPAA 2010.
 #![tactic(auto)]
 
 mod looking;

@@ -56,7 +56,8 @@ impl<S: SeqObject> Machine<S> {
     pub(crate) fn held_by(&self, client: u32) -> Option<u32>
         ensures held { IfSome result (λ x. (x < length self.now.kinds)
             × ((world_of self.now).holder x ≡ Some client)) }
-        ensures only { IfSome result (λ x. (y : ℕ) → (world_of self.now).holder y ≡ Some client → y ≡ x) }
+        ensures only { IfSome result (λ x. (y : ℕ) → (world_of self.now).holder y ≡ Some client
+            → y ≡ x) }
         ensures none { IfNone result (HoldsNothing (world_of self.now) client) }
     {
         for object in 0..self.objects() {
@@ -156,7 +157,8 @@ impl<S: SeqObject> Machine<S> {
     pub(crate) fn hand_of(&self, object: u32) -> Option<u32>
         requires { object < length self.now.kinds }
         ensures hand { (world_of self.now).hand object ≡ result }
-        ensures picked { IfSome result (λ r. (r < clients_of self.now) × HasPicked self.now object r) }
+        ensures picked { IfSome result (λ r. (r < clients_of self.now)
+            × HasPicked self.now object r) }
     {
         self.hands[object as usize]
     }
@@ -185,7 +187,8 @@ impl<S: SeqObject> Machine<S> {
 
     // The object that the client holds, and the row and the request that it has in hand.
     pub(crate) fn in_hand(&self, client: u32) -> Option<(u32, u32, Request<S::Op>)>
-        ensures found { IfSome result (λ h. IsInHand self.now client h.0 h.1 (request_in S.op_in h.2)) }
+        ensures found { IfSome result (λ h. IsInHand self.now client h.0 h.1
+            (request_in S.op_in h.2)) }
         ensures none { IfNone result ((x r : ℕ) → (world_of self.now).holder x ≡ Some client →
             (world_of self.now).hand x ≡ Some r → ⊥) }
     {

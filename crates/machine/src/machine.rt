@@ -31,9 +31,13 @@ impl<S: SeqObject> Model for Machine<S> {
 
     ghost Value = { State };
 
-    ghost view = { λ m. state_of S.content S.op_in S.reply_in m.objects.items (items_of m.logs.items) m.holders.items m.hands.items m.stages.items (items_of m.journals.items) m.ended.items m.clock m.quota };
+    ghost view = { λ m. state_of S.content S.op_in S.reply_in m.objects.items
+        (items_of m.logs.items) m.holders.items m.hands.items m.stages.items
+        (items_of m.journals.items) m.ended.items m.clock m.quota };
 
-    ghost invariant = { λ m. IsMachine (map S.content m.objects.items) (state_of S.content S.op_in S.reply_in m.objects.items (items_of m.logs.items) m.holders.items m.hands.items m.stages.items (items_of m.journals.items) m.ended.items m.clock m.quota) };
+    ghost invariant = { λ m. IsMachine (map S.content m.objects.items) (state_of S.content S.op_in
+        S.reply_in m.objects.items (items_of m.logs.items) m.holders.items m.hands.items
+        m.stages.items (items_of m.journals.items) m.ended.items m.clock m.quota) };
 }
 
 impl<S: SeqObject> Machine<S> {
@@ -42,12 +46,15 @@ impl<S: SeqObject> Machine<S> {
     ghost use Rattle.machine.specs.Runs.{IsImpossible};
     ghost use Rattle.machine.specs.Steps.{IsTaken, IsOutcome, IsDraw, IsPossible, step_in};
 
-    /// Takes one step of a client. A step is not possible now too where there is no such client, object or row, or the
-    /// operation is of another kind than the object. If it is not taken nothing changes.
+    /// Takes one step of a client. A step is not possible now too where there is no such client,
+    /// object or row, or the operation is of another kind than the object. If it is not taken
+    /// nothing changes.
     pub fn step(&mut self, client: u32, step: Step<S::Op>) -> Result<Outcome<S::Reply>, StepFault>
         ensures taken { OnOk result (IsTaken self.old client (step_in S.op_in step) self.new) }
-        ensures outcome { IfOk result (IsOutcome S.reply_in self.old client (step_in S.op_in step) self.new) }
-        // With `taken` and `memory`: it is refused as not possible now exactly where it is possible in no way.
+        ensures outcome { IfOk result
+            (IsOutcome S.reply_in self.old client (step_in S.op_in step) self.new) }
+        // With `taken` and `memory`: it is refused as not possible now exactly where it is possible
+        // in no way.
         ensures not_now { IfErr result (λ e. e ≡ StepFault.NotNow →
             IsImpossible self.old.kinds self.old.quota (world_of self.old) (client, step_in S.op_in step)) }
         ensures memory { IfErr result (λ e. e ≡ StepFault.NoMemory →

@@ -34,8 +34,8 @@ fn lists<T: Drop>(alloc: Global, count: usize) -> Result<Vec<Vec<T>>, AllocError
 }
 
 impl<S: SeqObject> Machine<S> {
-    /// A machine for these objects, which are empty, and so many clients, each of which may make so many calls. All
-    /// clients are idle, and nothing has happened.
+    /// A machine for these objects, which are empty, and so many clients, each of which may make so
+    /// many calls. All clients are idle, and nothing has happened.
     pub fn new(
         alloc: Global,
         objects: Vec<S>,
@@ -46,7 +46,8 @@ impl<S: SeqObject> Machine<S> {
             × All (λ o. S.content o ≡ empty (kind_with (S.content o))) objects.items }
         requires clients { (0 < clients) × (clients < 33) }
         requires quota { quota < 10001 }
-        ensures kinds { IfOk result (λ m. m.kinds ≡ map (λ o. kind_with (S.content o)) objects.items) }
+        ensures kinds { IfOk result (λ m. m.kinds
+            ≡ map (λ o. kind_with (S.content o)) objects.items) }
         ensures counts { IfOk result (λ m. (clients_of m ≡ clients) × (m.quota ≡ quota)) }
         ensures start { IfOk result (λ m. world_of m ≡ start_of clients) }
     {

@@ -29,7 +29,8 @@ pub struct NoMemoryAt {
 }
 
 impl<S: SeqObject> Machine<S> {
-    /// Takes the steps in turn, each by its client. Those that are not possible at their turn are counted.
+    /// Takes the steps in turn, each by its client. Those that are not possible at their turn are
+    /// counted.
     pub fn run(&mut self, steps: &[(u32, Step<S::Op>)]) -> Result<Ran, NoMemoryAt>
         ensures ran { IfOk result (λ r.
             TakesPossible self.old.kinds self.old.quota (world_of self.old)
@@ -38,7 +39,8 @@ impl<S: SeqObject> Machine<S> {
             × TakesPossible self.old.kinds self.old.quota (world_of self.old)
             (steps_in S.op_in (take e.step steps.now)) refused (world_of self.new)) }
         // The step of that number is a draw that is possible now.
-        ensures draw { IfErr result (λ e. (m : ℕ × Step S.Op) × (slice_get steps.now e.step ≡ Some m)
+        ensures draw { IfErr result (λ e. (m : ℕ × Step S.Op)
+            × (slice_get steps.now e.step ≡ Some m)
             × IsPossibleDraw self.new (m.0, step_in S.op_in m.1)) }
         ensures same { IsLike self.old self.new }
         ensures run { HasRun self.new }
@@ -76,7 +78,8 @@ impl<S: SeqObject> Machine<S> {
 
     // The least client that has not ended.
     fn first_going(&self) -> Option<u32>
-        ensures going { IfSome result (λ c. (c < clients_of self.now) × ((world_of self.now).ended c ≡ false)
+        ensures going { IfSome result (λ c. (c < clients_of self.now)
+            × ((world_of self.now).ended c ≡ false)
             × ((d : ℕ) → d < c → HasEnded self.now d)) }
         ensures none { IfNone result ((d : ℕ) → d < clients_of self.now → HasEnded self.now d) }
     {
@@ -88,8 +91,8 @@ impl<S: SeqObject> Machine<S> {
         None
     }
 
-    /// The record of the machine's own world, once all clients have ended; or the machine, and the least client that has
-    /// not. It takes no memory.
+    /// The record of the machine's own world, once all clients have ended; or the machine, and the
+    /// least client that has not. It takes no memory.
     pub fn finish(self) -> Result<Record<S>, (Machine<S>, u32)>
         ensures ended { IfOk result (λ _. (c : ℕ) → c < clients_of self → HasEnded self c) }
         ensures journals { IfOk result (λ r. (c : ℕ) →

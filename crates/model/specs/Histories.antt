@@ -1,12 +1,14 @@
--- Histories of processes that use objects, after Herlihy and Wing, "Linearizability: A Correctness Condition for
--- Concurrent Objects", TOPLAS 1990, section 2. H stands for a history, P for a process, x for an object.
-use Rattle.std.specs.Prelude.{◌≡◌, ℕ, ◌==◌, ◌<◌, ◌&&◌, not, Bool, true, false, IsTrue, ⊤, List, [], ◌∷◌, ◌++◌, All, filter, length, if◌then◌else◌}
+-- Histories of processes that use objects, after Herlihy and Wing, "Linearizability: A Correctness
+-- Condition for Concurrent Objects", TOPLAS 1990, section 2. H stands for a history, P for a
+-- process, x for an object.
+use Rattle.std.specs.Prelude.{◌≡◌, ℕ, ◌==◌, ◌<◌, ◌&&◌, not, Bool, true, false, IsTrue, ⊤, List, []}
+use Rattle.std.specs.Prelude.{◌∷◌, ◌++◌, All, filter, length, if◌then◌else◌}
 use Rattle.std.specs.List.{list_any}
 use Rattle.model.specs.declared.AnyOp.{AnyOp}
 use Rattle.model.specs.declared.AnyReply.{AnyReply}
 
--- An event is an invocation or a response. It has a process, an object, and an operation or a reply. A history is
--- a list of events.
+-- An event is an invocation or a response. It has a process, an object, and an operation or a
+-- reply. A history is a list of events.
 pub data Event : Type 0 where
   Inv : ℕ → ℕ → AnyOp → Event
   Res : ℕ → ℕ → AnyReply → Event
@@ -31,7 +33,8 @@ by_process p h = filter (λ e. process_of e == p) h
 abbrev pub by_object : ℕ → List Event → List Event
 by_object x h = filter (λ e. object_of e == x) h
 
--- whether the first is an invocation and the second a response that matches it: process and object agree
+-- whether the first is an invocation and the second a response that matches it: process and object
+-- agree
 abbrev pub matches : Event → Event → Bool
 matches (Inv p x op) (Res q y r) = (p == q) && (x == y)
 matches e f = false
@@ -45,8 +48,9 @@ abbrev pub complete : List Event → List Event
 complete [] = []
 complete (e ∷ later) = if is_pending e later then complete later else e ∷ complete later
 
--- A history is sequential where it is empty, or begins with an invocation, each invocation except perhaps the last is
--- at once followed by a matching response, and each response is at once behind an invocation that it matches.
+-- A history is sequential where it is empty, or begins with an invocation, each invocation except
+-- perhaps the last is at once followed by a matching response, and each response is at once behind
+-- an invocation that it matches.
 abbrev pub IsSequential : List Event → Type 0
 IsSequential [] = ⊤
 IsSequential (e ∷ []) = IsTrue (is_invocation e)
@@ -56,9 +60,10 @@ IsSequential (e ∷ f ∷ rest) = IsTrue (matches e f) × IsSequential rest
 abbrev pub IsWellFormed : List Event → Type 0
 IsWellFormed h = (p : ℕ) → IsSequential (by_process p h)
 
--- A completion of H: H goes on with responses into a well-formed history, so that each of them matches a pending
--- invocation of its own; and then the invocations that are still pending are left out. A history that is not
--- well-formed has no completion: Herlihy and Wing speak of well-formed ones only.
+-- A completion of H: H goes on with responses into a well-formed history, so that each of them
+-- matches a pending invocation of its own; and then the invocations that are still pending are left
+-- out. A history that is not well-formed has no completion: Herlihy and Wing speak of well-formed
+-- ones only.
 pub record IsCompletion (h c : List Event) : Type 0 where
   pub added : List Event
   pub responses : All (λ e. is_invocation e ≡ false) added
@@ -69,9 +74,10 @@ pub record IsCompletion (h c : List Event) : Type 0 where
 abbrev pub IsEquivalent : List Event → List Event → Type 0
 IsEquivalent c s = (p : ℕ) → by_process p c ≡ by_process p s
 
--- An operation of a well-formed history: the invocation of a process that has so many of its invocations before
--- it, with its response, if there is one. The k-th response of a process answers its k-th invocation. What is
--- pending is the last of its process, so a completion renames no operation.
+-- An operation of a well-formed history: the invocation of a process that has so many of its
+-- invocations before it, with its response, if there is one. The k-th response of a process answers
+-- its k-th invocation. What is pending is the last of its process, so a completion renames no
+-- operation.
 pub record Operation : Type 0 where
   pub process : ℕ
   pub turn : ℕ
@@ -90,9 +96,9 @@ IsOperation h e = e.turn < length (filter (invokes e.process) h)
 abbrev pub IsTurn : (Event → Bool) → ℕ → List Event → Event → Type 0
 IsTurn test turn before event = IsTrue (test event) × (length (filter test before) ≡ turn)
 
--- One operation of a well-formed history precedes another where the response of the first stands before the
--- invocation of the second. Herlihy and Wing, read literally, order operations that have both events; here, by this
--- project's choice, the second may also be pending in H.
+-- One operation of a well-formed history precedes another where the response of the first stands
+-- before the invocation of the second. Herlihy and Wing, read literally, order operations that have
+-- both events; here, by this project's choice, the second may also be pending in H.
 pub record Precedes (h : List Event) (e f : Operation) : Type 0 where
   pub before : List Event
   pub response : Event
@@ -101,4 +107,5 @@ pub record Precedes (h : List Event) (e f : Operation) : Type 0 where
   pub after : List Event
   pub whole : h ≡ before ++ response ∷ between ++ invocation ∷ after
   pub is_first_response : IsTurn (responds e.process) e.turn before response
-  pub is_second_invocation : IsTurn (invokes f.process) f.turn (before ++ response ∷ between) invocation
+  pub is_second_invocation : IsTurn (invokes f.process) f.turn (before ++ response ∷ between)
+      invocation

@@ -1,12 +1,15 @@
 -- What each kind of object contains, and its one step: what an operation replies and leaves.
 -- Sequential specifications in the sense of Herlihy and Wing, TOPLAS 1990, section 2.
-use Rattle.std.specs.Prelude.{ℤ, Bool, true, false, List, [], ◌∷◌, ◌++◌, Option, Some, None, if◌then◌else◌, int_lt}
+use Rattle.std.specs.Prelude.{ℤ, Bool, true, false, List, [], ◌∷◌, ◌++◌, Option, Some, None}
+use Rattle.std.specs.Prelude.{if◌then◌else◌, int_lt}
 use Rattle.std.specs.Ordering.{int_cmp, int_eq}
 use Rattle.std.specs.FinMap as map
 use Rattle.model.specs.declared.Kind.{Kind}
 use Rattle.model.specs.declared.Kind.TheVariants.{Queue, Stack, Heap, Register, Map, Mutex}
 use Rattle.model.specs.declared.AnyOp.{AnyOp}
-use Rattle.model.specs.declared.AnyOp.TheVariants.{Enqueue, Dequeue, Push, Pop, Insert, ExtractMin, Write, Read, Cas, Put, Get, Del, Acquire, Release}
+use Rattle.model.specs.declared.AnyOp.TheVariants.{Enqueue, Dequeue, Push, Pop, Insert, ExtractMin}
+use Rattle.model.specs.declared.AnyOp.TheVariants.{Write, Read, Cas, Put, Get, Del, Acquire}
+use Rattle.model.specs.declared.AnyOp.TheVariants.{Release}
 use Rattle.model.specs.declared.AnyReply.{AnyReply}
 use Rattle.model.specs.declared.AnyReply.TheVariants.{Value, Swapped, NotSwapped}
 
@@ -27,9 +30,10 @@ kind_of (Del k) = Map
 kind_of Acquire = Mutex
 kind_of Release = Mutex
 
--- What an object contains. A queue: its values, from the first to go out on. A stack: from the top on. A heap:
--- a bag, as the rising list of its values (from the empty one on only rising lists come about). A register: a value
--- or none. A map: values by key. A mutex: whether it is held.
+-- What an object contains. A queue: its values, from the first to go out on. A stack: from the top
+-- on. A heap:
+-- a bag, as the rising list of its values (from the empty one on only rising lists come about). A
+-- register: a value or none. A map: values by key. A mutex: whether it is held.
 pub data Content : Type 0 where
   queue : List ℤ → Content
   stack : List ℤ → Content
@@ -66,9 +70,9 @@ abbrev pub contains_value : Option ℤ → ℤ → Bool
 contains_value None a = false
 contains_value (Some v) a = int_eq v a
 
--- What an operation leaves, and its reply, where it is possible. Each operation of a queue, stack, heap, register
--- or map is always possible; a mutex is acquired only while it is free, and released only while it is held; and
--- an operation of another kind is never possible.
+-- What an operation leaves, and its reply, where it is possible. Each operation of a queue, stack,
+-- heap, register or map is always possible; a mutex is acquired only while it is free, and released
+-- only while it is held; and an operation of another kind is never possible.
 abbrev pub next : Content → AnyOp → Option (Content × AnyReply)
 next (queue vs) (Enqueue v) = Some (queue (vs ++ v ∷ []), Value (Some v))
 next (queue []) Dequeue = Some (queue [], Value None)
@@ -81,7 +85,9 @@ next (heap []) ExtractMin = Some (heap [], Value None)
 next (heap (v ∷ vs)) ExtractMin = Some (heap vs, Value (Some v))
 next (register c) (Write v) = Some (register (Some v), Value (Some v))
 next (register c) Read = Some (register c, Value c)
-next (register c) (Cas a b) = if contains_value c a then Some (register (Some b), Swapped a b) else Some (register c, NotSwapped)
+next (register c) (Cas a b) =
+    if contains_value c a then Some (register (Some b), Swapped a b) else Some
+    (register c, NotSwapped)
 next (table m) (Put k v) = Some (table (map.insert m k v), Value (map.get m k))
 next (table m) (Get k) = Some (table m, Value (map.get m k))
 next (table m) (Del k) = Some (table (map.remove m k), Value (map.get m k))

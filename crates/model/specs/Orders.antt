@@ -1,7 +1,9 @@
 -- Numbered histories, and orders of one object's operations by the numbers of their invocations.
--- A valid order names a linearization of the object's own history, as Herlihy and Wing's section 3 on locality takes
--- one for each object. That it does is a theorem of the crate `locality`.
-use Rattle.std.specs.Prelude.{◌≡◌, ◌≢◌, ℕ, ℤ, pos, ◌<◌, ◌==◌, ◌&&◌, ⊤, List, [], ◌∷◌, Option, Some, None, IfSome, IsSome, All, AllPairs, Contains, map, filter, if◌then◌else◌}
+-- A valid order names a linearization of the object's own history, as Herlihy and Wing's section 3
+-- on locality takes one for each object. That it does is a theorem of the crate `locality`.
+use Rattle.std.specs.Prelude.{◌≡◌, ◌≢◌, ℕ, ℤ, pos, ◌<◌, ◌==◌, ◌&&◌, ⊤, List, [], ◌∷◌, Option, Some}
+use Rattle.std.specs.Prelude.{None, IfSome, IsSome, All, AllPairs, Contains, map, filter}
+use Rattle.std.specs.Prelude.{if◌then◌else◌}
 use Rattle.std.specs.Option.{option_or}
 use Rattle.model.specs.declared.Kind.{Kind}
 use Rattle.model.specs.declared.AnyOp.{AnyOp}
@@ -40,19 +42,28 @@ pub record ProcessCall : Type 0 where
   pub object : ℕ
   pub call : Call
 
--- what an event is to an operation of process p on object x that is under way: its response, or nothing
+-- what an event is to an operation of process p on object x that is under way: its response, or
+-- nothing
 abbrev pub response_in : ℕ → ℕ → ℕ → Event → Option Return
 response_in p x number (Inv q y op) = None
-response_in p x number (Res q y r) = if (p == q) && (x == y) then Some (record { at = number; reply = r }) else None
+response_in p x number (Res q y r) =
+    if (p == q) && (x == y) then Some (record { at = number; reply = r }) else None
 
 -- the first response to process p on object x
 abbrev pub response_of : ℕ → ℕ → List Numbered → Option Return
 response_of p x [] = None
 response_of p x (m ∷ later) = option_or (response_in p x m.number m.event) (response_of p x later)
 
--- the operation that an event begins, with its response among the later events, in front of the others
+-- the operation that an event begins, with its response among the later events, in front of the
+-- others
 abbrev pub begins : ℕ → Event → List Numbered → List ProcessCall → List ProcessCall
-begins number (Inv p x op) later others = record { process = p; object = x; call = record { number = number; op = op; returned = response_of p x later } } ∷ others
+begins number (Inv p x op) later others =
+    record {
+      process = p;
+      object = x;
+      call = record { number = number; op = op; returned = response_of p x later };
+    }
+    ∷ others
 begins number (Res p x r) later others = others
 
 -- the operations of a well-formed history, in the order of their invocations
@@ -68,12 +79,16 @@ calls_on x h = map (λ e. e.call) (filter (λ e. e.object == x) (calls_in h))
 abbrev pub ReturnsBefore : Call → Call → Type 0
 ReturnsBefore a b = (r : Return) × (a.returned ≡ Some r) × (r.at < b.number)
 
--- along the calls, from this content on, each is possible, and each recorded reply is the one that `next` gives
+-- along the calls, from this content on, each is possible, and each recorded reply is the one that
+-- `next` gives
 abbrev pub RepliesAlong : Content → List Call → Type 0
 RepliesAlong c [] = ⊤
-RepliesAlong c (e ∷ es) = (after : Content) × (reply : AnyReply) × (next c e.op ≡ Some (after, reply)) × IfSome e.returned (λ r. r.reply ≡ reply) × RepliesAlong after es
+RepliesAlong c (e ∷ es) =
+    (after : Content) × (reply : AnyReply) × (next c e.op ≡ Some (after, reply))
+    × IfSome e.returned (λ r. r.reply ≡ reply) × RepliesAlong after es
 
--- A valid order of the operations of an object, of which no two have one number: a list of their numbers.
+-- A valid order of the operations of an object, of which no two have one number: a list of their
+-- numbers.
 pub record IsValidOrder (kind : Kind) (calls : List Call) (order : List ℤ) : Type 0 where
   -- each number is that of an operation of the object
   pub entries : List Call

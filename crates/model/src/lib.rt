@@ -1,5 +1,5 @@
-//! The data of operations and replies, and the definitions that every other crate speaks of: what objects
-//! contain, histories, linearizability, and valid orders. The definitions are in `specs/`.
+//! The data of operations and replies, and the definitions that every other crate speaks of: what
+//! objects contain, histories, linearizability, and valid orders. The definitions are in `specs/`.
 #![tactic(auto)]
 
 /// Which operations an object has.

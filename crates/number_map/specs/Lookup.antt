@@ -6,4 +6,5 @@ use Rattle.number_map.specs.declared.NumberMap.{NumberMap}
 
 -- the value of a key
 abbrev pub value_of : {V : Type 0} → NumberMap V → ℕ → Option V
-value_of m k = if nat_lt k 65536 then slice_index_or m.table.items k None else get nat_cmp m.others k
+value_of m k =
+    if nat_lt k 65536 then slice_index_or m.table.items k None else get nat_cmp m.others k

@@ -14,7 +14,8 @@ use std::test::Fail;
 // Does the operation where it is possible, through the bound alone.
 fn step<S: SeqObject>(object: &mut S, op: S::Op) -> Result<Option<S::Reply>, AllocError>
     requires { kind_of (S.op_in op) ≡ kind_with (S.content object.old) }
-    ensures { IfOk result (λ reply. MatchOption reply (next (S.content object.old) (S.op_in op) ≡ None)
+    ensures { IfOk result (λ reply. MatchOption reply
+        (next (S.content object.old) (S.op_in op) ≡ None)
         (λ r. next (S.content object.old) (S.op_in op) ≡ Some (S.content object.new, S.reply_in r))) }
 {
     if object.possible(&op) {
@@ -27,14 +28,15 @@ fn step<S: SeqObject>(object: &mut S, op: S::Op) -> Result<Option<S::Reply>, All
 // At the sum an operation and a reply stand for themselves.
 fn step_any(object: &mut AnyObject, op: AnyOp) -> Result<Option<AnyReply>, AllocError>
     requires { kind_of op ≡ kind_with (⟦<AnyObject as SeqObject>⟧.content object.old) }
-    ensures { IfOk result (λ reply. MatchOption reply (next (⟦<AnyObject as SeqObject>⟧.content object.old) op ≡ None)
+    ensures { IfOk result (λ reply. MatchOption reply
+        (next (⟦<AnyObject as SeqObject>⟧.content object.old) op ≡ None)
         (λ r. next (⟦<AnyObject as SeqObject>⟧.content object.old) op ≡ Some (⟦<AnyObject as SeqObject>⟧.content object.new, r))) }
 {
     step(object, op)
 }
 
-// From the object on each operation is answered so, or is not possible where none is given, and a copy made
-// then is the same.
+// From the object on each operation is answered so, or is not possible where none is given, and a
+// copy made then is the same.
 fn answers<S: SeqObject>(
     rt: &impl Abort,
     mut object: S,
@@ -66,7 +68,8 @@ fn sum_answers<S: SeqObject<Op = AnyOp, Reply = AnyReply>>(
 
 const NIL: Option<AnyReply> = Some(Gives(None));
 
-/// Operations on an object of each kind, which is empty at first, and their replies; none where it is not possible.
+/// Operations on an object of each kind, which is empty at first, and their replies; none where it
+/// is not possible.
 const ROWS: [(Kind, &[(AnyOp, Option<AnyReply>)]); 6] = [
     (
         Kind::Queue,

@@ -97,8 +97,8 @@ fn a_history_is_split_by_object(rt: HostRuntime) -> Result<(), Fail> {
     Ok(())
 }
 
-/// A part, of how many, and the place of its object in `OBJECTS`. Of 0 and 7, the even one falls to the first of two
-/// parts; of three parts the middle one has 7, and the last none.
+/// A part, of how many, and the place of its object in `OBJECTS`. Of 0 and 7, the even one falls to
+/// the first of two parts; of three parts the middle one has 7, and the last none.
 const PARTS: [(u32, u32, Option<usize>); 5] = [
     (0, 2, Some(0)),
     (1, 2, Some(1)),

@@ -1,5 +1,6 @@
 -- The operations of a search, in the order in which it tries them.
-use Rattle.std.specs.Prelude.{◌≡◌, ℕ, zero, suc, ◌<◌, ◌≤◌, ◌==◌, ◌&&◌, not, Bool, Some, List, length, is_some, get_or, if◌then◌else◌}
+use Rattle.std.specs.Prelude.{◌≡◌, ℕ, zero, suc, ◌<◌, ◌≤◌, ◌==◌, ◌&&◌, not, Bool, Some, List}
+use Rattle.std.specs.Prelude.{length, is_some, get_or, if◌then◌else◌}
 use Rattle.std.specs.List.{list_any}
 use Rattle.model.specs.declared.Kind.{Kind}
 use Rattle.model.specs.declared.AnyOp.TheVariants.{Dequeue}
@@ -36,4 +37,5 @@ pub record IsArranged (kind : Kind) (items : List Invocation) (floors : List ℕ
   pub few : length items ≤ max_operations
   pub floors_right : AreFloors items floors
   pub of_kind : (k : ℕ) → k < length items → kind_of (call_at items k).op ≡ kind
-  pub ends : (k : ℕ) (r : Return) → k < length items → (call_at items k).returned ≡ Some r → (call_at items k).number < r.at
+  pub ends : (k : ℕ) (r : Return) → k < length items → (call_at items k).returned ≡ Some r
+      → (call_at items k).number < r.at

@@ -1,6 +1,7 @@
--- How the beginning of an order goes on to a whole one, apart from any search for it. There are n calls, by place, listed
--- in any order. A beginning is the list `done` of the places of its calls, the last one first, with the content that
--- they leave. Wing and Gong, "Testing and Verifying Concurrent Objects", JPDC 17, 1993, section 4, search like this.
+-- How the beginning of an order goes on to a whole one, apart from any search for it. There are n
+-- calls, by place, listed in any order. A beginning is the list `done` of the places of its calls,
+-- the last one first, with the content that they leave. Wing and Gong, "Testing and Verifying
+-- Concurrent Objects", JPDC 17, 1993, section 4, search like this.
 use Rattle.std.specs.Prelude.{◌≡◌, ◌≢◌, ℕ, ◌<◌, List, [], ◌∷◌, Some}
 use Rattle.model.specs.declared.AnyReply.{AnyReply}
 use Rattle.model.specs.Objects.{Content, next}
@@ -19,7 +20,8 @@ IsCandidate n call done k = (j : ℕ) → IsLeft n done j → j ≢ k → Return
 abbrev pub NoneReturned : (n : ℕ) (call : ℕ → Call) → List ℕ → Type 0
 NoneReturned n call done = (j : ℕ) (r : Return) → IsLeft n done j → (call j).returned ≡ Some r → ⊥
 
--- one call more: it is possible, and its recorded reply, if there is one, is the one that `next` gives
+-- one call more: it is possible, and its recorded reply, if there is one, is the one that `next`
+-- gives
 pub record Places (call : ℕ → Call) (k : ℕ) (before after : Content) : Type 0 where
   pub reply : AnyReply
   pub does : next before (call k).op ≡ Some (after, reply)
@@ -28,7 +30,9 @@ pub record Places (call : ℕ → Call) (k : ℕ) (before after : Content) : Typ
 -- From these done, with this content, the places go on to an order of all calls that returned.
 abbrev pub Continues : (n : ℕ) (call : ℕ → Call) → List ℕ → Content → List ℕ → Type 0
 Continues n call done c [] = NoneReturned n call done
-Continues n call done c (k ∷ rest) = IsLeft n done k × IsCandidate n call done k × (after : Content) × Places call k c after × Continues n call (k ∷ done) after rest
+Continues n call done c (k ∷ rest) =
+    IsLeft n done k × IsCandidate n call done k × (after : Content) × Places call k c after
+    × Continues n call (k ∷ done) after rest
 
 -- nothing goes on from here
 abbrev pub IsDead : (n : ℕ) (call : ℕ → Call) → List ℕ → Content → Type 0
@@ -49,7 +53,8 @@ pub record Describes (n : ℕ) (high : ℕ) (undone : List ℕ) (done : List ℕ
   pub cover : (k : ℕ) → k < n → k < high → (In k undone → ⊥) → In k done
 
 -- a pair of calls done and content from which nothing goes on
-pub record IsDeadPair (n : ℕ) (call : ℕ → Call) (high : ℕ) (undone : List ℕ) (c : Content) : Type 0 where
-  pub done : List ℕ
-  pub describes : Describes n high undone done
-  pub dead : IsDead n call done c
+pub record IsDeadPair (n : ℕ) (call : ℕ → Call) (high : ℕ) (undone : List ℕ) (c : Content) : Type 0
+  where
+    pub done : List ℕ
+    pub describes : Describes n high undone done
+    pub dead : IsDead n call done c

@@ -1,5 +1,6 @@
 -- The linked list of the places that are left.
-use Rattle.std.specs.Prelude.{◌≡◌, ℕ, zero, suc, ◌<◌, ◌≤◌, ◌⊎◌, List, [], ◌∷◌, length, slice_set, get_or}
+use Rattle.std.specs.Prelude.{◌≡◌, ℕ, zero, suc, ◌<◌, ◌≤◌, ◌⊎◌, List, [], ◌∷◌, length, slice_set}
+use Rattle.std.specs.Prelude.{get_or}
 use Rattle.model.proofs.Lists.{In}
 use Rattle.order_search.specs.Continuations.{IsLeft}
 

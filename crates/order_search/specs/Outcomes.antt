@@ -3,7 +3,8 @@ use Rattle.std.specs.Prelude.{ℕ, ℤ, ⊤, List}
 use Rattle.model.specs.declared.Kind.{Kind}
 use Rattle.model.specs.Orders.{Call, IsValidOrder}
 use Rattle.order_search.specs.declared.finding.Outcome.{Outcome}
-use Rattle.order_search.specs.declared.finding.Outcome.TheVariants.{Found, Impossible, OutOfSteps, TooLarge, NoMemory}
+use Rattle.order_search.specs.declared.finding.Outcome.TheVariants.{Found, Impossible, OutOfSteps}
+use Rattle.order_search.specs.declared.finding.Outcome.TheVariants.{TooLarge, NoMemory}
 
 -- the most operations that a search takes on, those that failed apart
 abbrev pub max_operations : ℕ

@@ -1,5 +1,6 @@
 -- What holds between any two steps of a search.
-use Rattle.std.specs.Prelude.{◌≡◌, ℕ, ℤ, pos, ◌<◌, ◌≤◌, ◌⊎◌, List, [], ◌∷◌, Some, All, length, map, reverse}
+use Rattle.std.specs.Prelude.{◌≡◌, ℕ, ℤ, pos, ◌<◌, ◌≤◌, ◌⊎◌, List, [], ◌∷◌, Some, All, length, map}
+use Rattle.std.specs.Prelude.{reverse}
 use Rattle.model.specs.Objects.{Content, empty}
 use Rattle.model.specs.Orders.{Call, Return}
 use Rattle.model.proofs.Lists.{In}
@@ -10,7 +11,8 @@ use Rattle.order_search.specs.declared.trials.Trials.{Trials}
 use Rattle.order_search.specs.declared.dead.Pair.{Pair}
 use Rattle.order_search.specs.declared.walk.State.{State}
 use Rattle.order_search.specs.Arranged.{call_at, owes, count_below, IsArranged}
-use Rattle.order_search.specs.Continuations.{IsLeft, IsCandidate, Places, Continues, IsDead, IsDeadAt, IsTried, IsDeadPair}
+use Rattle.order_search.specs.Continuations.{IsLeft, IsCandidate, Places, Continues, IsDead}
+use Rattle.order_search.specs.Continuations.{IsDeadAt, IsTried, IsDeadPair}
 use Rattle.order_search.specs.Links.{Linked, IsStop, AreWithin, next_with, before_with}
 
 abbrev pub places : List Level → List ℕ
@@ -19,10 +21,12 @@ places ls = map (λ l. l.place) ls
 -- the least return among the calls that are left, or a number that is none
 pub record IsLeast (n : ℕ) (call : ℕ → Call) (done : List ℕ) (least : ℕ) : Type 0 where
   pub below : (j : ℕ) (r : Return) → IsLeft n done j → (call j).returned ≡ Some r → least ≤ r.at
-  pub stands : (least ≡ 4294967295) ⊎ ((j : ℕ) × (r : Return) × IsLeft n done j × ((call j).returned ≡ Some r) × (least ≡ r.at))
+  pub stands : (least ≡ 4294967295)
+      ⊎ ((j : ℕ) × (r : Return) × IsLeft n done j × ((call j).returned ≡ Some r) × (least ≡ r.at))
 
 -- one level: what was placed, from which content to which
-pub record Frame (n : ℕ) (call : ℕ → Call) (done : List ℕ) (before after : Content) (place least : ℕ) : Type 0 where
+pub record Frame (n : ℕ) (call : ℕ → Call) (done : List ℕ) (before after : Content)
+    (place least : ℕ) : Type 0 where
   pub left : IsLeft n done place
   pub candidate : IsCandidate n call done place
   pub placed : Places call place before after
@@ -38,14 +42,19 @@ abbrev pub IsBound : List ℕ → ℕ → Type 0
 IsBound done high = (k : ℕ) → In k done → k < high
 
 -- the levels, the last one first, with the contents before each
-abbrev pub Stack : (n : ℕ) (call : ℕ → Call) → Content → List Level → List Content → Content → List ℕ → List ℕ → ℕ → Type 0
+abbrev pub Stack : (n : ℕ) (call : ℕ → Call) → Content → List Level → List Content → Content
+    → List ℕ → List ℕ → ℕ → Type 0
 Stack n call start [] [] c nx pv high = (c ≡ start) × Linked n [] nx pv
 Stack n call start [] (b ∷ bs) c nx pv high = ⊥
 Stack n call start (l ∷ ls) [] c nx pv high = ⊥
-Stack n call start (l ∷ ls) (b ∷ bs) c nx pv high = Frame n call (places ls) b c l.place l.least × Linked n (l.place ∷ places ls) nx pv × IsBound (l.place ∷ places ls) high × AreWithin nx pv l.place × Stack n call start ls bs b (next_with nx pv l.place) (before_with nx pv l.place) l.high
+Stack n call start (l ∷ ls) (b ∷ bs) c nx pv high =
+    Frame n call (places ls) b c l.place l.least × Linked n (l.place ∷ places ls) nx pv
+    × IsBound (l.place ∷ places ls) high × AreWithin nx pv l.place
+    × Stack n call start ls bs b (next_with nx pv l.place) (before_with nx pv l.place) l.high
 
 -- ls and bs: the levels and the contents before them, the last one first
-pub record IsWalk (n : ℕ) (call : ℕ → Call) (start : Content) (ls : List Level) (bs : List Content) (c : Content) (nx pv : List ℕ) (high at least left : ℕ) : Type 0 where
+pub record IsWalk (n : ℕ) (call : ℕ → Call) (start : Content) (ls : List Level) (bs : List Content)
+    (c : Content) (nx pv : List ℕ) (high at least left : ℕ) : Type 0 where
   pub stack : Stack n call start ls bs c nx pv high
   pub tried : IsTried n call (places ls) c at
   pub is_least : IsLeast n call (places ls) least
@@ -67,10 +76,14 @@ IsNoOrder t = IsDead (length t.items.items) (call_at t.items.items) [] (empty t.
 
 -- where the search stands nothing goes on, or nothing that begins with this place
 abbrev pub IsDeadHere : Trials → State → Type 0
-IsDeadHere t s = IsDead (length t.items.items) (call_at t.items.items) (places (reverse s.levels.items)) (content_of s.object)
+IsDeadHere t s =
+    IsDead (length t.items.items) (call_at t.items.items) (places (reverse s.levels.items))
+    (content_of s.object)
 
 abbrev pub IsDeadAtPlace : Trials → State → ℕ → Type 0
-IsDeadAtPlace t s k = IsDeadAt (length t.items.items) (call_at t.items.items) (places (reverse s.levels.items)) (content_of s.object) k
+IsDeadAtPlace t s k =
+    IsDeadAt (length t.items.items) (call_at t.items.items) (places (reverse s.levels.items))
+    (content_of s.object) k
 
 -- so many calls returned
 abbrev pub AreOwed : Trials → ℕ → Type 0
@@ -78,11 +91,15 @@ AreOwed t left = left ≡ count_below (owes (call_at t.items.items) []) (length 
 
 -- each remembered pair is dead
 abbrev pub AreDead : Trials → List Pair → Type 0
-AreDead t pairs = All (λ p. IsDeadPair (length t.items.items) (call_at t.items.items) p.high p.undone.items (content_kept p.content)) pairs
+AreDead t pairs =
+    All (λ p. IsDeadPair (length t.items.items) (call_at t.items.items) p.high p.undone.items
+    (content_kept p.content)) pairs
 
 -- a search stands between two steps, at this content
 pub record IsSearchingAt (t : Trials) (s : State) (c : Content) : Type 0 where
-  pub walk : IsWalk (length t.items.items) (call_at t.items.items) (empty t.kind) (reverse s.levels.items) (befores (reverse s.levels.items) c) c s.undone.next.items s.undone.before.items s.high s.at s.least s.left
+  pub walk : IsWalk (length t.items.items) (call_at t.items.items) (empty t.kind)
+      (reverse s.levels.items) (befores (reverse s.levels.items) c) c s.undone.next.items
+      s.undone.before.items s.high s.at s.least s.left
   pub dead : AreDead t s.dead.pairs.items
 
 abbrev pub IsSearching : Trials → State → Type 0

@@ -2,13 +2,15 @@
 
 use seq_objects::{AnyOp, AnyReply};
 
-/// Two ways to do the same operations that leave the same content have one digest, so that a pair is found again by its
-/// hash. Whether it is the same pair is always compared: nothing is promised of a digest.
+/// Two ways to do the same operations that leave the same content have one digest, so that a pair
+/// is found again by its hash. Whether it is the same pair is always compared: nothing is promised
+/// of a digest.
 #[derive(Clone, Copy, Debug)]
 pub(crate) struct Digest {
     done: u64,
     content: u64,
-    /// How many values have gone in at the back, those that came out there again taken off, and how many out in front.
+    /// How many values have gone in at the back, those that came out there again taken off, and how
+    /// many out in front.
     back: u64,
     front: u64,
 }

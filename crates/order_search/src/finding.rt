@@ -103,8 +103,9 @@ fn search_operations(
     search_from_start(alloc, &trials, left, limit, steps)
 }
 
-/// Searches for an order of the operations that is valid, depth first, in at most so many steps. A step is one
-/// operation tried. Pairs of operations done and content from which nothing goes on are remembered.
+/// Searches for an order of the operations that is valid, depth first, in at most so many steps. A
+/// step is one operation tried. Pairs of operations done and content from which nothing goes on are
+/// remembered.
 ///
 /// That a limit is enough is not promised.
 pub fn find_order(alloc: Global, history: &ObjectHistory, first: TryFirst, limit: u64) -> Attempt

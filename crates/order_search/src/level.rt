@@ -3,7 +3,8 @@
 use crate::digest::Digest;
 use reversible::Undo;
 
-/// One place of the order under way, with what held before it was placed, and what undoes its operation.
+/// One place of the order under way, with what held before it was placed, and what undoes its
+/// operation.
 #[derive(Clone, Copy, Drop)]
 pub(crate) struct Level {
     pub place: u16,

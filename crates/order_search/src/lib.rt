@@ -1,5 +1,5 @@
-//! The bounded search for an order of the operations of one object, after Wing and Gong, "Testing and Verifying
-//! Concurrent Objects", Journal of Parallel and Distributed Computing 17, 1993.
+//! The bounded search for an order of the operations of one object, after Wing and Gong, "Testing
+//! and Verifying Concurrent Objects", Journal of Parallel and Distributed Computing 17, 1993.
 #![tactic(auto)]
 
 mod dead;

@@ -20,7 +20,8 @@ pub enum TryFirst {
     LeastReturn,
 }
 
-/// The operations of an object of this kind that did not fail, in the order in which they are tried.
+/// The operations of an object of this kind that did not fail, in the order in which they are
+/// tried.
 #[derive(Drop)]
 pub(crate) struct Trials {
     pub kind: Kind,

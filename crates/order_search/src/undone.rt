@@ -5,12 +5,14 @@ ghost use Rattle.order_search.specs.Links.{Linked, AreWithin, Lists, next_with, 
 
 use std::alloc::{AllocError, Global};
 
-/// The places of the operations that are not yet in the order, rising. Slot 0 stands before the first of all places,
-/// and slot `k + 1` behind place `k`. `next` has for each slot the first place behind it that is in the list, and
-/// `before`, for each place, the slot before it in the list. The place behind the last one is the end.
+/// The places of the operations that are not yet in the order, rising. Slot 0 stands before the
+/// first of all places, and slot `k + 1` behind place `k`. `next` has for each slot the first place
+/// behind it that is in the list, and
+/// `before`, for each place, the slot before it in the list. The place behind the last one is the
+/// end.
 ///
-/// A place that was taken out keeps what it knows of its neighbours, so that it can be put back: Knuth, "Dancing
-/// Links", 2000.
+/// A place that was taken out keeps what it knows of its neighbours, so that it can be put back:
+/// Knuth, "Dancing Links", 2000.
 #[derive(Drop)]
 pub(crate) struct Undone {
     pub next: Vec<u16>,
@@ -44,7 +46,8 @@ impl Undone {
     /// Takes a place out of the list. What it knows of its neighbours stays.
     pub fn take_out(&mut self, place: u16)
         requires { AreWithin self.old.next.items self.old.before.items place }
-        ensures next { self.new.next.items ≡ next_without self.old.next.items self.old.before.items place }
+        ensures next { self.new.next.items
+            ≡ next_without self.old.next.items self.old.before.items place }
         ensures before { self.new.before.items
             ≡ before_without self.old.next.items self.old.before.items place }
     {
@@ -58,7 +61,8 @@ impl Undone {
     pub fn put_back(&mut self, place: u16)
         requires small { place < 65535 }
         requires within { AreWithin self.old.next.items self.old.before.items place }
-        ensures next { self.new.next.items ≡ next_with self.old.next.items self.old.before.items place }
+        ensures next { self.new.next.items
+            ≡ next_with self.old.next.items self.old.before.items place }
         ensures before { self.new.before.items
             ≡ before_with self.old.next.items self.old.before.items place }
     {
@@ -70,7 +74,8 @@ impl Undone {
 
     /// The places in the list below `high`.
     pub fn below(&self, alloc: Global, high: u16) -> Result<Vec<u16>, AllocError>
-        requires { (n : ℕ) × (done : List ℕ) × Linked n done self.now.next.items self.now.before.items }
+        requires { (n : ℕ) × (done : List ℕ)
+            × Linked n done self.now.next.items self.now.before.items }
         ensures { IfOk result (λ v. Lists self.now.next.items 0 v.items high) }
     {
         let mut places = Vec::new(alloc);

@@ -131,8 +131,8 @@ impl State {
         self.at = self.undone.next[self.at as usize + 1];
     }
 
-    /// Puts the operation, which was done, into the order, if that leads to no pair that is dead; else undoes it.
-    /// Whether the order is done.
+    /// Puts the operation, which was done, into the order, if that leads to no pair that is dead;
+    /// else undoes it. Whether the order is done.
     fn go_on(&mut self, trials: &Trials, step: Step) -> Result<bool, AllocError>
         requires trials { AreTrials trials.now }
         requires search { IsSearchingAt trials.now self.old (content_before self.old step) }
@@ -202,7 +202,8 @@ impl State {
         self.go_on(trials, step)
     }
 
-    /// Remembers where the search stands as dead, and goes back to the level before. Whether there is one.
+    /// Remembers where the search stands as dead, and goes back to the level before. Whether there
+    /// is one.
     fn come_back(&mut self, alloc: Global, trials: &Trials) -> Result<bool, AllocError>
         requires trials { AreTrials trials.now }
         requires search { IsSearching trials.now self.old }
@@ -232,7 +233,8 @@ impl State {
         Ok(true)
     }
 
-    /// Goes on with orders, depth first, till one is done or none is left. A step is one operation tried.
+    /// Goes on with orders, depth first, till one is done or none is left. A step is one operation
+    /// tried.
     pub fn run(
         &mut self,
         alloc: Global,

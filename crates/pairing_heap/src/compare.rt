@@ -37,7 +37,8 @@ fn are_used_alike(nodes: &[Node], others: &[Node]) -> bool
     nodes.iter().all(|node| is_used_alike(nodes, others, node))
 }
 
-/// Whether the same values are in use, each as often. Takes time in the square of the nodes' number.
+/// Whether the same values are in use, each as often. Takes time in the square of the nodes'
+/// number.
 pub fn same_values(left: &[Node], right: &[Node]) -> bool
     ensures { IsTrue result ↔ (bag_of (values_in_use left.now) ≡ bag_of (values_in_use right.now)) }
 {

@@ -1,5 +1,6 @@
 -- The parts that workers gather, and what they are together.
-use Rattle.std.specs.Prelude.{◌≡◌, ℕ, ◌<◌, ◌↔◌, ◌%◌, ◌⊎◌, List, length, get_or, map, Option, Some, Result, IfOk, All, AllPairs, Contains}
+use Rattle.std.specs.Prelude.{◌≡◌, ℕ, ◌<◌, ◌↔◌, ◌%◌, ◌⊎◌, List, length, get_or, map, Option, Some}
+use Rattle.std.specs.Prelude.{Result, IfOk, All, AllPairs, Contains}
 use Rattle.std.specs.Ordering.{nat_cmp}
 use Rattle.std.specs.BTreeMap.{BTreeMap, get}
 use Rattle.model.specs.Orders.{calls_on}
@@ -15,12 +16,17 @@ pub record IsPart (es : List Event) (part parts : ℕ) (os : List ObjectCalls) :
   pub calls : All (λ o. calls_of o.ops ≡ calls_on o.object (denoted es)) os
 
 -- the results of all parts, those where memory was refused too
-abbrev pub ArePartsOf : {V E : Type 0} → (V → List ObjectCalls) → List Event → List (Result V E) → Type 0
-ArePartsOf {V} {E} items es rs = (i : ℕ) (d : Result V E) → i < length rs → IfOk (get_or rs i d) (λ v. IsPart es i (length rs) (items v))
+abbrev pub ArePartsOf : {V E : Type 0} → (V → List ObjectCalls) → List Event → List (Result V E)
+    → Type 0
+ArePartsOf {V} {E} items es rs =
+    (i : ℕ) (d : Result V E) → i < length rs
+    → IfOk (get_or rs i d) (λ v. IsPart es i (length rs) (items v))
 
 -- what is kept of object x where these were put in: one of them, or what was kept before
 abbrev pub IsPutIn : List ObjectCalls → ℕ → Option ObjectCalls → Option ObjectCalls → Type 0
-IsPutIn os x old new = ((o : ObjectCalls) × Contains os o × (o.object ≡ x) × (new ≡ Some o)) ⊎ ((Contains (map (λ o. o.object) os) x → ⊥) × (new ≡ old))
+IsPutIn os x old new =
+    ((o : ObjectCalls) × Contains os o × (o.object ≡ x) × (new ≡ Some o))
+    ⊎ ((Contains (map (λ o. o.object) os) x → ⊥) × (new ≡ old))
 
 -- the history of a named object
 pub record IsObjectOf (es : List Event) (x : ℕ) (o : ObjectCalls) : Type 0 where

@@ -1,5 +1,6 @@
 -- How workers share the objects of a history.
-use Rattle.std.specs.Prelude.{◌≡◌, ℕ, ◌+◌, ◌*◌, ◌<◌, ◌≤◌, ◌⊎◌, List, length, get_or, Option, Some, None, Result, Ok, Err, OnOk, IfErr}
+use Rattle.std.specs.Prelude.{◌≡◌, ℕ, ◌+◌, ◌*◌, ◌<◌, ◌≤◌, ◌⊎◌, List, length, get_or, Option, Some}
+use Rattle.std.specs.Prelude.{None, Result, Ok, Err, OnOk, IfErr}
 use Rattle.events.specs.Operations.{ObjectCalls, calls_of}
 use Rattle.certificate.specs.declared.Certificate.{Certificate}
 use Rattle.checker.specs.declared.refusal.Refusal.{Refusal}
@@ -12,22 +13,30 @@ FallsTo worker workers k = (turn : ℕ) × (k ≡ worker + turn * workers)
 
 -- the object at this place has a valid order among the certificates
 abbrev pub IsFinePiece : List ObjectCalls → List Certificate → ℕ → Type 0
-IsFinePiece os certificates k = (d : ObjectCalls) → IsFine (get_or os k d).kind (calls_of (get_or os k d).ops) certificates (get_or os k d).object
+IsFinePiece os certificates k =
+    (d : ObjectCalls)
+    → IsFine (get_or os k d).kind (calls_of (get_or os k d).ops) certificates (get_or os k d).object
 
 -- why the object at this place is refused
 abbrev pub IsRefusedPiece : List ObjectCalls → List Certificate → ℕ → Refusal → Type 0
-IsRefusedPiece os certificates k r = (d : ObjectCalls) → IsRefused (get_or os k d).kind (calls_of (get_or os k d).ops) certificates (get_or os k d).object r
+IsRefusedPiece os certificates k r =
+    (d : ObjectCalls)
+    → IsRefused (get_or os k d).kind (calls_of (get_or os k d).ops) certificates
+    (get_or os k d).object r
 
 -- what a worker found is the refusal at the first of its places where one stands
-pub record IsFirstOfShare (worker workers : ℕ) (os : List ObjectCalls) (certificates : List Certificate) (f : RefusedPiece) : Type 0 where
+pub record IsFirstOfShare (worker workers : ℕ) (os : List ObjectCalls)
+    (certificates : List Certificate) (f : RefusedPiece) : Type 0 where
   pub inside : f.piece < length os
   pub own : FallsTo worker workers f.piece
   pub refused : IsRefusedPiece os certificates f.piece f.refusal
   pub before : (k : ℕ) → k < f.piece → FallsTo worker workers k → IsFinePiece os certificates k
 
 -- what a worker answers: each of its objects has a valid order, or what it found first
-pub record IsShare (worker workers : ℕ) (os : List ObjectCalls) (certificates : List Certificate) (r : Result (Unit {0}) RefusedPiece) : Type 0 where
-  pub fine : OnOk r ((k : ℕ) → k < length os → FallsTo worker workers k → IsFinePiece os certificates k)
+pub record IsShare (worker workers : ℕ) (os : List ObjectCalls) (certificates : List Certificate)
+    (r : Result (Unit {0}) RefusedPiece) : Type 0 where
+  pub fine : OnOk r
+      ((k : ℕ) → k < length os → FallsTo worker workers k → IsFinePiece os certificates k)
   pub found : IfErr r (IsFirstOfShare worker workers os certificates)
 
 -- what this worker found stands at no lesser place
@@ -35,7 +44,9 @@ abbrev pub IsNotBefore : RefusedPiece → Result (Unit {0}) RefusedPiece → Typ
 IsNotBefore f r = IfErr r (λ g. f.piece ≤ g.piece)
 
 -- of what was found so far and what a worker found, that of the lesser place
-abbrev pub IsEarlier : Option RefusedPiece → Result (Unit {0}) RefusedPiece → Option RefusedPiece → Type 0
+abbrev pub IsEarlier : Option RefusedPiece → Result (Unit {0}) RefusedPiece → Option RefusedPiece
+    → Type 0
 IsEarlier least (Ok u) next = next ≡ least
 IsEarlier None (Err g) next = next ≡ Some g
-IsEarlier (Some f) (Err g) next = ((f.piece ≤ g.piece) × (next ≡ Some f)) ⊎ ((g.piece < f.piece) × (next ≡ Some g))
+IsEarlier (Some f) (Err g) next =
+    ((f.piece ≤ g.piece) × (next ≡ Some f)) ⊎ ((g.piece < f.piece) × (next ≡ Some g))

@@ -1,4 +1,5 @@
-//! Each object's operations gathered, and all certificates checked, by several workers, each in a thread of its own.
+//! Each object's operations gathered, and all certificates checked, by several workers, each in a
+//! thread of its own.
 #![tactic(auto)]
 
 mod gathering;

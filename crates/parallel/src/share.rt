@@ -28,7 +28,8 @@ fn piece_number(objects: &[ObjectHistory], piece: usize) -> u32
     piece.min(objects[piece].object() as usize) as u32
 }
 
-/// Checks the objects at the places `worker`, `worker + workers`, and so on, up to the first that is refused.
+/// Checks the objects at the places `worker`, `worker + workers`, and so on, up to the first that
+/// is refused.
 pub(crate) fn check_share<G: Gate>(
     alloc: Global,
     objects: &[ObjectHistory],

@@ -15,12 +15,14 @@ use seq_objects::Gate;
 use std::alloc::Global;
 use std::thread::{Threads, map_indices};
 
-/// Checks the certificates of a history's objects by so many workers. The answer is that of `check_all`: `Ok` exactly
-/// where each named object has a valid order and no other object has a certificate, and else the first refusal, that of
-/// the least object and strange objects last, whichever was found first in time.
+/// Checks the certificates of a history's objects by so many workers. The answer is that of
+/// `check_all`: `Ok` exactly where each named object has a valid order and no other object has a
+/// certificate, and else the first refusal, that of the least object and strange objects last,
+/// whichever was found first in time.
 ///
-/// The objects come in rising number. Worker `w` checks those at the places `w`, `w + workers`, and so on, each between the
-/// gate's `before` and `after`, and stops at the first that is refused. No more workers are started than there are objects.
+/// The objects come in rising number. Worker `w` checks those at the places `w`, `w + workers`, and
+/// so on, each between the gate's `before` and `after`, and stops at the first that is refused. No
+/// more workers are started than there are objects.
 /// `NoMemory` says nothing.
 pub fn check_parallel<R: Threads + Sync, G: Gate>(
     rt: &R,

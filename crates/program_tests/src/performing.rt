@@ -65,7 +65,8 @@ fn check_failing_output<R: AllocGlobal + Abort + Threads + Wait + Sync>(
     Ok(())
 }
 
-/// Checks that the line finds certificates of each history that a check answers yes, and that a check answers yes to those too.
+/// Checks that the line finds certificates of each history that a check answers yes, and that a
+/// check answers yes to those too.
 fn check_certificates<R: AllocGlobal + Abort + Threads + Wait + Sync>(
     rt: &R,
     line: &Line,

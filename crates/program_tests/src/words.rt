@@ -4,8 +4,8 @@ use command_line::{Line, LineFault, line};
 use std::alloc::{AllocError, Global};
 use std::test::Fail;
 
-/// Words after the name of the program, and the line that they ask for. An option is anywhere before `--`, and its
-/// value may be after `=`.
+/// Words after the name of the program, and the line that they ask for. An option is anywhere
+/// before `--`, and its value may be after `=`.
 const ASKED: [(&[&str], &str); 26] = [
     (
         &["check", "h.edn", "c.edn"],

@@ -19,8 +19,8 @@ fn overdrawn(
     Ok(is_overdrawn(&part, Count { counted, from }))
 }
 
-/// In each row: the history, the end of the count, what is counted, where the count begins, and whether more was taken
-/// away than can have been there.
+/// In each row: the history, the end of the count, what is counted, where the count begins, and
+/// whether more was taken away than can have been there.
 #[test]
 fn counts(rt: HostRuntime) -> Result<(), Fail> {
     let rows = [

@@ -16,7 +16,8 @@ pub(crate) const PENDING_PUT: &str = "
     {:process 1 :type :invoke :f :dequeue}
     {:process 1 :type :ok :f :dequeue :value 1}";
 
-/// A third value, then 1 and 2, are put in; a taking is pending, 2 is taken before 1, and then there is nothing.
+/// A third value, then 1 and 2, are put in; a taking is pending, 2 is taken before 1, and then
+/// there is nothing.
 pub(crate) const WRONG_ORDER: &str = "
     {:process 0 :type :invoke :f :enqueue :value 3}
     {:process 0 :type :ok :f :enqueue :value 3}

@@ -1,4 +1,5 @@
-//! Tests of the public calls of `projection`: each rule on the histories that a laxer one would take for impossible.
+//! Tests of the public calls of `projection`: each rule on the histories that a laxer one would
+//! take for impossible.
 #![tactic(auto)]
 
 #[cfg(test)]

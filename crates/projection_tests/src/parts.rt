@@ -112,8 +112,8 @@ fn check<R: AllocGlobal + Abort>(rt: &R, rows: &[(&str, &[Plan], Verdict)]) -> R
     Ok(())
 }
 
-/// Projections of containers, maps and mutexes. Before each part that a laxer rule would take stands its whole, which has
-/// an order.
+/// Projections of containers, maps and mutexes. Before each part that a laxer rule would take
+/// stands its whole, which has an order.
 #[test]
 fn projections(rt: HostRuntime) -> Result<(), Fail> {
     check(
@@ -216,7 +216,8 @@ fn windows(rt: HostRuntime) -> Result<(), Fail> {
             // No call has the number 5.
             (STALE_READ, &[Plan::From(5)], NoPart),
             (STALE_READ, &[Plan::Keep(&[2], &[0, 4, 10])], NoPart),
-            // The write of 1 overlaps that of 2 and returned, so it is not done after the write of 3.
+            // The write of 1 overlaps that of 2 and returned, so it is not done after the write of
+            // 3.
             (OVERLAPPING, &[Plan::From(1)], Impossible),
             (OVERLAPPING, &[Plan::From(6)], Impossible),
             (OVERLAPPING, &[Plan::From(1), Plan::Until(8)], Possible),

@@ -1,14 +1,20 @@
 -- What the desk's calls say of clients and of what they hold.
-use Rattle.std.specs.Prelude.{◌≡◌, ◌≢◌, ◌⊎◌, ℕ, ◌+◌, ◌<◌, ◌≤◌, true, false, List, [], ◌∷◌, ◌++◌, length, map, All, Contains, ⊤, IsSome}
+use Rattle.std.specs.Prelude.{◌≡◌, ◌≢◌, ◌⊎◌, ℕ, ◌+◌, ◌<◌, ◌≤◌, true, false, List, [], ◌∷◌, ◌++◌}
+use Rattle.std.specs.Prelude.{length, map, All, Contains, ⊤, IsSome}
 use Rattle.model.specs.declared.Kind.{Kind}
 use Rattle.model.specs.declared.AnyOp.{AnyOp}
 use Rattle.model.specs.declared.AnyReply.{AnyReply}
 use Rattle.model.specs.Objects.{Content, empty, kind_of, next}
 use Rattle.desk_model.specs.declared.JournalEvent.TheVariants.{Invoked, Returned}
-use Rattle.desk_model.specs.World.{AnyEntry, AnyRequest, AnyAnswer, kind_at, logged, entries_of, served, calls_made, Replays, IsLegal, StartsWith}
+use Rattle.desk_model.specs.World.{AnyEntry, AnyRequest, AnyAnswer, kind_at, logged, entries_of}
+use Rattle.desk_model.specs.World.{served, calls_made, Replays, IsLegal, StartsWith}
 use Rattle.desk_invariant.specs.declared.board.Own.TheVariants as own
 use Rattle.desk_invariant.specs.declared.board.DeskView.{DeskView}
-use Rattle.desk_invariant.specs.Views.{row_place, seen_of, own_request, journal, is_waiting, after_miss, after_row_miss, after_win, after_pick, after_put_back, after_answer, with_own, after_take, after_return, after_perform, after_meet, after_end_unset, IsAccount}
+use Rattle.desk_invariant.specs.Views.{row_place, seen_of, own_request, journal, is_waiting}
+use Rattle.desk_invariant.specs.Views.{after_miss, after_row_miss, after_win, after_pick}
+use Rattle.desk_invariant.specs.Views.{after_put_back, after_answer, with_own, after_take}
+use Rattle.desk_invariant.specs.Views.{after_return, after_perform, after_meet, after_end_unset}
+use Rattle.desk_invariant.specs.Views.{IsAccount}
 use Rattle.desk_model.specs.Images.{entry_in, event_in}
 use Rattle.desk_model.specs.Records.{IsSoundRecord}
 use Rattle.recorder.specs.Records.{Recorded, journal_at, log_at}
@@ -21,7 +27,8 @@ use Rattle.publication.specs.declared.desk.Picked.{Picked}
 use Rattle.publication.specs.declared.desk.Picked.TheVariants as pick
 use Rattle.publication.specs.Handles.{DeskId, DeskSeen, Known, PassState, Holding, Handling}
 
--- The call was posted as the outstanding one of an idle client: its invocation is the last event of the journal.
+-- The call was posted as the outstanding one of an idle client: its invocation is the last event of
+-- the journal.
 pub record Posted (v : DeskView) (object : ℕ) (op : AnyOp) (w : DeskView) : Type 0 where
   pub ticket : ℕ
   pub was_idle : v.own ≡ own.Idle
@@ -45,12 +52,15 @@ IsNotOfKind kinds x kind e = ⊥
 -- why a call on the object x was not posted
 abbrev pub PostRefused : DeskSeen → Known → ℕ → AnyOp → Post → Type 0
 PostRefused d c x op post.Outstanding = is_waiting c.knows.own ≡ true
-PostRefused d c x op post.Spent = (is_waiting c.knows.own ≡ false) × (c.desk.quota ≤ calls_made c.knows.done (own_request c.knows.own))
+PostRefused d c x op post.Spent =
+    (is_waiting c.knows.own ≡ false)
+    × (c.desk.quota ≤ calls_made c.knows.done (own_request c.knows.own))
 PostRefused d c x op e = MayPost c × IsNotOfKind d.id.kinds x (kind_of op) e
 
--- The own call is over, with this answer. The log of its object that was seen is legal, begins with all that was seen
--- before, and holds of the client's own calls those that are over and this one. The ticket of the return is greater than
--- each in it, and the return is the last event of the journal.
+-- The own call is over, with this answer. The log of its object that was seen is legal, begins with
+-- all that was seen before, and holds of the client's own calls those that are over and this one.
+-- The ticket of the return is greater than each in it, and the return is the last event of the
+-- journal.
 pub record Polled (v : DeskView) (a : AnyAnswer) (w : DeskView) : Type 0 where
   pub request : AnyRequest
   pub log : List AnyEntry
@@ -60,13 +70,17 @@ pub record Polled (v : DeskView) (a : AnyAnswer) (w : DeskView) : Type 0 where
   pub seen : seen_of w request.object ≡ log
   pub legal : IsLegal (kind_at v.kinds request.object) log
   pub begins : StartsWith log (seen_of v request.object)
-  pub counted : entries_of v.number log ≡ served request.object v.number v.done ++ logged v.number request a
+  pub counted : entries_of v.number log
+      ≡ served request.object v.number v.done ++ logged v.number request a
   pub later : All (λ e. e.ticket < ticket) log
   pub journal : journal w ≡ journal v ++ Returned ticket a ∷ []
 
--- nothing was outstanding, or the row was tried once, and the client did not know that it was answered
+-- nothing was outstanding, or the row was tried once, and the client did not know that it was
+-- answered
 abbrev pub NotPolled : DeskView → DeskView → Type 0
-NotPolled v w = ((is_waiting v.own ≡ false) × (w ≡ v)) ⊎ ((w ≡ after_miss (row_place v.number) v) × (v.ready ≡ false))
+NotPolled v w =
+    ((is_waiting v.own ≡ false) × (w ≡ v))
+    ⊎ ((w ≡ after_miss (row_place v.number) v) × (v.ready ≡ false))
 
 -- The object x is held. Its log is legal, and begins with all that was seen of it.
 pub record Opened (c : Known) (x : ℕ) (p : Holding) : Type 0 where
@@ -75,8 +89,8 @@ pub record Opened (c : Known) (x : ℕ) (p : Holding) : Type 0 where
   pub legal : IsLegal (kind_at c.desk.kinds x) p.log
   pub begins : StartsWith p.log (seen_of c.knows x)
 
--- The request of the row is in hand. It is for the object that is held, and of its kind. It is the one that this pass had
--- put back there, if any, and at the own row it is the own one.
+-- The request of the row is in hand. It is for the object that is held, and of its kind. It is the
+-- one that this pass had put back there, if any, and at the own row it is the own one.
 pub record Got (p : Holding) (r : ℕ) (h : Handling) : Type 0 where
   pub object : h.object ≡ p.object
   pub log : h.log ≡ p.log
@@ -96,14 +110,15 @@ pub record NotGot (p : Holding) (r : ℕ) (q : Holding) : Type 0 where
 
 -- after the log, the object can do the operation
 abbrev pub CanDo : Kind → List AnyEntry → AnyOp → Type 0
-CanDo kind log op = (content : Content) × Replays (empty kind) log content × IsSome (next content op)
+CanDo kind log op =
+    (content : Content) × Replays (empty kind) log content × IsSome (next content op)
 
 -- the kind of the object that is held
 abbrev pub kind_held : Handling → Kind
 kind_held h = kind_at h.knows.kinds h.object
 
--- The request in hand is answered: the log has one entry more, with the request's client, ticket and operation, and the
--- reply, and is legal; or memory was refused, and it has none.
+-- The request in hand is answered: the log has one entry more, with the request's client, ticket
+-- and operation, and the reply, and is legal; or memory was refused, and it has none.
 pub record Answered (h : Handling) (a : AnyAnswer) (p : Holding) : Type 0 where
   pub object : p.object ≡ h.object
   pub log : p.log ≡ h.log ++ logged h.row h.request a
@@ -114,10 +129,12 @@ pub record Answered (h : Handling) (a : AnyAnswer) (p : Holding) : Type 0 where
 abbrev pub kind_in : Holding → Kind
 kind_in p = kind_at p.desk.kinds p.object
 
--- The client made a call of its own on the object that it holds, and it is over, with this answer: its invocation and its
--- return are the last events of the journal. The log has one entry more, with the client, the ticket of the invocation, the
--- operation and the reply, or none where memory was refused. It is legal, was seen, begins with all that was seen before, and
--- holds of the client's own calls those before and this one; the ticket of the return is greater than each in it.
+-- The client made a call of its own on the object that it holds, and it is over, with this answer:
+-- its invocation and its return are the last events of the journal. The log has one entry more,
+-- with the client, the ticket of the invocation, the operation and the reply, or none where memory
+-- was refused. It is legal, was seen, begins with all that was seen before, and holds of the
+-- client's own calls those before and this one; the ticket of the return is greater than each in
+-- it.
 pub record Performed (p : Holding) (op : AnyOp) (a : AnyAnswer) (r : Holding) : Type 0 where
   pub request : AnyRequest
   pub returned : ℕ
@@ -129,9 +146,11 @@ pub record Performed (p : Holding) (op : AnyOp) (a : AnyAnswer) (r : Holding) : 
   pub seen : seen_of r.knows p.object ≡ r.log
   pub legal : IsLegal (kind_in p) r.log
   pub begins : StartsWith r.log (seen_of p.knows p.object)
-  pub counted : entries_of p.knows.number r.log ≡ served p.object p.knows.number p.knows.done ++ logged p.knows.number request a
+  pub counted : entries_of p.knows.number r.log
+      ≡ served p.object p.knows.number p.knows.done ++ logged p.knows.number request a
   pub later : All (λ e. e.ticket < returned) r.log
-  pub journal : journal r.knows ≡ journal p.knows ++ Invoked request.ticket p.object op ∷ Returned returned a ∷ []
+  pub journal : journal r.knows
+      ≡ journal p.knows ++ Invoked request.ticket p.object op ∷ Returned returned a ∷ []
 
 -- the request in hand is back in its row, and nothing else changed
 pub record IsPutBack (h : Handling) (p : Holding) : Type 0 where
@@ -139,13 +158,15 @@ pub record IsPutBack (h : Handling) (p : Holding) : Type 0 where
   pub log : p.log ≡ h.log
   pub knows : p.knows ≡ after_put_back h.object h.log h.row h.request h.knows
 
--- Both have seen one legal log of the object x, which begins with what each had seen, and nothing else of theirs has
--- changed but what they were told. So no word has changed: of the steps that change one only those of a pass, from win to
--- release, leave no other trace in what a client knows, and neither began one.
+-- Both have seen one legal log of the object x, which begins with what each had seen, and nothing
+-- else of theirs has changed but what they were told. So no word has changed: of the steps that
+-- change one only those of a pass, from win to release, leave no other trace in what a client
+-- knows, and neither began one.
 pub record Met (x : ℕ) (one other one' other' : Known) : Type 0 where
   pub log : List AnyEntry
   pub first : one'.knows ≡ after_meet x log (record one.knows { received = one'.knows.received })
-  pub second : other'.knows ≡ after_meet x log (record other.knows { received = other'.knows.received })
+  pub second : other'.knows
+      ≡ after_meet x log (record other.knows { received = other'.knows.received })
   pub no_pass : (one'.knows.won ≡ one.knows.won) × (other'.knows.won ≡ other.knows.won)
   pub seen_first : seen_of one'.knows x ≡ log
   pub seen_second : seen_of other'.knows x ≡ log
@@ -153,7 +174,8 @@ pub record Met (x : ℕ) (one other one' other' : Known) : Type 0 where
   pub begins_first : StartsWith log (seen_of one.knows x)
   pub begins_second : StartsWith log (seen_of other.knows x)
 
--- another client than the last had not retired when its end word was read, and all others of lower number had
+-- another client than the last had not retired when its end word was read, and all others of lower
+-- number had
 pub record StillThere (d : DeskSeen) (last : Known) (client : ℕ) (after : Known) : Type 0 where
   pub client_low : client < d.clients
   pub other : client ≢ last.knows.number
@@ -161,22 +183,29 @@ pub record StillThere (d : DeskSeen) (last : Known) (client : ℕ) (after : Know
   pub untold : All (λ l. l.client ≢ client) last.knows.left
   pub least : (c : ℕ) → c < client → c ≢ last.knows.number → Contains after.knows.retired c
   -- of the last client nothing else has changed: it knows who has retired, and found this one there
-  pub looked : (v : DeskView) × (after.knows ≡ after_end_unset client v) × (v ≡ record last.knows { retired = v.retired })
+  pub looked : (v : DeskView) × (after.knows ≡ after_end_unset client v)
+      × (v ≡ record last.knows { retired = v.retired })
 
 module _ {O R : Type 0} (op_in : O → AnyOp) (reply_in : R → AnyReply) where
-  -- The record has a journal for each client and a log for each object, and is sound: its history is well-formed, and each
-  -- log is legal and a valid order. The last client's journal is its own, and each log begins with what it had seen.
+  -- The record has a journal for each client and a log for each object, and is sound: its history
+  -- is well-formed, and each log is legal and a valid order. The last client's journal is its own,
+  -- and each log begins with what it had seen.
   pub record Closed (d : DeskSeen) (last : Known) (r : Recorded O R) : Type 0 where
     pub journals : length r.journals ≡ d.clients
     pub logs : length r.logs ≡ length d.id.kinds
     pub own : map (event_in op_in reply_in) (journal_at r last.knows.number) ≡ journal last.knows
-    pub legal : (x : ℕ) → x < length d.id.kinds → IsLegal (kind_at d.id.kinds x) (map (entry_in op_in reply_in) (log_at r x))
-    pub seen : (x : ℕ) → x < length d.id.kinds → StartsWith (map (entry_in op_in reply_in) (log_at r x)) (seen_of last.knows x)
+    pub legal : (x : ℕ) → x < length d.id.kinds
+        → IsLegal (kind_at d.id.kinds x) (map (entry_in op_in reply_in) (log_at r x))
+    pub seen : (x : ℕ) → x < length d.id.kinds
+        → StartsWith (map (entry_in op_in reply_in) (log_at r x)) (seen_of last.knows x)
     -- the journal of each client that told of its end is the one that it told of
-    pub left : All (λ l. map (event_in op_in reply_in) (journal_at r l.client) ≡ l.journal) last.knows.left
-    -- of the last client's calls each log holds just those that were not refused, each once and in order
+    pub left : All (λ l. map (event_in op_in reply_in) (journal_at r l.client)
+        ≡ l.journal) last.knows.left
+    -- of the last client's calls each log holds just those that were not refused, each once and in
+    -- order
     pub accounts : (x : ℕ) → IsAccount x last.knows (map (entry_in op_in reply_in) (log_at r x))
-    pub sound : IsSoundRecord d.id.kinds d.id.quota (λ c. map (event_in op_in reply_in) (journal_at r c)) (λ x. map (entry_in op_in reply_in) (log_at r x))
+    pub sound : IsSoundRecord d.id.kinds d.id.quota (λ c. map (event_in op_in reply_in)
+        (journal_at r c)) (λ x. map (entry_in op_in reply_in) (log_at r x))
 
 module _ {S O R : Type 0} where
   -- the desk and the number of the client that comes back

@@ -1,5 +1,6 @@
 -- What is left of a desk, and what its record takes of it.
-use Rattle.std.specs.Prelude.{◌≡◌, ◌≢◌, ℕ, ◌+◌, ◌<◌, ◌≤◌, false, List, [], length, slice_index_or, Contains}
+use Rattle.std.specs.Prelude.{◌≡◌, ◌≢◌, ℕ, ◌+◌, ◌<◌, ◌≤◌, false, List, [], length, slice_index_or}
+use Rattle.std.specs.Prelude.{Contains}
 use Rattle.std.specs.Slots.{slots_items, slots_filled, slots_len}
 use Rattle.std.specs.Slots.Ownership.{Filled}
 use Rattle.atomic_table.specs.declared.owned.Closed.{Closed}
@@ -19,7 +20,9 @@ values_of left = slots_items left.slots
 
 -- those of the first n slots were taken out
 abbrev pub IsTakenTo : {X A : Type 0} → ℕ → Closed X A → Type 0
-IsTakenTo n left = (slots_len left.slots ≡ 80) × Filled (slots_filled left.slots) n 80 × ((k : ℕ) → k < n → slice_index_or (slots_filled left.slots) k false ≡ false)
+IsTakenTo n left =
+    (slots_len left.slots ≡ 80) × Filled (slots_filled left.slots) n 80
+    × ((k : ℕ) → k < n → slice_index_or (slots_filled left.slots) k false ≡ false)
 
 module _ {S O R : Type 0} where
   abbrev pub HasCore : List (Slot S O R) → ℕ → Type 0
@@ -34,13 +37,18 @@ module _ {S O R : Type 0} where
 
   -- the journal that the client c left
   abbrev pub IsJournalOf : List (Slot S O R) → ℕ → List (JournalEvent O R) → Type 0
-  IsJournalOf xs c events = (j : Journal O R) × (get_elem? xs (48 + c) ≡ some (slot.Journal j)) × (j.events.items ≡ events)
+  IsJournalOf xs c events =
+      (j : Journal O R) × (get_elem? xs (48 + c) ≡ some (slot.Journal j))
+      × (j.events.items ≡ events)
 
   abbrev pub AreLogs : ℕ → List (Slot S O R) → List (List (LogEntry O R)) → Type 0
-  AreLogs n xs logs = (length logs ≡ n) × ((x : ℕ) → x < n → IsLogOf xs x (slice_index_or logs x []))
+  AreLogs n xs logs =
+      (length logs ≡ n) × ((x : ℕ) → x < n → IsLogOf xs x (slice_index_or logs x []))
 
   abbrev pub AreJournals : ℕ → ℕ → List (Slot S O R) → List (List (JournalEvent O R)) → Type 0
-  AreJournals from n xs journals = (length journals ≡ n) × ((c : ℕ) → from ≤ c → c < n → IsJournalOf xs c (slice_index_or journals c []))
+  AreJournals from n xs journals =
+      (length journals ≡ n)
+      × ((c : ℕ) → from ≤ c → c < n → IsJournalOf xs c (slice_index_or journals c []))
 
 -- what stood below n stands there still
 abbrev pub IsSameBelow : {A : Type 0} → ℕ → List (List A) → List (List A) → Type 0
@@ -52,4 +60,5 @@ HaveEnded n last = (c : ℕ) → c < n → c ≢ last.knows.number → Contains 
 
 -- it has learnt of such, and of nothing else
 abbrev pub HasLearntEnds : Known → Known → Type 0
-HasLearntEnds before after = after ≡ record before { knows = record before.knows { retired = after.knows.retired } }
+HasLearntEnds before after =
+    after ≡ record before { knows = record before.knows { retired = after.knows.retired } }

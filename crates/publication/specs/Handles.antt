@@ -1,5 +1,6 @@
 -- What contracts see of a desk, of a client, and of a client that holds an object.
-use Rattle.std.specs.Prelude.{◌≡◌, ℕ, zero, suc, ◌+◌, ◌-◌, ◌<◌, ◌≤◌, Bool, false, List, [], ◌∷◌, ◌++◌, map, length, replicate, vec_len, vec_capacity}
+use Rattle.std.specs.Prelude.{◌≡◌, ℕ, zero, suc, ◌+◌, ◌-◌, ◌<◌, ◌≤◌, Bool, false, List, [], ◌∷◌}
+use Rattle.std.specs.Prelude.{◌++◌, map, length, replicate, vec_len, vec_capacity}
 use Rattle.std.specs.declared.vec.Vec.{Vec}
 use mathlib.Core.Option.{some}
 use lib.ListN.{get_elem?}
@@ -25,11 +26,12 @@ use Rattle.desk_invariant.specs.declared.board.Own.TheVariants as own
 use Rattle.desk_invariant.specs.declared.board.Held.TheVariants as held
 use Rattle.desk_invariant.specs.declared.board.Role.TheVariants as role
 use Rattle.desk_invariant.specs.declared.board.DeskView.{DeskView}
-use Rattle.desk_invariant.specs.Views.{new_client, with_own, own_request, journal, is_waiting, seen_of, IsAtRest, IsAccount}
+use Rattle.desk_invariant.specs.Views.{new_client, with_own, own_request, journal, is_waiting}
+use Rattle.desk_invariant.specs.Views.{seen_of, IsAtRest, IsAccount}
 use Rattle.desk_invariant.specs.Rule.{Fits}
 
--- which desk: its table, the quota of each of its clients, the kind of each of its objects, and which roster the
--- publication list of each object is
+-- which desk: its table, the quota of each of its clients, the kind of each of its objects, and
+-- which roster the publication list of each object is
 pub record DeskId : Type 0 where
   pub table : TableId
   pub quota : ℕ
@@ -58,15 +60,18 @@ trying (suc x) came_to (p ∷ ps) = p ∷ trying x came_to ps
 
 -- the client's place in the list of the object x is of its own row
 abbrev pub HasPlaceAt : Known → ℕ → Type 0
-HasPlaceAt c x = (p : PlaceSeen) × (get_elem? c.places x ≡ some p) × (p.row ≡ c.knows.number) × IsListOf c.desk x p.roster
+HasPlaceAt c x =
+    (p : PlaceSeen) × (get_elem? c.places x ≡ some p) × (p.row ≡ c.knows.number)
+    × IsListOf c.desk x p.roster
 
 -- these places are of the row c, one in each of these lists
 pub record ArePlacesOf (c : ℕ) (lists : List TableId) (places : List PlaceSeen) : Type 0 where
   pub rows : map (λ p. p.row) places ≡ replicate 16 c
   pub lists_are : map (λ p. p.roster) places ≡ lists
 
--- What else there is in a client's hands while it holds an object: how many passes there were over the object, for how
--- many entries more its log has room, its publication list, the age of each row, and the client's places.
+-- What else there is in a client's hands while it holds an object: how many passes there were over
+-- the object, for how many entries more its log has room, its publication list, the age of each
+-- row, and the client's places.
 pub record PassState : Type 0 where
   pub passes : ℕ
   pub room : ℕ
@@ -103,11 +108,15 @@ IsRoom n v = (v.items ≡ []) × (n ≤ vec_capacity v)
 
 -- a desk over this table
 abbrev pub IsDesk : TableId → Plan → DeskSeen → Type 0
-IsDesk table plan d = (table.words ≡ 81) × (table.slots ≡ 80) × (plan.kinds.items ≡ d.id.kinds) × (plan.clients ≡ d.clients) × (plan.quota ≡ d.id.quota) × (length d.id.kinds < 17) × (d.clients < 33) × (d.id.quota < 10001)
+IsDesk table plan d =
+    (table.words ≡ 81) × (table.slots ≡ 80) × (plan.kinds.items ≡ d.id.kinds)
+    × (plan.clients ≡ d.clients) × (plan.quota ≡ d.id.quota) × (length d.id.kinds < 17)
+    × (d.clients < 33) × (d.id.quota < 10001)
 
 module _ {O R : Type 0} (op_in : O → AnyOp) (reply_in : R → AnyReply) where
   -- what the client's fields say of what it knows
-  pub record Agrees (number calls quota : ℕ) (outstanding : Bool) (j : Journal O R) (v : DeskView) : Type 0 where
+  pub record Agrees (number calls quota : ℕ) (outstanding : Bool) (j : Journal O R) (v : DeskView) :
+      Type 0 where
     pub client_is : v.role ≡ role.Client
     pub number_is : v.number ≡ number
     pub number_low : number < 32
@@ -130,7 +139,8 @@ module _ {S O R : Type 0} where
   at_hand c o = (48 + c, slot.Nothing) ∷ []
 
 module _ {S O R : Type 0} (op_in : O → AnyOp) (reply_in : R → AnyReply) where
-  pub record IsClient (number calls quota : ℕ) (outstanding : Bool) (j : Journal O R) (me : Me (Slot S O R) DeskView) : Type 0 where
+  pub record IsClient (number calls quota : ℕ) (outstanding : Bool) (j : Journal O R)
+      (me : Me (Slot S O R) DeskView) : Type 0 where
     pub agrees : Agrees op_in reply_in number calls quota outstanding j me.0
     pub free : me.0.held ≡ held.Free
     pub in_hand : me.1 ≡ at_hand number me.0.own
@@ -141,25 +151,42 @@ module _ {S O R : Type 0} (op_in : O → AnyOp) (reply_in : R → AnyReply) wher
 
 module _ {S O R : Type 0} where
   abbrev pub state_of : Core S O R → List PlaceSeen → PassState
-  state_of core places = record { passes = core.passes; room = vec_capacity core.log - vec_len core.log; list = core.list; ages = core.ages; places = places }
+  state_of core places =
+      record {
+        passes = core.passes;
+        room = vec_capacity core.log - vec_len core.log;
+        list = core.list;
+        ages = core.ages;
+        places = places;
+      }
 
-module _ {S O R : Type 0} (content : S → Content) (op_in : O → AnyOp) (reply_in : R → AnyReply) where
-  pub record IsPass (number calls quota : ℕ) (outstanding : Bool) (j : Journal O R) (object : ℕ) (core : Core S O R) (me : Me (Slot S O R) DeskView) : Type 0 where
-    pub agrees : Agrees op_in reply_in number calls quota outstanding j me.0
-    pub holds : me.0.held ≡ held.Pass object (log_of op_in reply_in core)
-    pub in_hand : me.1 ≡ (object, slot.Nothing) ∷ at_hand number me.0.own
-    pub fits : Fits content op_in reply_in (kind_at me.0.kinds object) (get_elem? me.0.lists object) core (log_of op_in reply_in core)
-    pub low : object < 16
+module _ {S O R : Type 0} (content : S → Content) (op_in : O → AnyOp) (reply_in : R → AnyReply)
+  where
+    pub record IsPass (number calls quota : ℕ) (outstanding : Bool) (j : Journal O R) (object : ℕ)
+        (core : Core S O R) (me : Me (Slot S O R) DeskView) : Type 0 where
+      pub agrees : Agrees op_in reply_in number calls quota outstanding j me.0
+      pub holds : me.0.held ≡ held.Pass object (log_of op_in reply_in core)
+      pub in_hand : me.1 ≡ (object, slot.Nothing) ∷ at_hand number me.0.own
+      pub fits : Fits content op_in reply_in (kind_at me.0.kinds object)
+          (get_elem? me.0.lists object)
+          core (log_of op_in reply_in core)
+      pub low : object < 16
 
-  pub record IsHand (number calls quota : ℕ) (outstanding : Bool) (j : Journal O R) (object : ℕ) (core : Core S O R) (row : ℕ) (request : Request O) (me : Me (Slot S O R) DeskView) : Type 0 where
-    pub agrees : Agrees op_in reply_in number calls quota outstanding j me.0
-    pub holds : me.0.held ≡ held.Hand object (log_of op_in reply_in core) row (request_in op_in request)
-    pub in_hand : me.1 ≡ (16 + row, slot.Nothing) ∷ (object, slot.Nothing) ∷ at_hand number me.0.own
-    pub fits : Fits content op_in reply_in (kind_at me.0.kinds object) (get_elem? me.0.lists object) core (log_of op_in reply_in core)
-    pub low : object < 16
-    pub row_low : row < 32
-    pub on : request.object ≡ object
-    pub of_kind : kind_of (op_in request.op) ≡ kind_at me.0.kinds object
+    pub record IsHand (number calls quota : ℕ) (outstanding : Bool) (j : Journal O R) (object : ℕ)
+        (core : Core S O R) (row : ℕ) (request : Request O) (me : Me (Slot S O R) DeskView) : Type 0
+      where
+        pub agrees : Agrees op_in reply_in number calls quota outstanding j me.0
+        pub holds : me.0.held
+            ≡ held.Hand object (log_of op_in reply_in core) row (request_in op_in request)
+        pub in_hand : me.1
+            ≡ (16 + row, slot.Nothing) ∷ (object, slot.Nothing) ∷ at_hand number me.0.own
+        pub fits : Fits content op_in reply_in (kind_at me.0.kinds object)
+            (get_elem? me.0.lists object)
+            core (log_of op_in reply_in core)
+        pub low : object < 16
+        pub row_low : row < 32
+        pub on : request.object ≡ object
+        pub of_kind : kind_of (op_in request.op) ≡ kind_at me.0.kinds object
 
 -- places of the row c in these lists, at which nothing was tried
 abbrev pub fresh_places : ℕ → List TableId → List PlaceSeen
@@ -167,7 +194,12 @@ fresh_places c lists = map (λ id. record { roster = id; row = c; tries = [] }) 
 
 -- a client that has made no call, and has not tried to enlist its row
 abbrev pub begun : DeskId → ℕ → Known
-begun d c = record { desk = d; knows = with_own own.Idle (new_client d.kinds d.lists c); places = fresh_places c d.lists }
+begun d c =
+    record {
+      desk = d;
+      knows = with_own own.Idle (new_client d.kinds d.lists c);
+      places = fresh_places c d.lists;
+    }
 
 abbrev pub AllBegun : DeskId → List Known → Type 0
 AllBegun d cs = (c : ℕ) → c < length cs → get_elem? cs c ≡ some (begun d c)

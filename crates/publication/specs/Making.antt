@@ -1,5 +1,6 @@
 -- What a new desk is made of.
-use Rattle.std.specs.Prelude.{◌≡◌, ℕ, ◌+◌, ◌<◌, ◌≤◌, List, [], map, length, slice_index_or, All, vec_len, vec_capacity}
+use Rattle.std.specs.Prelude.{◌≡◌, ℕ, ◌+◌, ◌<◌, ◌≤◌, List, [], map, length, slice_index_or, All}
+use Rattle.std.specs.Prelude.{vec_len, vec_capacity}
 use Rattle.std.specs.declared.vec.Vec.{Vec}
 use Rattle.atomic_table.specs.Seated.{TableId}
 use Rattle.publication_list.specs.Calls.{PlaceSeen, WalkerSeen}
@@ -17,13 +18,17 @@ use Rattle.publication.specs.Handles.{IsRoom, fresh_places}
 module _ {S O R : Type 0} where
   -- slot x is the core of object x, with the walker of its list
   abbrev pub AreCores : List S → List TableId → List (Slot S O R) → Type 0
-  AreCores objects lists slots = (x : ℕ) (o : S) → get_elem? objects x ≡ some o → (k : Core S O R) × (get_elem? slots x ≡ some (slot.Core k)) × (k.object ≡ o) × (k.log.items ≡ []) × (get_elem? lists x ≡ some k.list.roster)
+  AreCores objects lists slots =
+      (x : ℕ) (o : S) → get_elem? objects x ≡ some o
+      → (k : Core S O R) × (get_elem? slots x ≡ some (slot.Core k)) × (k.object ≡ o)
+      × (k.log.items ≡ []) × (get_elem? lists x ≡ some k.list.roster)
 
   -- and behind the objects there is nothing
-  pub record IsLaid (objects : List S) (lists : List TableId) (slots : List (Slot S O R)) : Type 0 where
-    pub long : length slots ≡ 80
-    pub cores : AreCores objects lists slots
-    pub others : (i : ℕ) → length objects ≤ i → i < 80 → get_elem? slots i ≡ some slot.Nothing
+  pub record IsLaid (objects : List S) (lists : List TableId) (slots : List (Slot S O R)) : Type 0
+    where
+      pub long : length slots ≡ 80
+      pub cores : AreCores objects lists slots
+      pub others : (i : ℕ) → length objects ≤ i → i < 80 → get_elem? slots i ≡ some slot.Nothing
 
 -- which roster each of these walkers walks
 abbrev pub rosters_of : List WalkerSeen → List TableId
@@ -47,10 +52,15 @@ HasRoom quota j = IsRoom (quota + quota) j.events
 abbrev pub IsSmall : Plan → Type 0
 IsSmall plan = (length plan.kinds.items < 17) × (plan.clients < 33) × (plan.quota < 10001)
 
--- the owner of the row c has a place of its row in each of these lists, at which nothing was tried, and room for 16
+-- the owner of the row c has a place of its row in each of these lists, at which nothing was tried,
+-- and room for 16
 abbrev pub HasPlaces : {Z : Type 0} → ℕ → List TableId → Vec PlaceSeen Z → Type 0
-HasPlaces c lists v = (v.items ≡ fresh_places c lists) × (vec_len v ≡ length lists) × (vec_capacity v ≡ 16)
+HasPlaces c lists v =
+    (v.items ≡ fresh_places c lists) × (vec_len v ≡ length lists) × (vec_capacity v ≡ 16)
 
 -- each of n owners has, of whose rows this is the first
 abbrev pub AreDealt : {Z : Type 0} → ℕ → ℕ → List TableId → List (Vec PlaceSeen Z) → Type 0
-AreDealt {Z} first n lists owners = (length owners ≡ n) × ((i : ℕ) (d : Vec PlaceSeen Z) → i < n → HasPlaces (first + i) lists (slice_index_or owners i d))
+AreDealt {Z} first n lists owners =
+    (length owners ≡ n)
+    × ((i : ℕ) (d : Vec PlaceSeen Z) → i < n
+    → HasPlaces (first + i) lists (slice_index_or owners i d))

@@ -63,8 +63,10 @@ impl<S: SeqObject> Member<S> {
         ensures calls { self.new.calls ≡ self.old.calls + 1 }
         ensures events { self.new.journal.events.items ≡ self.old.journal.events.items
             ++ Invoked asked.ticket asked.object asked.op ∷ Returned ticket answer ∷ [] }
-        ensures capacity { vec_capacity self.new.journal.events ≡ vec_capacity self.old.journal.events }
-        ensures same { self.new ≡ record self.old { calls = self.new.calls; journal = self.new.journal } }
+        ensures capacity { vec_capacity self.new.journal.events
+            ≡ vec_capacity self.old.journal.events }
+        ensures same { self.new
+            ≡ record self.old { calls = self.new.calls; journal = self.new.journal } }
     {
         let Request {
             object,
@@ -94,9 +96,20 @@ impl<S: SeqObject> Model for Client<S> {
 
     ghost Value = { Known };
 
-    ghost view = { λ c. record { desk = record { table = c.member.seat.table_id; quota = c.member.quota; kinds = c.member.seat.me.0.kinds; lists = map (λ q. q.roster) c.member.places }; knows = c.member.seat.me.0; places = c.member.places } };
+    ghost view = { λ c. record {
+      desk = record {
+        table = c.member.seat.table_id;
+        quota = c.member.quota;
+        kinds = c.member.seat.me.0.kinds;
+        lists = map (λ q. q.roster) c.member.places;
+      };
+      knows = c.member.seat.me.0;
+      places = c.member.places;
+    } };
 
-    ghost invariant = { λ c. IsClient S.op_in S.reply_in c.member.number c.member.calls c.member.quota c.member.outstanding c.member.journal c.member.seat.me × ArePlacesOf c.member.number c.member.seat.me.0.lists c.member.places };
+    ghost invariant = { λ c. IsClient S.op_in S.reply_in c.member.number c.member.calls
+        c.member.quota c.member.outstanding c.member.journal c.member.seat.me
+        × ArePlacesOf c.member.number c.member.seat.me.0.lists c.member.places };
 }
 
 /// A combiner: a client that holds an object, from `win` to `release`. It must be spent.
@@ -112,9 +125,22 @@ impl<S: SeqObject> Model for Pass<S> {
 
     ghost Value = { Holding };
 
-    ghost view = { λ p. record { desk = record { table = p.member.seat.table_id; quota = p.member.quota; kinds = p.member.seat.me.0.kinds; lists = map (λ q. q.roster) p.member.places }; knows = p.member.seat.me.0; object = p.object; log = log_of S.op_in S.reply_in p.core; state = state_of p.core p.member.places } };
+    ghost view = { λ p. record {
+      desk = record {
+        table = p.member.seat.table_id;
+        quota = p.member.quota;
+        kinds = p.member.seat.me.0.kinds;
+        lists = map (λ q. q.roster) p.member.places;
+      };
+      knows = p.member.seat.me.0;
+      object = p.object;
+      log = log_of S.op_in S.reply_in p.core;
+      state = state_of p.core p.member.places;
+    } };
 
-    ghost invariant = { λ p. IsPass S.content S.op_in S.reply_in p.member.number p.member.calls p.member.quota p.member.outstanding p.member.journal p.object p.core p.member.seat.me × ArePlacesOf p.member.number p.member.seat.me.0.lists p.member.places };
+    ghost invariant = { λ p. IsPass S.content S.op_in S.reply_in p.member.number p.member.calls
+        p.member.quota p.member.outstanding p.member.journal p.object p.core p.member.seat.me
+        × ArePlacesOf p.member.number p.member.seat.me.0.lists p.member.places };
 }
 
 /// A combiner with the request of one row, which it must answer or put back. It must be spent.
@@ -133,9 +159,25 @@ impl<S: SeqObject> Model for Hand<S> {
 
     ghost Value = { Handling };
 
-    ghost view = { λ p. record { desk = record { table = p.member.seat.table_id; quota = p.member.quota; kinds = p.member.seat.me.0.kinds; lists = map (λ q. q.roster) p.member.places }; knows = p.member.seat.me.0; object = p.object; log = log_of S.op_in S.reply_in p.core; state = state_of p.core p.member.places; row = p.row; request = request_in S.op_in p.request } };
+    ghost view = { λ p. record {
+      desk = record {
+        table = p.member.seat.table_id;
+        quota = p.member.quota;
+        kinds = p.member.seat.me.0.kinds;
+        lists = map (λ q. q.roster) p.member.places;
+      };
+      knows = p.member.seat.me.0;
+      object = p.object;
+      log = log_of S.op_in S.reply_in p.core;
+      state = state_of p.core p.member.places;
+      row = p.row;
+      request = request_in S.op_in p.request;
+    } };
 
-    ghost invariant = { λ p. IsHand S.content S.op_in S.reply_in p.member.number p.member.calls p.member.quota p.member.outstanding p.member.journal p.object p.core p.row p.request p.member.seat.me × ArePlacesOf p.member.number p.member.seat.me.0.lists p.member.places };
+    ghost invariant = { λ p. IsHand S.content S.op_in S.reply_in p.member.number p.member.calls
+        p.member.quota p.member.outstanding p.member.journal p.object p.core p.row p.request
+        p.member.seat.me
+        × ArePlacesOf p.member.number p.member.seat.me.0.lists p.member.places };
 }
 
 impl<S: SeqObject> Client<S> {
@@ -149,13 +191,14 @@ impl<S: SeqObject> Client<S> {
         self.member.number
     }
 
-    /// Whether a call was posted whose answer was not taken. Its clauses say at any moment what the client knows of each
-    /// object: a legal log, with just those of its own calls that are over and were not refused, each once and in order, and the
-    /// outstanding one at most once.
+    /// Whether a call was posted whose answer was not taken. Its clauses say at any moment what the
+    /// client knows of each object: a legal log, with just those of its own calls that are over and
+    /// were not refused, each once and in order, and the outstanding one at most once.
     pub fn outstanding(&self) -> bool
         ensures outstanding { result ≡ is_waiting self.now.knows.own }
         // At every moment, what the client has seen of an object is a legal log.
-        ensures legal { (x : ℕ) → IsLegal (kind_at self.now.desk.kinds x) (seen_of self.now.knows x) }
+        ensures legal { (x : ℕ)
+            → IsLegal (kind_at self.now.desk.kinds x) (seen_of self.now.knows x) }
         // And it holds of its own calls just those that are over and
         // were not refused, each once and in order, and the outstanding one at most once.
         ensures accounts { (x : ℕ) → IsAccount x self.now.knows (seen_of self.now.knows x) }

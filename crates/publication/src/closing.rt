@@ -45,12 +45,13 @@ pub struct Unretired<S: SeqObject> {
 }
 
 impl<S: SeqObject> Desk<S> {
-    /// Ends a client, and leaves its journal with the desk. A call that is outstanding may still be answered; the journal
-    /// has its invocation, and no return. `close` names no client of whose end the last one was told, and its record has
-    /// the journal that was told of.
+    /// Ends a client, and leaves its journal with the desk. A call that is outstanding may still be
+    /// answered; the journal has its invocation, and no return. `close` names no client of whose
+    /// end the last one was told, and its record has the journal that was told of.
     pub fn retire(&self, client: Client<S>) -> Retired<S>
         requires { client.desk ≡ self.now.id }
-        ensures { result ≡ record { table = client.desk.table; left = end_notice client.knows ∷ [] } }
+        ensures { result
+            ≡ record { table = client.desk.table; left = end_notice client.knows ∷ [] } }
     {
         let Client { member } = client;
         let Member {
@@ -69,12 +70,13 @@ impl<S: SeqObject> Desk<S> {
         }
     }
 
-    /// Tells a client that another has retired, with its journal: `close` by that client then never names it, and records just this
-    /// journal for it.
+    /// Tells a client that another has retired, with its journal: `close` by that client then never
+    /// names it, and records just this journal for it.
     pub fn tell(&self, client: &mut Client<S>, retired: Retired<S>)
         requires client { client.old.desk ≡ self.now.id }
         requires retired { retired.table ≡ self.now.id.table }
-        ensures { client.new ≡ record client.old { knows = after_notice retired.left client.old.knows } }
+        ensures { client.new
+            ≡ record client.old { knows = after_notice retired.left client.old.knows } }
     {
         let Retired { seat } = retired;
         self.table
@@ -82,9 +84,10 @@ impl<S: SeqObject> Desk<S> {
             .join_seat::<TakesNotice>(&mut client.member.seat, seat);
     }
 
-    /// Closes the desk by its last client. Ok: a journal for each client, and a log for each object that is a valid order of the
-    /// calls on it; so the history is linearizable, outstanding calls being pending. Else desk and client come back, with the
-    /// least other client that has not retired.
+    /// Closes the desk by its last client. Ok: a journal for each client, and a log for each object
+    /// that is a valid order of the calls on it; so the history is linearizable, outstanding calls
+    /// being pending. Else desk and client come back, with the least other client that has not
+    /// retired.
     pub fn close(self, mut last: Client<S>) -> Result<Record<S>, Unretired<S>>
         requires { last.desk ≡ self.id }
         ensures closed { IfOk result (Closed S.op_in S.reply_in self last) }
@@ -122,7 +125,8 @@ fn first_unretired<S: SeqObject>(desk: &Desk<S>, last: &mut Client<S>) -> Option
     ensures desk { last.new.desk ≡ last.old.desk }
     ensures places { last.new.places ≡ last.old.places }
     ensures found { IfSome result (λ c. StillThere desk.now last.old c last.new) }
-    ensures all { IfNone result (HaveEnded desk.now.clients last.new × HasLearntEnds last.old last.new) }
+    ensures all { IfNone result
+        (HaveEnded desk.now.clients last.new × HasLearntEnds last.old last.new) }
 {
     let number = last.number();
     for client in 0..desk.clients() {

@@ -21,7 +21,8 @@ use std::marker::Model;
 
 pub(crate) type Board<S, O, R> = Table<Slot<S, O, R>, DeskView, Plan, DeskRule, Global>;
 
-/// Word x is the lock of object x, and slot x its core. This is the row of client 0, and the slot of its call.
+/// Word x is the lock of object x, and slot x its core. This is the row of client 0, and the slot
+/// of its call.
 pub(crate) const ROWS: usize = 16;
 
 /// The end word of client 0, and the slot of its journal.
@@ -59,9 +60,27 @@ impl<S: SeqObject> Model for Desk<S> {
 
     ghost Value = { DeskSeen };
 
-    ghost view = { λ d. record { id = record { table = d.table.shared.table_id; quota = d.quota; kinds = d.kinds.items; lists = d.lists.items }; clients = d.clients } };
+    ghost view = { λ d. record {
+      id = record {
+        table = d.table.shared.table_id;
+        quota = d.quota;
+        kinds = d.kinds.items;
+        lists = d.lists.items;
+      };
+      clients = d.clients;
+    } };
 
-    ghost invariant = { λ d. IsDesk d.table.shared.table_id d.table.shared.key (record { id = record { table = d.table.shared.table_id; quota = d.quota; kinds = d.kinds.items; lists = d.lists.items }; clients = d.clients }) × IsRoom d.clients d.journals × IsRoom (length d.kinds.items) d.logs };
+    ghost invariant = { λ d. IsDesk d.table.shared.table_id d.table.shared.key
+        (record {
+          id = record {
+            table = d.table.shared.table_id;
+            quota = d.quota;
+            kinds = d.kinds.items;
+            lists = d.lists.items;
+          };
+          clients = d.clients;
+        })
+        × IsRoom d.clients d.journals × IsRoom (length d.kinds.items) d.logs };
 }
 
 /// Why a call was not posted.
@@ -142,8 +161,9 @@ impl<S: SeqObject> Desk<S> {
         self.has_kind(object, S::kind_of(op))
     }
 
-    /// Posts a call: its invocation, with its ticket, is the last event of the journal. Where it is refused nothing changes, and
-    /// no ticket is taken. It does not enlist the row. That the ticket is a new one is said by the record of `close`.
+    /// Posts a call: its invocation, with its ticket, is the last event of the journal. Where it is
+    /// refused nothing changes, and no ticket is taken. It does not enlist the row. That the ticket
+    /// is a new one is said by the record of `close`.
     pub fn post(&self, client: &mut Client<S>, object: u32, op: S::Op) -> Result<(), Post>
         requires { client.old.desk ≡ self.now.id }
         ensures desk { client.new.desk ≡ client.old.desk }
@@ -151,7 +171,8 @@ impl<S: SeqObject> Desk<S> {
         ensures may { OnOk result (MayPost client.old) }
         ensures there { OnOk result ((object < length self.now.id.kinds)
             × (kind_of (S.op_in op) ≡ kind_at self.now.id.kinds object)) }
-        ensures posted { IfOk result (λ _. Posted client.old.knows object (S.op_in op) client.new.knows) }
+        ensures posted { IfOk result (λ _. Posted client.old.knows object (S.op_in op)
+            client.new.knows) }
         ensures refused { IfErr result (λ e. (client.new ≡ client.old)
             × PostRefused self.now client.old object (S.op_in op) e) }
     {
@@ -179,9 +200,10 @@ impl<S: SeqObject> Desk<S> {
         Ok(())
     }
 
-    /// Tries the own row once. An answer is taken, and the ticket of the return drawn; the client has then seen a legal log of
-    /// the object that goes on from what it had seen, and has the call where the answer is a reply. Where the client knows
-    /// that its row is answered, it is never None.
+    /// Tries the own row once. An answer is taken, and the ticket of the return drawn; the client
+    /// has then seen a legal log of the object that goes on from what it had seen, and has the call
+    /// where the answer is a reply. Where the client knows that its row is answered, it is never
+    /// None.
     pub fn poll(&self, client: &mut Client<S>) -> Option<Answer<S::Reply>>
         requires { client.old.desk ≡ self.now.id }
         ensures desk { client.new.desk ≡ client.old.desk }
@@ -215,8 +237,8 @@ impl<S: SeqObject> Desk<S> {
         }
     }
 
-    /// Tries once to become the object's combiner. Won: its log is legal, and goes on from what the client had seen. Held: the
-    /// try missed, and nothing was waited for.
+    /// Tries once to become the object's combiner. Won: its log is legal, and goes on from what the
+    /// client had seen. Held: the try missed, and nothing was waited for.
     pub fn win(&self, client: Client<S>, object: u32) -> Win<S>
         requires desk { client.desk ≡ self.now.id }
         requires object { object < length self.now.id.kinds }

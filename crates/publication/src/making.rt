@@ -123,7 +123,8 @@ fn open<S: SeqObject>(
     requires objects { AreEmpty S.content objects.items }
     requires lists { (vec_len lists ≡ 16) × AreWalkersOf plan.now.lists.items lists.items }
     requires plan { (plan.now.kinds.items ≡ kinds_with S.content objects.items) × IsSmall plan.now }
-    ensures { IfOk result (λ r. (r.1.table_id ≡ r.0.shared.table_id) × (r.0.shared.table_id.words ≡ 81)
+    ensures { IfOk result (λ r. (r.1.table_id ≡ r.0.shared.table_id)
+        × (r.0.shared.table_id.words ≡ 81)
         × (r.0.shared.table_id.slots ≡ 80) × (r.0.shared.key ≡ plan.now)
         × (r.1.me ≡ (maker_of plan.now.kinds.items plan.now.lists.items 0, []))) }
 {
@@ -176,7 +177,13 @@ fn make<S: SeqObject>(
               (number + 1),
           [],
         )) }
-    ensures client { result ≡ begun (record { table = table.now.shared.table_id; quota = quota; kinds = table.now.shared.key.kinds.items; lists = table.now.shared.key.lists.items }) number }
+    ensures client { result
+        ≡ begun (record {
+          table = table.now.shared.table_id;
+          quota = quota;
+          kinds = table.now.shared.key.kinds.items;
+          lists = table.now.shared.key.lists.items;
+        }) number }
 {
     let shared = &table.shared;
     let mut seat = shared.split_seat::<Makes>(maker);
@@ -202,16 +209,24 @@ fn make_all<S: SeqObject>(
     made: &mut Vec<Client<S>>,
     quota: u32,
 )
-    requires table { (maker.table_id ≡ table.now.shared.table_id) × (table.now.shared.table_id.words ≡ 81) }
+    requires table { (maker.table_id ≡ table.now.shared.table_id)
+        × (table.now.shared.table_id.words ≡ 81) }
     requires plan { IsSmall table.now.shared.key × (quota ≡ table.now.shared.key.quota) }
     requires maker { maker.me
         ≡ (maker_of table.now.shared.key.kinds.items table.now.shared.key.lists.items 0, []) }
     requires journals { (vec_len journals ≡ table.now.shared.key.clients)
         × All (HasRoom quota) journals.items }
-    requires owners { AreDealt 0 table.now.shared.key.clients table.now.shared.key.lists.items owners.items
+    requires owners { AreDealt 0 table.now.shared.key.clients table.now.shared.key.lists.items
+        owners.items
         × (length table.now.shared.key.lists.items ≡ 16) }
     requires made { IsRoom table.now.shared.key.clients made.old × (vec_len made.old ≡ 0) }
-    ensures { (length made.new.items ≡ table.now.shared.key.clients) × AllBegun (record { table = table.now.shared.table_id; quota = quota; kinds = table.now.shared.key.kinds.items; lists = table.now.shared.key.lists.items }) made.new.items }
+    ensures { (length made.new.items ≡ table.now.shared.key.clients)
+        × AllBegun (record {
+          table = table.now.shared.table_id;
+          quota = quota;
+          kinds = table.now.shared.key.kinds.items;
+          lists = table.now.shared.key.lists.items;
+        }) made.new.items }
 {
     let mut number = 0;
     while let Some(journal) = journals.pop() {
@@ -224,10 +239,11 @@ fn make_all<S: SeqObject>(
 }
 
 impl<S: SeqObject> Desk<S> {
-    /// A desk for these objects, which are empty, and its clients, each of which may make so many calls. It makes room
-    /// for the journals and the record. Logs and objects grow as calls are answered, and there memory may be refused.
-    /// There are 1 to 16 objects and 1 to 32 clients, of at most 10,000 calls each. The clients come in the order of their numbers, and no
-    /// row is in any list.
+    /// A desk for these objects, which are empty, and its clients, each of which may make so many
+    /// calls. It makes room for the journals and the record. Logs and objects grow as calls are
+    /// answered, and there memory may be refused. There are 1 to 16 objects and 1 to 32 clients, of
+    /// at most 10,000 calls each. The clients come in the order of their numbers, and no row is in
+    /// any list.
     pub fn new(
         alloc: Global,
         objects: Vec<S>,
@@ -238,9 +254,11 @@ impl<S: SeqObject> Desk<S> {
             × All (λ o. S.content o ≡ empty (kind_with (S.content o))) objects.items }
         requires clients { (0 < clients) × (clients < 33) }
         requires quota { quota < 10001 }
-        ensures desk { IfOk result (λ r. (r.0.id.kinds ≡ map (λ o. kind_with (S.content o)) objects.items)
+        ensures desk { IfOk result (λ r.
+            (r.0.id.kinds ≡ map (λ o. kind_with (S.content o)) objects.items)
             × (r.0.clients ≡ clients) × (r.0.id.quota ≡ quota)) }
-        ensures clients { IfOk result (λ r. (length r.1.items ≡ clients) × AllBegun r.0.id r.1.items) }
+        ensures clients { IfOk result (λ r. (length r.1.items ≡ clients)
+            × AllBegun r.0.id r.1.items) }
     {
         let kinds = kinds_of(alloc, &objects)?;
         let room = journals(alloc, clients, quota)?;

@@ -26,9 +26,10 @@ impl<S: SeqObject> Pass<S> {
         self.member.number
     }
 
-    /// Tries once to pick up the row's request for this object. Got: it is of the object's kind; if this pass had put one back
-    /// there it is that one, and at the own row it is the own call. Not: there was none, so this pass had put none back there, and
-    /// at the own row an own call on this object is answered. A row past the last client has none.
+    /// Tries once to pick up the row's request for this object. Got: it is of the object's kind; if
+    /// this pass had put one back there it is that one, and at the own row it is the own call. Not:
+    /// there was none, so this pass had put none back there, and at the own row an own call on this
+    /// object is answered. A row past the last client has none.
     pub fn pick(self, desk: &Desk<S>, row: u32) -> Picked<S>
         requires desk { self.desk ≡ desk.now.id }
         requires row { row < 32 }
@@ -72,9 +73,11 @@ impl<S: SeqObject> Pass<S> {
         }
     }
 
-    /// Counts a pass, and gives its number, which stays at 2^64 - 1 once it is there. `set_age` gives it to rows.
+    /// Counts a pass, and gives its number, which stays at 2^64 - 1 once it is there. `set_age`
+    /// gives it to rows.
     pub fn count_pass(&mut self) -> u64
-        ensures counted { self.new ≡ record self.old { state = record self.old.state { passes = result } } }
+        ensures counted { self.new
+            ≡ record self.old { state = record self.old.state { passes = result } } }
         ensures raised { result ≡ min (self.old.state.passes + 1) (2 ^ 64 - 1) }
     {
         let passes = self.core.inside.passes.saturating_add(1);
@@ -90,9 +93,9 @@ impl<S: SeqObject> Pass<S> {
         can_do(&self.core, op)
     }
 
-    /// Makes a call of the client's own, and answers it: no request goes through the client's row. It draws the ticket of the
-    /// invocation, does the operation, logs it, and draws the ticket of the return. Where memory is refused the answer is
-    /// Refused, and nothing is done or logged.
+    /// Makes a call of the client's own, and answers it: no request goes through the client's row.
+    /// It draws the ticket of the invocation, does the operation, logs it, and draws the ticket of
+    /// the return. Where memory is refused the answer is Refused, and nothing is done or logged.
     pub fn perform(&mut self, desk: &Desk<S>, op: S::Op) -> Answer<S::Reply>
         requires desk { self.old.desk ≡ desk.now.id }
         requires may { HasCallLeft self.old.desk self.old.knows }
@@ -130,7 +133,8 @@ impl<S: SeqObject> Pass<S> {
         answer
     }
 
-    /// Puts the object back, so that another may win it. The client has seen the log as it then stood.
+    /// Puts the object back, so that another may win it. The client has seen the log as it then
+    /// stood.
     pub fn release(self, desk: &Desk<S>) -> Client<S>
         requires { self.desk ≡ desk.now.id }
         ensures desk { result.desk ≡ self.desk }
@@ -167,8 +171,8 @@ impl<S: SeqObject> Hand<S> {
         can_do(&self.core, &self.request.op)
     }
 
-    /// Does the operation, logs it, and answers the request. Where memory is refused it answers Refused, and nothing is
-    /// done or logged.
+    /// Does the operation, logs it, and answers the request. Where memory is refused it answers
+    /// Refused, and nothing is done or logged.
     pub fn answer(self, desk: &Desk<S>) -> (Pass<S>, Answer<S::Reply>)
         requires desk { self.desk ≡ desk.now.id }
         requires possible { CanDo (kind_held self) self.log self.request.op }

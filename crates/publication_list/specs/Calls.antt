@@ -30,4 +30,5 @@ pub record WalkerSeen : Type 0 where
 -- a place for each of n rows, in rising order, at which nothing was tried
 abbrev pub ArePlaces : TableId → ℕ → List PlaceSeen → Type 0
 ArePlaces id n places =
-    (length places ≡ n) × ((k : ℕ) → k < n → get_elem? places k ≡ some (record { roster = id; row = k; tries = [] }))
+    (length places ≡ n)
+    × ((k : ℕ) → k < n → get_elem? places k ≡ some (record { roster = id; row = k; tries = [] }))

@@ -1,5 +1,6 @@
 -- What holds of the fields of a place and of a walker, and in the middle of a walk.
-use Rattle.std.specs.Prelude.{◌≡◌, ℕ, ◌<◌, ◌≤◌, Bool, true, false, List, [], ◌∷◌, ◌++◌, length, slice_index, take, None, vec_capacity}
+use Rattle.std.specs.Prelude.{◌≡◌, ℕ, ◌<◌, ◌≤◌, Bool, true, false, List, [], ◌∷◌, ◌++◌, length}
+use Rattle.std.specs.Prelude.{slice_index, take, None, vec_capacity}
 use Rattle.std.specs.declared.vec.Vec.{Vec}
 use Rattle.atomic_table.specs.Table.{Me}
 use Rattle.publication_list.specs.declared.board.Enlist.{Enlist}
@@ -21,7 +22,8 @@ OwnAtRest false o = o ≡ own.Unknown
 OwnAtRest true o = (n : ℕ) × (o ≡ own.Awake n)
 
 abbrev pub IsPlace : {S : Type 0} → ℕ → Bool → List Enlist → Me S ListView → Type 0
-IsPlace row trying tries me = (row < 32) × ((o : RowKnowledge) × (me ≡ (view.Place row o tries, [])) × OwnAtRest trying o)
+IsPlace row trying tries me =
+    (row < 32) × ((o : RowKnowledge) × (me ≡ (view.Place row o tries, [])) × OwnAtRest trying o)
 
 -- where the row was not asleep, the try is over
 abbrev pub after_look : Bool → List Enlist → List Enlist
@@ -51,7 +53,8 @@ abbrev pub HasMet : {S : Type 0} → List ℕ → List (List ℕ) → Me S ListV
 HasMet rows walks me = me ≡ (view.Walker (made_of me.0) rows None walks, [])
 
 -- In a walk these rows were met so far, where the last one left `left`, and the word `at` leads on.
-pub record Meeting {S : Type 0} (left : List ℕ) (walks : List (List ℕ)) (places : ℕ) (rows : List ℕ) (at : ℕ) (me : Me S ListView) : Type 0 where
+pub record Meeting {S : Type 0} (left : List ℕ) (walks : List (List ℕ)) (places : ℕ) (rows : List ℕ)
+    (at : ℕ) (me : Me S ListView) : Type 0 where
   pub met : HasMet (left_of me.0) (walks ++ left_of me.0 ∷ []) me
   pub made : made_of me.0 ≡ places
   pub walk : WalkMeets left (left_of me.0)
@@ -61,7 +64,8 @@ pub record Meeting {S : Type 0} (left : List ℕ) (walks : List (List ℕ)) (pla
   pub within : length rows ≤ length (left_of me.0)
   pub at_is : at ≡ word_at (left_of me.0) (length rows)
 
-pub record IsWalker {S Z : Type 0} (places : ℕ) (rows : Vec ℕ Z) (walks : List (List ℕ)) (me : Me S ListView) : Type 0 where
+pub record IsWalker {S Z : Type 0} (places : ℕ) (rows : Vec ℕ Z) (walks : List (List ℕ))
+    (me : Me S ListView) : Type 0 where
   pub within : length rows.items ≤ places
   pub met : me ≡ (view.Walker places rows.items None walks, [])
   pub few : places ≤ 32

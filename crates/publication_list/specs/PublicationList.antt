@@ -1,5 +1,7 @@
--- The publication list of one object: which rows are listed, from the head on, and how each other row stands.
--- After Hendler, Incze, Shavit, Tzafrir, "Flat Combining and the Synchronization-Parallelism Tradeoff", SPAA 2010, section 2.
+-- The publication list of one object: which rows are listed, from the head on, and how each other
+-- row stands.
+-- After Hendler, Incze, Shavit, Tzafrir, "Flat Combining and the Synchronization-Parallelism
+-- Tradeoff", SPAA 2010, section 2.
 use Rattle.std.specs.Prelude.{◌≡◌, ℕ, zero, suc, ◌+◌, ◌<◌, List, [], ◌∷◌, ◌++◌, length, slice_index}
 
 -- how a row stands
@@ -24,7 +26,8 @@ empty_list = record { made = 0; rows = []; stage = λ r. asleep }
 
 -- no row stands twice
 abbrev pub IsDistinct : List ℕ → Type 0
-IsDistinct rows = (i j : ℕ) → i < length rows → j < length rows → slice_index rows i ≡ slice_index rows j → i ≡ j
+IsDistinct rows =
+    (i j : ℕ) → i < length rows → j < length rows → slice_index rows i ≡ slice_index rows j → i ≡ j
 
 -- the word that leads to the place k of the list: 1 and its row, and 0 past the end
 abbrev pub word_at : List ℕ → ℕ → ℕ
@@ -37,7 +40,7 @@ abbrev pub mark_of : Stage → ℕ
 mark_of asleep = 0
 mark_of t = 1
 
--- What a walk meets, where the last combiner left these rows: newcomers, distinct and not among those left, followed by
--- those left, in their order.
+-- What a walk meets, where the last combiner left these rows: newcomers, distinct and not among
+-- those left, followed by those left, in their order.
 abbrev pub WalkMeets : List ℕ → List ℕ → Type 0
 WalkMeets left met = (newcomers : List ℕ) × (met ≡ newcomers ++ left) × IsDistinct met

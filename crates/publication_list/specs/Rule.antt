@@ -1,6 +1,8 @@
--- The rule of a roster's table: its words, and what each seat knows, are those of a sound publication list.
+-- The rule of a roster's table: its words, and what each seat knows, are those of a sound
+-- publication list.
 -- Word 0 is the head; word 1 + r is the next word of row r, and word 33 + r its mark.
-use Rattle.std.specs.Prelude.{◌≡◌, ◌≢◌, ◌⊎◌, ℕ, suc, ◌+◌, ◌<◌, ◌≤◌, List, ◌++◌, length, slice_index, Option, Some, None}
+use Rattle.std.specs.Prelude.{◌≡◌, ◌≢◌, ◌⊎◌, ℕ, suc, ◌+◌, ◌<◌, ◌≤◌, List, ◌++◌, length, slice_index}
+use Rattle.std.specs.Prelude.{Option, Some, None}
 use mathlib.Core.Option.{some}
 use lib.ListN.{get_elem?}
 use Rattle.atomic_table.specs.Table.{State}
@@ -8,7 +10,8 @@ use Rattle.publication_list.specs.declared.board.RowKnowledge.{RowKnowledge}
 use Rattle.publication_list.specs.declared.board.RowKnowledge.TheVariants as own
 use Rattle.publication_list.specs.declared.board.ListView.{ListView}
 use Rattle.publication_list.specs.declared.board.ListView.TheVariants as view
-use Rattle.publication_list.specs.PublicationList.{Stage, asleep, awake, listed, unlinked, PublicationList, IsDistinct, word_at, mark_of}
+use Rattle.publication_list.specs.PublicationList.{Stage, asleep, awake, listed, unlinked}
+use Rattle.publication_list.specs.PublicationList.{PublicationList, IsDistinct, word_at, mark_of}
 
 -- what the owner of a row knows of it
 abbrev pub OwnOk : RowKnowledge → Stage → Type 0
@@ -19,13 +22,15 @@ OwnOk (own.Awake n) t = t ≡ awake n
 -- the one row that the walker has taken out and has not marked inactive yet, or there is none
 abbrev pub TakenOutOk : PublicationList → Option ℕ → Type 0
 TakenOutOk l None = (q : ℕ) → l.stage q ≢ unlinked
-TakenOutOk l (Some r) = (r < l.made) × (l.stage r ≡ unlinked) × ((q : ℕ) → l.stage q ≡ unlinked → q ≡ r)
+TakenOutOk l (Some r) =
+    (r < l.made) × (l.stage r ≡ unlinked) × ((q : ℕ) → l.stage q ≡ unlinked → q ≡ r)
 
--- What the seat with this number knows: the walker's is the first, and that of row c the one after c others. The list
--- ends with what the walker has left. Of tries and walks nothing is said.
+-- What the seat with this number knows: the walker's is the first, and that of row c the one after
+-- c others. The list ends with what the walker has left. Of tries and walks nothing is said.
 abbrev pub ViewOk : PublicationList → ℕ → ListView → Type 0
 ViewOk l seat (view.Walker made left out walks) =
-    (seat ≡ 0) × (made ≡ l.made) × ((newcomers : List ℕ) × (l.rows ≡ newcomers ++ left)) × TakenOutOk l out
+    (seat ≡ 0) × (made ≡ l.made) × ((newcomers : List ℕ) × (l.rows ≡ newcomers ++ left))
+    × TakenOutOk l out
 ViewOk l seat (view.Place c o tries) = (seat ≡ 1 + c) × (c < l.made) × OwnOk o (l.stage c)
 
 -- what holds of the list itself
@@ -34,14 +39,16 @@ pub record Sound (l : PublicationList) : Type 0 where
   pub low : (k : ℕ) → k < length l.rows → slice_index l.rows k < l.made
   pub distinct : IsDistinct l.rows
   -- a row stands in the list where its stage says so, and no other does
-  pub stands : (r : ℕ) → l.stage r ≡ listed → (k : ℕ) × (k < length l.rows) × (slice_index l.rows k ≡ r)
+  pub stands : (r : ℕ) → l.stage r ≡ listed
+      → (k : ℕ) × (k < length l.rows) × (slice_index l.rows k ≡ r)
   pub listed : (k : ℕ) → k < length l.rows → l.stage (slice_index l.rows k) ≡ listed
 
 -- what the words have to do with the list
 pub record Tied (l : PublicationList) (words : List ℕ) : Type 0 where
   pub wide : length words ≡ 65
   pub head : slice_index words 0 ≡ word_at l.rows 0
-  pub nexts : (k : ℕ) → k < length l.rows → slice_index words (1 + slice_index l.rows k) ≡ word_at l.rows (suc k)
+  pub nexts : (k : ℕ) → k < length l.rows
+      → slice_index words (1 + slice_index l.rows k) ≡ word_at l.rows (suc k)
   pub links : (r n : ℕ) → r < 32 → l.stage r ≡ awake n → slice_index words (1 + r) ≡ n
   pub marks : (r : ℕ) → r < 32 → slice_index words (33 + r) ≡ mark_of (l.stage r)
 

@@ -34,8 +34,8 @@ pub enum RowKnowledge {
 
 /// What a seat knows. No value of it is made.
 pub enum ListView {
-    /// How many places were made; the rows of the last walk, less those unlinked since; a row that was taken out and is
-    /// not marked inactive yet; and the list as each walk found it.
+    /// How many places were made; the rows of the last walk, less those unlinked since; a row that
+    /// was taken out and is not marked inactive yet; and the list as each walk found it.
     Walker {
         made: u32,
         left: LinkedList<u32>,

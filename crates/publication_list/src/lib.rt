@@ -1,7 +1,8 @@
 //! The publication list of flat combining: which rows a combiner looks at.
 //!
 //! The owner of a row puts it in front of the list. A combiner walks the list, and takes rows out.
-//! Hendler, Incze, Shavit, Tzafrir, "Flat Combining and the Synchronization-Parallelism Tradeoff", SPAA 2010.
+//! Hendler, Incze, Shavit, Tzafrir, "Flat Combining and the Synchronization-Parallelism Tradeoff",
+//! SPAA 2010.
 #![tactic(auto)]
 
 mod board;

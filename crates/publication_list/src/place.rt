@@ -22,7 +22,8 @@ impl Model for Place {
 
     ghost Value = { PlaceSeen };
 
-    ghost view = { λ p. record { roster = p.seat.table_id; row = p.row; tries = tries_of p.seat.me.0 } };
+    ghost view = { λ p. record
+        { roster = p.seat.table_id; row = p.row; tries = tries_of p.seat.me.0 } };
 
     ghost invariant = { λ p. IsPlace p.row p.trying (tries_of p.seat.me.0) p.seat.me };
 }
@@ -47,7 +48,8 @@ pub(crate) fn list(shared: &Words, seat: &mut Chair, row: u32) -> Enlist
     requires table { (seat.old.table_id ≡ shared.now.table_id) × (shared.now.table_id.words ≡ 65) }
     requires seat { IsPlace row true (tries_of seat.old.me.0) seat.old.me }
     ensures table { seat.new.table_id ≡ seat.old.table_id }
-    ensures seat { IsPlace row (is_missed result) (tries_of seat.old.me.0 ++ result ∷ []) seat.new.me }
+    ensures seat { IsPlace row (is_missed result) (tries_of seat.old.me.0 ++ result ∷ [])
+        seat.new.me }
 {
     let first = shared.load::<Sees>(seat, HEAD);
     shared.store::<Links>(seat, NEXTS + row as usize, first);

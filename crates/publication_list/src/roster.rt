@@ -28,7 +28,8 @@ impl Model for Roster {
 
     ghost view = { λ r. record { id = r.table.shared.table_id; rows = r.rows } };
 
-    ghost invariant = { λ r. (r.table.shared.table_id.words ≡ 65) × (r.table.shared.table_id.slots ≡ 0) };
+    ghost invariant = { λ r. (r.table.shared.table_id.words ≡ 65)
+        × (r.table.shared.table_id.slots ≡ 0) };
 }
 
 // The places of the first rows.
@@ -37,7 +38,8 @@ fn make_all(table: &Board, seat: &mut Chair, rows: u32, made: &mut Vec<Place>)
         × (table.now.shared.table_id.words ≡ 65) }
     requires rows { rows < 33 }
     requires seat { seat.old.me ≡ (view.Walker 0 [] None [], []) }
-    requires made { (made.old.items ≡ []) × (vec_len made.old ≡ 0) × (rows ≤ vec_capacity made.old) }
+    requires made { (made.old.items ≡ []) × (vec_len made.old ≡ 0)
+        × (rows ≤ vec_capacity made.old) }
     ensures table { seat.new.table_id ≡ seat.old.table_id }
     ensures seat { seat.new.me ≡ (view.Walker rows [] None [], []) }
     ensures made { ArePlaces seat.old.table_id rows made.new.items }
@@ -53,7 +55,8 @@ fn make_all(table: &Board, seat: &mut Chair, rows: u32, made: &mut Vec<Place>)
 }
 
 impl Roster {
-    /// A roster for so many rows, none of which is listed, with a place for each row, in rising order.
+    /// A roster for so many rows, none of which is listed, with a place for each row, in rising
+    /// order.
     pub fn new(alloc: Global, rows: u32) -> Result<(Roster, Vec<Place>, Walker), AllocError>
         requires { (0 < rows) × (rows < 33) }
         ensures rows { IfOk result (λ r. r.0.rows ≡ rows) }
@@ -74,8 +77,8 @@ impl Roster {
         Ok((Roster { table, rows }, places, walker))
     }
 
-    /// Tries once to put the row in front of the list, where it is not active. A try is an atomic step, or some, and only
-    /// such a step adds one to those of the place.
+    /// Tries once to put the row in front of the list, where it is not active. A try is an atomic
+    /// step, or some, and only such a step adds one to those of the place.
     pub fn enlist(&self, place: &mut Place) -> Enlist
         requires { place.old.roster ≡ self.now.id }
         ensures { place.new ≡ record place.old { tries = place.old.tries ++ result ∷ [] } }
@@ -90,11 +93,13 @@ impl Roster {
         came_to
     }
 
-    /// Walks the list: it meets newcomers, and then the rows that were left, in their order. They are the list as it was
-    /// found by a load of its head, and only such a load adds a walk to those of the walker.
+    /// Walks the list: it meets newcomers, and then the rows that were left, in their order. They
+    /// are the list as it was found by a load of its head, and only such a load adds a walk to
+    /// those of the walker.
     pub fn walk(&self, walker: &mut Walker)
         requires { walker.old.roster ≡ self.now.id }
-        ensures same { (walker.new.roster ≡ walker.old.roster) × (walker.new.places ≡ walker.old.places) }
+        ensures same { (walker.new.roster ≡ walker.old.roster)
+            × (walker.new.places ≡ walker.old.places) }
         ensures met { WalkMeets walker.old.rows walker.new.rows }
         ensures looked { walker.new.walks ≡ walker.old.walks ++ walker.new.rows ∷ [] }
     {

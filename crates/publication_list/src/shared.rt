@@ -75,7 +75,8 @@ impl SharedWalker {
     /// `Walker::rows`.
     pub fn rows(&self) -> &[u32]
         ensures rows { result.now ≡ self.now.rows }
-        ensures places { (k : ℕ) → k < length self.now.rows → slice_index self.now.rows k < self.now.places }
+        ensures places { (k : ℕ) → k < length self.now.rows
+            → slice_index self.now.rows k < self.now.places }
         ensures few { length self.now.rows ≤ self.now.places }
         ensures limit { self.now.places ≤ 32 }
     {
@@ -101,7 +102,8 @@ impl SharedWalker {
 }
 
 impl Roster {
-    /// A roster more, in which each of these owners has the place of its row, which lies behind the places that it has.
+    /// A roster more, in which each of these owners has the place of its row, which lies behind the
+    /// places that it has.
     pub fn deal(
         alloc: Global,
         owners: &mut Vec<Vec<SharedPlace>>,

@@ -22,7 +22,12 @@ impl Model for Walker {
 
     ghost Value = { WalkerSeen };
 
-    ghost view = { λ w. record { roster = w.seat.table_id; places = w.places; rows = w.rows.items; walks = walks_of w.seat.me.0 } };
+    ghost view = { λ w. record {
+      roster = w.seat.table_id;
+      places = w.places;
+      rows = w.rows.items;
+      walks = walks_of w.seat.me.0;
+    } };
 
     ghost invariant = { λ w. IsWalker w.places w.rows (walks_of w.seat.me.0) w.seat.me };
 }
@@ -31,7 +36,8 @@ impl Walker {
     /// The rows that the last walk met, less those unlinked since.
     pub fn rows(&self) -> &[u32]
         ensures rows { result.now ≡ self.now.rows }
-        ensures places { (k : ℕ) → k < length self.now.rows → slice_index self.now.rows k < self.now.places }
+        ensures places { (k : ℕ) → k < length self.now.rows
+            → slice_index self.now.rows k < self.now.places }
         ensures few { length self.now.rows ≤ self.now.places }
         ensures limit { self.now.places ≤ 32 }
     {
@@ -48,7 +54,8 @@ pub(crate) fn meet(shared: &Words, seat: &mut Chair, rows: &mut Vec<u32>)
     ensures seat { HasMet rows.new.items (walks_of seat.old.me.0 ++ rows.new.items ∷ []) seat.new.me }
     ensures made { made_of seat.new.me.0 ≡ made_of seat.old.me.0 }
     ensures met { WalkMeets (left_of seat.old.me.0) rows.new.items }
-    ensures low { (k : ℕ) → k < length rows.new.items → slice_index rows.new.items k < made_of seat.old.me.0 }
+    ensures low { (k : ℕ) → k < length rows.new.items
+        → slice_index rows.new.items k < made_of seat.old.me.0 }
     ensures few { length rows.new.items ≤ made_of seat.old.me.0 }
     ensures room { vec_capacity rows.new ≡ vec_capacity rows.old }
 {

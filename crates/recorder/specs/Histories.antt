@@ -1,6 +1,7 @@
--- The history of a record: its journals as client events, in order of tickets. And what makes journals and logs a
--- record.
-use Rattle.std.specs.Prelude.{◌≡◌, ℕ, ◌<◌, ◌==◌, List, [], ◌∷◌, All, AllPairs, Contains, filter, map, length}
+-- The history of a record: its journals as client events, in order of tickets. And what makes
+-- journals and logs a record.
+use Rattle.std.specs.Prelude.{◌≡◌, ℕ, ◌<◌, ◌==◌, List, [], ◌∷◌, All, AllPairs, Contains, filter}
+use Rattle.std.specs.Prelude.{map, length}
 use Rattle.model.specs.declared.AnyOp.{AnyOp}
 use Rattle.model.specs.declared.AnyReply.{AnyReply}
 use Rattle.desk_model.specs.declared.Answer.TheVariants.{Reply, Refused}
@@ -13,24 +14,27 @@ use Rattle.events.specs.declared.event.Event.{Event}
 use Rattle.events.specs.Events.{IsProper}
 use Rattle.recorder.specs.Records.{Recorded, journal_at, log_at}
 
--- what an answer says of its operation: that it returned this reply, or, where memory was refused, that it did not happen
+-- what an answer says of its operation: that it returned this reply, or, where memory was refused,
+-- that it did not happen
 abbrev pub action_of : AnyAnswer → Action
 action_of (Reply r) = Ok r
 action_of Refused = Fail
 
--- The client events of a journal of the client c, whose last call before was on the object x. A client is a process, and
--- a ticket is a number. A return is on the object of its call.
+-- The client events of a journal of the client c, whose last call before was on the object x. A
+-- client is a process, and a ticket is a number. A return is on the object of its call.
 abbrev pub events_from : ℕ → ℕ → List AnyEvent → List Event
 events_from c x [] = []
-events_from c x (Invoked t y op ∷ es) = record { number = t; process = c; object = y; action = Invoke op } ∷ events_from c y es
-events_from c x (Returned u a ∷ es) = record { number = u; process = c; object = x; action = action_of a } ∷ events_from c x es
+events_from c x (Invoked t y op ∷ es) =
+    record { number = t; process = c; object = y; action = Invoke op } ∷ events_from c y es
+events_from c x (Returned u a ∷ es) =
+    record { number = u; process = c; object = x; action = action_of a } ∷ events_from c x es
 
 -- the client events of a journal. A return before any call counts for object 0; no record has one
 abbrev pub events_of : ℕ → List AnyEvent → List Event
 events_of c journal = events_from c 0 journal
 
--- The client events of the journals, in order of tickets: the numbers rise, and the events of each client are those of
--- its journal.
+-- The client events of the journals, in order of tickets: the numbers rise, and the events of each
+-- client are those of its journal.
 pub record AreEventsOf (journals : ℕ → List AnyEvent) (es : List Event) : Type 0 where
   pub rising : AllPairs (λ a b. a.number < b.number) es
   pub each : (c : ℕ) → filter (λ e. e.process == c) es ≡ events_of c (journals c)
@@ -47,16 +51,17 @@ abbrev pub max_tickets : ℕ
 max_tickets = 640000
 
 -- Journals and the logs of so many objects are a record.
-pub record IsRecord (objects : ℕ) (journals : ℕ → List AnyEvent) (logs : ℕ → List AnyEntry) : Type 0 where
-  -- no ticket stands twice in the journals, and in order of tickets their events are proper
-  pub events : List Event
-  pub are_events : AreEventsOf journals events
-  pub proper : IsProper events
-  -- all tickets are below the greatest number of them
-  pub few : All (λ e. e.number < max_tickets) events
-  pub few_logged : (x : ℕ) → All (λ e. e.ticket < max_tickets) (logs x)
-  -- each object that a journal names has a log
-  pub on_objects : All (λ e. e.object < objects) events
+pub record IsRecord (objects : ℕ) (journals : ℕ → List AnyEvent) (logs : ℕ → List AnyEntry) : Type 0
+  where
+    -- no ticket stands twice in the journals, and in order of tickets their events are proper
+    pub events : List Event
+    pub are_events : AreEventsOf journals events
+    pub proper : IsProper events
+    -- all tickets are below the greatest number of them
+    pub few : All (λ e. e.number < max_tickets) events
+    pub few_logged : (x : ℕ) → All (λ e. e.ticket < max_tickets) (logs x)
+    -- each object that a journal names has a log
+    pub on_objects : All (λ e. e.object < objects) events
 
 module _ {O R : Type 0} (op_in : O → AnyOp) (reply_in : R → AnyReply) (r : Recorded O R) where
   -- the journals and the logs, of operations and replies of all kinds

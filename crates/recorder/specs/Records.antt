@@ -12,7 +12,8 @@ pub record Recorded (O R : Type 0) : Type 0 where
 abbrev pub items_of : {A Z : Type 0} → List (Vec A Z) → List (List A)
 items_of vs = map (λ v. v.items) vs
 
-abbrev pub recorded : {O R Y Z : Type 0} → List (Vec (JournalEvent O R) Y) → List (Vec (LogEntry O R) Z) → Recorded O R
+abbrev pub recorded : {O R Y Z : Type 0} → List (Vec (JournalEvent O R) Y)
+    → List (Vec (LogEntry O R) Z) → Recorded O R
 recorded journals logs = record { journals = items_of journals; logs = items_of logs }
 
 module _ {O R : Type 0} where

@@ -13,8 +13,11 @@ pub fn one_history()
         AreEventsOf journals fs → es ≡ fs }
 {}
 
-/// The journals and logs of a sound record are a record, where no client makes more than 10,000 calls.
+/// The journals and logs of a sound record are a record, where no client makes more than 10,000
+/// calls.
 pub fn sound_record_is_a_record()
-    ensures { (kinds : List Kind) (quota : ℕ) (journals : ℕ → List AnyEvent) (logs : ℕ → List AnyEntry) →
+    ensures { (kinds : List Kind) (quota : ℕ) (journals : ℕ → List AnyEvent)
+        (logs : ℕ → List AnyEntry)
+        →
         IsSoundRecord kinds quota journals logs → quota < 10001 → IsRecord (length kinds) journals logs }
 {}

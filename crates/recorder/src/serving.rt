@@ -8,9 +8,11 @@ ghost use Rattle.desk_model.specs.Images.{request_in, answer_in, entry_in};
 use desk_model::{Answer, LogEntry, Request};
 use seq_objects::SeqObject;
 
-/// Does the operation of a request, which the object can do, and logs it for the client of this row. Refused where memory was: then
-/// nothing is done and nothing logged. An entry for which there is room takes no memory.
-// The answer is to go on in registers: read as a whole word too soon after it was written in pieces, it would be waited for.
+/// Does the operation of a request, which the object can do, and logs it for the client of this
+/// row. Refused where memory was: then nothing is done and nothing logged. An entry for which there
+/// is room takes no memory.
+// The answer is to go on in registers: read as a whole word too soon after it was written in
+// pieces, it would be waited for.
 #[inline(always)]
 pub fn serve<S: SeqObject>(
     object: &mut S,

@@ -32,8 +32,9 @@ fn refute_among(
     Ok(Refutation::OtherObject)
 }
 
-/// The answers to reasons, one to each and in their order, each on the object with the reason's number, within this limit of
-/// steps of a search. A reason of an object that the history does not name is answered by `OtherObject`.
+/// The answers to reasons, one to each and in their order, each on the object with the reason's
+/// number, within this limit of steps of a search. A reason of an object that the history does not
+/// name is answered by `OtherObject`.
 ///
 /// An error: the allocator refused memory.
 pub fn refute_all(
@@ -47,8 +48,8 @@ pub fn refute_all(
     ensures impossible { IfOk result (λ v. Any (λ r. is_impossible r ≡ true) v.items
         → IsLinearizable (kind_at history.now) (events (denoted history.now)) → ⊥) }
 {
-    // These two do nothing. The first says that the events denote a well-formed history, the second that each object
-    // of a linearizable one has a valid order.
+    // These two do nothing. The first says that the events denote a well-formed history, the second
+    // that each object of a linearizable one has a valid order.
     history.events();
     linearizable_has_orders();
     let objects = split(alloc, history)?;

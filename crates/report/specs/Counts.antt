@@ -1,5 +1,6 @@
 -- What a history has, in all and of each kind.
-use Rattle.std.specs.Prelude.{ℕ, ◌==◌, Bool, List, [], ◌∷◌, ◌++◌, length, map, filter, fold, nat_eq, Option, Some, None, if◌then◌else◌}
+use Rattle.std.specs.Prelude.{ℕ, ◌==◌, Bool, List, [], ◌∷◌, ◌++◌, length, map, filter, fold, nat_eq}
+use Rattle.std.specs.Prelude.{Option, Some, None, if◌then◌else◌}
 use Rattle.std.specs.List.{list_any, filter_map}
 use Rattle.model.specs.declared.Kind.{Kind}
 use Rattle.model.specs.declared.Kind.TheVariants.{Queue, Stack, Heap, Register, Map, Mutex}
@@ -66,4 +67,6 @@ abbrev pub objects_of : Kind → List Event → List ℕ
 objects_of k es = objects_in (filter (λ u. same_kind k u.kind) (uses es))
 
 abbrev pub count_of : List Event → Kind → KindCount
-count_of es k = record { kind = k; objects = length (objects_of k es); operations = length (operations_of k es) }
+count_of es k =
+    record
+    { kind = k; objects = length (objects_of k es); operations = length (operations_of k es) }

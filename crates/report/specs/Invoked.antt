@@ -1,5 +1,6 @@
 -- The invocations as they are counted. No public clause speaks of it.
-use Rattle.std.specs.Prelude.{◌≡◌, ℕ, Bool, true, List, [], ◌∷◌, ◌++◌, map, filter, length, Option, Some, None, nat_eq, not, ◌&&◌}
+use Rattle.std.specs.Prelude.{◌≡◌, ℕ, Bool, true, List, [], ◌∷◌, ◌++◌, map, filter, length, Option}
+use Rattle.std.specs.Prelude.{Some, None, nat_eq, not, ◌&&◌}
 use Rattle.std.specs.List.{list_any}
 use Rattle.model.specs.declared.Kind.{Kind}
 use Rattle.model.specs.Objects.{kind_of}
@@ -20,7 +21,8 @@ invoked_by x Info failed = []
 
 abbrev pub invoked : List Event → List Invoked
 invoked [] = []
-invoked (e ∷ later) = invoked_by e.object e.action (fails (next_event e.process later)) ++ invoked later
+invoked (e ∷ later) =
+    invoked_by e.object e.action (fails (next_event e.process later)) ++ invoked later
 
 -- of this kind, or of any
 abbrev pub is_of : Option Kind → Invoked → Bool
@@ -34,7 +36,9 @@ abbrev pub named : Option Kind → List Invoked → List ℕ
 named k xs = first_seen nat_eq (map (λ i. i.object) (filter (is_of k) xs))
 
 abbrev pub count_in : List Invoked → Kind → KindCount
-count_in xs k = record { kind = k; objects = length (named (Some k) xs); operations = operation_count (Some k) xs }
+count_in xs k =
+    record
+    { kind = k; objects = length (named (Some k) xs); operations = operation_count (Some k) xs }
 
 -- these are the objects that were seen, as a set, and so many
 pub record AreSeen (among : ℕ → Bool) (size : ℕ) (seen : List ℕ) : Type 0 where

@@ -5,7 +5,9 @@ use Rattle.edn.specs.Faults.{text_of_kind}
 use Rattle.history.specs.Faults as history
 use Rattle.certificate.specs.Faults as certificate
 use Rattle.checker.specs.declared.refusal.OrderFault.{OrderFault}
-use Rattle.checker.specs.declared.refusal.OrderFault.TheVariants.{UnknownOperation, Repeated, TooLate, NotPossible, WrongReply, Omitted}
+use Rattle.checker.specs.declared.refusal.OrderFault.TheVariants.{UnknownOperation, Repeated}
+use Rattle.checker.specs.declared.refusal.OrderFault.TheVariants.{TooLate, NotPossible, WrongReply}
+use Rattle.checker.specs.declared.refusal.OrderFault.TheVariants.{Omitted}
 use Rattle.checker.specs.declared.refusal.Refusal.{Refusal}
 use Rattle.checker.specs.declared.refusal.Refusal.TheVariants as refusal
 use Rattle.seq_objects.specs.Functions.{word_of}
@@ -15,7 +17,8 @@ use Rattle.seq_objects.specs.declared.value.Value.TheVariants.{Nil, False, Int, 
 use Rattle.report.specs.declared.verdict.KindCount.{KindCount}
 use Rattle.report.specs.declared.verdict.Summary.{Summary}
 use Rattle.report.specs.declared.verdict.Fault.{Fault}
-use Rattle.report.specs.declared.verdict.Fault.TheVariants.{HistoryText, HistoryMaps, CertificateText, CertificateForms}
+use Rattle.report.specs.declared.verdict.Fault.TheVariants.{HistoryText, HistoryMaps}
+use Rattle.report.specs.declared.verdict.Fault.TheVariants.{CertificateText, CertificateForms}
 use Rattle.report.specs.declared.verdict.Verdict.{Verdict}
 use Rattle.report.specs.declared.verdict.Verdict.TheVariants.{Yes, No, Malformed, NoMemory}
 
@@ -28,14 +31,21 @@ comment_text false = []
 
 -- the line of a kind, as queue: 1 objects, 2 operations
 abbrev pub kind_line : KindCount → List ℕ
-kind_line k = word_of k.kind ++ (codes ": " ++ (decimal k.objects ++ (codes " objects, " ++ (decimal k.operations ++ codes " operations\n"))))
+kind_line k =
+    word_of k.kind
+    ++ (codes ": "
+    ++ (decimal k.objects
+    ++ (codes " objects, " ++ (decimal k.operations ++ codes " operations\n"))))
 
 abbrev pub kind_lines : Bool → List KindCount → List ℕ
 kind_lines commented [] = []
 kind_lines commented (k ∷ ks) = (comment_text commented ++ kind_line k) ++ kind_lines commented ks
 
 abbrev pub total_line : Summary → List ℕ
-total_line s = codes "yes: " ++ (decimal s.operations ++ (codes " operations, " ++ (decimal s.objects ++ codes " objects\n")))
+total_line s =
+    codes "yes: "
+    ++
+    (decimal s.operations ++ (codes " operations, " ++ (decimal s.objects ++ codes " objects\n")))
 
 -- ---- no
 
@@ -44,39 +54,67 @@ abbrev pub value_line : Value → List ℕ
 value_line Nil = codes "nil\n"
 value_line False = codes "false\n"
 value_line (Int z) = signed_decimal z ++ codes "\n"
-value_line (Pair a b) = codes "[" ++ (signed_decimal a ++ (codes " " ++ (signed_decimal b ++ codes "]\n")))
+value_line (Pair a b) =
+    codes "[" ++ (signed_decimal a ++ (codes " " ++ (signed_decimal b ++ codes "]\n")))
 
 -- the line of a fault of the order for object x
 abbrev pub order_line : ℕ → OrderFault → List ℕ
-order_line x (UnknownOperation op) = codes "no: C3 object " ++ (decimal x ++ (codes ": " ++ (signed_decimal op ++ codes " is no operation\n")))
-order_line x (Repeated op) = codes "no: C4 object " ++ (decimal x ++ (codes ": " ++ (signed_decimal op ++ codes " stands twice\n")))
-order_line x (TooLate op by) = codes "no: C5 object " ++ (decimal x ++ (codes ": " ++ (signed_decimal op ++ (codes " returned before " ++ (decimal by ++ codes " was invoked\n")))))
-order_line x (NotPossible op) = codes "no: C9 object " ++ (decimal x ++ (codes ": " ++ (signed_decimal op ++ codes " is not possible\n")))
-order_line x (WrongReply op gives) = codes "no: C6 object " ++ (decimal x ++ (codes ": " ++ (signed_decimal op ++ (codes " gives " ++ value_line (reply_value gives)))))
-order_line x (Omitted op) = codes "no: C7 object " ++ (decimal x ++ (codes ": " ++ (decimal op ++ codes " is left out\n")))
+order_line x (UnknownOperation op) =
+    codes "no: C3 object "
+    ++ (decimal x ++ (codes ": " ++ (signed_decimal op ++ codes " is no operation\n")))
+order_line x (Repeated op) =
+    codes "no: C4 object "
+    ++ (decimal x ++ (codes ": " ++ (signed_decimal op ++ codes " stands twice\n")))
+order_line x (TooLate op by) =
+    codes "no: C5 object "
+    ++ (decimal x
+    ++ (codes ": "
+    ++ (signed_decimal op
+    ++ (codes " returned before " ++ (decimal by ++ codes " was invoked\n")))))
+order_line x (NotPossible op) =
+    codes "no: C9 object "
+    ++ (decimal x ++ (codes ": " ++ (signed_decimal op ++ codes " is not possible\n")))
+order_line x (WrongReply op gives) =
+    codes "no: C6 object "
+    ++ (decimal x
+    ++ (codes ": " ++ (signed_decimal op ++ (codes " gives " ++ value_line (reply_value gives)))))
+order_line x (Omitted op) =
+    codes "no: C7 object " ++ (decimal x ++ (codes ": " ++ (decimal op ++ codes " is left out\n")))
 
 abbrev pub no_memory_line : List ℕ
 no_memory_line = codes "out of memory\n"
 
 abbrev pub refusal_line : Refusal → List ℕ
-refusal_line (refusal.NoCertificate x) = codes "no: C1 object " ++ (decimal x ++ codes " has no certificate\n")
-refusal_line (refusal.StrangeObject x) = codes "no: C2 object " ++ (decimal x ++ codes " is not in the history\n")
+refusal_line (refusal.NoCertificate x) =
+    codes "no: C1 object " ++ (decimal x ++ codes " has no certificate\n")
+refusal_line (refusal.StrangeObject x) =
+    codes "no: C2 object " ++ (decimal x ++ codes " is not in the history\n")
 refusal_line (refusal.BadOrder x fault) = order_line x fault
 refusal_line refusal.NoMemory = no_memory_line
 
 -- ---- malformed
 
 abbrev pub fault_line : Fault → List ℕ
-fault_line (HistoryText e) = codes "malformed history: " ++ (text_of_kind e.kind ++ (codes " at byte " ++ (decimal e.place ++ codes "\n")))
-fault_line (HistoryMaps h) = codes "malformed history: H" ++ (decimal (history.number_of h.kind) ++ (codes " at map " ++ (decimal h.map ++ codes "\n")))
-fault_line (CertificateText e) = codes "malformed certificates: " ++ (text_of_kind e.kind ++ (codes " at byte " ++ (decimal e.place ++ codes "\n")))
-fault_line (CertificateForms k) = codes "malformed certificates: K" ++ (decimal (certificate.number_of k.kind) ++ (codes " at form " ++ (decimal k.form ++ codes "\n")))
+fault_line (HistoryText e) =
+    codes "malformed history: "
+    ++ (text_of_kind e.kind ++ (codes " at byte " ++ (decimal e.place ++ codes "\n")))
+fault_line (HistoryMaps h) =
+    codes "malformed history: H"
+    ++ (decimal (history.number_of h.kind) ++ (codes " at map " ++ (decimal h.map ++ codes "\n")))
+fault_line (CertificateText e) =
+    codes "malformed certificates: "
+    ++ (text_of_kind e.kind ++ (codes " at byte " ++ (decimal e.place ++ codes "\n")))
+fault_line (CertificateForms k) =
+    codes "malformed certificates: K"
+    ++ (decimal (certificate.number_of k.kind)
+    ++ (codes " at form " ++ (decimal k.form ++ codes "\n")))
 
 -- ---- all
 
 -- the lines of a verdict, each a comment where that is wanted
 abbrev pub verdict_text : Bool → Verdict → List ℕ
-verdict_text commented (Yes s) = (comment_text commented ++ total_line s) ++ kind_lines commented s.kinds.items
+verdict_text commented (Yes s) =
+    (comment_text commented ++ total_line s) ++ kind_lines commented s.kinds.items
 verdict_text commented (No r) = comment_text commented ++ refusal_line r
 verdict_text commented (Malformed f) = comment_text commented ++ fault_line f
 verdict_text commented NoMemory = comment_text commented ++ no_memory_line

@@ -70,14 +70,16 @@ fn push_invoked(all: &mut Vec<Invoked>, event: &Event, failed: bool) -> Result<(
     }
 }
 
-/// Whether the next event of the process says that an operation failed. One that is not kept has none.
+/// Whether the next event of the process says that an operation failed. One that is not kept has
+/// none.
 fn is_failing(failing: &NumberMap<bool>, process: u64) -> bool
     ensures { result ≡ unwrap_or (value_of failing.now process) false }
 {
     failing.get(process).unwrap_or(false)
 }
 
-/// Takes in one more event, from the last one back: whether it says that an operation of its process failed.
+/// Takes in one more event, from the last one back: whether it says that an operation of its
+/// process failed.
 fn note_end(failing: &mut NumberMap<bool>, event: &Event) -> Result<(), AllocError>
     ensures { OnOk result ((p : ℕ) → unwrap_or (value_of failing.new p) false
         ≡ (if event.now.process == p then spec.is_fail event.now.action
@@ -165,7 +167,8 @@ fn count_kind(alloc: Global, kind: Kind, all: &[Invoked]) -> Result<KindCount, A
     })
 }
 
-/// Whether a kind has its counts. There are at most six, so they are compared one by one, and not by hash.
+/// Whether a kind has its counts. There are at most six, so they are compared one by one, and not
+/// by hash.
 fn is_among(counts: &IndexMap<Kind, KindCount>, kind: Kind) -> bool
     ensures { result ≡ list_any (same_kind kind) (keys counts.now) }
 {
@@ -225,8 +228,8 @@ pub(crate) fn summary_of(alloc: Global, events: &[Event]) -> Result<Summary, All
     })
 }
 
-/// What a history has. The operations are those that did not fail. The objects and the kinds are those that some
-/// invocation names, be it failed.
+/// What a history has. The operations are those that did not fail. The objects and the kinds are
+/// those that some invocation names, be it failed.
 pub fn summary(alloc: Global, history: &History) -> Result<Summary, AllocError>
     ensures operations { IfOk result (λ s. s.operations ≡ length (operations_in history.now)) }
     ensures objects { IfOk result (λ s. s.objects ≡ length (objects_in (uses history.now))) }

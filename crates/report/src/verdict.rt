@@ -6,7 +6,8 @@ use edn::EdnFault;
 use history::HistoryFault;
 use seq_objects::Kind;
 
-/// What a history has of one kind: objects that some invocation names, be it failed, and operations that did not fail.
+/// What a history has of one kind: objects that some invocation names, be it failed, and operations
+/// that did not fail.
 #[derive(Clone, Copy, Debug, PartialEq, Eq)]
 pub struct KindCount {
     pub kind: Kind,
@@ -14,7 +15,8 @@ pub struct KindCount {
     pub operations: usize,
 }
 
-/// What a history has, in all and of each kind. The kinds stand in the order of their first invocations.
+/// What a history has, in all and of each kind. The kinds stand in the order of their first
+/// invocations.
 #[derive(Debug, PartialEq, Eq, Drop)]
 pub struct Summary {
     pub operations: usize,

@@ -6,11 +6,13 @@ use Rattle.model.specs.declared.AnyOp.{AnyOp}
 use Rattle.model.specs.declared.AnyReply.TheVariants.{Value}
 use Rattle.model.specs.Objects.{Content, queue, stack, heap, register, table, mutex, next}
 use Rattle.reversible.specs.declared.object.Reversible.{Reversible}
-use Rattle.reversible.specs.declared.object.Reversible.TheVariants.{Queue, Stack, Heap, Register, Map, Mutex}
+use Rattle.reversible.specs.declared.object.Reversible.TheVariants.{Queue, Stack, Heap, Register}
+use Rattle.reversible.specs.declared.object.Reversible.TheVariants.{Map, Mutex}
 use Rattle.reversible.specs.declared.kept.Kept.{Kept}
 use Rattle.reversible.specs.declared.kept.Kept.TheVariants as kept
 use Rattle.reversible.specs.declared.step.Undo.{Undo}
-use Rattle.reversible.specs.declared.step.Undo.TheVariants.{Nothing, TakeFirst, TakeLast, TakeAt, PutFirst, SetRegister, SetKey, SetHeld}
+use Rattle.reversible.specs.declared.step.Undo.TheVariants.{Nothing, TakeFirst, TakeLast, TakeAt}
+use Rattle.reversible.specs.declared.step.Undo.TheVariants.{PutFirst, SetRegister, SetKey, SetHeld}
 use Rattle.reversible.specs.declared.step.Step.{Step}
 
 abbrev pub content_of : Reversible → Content
@@ -55,4 +57,5 @@ pub record IsStep (before : Content) (op : AnyOp) (after : Content) (step : Step
 -- the step of an operation that takes the first value, where there is one
 abbrev pub IsTaken : List ℤ → List ℤ → Step → Type 0
 IsTaken [] after step = (after ≡ []) × (step ≡ record { reply = Value None; undo = Nothing })
-IsTaken (v ∷ vs) after step = (after ≡ vs) × (step ≡ record { reply = Value (Some v); undo = PutFirst v })
+IsTaken (v ∷ vs) after step =
+    (after ≡ vs) × (step ≡ record { reply = Value (Some v); undo = PutFirst v })

@@ -29,7 +29,8 @@ pub enum Reversible {
 
 fn step_queue(values: &mut VecDeque<i64>, op: &AnyOp) -> Result<Step, AllocError>
     requires { IsSome (next (objects.queue values.old.items) op.now) }
-    ensures { IfOk result (IsStep (objects.queue values.old.items) op.now (objects.queue values.new.items)) }
+    ensures { IfOk result
+        (IsStep (objects.queue values.old.items) op.now (objects.queue values.new.items)) }
 {
     match *op {
         AnyOp::Enqueue(v) => {
@@ -43,7 +44,8 @@ fn step_queue(values: &mut VecDeque<i64>, op: &AnyOp) -> Result<Step, AllocError
 
 fn step_stack(values: &mut VecDeque<i64>, op: &AnyOp) -> Result<Step, AllocError>
     requires { IsSome (next (objects.stack values.old.items) op.now) }
-    ensures { IfOk result (IsStep (objects.stack values.old.items) op.now (objects.stack values.new.items)) }
+    ensures { IfOk result
+        (IsStep (objects.stack values.old.items) op.now (objects.stack values.new.items)) }
 {
     match *op {
         AnyOp::Push(v) => {
@@ -57,7 +59,8 @@ fn step_stack(values: &mut VecDeque<i64>, op: &AnyOp) -> Result<Step, AllocError
 
 fn step_heap(values: &mut VecDeque<i64>, op: &AnyOp) -> Result<Step, AllocError>
     requires { IsSome (next (objects.heap values.old.items) op.now) }
-    ensures { IfOk result (IsStep (objects.heap values.old.items) op.now (objects.heap values.new.items)) }
+    ensures { IfOk result
+        (IsStep (objects.heap values.old.items) op.now (objects.heap values.new.items)) }
 {
     match *op {
         AnyOp::Insert(v) => {
@@ -140,7 +143,8 @@ fn step_mutex(held: &mut bool, op: &AnyOp) -> Step
 
 /// Gives the key its value, or none.
 fn set_key(map: &mut MapObject, key: i64, value: Option<i64>) -> Result<(), AllocError>
-    ensures { OnOk result (objects.table map.new ≡ undone (Undo.SetKey key value) (objects.table map.old)) }
+    ensures { OnOk result
+        (objects.table map.new ≡ undone (Undo.SetKey key value) (objects.table map.old)) }
 {
     match value {
         Some(value) => map.apply(&MapOp::Put { key, value })?,
@@ -201,7 +205,8 @@ impl Reversible {
         }
     }
 
-    /// Undoes what an operation did. Where memory is refused nothing is said of what the object contains.
+    /// Undoes what an operation did. Where memory is refused nothing is said of what the object
+    /// contains.
     pub fn undo(&mut self, undo: Undo) -> Result<(), AllocError>
         ensures { OnOk result (content_of self.new ≡ undone undo (content_of self.old)) }
     {

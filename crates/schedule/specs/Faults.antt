@@ -1,10 +1,12 @@
 -- What is wrong with the forms of a schedule, and which fault is the first.
-use Rattle.std.specs.Prelude.{◌≡◌, ◌≢◌, ℕ, ◌+◌, ◌<◌, ◌≤◌, List, [], ◌∷◌, ◌++◌, length, take, None, All}
+use Rattle.std.specs.Prelude.{◌≡◌, ◌≢◌, ℕ, ◌+◌, ◌<◌, ◌≤◌, List, [], ◌∷◌, ◌++◌, length, take, None}
+use Rattle.std.specs.Prelude.{All}
 use Rattle.edn.specs.Datum.{Datum}
 use Rattle.schedule.specs.Schedules.{header_of, step_of}
 use Rattle.schedule.specs.declared.fault.ScheduleFault.{ScheduleFault}
 use Rattle.schedule.specs.declared.fault.ScheduleFaultKind.{ScheduleFaultKind}
-use Rattle.schedule.specs.declared.fault.ScheduleFaultKind.TheVariants.{NoHeader, NotAStep, NoMemory}
+use Rattle.schedule.specs.declared.fault.ScheduleFaultKind.TheVariants.{NoHeader, NotAStep}
+use Rattle.schedule.specs.declared.fault.ScheduleFaultKind.TheVariants.{NoMemory}
 
 -- the first form is no header, or there is none
 abbrev pub LacksHeader : List Datum → Type 0
@@ -34,12 +36,17 @@ StepFaultIs ds NoMemory n = AreStepsTo ds n
 
 -- The first form is a header, and each form behind it up to this one and with it is a step.
 abbrev pub IsSoundTo : List Datum → ℕ → Type 0
-IsSoundTo ds n = (first : Datum) × (rest : List Datum) × (ds ≡ first ∷ rest) × (header_of first ≢ None) × AreStepsTo rest n
+IsSoundTo ds n =
+    (first : Datum) × (rest : List Datum) × (ds ≡ first ∷ rest) × (header_of first ≢ None)
+    × AreStepsTo rest n
 
--- the fault of a kind stands at this form, and none at an earlier one; want of memory, at a form in which nothing is wrong
+-- the fault of a kind stands at this form, and none at an earlier one; want of memory, at a form in
+-- which nothing is wrong
 abbrev pub FaultIs : List Datum → ScheduleFaultKind → ℕ → Type 0
 FaultIs ds NoHeader n = LacksHeader ds × (n ≡ 0)
-FaultIs ds NotAStep n = (first : Datum) × (rest : List Datum) × (ds ≡ first ∷ rest) × (header_of first ≢ None) × IsNoStepAt rest n
+FaultIs ds NotAStep n =
+    (first : Datum) × (rest : List Datum) × (ds ≡ first ∷ rest) × (header_of first ≢ None)
+    × IsNoStepAt rest n
 FaultIs ds NoMemory n = IsSoundTo ds n
 
 -- The first fault: that of the least faulty form, or want of memory before one was met.

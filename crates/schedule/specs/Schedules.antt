@@ -1,5 +1,6 @@
 -- What the text of a schedule says: a header, and then a step of a client for each further form.
-use Rattle.std.specs.Prelude.{◌≡◌, ℕ, ◌<◌, ◌≤◌, nat_le, ◌&&◌, List, ◌∷◌, Option, Some, None, codes, map, option_map, option_and_then, if◌then◌else◌}
+use Rattle.std.specs.Prelude.{◌≡◌, ℕ, ◌<◌, ◌≤◌, nat_le, ◌&&◌, List, ◌∷◌, Option, Some, None, codes}
+use Rattle.std.specs.Prelude.{map, option_map, option_and_then, if◌then◌else◌}
 use Rattle.edn.specs.Datum.{Datum, atom, vector, dictionary, Entries}
 use Rattle.model.specs.declared.AnyOp.{AnyOp}
 use Rattle.seq_objects.specs.Values.{op_with}
@@ -7,7 +8,8 @@ use Rattle.edn_fields.specs.Fields.{same_bytes, value_at, natural_in, keyword_in
 use Rattle.history.specs.Maps.{plain_value}
 use Rattle.history.specs.Names.{function_named}
 use Rattle.machine.specs.declared.step.Step.{Step}
-use Rattle.machine.specs.declared.step.Step.TheVariants.{Draw, Post, Win, Pick, Answer, PutBack, Take, Release, End}
+use Rattle.machine.specs.declared.step.Step.TheVariants.{Draw, Post, Win, Pick, Answer, PutBack}
+use Rattle.machine.specs.declared.step.Step.TheVariants.{Take, Release, End}
 use Rattle.schedule.specs.declared.header.Header.{Header}
 use Rattle.seq_objects.specs.declared.kinds.Kinds.{Kinds}
 use Rattle.seq_objects.specs.Kinds.{kinds_named}
@@ -24,7 +26,8 @@ number_at key low high es = number_within low high (natural_in (value_at key es)
 -- ---- the header
 
 abbrev pub header_with : Option Kinds → Option ℕ → Option ℕ → Option ℕ → Option Header
-header_with (Some k) (Some n) (Some c) (Some q) = Some (record { kinds = k; objects = n; clients = c; quota = q })
+header_with (Some k) (Some n) (Some c) (Some q) =
+    Some (record { kinds = k; objects = n; clients = c; quota = q })
 header_with k n c q = None
 
 -- what a machine can be made of
@@ -33,13 +36,14 @@ pub record IsWithin (h : Header) : Type 0 where
   pub clients : (0 < h.clients) × (h.clients ≤ 32)
   pub quota : h.quota ≤ 10000
 
--- The header that a form is, if it is one: kinds, and how many objects, clients and calls of each client there are. Other
--- keys are ignored.
+-- The header that a form is, if it is one: kinds, and how many objects, clients and calls of each
+-- client there are. Other keys are ignored.
 abbrev pub header_of : Datum → Option Header
 header_of (atom a) = None
 header_of (vector ds) = None
 header_of (dictionary es) =
-    header_with (option_and_then kinds_named (keyword_in (value_at (codes "kind") es))) (number_at (codes "objects") 1 16 es)
+    header_with (option_and_then kinds_named (keyword_in (value_at (codes "kind") es)))
+    (number_at (codes "objects") 1 16 es)
     (number_at (codes "clients") 1 32 es) (number_at (codes "quota") 0 10000 es)
 
 -- ---- steps
@@ -49,7 +53,9 @@ AnyStep = Step AnyOp
 
 -- the operation that a function's name and a map's value make
 abbrev pub op_named : List ℕ → Entries → Option AnyOp
-op_named k es = option_and_then (λ f. option_and_then (op_with f) (plain_value (value_in (value_at (codes "value") es)))) (function_named k)
+op_named k es =
+    option_and_then (λ f. option_and_then (op_with f)
+    (plain_value (value_in (value_at (codes "value") es)))) (function_named k)
 
 abbrev pub call_with : Option ℕ → Option AnyOp → Option AnyStep
 call_with (Some x) (Some op) = Some (Draw (Some (x, op)))
@@ -58,7 +64,9 @@ call_with x op = None
 -- The draw of a call has a function and an object, and that of a return has no function.
 abbrev pub draw_with : Option Datum → Entries → Option AnyStep
 draw_with None es = Some (Draw None)
-draw_with (Some d) es = call_with (number_at (codes "object") 0 15 es) (option_and_then (λ k. op_named k es) (keyword_in (Some d)))
+draw_with (Some d) es =
+    call_with (number_at (codes "object") 0 15 es)
+    (option_and_then (λ k. op_named k es) (keyword_in (Some d)))
 
 abbrev pub step_named : List ℕ → Entries → Option AnyStep
 step_named k es =
@@ -81,7 +89,9 @@ step_with c s = None
 abbrev pub step_of : Datum → Option (ℕ × AnyStep)
 step_of (atom a) = None
 step_of (vector ds) = None
-step_of (dictionary es) = step_with (number_at (codes "client") 0 31 es) (option_and_then (λ k. step_named k es) (keyword_in (value_at (codes "step") es)))
+step_of (dictionary es) =
+    step_with (number_at (codes "client") 0 31 es)
+    (option_and_then (λ k. step_named k es) (keyword_in (value_at (codes "step") es)))
 
 -- Forms denote a header and steps: the first is the header, and the others are the steps, in order.
 pub record Denotes (ds : List Datum) (header : Header) (steps : List (ℕ × AnyStep)) : Type 0 where

@@ -24,7 +24,8 @@ pub struct Schedule {
 
 /// The steps that the forms are, which stand behind a header.
 fn read_steps(alloc: Global, forms: &[Form]) -> Result<Vec<(u32, Step<AnyOp>)>, ScheduleFault>
-    ensures steps { IfOk result (λ v. map spec.step_of (views forms.now) ≡ map (λ s. Some s) v.items) }
+    ensures steps { IfOk result (λ v. map spec.step_of (views forms.now)
+        ≡ map (λ s. Some s) v.items) }
     ensures fault { IfErr result (λ e. StepFaultIs (views forms.now) e.kind e.form) }
 {
     let mut steps = Vec::new(alloc);
@@ -45,8 +46,9 @@ fn read_steps(alloc: Global, forms: &[Form]) -> Result<Vec<(u32, Step<AnyOp>)>, 
     Ok(steps)
 }
 
-/// The schedule that the forms are: a header, and then a step for each further form. The fault is that of the least faulty
-/// form; want of memory comes only where nothing is wrong up to a form and with it.
+/// The schedule that the forms are: a header, and then a step for each further form. The fault is
+/// that of the least faulty form; want of memory comes only where nothing is wrong up to a form and
+/// with it.
 pub fn read_schedule(alloc: Global, forms: &[Form]) -> Result<Schedule, ScheduleFault>
     ensures denotes { IfOk result (λ s. Denotes (views forms.now) s.header s.steps.items) }
     // What the header asks for is within the bounds of a machine.

@@ -1,5 +1,6 @@
 -- What a search answers of an object, and of all objects of a history.
-use Rattle.std.specs.Prelude.{◌≡◌, ℕ, ◌<◌, ◌≤◌, ◌↔◌, ⊤, List, length, Option, Some, None, IsSome, Any}
+use Rattle.std.specs.Prelude.{◌≡◌, ℕ, ◌<◌, ◌≤◌, ◌↔◌, ⊤, List, length, Option, Some, None, IsSome}
+use Rattle.std.specs.Prelude.{Any}
 use Rattle.std.specs.List.{filter_map}
 use Rattle.model.specs.declared.Kind.{Kind}
 use Rattle.model.specs.Orders.{Call, IsValidOrder, calls_on}
@@ -12,7 +13,8 @@ use Rattle.order_search.specs.declared.finding.Outcome.{Outcome}
 use Rattle.order_search.specs.declared.finding.Outcome.TheVariants as outcome
 use Rattle.search.specs.declared.found.Search.{Search}
 use Rattle.search.specs.declared.found.SearchOutcome.{SearchOutcome}
-use Rattle.search.specs.declared.found.SearchOutcome.TheVariants.{Impossible, OutOfSteps, TooLarge, NoMemory}
+use Rattle.search.specs.declared.found.SearchOutcome.TheVariants.{Impossible, OutOfSteps, TooLarge}
+use Rattle.search.specs.declared.found.SearchOutcome.TheVariants.{NoMemory}
 use Rattle.search.specs.declared.found.SearchOutcome.TheVariants as found
 
 -- the certificate that was found, if there is one
@@ -47,17 +49,18 @@ abbrev pub IsFor : ℕ → Kind → List Call → Certificate → Type 0
 IsFor object kind calls c = (c.object ≡ object) × IsValidOrder kind calls c.order.items
 
 -- what a search within a limit may answer of the calls of an object
-pub record IsAnswer (object : ℕ) (kind : Kind) (calls : List Call) (limit : ℕ) (s : Search) : Type 0 where
-  -- what was found is valid
-  pub found : IfFound s.found (IsFor object kind calls)
-  -- impossible is answered only where no order is valid
-  pub impossible : s.found ≡ Impossible → IsNoneValid kind calls
-  -- at most so many operations were tried, and just so many where that was not enough
-  pub steps : s.steps ≤ limit
-  pub out_of_steps : s.found ≡ OutOfSteps → s.steps ≡ limit
-  pub too_large : (s.found ≡ TooLarge) ↔ (max_operations < length calls)
-  -- memory is asked for only where some operation returned
-  pub memory : s.found ≡ NoMemory → Any (λ call. IsSome call.returned) calls
+pub record IsAnswer (object : ℕ) (kind : Kind) (calls : List Call) (limit : ℕ) (s : Search) : Type 0
+  where
+    -- what was found is valid
+    pub found : IfFound s.found (IsFor object kind calls)
+    -- impossible is answered only where no order is valid
+    pub impossible : s.found ≡ Impossible → IsNoneValid kind calls
+    -- at most so many operations were tried, and just so many where that was not enough
+    pub steps : s.steps ≤ limit
+    pub out_of_steps : s.found ≡ OutOfSteps → s.steps ≡ limit
+    pub too_large : (s.found ≡ TooLarge) ↔ (max_operations < length calls)
+    -- memory is asked for only where some operation returned
+    pub memory : s.found ≡ NoMemory → Any (λ call. IsSome call.returned) calls
 
 -- an answer on the object with this number, in the history that the events denote
 abbrev pub IsAnswerOn : List Event → ℕ → ℕ → Search → Type 0

@@ -15,8 +15,9 @@ use locality::linearizable_has_orders;
 use order_search::TryFirst;
 use std::alloc::{AllocError, Global};
 
-/// Searches for a certificate of each object of a history, each within the limit, and answers in rising number of the
-/// objects. Of the operations that can come next, that with the least number is tried first.
+/// Searches for a certificate of each object of a history, each within the limit, and answers in
+/// rising number of the objects. Of the operations that can come next, that with the least number
+/// is tried first.
 ///
 /// An error stands only where the split, or the list of answers, was refused memory.
 pub fn search_all(
@@ -58,8 +59,8 @@ pub fn search_all_by(
     ensures valid { IfOk result (λ v. All (λ a. IsFound a.1) v.items
         → AreValid history.now (certificates_in v.items)) }
 {
-    // These two do nothing. The first says that the events denote a well-formed history, the second that each object
-    // of a linearizable one has a valid order.
+    // These two do nothing. The first says that the events denote a well-formed history, the second
+    // that each object of a linearizable one has a valid order.
     history.events();
     linearizable_has_orders();
     let objects = split(alloc, history)?;

@@ -1,4 +1,5 @@
-//! The bounded search for certificates: an order for each object of a history, or the answer that none is valid.
+//! The bounded search for certificates: an order for each object of a history, or the answer that
+//! none is valid.
 #![tactic(auto)]
 
 mod all;

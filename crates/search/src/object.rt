@@ -24,8 +24,9 @@ fn found_of(object: u32, outcome: Outcome) -> SearchOutcome
     }
 }
 
-/// Searches for a certificate of an object, depth first, in at most so many steps: a step is one operation tried. Of
-/// the operations that can come next, that with the least number is tried first.
+/// Searches for a certificate of an object, depth first, in at most so many steps: a step is one
+/// operation tried. Of the operations that can come next, that with the least number is tried
+/// first.
 ///
 /// That a limit is enough is not promised.
 pub fn search(alloc: Global, history: &ObjectHistory, limit: u64) -> Search

@@ -7,7 +7,8 @@ use history::read_history_text;
 use std::alloc::Global;
 use std::test::Fail;
 
-/// A queue that takes out what was put in, one that takes out what never was, and a register that is read before and behind a write.
+/// A queue that takes out what was put in, one that takes out what never was, and a register that
+/// is read before and behind a write.
 const HISTORY: &str = "
     {:process 0 :type :invoke :f :enqueue :value 5 :object 3}
     {:process 0 :type :ok :f :enqueue :value 5 :object 3}
@@ -22,7 +23,8 @@ const HISTORY: &str = "
     {:process 1 :type :invoke :f :read :value nil :object 9}
     {:process 1 :type :ok :f :read :value 1 :object 9}";
 
-/// Compares the decisions on all objects of the history, and those on each alone, with what they must be.
+/// Compares the decisions on all objects of the history, and those on each alone, with what they
+/// must be.
 fn decisions(alloc: Global, limit: u64, wanted: &[(u32, &str)]) -> Result<(), Fail> {
     let Ok(history) = read_history_text(alloc, HISTORY.as_bytes()) else {
         return Err(Fail::new("a history is refused"));

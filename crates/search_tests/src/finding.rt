@@ -37,7 +37,8 @@ fn found_in(alloc: Global, text: &str) -> Result<String, Fail> {
 
 /// Histories, each of one object, and the order that is found.
 const FOUND: [(&str, &str); 9] = [
-    // The second dequeue returns what the first enqueue, which runs long, puts in behind the second.
+    // The second dequeue returns what the first enqueue, which runs long, puts in behind the
+    // second.
     (
         "{:process 0, :type :invoke, :f :enqueue, :value 1}
         {:process 1, :type :invoke, :f :enqueue, :value 2}
@@ -103,7 +104,8 @@ const FOUND: [(&str, &str); 9] = [
         {:process 0, :type :ok, :f :enqueue, :value 1}",
         "open",
     ),
-    // A read of 2 that runs while 2 is written and is over before 3 is; a compare-and-set that fails in between.
+    // A read of 2 that runs while 2 is written and is over before 3 is; a compare-and-set that
+    // fails in between.
     (
         "{:process 0, :type :invoke, :f :write, :value 1}
         {:process 1, :type :invoke, :f :read, :value nil}
@@ -129,7 +131,8 @@ const FOUND: [(&str, &str); 9] = [
         {:process 1, :type :ok, :f :put, :value nil}",
         "[0, 2, 3]",
     ),
-    // Two values of which the lower one is pushed behind the begin of the other push, and one that comes and goes between.
+    // Two values of which the lower one is pushed behind the begin of the other push, and one that
+    // comes and goes between.
     (
         "{:process 0, :type :invoke, :f :push, :value 1}
         {:process 1, :type :invoke, :f :push, :value 2}

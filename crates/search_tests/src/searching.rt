@@ -14,7 +14,8 @@ fn history_of(alloc: Global, text: &str) -> Result<History, Fail> {
     read_history_text(alloc, text.as_bytes()).map_err(|_| Fail::new("a history is refused"))
 }
 
-/// The answers of the calls that leave the choice of the order of trying: for all objects, and for each alone.
+/// The answers of the calls that leave the choice of the order of trying: for all objects, and for
+/// each alone.
 fn plain_answers(
     alloc: Global,
     text: &str,

@@ -1,7 +1,8 @@
 -- What an object of any kind contains.
 use Rattle.model.specs.Objects.{Content, queue, stack, heap, register, table, mutex}
 use Rattle.seq_objects.specs.declared.any_object.AnyObject.{AnyObject}
-use Rattle.seq_objects.specs.declared.any_object.AnyObject.TheVariants.{Queue, Stack, Heap, Register, Map, Mutex}
+use Rattle.seq_objects.specs.declared.any_object.AnyObject.TheVariants.{Queue, Stack, Heap}
+use Rattle.seq_objects.specs.declared.any_object.AnyObject.TheVariants.{Register, Map, Mutex}
 
 abbrev pub content_of : AnyObject → Content
 content_of (Queue vs) = queue vs

@@ -3,11 +3,16 @@ use Rattle.std.specs.Prelude.{ℕ, List, [], ◌∷◌, codes}
 use Rattle.model.specs.declared.Kind.{Kind}
 use Rattle.model.specs.declared.Kind.TheVariants.{Queue, Stack, Heap, Register, Map, Mutex}
 use Rattle.seq_objects.specs.declared.function.Function.{Function}
-use Rattle.seq_objects.specs.declared.function.Function.TheVariants.{Enqueue, Dequeue, Push, Pop, Insert, ExtractMin, Write, Read, Cas, Put, Get, Del, Acquire, Release}
+use Rattle.seq_objects.specs.declared.function.Function.TheVariants.{Enqueue, Dequeue, Push, Pop}
+use Rattle.seq_objects.specs.declared.function.Function.TheVariants.{Insert, ExtractMin, Write}
+use Rattle.seq_objects.specs.declared.function.Function.TheVariants.{Read, Cas, Put, Get, Del}
+use Rattle.seq_objects.specs.declared.function.Function.TheVariants.{Acquire, Release}
 
 -- every function, in the order in which the code lists them
 abbrev pub all_functions : List Function
-all_functions = Enqueue ∷ Dequeue ∷ Push ∷ Pop ∷ Insert ∷ ExtractMin ∷ Write ∷ Read ∷ Cas ∷ Put ∷ Get ∷ Del ∷ Acquire ∷ Release ∷ []
+all_functions =
+    Enqueue ∷ Dequeue ∷ Push ∷ Pop ∷ Insert ∷ ExtractMin ∷ Write ∷ Read ∷ Cas ∷ Put ∷ Get ∷ Del
+    ∷ Acquire ∷ Release ∷ []
 
 -- the name of an operation, as bytes
 abbrev pub name_of : Function → List ℕ

@@ -1,7 +1,9 @@
 -- The values in which histories write arguments and replies.
 use Rattle.std.specs.Prelude.{Option, Some, None}
 use Rattle.model.specs.declared.AnyOp.{AnyOp}
-use Rattle.model.specs.declared.AnyOp.TheVariants.{Enqueue, Dequeue, Push, Pop, Insert, ExtractMin, Write, Read, Cas, Put, Get, Del, Acquire, Release}
+use Rattle.model.specs.declared.AnyOp.TheVariants.{Enqueue, Dequeue, Push, Pop, Insert, ExtractMin}
+use Rattle.model.specs.declared.AnyOp.TheVariants.{Write, Read, Cas, Put, Get, Del, Acquire}
+use Rattle.model.specs.declared.AnyOp.TheVariants.{Release}
 use Rattle.model.specs.declared.AnyReply.{AnyReply}
 use Rattle.model.specs.declared.AnyReply.TheVariants as reply
 use Rattle.seq_objects.specs.declared.function.Function.{Function}
@@ -27,7 +29,8 @@ op_with name.Acquire Nil = Some Acquire
 op_with name.Release Nil = Some Release
 op_with f value = None
 
--- The reply to an operation of this name that this value stands for. A value of another shape stands for none.
+-- The reply to an operation of this name that this value stands for. A value of another shape
+-- stands for none.
 abbrev pub reply_with : Function → Value → Option AnyReply
 reply_with name.Enqueue (Int v) = Some (reply.Value (Some v))
 reply_with name.Push (Int v) = Some (reply.Value (Some v))

@@ -1,5 +1,5 @@
-//! Sequential objects: the trait that each kind of object implements, with the laws that every use of an object
-//! rests on.
+//! Sequential objects: the trait that each kind of object implements, with the laws that every use
+//! of an object rests on.
 #![tactic(auto)]
 
 mod any_object;

@@ -34,8 +34,8 @@ impl MapOp {
     }
 }
 
-/// A map from integers to integers. Each operation takes logarithmic time. The reply is the value that the key
-/// had before; none where it had none.
+/// A map from integers to integers. Each operation takes logarithmic time. The reply is the value
+/// that the key had before; none where it had none.
 #[derive(Debug, Drop)]
 pub struct MapObject {
     values: BTreeMap<i64, i64>,

@@ -8,7 +8,8 @@ use model::{AnyOp, AnyReply, Kind};
 use std::alloc::{AllocError, Global};
 use std::marker::Model;
 
-/// An operation of a mutex: acquire is possible only while it is free, and release only while it is held.
+/// An operation of a mutex: acquire is possible only while it is free, and release only while it is
+/// held.
 #[derive(Clone, Copy, Debug, PartialEq, Eq)]
 pub enum MutexOp {
     Acquire,

@@ -9,8 +9,8 @@ ghost use Rattle.model.specs.Objects as model;
 use model::{AnyOp, AnyReply, Kind};
 use std::alloc::AllocError;
 
-/// An object that is used by one caller at a time. Its operations and replies may be types of its own, which
-/// stand for some of those of all kinds.
+/// An object that is used by one caller at a time. Its operations and replies may be types of its
+/// own, which stand for some of those of all kinds.
 pub trait SeqObject: Drop + Send {
     type Op: Copy + Eq + Drop + Send;
 
@@ -30,7 +30,8 @@ pub trait SeqObject: Drop + Send {
     fn kind_of(op: &Self::Op) -> Kind
         ensures { result ≡ model.kind_of (op_in op.now) };
 
-    /// Whether the object can do the operation now. It is asked for operations of the object's own kind.
+    /// Whether the object can do the operation now. It is asked for operations of the object's own
+    /// kind.
     fn possible(&self, op: &Self::Op) -> bool
         requires { model.kind_of (op_in op.now) ≡ kind_with (content self.now) }
         ensures { IsTrue result ↔ IsSome (next (content self.now) (op_in op.now)) };

@@ -19,7 +19,8 @@ pub enum Value {
     Pair(i64, i64),
 }
 
-/// The operation of this name with this argument; none where the argument has not the shape that the name asks for.
+/// The operation of this name with this argument; none where the argument has not the shape that
+/// the name asks for.
 pub fn op_of(f: Function, value: Value) -> Option<AnyOp>
     ensures op { result ≡ op_with f value }
     ensures function { IfSome result (λ op. function_in op ≡ f) }
@@ -87,8 +88,8 @@ pub fn value_of_op(op: &AnyOp) -> Value
     }
 }
 
-/// The reply to an operation of this name that the value stands for; none where the value has not the shape of
-/// a reply to it.
+/// The reply to an operation of this name that the value stands for; none where the value has not
+/// the shape of a reply to it.
 pub fn reply_of(f: Function, value: Value) -> Option<AnyReply>
     ensures reply { result ≡ reply_with f value }
     ensures value { IfSome result (λ reply. reply_value reply ≡ value) }
@@ -121,7 +122,8 @@ pub fn reply_of(f: Function, value: Value) -> Option<AnyReply>
     }
 }
 
-/// The value that stands for the reply. With each name with which some value is read as the reply, this one is.
+/// The value that stands for the reply. With each name with which some value is read as the reply,
+/// this one is.
 pub fn value_of_reply(reply: &AnyReply) -> Value
     ensures value { result ≡ reply_value reply.now }
     ensures read_back { (f : Function) (v : Value) → reply_with f v ≡ Some reply.now →

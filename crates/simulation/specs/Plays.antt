@@ -19,14 +19,18 @@ kinds_of h = mixing.kinds_of h.kinds h.objects
 
 -- the world after the steps that are possible at their turn, with how many are not
 abbrev pub Takes : Header → List (ℕ × AnyStep) → ℕ → World → Type 0
-Takes h steps refused w = TakesPossible (kinds_of h) h.quota (start_of h.clients) (steps_in (λ op. op) steps) refused w
+Takes h steps refused w =
+    TakesPossible (kinds_of h) h.quota (start_of h.clients) (steps_in (λ op. op) steps) refused w
 
--- The steps were taken, all clients have ended, and the record is that of the world of this run; so it is sound.
-pub record IsPlayed (h : Header) (steps : List (ℕ × AnyStep)) (refused : ℕ) (r : Recorded AnyOp AnyReply) : Type 0 where
+-- The steps were taken, all clients have ended, and the record is that of the world of this run; so
+-- it is sound.
+pub record IsPlayed (h : Header) (steps : List (ℕ × AnyStep)) (refused : ℕ)
+    (r : Recorded AnyOp AnyReply) : Type 0 where
   pub world : World
   pub takes : Takes h steps refused world
   pub run : IsWorldOfRun (kinds_of h) h.clients h.quota world
   pub ended : (c : ℕ) → c < h.clients → world.ended c ≡ true
   pub journals : (c : ℕ) → journals_in (λ op. op) (λ reply. reply) r c ≡ journal_in world c
   pub logs : (x : ℕ) → logs_in (λ op. op) (λ reply. reply) r x ≡ world.log x
-  pub sound : IsSoundRecord (kinds_of h) h.quota (journals_in (λ op. op) (λ reply. reply) r) (logs_in (λ op. op) (λ reply. reply) r)
+  pub sound : IsSoundRecord (kinds_of h) h.quota (journals_in (λ op. op) (λ reply. reply) r)
+      (logs_in (λ op. op) (λ reply. reply) r)

@@ -19,16 +19,19 @@ use Rattle.simulation.specs.Plays.{IsPlayed, Takes, kinds_of}
 use Rattle.simulation.specs.declared.playing.PlayFault.{PlayFault}
 use Rattle.simulation.specs.declared.playing.PlayFault.TheVariants as play
 use Rattle.simulation.specs.declared.simulating.SimulationFault.{SimulationFault}
-use Rattle.simulation.specs.declared.simulating.SimulationFault.TheVariants.{Text, Form, NotEnded, NoMemory}
+use Rattle.simulation.specs.declared.simulating.SimulationFault.TheVariants.{Text, Form, NotEnded}
+use Rattle.simulation.specs.declared.simulating.SimulationFault.TheVariants.{NoMemory}
 
 -- the text spells forms that denote a header and steps
-pub record DenotesSchedule (text : List ℕ) (header : Header) (steps : List (ℕ × AnyStep)) : Type 0 where
-  pub forms : List Datum
-  pub spelled : Spells forms text
-  pub denoted : Denotes forms header steps
+pub record DenotesSchedule (text : List ℕ) (header : Header) (steps : List (ℕ × AnyStep)) : Type 0
+  where
+    pub forms : List Datum
+    pub spelled : Spells forms text
+    pub denoted : Denotes forms header steps
 
--- The text denotes a schedule. The machine that it asks for took the steps that were possible at their turn, and this is how
--- many were not; all clients have ended, and the record is that of its world.
+-- The text denotes a schedule. The machine that it asks for took the steps that were possible at
+-- their turn, and this is how many were not; all clients have ended, and the record is that of its
+-- world.
 pub record IsSimulated (text : List ℕ) (refused : ℕ) (r : Recorded AnyOp AnyReply) : Type 0 where
   pub header : Header
   pub steps : List (ℕ × AnyStep)
@@ -54,17 +57,25 @@ IsPlayFault h steps play.NoMemory = ⊤
 abbrev pub IsSchedule : List ℕ → Type 0
 IsSchedule text = (h : Header) × (steps : List (ℕ × AnyStep)) × DenotesSchedule text h steps
 
--- Nothing is wrong with the text as far as it was looked at: up to a token and with it, or, where it spells forms, up to
--- one of them and with it; or it denotes a schedule.
+-- Nothing is wrong with the text as far as it was looked at: up to a token and with it, or, where
+-- it spells forms, up to one of them and with it; or it denotes a schedule.
 abbrev pub IsScheduleSound : List ℕ → Type 0
-IsScheduleSound text = IsShort text × (((place : ℕ) × IsSoundAt place text) ⊎ ((ds : List Datum) × Spells ds text × (form : ℕ) × IsSoundTo ds form) ⊎ IsSchedule text)
+IsScheduleSound text =
+    IsShort text
+    × (((place : ℕ) × IsSoundAt place text)
+    ⊎ ((ds : List Datum) × Spells ds text × (form : ℕ) × IsSoundTo ds form) ⊎ IsSchedule text)
 
--- Why there is no record: the text is too long, or spells nothing; it spells forms of which this is the first fault; it denotes
--- a schedule after which this client has not ended; or memory was refused, and nothing was wrong before.
+-- Why there is no record: the text is too long, or spells nothing; it spells forms of which this is
+-- the first fault; it denotes a schedule after which this client has not ended; or memory was
+-- refused, and nothing was wrong before.
 abbrev pub IsSimulationFault : List ℕ → SimulationFault → Type 0
 IsSimulationFault text (Text e) = IsUnreadable text e
-IsSimulationFault text (Form f) = IsShort text × (f.kind ≢ form_kind.NoMemory) × (ds : List Datum) × Spells ds text × IsFirstFault ds f
-IsSimulationFault text (NotEnded c) = IsShort text × (h : Header) × (steps : List (ℕ × AnyStep)) × DenotesSchedule text h steps × IsGoingOn h steps c
+IsSimulationFault text (Form f) =
+    IsShort text × (f.kind ≢ form_kind.NoMemory) × (ds : List Datum) × Spells ds text
+    × IsFirstFault ds f
+IsSimulationFault text (NotEnded c) =
+    IsShort text × (h : Header) × (steps : List (ℕ × AnyStep)) × DenotesSchedule text h steps
+    × IsGoingOn h steps c
 IsSimulationFault text NoMemory = IsScheduleSound text
 
 -- nothing is wrong with the text

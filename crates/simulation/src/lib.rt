@@ -1,4 +1,5 @@
-//! What comes of a schedule: the machine that it asks for takes its steps, and hands out its record.
+//! What comes of a schedule: the machine that it asks for takes its steps, and hands out its
+//! record.
 #![tactic(auto)]
 
 mod playing;

@@ -32,8 +32,10 @@ pub enum PlayFault {
 
 /// The objects that the header asks for, all empty.
 fn objects_of(alloc: Global, header: &Header) -> Result<Vec<AnyObject>, AllocError>
-    ensures kinds { IfOk result (λ v. map (λ o. kind_with (content_of o)) v.items ≡ kinds_of header.now) }
-    ensures empty { IfOk result (λ v. All (λ o. content_of o ≡ empty (kind_with (content_of o))) v.items) }
+    ensures kinds { IfOk result (λ v. map (λ o. kind_with (content_of o)) v.items
+        ≡ kinds_of header.now) }
+    ensures empty { IfOk result (λ v. All (λ o. content_of o
+        ≡ empty (kind_with (content_of o))) v.items) }
 {
     let mut objects = Vec::new(alloc);
     for object in 0..header.objects {
@@ -42,12 +44,13 @@ fn objects_of(alloc: Global, header: &Header) -> Result<Vec<AnyObject>, AllocErr
     Ok(objects)
 }
 
-/// The machine that the header asks for, of which no step was taken: so many clients, and empty objects. An error stands only where
-/// memory was refused.
+/// The machine that the header asks for, of which no step was taken: so many clients, and empty
+/// objects. An error stands only where memory was refused.
 pub fn machine_of(alloc: Global, header: &Header) -> Result<Machine<AnyObject>, AllocError>
     requires { IsWithin header.now }
     ensures kinds { IfOk result (λ m. m.kinds ≡ kinds_of header.now) }
-    ensures counts { IfOk result (λ m. (clients_of m ≡ header.now.clients) × (m.quota ≡ header.now.quota)) }
+    ensures counts { IfOk result (λ m. (clients_of m ≡ header.now.clients)
+        × (m.quota ≡ header.now.quota)) }
     ensures start { IfOk result (λ m. world_of m ≡ start_of header.now.clients) }
 {
     let objects = objects_of(alloc, header)?;

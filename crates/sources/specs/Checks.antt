@@ -8,9 +8,11 @@ use Rattle.report.specs.Lines.{verdict_text}
 use Rattle.report.specs.declared.verdict.Verdict.{Verdict}
 use Rattle.sources.specs.Reads.{read_limit}
 
--- Both texts were read, the verdict holds of them, and its lines were written. What the sources have left, and what
--- the sink was sent, stand as they were before and after.
-pub record IsJudged (history history_left certificates certificates_left sent_before sent : Option (List ℕ)) (v : Verdict) : Type 0 where
+-- Both texts were read, the verdict holds of them, and its lines were written. What the sources
+-- have left, and what the sink was sent, stand as they were before and after.
+pub record IsJudged
+    (history history_left certificates certificates_left sent_before sent : Option (List ℕ))
+    (v : Verdict) : Type 0 where
   pub first : List ℕ
   pub second : List ℕ
   pub first_read : WasRead read_limit history history_left first
@@ -19,7 +21,9 @@ pub record IsJudged (history history_left certificates certificates_left sent_be
   pub written : Appends sent_before sent (verdict_text false v)
 
 -- Both texts were read, and a beginning of the lines of a verdict that holds of them was written.
-pub record IsCutOff (history history_left certificates certificates_left sent_before sent : Option (List ℕ)) : Type 0 where
+pub record IsCutOff
+    (history history_left certificates certificates_left sent_before sent : Option (List ℕ)) : Type
+    0 where
   pub first : List ℕ
   pub second : List ℕ
   pub first_read : WasRead read_limit history history_left first

@@ -14,8 +14,10 @@ abbrev pub Left : Bool → ReadFault → Type 0
 Left broken Failed = broken ≡ true
 Left broken NoMemory = broken ≡ false
 
--- Reading stopped where the source refused a call: some bytes were given before, and the call had room for at least one.
-pub record WasRefused {S : Type 0} (remaining : S → Option (List ℕ)) (refuses : S → ℕ → S → Type 0) (old new : S) : Type 0 where
+-- Reading stopped where the source refused a call: some bytes were given before, and the call had
+-- room for at least one.
+pub record WasRefused {S : Type 0} (remaining : S → Option (List ℕ)) (refuses : S → ℕ → S → Type 0)
+    (old new : S) : Type 0 where
   pub before : S
   pub given : List ℕ
   pub consumed : Consumes (remaining old) (remaining before) given

@@ -74,11 +74,12 @@ fn judge_and_write<R: Threads + Sync, W: Sink>(
     }
 }
 
-/// Reads both texts, the history first, judges them, and writes the lines of the verdict. Each text is read to its end, or
-/// to one byte more than the longest that is judged. An error of a read or a write is a failure, and is not tried again.
+/// Reads both texts, the history first, judges them, and writes the lines of the verdict. Each text
+/// is read to its end, or to one byte more than the longest that is judged. An error of a read or a
+/// write is a failure, and is not tried again.
 ///
-/// `Ok` gives the verdict of `judge` on the bytes that were read. Memory that is refused inside `judge` is its verdict `NoMemory`,
-/// and is written as its line.
+/// `Ok` gives the verdict of `judge` on the bytes that were read. Memory that is refused inside
+/// `judge` is its verdict `NoMemory`, and is written as its line.
 pub fn check_over<R: Threads + Sync, H: Source, C: Source, W: Sink>(
     rt: &R,
     alloc: Global,
@@ -90,7 +91,8 @@ pub fn check_over<R: Threads + Sync, H: Source, C: Source, W: Sink>(
     requires history { H.broken history.old ≡ false }
     requires certificates { C.broken certificates.old ≡ false }
     requires sink { W.broken sink.old ≡ false }
-    ensures judged { IfOk result (IsJudged (H.remaining history.old) (H.remaining history.new) (C.remaining certificates.old)
+    ensures judged { IfOk result
+        (IsJudged (H.remaining history.old) (H.remaining history.new) (C.remaining certificates.old)
         (C.remaining certificates.new) (W.sent sink.old) (W.sent sink.new)) }
     ensures usable { IfOk result (λ _. W.broken sink.new ≡ false) }
     // X1
@@ -126,8 +128,9 @@ pub fn check_over<R: Threads + Sync, H: Source, C: Source, W: Sink>(
     }
 }
 
-/// Judges two texts in memory, and writes the lines of the verdict, as `check_over` does. Where memory for a copy of the texts is
-/// refused they are judged where they lie, so only the sink can fail.
+/// Judges two texts in memory, and writes the lines of the verdict, as `check_over` does. Where
+/// memory for a copy of the texts is refused they are judged where they lie, so only the sink can
+/// fail.
 pub fn check_bytes<R: Threads + Sync, W: Sink>(
     rt: &R,
     alloc: Global,

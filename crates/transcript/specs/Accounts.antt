@@ -8,8 +8,10 @@ use Rattle.checker.specs.Refusals.{AreValid, IsFirstRefusal}
 use Rattle.recorder.specs.Histories.{AreEventsOf, IsNamedIn}
 use Rattle.certificate.specs.declared.Certificate.{Certificate}
 
--- A certificate for each object that the journals name, in rising order of objects: the tickets of its log.
-pub record AreCertificatesOf (journals : ℕ → List AnyEvent) (logs : ℕ → List AnyEntry) (cs : List Certificate) : Type 0 where
+-- A certificate for each object that the journals name, in rising order of objects: the tickets of
+-- its log.
+pub record AreCertificatesOf (journals : ℕ → List AnyEvent) (logs : ℕ → List AnyEntry)
+    (cs : List Certificate) : Type 0 where
   pub rising : AllPairs (λ a b. a.object < b.object) cs
   pub named : (x : ℕ) → Contains (map (λ c. c.object) cs) x ↔ IsNamedIn journals x
   pub orders : All (λ c. c.order.items ≡ order_of (logs c.object)) cs
@@ -23,7 +25,8 @@ pub record IsAccepted (journals : ℕ → List AnyEvent) (logs : ℕ → List An
   pub valid : AreValid events certificates
 
 -- this is the first refusal of the record's certificates
-pub record IsRefused (journals : ℕ → List AnyEvent) (logs : ℕ → List AnyEntry) (r : Refusal) : Type 0 where
+pub record IsRefused (journals : ℕ → List AnyEvent) (logs : ℕ → List AnyEntry) (r : Refusal) : Type
+    0 where
   pub events : List Event
   pub certificates : List Certificate
   pub are_events : AreEventsOf journals events

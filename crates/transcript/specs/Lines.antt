@@ -1,6 +1,8 @@
 -- The lines of a record: each client event with the operation of its call, and the text of a line.
-use Rattle.std.specs.Prelude.{◌≡◌, ℕ, ◌+◌, ◌<◌, ◌==◌, false, pos, List, [], ◌∷◌, ◌++◌, Option, Some, None, AllPairs, filter, map, codes}
-use Rattle.edn.specs.Datum.{Datum, nil, boolean, integer, keyword, atom, vector, dictionary, item, no_items, entry, no_entries}
+use Rattle.std.specs.Prelude.{◌≡◌, ℕ, ◌+◌, ◌<◌, ◌==◌, false, pos, List, [], ◌∷◌, ◌++◌, Option, Some}
+use Rattle.std.specs.Prelude.{None, AllPairs, filter, map, codes}
+use Rattle.edn.specs.Datum.{Datum, nil, boolean, integer, keyword, atom, vector, dictionary, item}
+use Rattle.edn.specs.Datum.{no_items, entry, no_entries}
 use Rattle.edn.specs.Text as edn
 use Rattle.model.specs.declared.AnyOp.{AnyOp}
 use Rattle.seq_objects.specs.Functions.{name_of}
@@ -35,7 +37,8 @@ line_with c e (Some q) = record { event = event_with c q.object e; op = q.op } �
 -- the lines of a journal of the client c, behind this call
 abbrev pub lines_from : ℕ → Option Call → List AnyEvent → List Line
 lines_from c last [] = []
-lines_from c last (e ∷ es) = line_with c e (call_after last e) ++ lines_from c (call_after last e) es
+lines_from c last (e ∷ es) =
+    line_with c e (call_after last e) ++ lines_from c (call_after last e) es
 
 abbrev pub lines_of : ℕ → List AnyEvent → List Line
 lines_of c journal = lines_from c None journal

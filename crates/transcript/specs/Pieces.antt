@@ -12,13 +12,18 @@ abbrev pub value_text : Value → List ℕ
 value_text Nil = codes "nil"
 value_text False = codes "false"
 value_text (Int z) = signed_decimal z
-value_text (Pair a b) = codes "[" ++ (signed_decimal a ++ (codes " " ++ (signed_decimal b ++ codes "]")))
+value_text (Pair a b) =
+    codes "[" ++ (signed_decimal a ++ (codes " " ++ (signed_decimal b ++ codes "]")))
 
 abbrev pub process_text : Line → List ℕ
-process_text l = codes "{:process " ++ (decimal l.event.process ++ (codes ", :type :" ++ type_of l.event.action))
+process_text l =
+    codes "{:process " ++ (decimal l.event.process ++ (codes ", :type :" ++ type_of l.event.action))
 
 abbrev pub operation_text : Line → List ℕ
-operation_text l = codes ", :f :" ++ (name_of (function_in l.op) ++ (codes ", :value " ++ value_text (value_of l.op l.event.action)))
+operation_text l =
+    codes ", :f :"
+    ++ (name_of (function_in l.op)
+    ++ (codes ", :value " ++ value_text (value_of l.op l.event.action)))
 
 abbrev pub object_text : ℕ → List ℕ
 object_text x = codes ", :object " ++ (decimal x ++ codes "}\n")

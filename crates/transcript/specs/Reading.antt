@@ -18,16 +18,20 @@ pub record DenotesEvents (text : List ℕ) (es : List Event) : Type 0 where
   pub spelled : Spells forms text
   pub denoted : Denotes forms es
 
--- The text of a record's history is read back as its events, where the tickets in the journals are all the numbers below
--- some number, each once, and no object is greater than a text can name.
+-- The text of a record's history is read back as its events, where the tickets in the journals are
+-- all the numbers below some number, each once, and no object is greater than a text can name.
 abbrev pub WrittenDenotes : Type 0
 WrittenDenotes = (objects : ℕ) (journals : ℕ → List AnyEvent) (logs : ℕ → List AnyEntry)
-    → (r : IsRecord objects journals logs) → (count : ℕ) → ShareOut count (λ c. map ticket_of (journals c))
+    → (r : IsRecord objects journals logs) → (count : ℕ)
+    → ShareOut count (λ c. map ticket_of (journals c))
     → All (λ e. e.object ≤ max_object) r.events
-    → (text : List ℕ) (es : List Event) → IsHistoryText journals text → AreEventsOf journals es → DenotesEvents text es
+    → (text : List ℕ) (es : List Event) → IsHistoryText journals text → AreEventsOf journals es
+    → DenotesEvents text es
 
 -- So is that of a sound record's history, where there are no more objects than a text can have.
 abbrev pub SoundWrittenDenotes : Type 0
-SoundWrittenDenotes = (kinds : List Kind) (quota : ℕ) (journals : ℕ → List AnyEvent) (logs : ℕ → List AnyEntry)
+SoundWrittenDenotes =
+    (kinds : List Kind) (quota : ℕ) (journals : ℕ → List AnyEvent) (logs : ℕ → List AnyEntry)
     → IsSoundRecord kinds quota journals logs → quota < 10001 → length kinds ≤ 65536
-    → (text : List ℕ) (es : List Event) → IsHistoryText journals text → AreEventsOf journals es → DenotesEvents text es
+    → (text : List ℕ) (es : List Event) → IsHistoryText journals text → AreEventsOf journals es
+    → DenotesEvents text es

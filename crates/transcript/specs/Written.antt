@@ -7,7 +7,8 @@ use Rattle.desk_model.specs.World.{AnyEvent}
 use Rattle.transcript.specs.declared.line.Line.{Line}
 use Rattle.transcript.specs.Lines.{AreLinesOf, form_of, history_text}
 
--- The text of the journals' lines, in order of tickets. Each has integers and names that a text can have.
+-- The text of the journals' lines, in order of tickets. Each has integers and names that a text can
+-- have.
 pub record IsHistoryText (journals : ℕ → List AnyEvent) (text : List ℕ) : Type 0 where
   pub lines : List Line
   pub are_lines : AreLinesOf journals lines
@@ -21,7 +22,8 @@ pub record AppendsHistory (journals : ℕ → List AnyEvent) (old new : Option (
   pub sent : Appends old new text
 
 -- a beginning of it went out
-pub record SendsFrontOfHistory (journals : ℕ → List AnyEvent) (old new : Option (List ℕ)) : Type 0 where
-  pub text : List ℕ
-  pub of_journals : IsHistoryText journals text
-  pub sent : WritesPrefix old new text
+pub record SendsFrontOfHistory (journals : ℕ → List AnyEvent) (old new : Option (List ℕ)) : Type 0
+  where
+    pub text : List ℕ
+    pub of_journals : IsHistoryText journals text
+    pub sent : WritesPrefix old new text

@@ -25,8 +25,9 @@ fn events_in(alloc: Global, lines: &[Line]) -> Result<Vec<Event>, AllocError>
     lines.iter().map(|line| line.event).collect(alloc)
 }
 
-/// The history of a record: the event of each ticket, in order of tickets. A client is a process, and its number that of
-/// the process; a ticket is the number of its event; and a call that was refused memory is one that did not happen.
+/// The history of a record: the event of each ticket, in order of tickets. A client is a process,
+/// and its number that of the process; a ticket is the number of its event; and a call that was
+/// refused memory is one that did not happen.
 pub fn history<S: SeqObject>(alloc: Global, account: &Record<S>) -> Result<History, AllocError>
     ensures history { IfOk result (AreEventsOf (journals_in S.op_in S.reply_in account.now)) }
     ensures kept { IsRecordOf S.op_in S.reply_in account.now }
@@ -52,7 +53,8 @@ fn order_of<S: SeqObject>(
     Ok(order)
 }
 
-/// A certificate for each object that some call names, in rising order of objects: the tickets of its log.
+/// A certificate for each object that some call names, in rising order of objects: the tickets of
+/// its log.
 pub fn certificates<S: SeqObject>(
     alloc: Global,
     account: &Record<S>,
@@ -72,7 +74,8 @@ pub fn certificates<S: SeqObject>(
     Ok(certificates)
 }
 
-/// Checks the record's history with its certificates. Where the record is sound they are accepted, but for want of memory.
+/// Checks the record's history with its certificates. Where the record is sound they are accepted,
+/// but for want of memory.
 pub fn check_record<S: SeqObject>(alloc: Global, account: &Record<S>) -> Result<(), Refusal>
     ensures accepted { (kinds : List Kind) (quota : ℕ)
         → IsSoundRecord kinds quota (journals_in S.op_in S.reply_in account.now)

@@ -11,7 +11,8 @@ ghost use Rattle.recorder.specs.Histories.{AreEventsOf};
 ghost use Rattle.transcript.specs.Accounts.{AreCertificatesOf};
 ghost use Rattle.transcript.specs.Reading.{SoundWrittenDenotes, WrittenDenotes};
 
-/// The certificates of a sound record are valid: one for each object of its history, and none besides.
+/// The certificates of a sound record are valid: one for each object of its history, and none
+/// besides.
 pub fn sound_record_is_accepted()
     ensures { (kinds : List Kind) (quota : ℕ) (journals : ℕ → List AnyEvent)
         (logs : ℕ → List AnyEntry)
@@ -21,8 +22,8 @@ pub fn sound_record_is_accepted()
         → AreValid events certificates }
 {}
 
-/// The text of the lines of a record's history spells forms that denote it, where its tickets are all the numbers below
-/// some number and its objects are at most 65,535, as in each sound record.
+/// The text of the lines of a record's history spells forms that denote it, where its tickets are
+/// all the numbers below some number and its objects are at most 65,535, as in each sound record.
 pub fn written_history_denotes()
     ensures written { WrittenDenotes }
     ensures sound { SoundWrittenDenotes }

@@ -157,7 +157,8 @@ fn history_text(alloc: Global, lines: &[Line]) -> Result<Vec<u8>, AllocError>
     }
 }
 
-/// Writes the lines of a record's history, in order of tickets. Where memory is refused nothing goes out.
+/// Writes the lines of a record's history, in order of tickets. Where memory is refused nothing
+/// goes out.
 pub fn write_history<S: SeqObject, K: Sink>(
     alloc: Global,
     account: &Record<S>,

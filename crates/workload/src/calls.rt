@@ -20,7 +20,8 @@ fn draw_calls(
     generator: &mut Lcg64Xsh32,
 ) -> Result<Vec<(u32, AnyOp)>, AllocError>
     requires { 0 < objects }
-    ensures calls { IfOk result (λ v. v.items ≡ calls_from kinds objects count (stream_at generator.old)) }
+    ensures calls { IfOk result (λ v. v.items
+        ≡ calls_from kinds objects count (stream_at generator.old)) }
     ensures count { IfOk result (λ v. length v.items ≡ count) }
     ensures fit { IfOk result (λ v. All (IsCall (kinds_of kinds objects)) v.items) }
 {
@@ -32,7 +33,8 @@ fn draw_calls(
     Ok(calls)
 }
 
-/// So many pairs of calls on mutexes: each acquires one that was drawn, and releases it. Both draw their numbers.
+/// So many pairs of calls on mutexes: each acquires one that was drawn, and releases it. Both draw
+/// their numbers.
 fn draw_pairs(
     alloc: Global,
     objects: u32,
@@ -40,9 +42,11 @@ fn draw_pairs(
     generator: &mut Lcg64Xsh32,
 ) -> Result<Vec<(u32, AnyOp)>, AllocError>
     requires { 0 < objects }
-    ensures calls { IfOk result (λ v. v.items ≡ mutex_calls_from objects count (stream_at generator.old)) }
+    ensures calls { IfOk result (λ v. v.items
+        ≡ mutex_calls_from objects count (stream_at generator.old)) }
     ensures count { IfOk result (λ v. length v.items ≡ count * 2) }
-    ensures fit { IfOk result (λ v. All (IsCall (kinds_of (Kinds.One Kind.Mutex) objects)) v.items) }
+    ensures fit { IfOk result (λ v. All (IsCall (kinds_of (Kinds.One Kind.Mutex) objects))
+        v.items) }
 {
     let mut calls = Vec::with_capacity(alloc, count as usize * 2)?;
     for _ in 0..count {

@@ -22,10 +22,12 @@ fn kinds_for(alloc: Global, kinds: Kinds, objects: u32) -> Result<Vec<Kind>, All
     Ok(all)
 }
 
-/// The calls of so many clients on so many objects, each client's drawn from the seed and its number.
+/// The calls of so many clients on so many objects, each client's drawn from the seed and its
+/// number.
 ///
-/// For each call four numbers are drawn: the object, the choice of an operation, and two values below 100. The calls of a
-/// mutex come in pairs, acquire and release; an odd one at the end is left out.
+/// For each call four numbers are drawn: the object, the choice of an operation, and two values
+/// below 100. The calls of a mutex come in pairs, acquire and release; an odd one at the end is
+/// left out.
 pub fn workload(
     alloc: Global,
     kinds: Kinds,

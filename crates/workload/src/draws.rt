@@ -29,7 +29,8 @@ fn below(generator: &mut Lcg64Xsh32, n: u32) -> u32
 pub(crate) fn draw(generator: &mut Lcg64Xsh32, objects: u32) -> Draws
     requires { 0 < objects }
     ensures within { result.object < objects }
-    ensures drawn { (result, stream_at generator.new) ≡ draws_from objects (stream_at generator.old) }
+    ensures drawn { (result, stream_at generator.new)
+        ≡ draws_from objects (stream_at generator.old) }
 {
     let object = below(generator, objects);
     let choice = below(generator, 6);

@@ -1,4 +1,5 @@
-//! The calls that the clients of a desk are to make: drawn from a seed, so that the same words give the same calls.
+//! The calls that the clients of a desk are to make: drawn from a seed, so that the same words give
+//! the same calls.
 #![tactic(auto)]
 
 mod calls;

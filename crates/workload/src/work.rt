@@ -6,7 +6,8 @@ ghost use Rattle.workload.specs.Workloads.{calls_at, IsCall};
 use model::{AnyOp, Kind};
 use std::marker::Model;
 
-/// The kind of each object; and the calls of each client, in order: the object's number, and the operation.
+/// The kind of each object; and the calls of each client, in order: the object's number, and the
+/// operation.
 #[derive(Drop)]
 pub struct Workload {
     pub(crate) kinds: Vec<Kind>,
@@ -21,7 +22,8 @@ impl Model for Workload {
 
     ghost view = { λ w. record { kinds = w.kinds.items; calls = map (λ v. v.items) w.calls.items } };
 
-    ghost invariant = { λ w. IsWorkload (record { kinds = w.kinds.items; calls = map (λ v. v.items) w.calls.items }) };
+    ghost invariant = { λ w. IsWorkload
+        (record { kinds = w.kinds.items; calls = map (λ v. v.items) w.calls.items }) };
 }
 
 impl Workload {
@@ -55,7 +57,8 @@ impl Workload {
 
     /// The greatest number of calls of a client.
     pub fn quota(&self) -> u32
-        ensures enough { (c : ℕ) → c < length self.now.calls → length (calls_at self.now c) ≤ result }
+        ensures enough { (c : ℕ) → c < length self.now.calls
+            → length (calls_at self.now c) ≤ result }
         ensures few { result < 10001 }
     {
         let mut most = 0;

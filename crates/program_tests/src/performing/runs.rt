@@ -1,4 +1,5 @@
-//! What is put out of the records of runs: those of schedules, which say the steps of each client, and that of one client alone.
+//! What is put out of the records of runs: those of schedules, which say the steps of each client,
+//! and that of one client alone.
 
 use super::workers::{ALONE, ALONE_LINES};
 use super::{check_failing_output, performed};
@@ -150,7 +151,8 @@ fn the_record_of_a_schedule_is_written_with_its_certificates(rt: HostRuntime) ->
     Ok(())
 }
 
-/// An output that fails after any number of bytes has a beginning of the lines, be the record that of a schedule or of a run.
+/// An output that fails after any number of bytes has a beginning of the lines, be the record that
+/// of a schedule or of a run.
 #[test]
 fn an_output_that_fails_has_a_beginning_of_a_record(rt: HostRuntime) -> Result<(), Fail> {
     let text = format!(in rt.alloc(); "{QUEUE}{OVERLAPPING_STEPS}")?;

@@ -143,7 +143,8 @@ fn a_search_answers_for_each_object(rt: HostRuntime) -> Result<(), Fail> {
     Ok(())
 }
 
-/// Certificates are found for each history that a check answers yes, and a check answers yes to those too.
+/// Certificates are found for each history that a check answers yes, and a check answers yes to
+/// those too.
 #[test]
 fn what_a_search_finds_is_accepted(rt: HostRuntime) -> Result<(), Fail> {
     check_certificates(&rt, &search_line(rt.alloc(), AMPLE)?)

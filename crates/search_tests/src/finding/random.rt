@@ -1,5 +1,6 @@
-//! Histories at random, in which each value is put in once and each call returns: where the bounded search finds an order of a small
-//! one, the finder does. Behind so many calls that the finder makes no search, only its way for the kind is left to find it.
+//! Histories at random, in which each value is put in once and each call returns: where the bounded
+//! search finds an order of a small one, the finder does. Behind so many calls that the finder
+//! makes no search, only its way for the kind is left to find it.
 
 use super::objects_of;
 use checker::check_object;
@@ -27,7 +28,8 @@ impl Random {
     }
 }
 
-/// What an object holds: the values of a queue, stack or heap, what two cells hold, and whether a mutex is held.
+/// What an object holds: the values of a queue, stack or heap, what two cells hold, and whether a
+/// mutex is held.
 #[derive(Debug, Drop)]
 struct Contents {
     values: Vec<u32>,
@@ -216,7 +218,8 @@ fn calls_of(
     Ok(calls)
 }
 
-/// When the calls begin and return, each around its turn: the moment, the place of the call, and whether it returns.
+/// When the calls begin and return, each around its turn: the moment, the place of the call, and
+/// whether it returns.
 fn moments_of(
     alloc: Global,
     random: &mut Random,
@@ -352,7 +355,8 @@ fn what_a_search_finds_is_found(rt: HostRuntime) -> Result<(), Fail> {
     Ok(())
 }
 
-/// Nothing but the way for the kind can find an order behind the idle calls, and it finds one wherever there is one.
+/// Nothing but the way for the kind can find an order behind the idle calls, and it finds one
+/// wherever there is one.
 fn check_behind_idle_calls<R: AllocGlobal + Abort>(rt: &R, kind: Kind) -> Result<(), Fail> {
     let alloc = rt.alloc();
     let mut random = Random { state: 2026 };

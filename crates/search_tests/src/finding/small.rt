@@ -1,5 +1,6 @@
-//! Small histories of three processes over the values 1 and 2: each one of at most three operations, and some of four and of five.
-//! Histories that differ in the names of processes, or in the order of neighbours that both begin or both return, count as one.
+//! Small histories of three processes over the values 1 and 2: each one of at most three
+//! operations, and some of four and of five. Histories that differ in the names of processes, or in
+//! the order of neighbours that both begin or both return, count as one.
 
 use super::objects_of;
 use super::random::Random;
@@ -64,8 +65,9 @@ const MUTEX: [(&'static str, &'static str); 2] = [
     ("invoke :f :release", "ok :f :release"),
 ];
 
-/// Whether these digits say whose turn each event is, so that each process that has begun returns, processes are named as they come,
-/// and neighbours that both begin or both return are in the order of their names.
+/// Whether these digits say whose turn each event is, so that each process that has begun returns,
+/// processes are named as they come, and neighbours that both begin or both return are in the order
+/// of their names.
 fn are_turns(events: u32, mut turns: u32) -> bool {
     let mut busy = [false; 3];
     let mut named: usize = 0;

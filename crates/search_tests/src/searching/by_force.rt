@@ -72,8 +72,8 @@ fn is_busy(stage: Stage) -> bool {
     }
 }
 
-/// A history of two processes: whose turn each event is, and the operations, both by their digits. `None` where a
-/// process stays busy, or goes on where nothing is known of its operation.
+/// A history of two processes: whose turn each event is, and the operations, both by their digits.
+/// `None` where a process stays busy, or goes on where nothing is known of its operation.
 fn text_of(
     alloc: Global,
     words: &Words,
@@ -113,7 +113,8 @@ fn text_of(
     Ok(Some(text))
 }
 
-/// Makes the order that these digits name, where each names another operation and nothing follows a 0.
+/// Makes the order that these digits name, where each names another operation and nothing follows a
+/// 0.
 fn names_order(
     order: &mut Vec<i64>,
     object: &ObjectHistory,
