@@ -62,6 +62,18 @@ def refused(program, report):
         report.holds(f"refused: {' '.join(words) or 'no word'}", is_well, ran)
 
 
+def bad_words_are_told(program, report):
+    """An option that takes one of some words, and is given another, is named, with the words that it takes."""
+    kinds = ("queue", "stack", "heap", "register", "map", "mutex", "mixed")
+    for words, option, taken in (
+        (("run", "--kind", "tree"), "--kind", kinds),
+        (("search", "--first", "last", "one.edn"), "--first", ("number", "return")),
+    ):
+        ran = program.run(*words)
+        lacks = [it for it in (option, *taken) if it.encode() not in ran.err]
+        report.equal(f"refused: {' '.join(words)}: what it names", [], lacks, ran.err)
+
+
 def not_utf_8(program, report):
     """Words that are no UTF-8 are refused."""
     message = "fcbench: a word of the command line is not UTF-8\n"
@@ -85,4 +97,4 @@ def limits(program, report):
         report.answers(f"search --first {first}", program.run("search", "--first", first, "empty.edn"), "", 0)
 
 
-PARTS = (help_texts, refused, not_utf_8, limits)
+PARTS = (help_texts, refused, bad_words_are_told, not_utf_8, limits)
