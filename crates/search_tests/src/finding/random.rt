@@ -5,7 +5,7 @@
 use super::objects_of;
 use checker::check_object;
 use events::ObjectHistory;
-use finder::{SearchOutcome, find};
+use finder::{FindOutcome, find};
 use order_search::{Outcome, TryFirst, find_order};
 use seq_objects::Kind;
 use std::alloc::{AllocError, Global};
@@ -305,13 +305,13 @@ fn searched(alloc: Global, history: &ObjectHistory) -> Result<Option<bool>, Fail
 /// Whether the finder finds an order of the object, which the checker accepts.
 fn found(alloc: Global, history: &ObjectHistory) -> Result<bool, Fail> {
     match find(alloc, history)? {
-        SearchOutcome::Order(certificate) => {
+        FindOutcome::Order(certificate) => {
             if check_object(alloc, history, &certificate).is_err() {
                 return Err(Fail::new("what is found is refused"));
             }
             Ok(true)
         }
-        SearchOutcome::Open => Ok(false),
+        FindOutcome::Open => Ok(false),
     }
 }
 

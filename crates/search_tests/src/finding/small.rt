@@ -5,7 +5,7 @@
 use super::objects_of;
 use super::random::Random;
 use events::ObjectHistory;
-use finder::{SearchOutcome, find};
+use finder::{FindOutcome, find};
 use order_search::{Outcome, TryFirst, find_order};
 use std::alloc::{AllocError, Global};
 use std::test::Fail;
@@ -133,7 +133,7 @@ struct Counts {
 /// Whether an order is found, which it is where the search finds one.
 fn is_found(alloc: Global, object: &ObjectHistory) -> Result<bool, Fail> {
     let search = find_order(alloc, object, TryFirst::LeastNumber, 1_000_000);
-    let found = matches!(find(alloc, object)?, SearchOutcome::Order(_));
+    let found = matches!(find(alloc, object)?, FindOutcome::Order(_));
     if found != matches!(search.outcome, Outcome::Found(_)) {
         return Err(Fail::new("the search finds what is not found"));
     }
