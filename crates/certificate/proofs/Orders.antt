@@ -1,10 +1,10 @@
 -- A certificate, by what is kept of it.
 use Rattle.std.proofs.Common.{◌≡◌, ℕ, Option, Some, None, List, refl, sym, ap, ◌∙◌, codes}
 use Rattle.std.specs.Prelude.{ℤ}
-use Rattle.edn.specs.Truncation.{truncated_entries, truncated, integer_vector_at}
-use Rattle.edn.specs.Datum.{Datum, atom, vector, dictionary}
-use Rattle.edn.specs.Pieces.{token_buffer_tokens}
-use Rattle.edn.specs.declared.Piece.{Piece}
+use Rattle.edn_reader.specs.Truncation.{truncated_entries, truncated, integer_vector_at}
+use Rattle.edn_reader.specs.Datum.{Datum, atom, vector, dictionary}
+use Rattle.edn_reader.specs.Pieces.{token_buffer_tokens}
+use Rattle.edn_reader.specs.declared.Piece.{Piece}
 use Rattle.edn_fields.specs.Fields.{value_at, natural_in, object_in}
 use Rattle.edn_fields.specs.Values.{IsValueIn, natural_first}
 use Rattle.edn_fields.proofs.Truncation.{value_of_truncated, natural_of_truncated, integer_vector_of_value}

@@ -1,5 +1,6 @@
 -- Forms read one after the other.
-use Rattle.std.proofs.Common.{◌≡◌, ◌≢◌, ℕ, zero, suc, ◌+◌, ◌<◌, ◌≤◌, ◌==◌, Bool, true, false, cond, List, [], ◌∷◌, ◌++◌, length, take, drop, get_or, map, option_map, Option, Some, None, Contains, refl, ap, sym, ◌∙◌, length-append, arith}
+use Rattle.std.proofs.Common.{◌≡◌, ◌≢◌, ℕ, zero, suc, ◌+◌, ◌<◌, ◌≤◌, ◌==◌, Bool, true, false, cond, List, [], ◌∷◌, ◌++◌, length, take, drop, get_or}
+use Rattle.std.proofs.Common.{map, option_map, Option, Some, None, Contains, refl, ap, sym, ◌∙◌, length-append, arith}
 use Rattle.std.specs.Prelude.{ℤ, ◌||◌, codes}
 use Rattle.std.specs.List.{list_any}
 use Rattle.std.proofs.lemmas.Bool.{both_ways, or_parts, eqb-true, eq-eqb}
@@ -7,10 +8,10 @@ use Rattle.std.proofs.lemmas.List.{drop_more, take_more, take-append-drop, lengt
 use Rattle.std.proofs.Math.ListN.{get_or-append}
 use Rattle.std.proofs.Math.Seq.{get_or-append_seam}
 use Rattle.std.proofs.lemmas.List.Quantifiers.{all_pairs_push}
-use Rattle.edn.specs.Truncation.{integers_in}
-use Rattle.edn.specs.Datum.{Datum, dictionary, Entries, items_of}
-use Rattle.edn.specs.View.{view, views}
-use Rattle.edn.specs.declared.form.Form.{Form}
+use Rattle.edn_reader.specs.Truncation.{integers_in}
+use Rattle.edn_reader.specs.Datum.{Datum, dictionary, Entries, items_of}
+use Rattle.edn_reader.specs.View.{view, views}
+use Rattle.edn_reader.specs.declared.form.Form.{Form}
 use Rattle.edn_fields.specs.Fields.{value_at, natural_in, object_in}
 use Rattle.certificate.specs.Denotes.{Reading, order_in, reading_with, certificate_of, reading_of, AreDistinct, Denotes}
 use Rattle.certificate.specs.Faults.{number_of, IsFault, IsFaultless, IsFirstFault, IsSoundAt}
@@ -34,7 +35,8 @@ at_place fs i f lt e = drop_more fs i f lt ∙ ap (λ (y : Form). y ∷ drop (i 
 pub no_object : (es : Entries) (v : Option Datum) (n : Option ℕ) → v ≡ value_at (codes "object") es → n ≡ natural_in v → None ≡ object_in n → None ≡ certificate_of (dictionary es)
 no_object es v n h k e = ap (λ x. reading_with x (order_in (value_at (codes "order") es))) (e ∙ ap object_in k ∙ ap (λ w. object_in (natural_in w)) h)
 
-pub both_keys : (es : Entries) (v w : Option Datum) (n x : Option ℕ) (o : Option (List ℤ)) → v ≡ value_at (codes "object") es → n ≡ natural_in v → x ≡ object_in n → w ≡ value_at (codes "order") es → o ≡ order_in w
+pub both_keys : (es : Entries) (v w : Option Datum) (n x : Option ℕ) (o : Option (List ℤ)) → v ≡ value_at (codes "object") es → n ≡ natural_in v
+    → x ≡ object_in n → w ≡ value_at (codes "order") es → o ≡ order_in w
     → reading_with x o ≡ certificate_of (dictionary es)
 both_keys es v w n x o h k e g q =
     ap (λ y. reading_with y o) (e ∙ ap object_in k ∙ ap (λ u. object_in (natural_in u)) h) ∙ ap (reading_with (object_in (natural_in (value_at (codes "object") es)))) (q ∙ ap order_in g)
@@ -75,13 +77,16 @@ list_any-some : (p : Certificate → Bool) (cs : List Certificate) → list_any 
 list_any-some p [] h = absurd cc
 list_any-some p (c ∷ cs) h = passes_first p c cs (p c) refl h (list_any-some p cs)
 
-pub one_more_read : (ds : List Datum) (cs : List Certificate) (among after : ℕ → Bool) (d : Datum) (c : Certificate) → AreRead ds cs among → certificate_of d ≡ Some (reading_of c) → among c.object ≡ false
+pub one_more_read : (ds : List Datum) (cs : List Certificate) (among after : ℕ → Bool) (d : Datum) (c : Certificate) → AreRead ds cs among
+    → certificate_of d ≡ Some (reading_of c) → among c.object ≡ false
     → ((x : ℕ) → after x ≡ cond (c.object == x) true (among x)) → AreRead (ds ++ d ∷ []) (cs ++ c ∷ []) after
 one_more_read ds cs among after d c h own new more = record {
   denoted = record {
-    each = map-append certificate_of ds (d ∷ []) ∙ ap (λ xs. xs ++ certificate_of d ∷ []) h.denoted.each ∙ ap (λ v. map (λ b. Some (reading_of b)) cs ++ v ∷ []) own ∙ sym (map-append (λ b. Some (reading_of b)) cs (c ∷ []));
+    each = map-append certificate_of ds (d ∷ []) ∙ ap (λ xs. xs ++ certificate_of d ∷ []) h.denoted.each
+        ∙ ap (λ v. map (λ b. Some (reading_of b)) cs ++ v ∷ []) own ∙ sym (map-append (λ b. Some (reading_of b)) cs (c ∷ []));
     distinct = all_pairs_push (λ (a b : Certificate). a.object ≢ b.object) cs c h.denoted.distinct
-        (λ k e lt same. both_ways ((get_or cs k e).object == c.object) (list_any-none (λ b. b.object == c.object) cs k e (sym (h.objects c.object) ∙ new) lt) (eq-eqb (get_or cs k e).object c.object same));
+        (λ k e lt same. both_ways ((get_or cs k e).object == c.object)
+        (list_any-none (λ b. b.object == c.object) cs k e (sym (h.objects c.object) ∙ new) lt) (eq-eqb (get_or cs k e).object c.object same));
   };
   objects = λ x. more x ∙ ap (λ v. cond (c.object == x) true v) (h.objects x) ∙ sym (list_any-push (λ b. b.object == x) cs c);
 }
@@ -104,17 +109,27 @@ read_at (e ∷ es) later d [] h = absurd cc
 read_at (e ∷ es) later d (c ∷ cs) h =
     let r = read_at es later d cs cc in
     let first : certificate_of e ≡ Some (reading_of c) = cc in
-    record { before = c ∷ r.before; own = r.own; later = r.later; split = ap (λ xs. c ∷ xs) r.split; each = ap (λ v. v ∷ map certificate_of es) first ∙ ap (λ xs. Some (reading_of c) ∷ xs) r.each; is_own = r.is_own }
+    record {
+      before = c ∷ r.before;
+      own = r.own;
+      later = r.later;
+      split = ap (λ xs. c ∷ xs) r.split;
+      each = ap (λ v. v ∷ map certificate_of es) first
+          ∙ ap (λ xs. Some (reading_of c) ∷ xs) r.each;
+      is_own = r.is_own;
+    }
 
 -- the certificate of a form that was read
-read_from : (ds : List Datum) (cs : List Certificate) (d : Datum) (k : ℕ) → map certificate_of ds ≡ map (λ c. Some (reading_of c)) cs → k < length ds → get_or ds k d ≡ d → (c : Certificate) × Contains cs c × (certificate_of d ≡ Some (reading_of c))
+read_from : (ds : List Datum) (cs : List Certificate) (d : Datum) (k : ℕ) → map certificate_of ds ≡ map (λ c. Some (reading_of c)) cs → k < length ds
+    → get_or ds k d ≡ d → (c : Certificate) × Contains cs c × (certificate_of d ≡ Some (reading_of c))
 read_from [] cs d k h lt is = absurd (omega arith)
 read_from (e ∷ es) [] d k h lt is = absurd cc
 read_from (e ∷ es) (c ∷ cs) d zero h lt is = (c, (0, omega arith, refl), ap certificate_of (sym is) ∙ cc)
 read_from (e ∷ es) (c ∷ cs) d (suc k) h lt is = let r = read_from es cs d k (cc) (omega arith) is in (r.0, Contains-cons c cs r.0 r.1, r.2)
 
 -- the form of a certificate
-form_from : (ds : List Datum) (cs : List Certificate) (c : Certificate) (k : ℕ) → map certificate_of ds ≡ map (λ b. Some (reading_of b)) cs → k < length cs → get_or cs k c ≡ c → (d : Datum) × Contains ds d × (certificate_of d ≡ Some (reading_of c))
+form_from : (ds : List Datum) (cs : List Certificate) (c : Certificate) (k : ℕ) → map certificate_of ds ≡ map (λ b. Some (reading_of b)) cs
+    → k < length cs → get_or cs k c ≡ c → (d : Datum) × Contains ds d × (certificate_of d ≡ Some (reading_of c))
 form_from ds [] c k h lt is = absurd (omega arith)
 form_from [] (b ∷ bs) c k h lt is = absurd cc
 form_from (e ∷ es) (b ∷ bs) c zero h lt is = let own : certificate_of e ≡ Some (reading_of b) = cc in (e, (0, omega arith, refl), own ∙ ap (λ (x : Certificate). Some (reading_of x)) is)
@@ -172,7 +187,8 @@ parts_at : (fs : List Form) (i : ℕ) (f : Form) → i < length fs → f ≡ get
 parts_at fs i f lt is = ap views (sym (take-append-drop i fs) ∙ ap (λ (xs : List Form). take i fs ++ xs) (at_place fs i f lt is)) ∙ map-append view (take i fs) (f ∷ drop (i + 1) fs)
 
 -- the first fault, behind forms that were read
-pub first_fault : (fs : List Form) (i : ℕ) (f : Form) (cs : List Certificate) (among : ℕ → Bool) (kind : CertFaultKind) → i < length fs → f ≡ get_or fs i f → AreRead (views (take i fs)) cs among → IsFaultAmong among (view f) kind
+pub first_fault : (fs : List Form) (i : ℕ) (f : Form) (cs : List Certificate) (among : ℕ → Bool) (kind : CertFaultKind) → i < length fs
+    → f ≡ get_or fs i f → AreRead (views (take i fs)) cs among → IsFaultAmong among (view f) kind
     → kind ≢ NoMemory → IsFirstFault (views fs) (record { kind = kind; form = i })
 first_fault fs i f cs among kind lt is h fault other = record {
   earlier = views (take i fs);
@@ -186,7 +202,8 @@ first_fault fs i f cs among kind lt is h fault other = record {
 }
 
 -- a certificate of an object that no earlier form has
-pub nothing_here : (ds : List Datum) (cs : List Certificate) (among : ℕ → Bool) (d : Datum) (r : Reading) → AreRead ds cs among → certificate_of d ≡ Some r → among r.object ≡ false → (kind : CertFaultKind) → IsFault ds d kind → ⊥
+pub nothing_here : (ds : List Datum) (cs : List Certificate) (among : ℕ → Bool) (d : Datum) (r : Reading) → AreRead ds cs among
+    → certificate_of d ≡ Some r → among r.object ≡ false → (kind : CertFaultKind) → IsFault ds d kind → ⊥
 nothing_here ds cs among d r h own new NotACertificate fault = cc
 nothing_here ds cs among d r h own new TwoForOneObject fault =
     let f = read_from ds cs fault.first fault.stands.0 h.denoted.each fault.stands.1 fault.stands.2 in
@@ -196,7 +213,8 @@ nothing_here ds cs among d r h own new TwoForOneObject fault =
     both_ways ((get_or cs f.1.0 f.0).object == x) none (eq-eqb (get_or cs f.1.0 f.0).object x (ap (λ (b : Certificate). b.object) f.1.2 ∙ same))
 nothing_here ds cs among d r h own new NoMemory fault = fault
 
-pub sound_at : (fs : List Form) (i : ℕ) (f : Form) (cs : List Certificate) (among : ℕ → Bool) (r : Reading) → i < length fs → f ≡ get_or fs i f → AreRead (views (take i fs)) cs among → certificate_of (view f) ≡ Some r → among r.object ≡ false → IsSoundAt (views fs) i
+pub sound_at : (fs : List Form) (i : ℕ) (f : Form) (cs : List Certificate) (among : ℕ → Bool) (r : Reading) → i < length fs → f ≡ get_or fs i f
+    → AreRead (views (take i fs)) cs among → certificate_of (view f) ≡ Some r → among r.object ≡ false → IsSoundAt (views fs) i
 sound_at fs i f cs among r lt is h own new = record {
   earlier = views (take i fs);
   form = view f;

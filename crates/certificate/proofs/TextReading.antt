@@ -4,7 +4,7 @@ use Rattle.std.specs.Ordering.{nat_cmp}
 use Rattle.std.specs.Prelude.{is_some}
 use Rattle.std.specs.BTreeSet.{contains}
 use Rattle.std.proofs.lemmas.List.{length-map}
-use Rattle.edn.specs.Datum.{Datum}
+use Rattle.edn_reader.specs.Datum.{Datum}
 use Rattle.certificate.specs.declared.Certificate.{Certificate}
 use Rattle.certificate.specs.declared.fault.CertFault.{CertFault}
 use Rattle.certificate.specs.declared.fault.CertFaultKind.{CertFaultKind}
@@ -31,7 +31,8 @@ sound_more ds d n h = record {
 faulty_more : (r : Reading) (f : CertFault) (ds : List Datum) (d : Datum) → r.fault ≡ Some f → IsReading r ds → IsReading r (ds ++ d ∷ [])
 faulty_more r f ds d e h =
     let a : IsFoundIn ds f = subst (λ (o : Option CertFault). IsReadOrFaulty o ds r.certificates.items (contains nat_cmp r.objects)) e h in
-    subst (λ (o : Option CertFault). IsReadOrFaulty o (ds ++ d ∷ []) r.certificates.items (contains nat_cmp r.objects)) (sym e) (λ n. first_more ds d f.form f.kind (a.0 n), λ m. sound_more ds d f.form (a.1 m))
+    subst (λ (o : Option CertFault). IsReadOrFaulty o (ds ++ d ∷ []) r.certificates.items (contains nat_cmp r.objects)) (sym e)
+    (λ n. first_more ds d f.form f.kind (a.0 n), λ m. sound_more ds d f.form (a.1 m))
 
 pub still_faulty : (r : Reading) (ds : List Datum) (d : Datum) → is_some r.fault ≡ true → IsReading r ds → IsReading r (ds ++ d ∷ [])
 still_faulty r ds d e h = by_fault r.fault refl
@@ -47,9 +48,19 @@ one_each : (ds : List Datum) (cs : List Certificate) → Denotes ds cs → lengt
 one_each ds cs h = sym (length-map ds certificate_of) ∙ ap length h.each ∙ length-map cs (λ c. Some (reading_of c))
 
 -- what is wrong with the form behind those that were read, or that memory was refused for it
-pub found : (ds : List Datum) (cs : List Certificate) (among : ℕ → Bool) (d : Datum) (kind : CertFaultKind) → AreRead ds cs among → IsFaultAmong among d kind → IsFoundIn (ds ++ d ∷ []) (record { kind = kind; form = length cs })
+pub found : (ds : List Datum) (cs : List Certificate) (among : ℕ → Bool) (d : Datum) (kind : CertFaultKind) → AreRead ds cs among
+    → IsFaultAmong among d kind → IsFoundIn (ds ++ d ∷ []) (record { kind = kind; form = length cs })
 found ds cs among d kind h fault = (
-  λ n. record { earlier = ds; form = d; later = []; split = refl; place = one_each ds cs h.denoted; stands = fault_here ds cs among d kind h fault n; least = no_fault ds cs h.denoted; first = λ k. only_fault ds d kind k (fault_here ds cs among d kind h fault n) },
+  λ n. record {
+    earlier = ds;
+    form = d;
+    later = [];
+    split = refl;
+    place = one_each ds cs h.denoted;
+    stands = fault_here ds cs among d kind h fault n;
+    least = no_fault ds cs h.denoted;
+    first = λ k. only_fault ds d kind k (fault_here ds cs among d kind h fault n);
+  },
   λ m. (
       let r = subst (IsFaultAmong among d) m fault in
       record { earlier = ds; form = d; later = []; split = refl; stands_at = one_each ds cs h.denoted; least = no_fault ds cs h.denoted; none = nothing_here ds cs among d r.0 h r.1 r.2 }

@@ -1,18 +1,19 @@
 -- Certificates written one after the other.
-use Rattle.std.proofs.Common.{◌≡◌, ℕ, ◌+◌, ◌<◌, ◌≤◌, Bool, true, false, suc, List, [], ◌∷◌, ◌++◌, length, take, drop, get_or, map, option_map, Some, None, lit<, refl, ap, sym, ◌∙◌, subst, append_assoc, arith}
+use Rattle.std.proofs.Common.{◌≡◌, ℕ, ◌+◌, ◌<◌, ◌≤◌, Bool, true, false, suc, List, [], ◌∷◌, ◌++◌, length, take, drop, get_or, map, option_map, Some}
+use Rattle.std.proofs.Common.{None, lit<, refl, ap, sym, ◌∙◌, subst, append_assoc, arith}
 use Rattle.std.specs.Prelude.{ℤ, pos, codes, if◌then◌else◌}
 use Rattle.std.specs.Fmt.{signed_decimal}
 use Rattle.std.specs.List.{AllByRecursion}
 use Rattle.std.proofs.lemmas.List.{drop_more, take_more, append-nil}
 use Rattle.std.proofs.lemmas.Bool.{le-leb}
-use Rattle.edn.specs.Bytes.{is_name}
-use Rattle.edn.specs.Truncation.{integers_in}
-use Rattle.edn.specs.Datum.{Datum, integer, atom, vector, dictionary, no_entries, entry, items_of, Fits, ItemsFit, max_open}
-use Rattle.edn.specs.Spells.{Spells}
-use Rattle.edn.specs.Text.{between, IsInt64, InProfile, ItemsInProfile, text_of, items_text}
-use Rattle.edn.specs.Text as edn
-use Rattle.edn.specs.Laws.{EachSpelled}
-use Rattle.edn.proofs.Joined.{text_spells_it, lines_spell_them}
+use Rattle.edn_reader.specs.Bytes.{is_name}
+use Rattle.edn_reader.specs.Truncation.{integers_in}
+use Rattle.edn_reader.specs.Datum.{Datum, integer, atom, vector, dictionary, no_entries, entry, items_of, Fits, ItemsFit, max_open}
+use Rattle.edn_reader.specs.Spells.{Spells}
+use Rattle.edn_reader.specs.Text.{between, IsInt64, InProfile, ItemsInProfile, text_of, items_text}
+use Rattle.edn_reader.specs.Text as edn
+use Rattle.edn_reader.specs.Laws.{EachSpelled}
+use Rattle.edn_reader.proofs.Joined.{text_spells_it, lines_spell_them}
 use Rattle.certificate.specs.Denotes.{reading_with, certificate_of, reading_of, AreDistinct}
 use Rattle.certificate.specs.Lines.{numbers_text, line_of, lines_of, AreInRange, SpellsCertificates}
 use Rattle.certificate.specs.declared.Certificate.{Certificate}
@@ -91,7 +92,8 @@ numbers_read (z ∷ zs) = ap (option_map (λ ys. z ∷ ys)) (numbers_read zs)
 
 datum_denotes : (c : Certificate) → c.object ≤ 65535 → certificate_of (datum_of c) ≡ Some (reading_of c)
 unfolding datum_of
-datum_denotes c small = ap (λ b. reading_with (if b then Some c.object else None) (integers_in (items_of (numbers_data c.order.items)))) (le-leb c.object 65535 small) ∙ ap (reading_with (Some c.object)) (numbers_read c.order.items)
+datum_denotes c small = ap (λ b. reading_with (if b then Some c.object else None) (integers_in (items_of (numbers_data c.order.items))))
+    (le-leb c.object 65535 small) ∙ ap (reading_with (Some c.object)) (numbers_read c.order.items)
 
 data_of : List Certificate → List Datum
 data_of cs = map datum_of cs
@@ -114,7 +116,8 @@ each_spelled (c ∷ cs) r p =
 each_denoted : (cs : List Certificate) → AreInRange cs → map certificate_of (data_of cs) ≡ map (λ c. Some (reading_of c)) cs
 unfolding data_of
 each_denoted [] r = refl
-each_denoted (c ∷ cs) r = ap (λ v. v ∷ map certificate_of (map datum_of cs)) (datum_denotes c (r 0 c (omega arith))) ∙ ap (λ vs. Some (reading_of c) ∷ vs) (each_denoted cs (λ k d lt. r (suc k) d (omega arith)))
+each_denoted (c ∷ cs) r = ap (λ v. v ∷ map certificate_of (map datum_of cs)) (datum_denotes c (r 0 c (omega arith)))
+    ∙ ap (λ vs. Some (reading_of c) ∷ vs) (each_denoted cs (λ k d lt. r (suc k) d (omega arith)))
 
 pub lines_spell : (cs : List Certificate) → InProfiles cs → AreDistinct cs → AreInRange cs → SpellsCertificates cs (lines_of cs)
 lines_spell cs p apart r = record {

@@ -1,8 +1,8 @@
 -- The certificates that the forms of a text denote.
 use Rattle.std.specs.Prelude.{◌≡◌, ◌≢◌, ℕ, ℤ, List, Option, Some, None, option_and_then, map, codes}
 use Rattle.std.specs.Prelude.{AllPairs}
-use Rattle.edn.specs.Truncation.{integer_vector_of}
-use Rattle.edn.specs.Datum.{Datum, atom, vector, dictionary}
+use Rattle.edn_reader.specs.Truncation.{integer_vector_of}
+use Rattle.edn_reader.specs.Datum.{Datum, atom, vector, dictionary}
 use Rattle.edn_fields.specs.Fields.{value_at, natural_in, object_in}
 use Rattle.certificate.specs.declared.Certificate.{Certificate}
 

@@ -2,7 +2,7 @@
 -- it.
 use Rattle.std.specs.Prelude.{◌≡◌, ◌==◌, ℕ, Bool, true, false, Some, None, List}
 use Rattle.std.specs.List.{list_any}
-use Rattle.edn.specs.Datum.{Datum}
+use Rattle.edn_reader.specs.Datum.{Datum}
 use Rattle.certificate.specs.Denotes.{Reading, certificate_of, Denotes}
 use Rattle.certificate.specs.declared.Certificate.{Certificate}
 use Rattle.certificate.specs.declared.fault.CertFaultKind.{CertFaultKind}

@@ -4,5 +4,5 @@ pub mod Lines
 pub mod Inside
 pub mod TokenBuffers
 pub mod Texts
-pub use Rattle.edn.specs.Datum
-pub use Rattle.edn.specs.View
+pub use Rattle.edn_reader.specs.Datum
+pub use Rattle.edn_reader.specs.View

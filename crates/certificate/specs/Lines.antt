@@ -2,9 +2,9 @@
 use Rattle.std.specs.Prelude.{ℕ, ◌≤◌, ℤ, Bool, true, false, List, [], ◌∷◌, ◌++◌, codes, decimal}
 use Rattle.std.specs.Prelude.{All}
 use Rattle.std.specs.Fmt.{signed_decimal}
-use Rattle.edn.specs.Datum.{Datum}
-use Rattle.edn.specs.Spells.{Spells}
-use Rattle.edn.specs.Text.{between}
+use Rattle.edn_reader.specs.Datum.{Datum}
+use Rattle.edn_reader.specs.Spells.{Spells}
+use Rattle.edn_reader.specs.Text.{between}
 use Rattle.edn_fields.specs.Fields.{max_object}
 use Rattle.certificate.specs.Denotes.{Denotes}
 use Rattle.certificate.specs.declared.Certificate.{Certificate}

@@ -2,11 +2,11 @@
 use Rattle.std.specs.Prelude.{◌≡◌, ◌≢◌, ℕ, Bool, List, Option, Some, None}
 use Rattle.std.specs.Ordering.{nat_cmp}
 use Rattle.std.specs.BTreeSet.{contains}
-use Rattle.edn.specs.Datum.{Datum}
-use Rattle.edn.specs.Sound as edn_sound
-use Rattle.edn.specs.Sound.{IsShort, IsUnreadable}
-use Rattle.edn.specs.Spells.{Spells}
-use Rattle.edn.specs.declared.fault.FaultKind.TheVariants as edn_kind
+use Rattle.edn_reader.specs.Datum.{Datum}
+use Rattle.edn_reader.specs.Sound as edn_sound
+use Rattle.edn_reader.specs.Sound.{IsShort, IsUnreadable}
+use Rattle.edn_reader.specs.Spells.{Spells}
+use Rattle.edn_reader.specs.declared.fault.FaultKind.TheVariants as edn_kind
 use Rattle.certificate.specs.declared.Certificate.{Certificate}
 use Rattle.certificate.specs.declared.fault.CertFault.{CertFault}
 use Rattle.certificate.specs.declared.fault.CertFaultKind.TheVariants.{NoMemory}

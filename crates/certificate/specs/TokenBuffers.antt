@@ -1,11 +1,11 @@
 -- What is kept of a form that may be a certificate. No public clause speaks of it.
 use Rattle.std.specs.Prelude.{◌≡◌, ℕ, ℤ, List, Option, None, option_map, codes}
 use Rattle.std.specs.declared.vec.Vec.{Vec}
-use Rattle.edn.specs.Truncation.{truncated, integer_vector_at}
-use Rattle.edn.specs.Datum.{Datum, atom, vector, dictionary}
-use Rattle.edn.specs.Token.{tokens_of}
-use Rattle.edn.specs.Pieces.{token_buffer_tokens}
-use Rattle.edn.specs.declared.Piece.{Piece}
+use Rattle.edn_reader.specs.Truncation.{truncated, integer_vector_at}
+use Rattle.edn_reader.specs.Datum.{Datum, atom, vector, dictionary}
+use Rattle.edn_reader.specs.Token.{tokens_of}
+use Rattle.edn_reader.specs.Pieces.{token_buffer_tokens}
+use Rattle.edn_reader.specs.declared.Piece.{Piece}
 use Rattle.edn_fields.specs.Fields.{value_at, natural_in, object_in}
 
 -- the numbers of an integer vector

@@ -1,11 +1,12 @@
 //! From forms to certificates.
 
-ghost use Rattle.std.specs.Prelude.{◌≡◌, ◌≢◌, ◌==◌, if◌then◌else◌, ℕ, List, Some, None, true, false, is_some, IfOk, IfErr, IfSome, IfNone, All, option_map};
+ghost use Rattle.std.specs.Prelude.{◌≡◌, ◌≢◌, ◌==◌, if◌then◌else◌, ℕ, List, Some, None, true};
+ghost use Rattle.std.specs.Prelude.{false, is_some, IfOk, IfErr, IfSome, IfNone, All, option_map};
 ghost use Rattle.std.specs.Ordering.{nat_cmp};
 ghost use Rattle.std.specs.BTreeSet.{contains};
-ghost use Rattle.edn.specs.Truncation.{integers_in};
-ghost use Rattle.edn.specs.Datum.{Fits, max_open, items_of};
-ghost use Rattle.edn.specs.View.{view, views};
+ghost use Rattle.edn_reader.specs.Truncation.{integers_in};
+ghost use Rattle.edn_reader.specs.Datum.{Fits, max_open, items_of};
+ghost use Rattle.edn_reader.specs.View.{view, views};
 ghost use Rattle.certificate.specs.declared.Certificate.{Certificate};
 ghost use Rattle.certificate.specs.Denotes as spec;
 ghost use Rattle.certificate.specs.Denotes.{Denotes, AreDistinct};

@@ -1,14 +1,15 @@
 //! From a text to certificates, element by element.
 
-ghost use Rattle.std.specs.Prelude.{◌≡◌, ◌==◌, if◌then◌else◌, ◌++◌, ◌∷◌, [], ℕ, List, Some, None, true, false, IfOk, IfErr, OnOk, MatchResult};
+ghost use Rattle.std.specs.Prelude.{◌≡◌, ◌==◌, if◌then◌else◌, ◌++◌, ◌∷◌, [], ℕ, List, Some, None};
+ghost use Rattle.std.specs.Prelude.{true, false, IfOk, IfErr, OnOk, MatchResult};
 ghost use Rattle.std.specs.Ordering.{nat_cmp};
 ghost use Rattle.std.specs.BTreeSet.{contains};
-ghost use Rattle.edn.specs.Truncation.{truncated};
-ghost use Rattle.edn.specs.Datum.{Datum};
-ghost use Rattle.edn.specs.Pieces.{token_buffer_tokens};
-ghost use Rattle.edn.specs.Sound.{IsShort};
-ghost use Rattle.edn.specs.Spells.{Spells};
-ghost use Rattle.edn.specs.Token.{tokens_of};
+ghost use Rattle.edn_reader.specs.Truncation.{truncated};
+ghost use Rattle.edn_reader.specs.Datum.{Datum};
+ghost use Rattle.edn_reader.specs.Pieces.{token_buffer_tokens};
+ghost use Rattle.edn_reader.specs.Sound.{IsShort};
+ghost use Rattle.edn_reader.specs.Spells.{Spells};
+ghost use Rattle.edn_reader.specs.Token.{tokens_of};
 ghost use Rattle.certificate.specs.Denotes as spec;
 ghost use Rattle.certificate.specs.Denotes.{Denotes, AreDistinct};
 ghost use Rattle.certificate.specs.Inside.{IsFaultAmong};

@@ -1,5 +1,7 @@
 -- Checking one object after the other.
-use Rattle.std.proofs.Common.{◌≡◌, ◌≢◌, ℕ, zero, suc, ◌+◌, ◌<◌, ◌≤◌, ◌⊎◌, ◌↔◌, ◌++◌, ◌∷◌, [], List, Option, Some, None, IsSome, All, AllPairs, Contains, map, length, get_or, take, drop, OnOk, IfErr, Result, Ok, Err, inl, inr, refl, ap, sym, ◌∙◌, subst, arith, false}
+use Rattle.std.proofs.Common.{◌≡◌, ◌≢◌, ℕ, zero, suc, ◌+◌, ◌<◌, ◌≤◌, ◌⊎◌, ◌↔◌, ◌++◌, ◌∷◌, [], List, Option, Some, None, IsSome, All, AllPairs}
+use Rattle.std.proofs.Common.{Contains, map, length, get_or, take, drop, OnOk, IfErr, Result, Ok, Err, inl, inr, refl, ap, sym, ◌∙◌, subst, arith}
+use Rattle.std.proofs.Common.{false}
 use Rattle.std.proofs.lemmas.Option.{same_Some}
 use Rattle.std.specs.BTreeMap.{BTreeMap, get, is_at, btree_map_len}
 use Rattle.std.specs.Map.{lookup}
@@ -33,8 +35,10 @@ apart_or_same x y = elim (cases_order x y) [
 ]
 
 -- one more certificate has its place
-pub one_placed : (certificates : List Certificate) (m n : BTreeMap ℕ ℕ) (k : ℕ) (d : Certificate) → k < length certificates → d ≡ get_or certificates k d → ArePlaces m certificates → ((c : Certificate) → In c (take k certificates) → IsSome (get nat_cmp m c.object))
-    → get nat_cmp n d.object ≡ Some k → ((x : ℕ) → x ≢ d.object → get nat_cmp n x ≡ get nat_cmp m x) → ArePlaces n certificates × ((c : Certificate) → In c (take (k + 1) certificates) → IsSome (get nat_cmp n c.object))
+pub one_placed : (certificates : List Certificate) (m n : BTreeMap ℕ ℕ) (k : ℕ) (d : Certificate) → k < length certificates
+    → d ≡ get_or certificates k d → ArePlaces m certificates → ((c : Certificate) → In c (take k certificates) → IsSome (get nat_cmp m c.object))
+    → get nat_cmp n d.object ≡ Some k → ((x : ℕ) → x ≢ d.object → get nat_cmp n x ≡ get nat_cmp m x) → ArePlaces n certificates
+    × ((c : Certificate) → In c (take (k + 1) certificates) → IsSome (get nat_cmp n c.object))
 one_placed certificates m n k d l is places some own others = (
   λ x j q. elim (apart_or_same x d.object) [
     | inl e ↦ (
@@ -55,7 +59,8 @@ one_placed certificates m n k d l is places some own others = (
   ],
 )
 
-pub all_placed : (certificates : List Certificate) (m : BTreeMap ℕ ℕ) (k : ℕ) → length certificates ≤ k → ((c : Certificate) → In c (take k certificates) → IsSome (get nat_cmp m c.object)) → All (λ c. IsSome (get nat_cmp m c.object)) certificates
+pub all_placed : (certificates : List Certificate) (m : BTreeMap ℕ ℕ) (k : ℕ) → length certificates ≤ k
+    → ((c : Certificate) → In c (take k certificates) → IsSome (get nat_cmp m c.object)) → All (λ c. IsSome (get nat_cmp m c.object)) certificates
 all_placed certificates m k l some = all_from_in (λ (c : Certificate). IsSome (get nat_cmp m c.object)) certificates (λ c i. some c (subst (In c) (sym (take_all k certificates l)) i))
 
 -- a history's objects, in rising number, each with its kind and calls
@@ -92,7 +97,8 @@ pub fine_here : (kind : Kind) (calls : List Call) (certificates : List Certifica
 fine_here kind calls certificates x k d (Ok u) p is v h = record { certificate = has_here certificates x k d p is; valid = v; faultless = h }
 fine_here kind calls certificates x k d (Err e) p is v h = tt
 
-pub refused_here : (kind : Kind) (calls : List Call) (certificates : List Certificate) (x k : ℕ) (d : Certificate) (r : Result (Unit {0}) Refusal) → IsPlace certificates x k → d ≡ get_or certificates k d
+pub refused_here : (kind : Kind) (calls : List Call) (certificates : List Certificate) (x k : ℕ) (d : Certificate) (r : Result (Unit {0}) Refusal)
+    → IsPlace certificates x k → d ≡ get_or certificates k d
     → IfErr r (RefusesOrder x kind calls d.order.items) → (IsValidOrder kind calls d.order.items → IfErr r (λ e. e ≡ NoMemory)) → IfErr r (IsRefused kind calls certificates x)
 refused_here kind calls certificates x k d (Ok u) p is h exact = tt
 refused_here kind calls certificates x k d (Err (BadOrder y f)) p is h exact = (h.0, has_here certificates x k d p is, h.1, λ v. let e = exact v in cc e)
@@ -112,7 +118,8 @@ no_certificate certificates m x h none c =
 
 -- ---- one after the other
 
-pub one_more_fine : (es : List Event) (certificates : List Certificate) (os : List ObjectCalls) (o : ObjectCalls) → AreFine es certificates os → IsFineAt es certificates o.object → AreFine es certificates (os ++ o ∷ [])
+pub one_more_fine : (es : List Event) (certificates : List Certificate) (os : List ObjectCalls) (o : ObjectCalls) → AreFine es certificates os
+    → IsFineAt es certificates o.object → AreFine es certificates (os ++ o ∷ [])
 one_more_fine es certificates os o h fine = λ p i. elim (in_append p os (o ∷ []) i) [
   | inl j ↦ h p j
   | inr j ↦ elim j [
@@ -167,7 +174,8 @@ number_stands : (os : List ObjectCalls) (o : ObjectCalls) → In o os → Contai
 number_stands os o i = contains_from_in (map (λ (o : ObjectCalls). o.object) os) o.object (in_map_from (λ (o : ObjectCalls). o.object) o os i)
 
 -- where no place is left, each certificate is for one of these
-pub none_besides : (certificates : List Certificate) (os : List ObjectCalls) (left : BTreeMap ℕ ℕ) → AreLeft certificates os left → ((x : ℕ) → get nat_cmp left x ≡ None) → AreForThese (map (λ o. o.object) os) certificates
+pub none_besides : (certificates : List Certificate) (os : List ObjectCalls) (left : BTreeMap ℕ ℕ) → AreLeft certificates os left
+    → ((x : ℕ) → get nat_cmp left x ≡ None) → AreForThese (map (λ o. o.object) os) certificates
 none_besides certificates os left h empty = all_from_in (λ (c : Certificate). Contains (map (λ o. o.object) os) c.object) certificates
     (λ c i. let g = h.gone c i (empty c.object) in subst (Contains (map (λ o. o.object) os)) g.2 (number_stands os g.0 g.1))
 
@@ -181,7 +189,8 @@ pub least_besides : (certificates : List Certificate) (os : List ObjectCalls) (l
     → get nat_cmp left x ≡ Some k → ((q : ℕ) → IsSome (get nat_cmp left q) → is_gt (nat_cmp x q) ≡ false) → IsLeastBesides (map (λ o. o.object) os) certificates x
 least_besides certificates os left x k h there lower = record {
   certified = let p = h.places x k there in let e = element certificates k p.inside in has_here certificates x k e.0 p e.1;
-  besides = λ stands. let o = in_map (λ (o : ObjectCalls). o.object) x os (in_from_contains (map (λ (o : ObjectCalls). o.object) os) x stands) in let n : None ≡ Some k = sym (h.apart o.0 o.1) ∙ (ap (get nat_cmp left) (sym o.2) ∙ there) in cc n;
+  besides = λ stands. let o = in_map (λ (o : ObjectCalls). o.object) x os (in_from_contains (map (λ (o : ObjectCalls). o.object) os) x stands) in
+      let n : None ≡ Some k = sym (h.apart o.0 o.1) ∙ (ap (get nat_cmp left) (sym o.2) ∙ there) in cc n;
   least = all_from_in (λ (c : Certificate). c.object < x → Contains (map (λ o. o.object) os) c.object) certificates (λ c i l. below c i l (get nat_cmp left c.object) refl);
 }
   where
@@ -222,32 +231,41 @@ same_certificate (c ∷ cs) d a b i j q = elim i [
 ]
 
 pub same_orders : (certificates : List Certificate) → AllPairs (λ a b. a.object ≢ b.object) certificates → (x : ℕ) (a b : HasCertificate certificates x) → a.certificate ≡ b.certificate
-same_orders certificates d x a b = same_certificate certificates (pairs_from_all (λ a b. a.object ≢ b.object) certificates d) a.certificate b.certificate (in_from_contains certificates a.certificate a.stands) (in_from_contains certificates b.certificate b.stands) (a.for_object ∙ sym b.for_object)
+same_orders certificates d x a b =
+    same_certificate certificates (pairs_from_all (λ a b. a.object ≢ b.object) certificates d) a.certificate b.certificate
+    (in_from_contains certificates a.certificate a.stands) (in_from_contains certificates b.certificate b.stands) (a.for_object ∙ sym b.for_object)
 
-no_refusal : (es : List Event) (certificates : List Certificate) → AllPairs (λ a b. a.object ≢ b.object) certificates → (x : ℕ) → IsFineAt es certificates x → (r : Refusal) → IsRefusalAt es certificates x r → ⊥
+no_refusal : (es : List Event) (certificates : List Certificate) → AllPairs (λ a b. a.object ≢ b.object) certificates → (x : ℕ)
+    → IsFineAt es certificates x → (r : Refusal) → IsRefusalAt es certificates x r → ⊥
 no_refusal es certificates d x h (NoCertificate y) s = s.1 h.certificate
 no_refusal es certificates d x h (StrangeObject y) s = s
-no_refusal es certificates d x h (BadOrder y f) s = h.faultless f (subst (λ (c : Certificate). IsFirstFault (kind_at es x) (calls_on x (denoted es)) c.order.items f) (same_orders certificates d x s.1 h.certificate) s.2)
+no_refusal es certificates d x h (BadOrder y f) s =
+    h.faultless f (subst (λ (c : Certificate). IsFirstFault (kind_at es x) (calls_on x (denoted es)) c.order.items f) (same_orders certificates d x s.1 h.certificate) s.2)
 no_refusal es certificates d x h NoMemory s = s
 
-pub all_valid : (es : List Event) (certificates : List Certificate) (os : List ObjectCalls) → AreObjects es os → AreFine es certificates os → AreForThese (map (λ o. o.object) os) certificates → AreValid es certificates
+pub all_valid : (es : List Event) (certificates : List Certificate) (os : List ObjectCalls) → AreObjects es os → AreFine es certificates os
+    → AreForThese (map (λ o. o.object) os) certificates → AreValid es certificates
 all_valid es certificates os objects h besides = record {
   each = λ x named. let f = fine_at es certificates os objects h x named in (f.certificate, f.valid);
-  none_besides = all_from_in (λ (c : Certificate). IsNamed es c.object) certificates (λ c i. (objects.named c.object).0 (all_at (λ (c : Certificate). Contains (map (λ o. o.object) os) c.object) certificates besides c i));
+  none_besides = all_from_in (λ (c : Certificate). IsNamed es c.object) certificates
+      (λ c i. (objects.named c.object).0 (all_at (λ (c : Certificate). Contains (map (λ o. o.object) os) c.object) certificates besides c i));
 }
 
-pub least_strange : (es : List Event) (certificates : List Certificate) (os : List ObjectCalls) (x : ℕ) → AllPairs (λ a b. a.object ≢ b.object) certificates → AreObjects es os → AreFine es certificates os
+pub least_strange : (es : List Event) (certificates : List Certificate) (os : List ObjectCalls) (x : ℕ)
+    → AllPairs (λ a b. a.object ≢ b.object) certificates → AreObjects es os → AreFine es certificates os
     → IsLeastBesides (map (λ o. o.object) os) certificates x → IsLeastStrange es certificates x
 least_strange es certificates os x d objects h s = record {
   certified = s.certified;
   not_named = λ named. s.besides ((objects.named x).1 named);
-  least = all_from_in (λ (c : Certificate). c.object < x → IsNamed es c.object) certificates (λ c i l. (objects.named c.object).0 (all_at (λ (c : Certificate). c.object < x → Contains (map (λ o. o.object) os) c.object) certificates s.least c i l));
+  least = all_from_in (λ (c : Certificate). c.object < x → IsNamed es c.object) certificates
+      (λ c i l. (objects.named c.object).0 (all_at (λ (c : Certificate). c.object < x → Contains (map (λ o. o.object) os) c.object) certificates s.least c i l));
   none = λ y r named t. no_refusal es certificates d y (fine_at es certificates os objects h y named) r t;
 }
 
 -- ---- where the next object is refused
 
-already : (os : List ObjectCalls) (o : ObjectCalls) (later : List ObjectCalls) → Pairs (λ a b. a.object < b.object) (os ++ o ∷ later) → (p : ObjectCalls) → In p (os ++ o ∷ later) → p.object < o.object → In p os
+already : (os : List ObjectCalls) (o : ObjectCalls) (later : List ObjectCalls) → Pairs (λ a b. a.object < b.object) (os ++ o ∷ later)
+    → (p : ObjectCalls) → In p (os ++ o ∷ later) → p.object < o.object → In p os
 already [] o later r p i l = elim i [
   | inl e ↦ (let e' : p.object ≡ o.object = ap (λ (z : ObjectCalls). z.object) e in absurd (omega arith))
   | inr j ↦ (let g = r.0 p j in absurd (omega arith))
@@ -257,7 +275,8 @@ already (q ∷ os) o later r p i l = elim i [
   | inr j ↦ inr (already os o later r.1 p j l)
 ]
 
-first_refusal : (es : List Event) (certificates : List Certificate) (all os : List ObjectCalls) (o : ObjectCalls) (later : List ObjectCalls) (r : Refusal) → AllPairs (λ a b. a.object ≢ b.object) certificates → AreObjects es all
+first_refusal : (es : List Event) (certificates : List Certificate) (all os : List ObjectCalls) (o : ObjectCalls) (later : List ObjectCalls)
+    (r : Refusal) → AllPairs (λ a b. a.object ≢ b.object) certificates → AreObjects es all
     → all ≡ os ++ o ∷ later → AreFine es certificates os → IsRefused (kind_at es o.object) (calls_on o.object (denoted es)) certificates o.object r → IsFirstRefusal es certificates r
 first_refusal es certificates all os o later r d objects split h refused = go r refused
   where
@@ -285,7 +304,8 @@ first_refusal es certificates all os o later r d objects split h refused = go r 
     go NoMemory s = tt
 
 -- certificates that are valid are refused by want of memory alone
-refused_are_not_valid : (es : List Event) (certificates : List Certificate) (all os : List ObjectCalls) (o : ObjectCalls) (later : List ObjectCalls) (r : Refusal) → AllPairs (λ a b. a.object ≢ b.object) certificates → AreObjects es all
+refused_are_not_valid : (es : List Event) (certificates : List Certificate) (all os : List ObjectCalls) (o : ObjectCalls) (later : List ObjectCalls)
+    (r : Refusal) → AllPairs (λ a b. a.object ≢ b.object) certificates → AreObjects es all
     → all ≡ os ++ o ∷ later → AreFine es certificates os → IsRefused (kind_at es o.object) (calls_on o.object (denoted es)) certificates o.object r → AreValid es certificates → r ≡ NoMemory
 refused_are_not_valid es certificates all os o later r d objects split h refused valid = go r (first_refusal es certificates all os o later r d objects split h refused) refused
   where
@@ -298,7 +318,9 @@ refused_are_not_valid es certificates all os o later r d objects split h refused
     go NoMemory f s = refl
 
 pub strange_is_not_valid : (es : List Event) (certificates : List Certificate) (x : ℕ) → IsLeastStrange es certificates x → AreValid es certificates → ⊥
-strange_is_not_valid es certificates x h valid = h.not_named (subst (IsNamed es) h.certified.for_object (all_at (λ (c : Certificate). IsNamed es c.object) certificates valid.none_besides h.certified.certificate (in_from_contains certificates h.certified.certificate h.certified.stands)))
+strange_is_not_valid es certificates x h valid =
+    h.not_named (subst (IsNamed es) h.certified.for_object
+    (all_at (λ (c : Certificate). IsNamed es c.object) certificates valid.none_besides h.certified.certificate (in_from_contains certificates h.certified.certificate h.certified.stands)))
 
 -- ---- the list of objects
 
@@ -318,17 +340,20 @@ in_objects : (fs : List ObjectCalls) (i : ℕ) (o : ObjectCalls) → i < length 
 in_objects fs i o l is = subst (λ z. In z fs) (sym is) (in_from_get fs i o l)
 
 -- what holds of the kind and the calls of an object holds of those in the history
-pub next_is : (es : List Event) (fs : List ObjectCalls) (i : ℕ) (o : ObjectCalls) (P : Kind → List Call → Type 0) → AreObjects es fs → i < length fs → o ≡ get_or fs i o → P o.kind (calls_of o.ops) → P (kind_at es o.object) (calls_on o.object (denoted es))
+pub next_is : (es : List Event) (fs : List ObjectCalls) (i : ℕ) (o : ObjectCalls) (P : Kind → List Call → Type 0) → AreObjects es fs → i < length fs
+    → o ≡ get_or fs i o → P o.kind (calls_of o.ops) → P (kind_at es o.object) (calls_on o.object (denoted es))
 next_is es fs i o P h l is p =
     let j = in_objects fs i o l is in
     let its_kind = subst (λ k. P k (calls_of o.ops)) (all_at (λ (o : ObjectCalls). o.kind ≡ kind_at es o.object) fs h.kinds o j) p in
     subst (P (kind_at es o.object)) (all_at (λ (o : ObjectCalls). calls_of o.ops ≡ calls_on o.object (denoted es)) fs h.calls o j) its_kind
 
-pub next_fine : (es : List Event) (certificates : List Certificate) (fs : List ObjectCalls) (i : ℕ) (o : ObjectCalls) → AreObjects es fs → i < length fs → o ≡ get_or fs i o → IsFine o.kind (calls_of o.ops) certificates o.object → IsFineAt es certificates o.object
+pub next_fine : (es : List Event) (certificates : List Certificate) (fs : List ObjectCalls) (i : ℕ) (o : ObjectCalls) → AreObjects es fs
+    → i < length fs → o ≡ get_or fs i o → IsFine o.kind (calls_of o.ops) certificates o.object → IsFineAt es certificates o.object
 next_fine es certificates fs i o h l is fine = next_is es fs i o (λ kind calls. IsFine kind calls certificates o.object) h l is fine
 
 -- Where the next object is refused, that is the first refusal. Certificates that are valid are refused by want of memory alone.
-pub next_is_first : (es : List Event) (certificates : List Certificate) (fs : List ObjectCalls) (i : ℕ) (o : ObjectCalls) (r : Refusal) → AllPairs (λ a b. a.object ≢ b.object) certificates → AreObjects es fs → AreFine es certificates (take i fs)
+pub next_is_first : (es : List Event) (certificates : List Certificate) (fs : List ObjectCalls) (i : ℕ) (o : ObjectCalls) (r : Refusal)
+    → AllPairs (λ a b. a.object ≢ b.object) certificates → AreObjects es fs → AreFine es certificates (take i fs)
     → i < length fs → o ≡ get_or fs i o → IsRefused o.kind (calls_of o.ops) certificates o.object r → IsFirstRefusal es certificates r × (AreValid es certificates → r ≡ NoMemory)
 next_is_first es certificates fs i o r d objects fine l is h =
     let refused = next_is es fs i o (λ kind calls. IsRefused kind calls certificates o.object r) objects l is h in

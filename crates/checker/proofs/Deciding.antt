@@ -18,7 +18,8 @@ in_named : (calls : List Call) (o : List ℤ) (c : Call) → In c (named calls o
 in_named calls [] c i = absurd i
 in_named calls (z ∷ o) c i = go (call_named calls z) refl i (in_named calls o c)
   where
-    go : (r : Option Call) → call_named calls z ≡ r → In c (cons_option r (named calls o)) → (In c (named calls o) → (z : ℤ) × In z o × (call_named calls z ≡ Some c)) → (y : ℤ) × In y (z ∷ o) × (call_named calls y ≡ Some c)
+    go : (r : Option Call) → call_named calls z ≡ r → In c (cons_option r (named calls o))
+        → (In c (named calls o) → (z : ℤ) × In z o × (call_named calls z ≡ Some c)) → (y : ℤ) × In y (z ∷ o) × (call_named calls y ≡ Some c)
     go None q j f = let y = f j in (y.0, inr y.1, y.2)
     go (Some d) q j f = elim j [ inl e ↦ (z, inl refl, q ∙ ap Some (sym e)) | inr k ↦ let y = f k in (y.0, inr y.1, y.2) ]
 
@@ -63,7 +64,8 @@ replies_named calls c (z ∷ o) d h =
     subst (λ (r : Option Call). RepliesAlong c (cons_option r (named calls o))) (sym h.2) rest
 
 -- an order without a faulty place, in which each call that returned stands, is valid
-pub valid_from : (kind : Kind) (calls : List Call) (o : List ℤ) (d : Content) → SoFar kind calls o d → ((c : Call) → In c calls → IsSome c.returned → (z : ℤ) × In z o × (call_named calls z ≡ Some c)) → IsValidOrder kind calls o
+pub valid_from : (kind : Kind) (calls : List Call) (o : List ℤ) (d : Content) → SoFar kind calls o d
+    → ((c : Call) → In c calls → IsSome c.returned → (z : ℤ) × In z o × (call_named calls z ≡ Some c)) → IsValidOrder kind calls o
 valid_from kind calls o d s whole = record {
   entries = named calls o;
   numbers = numbers_named calls o s.known;
@@ -85,7 +87,8 @@ pub record Reaches (kind : Kind) (calls : List Call) (o : List ℤ) (i : ℕ) (z
 abbrev pub IsInTime : List ℤ → ℕ → Call → Type 0
 IsInTime o i c = (r : Return) → c.returned ≡ Some r → (y : ℤ) → In y (take i o) → y ≤ℤ pos r.at
 
-pub unknown_first : (kind : Kind) (calls : List Call) (o : List ℤ) (i : ℕ) (z : ℤ) (d : Content) → SoFar kind calls (take i o) d → slice_get o i ≡ Some z → call_named calls z ≡ None → IsFirstAtPlace kind calls o (UnknownOperation z)
+pub unknown_first : (kind : Kind) (calls : List Call) (o : List ℤ) (i : ℕ) (z : ℤ) (d : Content) → SoFar kind calls (take i o) d
+    → slice_get o i ≡ Some z → call_named calls z ≡ None → IsFirstAtPlace kind calls o (UnknownOperation z)
 unknown_first kind calls o i z d s at none = record { place = i; stands = (at, none); earlier = λ j f l h. none_before kind calls o d i s j f l h; first = least }
   where
     least : (f : OrderFault) → IsFaultAt kind calls o i f → 1 ≤ rank f
@@ -110,22 +113,26 @@ no_repeat kind calls o i z y at fresh h =
 same_call : (calls : List Call) (o : List ℤ) (i : ℕ) (z y : ℤ) (c e : Call) → slice_get o i ≡ Some z → call_named calls z ≡ Some c → slice_get o i ≡ Some y → call_named calls y ≡ Some e → c ≡ e
 same_call calls o i z y c e at found at' found' = same_Some c e (sym found ∙ (ap (call_named calls) (same_Some z y (sym at ∙ at')) ∙ found'))
 
-no_late : (kind : Kind) (calls : List Call) (o : List ℤ) (i : ℕ) (z y : ℤ) (by : ℕ) (c : Call) → slice_get o i ≡ Some z → call_named calls z ≡ Some c → IsInTime o i c → IsFaultAt kind calls o i (TooLate y by) → ⊥
+no_late : (kind : Kind) (calls : List Call) (o : List ℤ) (i : ℕ) (z y : ℤ) (by : ℕ) (c : Call) → slice_get o i ≡ Some z → call_named calls z ≡ Some c
+    → IsInTime o i c → IsFaultAt kind calls o i (TooLate y by) → ⊥
 no_late kind calls o i z y by c at found early h =
     let same : c ≡ h.0 = same_call calls o i z y c h.0 at found h.2.here h.2.named in
     let l : pos by ≤ℤ pos h.1.at = early h.1 (ap (λ (x : Call). x.returned) same ∙ h.3) (pos by) (in_from_contains (take i o) (pos by) h.5.stands) in
     let k : h.1.at < by = h.4 in
     omega (arith, ints)
 
-no_impossible : (kind : Kind) (calls : List Call) (o : List ℤ) (i : ℕ) (z y : ℤ) (c : Call) (d after : Content) (reply : AnyReply) → SoFar kind calls (take i o) d → slice_get o i ≡ Some z → call_named calls z ≡ Some c → next d c.op ≡ Some (after, reply) → IsFaultAt kind calls o i (NotPossible y) → ⊥
+no_impossible : (kind : Kind) (calls : List Call) (o : List ℤ) (i : ℕ) (z y : ℤ) (c : Call) (d after : Content) (reply : AnyReply)
+    → SoFar kind calls (take i o) d → slice_get o i ≡ Some z → call_named calls z ≡ Some c → next d c.op ≡ Some (after, reply) → IsFaultAt kind calls o i (NotPossible y) → ⊥
 no_impossible kind calls o i z y c d after reply s at found can h =
     let same : c ≡ h.0 = same_call calls o i z y c h.0 at found h.2.here h.2.named in
     let there : d ≡ h.1 = same_Some d h.1 (sym (along_content calls (empty kind) (take i o) d s.replies) ∙ h.3) in
     let never : next d c.op ≡ None = ap (λ (x : Call). next d x.op) same ∙ (ap (λ (x : Content). next x h.0.op) there ∙ h.4) in
     absurd (cc (can, never))
 
-pub repeated_first : (kind : Kind) (calls : List Call) (o : List ℤ) (i : ℕ) (z : ℤ) (c : Call) (d : Content) → SoFar kind calls (take i o) d → slice_get o i ≡ Some z → call_named calls z ≡ Some c → In z (take i o) → IsFirstAtPlace kind calls o (Repeated z)
-repeated_first kind calls o i z c d s at found twice = record { place = i; stands = (at, contains_from_in (take i o) z twice); earlier = λ j f l h. none_before kind calls o d i s j f l h; first = least }
+pub repeated_first : (kind : Kind) (calls : List Call) (o : List ℤ) (i : ℕ) (z : ℤ) (c : Call) (d : Content) → SoFar kind calls (take i o) d
+    → slice_get o i ≡ Some z → call_named calls z ≡ Some c → In z (take i o) → IsFirstAtPlace kind calls o (Repeated z)
+repeated_first kind calls o i z c d s at found twice =
+    record { place = i; stands = (at, contains_from_in (take i o) z twice); earlier = λ j f l h. none_before kind calls o d i s j f l h; first = least }
   where
     least : (f : OrderFault) → IsFaultAt kind calls o i f → 2 ≤ rank f
     least (UnknownOperation y) h = absurd (no_unknown kind calls o i z y c at found h)
@@ -135,8 +142,10 @@ repeated_first kind calls o i z c d s at found twice = record { place = i; stand
     least (WrongReply z gives) h = omega arith
     least (Omitted n) h = omega arith
 
-pub late_first : (kind : Kind) (calls : List Call) (o : List ℤ) (i : ℕ) (z : ℤ) (c : Call) (d : Content) (r : Return) (by : ℕ) → Reaches kind calls o i z c d → c.returned ≡ Some r → r.at < by → IsGreatest (pos by) (take i o) → IsFirstAtPlace kind calls o (TooLate z by)
-late_first kind calls o i z c d r by s ret l top = record { place = i; stands = (c, r, record { here = s.here; named = s.named }, ret, l, top); earlier = λ j f l h. none_before kind calls o d i s.so_far j f l h; first = least }
+pub late_first : (kind : Kind) (calls : List Call) (o : List ℤ) (i : ℕ) (z : ℤ) (c : Call) (d : Content) (r : Return) (by : ℕ)
+    → Reaches kind calls o i z c d → c.returned ≡ Some r → r.at < by → IsGreatest (pos by) (take i o) → IsFirstAtPlace kind calls o (TooLate z by)
+late_first kind calls o i z c d r by s ret l top =
+    record { place = i; stands = (c, r, record { here = s.here; named = s.named }, ret, l, top); earlier = λ j f l h. none_before kind calls o d i s.so_far j f l h; first = least }
   where
     least : (f : OrderFault) → IsFaultAt kind calls o i f → 3 ≤ rank f
     least (UnknownOperation y) h = absurd (no_unknown kind calls o i z y c s.here s.named h)
@@ -146,8 +155,21 @@ late_first kind calls o i z c d r by s ret l top = record { place = i; stands = 
     least (WrongReply z gives) h = omega arith
     least (Omitted n) h = omega arith
 
-pub impossible_first : (kind : Kind) (calls : List Call) (o : List ℤ) (i : ℕ) (z : ℤ) (c : Call) (d : Content) → Reaches kind calls o i z c d → IsInTime o i c → next d c.op ≡ None → IsFirstAtPlace kind calls o (NotPossible z)
-impossible_first kind calls o i z c d s early never = record { place = i; stands = (c, d, record { here = s.here; named = s.named }, along_content calls (empty kind) (take i o) d s.so_far.replies, never); earlier = λ j f l h. none_before kind calls o d i s.so_far j f l h; first = least }
+pub impossible_first : (kind : Kind) (calls : List Call) (o : List ℤ) (i : ℕ) (z : ℤ) (c : Call) (d : Content) → Reaches kind calls o i z c d
+    → IsInTime o i c → next d c.op ≡ None → IsFirstAtPlace kind calls o (NotPossible z)
+impossible_first kind calls o i z c d s early never =
+    record {
+      place = i;
+      stands = (
+        c,
+        d,
+        record { here = s.here; named = s.named },
+        along_content calls (empty kind) (take i o) d s.so_far.replies,
+        never,
+      );
+      earlier = λ j f l h. none_before kind calls o d i s.so_far j f l h;
+      first = least;
+    }
   where
     least : (f : OrderFault) → IsFaultAt kind calls o i f → 4 ≤ rank f
     least (UnknownOperation y) h = absurd (no_unknown kind calls o i z y c s.here s.named h)
@@ -157,7 +179,8 @@ impossible_first kind calls o i z c d s early never = record { place = i; stands
     least (WrongReply z gives) h = omega arith
     least (Omitted n) h = omega arith
 
-pub wrong_first : (kind : Kind) (calls : List Call) (o : List ℤ) (i : ℕ) (z : ℤ) (c : Call) (d after : Content) (r : Return) (gives : AnyReply) → Reaches kind calls o i z c d → IsInTime o i c → c.returned ≡ Some r → next d c.op ≡ Some (after, gives) → r.reply ≢ gives → IsFirstAtPlace kind calls o (WrongReply z gives)
+pub wrong_first : (kind : Kind) (calls : List Call) (o : List ℤ) (i : ℕ) (z : ℤ) (c : Call) (d after : Content) (r : Return) (gives : AnyReply)
+    → Reaches kind calls o i z c d → IsInTime o i c → c.returned ≡ Some r → next d c.op ≡ Some (after, gives) → r.reply ≢ gives → IsFirstAtPlace kind calls o (WrongReply z gives)
 wrong_first kind calls o i z c d after r gives s early ret can ne = record {
   place = i;
   stands = (c, r, d, after, record { here = s.here; named = s.named }, ret, along_content calls (empty kind) (take i o) d s.so_far.replies, can, ne);

@@ -1,5 +1,7 @@
 -- The answers of the walk, from what it knows.
-use Rattle.std.proofs.Common.{◌≡◌, ℕ, ℤ, pos, ◌+◌, ◌<◌, ◌≤◌, ◌↔◌, max, Bool, true, false, inl, inr, List, [], ◌∷◌, ◌++◌, length, take, set, Option, Some, None, IsSome, is_some, AllPairs, Contains, IsTrue, slice_get, get_or, Result, Err, IfErr, refl, ap, sym, ◌∙◌, subst, arith}
+use Rattle.std.proofs.Common.{◌≡◌, ℕ, ℤ, pos, ◌+◌, ◌<◌, ◌≤◌, ◌↔◌, max, Bool, true, false, inl, inr, List, [], ◌∷◌, ◌++◌, length, take, set, Option}
+use Rattle.std.proofs.Common.{Some, None, IsSome, is_some, AllPairs, Contains, IsTrue, slice_get, get_or, Result, Err, IfErr, refl, ap, sym, ◌∙◌}
+use Rattle.std.proofs.Common.{subst, arith}
 use Rattle.std.specs.Option.{option_map_or}
 use Rattle.std.proofs.lemmas.Option.{same_Some}
 use Rattle.std.proofs.lemmas.List.{get_or_default, take_all, take_more}
@@ -27,7 +29,8 @@ use Rattle.checker.proofs.Steps.{Walk, AtHand, away, number_at, walk_more, stand
 use Rattle.model.proofs.Orders.{same_pos}
 
 -- a refusal that names the first fault
-pub refused_by : (n : ℕ) (kind : Kind) (calls : List Call) (order : List ℤ) (fault : OrderFault) (r : Result (Unit {0}) Refusal) → r ≡ Err (BadOrder n fault) → IsFirstFault kind calls order fault → IfErr r (RefusesOrder n kind calls order)
+pub refused_by : (n : ℕ) (kind : Kind) (calls : List Call) (order : List ℤ) (fault : OrderFault) (r : Result (Unit {0}) Refusal)
+    → r ≡ Err (BadOrder n fault) → IsFirstFault kind calls order fault → IfErr r (RefusesOrder n kind calls order)
 refused_by n kind calls order fault r e f = subst (λ (x : Result (Unit {0}) Refusal). IfErr x (RefusesOrder n kind calls order)) (sym e) (refl, f)
 
 -- what a read of `xs[k]` gives
@@ -43,7 +46,8 @@ pub record IsHere (kind : Kind) (ops : List Invocation) (order : List ℤ) (i : 
   pub hand : AtHand ops z k c
   pub fresh : get_or seen k false ≡ false
 
-reaches : (kind : Kind) (ops : List Invocation) (order : List ℤ) (i : ℕ) (seen : List Bool) (content : Content) (greatest : Option ℕ) (z : ℤ) (k : ℕ) (c : Call) (d : Invocation) → IsHere kind ops order i seen content greatest z k c → Reaches kind (calls_of ops) order i z c content
+reaches : (kind : Kind) (ops : List Invocation) (order : List ℤ) (i : ℕ) (seen : List Bool) (content : Content) (greatest : Option ℕ) (z : ℤ) (k : ℕ)
+    (c : Call) (d : Invocation) → IsHere kind ops order i seen content greatest z k c → Reaches kind (calls_of ops) order i z c content
 reaches kind ops order i seen content greatest z k c d h = record {
   so_far = h.walk.so_far;
   here = h.at;
@@ -51,16 +55,21 @@ reaches kind ops order i seen content greatest z k c d h = record {
   fresh = away kind ops (take i order) seen content greatest z k c d h.walk h.hand h.fresh;
 }
 
-in_time : (kind : Kind) (ops : List Invocation) (order : List ℤ) (i : ℕ) (seen : List Bool) (content : Content) (greatest : Option ℕ) (z : ℤ) (k : ℕ) (c : Call) (d : Invocation) → IsHere kind ops order i seen content greatest z k c → IsEarly (get_or ops k d).«end» greatest → IsInTime order i c
+in_time : (kind : Kind) (ops : List Invocation) (order : List ℤ) (i : ℕ) (seen : List Bool) (content : Content) (greatest : Option ℕ) (z : ℤ) (k : ℕ)
+    (c : Call) (d : Invocation) → IsHere kind ops order i seen content greatest z k c → IsEarly (get_or ops k d).«end» greatest → IsInTime order i c
 in_time kind ops order i seen content greatest z k c d h early r q y j =
     all_early greatest (take i order) (get_or ops k d).«end» r h.walk.top early ((call_parts (get_or ops k d) c (h.hand.is d)).2 ∙ q) y j
 
-pub repeated_at : (kind : Kind) (ops : List Invocation) (order : List ℤ) (i : ℕ) (seen : List Bool) (content : Content) (greatest : Option ℕ) (z : ℤ) (k : ℕ) (c : Call) (d : Invocation) → Walk kind ops (take i order) seen content greatest → slice_get order i ≡ Some z → AtHand ops z k c → get_or seen k false ≡ true → IsFirstAtPlace kind (calls_of ops) order (Repeated z)
+pub repeated_at : (kind : Kind) (ops : List Invocation) (order : List ℤ) (i : ℕ) (seen : List Bool) (content : Content) (greatest : Option ℕ) (z : ℤ)
+    (k : ℕ) (c : Call) (d : Invocation) → Walk kind ops (take i order) seen content greatest → slice_get order i ≡ Some z → AtHand ops z k c
+    → get_or seen k false ≡ true → IsFirstAtPlace kind (calls_of ops) order (Repeated z)
 repeated_at kind ops order i seen content greatest z k c d w at h twice =
     let stands : In z (take i order) = subst (λ y. In y (take i order)) (sym (number_at ops z k c d h)) (stands_true (get_or ops k d).number (take i order) (sym (w.marks k d h.within) ∙ twice)) in
     repeated_first kind (calls_of ops) order i z c content w.so_far at h.found stands
 
-pub late_at : (kind : Kind) (ops : List Invocation) (order : List ℤ) (i : ℕ) (seen : List Bool) (content : Content) (greatest : Option ℕ) (z : ℤ) (k : ℕ) (c : Call) (d : Invocation) (by : ℕ) → IsHere kind ops order i seen content greatest z k c → greatest ≡ Some by → IsLate (get_or ops k d).«end» by → IsFirstAtPlace kind (calls_of ops) order (TooLate z by)
+pub late_at : (kind : Kind) (ops : List Invocation) (order : List ℤ) (i : ℕ) (seen : List Bool) (content : Content) (greatest : Option ℕ) (z : ℤ)
+    (k : ℕ) (c : Call) (d : Invocation) (by : ℕ) → IsHere kind ops order i seen content greatest z k c → greatest ≡ Some by
+    → IsLate (get_or ops k d).«end» by → IsFirstAtPlace kind (calls_of ops) order (TooLate z by)
 late_at kind ops order i seen content greatest z k c d by h g late =
     let parts = call_parts (get_or ops k d) c (h.hand.is d) in
     let top : IsGreatest (pos by) (take i order) = top_of greatest by (take i order) h.walk g in
@@ -78,7 +87,9 @@ none_from : (o : Option (Content × AnyReply)) → (IsSome o → ⊥) → o ≡ 
 none_from None h = refl
 none_from (Some x) h = absurd (h refl)
 
-pub impossible_at : (kind : Kind) (ops : List Invocation) (order : List ℤ) (i : ℕ) (seen : List Bool) (content : Content) (greatest : Option ℕ) (z : ℤ) (k : ℕ) (c : Call) (d : Invocation) (op : AnyOp) (can : Bool) → IsHere kind ops order i seen content greatest z k c → IsEarly (get_or ops k d).«end» greatest → op ≡ (get_or ops k d).op → (IsTrue can ↔ IsSome (next content op)) → can ≡ false → IsFirstAtPlace kind (calls_of ops) order (NotPossible z)
+pub impossible_at : (kind : Kind) (ops : List Invocation) (order : List ℤ) (i : ℕ) (seen : List Bool) (content : Content) (greatest : Option ℕ)
+    (z : ℤ) (k : ℕ) (c : Call) (d : Invocation) (op : AnyOp) (can : Bool) → IsHere kind ops order i seen content greatest z k c
+    → IsEarly (get_or ops k d).«end» greatest → op ≡ (get_or ops k d).op → (IsTrue can ↔ IsSome (next content op)) → can ≡ false → IsFirstAtPlace kind (calls_of ops) order (NotPossible z)
 impossible_at kind ops order i seen content greatest z k c d op can h early is tells not =
     let never : next content op ≡ None = none_from (next content op) (λ some. refute can not (tells.1 some)) in
     impossible_first kind (calls_of ops) order i z c content (reaches kind ops order i seen content greatest z k c d h) (in_time kind ops order i seen content greatest z k c d h early)
@@ -87,14 +98,21 @@ impossible_at kind ops order i seen content greatest z k c d op can h early is t
     refute : (b : Bool) → b ≡ false → IsTrue b → ⊥
     refute b e t = let is : b ≡ true = t in absurd (cc (e, is))
 
-pub wrong_at : (kind : Kind) (ops : List Invocation) (order : List ℤ) (i : ℕ) (seen : List Bool) (content after : Content) (greatest : Option ℕ) (z : ℤ) (k : ℕ) (c : Call) (d : Invocation) (op : AnyOp) (gives : AnyReply) → IsHere kind ops order i seen content greatest z k c → IsEarly (get_or ops k d).«end» greatest → op ≡ (get_or ops k d).op → next content op ≡ Some (after, gives) → Differs (return_of (get_or ops k d).«end») gives → IsFirstAtPlace kind (calls_of ops) order (WrongReply z gives)
+pub wrong_at : (kind : Kind) (ops : List Invocation) (order : List ℤ) (i : ℕ) (seen : List Bool) (content after : Content) (greatest : Option ℕ)
+    (z : ℤ) (k : ℕ) (c : Call) (d : Invocation) (op : AnyOp) (gives : AnyReply) → IsHere kind ops order i seen content greatest z k c
+    → IsEarly (get_or ops k d).«end» greatest → op ≡ (get_or ops k d).op → next content op ≡ Some (after, gives)
+    → Differs (return_of (get_or ops k d).«end») gives → IsFirstAtPlace kind (calls_of ops) order (WrongReply z gives)
 wrong_at kind ops order i seen content after greatest z k c d op gives h early is can differs =
     let parts = call_parts (get_or ops k d) c (h.hand.is d) in
-    wrong_first kind (calls_of ops) order i z c content after differs.0 gives (reaches kind ops order i seen content greatest z k c d h) (in_time kind ops order i seen content greatest z k c d h early)
+    wrong_first kind (calls_of ops) order i z c content after differs.0 gives (reaches kind ops order i seen content greatest z k c d h)
+    (in_time kind ops order i seen content greatest z k c d h early)
     (sym parts.2 ∙ differs.1) (ap (next content) (sym (is ∙ parts.1)) ∙ can) differs.2
 
-pub next_at : (kind : Kind) (ops : List Invocation) (order : List ℤ) (i : ℕ) (seen : List Bool) (content after : Content) (greatest : Option ℕ) (z : ℤ) (k : ℕ) (c : Call) (d : Invocation) (op : AnyOp) (top : ℕ) (gives : AnyReply)
-    → AllPairs (λ a b. a.number < b.number) ops → IsHere kind ops order i seen content greatest z k c → i < length order → z ≡ get_or order i (pos 0) → IsEarly (get_or ops k d).«end» greatest → op ≡ (get_or ops k d).op → next content op ≡ Some (after, gives) → Agrees (return_of (get_or ops k d).«end») gives → kind_with after ≡ kind_with content → top ≡ option_map_or (λ by. max by (get_or ops k d).number) greatest (get_or ops k d).number
+pub next_at : (kind : Kind) (ops : List Invocation) (order : List ℤ) (i : ℕ) (seen : List Bool) (content after : Content) (greatest : Option ℕ)
+    (z : ℤ) (k : ℕ) (c : Call) (d : Invocation) (op : AnyOp) (top : ℕ) (gives : AnyReply)
+    → AllPairs (λ a b. a.number < b.number) ops → IsHere kind ops order i seen content greatest z k c → i < length order → z ≡ get_or order i (pos 0)
+    → IsEarly (get_or ops k d).«end» greatest → op ≡ (get_or ops k d).op → next content op ≡ Some (after, gives)
+    → Agrees (return_of (get_or ops k d).«end») gives → kind_with after ≡ kind_with content → top ≡ option_map_or (λ by. max by (get_or ops k d).number) greatest (get_or ops k d).number
     → Walk kind ops (take (i + 1) order) (set seen k true) after (Some top)
 next_at kind ops order i seen content after greatest z k c d op top gives up h l at early is can agrees kept new_top =
     let parts = call_parts (get_or ops k d) c (h.hand.is d) in
@@ -105,16 +123,19 @@ next_at kind ops order i seen content after greatest z k c d op top gives up h l
 -- ---- at the end
 
 -- the walk is over
-pub at_end : (kind : Kind) (ops : List Invocation) (order : List ℤ) (i : ℕ) (seen : List Bool) (content : Content) (greatest : Option ℕ) → Walk kind ops (take i order) seen content greatest → length order ≤ i → Walk kind ops order seen content greatest
+pub at_end : (kind : Kind) (ops : List Invocation) (order : List ℤ) (i : ℕ) (seen : List Bool) (content : Content) (greatest : Option ℕ)
+    → Walk kind ops (take i order) seen content greatest → length order ≤ i → Walk kind ops order seen content greatest
 at_end kind ops order i seen content greatest w l = subst (λ o. Walk kind ops o seen content greatest) (take_all i order l) w
 
 -- a call that returned and was passed stands in the order
-stands_marked : (kind : Kind) (ops : List Invocation) (order : List ℤ) (seen : List Bool) (content : Content) (greatest : Option ℕ) (k : ℕ) (d : Invocation) (c : Call) → Walk kind ops order seen content greatest → k < length ops → call_of (get_or ops k d) ≡ Some c → get_or seen k false ≡ true → In (pos c.number) order
+stands_marked : (kind : Kind) (ops : List Invocation) (order : List ℤ) (seen : List Bool) (content : Content) (greatest : Option ℕ) (k : ℕ)
+    (d : Invocation) (c : Call) → Walk kind ops order seen content greatest → k < length ops → call_of (get_or ops k d) ≡ Some c → get_or seen k false ≡ true → In (pos c.number) order
 stands_marked kind ops order seen content greatest k d c w l e m =
     let parts = call_parts (get_or ops k d) c e in
     subst (λ n. In (pos n) order) parts.0 (stands_true (get_or ops k d).number order (sym (w.marks k d l) ∙ m))
 
-pub all_marked : (kind : Kind) (ops : List Invocation) (order : List ℤ) (seen : List Bool) (content : Content) (greatest : Option ℕ) (d : Invocation) → AllPairs (λ a b. a.number < b.number) ops → Walk kind ops order seen content greatest → AreMarked ops seen (length ops) → IsValidOrder kind (calls_of ops) order
+pub all_marked : (kind : Kind) (ops : List Invocation) (order : List ℤ) (seen : List Bool) (content : Content) (greatest : Option ℕ) (d : Invocation)
+    → AllPairs (λ a b. a.number < b.number) ops → Walk kind ops order seen content greatest → AreMarked ops seen (length ops) → IsValidOrder kind (calls_of ops) order
 all_marked kind ops order seen content greatest d up w marked = valid_from kind (calls_of ops) order content w.so_far (λ c i r.
     let p = place_of_call ops c i in
     let parts = call_parts (get_or ops p.0 d) c (p.2 d) in
@@ -132,7 +153,8 @@ returned_call o e = go o.«end» e
     go Pending q = absurd (cc q)
     go Failed q = absurd (cc q)
 
-pub omitted_at : (kind : Kind) (ops : List Invocation) (order : List ℤ) (seen : List Bool) (content : Content) (greatest : Option ℕ) (n : ℕ) (d : Invocation) → AllPairs (λ a b. a.number < b.number) ops → Walk kind ops order seen content greatest → IsFirstUnmarked ops seen n → IsLeastOmitted kind (calls_of ops) order n
+pub omitted_at : (kind : Kind) (ops : List Invocation) (order : List ℤ) (seen : List Bool) (content : Content) (greatest : Option ℕ) (n : ℕ)
+    (d : Invocation) → AllPairs (λ a b. a.number < b.number) ops → Walk kind ops order seen content greatest → IsFirstUnmarked ops seen n → IsLeastOmitted kind (calls_of ops) order n
 omitted_at kind ops order seen content greatest n d up w first =
     let o : Invocation = get_or ops first.place d in
     let c = returned_call o (first.returned d) in

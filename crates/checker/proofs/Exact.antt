@@ -22,13 +22,16 @@ pub names_itself : (calls : List Call) (c : Call) → Rising calls → In c call
 names_itself [] c u i = absurd i
 names_itself (d ∷ calls) c u i = elim i [
   | inl e ↦ ap (λ b. cond b (Some d) (find (λ x. x.number == c.number) calls)) (eq-eqb d.number c.number (sym (ap (λ (x : Call). x.number) e))) ∙ ap Some (sym e)
-  | inr j ↦ let g = u.0 c j in ap (λ b. cond b (Some d) (find (λ x. x.number == c.number) calls)) (ne_eqb d.number c.number (λ q. let q' : d.number ≡ c.number = q in omega arith)) ∙ names_itself calls c u.1 j
+  | inr j ↦ let g = u.0 c j in ap (λ b. cond b (Some d) (find (λ x. x.number == c.number) calls))
+      (ne_eqb d.number c.number (λ q. let q' : d.number ≡ c.number = q in omega arith)) ∙ names_itself calls c u.1 j
 ]
 
-named_entry : (calls es : List Call) → ((c : Call) → In c es → call_named calls (pos c.number) ≡ Some c) → (z : ℤ) → In z (map (λ (c : Call). pos c.number) es) → (c : Call) × In c es × (call_named calls z ≡ Some c)
+named_entry : (calls es : List Call) → ((c : Call) → In c es → call_named calls (pos c.number) ≡ Some c) → (z : ℤ)
+    → In z (map (λ (c : Call). pos c.number) es) → (c : Call) × In c es × (call_named calls z ≡ Some c)
 named_entry calls es h z i = let r = in_map (λ (c : Call). pos c.number) z es i in (r.0, r.1, ap (call_named calls) r.2 ∙ h r.0 r.1)
 
-order_along : (calls es : List Call) → ((c : Call) → In c es → call_named calls (pos c.number) ≡ Some c) → Pairs (λ (a b : Call). ReturnsBefore b a → ⊥) es → Pairs (InOrder calls) (map (λ (c : Call). pos c.number) es)
+order_along : (calls es : List Call) → ((c : Call) → In c es → call_named calls (pos c.number) ≡ Some c)
+    → Pairs (λ (a b : Call). ReturnsBefore b a → ⊥) es → Pairs (InOrder calls) (map (λ (c : Call). pos c.number) es)
 order_along calls [] h p = tt
 order_along calls (e ∷ es) h p = (
   λ z i a b q r before.
@@ -43,7 +46,8 @@ said : (e : Call) (o : Option Return) (reply : AnyReply) → e.returned ≡ o �
 said e None reply q k r p = let n : None ≡ Some r = sym q ∙ p in absurd (cc n)
 said e (Some s) reply q k r p = ap (λ (x : Return). x.reply) (same_Some r s (sym p ∙ q)) ∙ k
 
-replies_along : (calls : List Call) (c : Content) (es : List Call) → ((c : Call) → In c es → call_named calls (pos c.number) ≡ Some c) → RepliesAlong c es → (d : Content) × Along calls c (map (λ (c : Call). pos c.number) es) d
+replies_along : (calls : List Call) (c : Content) (es : List Call) → ((c : Call) → In c es → call_named calls (pos c.number) ≡ Some c)
+    → RepliesAlong c es → (d : Content) × Along calls c (map (λ (c : Call). pos c.number) es) d
 replies_along calls c [] h r = (c, refl)
 replies_along calls c (e ∷ es) h r =
     let rest = replies_along calls r.0 es (λ d j. h d (inr j)) r.4 in

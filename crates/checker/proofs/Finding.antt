@@ -62,7 +62,8 @@ rising_calls (o ∷ ops) h = go (call_of o) refl (rising_calls ops h.1)
         operation_of [] e i = absurd i
         operation_of (p ∷ os) e i = pick (call_of p) refl i (operation_of os e)
           where
-            pick : (r : Option Call) → call_of p ≡ r → In e (cons_option r (calls_of os)) → (In e (calls_of os) → (p : Invocation) × In p os × (p.number ≡ e.number)) → (x : Invocation) × In x (p ∷ os) × (x.number ≡ e.number)
+            pick : (r : Option Call) → call_of p ≡ r → In e (cons_option r (calls_of os))
+                → (In e (calls_of os) → (p : Invocation) × In p os × (p.number ≡ e.number)) → (x : Invocation) × In x (p ∷ os) × (x.number ≡ e.number)
             pick None q j f = let x = f j in (x.0, inr x.1, x.2)
             pick (Some d) q j f = elim j [ inl s ↦ (p, inl refl, (call_parts p d q).0 ∙ ap (λ (x : Call). x.number) (sym s)) | inr k ↦ let x = f k in (x.0, inr x.1, x.2) ]
 
@@ -75,7 +76,8 @@ abbrev pub nobody : Invocation
 nobody = record { number = 0; op = Enqueue (pos 0); «end» = Returned 0 (Value None) }
 
 -- a number that no call's operation has names no call
-pub not_named : (ops : List Invocation) (z : ℤ) (d : Invocation) → ((k : ℕ) (c : Call) → k < length ops → pos (get_or ops k d).number ≡ z → call_of (get_or ops k d) ≡ Some c → ⊥) → call_named (calls_of ops) z ≡ None
+pub not_named : (ops : List Invocation) (z : ℤ) (d : Invocation)
+    → ((k : ℕ) (c : Call) → k < length ops → pos (get_or ops k d).number ≡ z → call_of (get_or ops k d) ≡ Some c → ⊥) → call_named (calls_of ops) z ≡ None
 not_named ops z d h = go (call_named (calls_of ops) z) refl
   where
     go : (r : Option Call) → call_named (calls_of ops) z ≡ r → r ≡ None
@@ -86,7 +88,8 @@ not_named ops z d h = go (call_named (calls_of ops) z) refl
         absurd (h p.0 c p.1 n (p.2 d))
 
 -- what the search found names the call
-pub found_by_number : (ops : List Invocation) (z : ℤ) (k : ℕ) (d : Invocation) → AllPairs (λ a b. a.number < b.number) ops → k < length ops → pos (get_or ops k d).number ≡ z → (get_or ops k d).«end» ≢ Failed → (c : Call) × AtHand ops z k c
+pub found_by_number : (ops : List Invocation) (z : ℤ) (k : ℕ) (d : Invocation) → AllPairs (λ a b. a.number < b.number) ops → k < length ops
+    → pos (get_or ops k d).number ≡ z → (get_or ops k d).«end» ≢ Failed → (c : Call) × AtHand ops z k c
 found_by_number ops z k d up l n ne =
     let o : Invocation = get_or ops k d in
     let c = call_from o ne in
@@ -94,11 +97,13 @@ found_by_number ops z k d up l n ne =
     let own = names_itself (calls_of ops) c.0 (rising_calls ops (pairs_from_all (λ a b. a.number < b.number) ops up)) (call_at_place ops k d c.0 l c.1) in
     (c.0, record { within = l; found = ap (call_named (calls_of ops)) (sym m) ∙ own; is = λ e. ap call_of (get_or_default ops k e d l) ∙ c.1 })
 
-pub found_here : (ops : List Invocation) (z : ℤ) (k : ℕ) (d : Invocation) → AllPairs (λ a b. a.number < b.number) ops → k < length ops → int_cmp (pos (get_or ops k d).number) z ≡ Equal → (get_or ops k d).«end» ≢ Failed → (c : Call) × AtHand ops z k c
+pub found_here : (ops : List Invocation) (z : ℤ) (k : ℕ) (d : Invocation) → AllPairs (λ a b. a.number < b.number) ops → k < length ops
+    → int_cmp (pos (get_or ops k d).number) z ≡ Equal → (get_or ops k d).«end» ≢ Failed → (c : Call) × AtHand ops z k c
 found_here ops z k d up l eq ne = found_by_number ops z k d up l (int_ranked (pos (get_or ops k d).number) z Equal (sym eq)) ne
 
 -- what failed names no call
-pub failed_here : (ops : List Invocation) (z : ℤ) (k : ℕ) (d : Invocation) → AllPairs (λ a b. a.number < b.number) ops → k < length ops → int_cmp (pos (get_or ops k d).number) z ≡ Equal → call_of (get_or ops k d) ≡ None → call_named (calls_of ops) z ≡ None
+pub failed_here : (ops : List Invocation) (z : ℤ) (k : ℕ) (d : Invocation) → AllPairs (λ a b. a.number < b.number) ops → k < length ops
+    → int_cmp (pos (get_or ops k d).number) z ≡ Equal → call_of (get_or ops k d) ≡ None → call_named (calls_of ops) z ≡ None
 failed_here ops z k d up l eq none = not_named ops z d (λ j c m n q.
     let here : pos (get_or ops k d).number ≡ z = int_ranked (pos (get_or ops k d).number) z Equal (sym eq) in
     let same : (get_or ops k d).number ≡ (get_or ops j d).number = same_pos (get_or ops k d).number (get_or ops j d).number (here ∙ sym n) in
@@ -108,10 +113,13 @@ failed_here ops z k d up l eq none = not_named ops z d (λ j c m n q.
     ])
 
 -- a search that found nothing says that no operation has the number
-pub none_here : (ops : List Invocation) (z : ℤ) (i : ℕ) (d : Invocation) → IsPartitionPoint (λ o. int_cmp (pos o.number) z ≡ Less) (λ o. int_cmp (pos o.number) z ≡ Greater) ops i → call_named (calls_of ops) z ≡ None
+pub none_here : (ops : List Invocation) (z : ℤ) (i : ℕ) (d : Invocation)
+    → IsPartitionPoint (λ o. int_cmp (pos o.number) z ≡ Less) (λ o. int_cmp (pos o.number) z ≡ Greater) ops i → call_named (calls_of ops) z ≡ None
 none_here ops z i d h = not_named ops z d (λ k c l n q. apart k (int_ranked (pos (get_or ops k d).number) z) l n (cases_order k i))
   where
-    apart : (k : ℕ) → ((r : Ordering) → r ≡ int_cmp (pos (get_or ops k d).number) z → MatchOrdering r (pos (get_or ops k d).number <ℤ z) (pos (get_or ops k d).number ≡ z) (z <ℤ pos (get_or ops k d).number)) → k < length ops → pos (get_or ops k d).number ≡ z → (k ≡ i) ⊎ ((k < i) ⊎ (i < k)) → ⊥
+    apart : (k : ℕ) → ((r : Ordering) → r ≡ int_cmp (pos (get_or ops k d).number) z
+        → MatchOrdering r (pos (get_or ops k d).number <ℤ z) (pos (get_or ops k d).number ≡ z) (z <ℤ pos (get_or ops k d).number)) → k < length ops
+        → pos (get_or ops k d).number ≡ z → (k ≡ i) ⊎ ((k < i) ⊎ (i < k)) → ⊥
     apart k rank l n (inl s) = let g = rank Greater (sym (h.1 k d (omega arith) l)) in omega (arith, ints)
     apart k rank l n (inr (inl t)) = let g = rank Less (sym (h.0 k d (omega arith) t)) in omega (arith, ints)
     apart k rank l n (inr (inr t)) = let g = rank Greater (sym (h.1 k d (omega arith) l)) in omega (arith, ints)

@@ -36,7 +36,8 @@ module _ (kind : Kind) (calls : List Call) (order : List ℤ) (i : ℕ) where
       let above : pos by ≤ℤ pos k = all_at (λ z. z ≤ℤ pos k) (take i order) h.above (pos by) (in_from_contains (take i order) (pos by) g.stands) in
       omega (arith, ints)
 
-  same_reply : (c e : Call) (d f after later : Content) (gives says : AnyReply) → c ≡ e → content_at kind calls order i ≡ Some d → content_at kind calls order i ≡ Some f → next d c.op ≡ Some (after, gives) → next f e.op ≡ Some (later, says) → gives ≡ says
+  same_reply : (c e : Call) (d f after later : Content) (gives says : AnyReply) → c ≡ e → content_at kind calls order i ≡ Some d
+      → content_at kind calls order i ≡ Some f → next d c.op ≡ Some (after, gives) → next f e.op ≡ Some (later, says) → gives ≡ says
   same_reply c e d f after later gives says same at at' n m =
       let there : d ≡ f = same_Some d f (sym at ∙ at') in
       let both : next d c.op ≡ next f e.op = ap (λ (x : Content). next x c.op) there ∙ ap (λ (x : Call). next f x.op) same in

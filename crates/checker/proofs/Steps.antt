@@ -1,5 +1,6 @@
 -- Operations as calls, what the walk knows after some entries, and one entry more.
-use Rattle.std.proofs.Common.{◌≡◌, ◌≢◌, ℕ, ℤ, pos, negsuc, ◌≤ℤ◌, zero, suc, ◌<◌, ◌≤◌, ◌==◌, ◌||◌, max, Bool, true, false, inl, inr, List, [], ◌∷◌, ◌++◌, length, set, Option, Some, None, AllPairs, get_or, refl, ap, sym, ◌∙◌, subst, arith}
+use Rattle.std.proofs.Common.{◌≡◌, ◌≢◌, ℕ, ℤ, pos, negsuc, ◌≤ℤ◌, zero, suc, ◌<◌, ◌≤◌, ◌==◌, ◌||◌, max, Bool, true, false, inl, inr, List, [], ◌∷◌}
+use Rattle.std.proofs.Common.{◌++◌, length, set, Option, Some, None, AllPairs, get_or, refl, ap, sym, ◌∙◌, subst, arith}
 use Rattle.std.proofs.lemmas.Int.{ints}
 use Rattle.std.specs.Option.{option_map_or}
 use Rattle.std.specs.List.{list_any, cons_option}
@@ -34,7 +35,8 @@ at_most n z e = omega (arith, ints)
 at_most_of : (n top : ℕ) (z : ℤ) → z ≡ pos n → n ≤ top → z ≤ℤ pos top
 at_most_of n top z e l = omega (arith, ints)
 
-pub numbers_apart : (ops : List Invocation) (k j : ℕ) (d e : Invocation) → AllPairs (λ a b. a.number < b.number) ops → k < length ops → j < length ops → k ≢ j → (get_or ops k d).number ≢ (get_or ops j e).number
+pub numbers_apart : (ops : List Invocation) (k j : ℕ) (d e : Invocation) → AllPairs (λ a b. a.number < b.number) ops → k < length ops → j < length ops
+    → k ≢ j → (get_or ops k d).number ≢ (get_or ops j e).number
 numbers_apart ops k j d e up l m ne q = elim (cases_order k j) [
   | inl s ↦ ne s
   | inr r ↦ elim r [
@@ -88,7 +90,8 @@ pub call_parts : (o : Invocation) (c : Call) → call_of o ≡ Some c → (o.num
 call_parts o c e = go o.«end» e
   where
     go : (f : End) → call_with o.number o.op f ≡ Some c → (o.number ≡ c.number) × (o.op ≡ c.op) × (return_of f ≡ c.returned)
-    go (Returned at r) q = let s = same_Some (record { number = o.number; op = o.op; returned = Some (record { at = at; reply = r }) }) c q in (ap (λ (x : Call). x.number) s, ap (λ (x : Call). x.op) s, ap (λ (x : Call). x.returned) s)
+    go (Returned at r) q = let s = same_Some (record { number = o.number; op = o.op; returned = Some (record { at = at; reply = r }) }) c q in
+        (ap (λ (x : Call). x.number) s, ap (λ (x : Call). x.op) s, ap (λ (x : Call). x.returned) s)
     go Pending q = let s = same_Some (record { number = o.number; op = o.op; returned = None }) c q in (ap (λ (x : Call). x.number) s, ap (λ (x : Call). x.op) s, ap (λ (x : Call). x.returned) s)
     go Failed q = absurd (cc q)
 
@@ -109,7 +112,9 @@ place_of_call (o ∷ ops) c i = go (call_of o) refl i (place_of_call ops c)
     behind : ((k : ℕ) × (k < length ops) × ((d : Invocation) → call_of (get_or ops k d) ≡ Some c)) → (k : ℕ) × (k < suc (length ops)) × ((d : Invocation) → call_of (get_or (o ∷ ops) k d) ≡ Some c)
     behind k = (suc k.0, omega (arith, k.1), k.2)
 
-    go : (r : Option Call) → call_of o ≡ r → In c (cons_option r (calls_of ops)) → (In c (calls_of ops) → (k : ℕ) × (k < length ops) × ((d : Invocation) → call_of (get_or ops k d) ≡ Some c)) → (k : ℕ) × (k < suc (length ops)) × ((d : Invocation) → call_of (get_or (o ∷ ops) k d) ≡ Some c)
+    go : (r : Option Call) → call_of o ≡ r → In c (cons_option r (calls_of ops))
+        → (In c (calls_of ops) → (k : ℕ) × (k < length ops) × ((d : Invocation) → call_of (get_or ops k d) ≡ Some c)) → (k : ℕ) × (k < suc (length ops))
+        × ((d : Invocation) → call_of (get_or (o ∷ ops) k d) ≡ Some c)
     go None q j f = behind (f j)
     go (Some e) q j f = elim j [ inl s ↦ (0, omega arith, λ d. q ∙ ap Some (sym s)) | inr t ↦ behind (f t) ]
 
@@ -168,20 +173,23 @@ pub record AtHand (ops : List Invocation) (z : ℤ) (k : ℕ) (c : Call) : Type 
 pub number_at : (ops : List Invocation) (z : ℤ) (k : ℕ) (c : Call) (d : Invocation) → AtHand ops z k c → z ≡ pos (get_or ops k d).number
 number_at ops z k c d h = found_number (calls_of ops) z c h.found ∙ ap pos (sym (call_parts (get_or ops k d) c (h.is d)).0)
 
-pub away : (kind : Kind) (ops : List Invocation) (o : List ℤ) (seen : List Bool) (content : Content) (greatest : Option ℕ) (z : ℤ) (k : ℕ) (c : Call) (d : Invocation) → Walk kind ops o seen content greatest → AtHand ops z k c → get_or seen k false ≡ false → In z o → ⊥
+pub away : (kind : Kind) (ops : List Invocation) (o : List ℤ) (seen : List Bool) (content : Content) (greatest : Option ℕ) (z : ℤ) (k : ℕ) (c : Call)
+    (d : Invocation) → Walk kind ops o seen content greatest → AtHand ops z k c → get_or seen k false ≡ false → In z o → ⊥
 away kind ops o seen content greatest z k c d w h fresh i = stands_false (get_or ops k d).number o (sym (w.marks k d h.within) ∙ fresh) (subst (λ y. In y o) (number_at ops z k c d h) i)
 
 -- one more entry
 pub walk_more : (kind : Kind) (ops : List Invocation) (o : List ℤ) (seen : List Bool) (content after : Content) (greatest : Option ℕ) (z : ℤ) (k : ℕ) (c : Call) (d : Invocation) (top : ℕ)
     → AllPairs (λ a b. a.number < b.number) ops → Walk kind ops o seen content greatest → AtHand ops z k c → get_or seen k false ≡ false
-    → IsEarly (get_or ops k d).«end» greatest → IsStep content c after → kind_with after ≡ kind_with content → top ≡ option_map_or (λ by. max by (get_or ops k d).number) greatest (get_or ops k d).number
+    → IsEarly (get_or ops k d).«end» greatest → IsStep content c after → kind_with after ≡ kind_with content
+    → top ≡ option_map_or (λ by. max by (get_or ops k d).number) greatest (get_or ops k d).number
     → Walk kind ops (o ++ z ∷ []) (set seen k true) after (Some top)
 walk_more kind ops o seen content after greatest z k c d top up w h fresh early step kept new_top =
     let x : Invocation = get_or ops k d in
     let parts = call_parts x c (h.is d) in
     let is_z : z ≡ pos x.number = number_at ops z k c d h in
     record {
-      so_far = more kind (calls_of ops) o content after z c w.so_far h.found (away kind ops o seen content greatest z k c d w h fresh) (λ r q y i. all_early greatest o x.«end» r w.top early (parts.2 ∙ q) y i) step;
+      so_far = more kind (calls_of ops) o content after z c w.so_far h.found (away kind ops o seen content greatest z k c d w h fresh)
+          (λ r q y i. all_early greatest o x.«end» r w.top early (parts.2 ∙ q) y i) step;
       of_kind = kept ∙ w.of_kind;
       long = length-set seen k true ∙ w.long;
       marks = λ j e m. subst (λ y. get_or (set seen k true) j false ≡ stands_in (get_or ops j e).number (o ++ y ∷ [])) (sym is_z) (mark j e m);
@@ -195,8 +203,11 @@ walk_more kind ops o seen content after greatest z k c d top up w h fresh early 
           let len = w.long in
           let l = h.within in
           let here : get_or (set seen k true) j false ≡ true = ap (λ i. get_or (set seen k true) i false) q ∙ get_or-set_same seen k true false (omega arith) in
-          here ∙ sym (stands_push (get_or ops j e).number (get_or ops k d).number o ∙ or_right (stands_in (get_or ops j e).number o) ((get_or ops k d).number == (get_or ops j e).number) (eq-eqb (get_or ops k d).number (get_or ops j e).number (sym same)))
+          here ∙ sym (stands_push (get_or ops j e).number (get_or ops k d).number o
+          ∙ or_right (stands_in (get_or ops j e).number o) ((get_or ops k d).number == (get_or ops j e).number) (eq-eqb (get_or ops k d).number (get_or ops j e).number (sym same)))
       | inr ne ↦
           let other : (get_or ops k d).number ≢ (get_or ops j e).number = numbers_apart ops k j d e up h.within m (λ q. ne (sym q)) in
-          get_or-set_other seen k j true false ne ∙ (w.marks j e m ∙ sym (stands_push (get_or ops j e).number (get_or ops k d).number o ∙ or_nothing (stands_in (get_or ops j e).number o) ((get_or ops k d).number == (get_or ops j e).number) (ne_eqb (get_or ops k d).number (get_or ops j e).number other)))
+          get_or-set_other seen k j true false ne
+          ∙ (w.marks j e m ∙ sym (stands_push (get_or ops j e).number (get_or ops k d).number o
+          ∙ or_nothing (stands_in (get_or ops j e).number o) ((get_or ops k d).number == (get_or ops j e).number) (ne_eqb (get_or ops k d).number (get_or ops j e).number other)))
     ]

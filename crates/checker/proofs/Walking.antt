@@ -1,5 +1,6 @@
 -- An order that is right so far, and its first fault.
-use Rattle.std.proofs.Common.{◌≡◌, ◌≢◌, ℕ, ℤ, pos, negsuc, ◌≤ℤ◌, zero, suc, ◌<◌, ◌==◌, Bool, true, false, cond, inl, inr, List, [], ◌∷◌, ◌++◌, take, Option, Some, option_map, Contains, slice_get, refl, ap, sym, ◌∙◌, subst, arith}
+use Rattle.std.proofs.Common.{◌≡◌, ◌≢◌, ℕ, ℤ, pos, negsuc, ◌≤ℤ◌, zero, suc, ◌<◌, ◌==◌, Bool, true, false, cond, inl, inr, List, [], ◌∷◌, ◌++◌, take}
+use Rattle.std.proofs.Common.{Option, Some, option_map, Contains, slice_get, refl, ap, sym, ◌∙◌, subst, arith}
 use Rattle.std.proofs.lemmas.Int.{ints}
 use Rattle.std.specs.List.{filter_map}
 use Rattle.std.proofs.lemmas.Option.{same_Some}
@@ -82,7 +83,8 @@ along_content calls c [] d h = ap Some h
 along_content calls c (z ∷ o) d h = ap (λ (x : Option Content). content_after calls x o) (after_step calls c h.1 z h.0 h.2 h.3) ∙ along_content calls h.1 o d h.4
 
 -- an order that is right so far is right at each place: in the content there the entry is a step
-pub along_at : (calls : List Call) (c : Content) (o : List ℤ) (d : Content) (j : ℕ) (z : ℤ) (e : Call) (at : Content) → Along calls c o d → slice_get o j ≡ Some z → call_named calls z ≡ Some e → content_after calls (Some c) (take j o) ≡ Some at → (after : Content) × IsStep at e after
+pub along_at : (calls : List Call) (c : Content) (o : List ℤ) (d : Content) (j : ℕ) (z : ℤ) (e : Call) (at : Content) → Along calls c o d
+    → slice_get o j ≡ Some z → call_named calls z ≡ Some e → content_after calls (Some c) (take j o) ≡ Some at → (after : Content) × IsStep at e after
 along_at calls c [] d j z e at h g f q = absurd (cc g)
 along_at calls c (y ∷ o) d zero z e at h g f q =
     let same : h.0 ≡ e = same_Some h.0 e (sym h.2 ∙ (ap (call_named calls) (same_Some y z g) ∙ f)) in
@@ -90,7 +92,8 @@ along_at calls c (y ∷ o) d zero z e at h g f q =
 along_at calls c (y ∷ o) d (suc j) z e at h g f q =
     along_at calls h.1 o d j z e at h.4 g f (sym (ap (λ (x : Option Content). content_after calls x (take j o)) (after_step calls c h.1 y h.0 h.2 h.3)) ∙ q)
 
-pub along_push : (calls : List Call) (c : Content) (o : List ℤ) (d : Content) (z : ℤ) (e : Call) (after : Content) → Along calls c o d → call_named calls z ≡ Some e → IsStep d e after → Along calls c (o ++ z ∷ []) after
+pub along_push : (calls : List Call) (c : Content) (o : List ℤ) (d : Content) (z : ℤ) (e : Call) (after : Content) → Along calls c o d
+    → call_named calls z ≡ Some e → IsStep d e after → Along calls c (o ++ z ∷ []) after
 along_push calls c [] d z e after h f s = (e, after, f, subst (λ x. IsStep x e after) (sym h) s, refl)
 along_push calls c (y ∷ o) d z e after h f s = (h.0, h.1, h.2, h.3, along_push calls h.1 o d z e after h.4 f s)
 

@@ -4,7 +4,8 @@ ghost use Rattle.std.specs.Prelude.{◌≡◌, OnOk, IfOk, IfErr, IfSome, IfNone
 ghost use Rattle.events.specs.Operations.{calls_of};
 ghost use Rattle.certificate.specs.Denotes.{AreDistinct};
 ghost use Rattle.checker.specs.Refusals.{AreValid, IsCheckAnswer, IsFirstRefusal};
-ghost use Rattle.checker.specs.Checking.{AreAllPlaces, IsFine, IsRefused, AreForThese, IsLeastBesides};
+ghost use Rattle.checker.specs.Checking.{AreAllPlaces, IsFine, IsRefused, AreForThese};
+ghost use Rattle.checker.specs.Checking.{IsLeastBesides};
 
 use crate::object::check_object;
 use crate::refusal::Refusal;

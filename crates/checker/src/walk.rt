@@ -1,6 +1,8 @@
 //! The walk along an order.
 
-ghost use Rattle.std.specs.Prelude.{◌≡◌, ℕ, ◌<◌, length, true, false, Some, List, Bool, OnOk, IfErr, IfSome, IfNone, All, AllPairs, MatchOption, max, slice_index_or};
+ghost use Rattle.std.specs.Prelude.{◌≡◌, ℕ, ◌<◌, length, true, false, Some, List, Bool, OnOk};
+ghost use Rattle.std.specs.Prelude.{IfErr, IfSome, IfNone, All, AllPairs, MatchOption, max};
+ghost use Rattle.std.specs.Prelude.{slice_index_or};
 ghost use Rattle.std.specs.Option.{option_map_or};
 ghost use Rattle.std.specs.List.{HoldsAt};
 ghost use Rattle.model.specs.declared.AnyOp.{AnyOp};

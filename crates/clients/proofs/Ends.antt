@@ -32,13 +32,15 @@ pub may_begin : (d : DeskSeen) (w : Work) (k : Known) (cs : List Call) → IsNew
 may_begin d w k cs n calls fit few = record {
   desk = ap (λ z. z.desk) n.begun;
   idle = ap (λ z. z.knows.own) n.begun;
-  room = subst (λ (z : Known). length z.knows.done + length cs ≤ z.desk.quota) (sym n.begun) (let q : length cs ≤ d.id.quota = subst (λ z. length z ≤ d.id.quota) (sym calls) (n.desk.quota k.knows.number n.low) in omega arith);
+  room = subst (λ (z : Known). length z.knows.done + length cs ≤ z.desk.quota) (sym n.begun)
+      (let q : length cs ≤ d.id.quota = subst (λ z. length z ≤ d.id.quota) (sym calls) (n.desk.quota k.knows.number n.low) in omega arith);
   few = few;
   fit = subst (λ z. All (IsCall z) cs) (sym n.desk.kinds) fit;
 }
 
 -- and has made them
-pub has_worked : (d : DeskSeen) (w : Work) (k after : Known) (cs : List Call) → IsNew d w k → cs ≡ calls_at w k.knows.number → after.desk ≡ k.desk → Worked cs k.knows after.knows → HasWorked d w k.knows.number after
+pub has_worked : (d : DeskSeen) (w : Work) (k after : Known) (cs : List Call) → IsNew d w k → cs ≡ calls_at w k.knows.number → after.desk ≡ k.desk
+    → Worked cs k.knows after.knows → HasWorked d w k.knows.number after
 has_worked d w k after cs n calls desk v = record {
   desk = desk ∙ ap (λ z. z.desk) n.begun;
   number = v.number;
@@ -129,7 +131,8 @@ abbrev IsEmpty : AnyObject → Type 0
 IsEmpty o = content_of o ≡ empty (kind_with (content_of o))
 
 -- one empty object more
-pub objects_more : (os more : List AnyObject) (o : AnyObject) (ks : List Kind) (i : ℕ) → map (λ o. kind_with (content_of o)) os ≡ take i ks → All IsEmpty os → content_of o ≡ empty (get_or ks i kind.Queue) → more ≡ os ++ o ∷ [] → i < length ks
+pub objects_more : (os more : List AnyObject) (o : AnyObject) (ks : List Kind) (i : ℕ) → map (λ o. kind_with (content_of o)) os ≡ take i ks
+    → All IsEmpty os → content_of o ≡ empty (get_or ks i kind.Queue) → more ≡ os ++ o ∷ [] → i < length ks
     → (map (λ o. kind_with (content_of o)) more ≡ take (i + 1) ks) × All IsEmpty more
 objects_more os more o ks i so_far all is grown low =
     let f : AnyObject → Kind = λ o. kind_with (content_of o) in let k : Kind = get_or ks i kind.Queue in let here : f o ≡ k = ap kind_with is ∙ kind_of_empty k in (

@@ -58,7 +58,8 @@ alike_more i one other one' other' so_far m x low = dite (ℕ_discrete x i)
 
 -- what a log has of a client's calls depends on these alone
 pub same_account : (x : ℕ) (v w : DeskView) (log : List AnyEntry) → KeepsCalls v w → IsAccount x v log → IsAccount x w log
-same_account x v w log k = subst (λ (t : ℕ × Own × List AnyDone). (now : List AnyEntry) × (entries_of t.0 log ≡ served x t.0 t.2 ++ now) × MayHold x t.0 t.1 now) (λ i. (sym k.number i, sym k.own i, sym k.done i))
+same_account x v w log k = subst (λ (t : ℕ × Own × List AnyDone). (now : List AnyEntry) × (entries_of t.0 log ≡ served x t.0 t.2 ++ now)
+    × MayHold x t.0 t.1 now) (λ i. (sym k.number i, sym k.own i, sym k.done i))
 
 pub same_journal : (v w : DeskView) → KeepsCalls v w → journal w ≡ journal v
 same_journal v w k = λ i. journal_of (k.done i) (own_request (k.own i))

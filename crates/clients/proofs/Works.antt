@@ -22,7 +22,8 @@ pub record HasMade (cs : List Call) (v w : DeskView) : Type 0 where
 -- one call more
 made_more : (cs : List Call) (c : Call) (es : List AnyEvent) (t u : ℕ) (a : AnyAnswer) → Made cs es → Made (cs ++ c ∷ []) (es ++ Invoked t c.0 c.1 ∷ Returned u a ∷ [])
 made_more [] c es t u a made = (t, u, a, [], ap (λ z. z ++ Invoked t c.0 c.1 ∷ Returned u a ∷ []) made, refl)
-made_more (d ∷ cs) c es t u a (t', u', b, rest, is, made) = (t', u', b, rest ++ Invoked t c.0 c.1 ∷ Returned u a ∷ [], ap (λ z. z ++ Invoked t c.0 c.1 ∷ Returned u a ∷ []) is, made_more cs c rest t u a made)
+made_more (d ∷ cs) c es t u a (t', u', b, rest, is, made) =
+    (t', u', b, rest ++ Invoked t c.0 c.1 ∷ Returned u a ∷ [], ap (λ z. z ++ Invoked t c.0 c.1 ∷ Returned u a ∷ []) is, made_more cs c rest t u a made)
 
 pub one_made : (cs : List Call) (c : Call) (v w x : DeskView) (a : AnyAnswer) → HasMade cs v w → Called w c.0 c.1 a x → HasMade (cs ++ c ∷ []) v x
 one_made cs c v w x a k d = let n = k.calls in let m = d.calls in record {
@@ -46,6 +47,7 @@ stopped cs i none v w x low k o = let u : DeskView = o.0 in let p = o.1 in let c
   number = o.2.number ∙ (ap (λ z. z.number) p.knows ∙ k.number);
   kinds = o.2.kinds ∙ (ap (λ z. z.kinds) p.knows ∙ k.kinds);
   events = k.events ++ Invoked p.ticket c.0 c.1 ∷ [];
-  journal = (λ j. journal_of (o.2.done j) (own_request (o.2.own j))) ∙ (p.journal ∙ (ap (λ z. z ++ Invoked p.ticket c.0 c.1 ∷ []) k.journal ∙ append_assoc (journal v) k.events (Invoked p.ticket c.0 c.1 ∷ [])));
+  journal = (λ j. journal_of (o.2.done j) (own_request (o.2.own j)))
+      ∙ (p.journal ∙ (ap (λ z. z ++ Invoked p.ticket c.0 c.1 ∷ []) k.journal ∙ append_assoc (journal v) k.events (Invoked p.ticket c.0 c.1 ∷ [])));
   made = inr record { front = take i cs; call = c; behind = drop (suc i) cs; calls = parts cs i none low; events = k.events; made = k.made; ticket = p.ticket; last = refl };
 }

@@ -15,6 +15,7 @@ use Rattle.publication.specs.Handles.{DeskSeen, Known, begun}
 use Rattle.publication.specs.Calls.{Closed}
 use Rattle.recorder.specs.Records.{Recorded, journal_at, log_at}
 use Rattle.workload.specs.Workloads.{Work, Call, calls_at, IsCall}
+use Rattle.desk_model.specs.Limits.{max_calls}
 
 -- the events are those of the calls, in order: the invocation of each, and its return
 abbrev pub Made : List Call → List AnyEvent → Type 0
@@ -46,7 +47,7 @@ pub record MayWork (d : DeskSeen) (c : Known) (cs : List Call) : Type 0 where
   pub desk : c.desk ≡ d.id
   pub idle : c.knows.own ≡ own.Idle
   pub room : length c.knows.done + length cs ≤ c.desk.quota
-  pub few : length cs < 10001
+  pub few : length cs < 1 + max_calls
   pub fit : All (IsCall d.id.kinds) cs
 
 -- a client made these calls, in order, or stopped at one, which is outstanding
@@ -62,7 +63,7 @@ pub record IsDeskFor (d : DeskSeen) (w : Work) : Type 0 where
   pub kinds : d.id.kinds ≡ w.kinds
   pub clients : d.clients ≡ length w.calls
   pub quota : (c : ℕ) → c < length w.calls → length (calls_at w c) ≤ d.id.quota
-  pub few_calls : d.id.quota < 10001
+  pub few_calls : d.id.quota < 1 + max_calls
 
 -- a client of the desk of this workload that has made no call
 pub record IsNew (d : DeskSeen) (w : Work) (k : Known) : Type 0 where

@@ -1,6 +1,7 @@
 //! A desk whose clients make the calls of a workload.
 
-ghost use Rattle.std.specs.Prelude.{◌≡◌, ◌<◌, ◌≤◌, [], length, map, All, IfOk, IfErr, OnErr, vec_capacity};
+ghost use Rattle.std.specs.Prelude.{◌≡◌, ◌<◌, ◌≤◌, [], length, map, All, IfOk, IfErr, OnErr};
+ghost use Rattle.std.specs.Prelude.{vec_capacity};
 ghost use Rattle.model.specs.Objects.{empty, kind_with};
 ghost use Rattle.publication.specs.Handles.{AllBegun};
 ghost use Rattle.clients.specs.Made.{HasWorked, IsNew, IsDeskFor, IsDone, ClosedBy, Ran, HaveTold};

@@ -36,7 +36,8 @@ keeps_all : (v : DeskView) → KeepsCalls v v
 keeps_all v = record { number = refl; kinds = refl; own = refl; done = refl; seen = λ x. starts_same (seen_of v x) }
 
 -- what is held, put back, missed, and known of the own row does not matter
-pub keeps_held : (v : DeskView) {h : Held} {back : List PutBack} {missed : List ℕ} {ready : Bool} {won : ℕ} → KeepsCalls v (record v { held = h; back = back; missed = missed; ready = ready; won = won })
+pub keeps_held : (v : DeskView) {h : Held} {back : List PutBack} {missed : List ℕ} {ready : Bool} {won : ℕ}
+    → KeepsCalls v (record v { held = h; back = back; missed = missed; ready = ready; won = won })
 keeps_held v = record { number = refl; kinds = refl; own = refl; done = refl; seen = λ x. starts_same (seen_of v x) }
 
 pub goes_nowhere : (p : Holding) → Goes p p
@@ -62,7 +63,8 @@ pub goes_room : (p q : Holding) (n : ℕ) → q ≡ record p { state = record p.
 goes_room p q n is = subst (Goes p) (sym is) record { desk = refl; object = refl; places = refl; log = starts_same p.log; seen = refl; calls = keeps_all p.knows; ready = λ e. e }
 
 -- the client after its pass, which served nothing, was put back
-pub only_learnt : (c : DeskView) (x : ℕ) (p q : Holding) (v : DeskView) (n : ℕ) → p.knows ≡ after_win x p.log c → p.object ≡ x → q ≡ record p { state = record p.state { room = n } } → v ≡ after_release q.object q.log q.knows → seen_of v q.object ≡ q.log → HasLearnt x c v
+pub only_learnt : (c : DeskView) (x : ℕ) (p q : Holding) (v : DeskView) (n : ℕ) → p.knows ≡ after_win x p.log c → p.object ≡ x
+    → q ≡ record p { state = record p.state { room = n } } → v ≡ after_release q.object q.log q.knows → seen_of v q.object ≡ q.log → HasLearnt x c v
 only_learnt c x p q v n opened on is knows seen =
     let at : q.object ≡ x = ap (λ z. z.object) is ∙ on in
     let log : seen_of v x ≡ q.log = subst (λ y. seen_of v y ≡ q.log) at seen in
@@ -103,7 +105,8 @@ not_tried p q row n here r waiting on =
     let k = n.knows in let waiting' : p.knows.own ≡ own.Waiting r = sym (ap (λ z. z.own) k) ∙ waiting in let on' : r.object ≡ p.object = on ∙ n.object in
     ap (λ z. z.ready) k ∙ ((λ i. p.knows.ready || (eq-eqb (row_place row) (row_place p.knows.number) (ap row_place here) i && waits p.object p.knows.own r waiting' on' i)) ∙ or-true p.knows.ready)
 
-pub answered_goes : (p : Holding) (h : Handling) (q : Holding) (row : ℕ) (a : AnyAnswer) → h.desk ≡ p.desk → q.desk ≡ h.desk → h.state ≡ p.state → q.state.places ≡ h.state.places → Got p row h → Answered h a q → Goes p q
+pub answered_goes : (p : Holding) (h : Handling) (q : Holding) (row : ℕ) (a : AnyAnswer) → h.desk ≡ p.desk → q.desk ≡ h.desk → h.state ≡ p.state
+    → q.state.places ≡ h.state.places → Got p row h → Answered h a q → Goes p q
 answered_goes p h q row a d d' s s' g k = record {
   desk = d' ∙ d;
   object = k.object ∙ g.object;
@@ -165,7 +168,8 @@ seen_on s x l begins y = dite (ℕ_discrete y x)
     (λ other. subst (λ z. StartsWith z (get_or s y [])) (sym (get_or-set_other s x y l [] other)) (starts_same (get_or s y [])))
 
 -- the client after its pass, which began as p, was put back as q
-pub keeps_learnt : (c : DeskView) (x : ℕ) (p q : Holding) (v : DeskView) → p.knows ≡ after_win x p.log c → p.object ≡ x → StartsWith p.log (seen_of c x) → Goes p q → v ≡ after_release q.object q.log q.knows → KeepsCalls c v
+pub keeps_learnt : (c : DeskView) (x : ℕ) (p q : Holding) (v : DeskView) → p.knows ≡ after_win x p.log c → p.object ≡ x
+    → StartsWith p.log (seen_of c x) → Goes p q → v ≡ after_release q.object q.log q.knows → KeepsCalls c v
 keeps_learnt c x p q v opened on begins g is =
     let longer : StartsWith q.log (seen_of q.knows q.object) = subst (λ z. StartsWith q.log (get_or z q.object [])) (sym (g.seen ∙ ap (λ z. z.seen) opened))
     (subst (λ y. StartsWith q.log (seen_of c y)) (sym (g.object ∙ on)) (starts_longer q.log p.log (seen_of c x) g.log begins)) in
@@ -176,4 +180,5 @@ pub keeps_missed : (x : ℕ) (v w : DeskView) → w ≡ after_miss x v → Keeps
 keeps_missed x v w is = keeps_same v w _ is (keeps_held v)
 
 pub keeps_unpolled : (v w : DeskView) → NotPolled v w → KeepsCalls v w
-keeps_unpolled v w n = ⊎_elim (λ (a : (is_waiting v.own ≡ false) × (w ≡ v)). keeps_same v w v a.1 (keeps_all v)) (λ (b : (w ≡ after_miss (row_place v.number) v) × (v.ready ≡ false)). keeps_same v w _ b.0 (keeps_held v)) n
+keeps_unpolled v w n = ⊎_elim (λ (a : (is_waiting v.own ≡ false) × (w ≡ v)). keeps_same v w v a.1 (keeps_all v))
+    (λ (b : (w ≡ after_miss (row_place v.number) v) × (v.ready ≡ false)). keeps_same v w _ b.0 (keeps_held v)) n

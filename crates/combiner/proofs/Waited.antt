@@ -30,7 +30,8 @@ returned v u w a k p =
       journal = p.journal ∙ (λ i. journal_of (k.done i) (own_request (k.own i)) ++ Returned p.ticket a ∷ []);
       request = p.request;
       waited = sym k.own ∙ p.waited;
-      seen = λ x. starts_longer (seen_of w x) (seen_of u x) (seen_of v x) (subst (λ z. StartsWith (seen_of z x) (seen_of u x)) (sym p.knows) (seen_on u.seen p.request.object p.log p.begins x)) (k.seen x);
+      seen = λ x. starts_longer (seen_of w x) (seen_of u x) (seen_of v x)
+          (subst (λ z. StartsWith (seen_of z x) (seen_of u x)) (sym p.knows) (seen_on u.seen p.request.object p.log p.begins x)) (k.seen x);
       logged = record {
         legal = subst (IsLegal (kind_at v.kinds p.request.object)) (sym p.seen) (subst (λ z. IsLegal (kind_at z p.request.object) p.log) k.kinds p.legal);
         counted = (λ i. entries_of (sym k.number i) (p.seen i)) ∙ (p.counted ∙ λ i. served p.request.object (k.number i) (k.done i) ++ logged (k.number i) p.request a);
@@ -79,7 +80,8 @@ keeps_round v u p e w before none same after = keeps_on v u w before (keeps_on u
 
 -- The client made the call at once: p is the pass that was opened, q the one after the other rows, r the one after the call, and w
 -- the client after it was put back.
-pub called_at_once : (v : DeskView) (x : ℕ) (op : AnyOp) (a : AnyAnswer) (p q r : Holding) (w : DeskView) → p.knows ≡ after_win x p.log v → p.object ≡ x → StartsWith p.log (seen_of v x) → p.knows.kinds ≡ p.desk.kinds → Goes p q → Performed q op a r
+pub called_at_once : (v : DeskView) (x : ℕ) (op : AnyOp) (a : AnyAnswer) (p q r : Holding) (w : DeskView) → p.knows ≡ after_win x p.log v
+    → p.object ≡ x → StartsWith p.log (seen_of v x) → p.knows.kinds ≡ p.desk.kinds → Goes p q → Performed q op a r
     → w ≡ after_release r.object r.log r.knows → seen_of w r.object ≡ r.log → Called v x op a w
 called_at_once v x op a p q r w opened on begins kinds goes made is seen =
     let k : KeepsCalls v q.knows = keeps_on v p.knows q.knows (keeps_same v p.knows _ opened (keeps_held v)) goes.calls in
@@ -96,11 +98,14 @@ called_at_once v x op a p q r w opened on begins kinds goes made is seen =
       calls = ap (λ z. length z.done) knows ∙ (length-append q.knows.done _ ∙ ap (λ z. length z + 1) k.done);
       journal = ap journal is ∙ (made.journal ∙ λ i. journal_of (k.done i) (own_request (k.own i)) ++ Invoked made.request.ticket (at i) op ∷ Returned made.returned a ∷ []);
       seen = λ y. starts_longer (seen_of w y) (seen_of r.knows y) (seen_of v y)
-          (subst (λ z. StartsWith (seen_of z y) (seen_of r.knows y)) (sym is) (seen_on r.knows.seen r.object r.log (subst (λ z. StartsWith r.log (seen_of r.knows z)) (sym made.object) (subst (StartsWith r.log) (sym made.seen) (starts_same r.log))) y))
+          (subst (λ z. StartsWith (seen_of z y) (seen_of r.knows y)) (sym is)
+          (seen_on r.knows.seen r.object r.log (subst (λ z. StartsWith r.log (seen_of r.knows z)) (sym made.object) (subst (StartsWith r.log) (sym made.seen) (starts_same r.log))) y))
           (starts_longer (seen_of r.knows y) (seen_of q.knows y) (seen_of v y)
-          (subst (λ z. StartsWith (seen_of z y) (seen_of q.knows y)) (sym made.knows) (seen_on q.knows.seen made.request.object r.log (subst (λ z. StartsWith r.log (seen_of q.knows z)) (sym made.asked.0) made.begins) y)) (k.seen y));
+          (subst (λ z. StartsWith (seen_of z y) (seen_of q.knows y)) (sym made.knows)
+          (seen_on q.knows.seen made.request.object r.log (subst (λ z. StartsWith r.log (seen_of q.knows z)) (sym made.asked.0) made.begins) y)) (k.seen y));
       logged = record {
-        legal = subst (IsLegal (kind_at v.kinds x)) (sym seen') (subst (λ (z : List Kind × ℕ). IsLegal (kind_at z.0 z.1) r.log) (λ i. ((ap (λ z. z.kinds) goes.desk ∙ (sym kinds ∙ ap (λ z. z.kinds) opened)) i, at i)) made.legal);
+        legal = subst (IsLegal (kind_at v.kinds x)) (sym seen')
+            (subst (λ (z : List Kind × ℕ). IsLegal (kind_at z.0 z.1) r.log) (λ i. ((ap (λ z. z.kinds) goes.desk ∙ (sym kinds ∙ ap (λ z. z.kinds) opened)) i, at i)) made.legal);
         counted = ap (entries_of v.number) seen' ∙ (ap (λ z. entries_of z r.log) (sym k.number) ∙ (made.counted ∙ λ i. served (at i) (k.number i) (k.done i) ++ logged (k.number i) (request i) a));
         later = subst (All (λ (e : AnyEntry). e.ticket < made.returned)) (sym seen') made.later;
       };
@@ -120,7 +125,8 @@ called_before v u w object op a k c = record {
   seen = λ y. starts_longer (seen_of w y) (seen_of u y) (seen_of v y) (c.seen y) (k.seen y);
   logged = record {
     legal = subst (λ z. IsLegal (kind_at z object) (seen_of w object)) k.kinds c.logged.legal;
-    counted = (λ i. entries_of (sym k.number i) (seen_of w object)) ∙ (c.logged.counted ∙ λ i. served object (k.number i) (k.done i) ++ logged (k.number i) (record { object = object; ticket = c.invoked; op = op }) a);
+    counted = (λ i. entries_of (sym k.number i) (seen_of w object))
+        ∙ (c.logged.counted ∙ λ i. served object (k.number i) (k.done i) ++ logged (k.number i) (record { object = object; ticket = c.invoked; op = op }) a);
     later = c.logged.later;
   };
 }
@@ -135,7 +141,8 @@ outstanding_before v u p w object op k posted after =
         ticket = posted.ticket;
         was_idle = sym k.own ∙ posted.was_idle;
         knows = refl;
-        journal = ap (λ y. journal_of y (Some q)) (sym k.done) ∙ (ap journal (sym posted.knows) ∙ (posted.journal ∙ λ i. journal_of (k.done i) (own_request (k.own i)) ++ Invoked posted.ticket object op ∷ []));
+        journal = ap (λ y. journal_of y (Some q)) (sym k.done)
+            ∙ (ap journal (sym posted.knows) ∙ (posted.journal ∙ λ i. journal_of (k.done i) (own_request (k.own i)) ++ Invoked posted.ticket object op ∷ []));
       },
       keeps_on z p w (subst (KeepsCalls z) (sym posted.knows) kept) after,
     )
@@ -148,7 +155,8 @@ IsOn d x op = (x < length d.id.kinds) × (kind_of op ≡ kind_at d.id.kinds x)
 may_still : (v u : Known) → u.desk ≡ v.desk → KeepsCalls v.knows u.knows → MayPost v → MayPost u
 may_still v u same kept may = (
   ap is_waiting kept.own ∙ may.0,
-  subst (λ n. n < u.desk.quota) (λ i. calls_made (sym kept.done i) (own_request (sym kept.own i))) (subst (λ n. calls_made v.knows.done (own_request v.knows.own) < n) (sym (ap (λ z. z.quota) same)) may.1),
+  subst (λ n. n < u.desk.quota) (λ i. calls_made (sym kept.done i) (own_request (sym kept.own i)))
+      (subst (λ n. calls_made v.knows.done (own_request v.knows.own) < n) (sym (ap (λ z. z.quota) same)) may.1),
 )
 
 -- such a call is not refused
@@ -159,7 +167,8 @@ not_refused d c x op post.NoSuchObject may there r = let inside = there.0 in let
 not_refused d c x op post.OtherKind may there r = r.1.1 there.1
 
 -- why a call that was not made at once was not answered
-faulted_before : (d : DeskSeen) (v u : Known) (x : ℕ) (op : AnyOp) (e : CallFault) (k : Known) → MayPost v → IsOn d x op → u.desk ≡ v.desk → KeepsCalls v.knows u.knows → Faulted d u x op e k → Faulted d v x op e k
+faulted_before : (d : DeskSeen) (v u : Known) (x : ℕ) (op : AnyOp) (e : CallFault) (k : Known) → MayPost v → IsOn d x op → u.desk ≡ v.desk
+    → KeepsCalls v.knows u.knows → Faulted d u x op e k → Faulted d v x op e k
 faulted_before d v u x op (fault.Post e) k may there same kept f = absurd (not_refused d u x op e (may_still v u same kept may) there f.1)
 faulted_before d v u x op fault.NoMemory k may there same kept f = outstanding_before v.knows u.knows f.0 k.knows x op kept f.1 f.2
 

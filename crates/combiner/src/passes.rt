@@ -1,13 +1,15 @@
 //! One pass over the rows.
 
-ghost use Rattle.std.specs.Prelude.{◌≡◌, ◌<◌, ◌≤◌, length, IfSome, IfNone};
+ghost use Rattle.std.specs.Prelude.{◌≡◌, ◌<◌, ◌≤◌, length, IfSome, IfNone, ◌+◌};
 ghost use Rattle.model.specs.Objects.{kind_of};
 ghost use Rattle.desk_model.specs.World.{kind_at};
 ghost use Rattle.desk_model.specs.Images.{answer_in};
 ghost use Rattle.desk_invariant.specs.Views.{after_miss};
 ghost use Rattle.publication.specs.Calls.{MayPost};
 ghost use Rattle.combiner.specs.Waits.{Called};
-ghost use Rattle.combiner.specs.Passes.{Goes, KeepsCalls, IsTried, IsSettled, IsSettledNow, IsSameBut, HasLearnt, IfServed, IfBusy, IfNoMemory};
+ghost use Rattle.combiner.specs.Passes.{Goes, KeepsCalls, IsTried, IsSettled, IsSettledNow};
+ghost use Rattle.combiner.specs.Passes.{IsSameBut, HasLearnt, IfServed, IfBusy, IfNoMemory};
+ghost use Rattle.desk_model.specs.Limits.{max_clients};
 
 use publication::{Answer, Client, Desk, Pass, Picked, Win};
 use seq_objects::SeqObject;
@@ -200,7 +202,7 @@ fn clean_at<S: SeqObject>(pass: &mut Pass<S>, at: usize, number: u64)
 fn serve_others<S: SeqObject>(desk: &Desk<S>, pass: Pass<S>, own: u32) -> (Pass<S>, u64)
     requires { pass.desk ≡ desk.now.id }
     ensures goes { Goes pass result.0 }
-    ensures few { result.1 < 33 }
+    ensures few { result.1 < 1 + max_clients }
 {
     let mut pass = pass;
     let mut count = 0;

@@ -2,7 +2,7 @@
 use Rattle.std.specs.Prelude.{◌≡◌, ◌<◌, ◌↔◌, ℕ, Bool, true, false, List, [], ◌∷◌, ◌++◌, codes}
 use Rattle.std.specs.Prelude.{decimal, map, All, AllPairs, Contains, if◌then◌else◌}
 use Rattle.std.specs.List.{list_all}
-use Rattle.edn.specs.Sound.{IsShort}
+use Rattle.edn_reader.specs.Sound.{IsShort}
 use Rattle.events.specs.declared.event.Event.{Event}
 use Rattle.events.specs.Events.{IsNamed}
 use Rattle.certificate.specs.declared.Certificate.{Certificate}

@@ -2,7 +2,7 @@
 use Rattle.std.specs.Prelude.{◌≡◌, ◌<◌, ◌↔◌, ℕ, false, ⊤, List, [], ◌∷◌, ◌++◌, map, All, AllPairs}
 use Rattle.std.specs.Prelude.{Contains, if◌then◌else◌}
 use Rattle.std.specs.List.{list_all}
-use Rattle.edn.specs.Sound.{IsShort}
+use Rattle.edn_reader.specs.Sound.{IsShort}
 use Rattle.model.specs.Linearizable.{IsLinearizable}
 use Rattle.model.specs.Orders.{events}
 use Rattle.events.specs.declared.event.Event.{Event}

@@ -2,7 +2,7 @@
 use Rattle.std.specs.Prelude.{◌≡◌, ◌⊎◌, ℕ, List, ◌++◌, codes, decimal}
 use Rattle.model.specs.declared.AnyOp.{AnyOp}
 use Rattle.model.specs.declared.AnyReply.{AnyReply}
-use Rattle.edn.specs.Faults as edn
+use Rattle.edn_reader.specs.Faults as edn
 use Rattle.recorder.specs.Records.{Recorded}
 use Rattle.schedule.specs.Faults.{number_of}
 use Rattle.simulation.specs.Simulations.{IsSimulated, IsSimulationFault}

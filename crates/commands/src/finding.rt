@@ -3,7 +3,7 @@
 ghost use Rattle.std.specs.Prelude.{◌≡◌, ◌≢◌, ◌++◌, ℕ, List, false, true, codes, decimal, OnOk, IfOk, IfErr};
 ghost use Rattle.std.specs.Io.KnownBytes.{Appends};
 ghost use Rattle.std.specs.List.{list_all};
-ghost use Rattle.edn.specs.Sent.{WritesPrefix};
+ghost use Rattle.byte_streams.specs.Sent.{WritesPrefix};
 ghost use Rattle.commands.specs.Findings.{finding_line, findings_text, find_status, has_order, AreFound, AreFoundIn, IsFindOutput};
 ghost use Rattle.commands.specs.Searches.{IsUnsearched};
 ghost use Rattle.commands.specs.Statuses.{failed_status};

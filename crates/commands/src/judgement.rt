@@ -5,7 +5,7 @@ ghost use Rattle.std.specs.Io.KnownBytes.{Appends};
 ghost use Rattle.certificate.specs.Denotes.{AreDistinct};
 ghost use Rattle.checker.specs.Refusals.{AreValid};
 ghost use Rattle.search.specs.Answers.{certificates_in};
-ghost use Rattle.edn.specs.Sent.{WritesPrefix};
+ghost use Rattle.byte_streams.specs.Sent.{WritesPrefix};
 ghost use Rattle.judging.specs.Texts.{IsLinearizableText};
 ghost use Rattle.commands.specs.Judged.{note_line, notes_text, AreOpen, IsJudgeOutput, IsOpenText, IsVerdictOn, IsVerdictOnText};
 ghost use Rattle.commands.specs.Searches.{search_status, IsNotLinearizableText};

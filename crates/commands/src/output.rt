@@ -2,7 +2,7 @@
 
 ghost use Rattle.std.specs.Prelude.{◌≡◌, ◌≢◌, false, true, IfOk};
 ghost use Rattle.std.specs.Io.KnownBytes.{Appends};
-ghost use Rattle.edn.specs.Sent.{WritesPrefix};
+ghost use Rattle.byte_streams.specs.Sent.{WritesPrefix};
 ghost use Rattle.report.specs.Lines.{verdict_text};
 ghost use Rattle.commands.specs.Outputs.{status_in, text_in};
 ghost use Rattle.commands.specs.Statuses as spec;

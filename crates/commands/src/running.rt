@@ -4,7 +4,7 @@ ghost use Rattle.std.specs.Prelude.{◌≡◌, ◌≢◌, ◌<◌, ◌++◌, ℕ
 ghost use Rattle.std.specs.Io.KnownBytes.{Appends};
 ghost use Rattle.model.specs.declared.Kind.{Kind};
 ghost use Rattle.desk_model.specs.Records.{IsSoundRecord};
-ghost use Rattle.edn.specs.Sent.{WritesPrefix};
+ghost use Rattle.byte_streams.specs.Sent.{WritesPrefix};
 ghost use Rattle.judging.specs.Verdicts.{IsYesUnlessMemory};
 ghost use Rattle.commands.specs.Runs.{HaveCounts, IsAcceptedRun, IsRecordOutput, IsRunOutput, IsTextOf, Says, journals_of, logs_of, work_of};
 ghost use Rattle.report.specs.Lines.{verdict_text};

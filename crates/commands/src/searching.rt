@@ -3,7 +3,7 @@
 ghost use Rattle.std.specs.Prelude.{◌≡◌, ◌≢◌, ◌++◌, ℕ, List, false, true, codes, decimal, OnOk, IfOk, IfErr};
 ghost use Rattle.std.specs.Io.KnownBytes.{Appends};
 ghost use Rattle.std.specs.List.{list_all, list_any};
-ghost use Rattle.edn.specs.Sent.{WritesPrefix};
+ghost use Rattle.byte_streams.specs.Sent.{WritesPrefix};
 ghost use Rattle.commands.specs.Searches.{answer_line, answers_text, search_status, is_impossible, is_found, AreSearched, IsSearched, IsUnsearched, IsSearchOutput};
 ghost use Rattle.commands.specs.Statuses.{failed_status};
 

@@ -2,7 +2,7 @@
 
 ghost use Rattle.std.specs.Prelude.{◌≡◌, ◌≢◌, ◌++◌, ℕ, List, false, true, codes, decimal, IfOk};
 ghost use Rattle.std.specs.Io.KnownBytes.{Appends};
-ghost use Rattle.edn.specs.Sent.{WritesPrefix};
+ghost use Rattle.byte_streams.specs.Sent.{WritesPrefix};
 ghost use Rattle.commands.specs.Runs.{IsRecordOutput, journals_of, logs_of};
 ghost use Rattle.commands.specs.Simulated as spec;
 ghost use Rattle.commands.specs.Simulated.{IsAcceptedSimulation, IsFaultOutput, IsSimulateOutput};

@@ -1,7 +1,7 @@
 //! The history that a text denotes.
 
 ghost use Rattle.std.specs.Prelude.{IfOk, IfErr};
-ghost use Rattle.edn.specs.Sound.{IsShort};
+ghost use Rattle.edn_reader.specs.Sound.{IsShort};
 ghost use Rattle.judging.specs.Texts.{DenotesHistory};
 ghost use Rattle.commands.specs.Searches.{IsUnsearched};
 

@@ -9,6 +9,7 @@
 
 ghost use Rattle.std.specs.Prelude.{◌≡◌, ◌+◌, ◌<◌, length, IfOk};
 ghost use Rattle.publication.specs.Handles.{AllBegun};
+ghost use Rattle.desk_model.specs.Limits.{max_clients};
 
 use combiner::{call, call_at_once};
 use publication::{Client, Desk};
@@ -150,7 +151,7 @@ fn new_desk(
     kind: Kind,
     clients: u32,
 ) -> Result<(Desk<AnyObject>, Vec<Client<AnyObject>>), AllocError>
-    requires { (0 < clients) × (clients < 33) }
+    requires { (0 < clients) × (clients < 1 + max_clients) }
     ensures { IfOk result (λ r. AllBegun r.0.id r.1.items) }
 {
     let mut objects = Vec::new(alloc);
@@ -160,7 +161,7 @@ fn new_desk(
 
 /// The nanoseconds of one round.
 fn round<R: Host>(rt: &R, job: Job, clients: u32) -> io::Result<u64>
-    requires { (0 < clients) × (clients < 33) }
+    requires { (0 < clients) × (clients < 1 + max_clients) }
 {
     let (desk, mut all) = new_desk(rt.alloc(), job.kind, clients)?;
     let start = Instant::now(rt)?;
@@ -170,7 +171,7 @@ fn round<R: Host>(rt: &R, job: Job, clients: u32) -> io::Result<u64>
 
 /// The least nanoseconds of a call in so many rounds.
 fn least<R: Host>(rt: &R, job: Job, clients: u32, rounds: u32) -> io::Result<u64>
-    requires { (0 < clients) × (clients < 33) }
+    requires { (0 < clients) × (clients < 1 + max_clients) }
 {
     let mut least = u64::MAX;
     for _ in 0..rounds {

@@ -1,5 +1,6 @@
 -- The steps of a client's own call keep the rule: drawing tickets, posting, and taking the answer.
-use Rattle.std.proofs.Common.{◌≡◌, ◌≢◌, ℕ, ◌+◌, ◌%◌, ◌^◌, ◌<◌, eqb, false, List, [], ◌∷◌, ◌++◌, length, get_or, set, None, All, refl, sym, ap, subst, ◌∙◌, ◌⊎◌, ⊎_elim, inl, arith, eq-eqb, ne_eqb, append-nil}
+use Rattle.std.proofs.Common.{◌≡◌, ◌≢◌, ℕ, ◌+◌, ◌%◌, ◌^◌, ◌<◌, eqb, false, List, [], ◌∷◌, ◌++◌, length, get_or, set, None, All, refl, sym, ap, subst}
+use Rattle.std.proofs.Common.{◌∙◌, ◌⊎◌, ⊎_elim, inl, arith, eq-eqb, ne_eqb, append-nil}
 use Rattle.std.proofs.lemmas.Bool.{false_from_ne_true}
 use mathlib.Core.Logic.{dite}
 use mathlib.Core.Option as maybe
@@ -22,7 +23,8 @@ use Rattle.desk_invariant.specs.declared.board.Role.TheVariants as role
 use Rattle.desk_invariant.specs.declared.board.DeskView.{DeskView}
 use Rattle.desk_model.specs.declared.Request.{Request}
 use Rattle.desk_model.specs.declared.Answer.{Answer}
-use Rattle.desk_model.specs.World.{AnyEntry, AnyRequest, AnyAnswer, AnyDone, Stage, idle, drawn, posted, picked, answered, taken, World, kind_at, logged, logged_on, entries_of, served, served_now, request_of, calls_made, journal_of, IsLegal, StartsWith}
+use Rattle.desk_model.specs.World.{AnyEntry, AnyRequest, AnyAnswer, AnyDone, Stage, idle, drawn, posted, picked, answered, taken, World, kind_at}
+use Rattle.desk_model.specs.World.{logged, logged_on, entries_of, served, served_now, request_of, calls_made, journal_of, IsLegal, StartsWith}
 use Rattle.desk_model.specs.Transitions.{changed, staged, ticked}
 use Rattle.desk_model.specs.Images.{request_in, answer_in}
 use Rattle.desk_model.proofs.Changed.{changed_here, changed_else}
@@ -41,7 +43,8 @@ abbrev pub gone : World → ℕ → ℕ → Stage → (ℕ → List AnyDone) →
 gone w n c t dones = record w { clock = n; stage = changed w.stage c t; done = dones }
 
 -- another client
-pub later_gone : (w : World) (n c d : ℕ) (t : Stage) (dones : ℕ → List AnyDone) → ((q : AnyRequest) → w.stage c ≢ picked q) → ((q : AnyRequest) → w.stage c ≢ posted q) → dones d ≡ w.done d → d ≢ c → Later w (gone w n c t dones) d
+pub later_gone : (w : World) (n c d : ℕ) (t : Stage) (dones : ℕ → List AnyDone) → ((q : AnyRequest) → w.stage c ≢ picked q)
+    → ((q : AnyRequest) → w.stage c ≢ posted q) → dones d ≡ w.done d → d ≢ c → Later w (gone w n c t dones) d
 later_gone w n c d t dones before apart same other = record {
   own = λ o e. subst (OwnOk o) (sym (changed_else w.stage c t d other)) e;
   ready = λ q a e. changed_else w.stage c t d other ∙ e;
@@ -67,7 +70,8 @@ held_gone count w n c t dones (held.Pass x l) before h = h
 held_gone count w n c t dones (held.Hand x l r q) before h = (h.0, h.1, h.2, h.3, h.4, h.5, changed_else w.stage c t r (λ same. before q (ap w.stage (sym same) ∙ h.6)) ∙ h.6)
 
 -- the client itself, whose call is neither posted nor in a hand
-seat_gone : (kinds : List Kind) (w : World) (n c : ℕ) (t : Stage) (dones : ℕ → List AnyDone) (v : DeskView) (o : Own) (ds : List AnyDone) → ((q : AnyRequest) → w.stage c ≢ picked q) → ((q : AnyRequest) → w.stage c ≢ posted q) → OwnOk o t → ds ≡ dones c
+seat_gone : (kinds : List Kind) (w : World) (n c : ℕ) (t : Stage) (dones : ℕ → List AnyDone) (v : DeskView) (o : Own) (ds : List AnyDone)
+    → ((q : AnyRequest) → w.stage c ≢ picked q) → ((q : AnyRequest) → w.stage c ≢ posted q) → OwnOk o t → ds ≡ dones c
     → ((x : ℕ) → StartsWith (entries_of c (seen_of v x)) (served x c ds ++ owed x c o)) → SeatOk kinds w c v → SeatOk kinds (gone w n c t dones) c (record v { own = o; done = ds; ready = false })
 seat_gone kinds w n c t dones v o ds before apart is over covers ok = record {
   number = ok.number;
@@ -86,8 +90,10 @@ seat_gone kinds w n c t dones v o ds before apart is over covers ok = record {
 }
 
 -- the same of a client whose row is not answered before either
-pub seat_unanswered : (kinds : List Kind) (w : World) (n c : ℕ) (t : Stage) (dones : ℕ → List AnyDone) (v : DeskView) (o : Own) (ds : List AnyDone) → ((q : AnyRequest) → w.stage c ≢ picked q) → ((q : AnyRequest) → w.stage c ≢ posted q)
-    → ((q : AnyRequest) (a : AnyAnswer) → w.stage c ≢ answered q a) → OwnOk o t → ds ≡ dones c → ((x : ℕ) → StartsWith (entries_of c (seen_of v x)) (served x c ds ++ owed x c o)) → SeatOk kinds w c v → SeatOk kinds (gone w n c t dones) c (record v { own = o; done = ds })
+pub seat_unanswered : (kinds : List Kind) (w : World) (n c : ℕ) (t : Stage) (dones : ℕ → List AnyDone) (v : DeskView) (o : Own) (ds : List AnyDone)
+    → ((q : AnyRequest) → w.stage c ≢ picked q) → ((q : AnyRequest) → w.stage c ≢ posted q)
+    → ((q : AnyRequest) (a : AnyAnswer) → w.stage c ≢ answered q a) → OwnOk o t → ds ≡ dones c
+    → ((x : ℕ) → StartsWith (entries_of c (seen_of v x)) (served x c ds ++ owed x c o)) → SeatOk kinds w c v → SeatOk kinds (gone w n c t dones) c (record v { own = o; done = ds })
 seat_unanswered kinds w n c t dones v o ds before apart never is over covers ok =
     let not : v.ready ≡ false = false_from_ne_true v.ready (λ e. let a = ok.ready e in never a.0 a.1 a.2) in
     subst (λ b. SeatOk kinds (gone w n c t dones) c (record v { own = o; done = ds; ready = b })) (sym not) (seat_gone kinds w n c t dones v o ds before apart is over covers ok)
@@ -109,7 +115,8 @@ module _ {S O R : Type 0} (content : S → Content) (op_in : O → AnyOp) (reply
   more_by_one s k = let low = clock_low kinds quota k.world k.few_calls k.sound in let is = k.tied.clock in omega arith
 
   -- where the object of the request is there in each state
-  draws_where : (slots id i : ℕ) (m : Me (Slot S O R) DeskView) (p : Request O) (tl : List (ℕ × Slot S O R)) → m.0.role ≡ role.Client → m.0.own ≡ own.Idle → m.0.ended ≡ false → m.1 ≡ (i, slot.Request p) ∷ tl
+  draws_where : (slots id i : ℕ) (m : Me (Slot S O R) DeskView) (p : Request O) (tl : List (ℕ × Slot S O R)) → m.0.role ≡ role.Client
+      → m.0.own ≡ own.Idle → m.0.ended ≡ false → m.1 ≡ (i, slot.Request p) ∷ tl
       → ((s : State (Slot S O R) DeskView) → K s → get_elem? s.views id ≡ some m.0 → p.object < length kinds) → kind_of (op_in p.op) ≡ kind_at kinds p.object → length m.0.done < quota
       → Allows K slots id m clock_place (λ x. (x + 1) % 2 ^ 64) (play.draws content op_in reply_in (step slots clock_place 1 0 maybe.none) m)
   draws_where slots id i m p tl cl is going carried on fits few s k deep at small =
@@ -126,21 +133,25 @@ module _ {S O R : Type 0} (content : S → Content) (op_in : O → AnyOp) (reply
           holders = k.holders;
           come = come_after clients w c t (k.makers.numbers id m.0 at cl) k.come;
           sound = sound_called kinds quota w c q ok.small was few' (on s k at) fits ticket k.sound;
-          tied = tied_clock content op_in reply_in kinds k.lists w c ((found + 1) % 2 ^ 64) t (w.done c) s.words s.homes (λ e. absurd (cc)) (ok.ended ∙ going) (ap row_word was) (λ home. tt) (more_by_one s k) k.tied;
+          tied = tied_clock content op_in reply_in kinds k.lists w c ((found + 1) % 2 ^ 64) t (w.done c) s.words s.homes (λ e. absurd (cc))
+              (ok.ended ∙ going) (ap row_word was) (λ home. tt) (more_by_one s k) k.tied;
           leave = gone_leaves w (w.clock + 1) c t (changed w.done c (w.done c)) (ok.ended ∙ going) (changed_else w.done c (w.done c));
           others = λ d other. later_gone w (w.clock + 1) c d t (changed w.done c (w.done c)) before (λ r e. let g = sym was ∙ e in absurd (cc)) (changed_else w.done c (w.done c) d other) other;
-          own = seat_unanswered kinds w (w.clock + 1) c t (changed w.done c (w.done c)) m.0 (own.Drawn q) m.0.done before (λ r e. let g = sym was ∙ e in absurd (cc)) never refl (over ∙ sym (changed_here w.done c (w.done c))) (covers_own kinds w c m.0 own.Idle is ok) ok;
+          own = seat_unanswered kinds w (w.clock + 1) c t (changed w.done c (w.done c)) m.0 (own.Drawn q) m.0.done before
+              (λ r e. let g = sym was ∙ e in absurd (cc)) never refl (over ∙ sym (changed_here w.done c (w.done c))) (covers_own kinds w c m.0 own.Idle is ok) ok;
         },
         λ i' p' tl' carried'. ap (λ (z : Request O). (with_own (own.Drawn (request_in op_in (record z { ticket = found }))) m.0, m.1)) (ap (request_carried p) (sym carried ∙ carried')),
       )
 
-  pub draw_keeps_rule : (slots id i : ℕ) (m : Me (Slot S O R) DeskView) (p : Request O) (tl : List (ℕ × Slot S O R)) → m.0.role ≡ role.Client → m.0.own ≡ own.Idle → m.0.ended ≡ false → m.1 ≡ (i, slot.Request p) ∷ tl
+  pub draw_keeps_rule : (slots id i : ℕ) (m : Me (Slot S O R) DeskView) (p : Request O) (tl : List (ℕ × Slot S O R)) → m.0.role ≡ role.Client
+      → m.0.own ≡ own.Idle → m.0.ended ≡ false → m.1 ≡ (i, slot.Request p) ∷ tl
       → p.object < length kinds → kind_of (op_in p.op) ≡ kind_at kinds p.object → length m.0.done < quota
       → Allows K slots id m clock_place (λ x. (x + 1) % 2 ^ 64) (play.draws content op_in reply_in (step slots clock_place 1 0 maybe.none) m)
   draw_keeps_rule slots id i m p tl cl is going carried on fits few = draws_where slots id i m p tl cl is going carried (λ s k at. on) fits few
 
   -- who holds an object knows that it is there
-  pub draws_holding : (slots id i : ℕ) (m : Me (Slot S O R) DeskView) (p : Request O) (l : List AnyEntry) (tl : List (ℕ × Slot S O R)) → m.0.role ≡ role.Client → m.0.own ≡ own.Idle → m.0.held ≡ held.Pass p.object l → m.0.ended ≡ false
+  pub draws_holding : (slots id i : ℕ) (m : Me (Slot S O R) DeskView) (p : Request O) (l : List AnyEntry) (tl : List (ℕ × Slot S O R))
+      → m.0.role ≡ role.Client → m.0.own ≡ own.Idle → m.0.held ≡ held.Pass p.object l → m.0.ended ≡ false
       → m.1 ≡ (i, slot.Request p) ∷ tl → kind_of (op_in p.op) ≡ kind_at kinds p.object → length m.0.done < quota
       → Allows K slots id m clock_place (λ x. (x + 1) % 2 ^ 64) (play.draws content op_in reply_in (step slots clock_place 1 0 maybe.none) m)
   draws_holding slots id i m p l tl cl is pass going carried fits few = draws_where slots id i m p tl cl is going carried
@@ -152,7 +163,8 @@ module _ {S O R : Type 0} (content : S → Content) (op_in : O → AnyOp) (reply
   request_known d (own.Taken q a) = q
   request_known d o = d
 
-  pub post_keeps_rule : (slots id j n : ℕ) (m : Me (Slot S O R) DeskView) (q : AnyRequest) (p : Request O) (tl : List (ℕ × Slot S O R)) → m.0.role ≡ role.Client → m.0.number ≡ j → m.0.own ≡ own.Drawn q → m.0.held ≡ held.Free
+  pub post_keeps_rule : (slots id j n : ℕ) (m : Me (Slot S O R) DeskView) (q : AnyRequest) (p : Request O) (tl : List (ℕ × Slot S O R))
+      → m.0.role ≡ role.Client → m.0.number ≡ j → m.0.own ≡ own.Drawn q → m.0.held ≡ held.Free
       → request_in op_in p ≡ q → n ≡ 1 + q.object → m.1 ≡ (16 + j, slot.Request p) ∷ tl
       → Allows K slots id m (row_place j) (λ _. n) (λ _. play.posts content op_in reply_in (step slots (row_place j) n 0 maybe.none) m n)
   post_keeps_rule slots id c n m q p tl cl number is free same word carried s k deep at small =
@@ -163,17 +175,20 @@ module _ {S O R : Type 0} (content : S → Content) (op_in : O → AnyOp) (reply
         v',
         gives,
         tt,
-        subst (λ cs. K record { words = set s.words (row_place c) n; homes = put_back s.homes cs; views = set s.views id v' }) (sym carried) (kept_after content op_in reply_in kinds clients quota s k id m.0 v' at cl alike record {
-          world = staged w c t;
-          holders = k.holders;
-          come = come_after clients w c t (subst (λ z. z < clients) number (k.makers.numbers id m.0 at cl)) k.come;
-          sound = sound_staged kinds quota w c t before (λ r e. absurd (cc)) (ap request_of (sym was)) (λ e. absurd (cc)) (λ y. ap (served_now y c) (sym was)) k.sound;
-          tied = tied_row content op_in reply_in kinds k.lists w c n t w.hand w.log s.words s.homes (some (slot.Request p)) ok.small (λ y _. refl) (λ e. absurd (cc)) (ap request_of (sym was)) word (p, refl, same) k.tied;
-          leave = row_leaves w c t (ap request_of was);
-          others = λ d other. later_gone w w.clock c d t w.done before (λ r e. let g = sym was ∙ e in absurd (cc)) refl (λ e. other (e ∙ sym number));
-          own = subst (λ z. SeatOk kinds (staged w c t) z v') (sym number)
-              (seat_unanswered kinds w w.clock c t w.done m.0 (own.Waiting q) m.0.done before (λ r e. let g = sym was ∙ e in absurd (cc)) never (inl refl) ok.done (covers_own kinds w c m.0 (own.Drawn q) is ok) ok);
-        }),
+        subst (λ cs. K record { words = set s.words (row_place c) n; homes = put_back s.homes cs; views = set s.views id v' }) (sym carried)
+            (kept_after content op_in reply_in kinds clients quota s k id m.0 v' at cl alike record {
+              world = staged w c t;
+              holders = k.holders;
+              come = come_after clients w c t (subst (λ z. z < clients) number (k.makers.numbers id m.0 at cl)) k.come;
+              sound = sound_staged kinds quota w c t before (λ r e. absurd (cc)) (ap request_of (sym was)) (λ e. absurd (cc)) (λ y. ap (served_now y c) (sym was)) k.sound;
+              tied = tied_row content op_in reply_in kinds k.lists w c n t w.hand w.log s.words s.homes (some (slot.Request p)) ok.small (λ y _. refl)
+                  (λ e. absurd (cc)) (ap request_of (sym was)) word (p, refl, same) k.tied;
+              leave = row_leaves w c t (ap request_of was);
+              others = λ d other. later_gone w w.clock c d t w.done before (λ r e. let g = sym was ∙ e in absurd (cc)) refl (λ e. other (e ∙ sym number));
+              own = subst (λ z. SeatOk kinds (staged w c t) z v') (sym number)
+                  (seat_unanswered kinds w w.clock c t w.done m.0 (own.Waiting q) m.0.done before (λ r e. let g = sym was ∙ e in absurd (cc)) never
+                  (inl refl) ok.done (covers_own kinds w c m.0 (own.Drawn q) is ok) ok);
+            }),
         λ r is'. ap (λ (z : AnyRequest). (with_own (own.Waiting z) m.0, rest m.1)) (ap (request_known q) (sym is ∙ is')),
       )
 
@@ -204,7 +219,8 @@ module _ {S O R : Type 0} (content : S → Content) (op_in : O → AnyOp) (reply
         λ d p own_row here is. ((λ hit. absurd (miss hit)), λ _. (refl, false_from_ne_true m.0.ready (λ e. let a = ok.ready e in miss (word ∙ ap row_word a.2)))),
       ))
 
-  pub take_keeps_rule : (slots id j : ℕ) (m : Me (Slot S O R) DeskView) (q : AnyRequest) → m.0.role ≡ role.Client → m.0.number ≡ j → m.0.own ≡ own.Waiting q → m.0.held ≡ held.Free → q.object < 16 → j < 32
+  pub take_keeps_rule : (slots id j : ℕ) (m : Me (Slot S O R) DeskView) (q : AnyRequest) → m.0.role ≡ role.Client → m.0.number ≡ j
+      → m.0.own ≡ own.Waiting q → m.0.held ≡ held.Free → q.object < 16 → j < 32
       → Allows K slots id m (row_place j) (λ f. either (eqb f 33) 0 f) (play.takes_answer content op_in reply_in (step slots (row_place j) 33 0 maybe.none) m)
   take_keeps_rule slots id c m q cl number is free low few s k deep at small =
       let w : World = k.world in let ok = subst (λ z. SeatOk kinds w z m.0) number (mine content op_in reply_in kinds clients quota s k id m.0 cl at) in
@@ -212,7 +228,8 @@ module _ {S O R : Type 0} (content : S → Content) (op_in : O → AnyOp) (reply
       dite (ℕ_discrete (get_or s.words (row_place c) 0) 33)
       (λ hit.
       let f = is_answered m.0.own (w.stage c) q is low ok.own (sym word ∙ hit) in let was = f.1 in let x : ℕ = q.object in let l : List AnyEntry = w.log x in
-      let home = subst (CallAt content op_in reply_in (get_elem? s.homes (16 + c))) was (k.tied.calls c few) in let b : Answer R = home.0 in let a : AnyAnswer = f.0 in let image : answer_in reply_in b ≡ a = home.2 in
+      let home = subst (CallAt content op_in reply_in (get_elem? s.homes (16 + c))) was (k.tied.calls c few) in let b : Answer R = home.0 in
+      let a : AnyAnswer = f.0 in let image : answer_in reply_in b ≡ a = home.2 in
       let t : Stage = taken q a in let v' : DeskView = after_take q (answer_in reply_in b) l m.0 in
       let before : (p : AnyRequest) → w.stage c ≢ picked p = λ p e. let g = sym was ∙ e in absurd (cc) in
       let calls : entries_of c l ≡ served x c m.0.done ++ logged_on x c q a = k.sound.counted c x ∙ λ i. served x c (sym ok.done i) ++ served_now x c (was i) in
@@ -220,17 +237,19 @@ module _ {S O R : Type 0} (content : S → Content) (op_in : O → AnyOp) (reply
         v',
         takes (16 + c) (slot.Answer b),
         home.1,
-        subst (λ z. K (stepped s (row_place c) (either z 0 (get_or s.words (row_place c) 0)) id m.1 v' (takes (16 + c) (slot.Answer b)))) (sym (eq-eqb (get_or s.words (row_place c) 0) 33 hit)) (kept_after content op_in reply_in kinds clients quota s k id m.0 v' at cl alike record {
-          world = staged w c t;
-          holders = k.holders;
-          come = come_after clients w c t (subst (λ z. z < clients) number (k.makers.numbers id m.0 at cl)) k.come;
-          sound = sound_staged kinds quota w c t before (λ p e. absurd (cc)) (ap request_of (sym was)) (λ e. absurd (cc)) (λ y. ap (served_now y c) (sym was)) k.sound;
-          tied = tied_row content op_in reply_in kinds k.lists w c 0 t w.hand w.log s.words s.homes maybe.none few (λ y _. refl) (λ e. absurd (cc)) (ap request_of (sym was)) refl tt k.tied;
-          leave = row_leaves w c t (ap request_of was);
-          others = λ d other. later_gone w w.clock c d t w.done before (λ r e. let g = sym was ∙ e in absurd (cc)) refl (λ e. other (e ∙ sym number));
-          own = subst (λ z. SeatOk kinds (staged w c t) z v') (sym number) (subst (λ z. SeatOk kinds (staged w c t) c (after_take q z l m.0)) (sym image)
-              (seat_gone kinds w w.clock c t w.done (after_meet x l m.0) (own.Taken q a) m.0.done before (λ p e. let g = sym was ∙ e in absurd (cc)) refl ok.done (covers_taken kinds w c m.0 q a l is (omega arith) calls ok) begins));
-        }),
+        subst (λ z. K (stepped s (row_place c) (either z 0 (get_or s.words (row_place c) 0)) id m.1 v' (takes (16 + c) (slot.Answer b))))
+            (sym (eq-eqb (get_or s.words (row_place c) 0) 33 hit)) (kept_after content op_in reply_in kinds clients quota s k id m.0 v' at cl alike record {
+              world = staged w c t;
+              holders = k.holders;
+              come = come_after clients w c t (subst (λ z. z < clients) number (k.makers.numbers id m.0 at cl)) k.come;
+              sound = sound_staged kinds quota w c t before (λ p e. absurd (cc)) (ap request_of (sym was)) (λ e. absurd (cc)) (λ y. ap (served_now y c) (sym was)) k.sound;
+              tied = tied_row content op_in reply_in kinds k.lists w c 0 t w.hand w.log s.words s.homes maybe.none few (λ y _. refl) (λ e. absurd (cc)) (ap request_of (sym was)) refl tt k.tied;
+              leave = row_leaves w c t (ap request_of was);
+              others = λ d other. later_gone w w.clock c d t w.done before (λ r e. let g = sym was ∙ e in absurd (cc)) refl (λ e. other (e ∙ sym number));
+              own = subst (λ z. SeatOk kinds (staged w c t) z v') (sym number) (subst (λ z. SeatOk kinds (staged w c t) c (after_take q z l m.0)) (sym image)
+                  (seat_gone kinds w w.clock c t w.done (after_meet x l m.0) (own.Taken q a) m.0.done before (λ p e. let g = sym was ∙ e in absurd (cc))
+                  refl ok.done (covers_taken kinds w c m.0 q a l is (omega arith) calls ok) begins));
+            }),
         λ d p own_row here is'. let row : c ≡ d = omega arith in let same = ap (request_known q) (sym is ∙ is') in (
           (λ _. (
             b,
@@ -239,7 +258,8 @@ module _ {S O R : Type 0} (content : S → Content) (op_in : O → AnyOp) (reply
             subst (λ z. IsLegal (kind_at m.0.kinds z.object) l) same (subst (λ z. IsLegal (kind_at z x) l) (sym ok.kinds_are) (k.sound.legal x)),
             subst (λ z. StartsWith l (seen_of m.0 z.object)) same (ok.seen x),
             subst (λ z. entries_of m.0.number l ≡ served z.object m.0.number m.0.done ++ logged m.0.number z (answer_in reply_in b)) same
-                (subst (λ z. entries_of z l ≡ served x z m.0.done ++ logged z q (answer_in reply_in b)) (sym number) (calls ∙ ap (λ z. served x c m.0.done ++ z) (logged_here x c q a refl ∙ ap (logged c q) (sym image)))),
+                (subst (λ z. entries_of z l ≡ served x z m.0.done ++ logged z q (answer_in reply_in b)) (sym number)
+                (calls ∙ ap (λ z. served x c m.0.done ++ z) (logged_here x c q a refl ∙ ap (logged c q) (sym image)))),
           )),
           λ miss. absurd (miss hit),
         ),
@@ -248,7 +268,8 @@ module _ {S O R : Type 0} (content : S → Content) (op_in : O → AnyOp) (reply
         after_miss (row_place c) m.0,
         keeps,
         tt,
-        subst (λ z. K (stepped s (row_place c) (either z 0 (get_or s.words (row_place c) 0)) id m.1 (after_miss (row_place c) m.0) keeps)) (sym (ne_eqb (get_or s.words (row_place c) 0) 33 miss)) (misses content op_in reply_in kinds clients quota s k (row_place c) id m.0 m.1 cl at),
+        subst (λ z. K (stepped s (row_place c) (either z 0 (get_or s.words (row_place c) 0)) id m.1 (after_miss (row_place c) m.0) keeps))
+            (sym (ne_eqb (get_or s.words (row_place c) 0) 33 miss)) (misses content op_in reply_in kinds clients quota s k (row_place c) id m.0 m.1 cl at),
         λ d p own_row here is'. ((λ hit. absurd (miss hit)), λ _. (refl, false_from_ne_true m.0.ready (λ e. let a = ok.ready e in miss (word ∙ ap row_word a.2)))),
       ))
 
@@ -272,11 +293,14 @@ module _ {S O R : Type 0} (content : S → Content) (op_in : O → AnyOp) (reply
           holders = k.holders;
           come = come_after clients w c idle (k.makers.numbers id m.0 at cl) k.come;
           sound = sound_returned kinds quota w c found q a ok.small was k.tied.clock k.sound;
-          tied = tied_clock content op_in reply_in kinds k.lists w c ((found + 1) % 2 ^ 64) idle ds s.words s.homes (λ e. absurd (cc)) (ok.ended ∙ going) (ap row_word was) (λ home. tt) (more_by_one s k) k.tied;
+          tied = tied_clock content op_in reply_in kinds k.lists w c ((found + 1) % 2 ^ 64) idle ds s.words s.homes (λ e. absurd (cc))
+              (ok.ended ∙ going) (ap row_word was) (λ home. tt) (more_by_one s k) k.tied;
           leave = gone_leaves w (w.clock + 1) c idle (changed w.done c ds) (ok.ended ∙ going) (changed_else w.done c ds);
           others = λ e other. later_gone w (w.clock + 1) c e idle (changed w.done c ds) before (λ r f. let g = sym was ∙ f in absurd (cc)) (changed_else w.done c ds e other) other;
-          own = seat_unanswered kinds w (w.clock + 1) c idle (changed w.done c ds) m.0 own.Idle (m.0.done ++ d ∷ []) before (λ r e. let g = sym was ∙ e in absurd (cc)) never refl (ap (λ z. z ++ d ∷ []) ok.done ∙ sym (changed_here w.done c ds))
-              (λ y. subst (StartsWith (entries_of c (seen_of m.0 y))) (sym (append-nil (served y c (m.0.done ++ d ∷ [])) ∙ served_more y c found m.0.done q a)) (covers_own kinds w c m.0 (own.Taken q a) is ok y)) ok;
+          own = seat_unanswered kinds w (w.clock + 1) c idle (changed w.done c ds) m.0 own.Idle (m.0.done ++ d ∷ []) before
+              (λ r e. let g = sym was ∙ e in absurd (cc)) never refl (ap (λ z. z ++ d ∷ []) ok.done ∙ sym (changed_here w.done c ds))
+              (λ y. subst (StartsWith (entries_of c (seen_of m.0 y)))
+              (sym (append-nil (served y c (m.0.done ++ d ∷ [])) ∙ served_more y c found m.0.done q a)) (covers_own kinds w c m.0 (own.Taken q a) is ok y)) ok;
         },
         λ p b is'. let e = sym is ∙ is' in (
           (λ i. (after_return (ap (request_known q) e i) (ap (answer_known a) e i) found m.0, m.1)),

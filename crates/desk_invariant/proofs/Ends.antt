@@ -70,7 +70,8 @@ module _ {S O R : Type 0} (content : S → Content) (op_in : O → AnyOp) (reply
   abbrev K : State (Slot S O R) DeskView → Type 0
   K = Rule content op_in reply_in kinds clients quota
 
-  pub end_keeps_rule : (slots id c : ℕ) (m : Me (Slot S O R) DeskView) (j : Journal O R) (tl : List (ℕ × Slot S O R)) → m.0.role ≡ role.Client → m.0.number ≡ c → IsAtRest m.0.own → m.0.held ≡ held.Free
+  pub end_keeps_rule : (slots id c : ℕ) (m : Me (Slot S O R) DeskView) (j : Journal O R) (tl : List (ℕ × Slot S O R)) → m.0.role ≡ role.Client
+      → m.0.number ≡ c → IsAtRest m.0.own → m.0.held ≡ held.Free
       → map (event_in op_in reply_in) j.events.items ≡ journal m.0 → m.1 ≡ (48 + c, slot.Journal j) ∷ tl
       → Allows K slots id m (end_place c) (λ _. 1) (λ _. play.ends content op_in reply_in (step slots (end_place c) 1 0 maybe.none) m 1)
   end_keeps_rule slots id c m j tl cl number calm free says carried s k deep at small =
@@ -79,30 +80,31 @@ module _ {S O R : Type 0} (content : S → Content) (op_in : O → AnyOp) (reply
         v',
         gives,
         tt,
-        subst (λ cs. K record { words = set s.words (end_place c) 1; homes = put_back s.homes cs; views = set s.views id v' }) (sym carried) (kept_after content op_in reply_in kinds clients quota s k id m.0 v' at cl alike record {
-          world = ended_by w c;
-          holders = λ x d e. let b = k.holders x d e in (b.0, changed_else w.ended c true d (λ same. subst (HeldOk (length kinds) w c) free ok.held x (e ∙ ap Some same)) ∙ b.1);
-          come = k.come;
-          sound = sound_ended kinds quota w c k.sound;
-          tied = tied_end content op_in reply_in kinds k.lists w c j s.words s.homes ok.small (has_come m.0.own (w.stage c) calm ok.own) says' k.tied;
-          leave = λ d e. (still_ended w c d e, refl);
-          others = λ d other. later_ended w c d (λ e. other (e ∙ sym number));
-          own = subst (λ z. SeatOk kinds (ended_by w c) z v') (sym number) record {
-            number = ok.number;
-            small = ok.small;
-            kinds_are = ok.kinds_are;
-            done = ok.done;
-            own = ok.own;
-            ready = ok.ready;
-            wide_seen = ok.wide_seen;
-            seen = ok.seen;
-            covers = ok.covers;
-            held = ok.held;
-            ended = changed_here w.ended c true;
-            retired = λ i d l. still_ended w c (get_or m.0.retired i d) (ok.retired i d l);
-            back = ok.back;
-          };
-        }),
+        subst (λ cs. K record { words = set s.words (end_place c) 1; homes = put_back s.homes cs; views = set s.views id v' }) (sym carried)
+            (kept_after content op_in reply_in kinds clients quota s k id m.0 v' at cl alike record {
+              world = ended_by w c;
+              holders = λ x d e. let b = k.holders x d e in (b.0, changed_else w.ended c true d (λ same. subst (HeldOk (length kinds) w c) free ok.held x (e ∙ ap Some same)) ∙ b.1);
+              come = k.come;
+              sound = sound_ended kinds quota w c k.sound;
+              tied = tied_end content op_in reply_in kinds k.lists w c j s.words s.homes ok.small (has_come m.0.own (w.stage c) calm ok.own) says' k.tied;
+              leave = λ d e. (still_ended w c d e, refl);
+              others = λ d other. later_ended w c d (λ e. other (e ∙ sym number));
+              own = subst (λ z. SeatOk kinds (ended_by w c) z v') (sym number) record {
+                number = ok.number;
+                small = ok.small;
+                kinds_are = ok.kinds_are;
+                done = ok.done;
+                own = ok.own;
+                ready = ok.ready;
+                wide_seen = ok.wide_seen;
+                seen = ok.seen;
+                covers = ok.covers;
+                held = ok.held;
+                ended = changed_here w.ended c true;
+                retired = λ i d l. still_ended w c (get_or m.0.retired i d) (ok.retired i d l);
+                back = ok.back;
+              };
+            }),
         refl,
       )
 

@@ -28,18 +28,20 @@ module _ {S O R : Type 0} (content : S → Content) (op_in : O → AnyOp) (reply
       (λ s k at j. message_ok kinds k.lists k.world k.seat_of j (seen_message v) refl (k.seats id v at).seen (λ x. (k.world.log x, refl)) (All-nil (HasLeft k.world)))
 
   pub message_keeps_rule : (id : ℕ) (v : DeskView) (other : ℕ) (t : DeskView) → Joins K id v other t (after_message v t) empty_message
-  message_keeps_rule id v other t = receiving_keeps_rule content op_in reply_in kinds clients quota id v (after_message v t) other t refl refl refl (λ s k at there. let old = k.seats id v at in record {
-    seen = old.seen;
-    received = (k.seats other t there).seen;
-    left = old.left;
-    client = λ f. let c = old.client f in let ok = c.1 in (c.0, seat_knowing ok.ready ok.retired ok);
-    unmade = old.unmade;
-    maker_kinds = old.maker_kinds;
-    lists_are = old.lists_are;
-    maker_lists = old.maker_lists;
-  })
+  message_keeps_rule id v other t =
+      receiving_keeps_rule content op_in reply_in kinds clients quota id v (after_message v t) other t refl refl refl (λ s k at there. let old = k.seats id v at in record {
+        seen = old.seen;
+        received = (k.seats other t there).seen;
+        left = old.left;
+        client = λ f. let c = old.client f in let ok = c.1 in (c.0, seat_knowing ok.ready ok.retired ok);
+        unmade = old.unmade;
+        maker_kinds = old.maker_kinds;
+        lists_are = old.lists_are;
+        maker_lists = old.maker_lists;
+      })
 
-  pub learn_keeps_rule : (slots id x : ℕ) (m : Me (Slot S O R) DeskView) → m.0.role ≡ role.Client → x < 16 → IsAtRest m.0.own → Allows K slots id m x (λ f. f) (play.learns content op_in reply_in (step slots x 0 0 maybe.none) m)
+  pub learn_keeps_rule : (slots id x : ℕ) (m : Me (Slot S O R) DeskView) → m.0.role ≡ role.Client → x < 16 → IsAtRest m.0.own
+      → Allows K slots id m x (λ f. f) (play.learns content op_in reply_in (step slots x 0 0 maybe.none) m)
   learn_keeps_rule slots id x m cl low calm s k deep at small =
       let w : World = k.world in let c : ℕ = m.0.number in let ok = mine content op_in reply_in kinds clients quota s k id m.0 cl at in let l : List AnyEntry = w.log x in
       let covers = all_covered kinds quota w c x m.0.done m.0.own ok.done ok.own k.sound in (
@@ -48,7 +50,15 @@ module _ {S O R : Type 0} (content : S → Content) (op_in : O → AnyOp) (reply
         tt,
         unmoved content op_in reply_in kinds clients quota s k x id m.0 (after_meet x l m.0) m.1 at cl alike
             (saw kinds w c x m.0 l low (starts_same l) covers ok),
-        (l, refl, subst (λ z. IsLegal (kind_at z x) l) (sym ok.kinds_are) (k.sound.legal x), ok.seen x, (k.seats id m.0 at).received x, ok.wide_seen, accounts kinds quota w x m.0 l calm ok.done ok.own k.sound (starts_same l) covers),
+        (
+          l,
+          refl,
+          subst (λ z. IsLegal (kind_at z x) l) (sym ok.kinds_are) (k.sound.legal x),
+          ok.seen x,
+          (k.seats id m.0 at).received x,
+          ok.wide_seen,
+          accounts kinds quota w x m.0 l calm ok.done ok.own k.sound (starts_same l) covers,
+        ),
       )
 
   pub adopt_keeps_rule : (slots id x : ℕ) (m : Me (Slot S O R) DeskView) → m.0.role ≡ role.Client → x < 16 → StartsWith (received_of m.0 x) (seen_of m.0 x) → IsAtRest m.0.own
@@ -61,11 +71,17 @@ module _ {S O R : Type 0} (content : S → Content) (op_in : O → AnyOp) (reply
         tt,
         unmoved content op_in reply_in kinds clients quota s k x id m.0 (after_meet x l m.0) m.1 at cl alike
             (saw kinds w c x m.0 l low ((k.seats id m.0 at).received x) covers ok),
-        (refl, subst (λ z. IsLegal (kind_at z x) l) (sym ok.kinds_are) (legal_front (kind_at kinds x) (w.log x) l ((k.seats id m.0 at).received x) (k.sound.legal x)), accounts kinds quota w x m.0 l calm ok.done ok.own k.sound ((k.seats id m.0 at).received x) covers),
+        (
+          refl,
+          subst (λ z. IsLegal (kind_at z x) l) (sym ok.kinds_are)
+              (legal_front (kind_at kinds x) (w.log x) l ((k.seats id m.0 at).received x) (k.sound.legal x)),
+          accounts kinds quota w x m.0 l calm ok.done ok.own k.sound ((k.seats id m.0 at).received x) covers,
+        ),
       )
 
 -- a and b before; a₁ has a message of b, a₂ has seen l, b₂ has a message of a₂
-pub told_back : (x : ℕ) (a b a₁ a₂ b₂ : DeskView) (l : List AnyEntry) → x < 16 → a₁ ≡ after_message a (seen_message b) → a₂ ≡ after_meet x l a₁ → length a₁.seen ≡ 16 → b₂ ≡ after_message b (seen_message a₂) → received_of b₂ x ≡ l
+pub told_back : (x : ℕ) (a b a₁ a₂ b₂ : DeskView) (l : List AnyEntry) → x < 16 → a₁ ≡ after_message a (seen_message b) → a₂ ≡ after_meet x l a₁
+    → length a₁.seen ≡ 16 → b₂ ≡ after_message b (seen_message a₂) → received_of b₂ x ≡ l
 told_back x a b a₁ a₂ b₂ l low e f wide g =
     ap (λ (z : DeskView). received_of z x) g ∙ (ap (λ (z : DeskView). seen_of z x) f ∙ get_or-set_same a₁.seen x l [] (omega arith))
 

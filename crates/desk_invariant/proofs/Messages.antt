@@ -21,7 +21,8 @@ use Rattle.desk_invariant.proofs.Beginnings.{get_or-replicate_same}
 use Rattle.publication_list.proofs.RosterMaking.{at_end}
 
 -- a list whose views are those of another list, and one that is no client's and no maker's
-makers_with : (clients : ℕ) (vs us : List DeskView) (b : DeskView) → b.role ≡ role.Message → ((a : ℕ) (z : DeskView) → get_elem? us a ≡ some z → (get_elem? vs a ≡ some z) ⊎ (b ≡ z)) → Makers clients vs → Makers clients us
+makers_with : (clients : ℕ) (vs us : List DeskView) (b : DeskView) → b.role ≡ role.Message
+    → ((a : ℕ) (z : DeskView) → get_elem? us a ≡ some z → (get_elem? vs a ≡ some z) ⊎ (b ≡ z)) → Makers clients vs → Makers clients us
 makers_with clients vs us b idle old k = record {
   made = λ j v e is i u f. ⊎_elim (λ (p : get_elem? vs j ≡ some v). ⊎_elim (λ (q : get_elem? vs i ≡ some u). k.made j v p is i u q)
       (λ (q : b ≡ u). ((λ tc. let h = sym idle ∙ (ap (λ z. z.role) q ∙ tc) in absurd (cc)), λ tm. let h = sym idle ∙ (ap (λ z. z.role) q ∙ tm) in absurd (cc))) (old i u f))
@@ -81,7 +82,8 @@ module _ {S O R : Type 0} (content : S → Content) (op_in : O → AnyOp) (reply
 
   -- the view v takes in the message t, which is spent, and becomes v'
   pub receiving_keeps_rule : (id : ℕ) (v v' : DeskView) (other : ℕ) (t : DeskView) → v'.role ≡ v.role → v'.number ≡ v.number → v'.made ≡ v.made
-      → ((s : State (Slot S O R) DeskView) (k : K s) → get_elem? s.views id ≡ some v → get_elem? s.views other ≡ some t → ViewOk kinds k.lists k.world k.seat_of id v') → Joins K id v other t v' empty_message
+      → ((s : State (Slot S O R) DeskView) (k : K s) → get_elem? s.views id ≡ some v → get_elem? s.views other ≡ some t
+      → ViewOk kinds k.lists k.world k.seat_of id v') → Joins K id v other t v' empty_message
   receiving_keeps_rule id v v' other t alike number made ok s k at apart there = let mid : List DeskView = set s.views id v' in record {
     world = k.world;
     seat_of = k.seat_of;
@@ -95,7 +97,8 @@ module _ {S O R : Type 0} (content : S → Content) (op_in : O → AnyOp) (reply
     seats = λ j u e. ⊎_elim
         (λ (h : (j ≡ other) × (empty_message ≡ u)). subst (λ z. ViewOk kinds k.lists k.world k.seat_of j z) h.1 (empty_message_ok kinds k.lists k.world k.seat_of j))
         (λ (h : (j ≢ other) × (get_elem? mid j ≡ some u)). ⊎_elim
-        (λ (g : (j ≡ id) × (v' ≡ u)). subst (λ (z : ℕ × DeskView). ViewOk kinds k.lists k.world k.seat_of z.0 z.1) (λ i. (sym g.0 i, g.1 i)) (ok s k at (sym (set_else s.views id other v' apart) ∙ there)))
+        (λ (g : (j ≡ id) × (v' ≡ u)). subst (λ (z : ℕ × DeskView). ViewOk kinds k.lists k.world k.seat_of z.0 z.1) (λ i. (sym g.0 i, g.1 i))
+        (ok s k at (sym (set_else s.views id other v' apart) ∙ there)))
         (λ (g : (j ≢ id) × (get_elem? s.views j ≡ some u)). k.seats j u g.1)
         (at_set s.views id j v' u h.1))
         (at_set mid other j empty_message u e);

@@ -27,13 +27,14 @@ module _ {S O R : Type 0} (content : S → Content) (op_in : O → AnyOp) (reply
       (All-cons (HasLeft k.world) (end_notice v) [] (ok.ended ∙ over, λ i. journal_of (sym ok.done i) (sym (own_is v.own (k.world.stage v.number) ok.own) i)) (All-nil (HasLeft k.world))))
 
   pub notice_keeps_rule : (id : ℕ) (v : DeskView) (other : ℕ) (t : DeskView) → Joins K id v other t (after_notice t.left v) empty_message
-  notice_keeps_rule id v other t = receiving_keeps_rule content op_in reply_in kinds clients quota id v (after_notice t.left v) other t refl refl refl (λ s k at there. let old = k.seats id v at in record {
-    seen = old.seen;
-    received = old.received;
-    left = All-append (HasLeft k.world) v.left t.left old.left (k.seats other t there).left;
-    client = λ f. let c = old.client f in let ok = c.1 in (c.0, seat_knowing ok.ready ok.retired ok);
-    unmade = old.unmade;
-    maker_kinds = old.maker_kinds;
-    lists_are = old.lists_are;
-    maker_lists = old.maker_lists;
-  })
+  notice_keeps_rule id v other t =
+      receiving_keeps_rule content op_in reply_in kinds clients quota id v (after_notice t.left v) other t refl refl refl (λ s k at there. let old = k.seats id v at in record {
+        seen = old.seen;
+        received = old.received;
+        left = All-append (HasLeft k.world) v.left t.left old.left (k.seats other t there).left;
+        client = λ f. let c = old.client f in let ok = c.1 in (c.0, seat_knowing ok.ready ok.retired ok);
+        unmade = old.unmade;
+        maker_kinds = old.maker_kinds;
+        lists_are = old.lists_are;
+        maker_lists = old.maker_lists;
+      })

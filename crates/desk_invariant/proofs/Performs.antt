@@ -14,7 +14,8 @@ use Rattle.desk_invariant.specs.declared.board.Held.TheVariants as held
 use Rattle.desk_invariant.specs.declared.board.Role.TheVariants as role
 use Rattle.desk_invariant.specs.declared.board.DeskView.{DeskView}
 use Rattle.desk_model.specs.declared.Answer.{Answer}
-use Rattle.desk_model.specs.World.{AnyEntry, AnyRequest, AnyAnswer, AnyDone, idle, drawn, posted, picked, answered, taken, World, kind_at, logged, entries_of, served, request_of, served_now, IsLegal, StartsWith}
+use Rattle.desk_model.specs.World.{AnyEntry, AnyRequest, AnyAnswer, AnyDone, idle, drawn, posted, picked, answered, taken, World, kind_at, logged}
+use Rattle.desk_model.specs.World.{entries_of, served, request_of, served_now, IsLegal, StartsWith}
 use Rattle.desk_model.specs.Transitions.{changed, staged, handed, served_by}
 use Rattle.desk_model.specs.Sound.{Sound}
 use Rattle.desk_model.specs.Images.{answer_in}
@@ -60,33 +61,39 @@ done_at w x c q a = served_by (had w x c q) x c q a
 abbrev took : World → ℕ → ℕ → AnyRequest → AnyAnswer → World
 took w x c q a = staged (done_at w x c q a) c (taken q a)
 
-module _ (kinds : List Kind) (quota : ℕ) (w : World) (x c : ℕ) (q : AnyRequest) (a : AnyAnswer) (was : w.stage c ≡ drawn q) (on : q.object ≡ x) (holds : w.holder x ≡ Some c) (free : w.hand x ≡ None) (legal : IsLegal (kind_at kinds x) (w.log x ++ logged c q a)) (k : Sound kinds quota w) where
+module _ (kinds : List Kind) (quota : ℕ) (w : World) (x c : ℕ) (q : AnyRequest) (a : AnyAnswer) (was : w.stage c ≡ drawn q) (on : q.object ≡ x)
+    (holds : w.holder x ≡ Some c) (free : w.hand x ≡ None) (legal : IsLegal (kind_at kinds x) (w.log x ++ logged c q a)) (k : Sound kinds quota w) where
   -- the four transitions in front of the ticket
   pub sound_took : Sound kinds quota (took w x c q a)
   sound_took =
-      let k₁ : Sound kinds quota (put w c q) = sound_staged kinds quota w c (posted q) (λ r e. let g = sym was ∙ e in absurd (cc)) (λ r e. absurd (cc)) (ap request_of (sym was)) (λ e. absurd (cc)) (λ y. ap (served_now y c) (sym was)) k in
+      let k₁ : Sound kinds quota (put w c q) =
+      sound_staged kinds quota w c (posted q) (λ r e. let g = sym was ∙ e in absurd (cc)) (λ r e. absurd (cc)) (ap request_of (sym was)) (λ e. absurd (cc)) (λ y. ap (served_now y c) (sym was)) k in
       let k₂ : Sound kinds quota (had w x c q) = sound_picked kinds quota (put w c q) x c c q (changed_here w.stage c (posted q)) on holds free k₁ in
       let is : (had w x c q).stage c ≡ picked q = changed_here (put w c q).stage c (picked q) in
       let k₃ : Sound kinds quota (done_at w x c q a) = sound_served kinds quota (had w x c q) x c c q a is on holds (changed_here w.hand x (Some c)) legal k₂ in
       let at : (done_at w x c q a).stage c ≡ answered q a = changed_here (had w x c q).stage c (answered q a) in
-      sound_staged kinds quota (done_at w x c q a) c (taken q a) (λ r e. let g = sym at ∙ e in absurd (cc)) (λ r e. absurd (cc)) (ap request_of (sym at)) (λ e. absurd (cc)) (λ y. ap (served_now y c) (sym at)) k₃
+      sound_staged kinds quota (done_at w x c q a) c (taken q a) (λ r e. let g = sym at ∙ e in absurd (cc)) (λ r e. absurd (cc))
+      (ap request_of (sym at)) (λ e. absurd (cc)) (λ y. ap (served_now y c) (sym at)) k₃
 
   -- the stages, and what is in hand, in the end
   stages : changed (took w x c q a).stage c idle ≡ changed w.stage c idle
-  stages = changed_twice (done_at w x c q a).stage c (taken q a) idle ∙ (changed_twice (had w x c q).stage c (answered q a) idle ∙ (changed_twice (put w c q).stage c (picked q) idle ∙ changed_twice w.stage c (posted q) idle))
+  stages = changed_twice (done_at w x c q a).stage c (taken q a) idle
+      ∙ (changed_twice (had w x c q).stage c (answered q a) idle ∙ (changed_twice (put w c q).stage c (picked q) idle ∙ changed_twice w.stage c (posted q) idle))
 
   hands : (took w x c q a).hand ≡ w.hand
   hands = changed_back w.hand x (Some c) None free
 
   -- and the ticket of the return
   pub sound_performed : c < 32 → Sound kinds quota (performed w x c q a)
-  sound_performed low = subst (Sound kinds quota) (λ i. record (performed w x c q a) { stage = stages i; hand = hands i }) (sound_returned kinds quota (took w x c q a) c w.clock q a low (changed_here (done_at w x c q a).stage c (taken q a)) refl sound_took)
+  sound_performed low = subst (Sound kinds quota) (λ i. record (performed w x c q a) { stage = stages i; hand = hands i })
+      (sound_returned kinds quota (took w x c q a) c w.clock q a low (changed_here (done_at w x c q a).stage c (taken q a)) refl sound_took)
 
 -- another client
 later_performed : (w : World) (x c d : ℕ) (q : AnyRequest) (a : AnyAnswer) → w.stage c ≡ drawn q → w.holder x ≡ Some c → d ≢ c → Later w (performed w x c q a) d
 later_performed w x c d q a was holds other =
     let ds : List AnyDone = w.done c ++ over w q a ∷ [] in
-    let g = later_gone w (w.clock + 1) c d idle (changed w.done c ds) (λ r e. let f = sym was ∙ e in absurd (cc)) (λ r e. let f = sym was ∙ e in absurd (cc)) (changed_else w.done c ds d other) other in record {
+    let g = later_gone w (w.clock + 1) c d idle (changed w.done c ds) (λ r e. let f = sym was ∙ e in absurd (cc))
+    (λ r e. let f = sym was ∙ e in absurd (cc)) (changed_else w.done c ds d other) other in record {
       own = g.own;
       ready = g.ready;
       done = g.done;
@@ -99,14 +106,16 @@ later_performed w x c d q a was holds other =
     }
 
 -- the client itself
-seat_performed : (kinds : List Kind) (quota : ℕ) (w : World) (c : ℕ) (v : DeskView) (q : AnyRequest) (a : AnyAnswer) (l : List AnyEntry) → v.own ≡ own.Drawn q → w.stage c ≡ drawn q → v.held ≡ held.Pass q.object l → q.object < 16
+seat_performed : (kinds : List Kind) (quota : ℕ) (w : World) (c : ℕ) (v : DeskView) (q : AnyRequest) (a : AnyAnswer) (l : List AnyEntry)
+    → v.own ≡ own.Drawn q → w.stage c ≡ drawn q → v.held ≡ held.Pass q.object l → q.object < 16
     → Sound kinds quota (performed w q.object c q a) → SeatOk kinds w c v → SeatOk kinds (performed w q.object c q a) c (after_perform q a (l ++ logged c q a) w.clock v)
 seat_performed kinds quota w c v q a l mine was pass low k ok =
     let x : ℕ = q.object in let h = subst (HeldOk (length kinds) w c) pass ok.held in let wide = ok.wide_seen in let l' : List AnyEntry = l ++ logged c q a in
     let ds : List AnyDone = w.done c ++ over w q a ∷ [] in
     let is : changed w.log x (w.log x ++ logged c q a) x ≡ l' = changed_here w.log x (w.log x ++ logged c q a) ∙ ap (λ z. z ++ logged c q a) h.3 in
     let done : v.done ++ over w q a ∷ [] ≡ ds = ap (λ z. z ++ over w q a ∷ []) ok.done in
-    let here : entries_of c l' ≡ served x c (v.done ++ over w q a ∷ []) ++ [] = ap (entries_of c) (sym is) ∙ (k.counted c x ∙ λ i. served x c ((changed_here w.done c ds ∙ sym done) i) ++ served_now x c (changed_here w.stage c idle i)) in
+    let here : entries_of c l' ≡ served x c (v.done ++ over w q a ∷ []) ++ [] = ap (entries_of c) (sym is)
+    ∙ (k.counted c x ∙ λ i. served x c ((changed_here w.done c ds ∙ sym done) i) ++ served_now x c (changed_here w.stage c idle i)) in
     record {
       number = ok.number;
       small = ok.small;
@@ -117,8 +126,11 @@ seat_performed kinds quota w c v q a l mine was pass low k ok =
       wide_seen = length-set v.seen x l' ∙ wide;
       seen = seen_all (λ y z. StartsWith (changed w.log x (w.log x ++ logged c q a) y) z) v.seen x l' (omega arith) ([], is ∙ sym (append-nil l'))
           (λ y other. subst (λ z. StartsWith z (seen_of v y)) (sym (changed_else w.log x (w.log x ++ logged c q a) y other)) (ok.seen y));
-      covers = seen_all (λ y z. StartsWith (entries_of c z) (served y c (v.done ++ over w q a ∷ []) ++ [])) v.seen x l' (omega arith) ([], here ∙ sym (append-nil (served x c (v.done ++ over w q a ∷ []) ++ [])))
-          (λ y other. subst (λ z. StartsWith (entries_of c (seen_of v y)) (z ++ [])) (sym (served_more y c w.clock v.done q a ∙ (ap (λ z. served y c v.done ++ z) (logged_else y c q a (λ f. other (sym f))) ∙ append-nil (served y c v.done)))) (covers_own kinds w c v (own.Drawn q) mine ok y));
+      covers = seen_all (λ y z. StartsWith (entries_of c z) (served y c (v.done ++ over w q a ∷ []) ++ [])) v.seen x l' (omega arith)
+          ([], here ∙ sym (append-nil (served x c (v.done ++ over w q a ∷ []) ++ [])))
+          (λ y other. subst (λ z. StartsWith (entries_of c (seen_of v y)) (z ++ []))
+          (sym (served_more y c w.clock v.done q a
+          ∙ (ap (λ z. served y c v.done ++ z) (logged_else y c q a (λ f. other (sym f))) ∙ append-nil (served y c v.done)))) (covers_own kinds w c v (own.Drawn q) mine ok y));
       held = (h.0, h.1, h.2, is, h.4);
       ended = ok.ended;
       retired = ok.retired;
@@ -134,25 +146,31 @@ module _ {S O R : Type 0} (content : S → Content) (op_in : O → AnyOp) (reply
   Told v t q b l = All (λ e. e.ticket < t) (l ++ logged v.number q (answer_in reply_in b)) × StartsWith (l ++ logged v.number q (answer_in reply_in b)) (seen_of v q.object)
       × (entries_of v.number (l ++ logged v.number q (answer_in reply_in b)) ≡ served q.object v.number v.done ++ logged v.number q (answer_in reply_in b))
 
-  told_by_log : (w : World) (v : DeskView) (q : AnyRequest) (b : Answer R) (l : List AnyEntry) → w.log q.object ≡ l → Sound kinds quota (took w q.object v.number q (answer_in reply_in b)) → SeatOk kinds w v.number v → Told v w.clock q b l
+  told_by_log : (w : World) (v : DeskView) (q : AnyRequest) (b : Answer R) (l : List AnyEntry) → w.log q.object ≡ l
+      → Sound kinds quota (took w q.object v.number q (answer_in reply_in b)) → SeatOk kinds w v.number v → Told v w.clock q b l
   told_by_log w v q b l at k ok = let x : ℕ = q.object in let c : ℕ = v.number in let a : AnyAnswer = answer_in reply_in b in
       let is : changed w.log x (w.log x ++ logged c q a) x ≡ l ++ logged c q a = changed_here w.log x (w.log x ++ logged c q a) ∙ ap (λ z. z ++ logged c q a) at in (
         subst (All (λ (e : AnyEntry). e.ticket < w.clock)) is (k.early x),
         starts_longer (l ++ logged c q a) l (seen_of v x) (logged c q a, refl) (subst (λ z. StartsWith z (seen_of v x)) at (ok.seen x)),
-        ap (entries_of c) (sym is) ∙ (k.counted c x ∙ ((λ i. served x c (sym ok.done i) ++ served_now x c (changed_here (done_at w x c q a).stage c (taken q a) i)) ∙ ap (λ z. served x c v.done ++ z) (logged_here x c q a refl))),
+        ap (entries_of c) (sym is) ∙ (k.counted c x
+            ∙ ((λ i. served x c (sym ok.done i) ++ served_now x c (changed_here (done_at w x c q a).stage c (taken q a) i)) ∙ ap (λ z. served x c v.done ++ z) (logged_here x c q a refl))),
       )
 
-  pub perform_keeps_rule : (slots id i : ℕ) (m : Me (Slot S O R) DeskView) (l : List AnyEntry) (q : AnyRequest) (b : Answer R) (tl : List (ℕ × Slot S O R)) → m.0.role ≡ role.Client → m.0.held ≡ held.Pass q.object l → m.0.own ≡ own.Drawn q → m.0.ended ≡ false
+  pub perform_keeps_rule : (slots id i : ℕ) (m : Me (Slot S O R) DeskView) (l : List AnyEntry) (q : AnyRequest) (b : Answer R)
+      (tl : List (ℕ × Slot S O R)) → m.0.role ≡ role.Client → m.0.held ≡ held.Pass q.object l → m.0.own ≡ own.Drawn q → m.0.ended ≡ false
       → m.1 ≡ (i, slot.Answer b) ∷ tl → IsLegal (kind_at m.0.kinds q.object) (l ++ logged m.0.number q (answer_in reply_in b))
       → Allows K slots id m clock_place (λ x. (x + 1) % 2 ^ 64) (play.performs content op_in reply_in (step slots clock_place 1 0 maybe.none) m)
   perform_keeps_rule slots id i m l q b tl cl pass is going carried legal s k deep at small =
-      let w : World = k.world in let c : ℕ = m.0.number in let ok = mine content op_in reply_in kinds clients quota s k id m.0 cl at in let found : ℕ = get_or s.words clock_place 0 in let x : ℕ = q.object in
+      let w : World = k.world in let c : ℕ = m.0.number in let ok = mine content op_in reply_in kinds clients quota s k id m.0 cl at in
+      let found : ℕ = get_or s.words clock_place 0 in let x : ℕ = q.object in
       let a : AnyAnswer = answer_in reply_in b in let h = subst (HeldOk (length kinds) w c) pass ok.held in let ticket : found ≡ w.clock = k.tied.clock in
       let few = k.tied.objects in let low : x < 16 = (let inside : x < length kinds = h.0 in omega arith) in
       let was : w.stage c ≡ drawn q = subst (λ o. OwnOk o (w.stage c)) is ok.own in let ds : List AnyDone = w.done c ++ over w q a ∷ [] in
-      let legal' : IsLegal (kind_at kinds x) (w.log x ++ logged c q a) = subst (λ (z : List Kind × List AnyEntry). IsLegal (kind_at z.0 x) (z.1 ++ logged c q a)) (λ i. (ok.kinds_are i, sym h.3 i)) legal in
+      let legal' : IsLegal (kind_at kinds x) (w.log x ++ logged c q a) =
+      subst (λ (z : List Kind × List AnyEntry). IsLegal (kind_at z.0 x) (z.1 ++ logged c q a)) (λ i. (ok.kinds_are i, sym h.3 i)) legal in
       let sound = sound_performed kinds quota w x c q a was refl h.1 h.2 legal' k.sound ok.small in
-      let ties = tied_clock content op_in reply_in kinds k.lists w c ((found + 1) % 2 ^ 64) idle ds s.words s.homes (λ e. absurd (cc)) (ok.ended ∙ going) (ap row_word was) (λ home. tt) (more_by_one content op_in reply_in kinds clients quota s k) k.tied in
+      let ties = tied_clock content op_in reply_in kinds k.lists w c ((found + 1) % 2 ^ 64) idle ds s.words s.homes (λ e. absurd (cc))
+      (ok.ended ∙ going) (ap row_word was) (λ home. tt) (more_by_one content op_in reply_in kinds clients quota s k) k.tied in
       let v' : DeskView = after_perform q a (l ++ logged c q a) found m.0 in
       let told = subst (λ t. Told m.0 t q b l) (sym ticket) (told_by_log w m.0 q b l h.3 (sound_took kinds quota w x c q a was refl h.1 h.2 legal' k.sound) ok) in (
         v',
@@ -171,7 +189,8 @@ module _ {S O R : Type 0} (content : S → Content) (op_in : O → AnyOp) (reply
             rows = ties.rows;
             ends = ties.ends;
             clock = ties.clock;
-            cores = λ y e f. subst (CoreAt content op_in reply_in (kind_at kinds y) _ _) (sym (changed_else w.log x (w.log x ++ logged c q a) y (λ same. let g = sym h.1 ∙ (ap w.holder (sym same) ∙ f) in absurd (cc)))) (ties.cores y e f);
+            cores = λ y e f. subst (CoreAt content op_in reply_in (kind_at kinds y) _ _)
+                (sym (changed_else w.log x (w.log x ++ logged c q a) y (λ same. let g = sym h.1 ∙ (ap w.holder (sym same) ∙ f) in absurd (cc)))) (ties.cores y e f);
             calls = ties.calls;
             journals = ties.journals;
           };
@@ -180,7 +199,8 @@ module _ {S O R : Type 0} (content : S → Content) (op_in : O → AnyOp) (reply
           own = subst (λ t. SeatOk kinds (performed w x c q a) c (after_perform q a (l ++ logged c q a) t m.0)) (sym ticket) (seat_performed kinds quota w c m.0 q a l is was pass low sound ok);
         },
         λ i' l' q' b' tl' pass' is' carried'.
-            let eq : q ≡ q' = ap (request_known content op_in reply_in kinds clients quota q) (sym is ∙ is') in let el : l ≡ l' = ap held_log (sym pass ∙ pass') in let eb : b ≡ b' = ap (answer_carried content op_in reply_in kinds clients quota b) (sym carried ∙ carried') in
+            let eq : q ≡ q' = ap (request_known content op_in reply_in kinds clients quota q) (sym is ∙ is') in let el : l ≡ l' =
+            ap held_log (sym pass ∙ pass') in let eb : b ≡ b' = ap (answer_carried content op_in reply_in kinds clients quota b) (sym carried ∙ carried') in
             let t = subst (λ (z : AnyRequest × Answer R × List AnyEntry). Told m.0 found z.0 z.1 z.2) (λ j. (eq j, eb j, el j)) told in (
               (λ j. (after_perform (eq j) (answer_in reply_in (eb j)) (el j ++ logged c (eq j) (answer_in reply_in (eb j))) found m.0, m.1)),
               t.0,

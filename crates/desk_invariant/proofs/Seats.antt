@@ -48,7 +48,8 @@ left_stays : (w w' : World) (ls : List Leaving) → Leaves w w' → All (HasLeft
 left_stays w w' ls leave all i d l = let b = all i d l in let e = leave (get_or ls i d).client b.0 in (e.0, e.1 ∙ b.1)
 
 -- the row r goes on with its call
-pub row_leaves : (w : World) (r : ℕ) (t : Stage) → request_of (w.stage r) ≡ request_of t → (d : ℕ) → w.ended d ≡ true → (w.ended d ≡ true) × (journal_of (w.done d) (request_of (changed w.stage r t d)) ≡ journal_in w d)
+pub row_leaves : (w : World) (r : ℕ) (t : Stage) → request_of (w.stage r) ≡ request_of t → (d : ℕ) → w.ended d ≡ true → (w.ended d ≡ true)
+    × (journal_of (w.done d) (request_of (changed w.stage r t d)) ≡ journal_in w d)
 row_leaves w r t same d e = (e, ap (journal_of (w.done d)) (changed_all (λ p s. request_of s ≡ request_of (w.stage p)) w.stage r t (sym same) (λ p _. refl) d))
 
 same_later : (w : World) (c : ℕ) → Later w w c
@@ -96,14 +97,31 @@ pub record Alike (v v' : DeskView) : Type 0 where
   pub lists : v'.lists ≡ v.lists
 
 -- a view in which none of these changed
-pub alike : {v : DeskView} {kinds : List Kind} {done : List AnyDone} {own : Own} {ready : Bool} {seen : List (List AnyEntry)} {back : List PutBack} {missed : List ℕ} {won : ℕ} {held : Held} {ended : Bool} {retired still_there : List ℕ}
-    → Alike v (record v { kinds = kinds; done = done; own = own; ready = ready; seen = seen; back = back; missed = missed; won = won; held = held; ended = ended; retired = retired; still_there = still_there })
+pub alike : {v : DeskView} {kinds : List Kind} {done : List AnyDone} {own : Own} {ready : Bool} {seen : List (List AnyEntry)} {back : List PutBack}
+    {missed : List ℕ} {won : ℕ} {held : Held} {ended : Bool} {retired still_there : List ℕ}
+    → Alike v (record v {
+      kinds = kinds;
+      done = done;
+      own = own;
+      ready = ready;
+      seen = seen;
+      back = back;
+      missed = missed;
+      won = won;
+      held =
+          held;
+      ended = ended;
+      retired = retired;
+      still_there = still_there;
+    })
 alike = record { role = refl; number = refl; made = refl; received = refl; left = refl; lists = refl }
 
 -- A client that was told more, missed more, and knows more of its row and of the ends of others. What it was told, has
 -- missed and has found there does not matter.
-pub seat_knowing : {kinds : List Kind} {w : World} {c : ℕ} {v : DeskView} {ready : Bool} {received : List (List AnyEntry)} {missed : List ℕ} {left : List Leaving} {retired still_there : List ℕ} → (ready ≡ true → (q : AnyRequest) × (a : AnyAnswer) × (w.stage c ≡ answered q a))
-    → All (λ d. w.ended d ≡ true) retired → SeatOk kinds w c v → SeatOk kinds w c (record v { ready = ready; received = received; missed = missed; left = left; retired = retired; still_there = still_there })
+pub seat_knowing : {kinds : List Kind} {w : World} {c : ℕ} {v : DeskView} {ready : Bool} {received : List (List AnyEntry)} {missed : List ℕ}
+    {left : List Leaving} {retired still_there : List ℕ} → (ready ≡ true → (q : AnyRequest) × (a : AnyAnswer) × (w.stage c ≡ answered q a))
+    → All (λ d. w.ended d ≡ true) retired → SeatOk kinds w c v
+    → SeatOk kinds w c (record v { ready = ready; received = received; missed = missed; left = left; retired = retired; still_there = still_there })
 seat_knowing ready retired ok = record {
   number = ok.number;
   small = ok.small;
@@ -121,20 +139,24 @@ seat_knowing ready retired ok = record {
 }
 
 -- after a step to w', in which the client's view v becomes v', each view is true
-seats_after : (kinds : List Kind) (lists : List TableId) (clients : ℕ) (w w' : World) (so : ℕ → ℕ) (vs : List DeskView) (id : ℕ) (v v' : DeskView) → get_elem? vs id ≡ some v → v.role ≡ role.Client → Alike v v' → Makers clients vs
+seats_after : (kinds : List Kind) (lists : List TableId) (clients : ℕ) (w w' : World) (so : ℕ → ℕ) (vs : List DeskView) (id : ℕ) (v v' : DeskView)
+    → get_elem? vs id ≡ some v → v.role ≡ role.Client → Alike v v' → Makers clients vs
     → ((j : ℕ) (u : DeskView) → get_elem? vs j ≡ some u → ViewOk kinds lists w so j u) → Leaves w w' → ((c : ℕ) → c ≢ v.number → Later w w' c) → SeatOk kinds w' v.number v'
     → (j : ℕ) (u : DeskView) → get_elem? (set vs id v') j ≡ some u → ViewOk kinds lists w' so j u
 seats_after kinds lists clients w w' so vs id v v' at cl alike makers before leave others ok j u e =
     let here = (before id v at).client cl in let next : 1 + v.number ≢ v.number = λ h. omega arith in let logs = (others (1 + v.number) next).logs in
-    let is_made : (c : ℕ) (z : DeskView) (i : ℕ) → get_elem? vs i ≡ some z → z.role ≡ role.Maker → z.made ≤ c → c ≢ v.number = λ c z i g is l same. let low = (makers.made i z g is id v at).0 cl in omega arith in
-    let unmade : (c : ℕ) → c ≢ v.number → (w.stage c ≡ absent) × (w.done c ≡ []) × (w.ended c ≡ false) × ((x : ℕ) → w.holder x ≢ Some c) → (w'.stage c ≡ absent) × (w'.done c ≡ []) × (w'.ended c ≡ false) × ((x : ℕ) → w'.holder x ≢ Some c) =
+    let is_made : (c : ℕ) (z : DeskView) (i : ℕ) → get_elem? vs i ≡ some z → z.role ≡ role.Maker → z.made ≤ c → c ≢ v.number =
+    λ c z i g is l same. let low = (makers.made i z g is id v at).0 cl in omega arith in
+    let unmade : (c : ℕ) → c ≢ v.number → (w.stage c ≡ absent) × (w.done c ≡ []) × (w.ended c ≡ false) × ((x : ℕ) → w.holder x ≢ Some c)
+    → (w'.stage c ≡ absent) × (w'.done c ≡ []) × (w'.ended c ≡ false) × ((x : ℕ) → w'.holder x ≢ Some c) =
     λ c apart b. let o = others c apart in (o.own own.Absent b.0, o.done ∙ b.1, o.ended ∙ b.2, λ x f. b.3 x (o.holds x f)) in
     ⊎_elim (λ (t : (j ≡ id) × (v' ≡ u)). subst (λ (z : ℕ × DeskView). ViewOk kinds lists w' so z.0 z.1) (λ i. (sym t.0 i, t.1 i)) record {
       seen = ok.seen;
       received = λ x. subst (λ z. StartsWith (w'.log x) (get_or z x [])) (sym alike.received) (starts_longer (w'.log x) (w.log x) (received_of v x) (logs x) ((before id v at).received x));
       left = subst (All (HasLeft w')) (sym alike.left) (left_stays w w' v.left leave (before id v at).left);
       client = λ _. (ap so alike.number ∙ here.0, subst (λ z. SeatOk kinds w' z v') (sym alike.number) ok);
-      unmade = λ is c l. let is' : v.role ≡ role.Maker = sym alike.role ∙ is in let l' : v.made ≤ c = subst (λ z. z ≤ c) alike.made l in unmade c (is_made c v id at is' l') ((before id v at).unmade is' c l');
+      unmade = λ is c l. let is' : v.role ≡ role.Maker = sym alike.role ∙ is in let l' : v.made ≤ c = subst (λ z. z ≤ c) alike.made l in
+          unmade c (is_made c v id at is' l') ((before id v at).unmade is' c l');
       maker_kinds = λ is. ok.kinds_are;
       lists_are = λ is. alike.lists ∙ (before id v at).lists_are cl;
       maker_lists = λ is. alike.lists ∙ (before id v at).lists_are cl;
@@ -150,7 +172,8 @@ seats_after kinds lists clients w w' so vs id v v' at cl alike makers before lea
       maker_lists = b.maker_lists;
     }) (at_set vs id j v' u e)
 
-pub makers_stay : (clients : ℕ) (vs : List DeskView) (id : ℕ) (v v' : DeskView) → get_elem? vs id ≡ some v → v'.role ≡ v.role → v'.number ≡ v.number → v'.made ≡ v.made → Makers clients vs → Makers clients (set vs id v')
+pub makers_stay : (clients : ℕ) (vs : List DeskView) (id : ℕ) (v v' : DeskView) → get_elem? vs id ≡ some v → v'.role ≡ v.role → v'.number ≡ v.number
+    → v'.made ≡ v.made → Makers clients vs → Makers clients (set vs id v')
 makers_stay clients vs id v v' at role number made before =
     let back : (a : ℕ) (z : DeskView) → get_elem? (set vs id v') a ≡ some z → (y : DeskView) × (get_elem? vs a ≡ some y) × (z.role ≡ y.role) × (z.number ≡ y.number) × (z.made ≡ y.made)
     = λ a z g. ⊎_elim (λ (h : (a ≡ id) × (v' ≡ z)). (v, ap (get_elem? vs) h.0 ∙ at, ap (λ q. q.role) (sym h.1) ∙ role, ap (λ q. q.number) (sym h.1) ∙ number, ap (λ q. q.made) (sym h.1) ∙ made))
@@ -189,7 +212,8 @@ module _ {S O R : Type 0} (content : S → Content) (op_in : O → AnyOp) (reply
     pub others : (d : ℕ) → d ≢ v.number → Later k.world world d
     pub own : SeatOk kinds world v.number v'
 
-  pub kept_after : {words : List ℕ} {homes : List (maybe.Option (Slot S O R))} (s : St) (k : Rule s) (id : ℕ) (v v' : DeskView) → get_elem? s.views id ≡ some v → v.role ≡ role.Client → Alike v v' → After s k v v' words homes
+  pub kept_after : {words : List ℕ} {homes : List (maybe.Option (Slot S O R))} (s : St) (k : Rule s) (id : ℕ) (v v' : DeskView)
+      → get_elem? s.views id ≡ some v → v.role ≡ role.Client → Alike v v' → After s k v v' words homes
       → Rule record { words = words; homes = homes; views = set s.views id v' }
   kept_after s k id v v' at cl alike a = record {
     world = a.world;
@@ -209,11 +233,23 @@ module _ {S O R : Type 0} (content : S → Content) (op_in : O → AnyOp) (reply
   pub unmoved : (s : St) (k : Rule s) (i id : ℕ) (v v' : DeskView) (cs : List (ℕ × Slot S O R)) → get_elem? s.views id ≡ some v → v.role ≡ role.Client → Alike v v' → SeatOk kinds k.world v.number v'
       → Rule (stepped s i (get_or s.words i 0) id cs v' keeps)
   unmoved s k i id v v' cs at cl alike ok = subst (λ (ws : List ℕ). Rule record { words = ws; homes = s.homes; views = set s.views id v' }) (sym (set-get_or s.words i 0))
-      (kept_after s k id v v' at cl alike record { world = k.world; holders = k.holders; come = k.come; sound = k.sound; tied = k.tied; leave = λ d e. (e, refl); others = λ c _. same_later k.world c; own = ok })
+      (kept_after s k id v v' at cl alike record {
+        world = k.world;
+        holders = k.holders;
+        come = k.come;
+        sound = k.sound;
+        tied = k.tied;
+        leave =
+            λ d e. (e, refl);
+        others = λ c _. same_later k.world c;
+        own = ok;
+      })
 
-  pub misses : (s : St) (k : Rule s) (i id : ℕ) (v : DeskView) (cs : List (ℕ × Slot S O R)) → v.role ≡ role.Client → get_elem? s.views id ≡ some v → Rule (stepped s i (get_or s.words i 0) id cs (after_miss i v) keeps)
+  pub misses : (s : St) (k : Rule s) (i id : ℕ) (v : DeskView) (cs : List (ℕ × Slot S O R)) → v.role ≡ role.Client → get_elem? s.views id ≡ some v
+      → Rule (stepped s i (get_or s.words i 0) id cs (after_miss i v) keeps)
   misses s k i id v cs cl at = let ok = mine s k id v cl at in unmoved s k i id v (after_miss i v) cs at cl alike (seat_knowing ok.ready ok.retired ok)
 
   -- a look that tells nothing
-  pub looks : (s : St) (k : Rule s) (i id : ℕ) (v : DeskView) (cs : List (ℕ × Slot S O R)) → v.role ≡ role.Client → get_elem? s.views id ≡ some v → Rule (stepped s i (get_or s.words i 0) id cs v keeps)
+  pub looks : (s : St) (k : Rule s) (i id : ℕ) (v : DeskView) (cs : List (ℕ × Slot S O R)) → v.role ≡ role.Client → get_elem? s.views id ≡ some v
+      → Rule (stepped s i (get_or s.words i 0) id cs v keeps)
   looks s k i id v cs cl at = unmoved s k i id v v cs at cl alike (mine s k id v cl at)

@@ -1,5 +1,6 @@
 -- A client sees more of a log.
-use Rattle.std.proofs.Common.{◌≡◌, ◌≢◌, ℕ, ◌<◌, true, false, cond, eqb, ◌⊎◌, ⊎_elim, inl, inr, length-append, List, [], ◌∷◌, ◌++◌, length, get_or, set, refl, sym, ap, subst, ◌∙◌, arith, append_assoc, append-nil, length-set, get_or-set_other, get_or-set_same}
+use Rattle.std.proofs.Common.{◌≡◌, ◌≢◌, ℕ, ◌<◌, true, false, cond, eqb, ◌⊎◌, ⊎_elim, inl, inr, length-append, List, [], ◌∷◌, ◌++◌, length, get_or}
+use Rattle.std.proofs.Common.{set, refl, sym, ap, subst, ◌∙◌, arith, append_assoc, append-nil, length-set, get_or-set_other, get_or-set_same}
 use mathlib.Core.Logic.{dite}
 use native.Mathlib.Decide.{ℕ_discrete}
 use Rattle.model.specs.declared.Kind.{Kind}
@@ -23,7 +24,8 @@ owed_served x c (own.Waiting q) t e = (served_now x c t, refl)
 owed_served x c (own.Taken q a) t e = ([], ap (served_now x c) e ∙ sym (append-nil (logged_on x c q a)))
 
 -- the whole log has what the client is to find in it
-pub all_covered : (kinds : List Kind) (quota : ℕ) (w : World) (c x : ℕ) (ds : List AnyDone) (o : Own) → ds ≡ w.done c → OwnOk o (w.stage c) → Sound kinds quota w → StartsWith (entries_of c (w.log x)) (served x c ds ++ owed x c o)
+pub all_covered : (kinds : List Kind) (quota : ℕ) (w : World) (c x : ℕ) (ds : List AnyDone) (o : Own) → ds ≡ w.done c → OwnOk o (w.stage c)
+    → Sound kinds quota w → StartsWith (entries_of c (w.log x)) (served x c ds ++ owed x c o)
 all_covered kinds quota w c x ds o same ok k = let d = owed_served x c o (w.stage c) ok in
     (d.0, k.counted c x ∙ ((λ i. served x c (sym same i) ++ d.1 i) ∙ sym (append_assoc (served x c ds) (owed x c o) d.0)))
 
@@ -31,7 +33,8 @@ pub entries_start : (c : ℕ) (xs ys : List AnyEntry) → StartsWith xs ys → S
 entries_start c xs ys b = (entries_of c b.0, ap (entries_of c) b.1 ∙ entries-append c ys b.0)
 
 -- what holds of the list seen of x, and of the lists seen of the others, holds after the list of x has changed
-pub seen_all : (P : ℕ → List AnyEntry → Type 0) (seen : List (List AnyEntry)) (x : ℕ) (l : List AnyEntry) → x < length seen → P x l → ((y : ℕ) → y ≢ x → P y (get_or seen y [])) → (y : ℕ) → P y (get_or (set seen x l) y [])
+pub seen_all : (P : ℕ → List AnyEntry → Type 0) (seen : List (List AnyEntry)) (x : ℕ) (l : List AnyEntry) → x < length seen → P x l
+    → ((y : ℕ) → y ≢ x → P y (get_or seen y [])) → (y : ℕ) → P y (get_or (set seen x l) y [])
 seen_all P seen x l low here others y = dite (ℕ_discrete y x)
     (λ same. subst (λ z. P z (get_or (set seen x l) z [])) (sym same) (subst (P x) (sym (get_or-set_same seen x l [] low)) here))
     (λ other. subst (P y) (sym (get_or-set_other seen x y l [] other)) (others y other))
@@ -70,8 +73,10 @@ held_now x c own.Absent t now more rest ok e = absurd rest
 held_now x c own.Idle t now more rest ok e = ⊎_elim (λ f. f) (λ f. f) (one_front [] now more (omega arith) (ap (served_now x c) (sym ok) ∙ e))
 held_now x c (own.Drawn q) t now more rest ok e = absurd rest
 held_now x c (own.Waiting q) t now more rest ok e = ⊎_elim (λ (f : t ≡ posted q). inl (⊎_elim (λ g. g) (λ g. g) (one_front [] now more (omega arith) (ap (served_now x c) (sym f) ∙ e))))
-    (λ (g : (t ≡ picked q) ⊎ ((a : AnyAnswer) × (t ≡ answered q a))). ⊎_elim (λ (f : t ≡ picked q). inl (⊎_elim (λ g. g) (λ g. g) (one_front [] now more (omega arith) (ap (served_now x c) (sym f) ∙ e))))
-    (λ (f : (a : AnyAnswer) × (t ≡ answered q a)). ⊎_elim (λ h. inl h) (λ h. inr (f.0, h)) (one_front (logged_on x c q f.0) now more (short_logged x c q f.0) (ap (served_now x c) (sym f.1) ∙ e))) g) ok
+    (λ (g : (t ≡ picked q) ⊎ ((a : AnyAnswer) × (t ≡ answered q a))). ⊎_elim
+    (λ (f : t ≡ picked q). inl (⊎_elim (λ g. g) (λ g. g) (one_front [] now more (omega arith) (ap (served_now x c) (sym f) ∙ e))))
+    (λ (f : (a : AnyAnswer) × (t ≡ answered q a)). ⊎_elim (λ h. inl h) (λ h. inr (f.0, h))
+    (one_front (logged_on x c q f.0) now more (short_logged x c q f.0) (ap (served_now x c) (sym f.1) ∙ e))) g) ok
 held_now x c (own.Taken q a) t now more rest ok e = absurd rest
 
 -- a list that the client has seen has of its own calls what it is to have
@@ -80,6 +85,7 @@ pub accounts : (kinds : List Kind) (quota : ℕ) (w : World) (x : ℕ) (v : Desk
 accounts kinds quota w x v l rest done ok k begins covers =
     let c : ℕ = v.number in let d : List AnyEntry = served x c v.done in let now : List AnyEntry = owed x c v.own ++ covers.0 in
     let seen : entries_of c l ≡ d ++ now = covers.1 ∙ append_assoc d (owed x c v.own) covers.0 in
-    let whole : d ++ served_now x c (w.stage c) ≡ d ++ (now ++ entries_of c begins.0) = ap (λ z. served x c z ++ served_now x c (w.stage c)) done ∙ (sym (k.counted c x) ∙ (ap (entries_of c) begins.1 ∙ (entries-append c l begins.0
+    let whole : d ++ served_now x c (w.stage c) ≡ d ++ (now ++ entries_of c begins.0) = ap (λ z. served x c z ++ served_now x c (w.stage c)) done
+    ∙ (sym (k.counted c x) ∙ (ap (entries_of c) begins.1 ∙ (entries-append c l begins.0
     ∙ (ap (λ z. z ++ entries_of c begins.0) seen ∙ append_assoc d now (entries_of c begins.0))))) in
     (now, seen, held_now x c v.own (w.stage c) now (entries_of c begins.0) rest ok (append_cancel_left d (served_now x c (w.stage c)) (now ++ entries_of c begins.0) whole))

@@ -52,7 +52,8 @@ module _ {S O R : Type 0} (content : S → Content) (op_in : O → AnyOp) (reply
   }
 
   -- the row r goes to the stage t, and its slot to home
-  pub tied_row : (w : World) (r n : ℕ) (t : Stage) (hands : ℕ → Option ℕ) (logs : ℕ → List AnyEntry) (words : List ℕ) (homes : List (maybe.Option (Slot S O R))) (home : maybe.Option (Slot S O R)) → r < 32
+  pub tied_row : (w : World) (r n : ℕ) (t : Stage) (hands : ℕ → Option ℕ) (logs : ℕ → List AnyEntry) (words : List ℕ)
+      (homes : List (maybe.Option (Slot S O R))) (home : maybe.Option (Slot S O R)) → r < 32
       → ((x : ℕ) → w.holder x ≡ None → logs x ≡ w.log x) → t ≢ absent → request_of t ≡ request_of (w.stage r) → n ≡ row_word t → CallAt content op_in reply_in (some home) t → Ties w words homes
       → Ties (record w { hand = hands; log = logs; stage = changed w.stage r t }) (set words (row_place r) n) (set homes (16 + r) home)
   tied_row w r n t hands logs words homes home low kept come same word ok k = let wide = k.wide in let deep = k.deep in let few = k.objects in record {
@@ -64,7 +65,8 @@ module _ {S O R : Type 0} (content : S → Content) (op_in : O → AnyOp) (reply
         (λ l. get_or-set_same words (row_place r) n 0 (omega arith) ∙ word) (λ j other l. get_or-set_other words (row_place r) (row_place j) n 0 (λ e. other (omega arith)) ∙ k.rows j l);
     ends = λ c l. get_or-set_other words (row_place r) (end_place c) n 0 (λ e. omega arith) ∙ k.ends c l;
     clock = get_or-set_other words (row_place r) clock_place n 0 (λ e. omega arith) ∙ k.clock;
-    cores = λ x l e. let b = k.cores x l e in (b.0, set_else homes (16 + r) x home (λ e. omega arith) ∙ b.1, subst (Fits content op_in reply_in (kind_at kinds x) (get_elem? lists x) b.0) (sym (kept x e)) b.2);
+    cores = λ x l e. let b = k.cores x l e in
+        (b.0, set_else homes (16 + r) x home (λ e. omega arith) ∙ b.1, subst (Fits content op_in reply_in (kind_at kinds x) (get_elem? lists x) b.0) (sym (kept x e)) b.2);
     calls = changed_all (λ j u. j < 32 → CallAt content op_in reply_in (get_elem? (set homes (16 + r) home) (16 + j)) u) w.stage r t
         (λ l. subst (λ z. CallAt content op_in reply_in z t) (sym (set_here homes (16 + r) home (omega arith))) ok)
         (λ j other l. subst (λ z. CallAt content op_in reply_in z (w.stage j)) (sym (set_else homes (16 + r) (16 + j) home (λ e. other (omega arith)))) (k.calls j l));
@@ -74,7 +76,8 @@ module _ {S O R : Type 0} (content : S → Content) (op_in : O → AnyOp) (reply
   }
 
   -- the client c, which has not ended, draws a ticket
-  pub tied_clock : (w : World) (c n : ℕ) (t : Stage) (ds : List AnyDone) (words : List ℕ) (homes : List (maybe.Option (Slot S O R))) → t ≢ absent → w.ended c ≡ false → row_word (w.stage c) ≡ row_word t
+  pub tied_clock : (w : World) (c n : ℕ) (t : Stage) (ds : List AnyDone) (words : List ℕ) (homes : List (maybe.Option (Slot S O R))) → t ≢ absent
+      → w.ended c ≡ false → row_word (w.stage c) ≡ row_word t
       → ((home : Home S O R) → CallAt content op_in reply_in home t) → n ≡ w.clock + 1 → Ties w words homes → Ties (ticked w c t ds) (set words clock_place n) homes
   tied_clock w c n t ds words homes come going word ok more k = let wide = k.wide in let few = k.objects in record {
     wide = length-set words clock_place n ∙ wide;
@@ -82,7 +85,8 @@ module _ {S O R : Type 0} (content : S → Content) (op_in : O → AnyOp) (reply
     objects = few;
     locks = λ x l. get_or-set_other words clock_place x n 0 (λ e. omega arith) ∙ k.locks x l;
     rows = changed_all (λ j u. j < 32 → get_or (set words clock_place n) (row_place j) 0 ≡ row_word u) w.stage c t
-        (λ l. get_or-set_other words clock_place (row_place c) n 0 (λ e. omega arith) ∙ (k.rows c l ∙ word)) (λ j _ l. get_or-set_other words clock_place (row_place j) n 0 (λ e. omega arith) ∙ k.rows j l);
+        (λ l. get_or-set_other words clock_place (row_place c) n 0 (λ e. omega arith) ∙ (k.rows c l ∙ word))
+        (λ j _ l. get_or-set_other words clock_place (row_place j) n 0 (λ e. omega arith) ∙ k.rows j l);
     ends = λ d l. get_or-set_other words clock_place (end_place d) n 0 (λ e. omega arith) ∙ k.ends d l;
     clock = get_or-set_same words clock_place n 0 (omega arith) ∙ more;
     cores = k.cores;
@@ -94,7 +98,8 @@ module _ {S O R : Type 0} (content : S → Content) (op_in : O → AnyOp) (reply
 
   -- the client c ends, and its journal is in its slot
   pub tied_end : (w : World) (c : ℕ) (j : Journal O R) (words : List ℕ) (homes : List (maybe.Option (Slot S O R))) → c < 32 → w.stage c ≢ absent
-      → map (event_in op_in reply_in) j.events.items ≡ journal_of (w.done c) (request_of (w.stage c)) → Ties w words homes → Ties (ended_by w c) (set words (end_place c) 1) (set homes (48 + c) (some (slot.Journal j)))
+      → map (event_in op_in reply_in) j.events.items ≡ journal_of (w.done c) (request_of (w.stage c)) → Ties w words homes
+      → Ties (ended_by w c) (set words (end_place c) 1) (set homes (48 + c) (some (slot.Journal j)))
   tied_end w c j words homes low come says k = let wide = k.wide in let deep = k.deep in let few = k.objects in let home : maybe.Option (Slot S O R) = some (slot.Journal j) in record {
     wide = length-set words (end_place c) 1 ∙ wide;
     deep = length-set homes (48 + c) home ∙ deep;
@@ -116,7 +121,8 @@ module _ {S O R : Type 0} (content : S → Content) (op_in : O → AnyOp) (reply
       → ((home : Home S O R) → CallAt content op_in reply_in home t) → Ties w words homes → Ties (staged w c t) (set words (row_place c) n) (set (set homes (48 + c) maybe.none) (16 + c) maybe.none)
   tied_coming w c n t words homes low come going word ok k =
       let wide = k.wide in let deep = k.deep in let few = k.objects in let first : List (maybe.Option (Slot S O R)) = set homes (48 + c) maybe.none in
-      let away : (i : ℕ) → i ≢ 48 + c → i ≢ 16 + c → get_elem? (set first (16 + c) maybe.none) i ≡ get_elem? homes i = λ i a b. set_else first (16 + c) i maybe.none b ∙ set_else homes (48 + c) i maybe.none a in record {
+      let away : (i : ℕ) → i ≢ 48 + c → i ≢ 16 + c → get_elem? (set first (16 + c) maybe.none) i ≡ get_elem? homes i =
+      λ i a b. set_else first (16 + c) i maybe.none b ∙ set_else homes (48 + c) i maybe.none a in record {
         wide = length-set words (row_place c) n ∙ wide;
         deep = length-set first (16 + c) maybe.none ∙ (length-set homes (48 + c) maybe.none ∙ deep);
         objects = few;

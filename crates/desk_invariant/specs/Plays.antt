@@ -23,6 +23,7 @@ use Rattle.desk_invariant.specs.Views.{after_answer, IsAccount, after_release, w
 use Rattle.desk_invariant.specs.Views.{after_return, after_perform, after_meet, after_end}
 use Rattle.desk_invariant.specs.Views.{after_end_seen, after_end_unset}
 use Rattle.desk_invariant.specs.Rule.{Fits}
+use Rattle.desk_invariant.specs.Views.{answered_word}
 
 module _ {S O R : Type 0} (content : S → Content) (op_in : O → AnyOp) (reply_in : R → AnyReply)
   where
@@ -103,8 +104,8 @@ module _ {S O R : Type 0} (content : S → Content) (op_in : O → AnyOp) (reply
     abbrev pub looks_for_answer : Step (Slot S O R) → Hands → ℕ → Hands → Type 0
     looks_for_answer st m found m' = (c : ℕ) (q : AnyRequest) →
         m.0.number ≡ c → st.word ≡ row_place c → m.0.own ≡ own.Waiting q →
-        (found ≡ 33 → m' ≡ m)
-        × (found ≢ 33 → (m' ≡ (after_miss st.word m.0, m.1)) × (m.0.ready ≡ false))
+        (found ≡ answered_word → m' ≡ m)
+        × (found ≢ answered_word → (m' ≡ (after_miss st.word m.0, m.1)) × (m.0.ready ≡ false))
 
     -- The answer came out of the own row, and the log of its object was seen: it is legal, begins
     -- with what was seen before, and has of the own calls those that are over and this one. Or
@@ -112,14 +113,14 @@ module _ {S O R : Type 0} (content : S → Content) (op_in : O → AnyOp) (reply
     abbrev pub takes_answer : Step (Slot S O R) → Hands → ℕ → Hands → Type 0
     takes_answer st m found m' = (c : ℕ) (q : AnyRequest) →
         m.0.number ≡ c → st.word ≡ row_place c → m.0.own ≡ own.Waiting q →
-        (found ≡ 33
+        (found ≡ answered_word
         → (b : Answer R) × (l : List AnyEntry)
         × (m' ≡ (after_take q (answer_in reply_in b) l m.0, (16 + c, slot.Answer b) ∷ m.1))
         × IsLegal (kind_at m.0.kinds q.object) l
         × StartsWith l (seen_of m.0 q.object)
         × (entries_of m.0.number l
         ≡ served q.object m.0.number m.0.done ++ logged m.0.number q (answer_in reply_in b)))
-        × (found ≢ 33 → (m' ≡ (after_miss st.word m.0, m.1)) × (m.0.ready ≡ false))
+        × (found ≢ answered_word → (m' ≡ (after_miss st.word m.0, m.1)) × (m.0.ready ≡ false))
 
     -- the return has its ticket, which is greater than each in what was seen of the call's object
     abbrev pub returns : Step (Slot S O R) → Hands → ℕ → Hands → Type 0

@@ -33,6 +33,8 @@ use Rattle.desk_model.specs.Sound.{Sound}
 use Rattle.desk_model.specs.Images.{request_in, answer_in, entry_in, event_in}
 use Rattle.desk_invariant.specs.Views.{row_place, end_place, clock_place, seen_of, received_of}
 use Rattle.desk_invariant.specs.Views.{owed}
+use Rattle.desk_model.specs.Limits.{max_objects, max_clients, max_calls}
+use Rattle.desk_invariant.specs.Views.{table_words, table_slots, first_picked, answered_word}
 
 -- a place for a slot's value, which may be out
 abbrev pub Home : (S O R : Type 0) → Type 0
@@ -47,8 +49,8 @@ row_word absent = 0
 row_word idle = 0
 row_word (drawn q) = 0
 row_word (posted q) = 1 + q.object
-row_word (picked q) = 17 + q.object
-row_word (answered q a) = 33
+row_word (picked q) = first_picked + q.object
+row_word (answered q a) = answered_word
 row_word (taken q a) = 0
 
 abbrev pub end_word : Bool → ℕ
@@ -71,12 +73,12 @@ HeldOk n w c (held.Pass x l) =
     × ((y : ℕ) → w.holder y ≡ Some c → y ≡ x)
 HeldOk n w c (held.Hand x l r q) =
     (x < n) × (w.holder x ≡ Some c) × (w.hand x ≡ Some r) × (w.log x ≡ l)
-    × ((y : ℕ) → w.holder y ≡ Some c → y ≡ x) × (r < 32) × (w.stage r ≡ picked q)
+    × ((y : ℕ) → w.holder y ≡ Some c → y ≡ x) × (r < max_clients) × (w.stage r ≡ picked q)
 
 -- the view of the client c
 pub record SeatOk (kinds : List Kind) (w : World) (c : ℕ) (v : DeskView) : Type 0 where
   pub number : v.number ≡ c
-  pub small : c < 32
+  pub small : c < max_clients
   pub kinds_are : v.kinds ≡ kinds
   pub done : v.done ≡ w.done c
   pub own : OwnOk v.own (w.stage c)
@@ -155,17 +157,17 @@ module _ {S O R : Type 0} (content : S → Content) (op_in : O → AnyOp) (reply
     -- the words and the slots at home
     pub record Tied (kinds : List Kind) (lists : List TableId) (w : World) (words : List ℕ)
         (homes : List (maybe.Option (Slot S O R))) : Type 0 where
-      pub wide : length words ≡ 81
-      pub deep : length homes ≡ 80
-      pub objects : length kinds < 17
+      pub wide : length words ≡ table_words
+      pub deep : length homes ≡ table_slots
+      pub objects : length kinds < 1 + max_objects
       pub locks : (x : ℕ) → x < length kinds → slice_index words x ≡ lock_word (w.holder x)
-      pub rows : (r : ℕ) → r < 32 → slice_index words (row_place r) ≡ row_word (w.stage r)
-      pub ends : (c : ℕ) → c < 32 → slice_index words (end_place c) ≡ end_word (w.ended c)
+      pub rows : (r : ℕ) → r < max_clients → slice_index words (row_place r) ≡ row_word (w.stage r)
+      pub ends : (c : ℕ) → c < max_clients → slice_index words (end_place c) ≡ end_word (w.ended c)
       pub clock : slice_index words clock_place ≡ w.clock
       pub cores : (x : ℕ) → x < length kinds → w.holder x ≡ None
           → CoreAt (kind_at kinds x) (get_elem? lists x) (get_elem? homes x) (w.log x)
-      pub calls : (r : ℕ) → r < 32 → CallAt (get_elem? homes (16 + r)) (w.stage r)
-      pub journals : (c : ℕ) → c < 32
+      pub calls : (r : ℕ) → r < max_clients → CallAt (get_elem? homes (16 + r)) (w.stage r)
+      pub journals : (c : ℕ) → c < max_clients
           → JournalAt (get_elem? homes (48 + c)) (w.stage c) (w.done c) (w.ended c)
 
     -- the rule: there is a sound world to which words, slots and views are tied
@@ -176,8 +178,8 @@ module _ {S O R : Type 0} (content : S → Content) (op_in : O → AnyOp) (reply
         pub seat_of : ℕ → ℕ
         -- which roster the publication list of each object is
         pub lists : List TableId
-        pub few_calls : quota < 10001
-        pub few_clients : clients < 33
+        pub few_calls : quota < 1 + max_calls
+        pub few_clients : clients < 1 + max_clients
         pub sound : Sound kinds quota world
         pub tied : Tied kinds lists world s.words s.homes
         pub seats : (j : ℕ) (v : DeskView) → get_elem? s.views j ≡ some v

@@ -24,6 +24,21 @@ end_place c = 48 + c
 abbrev pub clock_place : ℕ
 clock_place = 80
 
+-- how many words the table has, and how many slots
+abbrev pub table_words : ℕ
+table_words = 81
+
+abbrev pub table_slots : ℕ
+table_slots = 80
+
+-- the word of a row whose request for object 0 was picked up
+abbrev pub first_picked : ℕ
+first_picked = 17
+
+-- the word of a row that has an answer
+abbrev pub answered_word : ℕ
+answered_word = 33
+
 -- a client that has not come yet
 abbrev pub new_client : List Kind → List TableId → ℕ → DeskView
 new_client kinds lists c =

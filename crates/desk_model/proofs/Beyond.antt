@@ -3,7 +3,8 @@ use Rattle.std.proofs.Common.{◌≡◌, ◌≢◌, ℕ, ◌<◌, ◌≤◌, Lis
 use Rattle.std.proofs.lemmas.List.Elements.{All-head, All-tail, All-contains, Contains-push}
 use Rattle.model.specs.declared.Kind.{Kind}
 use Rattle.desk_model.specs.declared.JournalEvent.TheVariants.{Returned}
-use Rattle.desk_model.specs.World.{AnyEntry, AnyRequest, AnyAnswer, AnyEvent, AnyDone, Stage, absent, idle, drawn, posted, picked, answered, taken, World, logged_on, entries_of, served, served_now, request_of, invoked, journal_of, journal_in}
+use Rattle.desk_model.specs.World.{AnyEntry, AnyRequest, AnyAnswer, AnyEvent, AnyDone, Stage, absent, idle, drawn, posted, picked, answered, taken}
+use Rattle.desk_model.specs.World.{World, logged_on, entries_of, served, served_now, request_of, invoked, journal_of, journal_in}
 use Rattle.desk_model.specs.Sound.{IsAmong, Sound}
 use Rattle.desk_model.proofs.Entries.{logged_else}
 use Rattle.desk_model.proofs.Tickets.{journal_begun}
@@ -21,7 +22,8 @@ nothing_served kinds x c (d ∷ ds) q far all =
     (λ i. nothing_logged (length kinds) x c d.request d.answer far on i ++ nothing_served kinds x c ds q far later i)
 
 asked_among : (kinds : List Kind) (ds : List AnyDone) (q : AnyRequest) → All (IsAmong kinds) (journal_of ds (Some q)) → q.object < length kinds
-asked_among kinds ds q all = (All-contains (IsAmong kinds) (journal_of ds None ++ invoked q ∷ []) (invoked q) (subst (All (IsAmong kinds)) (journal_begun ds q) all) (Contains-push (journal_of ds None) (invoked q))).0
+asked_among kinds ds q all = (All-contains (IsAmong kinds) (journal_of ds None ++ invoked q ∷ []) (invoked q)
+    (subst (All (IsAmong kinds)) (journal_begun ds q) all) (Contains-push (journal_of ds None) (invoked q))).0
 
 nothing_now : (kinds : List Kind) (x c : ℕ) (ds : List AnyDone) (t : Stage) → length kinds ≤ x → All (IsAmong kinds) (journal_of ds (request_of t)) → served_now x c t ≡ []
 nothing_now kinds x c ds absent far all = refl
@@ -34,7 +36,8 @@ nothing_now kinds x c ds (taken q a) far all = nothing_logged (length kinds) x c
 
 no_entries : (l : List AnyEntry) → ((c : ℕ) → entries_of c l ≡ []) → l ≡ []
 no_entries [] none = refl
-no_entries (e ∷ es) none = let own : e ∷ entries_of e.client es ≡ [] = sym (ap (λ b. cond b (e ∷ entries_of e.client es) (entries_of e.client es)) (eq-eqb e.client e.client refl)) ∙ none e.client in absurd (cc)
+no_entries (e ∷ es) none = let own : e ∷ entries_of e.client es ≡ [] =
+    sym (ap (λ b. cond b (e ∷ entries_of e.client es) (entries_of e.client es)) (eq-eqb e.client e.client refl)) ∙ none e.client in absurd (cc)
 
 is_absent : (t : Stage) → ((t ≢ absent) → ⊥) → t ≡ absent
 is_absent absent h = refl
@@ -47,7 +50,9 @@ is_absent (taken q a) h = absurd (h (λ e. absurd (cc)))
 
 module _ (kinds : List Kind) (quota : ℕ) (w : World) (k : Sound kinds quota w) where
   pub no_log_beyond : (x : ℕ) → length kinds ≤ x → w.log x ≡ []
-  no_log_beyond x far = no_entries (w.log x) (λ c. k.counted c x ∙ (λ i. nothing_served kinds x c (w.done c) (request_of (w.stage c)) far (k.journals.on_objects c) i ++ nothing_now kinds x c (w.done c) (w.stage c) far (k.journals.on_objects c) i))
+  no_log_beyond x far = no_entries (w.log x)
+      (λ c. k.counted c x ∙ (λ i. nothing_served kinds x c (w.done c) (request_of (w.stage c)) far (k.journals.on_objects c) i ++ nothing_now kinds x
+      c (w.done c) (w.stage c) far (k.journals.on_objects c) i))
 
   -- where all that have come are below n
   pub no_journal_beyond : (n : ℕ) → ((c : ℕ) → w.stage c ≢ absent → c < n) → (c : ℕ) → n ≤ c → journal_in w c ≡ []

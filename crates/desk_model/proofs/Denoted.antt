@@ -91,5 +91,6 @@ made_in c [] (Some q) = refl
 made_in c (d ∷ ds) q = go d.answer (made_in c ds q)
   where
     go : (a : AnyAnswer) → calls_in (denoted c ds q) ≡ made c ds q → calls_in (turn c d.request d.returned a (denoted c ds q)) ≡ ended c d.request d.returned a (made c ds q)
-    go (Reply r) h = calls_in-call c d.request.ticket d.request.object d.request.op d.returned r (denoted c ds q) ∙ ap (λ os. first c d.request.ticket d.request.object d.request.op d.returned r ∷ os) h
+    go (Reply r) h = calls_in-call c d.request.ticket d.request.object d.request.op d.returned r (denoted c ds q)
+        ∙ ap (λ os. first c d.request.ticket d.request.object d.request.op d.returned r ∷ os) h
     go Refused h = h

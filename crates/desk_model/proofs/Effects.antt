@@ -7,7 +7,9 @@ use Rattle.std.proofs.lemmas.Option.{same_Some}
 use Rattle.model.specs.declared.Kind.{Kind}
 use Rattle.model.specs.Objects.{kind_of}
 use Rattle.desk_model.specs.declared.Answer.TheVariants.{Reply, Refused}
-use Rattle.desk_model.specs.World.{AnyEntry, AnyRequest, AnyAnswer, AnyDone, Stage, absent, idle, drawn, posted, picked, answered, taken, World, kind_at, logged, logged_on, entries_of, served, served_now, request_of, calls_made, tickets_drawn, IsLegal, StartsWith}
+use Rattle.desk_model.specs.World.{AnyEntry, AnyRequest, AnyAnswer, AnyDone, Stage, absent, idle, drawn, posted, picked, answered, taken, World}
+use Rattle.desk_model.specs.World.{kind_at, logged, logged_on, entries_of, served, served_now, request_of, calls_made, tickets_drawn, IsLegal}
+use Rattle.desk_model.specs.World.{StartsWith}
 use Rattle.desk_model.specs.Transitions.{changed, staged, ticked, held_by, handed, served_by, ended_by}
 use Rattle.desk_model.specs.Sound.{Sound, SoundJournals, total}
 use Rattle.desk_model.proofs.Changed.{changed_here, changed_else, changed_all}
@@ -50,11 +52,13 @@ module _ (kinds : List Kind) (quota : ℕ) where
   -- The stage of the row r changes, with the same request: what holds of requests goes on.
   same_fitting : (w : World) (r : ℕ) (t : Stage) → request_of t ≡ request_of (w.stage r) → S w
       → (d : ℕ) (q : AnyRequest) → request_of (changed w.stage r t d) ≡ Some q → (kind_of q.op ≡ kind_at kinds q.object) × (q.ticket < w.clock)
-  same_fitting w r t same k d q = changed_all (λ d t. request_of t ≡ Some q → (kind_of q.op ≡ kind_at kinds q.object) × (q.ticket < w.clock)) w.stage r t (λ e. k.fitting r q (sym same ∙ e)) (λ d _. k.fitting d q) d
+  same_fitting w r t same k d q =
+      changed_all (λ d t. request_of t ≡ Some q → (kind_of q.op ≡ kind_at kinds q.object) × (q.ticket < w.clock)) w.stage r t (λ e. k.fitting r q (sym same ∙ e)) (λ d _. k.fitting d q) d
 
   same_totals : (w : World) (r : ℕ) (t : Stage) → request_of t ≡ request_of (w.stage r) → S w → total (λ d. tickets_drawn (w.done d) (request_of (changed w.stage r t d))) 32 ≡ w.clock
   same_totals w r t same k = total_same (λ d. tickets_drawn (w.done d) (request_of (changed w.stage r t d))) (λ d. tickets_drawn (w.done d) (request_of (w.stage d))) 32
-      (λ d _. changed_all (λ d t. tickets_drawn (w.done d) (request_of t) ≡ tickets_drawn (w.done d) (request_of (w.stage d))) w.stage r t (ap (tickets_drawn (w.done r)) same) (λ d _. refl) d) ∙ k.drawn
+      (λ d _. changed_all (λ d t. tickets_drawn (w.done d) (request_of t) ≡ tickets_drawn (w.done d) (request_of (w.stage d))) w.stage r t
+      (ap (tickets_drawn (w.done r)) same) (λ d _. refl) d) ∙ k.drawn
 
   same_calls : (w : World) (r : ℕ) (t : Stage) → request_of t ≡ request_of (w.stage r) → S w → (d : ℕ) → calls_made (w.done d) (request_of (changed w.stage r t d)) ≤ quota
   same_calls w r t same k = changed_all (λ d t. calls_made (w.done d) (request_of t) ≤ quota) w.stage r t (subst (λ z. calls_made (w.done r) z ≤ quota) (sym same) (k.within r)) (λ d _. k.within d)
@@ -80,7 +84,8 @@ module _ (kinds : List Kind) (quota : ℕ) where
   sound_ticked : (w : World) (c : ℕ) (t : Stage) (ds : List AnyDone) → c < 32 → ((q : AnyRequest) → w.stage c ≢ picked q) → ((q : AnyRequest) → t ≢ picked q)
       → ((x : ℕ) → served x c ds ++ served_now x c t ≡ served x c (w.done c) ++ served_now x c (w.stage c))
       → ((q : AnyRequest) → request_of t ≡ Some q → (kind_of q.op ≡ kind_at kinds q.object) × (q.ticket ≡ w.clock))
-      → tickets_drawn ds (request_of t) ≡ tickets_drawn (w.done c) (request_of (w.stage c)) + 1 → calls_made ds (request_of t) ≤ quota → SoundJournals kinds (ticked w c t ds) → S w → S (ticked w c t ds)
+      → tickets_drawn ds (request_of t) ≡ tickets_drawn (w.done c) (request_of (w.stage c)) + 1 → calls_made ds (request_of t) ≤ quota
+      → SoundJournals kinds (ticked w c t ds) → S w → S (ticked w c t ds)
   sound_ticked w c t ds low before after puts fits more few journals k = record {
     legal = k.legal;
     counted = λ d x. changed_all (λ d t. entries_of d (w.log x) ≡ served x d (changed w.done c ds d) ++ served_now x d t) w.stage c t
@@ -96,25 +101,34 @@ module _ (kinds : List Kind) (quota : ℕ) where
         ((λ i. tickets_drawn (changed_here w.done c ds i) (request_of (changed_here w.stage c t i))) ∙ more)
         (λ d other i. tickets_drawn (changed_else w.done c ds d other i) (request_of (changed_else w.stage c t d other i))) ∙ ap (λ z. z + 1) k.drawn;
     within = λ d. changed_all (λ d t. calls_made (changed w.done c ds d) (request_of t) ≤ quota) w.stage c t
-        (subst (λ z. calls_made z (request_of t) ≤ quota) (sym (changed_here w.done c ds)) few) (λ d other. subst (λ z. calls_made z (request_of (w.stage d)) ≤ quota) (sym (changed_else w.done c ds d other)) (k.within d)) d;
+        (subst (λ z. calls_made z (request_of t) ≤ quota) (sym (changed_here w.done c ds)) few)
+        (λ d other. subst (λ z. calls_made z (request_of (w.stage d)) ≤ quota) (sym (changed_else w.done c ds d other)) (k.within d)) d;
     journals = journals;
   }
 
   -- the client c draws the ticket of a call
-  pub sound_called : (w : World) (c : ℕ) (q : AnyRequest) → c < 32 → w.stage c ≡ idle → calls_made (w.done c) None < quota → q.object < length kinds → kind_of q.op ≡ kind_at kinds q.object → q.ticket ≡ w.clock → S w → S (ticked w c (drawn q) (w.done c))
+  pub sound_called : (w : World) (c : ℕ) (q : AnyRequest) → c < 32 → w.stage c ≡ idle → calls_made (w.done c) None < quota → q.object < length kinds
+      → kind_of q.op ≡ kind_at kinds q.object → q.ticket ≡ w.clock → S w → S (ticked w c (drawn q) (w.done c))
   sound_called w c q low was few on fits ticket k =
-      let tickets : tickets_drawn (w.done c) (Some q) ≡ tickets_drawn (w.done c) (request_of (w.stage c)) + 1 = (let e : tickets_drawn (w.done c) (Some q) ≡ tickets_drawn (w.done c) None + 1 = omega arith in e ∙ ap (λ z. tickets_drawn (w.done c) (request_of z) + 1) (sym was)) in
+      let tickets : tickets_drawn (w.done c) (Some q) ≡ tickets_drawn (w.done c) (request_of (w.stage c)) + 1 =
+      (let e : tickets_drawn (w.done c) (Some q) ≡ tickets_drawn (w.done c) None + 1 = omega arith in e ∙ ap (λ z. tickets_drawn (w.done c) (request_of z) + 1) (sym was)) in
       sound_ticked w c (drawn q) (w.done c) low (λ r e. let g = sym was ∙ e in absurd (cc)) (λ r e. absurd (cc)) (λ x. ap (λ z. served x c (w.done c) ++ served_now x c z) (sym was))
-      (λ r e. let same = same_Some q r e in subst (λ (z : AnyRequest). (kind_of z.op ≡ kind_at kinds z.object) × (z.ticket ≡ w.clock)) same (fits, ticket)) tickets (omega arith) (journals_called kinds w c q was ticket on fits k.journals) k
+      (λ r e. let same = same_Some q r e in
+      subst (λ (z : AnyRequest). (kind_of z.op ≡ kind_at kinds z.object) × (z.ticket ≡ w.clock)) same (fits, ticket)) tickets (omega arith)
+      (journals_called kinds w c q was ticket on fits k.journals) k
 
   -- the client c draws the ticket n of the return of its call
-  pub sound_returned : (w : World) (c n : ℕ) (q : AnyRequest) (a : AnyAnswer) → c < 32 → w.stage c ≡ taken q a → n ≡ w.clock → S w → S (ticked w c idle (w.done c ++ record { request = q; answer = a; returned = n } ∷ []))
+  pub sound_returned : (w : World) (c n : ℕ) (q : AnyRequest) (a : AnyAnswer) → c < 32 → w.stage c ≡ taken q a → n ≡ w.clock → S w
+      → S (ticked w c idle (w.done c ++ record { request = q; answer = a; returned = n } ∷ []))
   sound_returned w c n q a low was now k =
-      let d : AnyDone = record { request = q; answer = a; returned = n } in let ds : List AnyDone = w.done c ++ d ∷ [] in let long : length ds ≡ length (w.done c) + 1 = length-append (w.done c) (d ∷ []) in
+      let d : AnyDone = record { request = q; answer = a; returned = n } in let ds : List AnyDone = w.done c ++ d ∷ [] in
+      let long : length ds ≡ length (w.done c) + 1 = length-append (w.done c) (d ∷ []) in
       let few : calls_made (w.done c) (Some q) ≤ quota = subst (λ z. calls_made (w.done c) (request_of z) ≤ quota) was (k.within c) in let calls : calls_made ds None ≤ quota = omega arith in
-      let tickets : tickets_drawn ds None ≡ tickets_drawn (w.done c) (request_of (w.stage c)) + 1 = (let e : tickets_drawn ds None ≡ tickets_drawn (w.done c) (Some q) + 1 = omega arith in e ∙ ap (λ z. tickets_drawn (w.done c) (request_of z) + 1) (sym was)) in
+      let tickets : tickets_drawn ds None ≡ tickets_drawn (w.done c) (request_of (w.stage c)) + 1 =
+      (let e : tickets_drawn ds None ≡ tickets_drawn (w.done c) (Some q) + 1 = omega arith in e ∙ ap (λ z. tickets_drawn (w.done c) (request_of z) + 1) (sym was)) in
       sound_ticked w c idle ds low (λ r e. let g = sym was ∙ e in absurd (cc)) (λ r e. absurd (cc))
-      (λ x. append-nil (served x c ds) ∙ (served_more x c n (w.done c) q a ∙ ap (λ z. served x c (w.done c) ++ served_now x c z) (sym was))) (λ r e. absurd (cc)) tickets calls (journals_returned kinds quota w c n q a was now k) k
+      (λ x. append-nil (served x c ds) ∙ (served_more x c n (w.done c) q a ∙ ap (λ z. served x c (w.done c) ++ served_now x c z) (sym was)))
+      (λ r e. absurd (cc)) tickets calls (journals_returned kinds quota w c n q a was now k) k
 
   -- the row r, posted for x, comes into the hand of the client that holds x
   pub sound_picked : (w : World) (x r c : ℕ) (q : AnyRequest) → w.stage r ≡ posted q → q.object ≡ x → w.holder x ≡ Some c → w.hand x ≡ None → S w → S (handed w x (Some r) r (picked q))
@@ -142,8 +156,12 @@ module _ (kinds : List Kind) (quota : ℕ) where
       → (y : ℕ) → changed w.hand x None y ≡ Some j → (p : AnyRequest) × (changed w.stage r t j ≡ picked p) × (p.object ≡ y)
   others_in_hand w x r j t q is on k = changed_all (λ y h. h ≡ Some j → (p : AnyRequest) × (changed w.stage r t j ≡ picked p) × (p.object ≡ y)) w.hand x None
       (λ e. absurd (cc))
-      (λ y other e. let b = k.in_hand y j e in
-      (b.0, changed_else w.stage r t j (λ g. let f : picked q ≡ picked b.0 = sym is ∙ (ap w.stage (sym g) ∙ b.1) in let f' : q ≡ b.0 = cc in other (sym b.2 ∙ (ap (λ z. z.object) (sym f') ∙ on))) ∙ b.1, b.2))
+      (λ y other e. let b = k.in_hand y j e in (
+        b.0,
+        changed_else w.stage r t j (λ g. let f : picked q ≡ picked b.0 = sym is ∙ (ap w.stage (sym g) ∙ b.1) in let f' : q ≡ b.0 = cc in
+            other (sym b.2 ∙ (ap (λ z. z.object) (sym f') ∙ on))) ∙ b.1,
+        b.2,
+      ))
 
   others_picked_up : (w : World) (x r : ℕ) (t : Stage) (q : AnyRequest) → w.stage r ≡ picked q → q.object ≡ x → w.hand x ≡ Some r → ((p : AnyRequest) → t ≢ picked p) → S w
       → (j : ℕ) (p : AnyRequest) → changed w.stage r t j ≡ picked p → changed w.hand x None p.object ≡ Some j
@@ -168,7 +186,8 @@ module _ (kinds : List Kind) (quota : ℕ) where
 
   -- what an answer puts into the log is early
   early_logged : (clock r : ℕ) (q : AnyRequest) (a : AnyAnswer) → q.ticket < clock → All (λ (e : AnyEntry). e.ticket < clock) (logged r q a)
-  early_logged clock r q (Reply p) l = All-cons (λ (e : AnyEntry). e.ticket < clock) (record { client = r; ticket = q.ticket; op = q.op; reply = p }) [] l (All-nil (λ (e : AnyEntry). e.ticket < clock))
+  early_logged clock r q (Reply p) l =
+      All-cons (λ (e : AnyEntry). e.ticket < clock) (record { client = r; ticket = q.ticket; op = q.op; reply = p }) [] l (All-nil (λ (e : AnyEntry). e.ticket < clock))
   early_logged clock r q Refused l = All-nil (λ (e : AnyEntry). e.ticket < clock)
 
   counted_after : (w : World) (x r : ℕ) (q : AnyRequest) (a : AnyAnswer) → w.stage r ≡ picked q → q.object ≡ x → S w
@@ -181,10 +200,12 @@ module _ (kinds : List Kind) (quota : ℕ) where
       (dite (ℕ_discrete y x)
       (λ same. subst (λ z. entries_of r (changed w.log x l z) ≡ served z r (w.done r) ++ logged_on z r q a) (sym same)
       (ap (entries_of r) (changed_here w.log x l) ∙ (entries-append r (w.log x) (logged r q a) ∙ (λ i. mine_x i ++ (own_entries r q a ∙ sym (logged_here x r q a on)) i))))
-      (λ other. ap (entries_of r) (changed_else w.log x l y other) ∙ (mine ∙ (sym (append-nil (served y r (w.done r))) ∙ ap (λ z. served y r (w.done r) ++ z) (sym (logged_else y r q a (λ e. other (sym e ∙ on))))))))
+      (λ other. ap (entries_of r) (changed_else w.log x l y other)
+      ∙ (mine ∙ (sym (append-nil (served y r (w.done r))) ∙ ap (λ z. served y r (w.done r) ++ z) (sym (logged_else y r q a (λ e. other (sym e ∙ on))))))))
       (λ d apart. dite (ℕ_discrete y x)
       (λ same. subst (λ z. entries_of d (changed w.log x l z) ≡ served z d (w.done d) ++ served_now z d (w.stage d)) (sym same)
-      (ap (entries_of d) (changed_here w.log x l) ∙ (entries-append d (w.log x) (logged r q a) ∙ (ap (λ z. entries_of d (w.log x) ++ z) (others_entries d r q a apart) ∙ (append-nil (entries_of d (w.log x)) ∙ k.counted d x)))))
+      (ap (entries_of d) (changed_here w.log x l)
+      ∙ (entries-append d (w.log x) (logged r q a) ∙ (ap (λ z. entries_of d (w.log x) ++ z) (others_entries d r q a apart) ∙ (append-nil (entries_of d (w.log x)) ∙ k.counted d x)))))
       (λ other. ap (entries_of d) (changed_else w.log x l y other) ∙ k.counted d y))
       d
 
@@ -208,7 +229,8 @@ module _ (kinds : List Kind) (quota : ℕ) where
   -- the clients have drawn two tickets for each call at most
   pub clock_few : (w : World) → S w → w.clock ≤ 64 * quota
   clock_few w k =
-      let all : total (λ c. tickets_drawn (w.done c) (request_of (w.stage c))) 32 ≤ 32 * (quota + quota) = total_le (λ c. tickets_drawn (w.done c) (request_of (w.stage c))) 32 (quota + quota) (λ c l. let q = k.within c in omega arith) in
+      let all : total (λ c. tickets_drawn (w.done c) (request_of (w.stage c))) 32 ≤ 32 * (quota + quota) =
+      total_le (λ c. tickets_drawn (w.done c) (request_of (w.stage c))) 32 (quota + quota) (λ c l. let q = k.within c in omega arith) in
       let e = k.drawn in omega arith
 
   -- no client's tickets can fill the clock

@@ -3,7 +3,8 @@ use Rattle.std.proofs.Common.{◌≡◌, ℕ, zero, suc, ◌<◌, ◌≤◌, ◌
 use mathlib.Core.Logic.{dite}
 use native.Mathlib.Decide.{ℕ_discrete}
 use Rattle.std.proofs.lemmas.Bool.{eqb-true, eq-eqb, ne_eqb}
-use Rattle.model.proofs.Lists.{In, Pairs, in_filter, in_filter_passes, in_append, pairs_filter, pairs_weaker, pairs_append, pairs_flat_map, filter_all, filter_none, filter-flat_map, flat_map_same, batches, in_left, in_right}
+use Rattle.model.proofs.Lists.{In, Pairs, in_filter, in_filter_passes, in_append, pairs_filter, pairs_weaker, pairs_append, pairs_flat_map}
+use Rattle.model.proofs.Lists.{filter_all, filter_none, filter-flat_map, flat_map_same, batches, in_left, in_right}
 
 -- the numbers below n
 abbrev upto : ℕ → List ℕ
@@ -55,7 +56,8 @@ module _ {X : Type 0} (number process : X → ℕ) (count : ℕ) (owner : ℕ �
   cut c t = dite (ℕ_discrete (owner t) c)
       (λ same. filter_all (λ m. process m == c) (of_number number t (lists (owner t))) (λ m i. eq-eqb (process m) c (s.own (owner t) m (in_filter (λ m. number m == t) m (lists (owner t)) i) ∙ same))
       ∙ ap (λ k. of_number number t (lists k)) same)
-      (λ other. filter_none (λ m. process m == c) (of_number number t (lists (owner t))) (λ m i. ne_eqb (process m) c (λ e. other (sym (s.own (owner t) m (in_filter (λ m. number m == t) m (lists (owner t)) i)) ∙ e)))
+      (λ other. filter_none (λ m. process m == c) (of_number number t (lists (owner t)))
+      (λ m i. ne_eqb (process m) c (λ e. other (sym (s.own (owner t) m (in_filter (λ m. number m == t) m (lists (owner t)) i)) ∙ e)))
       ∙ sym (filter_none (λ m. number m == t) (lists c) (λ m i. ne_eqb (number m) t (λ e. other (ap owner (sym e) ∙ s.owned c m i)))))
 
   pub merged_part : (c : ℕ) → filter (λ m. process m == c) (merged number count owner lists) ≡ lists c

@@ -6,7 +6,8 @@ use Rattle.model.specs.Orders.{Return, Call, ProcessCall}
 use Rattle.model.proofs.Lists.{In, Pairs, in_append, in_map_from, pairs_append}
 use Rattle.desk_model.specs.declared.Answer.TheVariants.{Reply, Refused}
 use Rattle.desk_model.specs.declared.JournalEvent.TheVariants.{Invoked}
-use Rattle.desk_model.specs.World.{AnyEntry, AnyRequest, AnyAnswer, AnyDone, AnyEvent, Stage, absent, idle, drawn, posted, picked, answered, taken, logged, logged_on, served, served_now, request_of, invoked, journal_of, ticket_of}
+use Rattle.desk_model.specs.World.{AnyEntry, AnyRequest, AnyAnswer, AnyDone, AnyEvent, Stage, absent, idle, drawn, posted, picked, answered, taken}
+use Rattle.desk_model.specs.World.{logged, logged_on, served, served_now, request_of, invoked, journal_of, ticket_of}
 use Rattle.desk_model.proofs.Denoted.{ended, made}
 
 -- what the calls have put in: those that are over, and then the one that is not
@@ -179,7 +180,9 @@ is_over c (d ∷ ds) q o r i e = go d.answer refl i (λ j. later (is_over c ds q
             object = sym (ap (λ (o : ProcessCall). o.object) t);
             number = sym (ap (λ (o : ProcessCall). o.call.number) t);
             returned = ap (λ (r : Return). r.at) one;
-            logs = ap (logged c d.request) s ∙ (ap (λ (o : ProcessCall). record { client = c; ticket = o.call.number; op = o.call.op; reply = p } ∷ []) (sym t) ∙ ap (λ (r : Return). record { client = c; ticket = o.call.number; op = o.call.op; reply = r.reply } ∷ []) one);
+            logs = ap (logged c d.request) s
+                ∙ (ap (λ (o : ProcessCall). record { client = c; ticket = o.call.number; op = o.call.op; reply = p } ∷ []) (sym t)
+                ∙ ap (λ (r : Return). record { client = c; ticket = o.call.number; op = o.call.op; reply = r.reply } ∷ []) one);
           }
       | inr j ↦ f j
     ]

@@ -1,5 +1,6 @@
 -- Journals and tickets: what holds of them goes on where nobody draws a ticket, and where one client draws the next.
-use Rattle.std.proofs.Common.{◌≡◌, ◌≢◌, ◌⊎◌, ℕ, ◌+◌, ◌<◌, List, [], ◌∷◌, ◌++◌, Some, None, All, AllPairs, Contains, map, length, true, false, cond, eqb, refl, sym, ap, subst, ◌∙◌, ⊎_elim, inl, inr, arith, append_assoc}
+use Rattle.std.proofs.Common.{◌≡◌, ◌≢◌, ◌⊎◌, ℕ, ◌+◌, ◌<◌, List, [], ◌∷◌, ◌++◌, Some, None, All, AllPairs, Contains, map, length, true, false, cond}
+use Rattle.std.proofs.Common.{eqb, refl, sym, ap, subst, ◌∙◌, ⊎_elim, inl, inr, arith, append_assoc}
 use mathlib.Core.Logic.{dite}
 use native.Mathlib.Decide.{ℕ_discrete}
 use Rattle.std.proofs.lemmas.List.{length_push, length-append, get_or_push, get_or_append_left}
@@ -8,7 +9,8 @@ use Rattle.model.specs.declared.Kind.{Kind}
 use Rattle.model.specs.Objects.{kind_of}
 use Rattle.desk_model.specs.declared.Answer.TheVariants.{Reply, Refused}
 use Rattle.desk_model.specs.declared.JournalEvent.TheVariants.{Returned}
-use Rattle.desk_model.specs.World.{AnyEntry, AnyRequest, AnyAnswer, AnyEvent, AnyDone, Stage, absent, idle, drawn, taken, World, kind_at, logged, entries_of, served, served_now, request_of, invoked, journal_of, journal_in, ticket_of, tickets_in, StartsWith}
+use Rattle.desk_model.specs.World.{AnyEntry, AnyRequest, AnyAnswer, AnyEvent, AnyDone, Stage, absent, idle, drawn, taken, World, kind_at, logged}
+use Rattle.desk_model.specs.World.{entries_of, served, served_now, request_of, invoked, journal_of, journal_in, ticket_of, tickets_in, StartsWith}
 use Rattle.desk_model.specs.Transitions.{changed, ticked}
 use Rattle.desk_model.specs.Sound.{ShareOut, IsAmong, IsInTime, SoundJournals, Sound}
 use Rattle.desk_model.proofs.Entries.{logged_here}
@@ -20,7 +22,8 @@ pub journal_begun : (ds : List AnyDone) (q : AnyRequest) → journal_of ds (Some
 journal_begun [] q = refl
 journal_begun (d ∷ ds) q = ap (λ z. invoked d.request ∷ Returned d.returned d.answer ∷ z) (journal_begun ds q)
 
-pub journal_over : (ds : List AnyDone) (q : AnyRequest) (a : AnyAnswer) (t : ℕ) → journal_of (ds ++ record { request = q; answer = a; returned = t } ∷ []) None ≡ journal_of ds (Some q) ++ Returned t a ∷ []
+pub journal_over : (ds : List AnyDone) (q : AnyRequest) (a : AnyAnswer) (t : ℕ)
+    → journal_of (ds ++ record { request = q; answer = a; returned = t } ∷ []) None ≡ journal_of ds (Some q) ++ Returned t a ∷ []
 journal_over [] q a t = refl
 journal_over (d ∷ ds) q a t = ap (λ z. invoked d.request ∷ Returned d.returned d.answer ∷ z) (journal_over ds q a t)
 
@@ -62,7 +65,8 @@ still_in_time w w' c d grows t =
 -- ---- nobody draws
 
 module _ (kinds : List Kind) where
-  pub journals_kept : (w w' : World) → w'.clock ≡ w.clock → ((c : ℕ) → w'.done c ≡ w.done c) → ((c : ℕ) → request_of (w'.stage c) ≡ request_of (w.stage c)) → ((c : ℕ) → w'.stage c ≡ absent → w.stage c ≡ absent)
+  pub journals_kept : (w w' : World) → w'.clock ≡ w.clock → ((c : ℕ) → w'.done c ≡ w.done c)
+      → ((c : ℕ) → request_of (w'.stage c) ≡ request_of (w.stage c)) → ((c : ℕ) → w'.stage c ≡ absent → w.stage c ≡ absent)
       → ((x : ℕ) → StartsWith (w'.log x) (w.log x)) → SoundJournals kinds w → SoundJournals kinds w'
   journals_kept w w' clock done asked came grows k =
       let same : (c : ℕ) → journal_in w c ≡ journal_in w' c = λ c i. journal_of (sym (done c) i) (sym (asked c) i) in record {
@@ -73,7 +77,8 @@ module _ (kinds : List Kind) where
       }
 
   -- the client c goes to a stage with the same request
-  pub journals_staged : (w w' : World) (c : ℕ) (t : Stage) → w'.clock ≡ w.clock → ((d : ℕ) → w'.done d ≡ w.done d) → ((d : ℕ) → w'.stage d ≡ changed w.stage c t d) → request_of t ≡ request_of (w.stage c) → t ≢ absent
+  pub journals_staged : (w w' : World) (c : ℕ) (t : Stage) → w'.clock ≡ w.clock → ((d : ℕ) → w'.done d ≡ w.done d)
+      → ((d : ℕ) → w'.stage d ≡ changed w.stage c t d) → request_of t ≡ request_of (w.stage c) → t ≢ absent
       → ((x : ℕ) → StartsWith (w'.log x) (w.log x)) → SoundJournals kinds w → SoundJournals kinds w'
   journals_staged w w' c t clock done is same came grows k = journals_kept w w' clock done
       (λ d. ap request_of (is d) ∙ changed_all (λ d t. request_of t ≡ request_of (w.stage d)) w.stage c t same (λ d _. refl) d)
@@ -123,7 +128,8 @@ map_more [] e = refl
 map_more (x ∷ es) e = ap (λ z. ticket_of x ∷ z) (map_more es e)
 
 module _ (kinds : List Kind) where
-  pub journals_ticked : (w : World) (c : ℕ) (t : Stage) (ds : List AnyDone) (e : AnyEvent) → ticket_of e ≡ w.clock → IsAmong kinds e → journal_of ds (request_of t) ≡ journal_in w c ++ e ∷ [] → All (IsInTime w c) ds → t ≢ absent
+  pub journals_ticked : (w : World) (c : ℕ) (t : Stage) (ds : List AnyDone) (e : AnyEvent) → ticket_of e ≡ w.clock → IsAmong kinds e
+      → journal_of ds (request_of t) ≡ journal_in w c ++ e ∷ [] → All (IsInTime w c) ds → t ≢ absent
       → SoundJournals kinds w → SoundJournals kinds (ticked w c t ds)
   journals_ticked w c t ds e ticket on more in_time came k =
       let w' : World = ticked w c t ds in

@@ -1,39 +1,10 @@
-//! Reads and writes EDN, in a profile of its own.
-//!
-//! A text is UTF-8, at most 268,435,456 bytes, and a sequence of elements: `nil`, `true`, `false`,
-//! integers of 64 bits, strings, keywords, vectors in brackets, and maps in braces, whose keys are
-//! distinct keywords. At most 16 vectors and maps are open at once. Tabs, line feeds, carriage
-//! returns, spaces and commas separate elements; a semicolon begins a comment that goes on to a
-//! line feed or the end. `specs/Spells.antt` says it exactly.
+//! Reads and writes EDN, in a profile of its own: hands on what `byte_streams`, `edn_reader` and
+//! `edn_writer` have in public, so that a caller names one crate.
 #![tactic(auto)]
 
-mod bytes;
-mod elements;
-mod fault;
-mod form;
-mod forming;
-mod integer_vector;
-mod laws;
-mod levels;
-mod lexer;
-mod limits;
-mod piece;
-mod reader;
-mod sink;
-mod source;
-mod string;
-mod token_buffer;
-mod truncated;
-mod word;
-mod writer;
-
-pub use elements::Elements;
-pub use fault::{EdnFault, FaultKind};
-pub use form::{Form, Name};
-pub use laws::{joined_spell, lines_spell, one_reading, text_spells};
-pub use limits::fits;
-pub use piece::Piece;
-pub use reader::{MAX_LENGTH, read_forms};
-pub use sink::{Device, Failed, Out, Sink};
-pub use source::{In, Source, Supply};
-pub use writer::{WriteFault, write_bytes, write_form, write_integer};
+pub use byte_streams::{Device, Failed, In, Out, Sink, Source, Supply};
+pub use edn_reader::{
+    EdnFault, Elements, FaultKind, Form, MAX_LENGTH, Name, Piece, fits, joined_spell, lines_spell,
+    one_reading, read_forms, text_spells,
+};
+pub use edn_writer::{WriteFault, write_bytes, write_form, write_integer};

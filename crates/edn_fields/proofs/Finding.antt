@@ -2,11 +2,11 @@
 use Rattle.std.proofs.Common.{◌≡◌, ℕ, ◌+◌, ◌<◌, ◌==◌, ◌&&◌, nat_eq, Bool, true, false, cond, List, [], ◌∷◌, length, drop, Some, get_or, refl, ap, sym, ◌∙◌}
 use lib.Pointwise.{pointwise}
 use Rattle.std.proofs.lemmas.List.{drop_more}
-use Rattle.edn.specs.Datum.{entries_of}
-use Rattle.edn.specs.Names.{name_bytes}
-use Rattle.edn.specs.View.{view, pair_views}
-use Rattle.edn.specs.declared.form.Form.{Form}
-use Rattle.edn.specs.declared.form.Name.{Name}
+use Rattle.edn_reader.specs.Datum.{entries_of}
+use Rattle.edn_reader.specs.Names.{name_bytes}
+use Rattle.edn_reader.specs.View.{view, pair_views}
+use Rattle.edn_reader.specs.declared.form.Form.{Form}
+use Rattle.edn_reader.specs.declared.form.Name.{Name}
 use Rattle.edn_fields.specs.Fields.{same_bytes, value_at}
 
 pub same_bytes_is : (xs ys : List ℕ) → pointwise nat_eq xs ys ≡ same_bytes xs ys
@@ -23,8 +23,12 @@ at_place key es i e bytes l is text b test =
     let own : same_bytes key (name_bytes e.0) ≡ b = ap (same_bytes key) (sym text) ∙ sym test in
     ap (λ ds. value_at key (entries_of (pair_views ds))) whole ∙ ap (λ t. cond t (Some (view e.1)) (value_at key (entries_of (pair_views (drop (i + 1) es))))) own
 
-pub found_here : (key : List ℕ) (es : List (Name × Form)) (i : ℕ) (e : Name × Form) → i < length es → e ≡ get_or es i e → value_at key (entries_of (pair_views (drop i es))) ≡ value_at key (entries_of (pair_views es)) → (bytes : List ℕ) → bytes ≡ name_bytes e.0 → true ≡ same_bytes key bytes → Some (view e.1) ≡ value_at key (entries_of (pair_views es))
+pub found_here : (key : List ℕ) (es : List (Name × Form)) (i : ℕ) (e : Name × Form) → i < length es → e ≡ get_or es i e
+    → value_at key (entries_of (pair_views (drop i es))) ≡ value_at key (entries_of (pair_views es)) → (bytes : List ℕ) → bytes ≡ name_bytes e.0
+    → true ≡ same_bytes key bytes → Some (view e.1) ≡ value_at key (entries_of (pair_views es))
 found_here key es i e l is left bytes text test = sym (at_place key es i e bytes l is text true test) ∙ left
 
-pub passed_over : (key : List ℕ) (es : List (Name × Form)) (i : ℕ) (e : Name × Form) → i < length es → e ≡ get_or es i e → value_at key (entries_of (pair_views (drop i es))) ≡ value_at key (entries_of (pair_views es)) → (bytes : List ℕ) → bytes ≡ name_bytes e.0 → false ≡ same_bytes key bytes → value_at key (entries_of (pair_views (drop (i + 1) es))) ≡ value_at key (entries_of (pair_views es))
+pub passed_over : (key : List ℕ) (es : List (Name × Form)) (i : ℕ) (e : Name × Form) → i < length es → e ≡ get_or es i e
+    → value_at key (entries_of (pair_views (drop i es))) ≡ value_at key (entries_of (pair_views es)) → (bytes : List ℕ) → bytes ≡ name_bytes e.0
+    → false ≡ same_bytes key bytes → value_at key (entries_of (pair_views (drop (i + 1) es))) ≡ value_at key (entries_of (pair_views es))
 passed_over key es i e l is left bytes text test = sym (at_place key es i e bytes l is text false test) ∙ left

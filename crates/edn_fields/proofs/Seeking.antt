@@ -1,9 +1,9 @@
 -- The value of one key, pair by pair.
 use Rattle.std.proofs.Common.{◌≡◌, ℕ, Bool, true, false, cond, Some, List, [], ◌∷◌, ◌++◌, refl, sym, ap, subst, ◌∙◌, append_assoc}
-use Rattle.edn.specs.Datum.{keyword, Datum, atom, vector, dictionary, Entries, no_entries, entry}
-use Rattle.edn.specs.Token.{Token, open_map, close_map, leaf, tokens_of, entries_tokens}
-use Rattle.edn.specs.Pieces.{token_buffer_tokens}
-use Rattle.edn.specs.declared.Piece.{Piece}
+use Rattle.edn_reader.specs.Datum.{keyword, Datum, atom, vector, dictionary, Entries, no_entries, entry}
+use Rattle.edn_reader.specs.Token.{Token, open_map, close_map, leaf, tokens_of, entries_tokens}
+use Rattle.edn_reader.specs.Pieces.{token_buffer_tokens}
+use Rattle.edn_reader.specs.declared.Piece.{Piece}
 use Rattle.edn_fields.specs.Fields.{same_bytes, value_at}
 use Rattle.edn_fields.specs.Values.{IsValue, IsValueIn, after_one}
 use Rattle.edn_fields.specs.Operations.{NoPair}
@@ -33,7 +33,8 @@ pub left_first : (key : List ℕ) (es : Entries) (tokens : List Token) → token
 left_first key es tokens q = record { left = es; goes_on = q; same = refl }
 
 -- a pair of another key
-pub left_more : (key name : List ℕ) (es : Entries) (tokens after : List Token) (value : List Piece) → tokens ≡ leaf (atom (keyword name)) ∷ token_buffer_tokens value → after ≡ after_one (token_buffer_tokens value) → false ≡ same_bytes key name
+pub left_more : (key name : List ℕ) (es : Entries) (tokens after : List Token) (value : List Piece)
+    → tokens ≡ leaf (atom (keyword name)) ∷ token_buffer_tokens value → after ≡ after_one (token_buffer_tokens value) → false ≡ same_bytes key name
     → Left key es tokens → Left key es after
 left_more key name es tokens after value h a other l =
     let n = next_pair l.left name (token_buffer_tokens value) (sym h ∙ l.goes_on) in
@@ -44,7 +45,8 @@ left_more key name es tokens after value h a other l =
     }
 
 -- a pair of the key
-pub left_found : (key name : List ℕ) (es : Entries) (tokens : List Token) (value : List Piece) → tokens ≡ leaf (atom (keyword name)) ∷ token_buffer_tokens value → true ≡ same_bytes key name → Left key es tokens → IsValue value (value_at key es)
+pub left_found : (key name : List ℕ) (es : Entries) (tokens : List Token) (value : List Piece)
+    → tokens ≡ leaf (atom (keyword name)) ∷ token_buffer_tokens value → true ≡ same_bytes key name → Left key es tokens → IsValue value (value_at key es)
 left_found key name es tokens value h own l =
     let n = next_pair l.left name (token_buffer_tokens value) (sym h ∙ l.goes_on) in
     let e : value_at key es ≡ Some n.value = l.same ∙ ap (value_at key) n.is ∙ ap (λ (b : Bool). cond b (Some n.value) (value_at key n.later)) (sym own) in
@@ -59,7 +61,8 @@ left_none key es tokens none l = by_left l.left refl
     by_left (entry k d ds) e = absurd (none k ((tokens_of d ++ entries_tokens ds) ++ close_map ∷ []) (l.goes_on ∙ ap (λ (x : Entries). entries_tokens x ++ close_map ∷ []) e))
 
 -- tokens behind a map's bracket are those of a map
-pub value_in_map : (tokens : List Token) (key : List ℕ) (value : List Piece) → ((es : Entries) → tokens ≡ entries_tokens es ++ close_map ∷ [] → IsValue value (value_at key es)) → (d : Datum) → open_map ∷ tokens ≡ tokens_of d → IsValueIn value key d
+pub value_in_map : (tokens : List Token) (key : List ℕ) (value : List Piece)
+    → ((es : Entries) → tokens ≡ entries_tokens es ++ close_map ∷ [] → IsValue value (value_at key es)) → (d : Datum) → open_map ∷ tokens ≡ tokens_of d → IsValueIn value key d
 value_in_map tokens key value h (atom a) e = absurd cc
 value_in_map tokens key value h (vector ds) e = absurd cc
 value_in_map tokens key value h (dictionary es) e = h es cc

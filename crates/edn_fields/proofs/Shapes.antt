@@ -1,10 +1,10 @@
 -- What a value is, by its first token.
 use Rattle.std.proofs.Common.{◌≡◌, Option, Some, None, List, ◌++◌, refl, ap, ◌∙◌}
 use Rattle.std.specs.Prelude.{pos, negsuc}
-use Rattle.edn.specs.Datum.{nil, boolean, integer, string, keyword, Datum, atom, vector, dictionary}
-use Rattle.edn.specs.Token.{Token, tokens_of}
-use Rattle.edn.specs.Pieces.{token_buffer_tokens}
-use Rattle.edn.specs.declared.Piece.{Piece}
+use Rattle.edn_reader.specs.Datum.{nil, boolean, integer, string, keyword, Datum, atom, vector, dictionary}
+use Rattle.edn_reader.specs.Token.{Token, tokens_of}
+use Rattle.edn_reader.specs.Pieces.{token_buffer_tokens}
+use Rattle.edn_reader.specs.declared.Piece.{Piece}
 use Rattle.edn_fields.specs.Fields.{natural_in, keyword_in}
 use Rattle.edn_fields.specs.Values.{IsValue, natural_first, keyword_first}
 

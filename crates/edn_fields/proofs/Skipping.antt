@@ -1,7 +1,7 @@
 -- Over the tokens of a value.
 use Rattle.std.proofs.Common.{◌≡◌, ℕ, zero, suc, ◌+◌, ◌-◌, ◌<◌, List, [], ◌∷◌, ◌++◌, refl, ap, ◌∙◌, append_assoc, add-one, arith}
-use Rattle.edn.specs.Datum.{Datum, atom, vector, dictionary, Items, no_items, item, Entries, no_entries, entry}
-use Rattle.edn.specs.Token.{Token, open_vector, close_vector, open_map, close_map, leaf, tokens_of, items_tokens, entries_tokens}
+use Rattle.edn_reader.specs.Datum.{Datum, atom, vector, dictionary, Items, no_items, item, Entries, no_entries, entry}
+use Rattle.edn_reader.specs.Token.{Token, open_vector, close_vector, open_map, close_map, leaf, tokens_of, items_tokens, entries_tokens}
 use Rattle.edn_fields.specs.Values.{behind, after_one}
 
 pub behind_open_vector : (n : ℕ) (ts : List Token) → 0 < n → behind n (open_vector ∷ ts) ≡ behind (n + 1) ts

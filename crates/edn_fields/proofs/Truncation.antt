@@ -1,8 +1,8 @@
 -- The values of a map of which the beginnings are kept, and its integer vector.
 use Rattle.std.proofs.Common.{◌≡◌, ℕ, Bool, true, false, Option, Some, None, List, refl, ap, ◌∙◌}
 use Rattle.std.specs.Prelude.{option_map, option_and_then, if◌then◌else◌}
-use Rattle.edn.specs.Truncation.{truncated_value, truncated_entries, integer_vector_of, integer_vector_under}
-use Rattle.edn.specs.Datum.{Datum, atom, vector, dictionary, Entries, no_entries, entry}
+use Rattle.edn_reader.specs.Truncation.{truncated_value, truncated_entries, integer_vector_of, integer_vector_under}
+use Rattle.edn_reader.specs.Datum.{Datum, atom, vector, dictionary, Entries, no_entries, entry}
 use Rattle.edn_fields.specs.Fields.{same_bytes, value_at, natural_in, keyword_in}
 use Rattle.edn_fields.proofs.Finding.{same_bytes_is}
 
@@ -10,7 +10,8 @@ pub value_of_truncated : (k : List ℕ) (es : Entries) → value_at k (truncated
 value_of_truncated k no_entries = refl
 value_of_truncated k (entry l d es) = by_key (same_bytes k l) (value_of_truncated k es)
   where
-    by_key : (b : Bool) → value_at k (truncated_entries es) ≡ option_map truncated_value (value_at k es) → (if b then Some (truncated_value d) else value_at k (truncated_entries es)) ≡ option_map truncated_value (if b then Some d else value_at k es)
+    by_key : (b : Bool) → value_at k (truncated_entries es) ≡ option_map truncated_value (value_at k es)
+        → (if b then Some (truncated_value d) else value_at k (truncated_entries es)) ≡ option_map truncated_value (if b then Some d else value_at k es)
     by_key true e = refl
     by_key false e = e
 
@@ -32,6 +33,7 @@ integer_vector_of_value k no_entries = refl
 integer_vector_of_value k (entry l d es) =
     ap (λ (b : Bool). if b then integer_vector_of d else integer_vector_under k es) (same_bytes_is k l) ∙ by_key (same_bytes k l) (integer_vector_of_value k es)
   where
-    by_key : (b : Bool) → integer_vector_under k es ≡ option_and_then integer_vector_of (value_at k es) → (if b then integer_vector_of d else integer_vector_under k es) ≡ option_and_then integer_vector_of (if b then Some d else value_at k es)
+    by_key : (b : Bool) → integer_vector_under k es ≡ option_and_then integer_vector_of (value_at k es)
+        → (if b then integer_vector_of d else integer_vector_under k es) ≡ option_and_then integer_vector_of (if b then Some d else value_at k es)
     by_key true e = refl
     by_key false e = e

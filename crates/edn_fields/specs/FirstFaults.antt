@@ -1,7 +1,7 @@
 -- Which of a list of forms is the first with a fault, where a fault is one of a form behind those
 -- before it.
 use Rattle.std.specs.Prelude.{◌≡◌, ℕ, ◌≤◌, List, ◌∷◌, ◌++◌, length}
-use Rattle.edn.specs.Datum.{Datum}
+use Rattle.edn_reader.specs.Datum.{Datum}
 
 -- no form is faulty
 abbrev pub AreFaultless : {Kind : Type 0} → (List Datum → Datum → Kind → Type 0) → List Datum

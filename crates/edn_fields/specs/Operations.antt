@@ -1,7 +1,7 @@
 -- The values of an operation map, on a token buffer.
 use Rattle.std.specs.Prelude.{◌≡◌, ℕ, List, [], ◌∷◌, ◌++◌, codes}
-use Rattle.edn.specs.Datum.{keyword, Datum, atom, dictionary, Entries, entry, entries_of}
-use Rattle.edn.specs.Token.{Token, open_map, close_map, leaf, entries_tokens}
+use Rattle.edn_reader.specs.Datum.{keyword, Datum, atom, dictionary, Entries, entry, entries_of}
+use Rattle.edn_reader.specs.Token.{Token, open_map, close_map, leaf, entries_tokens}
 use Rattle.edn_fields.specs.Fields.{value_at}
 use Rattle.edn_fields.specs.Values.{IsValue}
 use Rattle.edn_fields.specs.declared.operation.OperationValues.{OperationValues}

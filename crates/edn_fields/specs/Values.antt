@@ -1,11 +1,13 @@
 -- The values that a map has for its keys, on a token buffer.
 use Rattle.std.specs.Prelude.{◌≡◌, pos, negsuc, ℕ, zero, suc, List, [], ◌∷◌, ◌++◌, Option, Some}
 use Rattle.std.specs.Prelude.{None}
-use Rattle.edn.specs.Datum.{nil, boolean, integer, string, keyword, Datum, atom, vector, dictionary}
-use Rattle.edn.specs.Token.{Token, open_vector, close_vector, open_map, close_map, leaf, tokens_of}
-use Rattle.edn.specs.Pieces.{token_buffer_tokens}
-use Rattle.edn.specs.Shapes.{key_in}
-use Rattle.edn.specs.declared.Piece.{Piece}
+use Rattle.edn_reader.specs.Datum.{nil, boolean, integer, string, keyword, Datum, atom, vector}
+use Rattle.edn_reader.specs.Datum.{dictionary}
+use Rattle.edn_reader.specs.Token.{Token, open_vector, close_vector, open_map, close_map, leaf}
+use Rattle.edn_reader.specs.Token.{tokens_of}
+use Rattle.edn_reader.specs.Pieces.{token_buffer_tokens}
+use Rattle.edn_reader.specs.Shapes.{key_in}
+use Rattle.edn_reader.specs.declared.Piece.{Piece}
 use Rattle.edn_fields.specs.Fields.{value_at}
 
 -- the token buffer begins with the value's tokens, or there is no value and it is empty

@@ -2,10 +2,10 @@
 #![tactic(auto)]
 
 ghost use Rattle.std.specs.Prelude.{◌≡◌, ◌<◌, ◌^◌, option_map};
-ghost use Rattle.edn.specs.Truncation.{integer_in};
-ghost use Rattle.edn.specs.Datum.{entries_of};
-ghost use Rattle.edn.specs.Names.{name_bytes};
-ghost use Rattle.edn.specs.View.{view, pair_views};
+ghost use Rattle.edn_reader.specs.Truncation.{integer_in};
+ghost use Rattle.edn_reader.specs.Datum.{entries_of};
+ghost use Rattle.edn_reader.specs.Names.{name_bytes};
+ghost use Rattle.edn_reader.specs.View.{view, pair_views};
 ghost use Rattle.edn_fields.specs.Fields as spec;
 
 mod operation;

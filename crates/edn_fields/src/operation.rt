@@ -1,9 +1,9 @@
 //! The values of an operation map, where its tokens lie on a token buffer.
 
 ghost use Rattle.std.specs.Prelude.{◌≡◌, ◌++◌, ◌∷◌, [], ℕ, List, IfSome, IfNone};
-ghost use Rattle.edn.specs.Datum.{Datum, Entries, dictionary, entries_of};
-ghost use Rattle.edn.specs.Token.{Token, tokens_of, entries_tokens, close_map};
-ghost use Rattle.edn.specs.Pieces.{token_buffer_tokens};
+ghost use Rattle.edn_reader.specs.Datum.{Datum, Entries, dictionary, entries_of};
+ghost use Rattle.edn_reader.specs.Token.{Token, tokens_of, entries_tokens, close_map};
+ghost use Rattle.edn_reader.specs.Pieces.{token_buffer_tokens};
 ghost use Rattle.edn_fields.specs.Fields.{value_at};
 ghost use Rattle.edn_fields.specs.Values.{IsValue};
 ghost use Rattle.edn_fields.specs.Operations.{HasValues, IsMapWith};

@@ -1,9 +1,9 @@
 //! The value that a map has for one key, where its tokens lie on a token buffer.
 
 ghost use Rattle.std.specs.Prelude.{◌≡◌, ◌++◌, ◌∷◌, [], IfSome, IfNone, MatchOption};
-ghost use Rattle.edn.specs.Datum.{Datum, Entries, keyword, atom, dictionary};
-ghost use Rattle.edn.specs.Token.{tokens_of, entries_tokens, leaf, open_map, close_map};
-ghost use Rattle.edn.specs.Pieces.{token_buffer_tokens};
+ghost use Rattle.edn_reader.specs.Datum.{Datum, Entries, keyword, atom, dictionary};
+ghost use Rattle.edn_reader.specs.Token.{tokens_of, entries_tokens, leaf, open_map, close_map};
+ghost use Rattle.edn_reader.specs.Pieces.{token_buffer_tokens};
 ghost use Rattle.edn_fields.specs.Fields.{value_at};
 ghost use Rattle.edn_fields.specs.Values.{IsValue, IsValueIn};
 ghost use Rattle.edn_fields.specs.Operations.{NoMap, NoPair};

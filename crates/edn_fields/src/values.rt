@@ -1,7 +1,7 @@
 //! The values that a map has for its keys, where its tokens lie on a token buffer.
 
 ghost use Rattle.std.specs.Prelude.{◌≡◌, ◌≤◌, length, option_map};
-ghost use Rattle.edn.specs.Pieces.{token_buffer_tokens};
+ghost use Rattle.edn_reader.specs.Pieces.{token_buffer_tokens};
 ghost use Rattle.edn_fields.specs.Values as spec;
 
 use edn::Piece;

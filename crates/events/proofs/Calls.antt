@@ -15,7 +15,8 @@ use Rattle.events.proofs.Runs.{State, idle, busy, closed, state_by, MayDo, Runs,
 use Rattle.events.proofs.WellFormed.{event_at}
 
 -- what stands before the responses of a process is of no matter to it
-skips : (p x : ℕ) (e : Event) (failed : Bool) (rest : List Numbered) → (e.process == p) ≡ false → response_of p x (denoted_by e.number e.process e.object e.action failed ++ rest) ≡ response_of p x rest
+skips : (p x : ℕ) (e : Event) (failed : Bool) (rest : List Numbered) → (e.process == p) ≡ false
+    → response_of p x (denoted_by e.number e.process e.object e.action failed ++ rest) ≡ response_of p x rest
 skips p x e failed rest q = go e.action failed
   where
     other : (p == e.process) ≡ false
@@ -106,10 +107,12 @@ call_kept n op (Some e) q = go e.action q
 abbrev calls_first : ℕ → Event → Option Event → List Call
 calls_first x e next = calls_of (cond (e.object == x) (begun e.number e.action (end_at next)) [])
 
-invocation_calls : (n p y : ℕ) (op : AnyOp) (x : ℕ) (es : List Event) → Runs p (busy y op) es → calls_first x (event_at n p y (Invoke op)) (next_event p es) ++ calls_on x (denoted es) ≡ calls_on x (denoted (event_at n p y (Invoke op) ∷ es))
+invocation_calls : (n p y : ℕ) (op : AnyOp) (x : ℕ) (es : List Event) → Runs p (busy y op) es
+    → calls_first x (event_at n p y (Invoke op)) (next_event p es) ++ calls_on x (denoted es) ≡ calls_on x (denoted (event_at n p y (Invoke op) ∷ es))
 invocation_calls n p y op x es runs = go (fails (next_event p es)) refl
   where
-    failed_here : fails (next_event p es) ≡ true → (here : Bool) → calls_of (cond here (record { number = n; op = op; «end» = end_at (next_event p es) } ∷ []) []) ++ calls_on x (denoted es) ≡ calls_on x (denoted es)
+    failed_here : fails (next_event p es) ≡ true → (here : Bool)
+        → calls_of (cond here (record { number = n; op = op; «end» = end_at (next_event p es) } ∷ []) []) ++ calls_on x (denoted es) ≡ calls_on x (denoted es)
     failed_here q true = ap (λ (c : Option Call). cons_option c [] ++ calls_on x (denoted es)) (call_failed n op (next_event p es) q)
     failed_here q false = refl
 
@@ -117,11 +120,14 @@ invocation_calls n p y op x es runs = go (fails (next_event p es)) refl
     own_call q = call_kept n op (next_event p es) q ∙ ap (λ (r : Option Return). Some (record { number = n; op = op; returned = r })) (sym (answered p y op es runs q))
 
     kept_here : fails (next_event p es) ≡ false → (here : Bool) → calls_of (cond here (record { number = n; op = op; «end» = end_at (next_event p es) } ∷ []) []) ++ calls_on x (denoted es)
-        ≡ map (λ (c : ProcessCall). c.call) (cond here (record { process = p; object = y; call = record { number = n; op = op; returned = response_of p y (denoted es) } } ∷ filter (λ c. c.object == x) (calls_in (denoted es))) (filter (λ c. c.object == x) (calls_in (denoted es))))
+        ≡ map (λ (c : ProcessCall). c.call)
+        (cond here (record { process = p; object = y; call = record { number = n; op = op; returned = response_of p y (denoted es) } }
+        ∷ filter (λ c. c.object == x) (calls_in (denoted es))) (filter (λ c. c.object == x) (calls_in (denoted es))))
     kept_here q true = ap (λ (c : Option Call). cons_option c [] ++ calls_on x (denoted es)) (own_call q)
     kept_here q false = refl
 
-    go : (failed : Bool) → fails (next_event p es) ≡ failed → calls_first x (event_at n p y (Invoke op)) (next_event p es) ++ calls_on x (denoted es) ≡ map (λ (c : ProcessCall). c.call) (filter (λ c. c.object == x) (calls_in (denoted_by n p y (Invoke op) failed ++ denoted es)))
+    go : (failed : Bool) → fails (next_event p es) ≡ failed → calls_first x (event_at n p y (Invoke op)) (next_event p es) ++ calls_on x (denoted es)
+        ≡ map (λ (c : ProcessCall). c.call) (filter (λ c. c.object == x) (calls_in (denoted_by n p y (Invoke op) failed ++ denoted es)))
     go true q = failed_here q (y == x)
     go false q = kept_here q (y == x)
 
@@ -133,10 +139,12 @@ no_calls x e next none = go (e.object == x)
     go true = ap calls_of none
     go false = refl
 
-first_calls : (n p y : ℕ) (a : Action) (x : ℕ) (es : List Event) → AllRun (event_at n p y a ∷ es) → calls_first x (event_at n p y a) (next_event p es) ++ calls_on x (denoted es) ≡ calls_on x (denoted (event_at n p y a ∷ es))
+first_calls : (n p y : ℕ) (a : Action) (x : ℕ) (es : List Event) → AllRun (event_at n p y a ∷ es)
+    → calls_first x (event_at n p y a) (next_event p es) ++ calls_on x (denoted es) ≡ calls_on x (denoted (event_at n p y a ∷ es))
 first_calls n p y (Invoke op) x es h = let r = h p in go r.0 r.1
   where
-    go : (s : State) → Runs p s (event_at n p y (Invoke op) ∷ es) → calls_first x (event_at n p y (Invoke op)) (next_event p es) ++ calls_on x (denoted es) ≡ calls_on x (denoted (event_at n p y (Invoke op) ∷ es))
+    go : (s : State) → Runs p s (event_at n p y (Invoke op) ∷ es)
+        → calls_first x (event_at n p y (Invoke op)) (next_event p es) ++ calls_on x (denoted es) ≡ calls_on x (denoted (event_at n p y (Invoke op) ∷ es))
     go s r = invocation_calls n p y op x es (r.0 (eq-eqb p p refl)).1
 first_calls n p y (Ok r) x es h = ap (λ t. t ++ calls_on x (denoted es)) (no_calls x (event_at n p y (Ok r)) (next_event p es) refl)
 first_calls n p y Fail x es h = ap (λ t. t ++ calls_on x (denoted es)) (no_calls x (event_at n p y Fail) (next_event p es) refl)

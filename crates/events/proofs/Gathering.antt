@@ -1,5 +1,6 @@
 -- Operations gathered by object, from the last event back.
-use Rattle.std.proofs.Common.{◌≡◌, ◌≢◌, ℕ, pos, ◌==◌, ◌+◌, ◌-◌, ◌<◌, ◌≤◌, Bool, true, false, cond, List, [], ◌∷◌, ◌++◌, length, drop, reverse, unwrap_or, Option, Some, None, get_or, refl, ap, sym, ◌∙◌, subst, arith}
+use Rattle.std.proofs.Common.{◌≡◌, ◌≢◌, ℕ, pos, ◌==◌, ◌+◌, ◌-◌, ◌<◌, ◌≤◌, Bool, true, false, cond, List, [], ◌∷◌, ◌++◌, length, drop, reverse}
+use Rattle.std.proofs.Common.{unwrap_or, Option, Some, None, get_or, refl, ap, sym, ◌∙◌, subst, arith}
 use Rattle.std.specs.Ordering.{nat_cmp, is_eq, MatchOrdering}
 use Rattle.std.specs.Cmp.{ranked}
 use Rattle.std.specs.declared.cmp.Ordering.{Ordering}
@@ -40,7 +41,8 @@ ends_more ends ends' e later h step p = step p ∙ go (e.process == p)
     go false = h p
 
 -- an event that begins no operation
-pub ahead_other : (ends ends' : ℕ → End) (kept : ℕ → Option (List Invocation)) (e : Event) (later : List Event) → IsAhead ends kept later → ((how : End) → begun e.number e.action how ≡ []) → WithEnd ends ends' e → IsAhead ends' kept (e ∷ later)
+pub ahead_other : (ends ends' : ℕ → End) (kept : ℕ → Option (List Invocation)) (e : Event) (later : List Event) → IsAhead ends kept later
+    → ((how : End) → begun e.number e.action how ≡ []) → WithEnd ends ends' e → IsAhead ends' kept (e ∷ later)
 ahead_other ends ends' kept e later h none step = record {
   ahead = ends_more ends ends' e later h.ahead step;
   gathered = λ x. subst (λ t. IsGathered (kept x) (t ++ operations_on x later)) (sym (nothing (e.object == x))) (h.gathered x);
@@ -51,21 +53,26 @@ ahead_other ends ends' kept e later h none step = record {
     nothing false = refl
 
 -- an event that begins one
-pub ahead_begun : (ends ends' : ℕ → End) (kept kept' : ℕ → Option (List Invocation)) (e : Event) (op : AnyOp) (o : Invocation) (later : List Event) → IsAhead ends kept later → e.action ≡ Invoke op → o ≡ record { number = e.number; op = op; «end» = ends e.process } → kept' e.object ≡ Some (unwrap_or (kept e.object) [] ++ o ∷ []) → ((x : ℕ) → x ≢ e.object → kept' x ≡ kept x) → WithEnd ends ends' e → IsAhead ends' kept' (e ∷ later)
+pub ahead_begun : (ends ends' : ℕ → End) (kept kept' : ℕ → Option (List Invocation)) (e : Event) (op : AnyOp) (o : Invocation) (later : List Event)
+    → IsAhead ends kept later → e.action ≡ Invoke op → o ≡ record { number = e.number; op = op; «end» = ends e.process }
+    → kept' e.object ≡ Some (unwrap_or (kept e.object) [] ++ o ∷ []) → ((x : ℕ) → x ≢ e.object → kept' x ≡ kept x) → WithEnd ends ends' e → IsAhead ends' kept' (e ∷ later)
 ahead_begun ends ends' kept kept' e op o later h invokes is own_kept others_kept step = record {
   ahead = ends_more ends ends' e later h.ahead step;
   gathered = λ x. go x (e.object == x) refl;
 }
   where
     begins : begun e.number e.action (end_at (next_event e.process later)) ≡ o ∷ []
-    begins = ap (λ a. begun e.number a (end_at (next_event e.process later))) invokes ∙ ap (λ (x : Invocation). x ∷ []) (ap (λ (n : End). record { number = e.number; op = op; «end» = n }) (sym (h.ahead e.process)) ∙ sym is)
+    begins = ap (λ a. begun e.number a (end_at (next_event e.process later))) invokes
+        ∙ ap (λ (x : Invocation). x ∷ []) (ap (λ (n : End). record { number = e.number; op = op; «end» = n }) (sym (h.ahead e.process)) ∙ sym is)
 
     one_more : (k : Option (List Invocation)) (ops : List Invocation) → IsGathered k ops → IsGathered (Some (unwrap_or k [] ++ o ∷ [])) (o ∷ ops)
     one_more None ops g = (ap (λ xs. reverse (o ∷ xs)) (sym g), λ q. cc q)
     one_more (Some xs) ops g = (ap (λ ys. ys ++ o ∷ []) g.0 ∙ sym (reverse-append (o ∷ []) ops), λ q. cc q)
 
     go : (x : ℕ) (b : Bool) → (e.object == x) ≡ b → IsGathered (kept' x) (cond b (begun e.number e.action (end_at (next_event e.process later))) [] ++ operations_on x later)
-    go x true q = subst (λ t. IsGathered (kept' x) (t ++ operations_on x later)) (sym begins) (subst (λ n. IsGathered (kept' n) (o ∷ operations_on n later)) (eqb-true e.object x q) (subst (λ k. IsGathered k (o ∷ operations_on e.object later)) (sym own_kept) (one_more (kept e.object) (operations_on e.object later) (h.gathered e.object))))
+    go x true q = subst (λ t. IsGathered (kept' x) (t ++ operations_on x later)) (sym begins)
+        (subst (λ n. IsGathered (kept' n) (o ∷ operations_on n later)) (eqb-true e.object x q)
+        (subst (λ k. IsGathered k (o ∷ operations_on e.object later)) (sym own_kept) (one_more (kept e.object) (operations_on e.object later) (h.gathered e.object))))
     go x false q = subst (λ k. IsGathered k (operations_on x later)) (sym (others_kept x (λ s. eqb-false e.object x q (sym s)))) (h.gathered x)
 
 -- an event, for a default that nothing reads

@@ -44,7 +44,8 @@ next_owned own p x op (e ∷ es) is h = go (e.process == p) refl (next_owned own
         last false = f (h.1 q)
 
 -- an own event begins the same operation
-begun_same : (own : ℕ → Bool) (n p x : ℕ) (a : Action) (es : List Event) → own x ≡ true → ((op : AnyOp) → a ≡ Invoke op → Runs p (busy x op) es) → begun n a (end_at (next_event p (owned own es))) ≡ begun n a (end_at (next_event p es))
+begun_same : (own : ℕ → Bool) (n p x : ℕ) (a : Action) (es : List Event) → own x ≡ true → ((op : AnyOp) → a ≡ Invoke op → Runs p (busy x op) es)
+    → begun n a (end_at (next_event p (owned own es))) ≡ begun n a (end_at (next_event p es))
 begun_same own n p x (Invoke op) es is h = ap (λ (o : Option Event). begun n (Invoke op) (end_at o)) (next_owned own p x op es is (h op refl))
 begun_same own n p x (Ok r) es is h = refl
 begun_same own n p x Fail es is h = refl
@@ -80,7 +81,8 @@ abbrev pub in_part : ℕ → ℕ → ℕ → Bool
 in_part part parts x = x % parts == part
 
 -- what was gathered of the events on them is what all events have
-pub gathered_in : (part parts x : ℕ) (es : List Event) (kept : Option (List Invocation)) → IsProper es → IsGathered kept (operations_on x (owned (in_part part parts) es)) → IsGathered kept (operations_in part parts x es)
+pub gathered_in : (part parts x : ℕ) (es : List Event) (kept : Option (List Invocation)) → IsProper es
+    → IsGathered kept (operations_on x (owned (in_part part parts) es)) → IsGathered kept (operations_in part parts x es)
 gathered_in part parts x es kept proper h = go (in_part part parts x) refl
   where
     go : (b : Bool) → in_part part parts x ≡ b → IsGathered kept (cond b (operations_on x es) [])

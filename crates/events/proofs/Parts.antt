@@ -26,7 +26,8 @@ begins_later : (x : ℕ) (e : Event) (es : List Event) (o : Invocation) → Begi
 begins_later x e es o b = record { event = b.event; stands = inr b.stands; on_object = b.on_object; number = b.number; invokes = b.invokes }
 
 -- the operation that an event begins, if it is on the object
-begun_here : (x : ℕ) (e : Event) (how : End) (o : Invocation) → In o (cond (e.object == x) (begun e.number e.action how) []) → (e.object ≡ x) × (e.number ≡ o.number) × (e.action ≡ Invoke o.op) × (o.«end» ≡ how)
+begun_here : (x : ℕ) (e : Event) (how : End) (o : Invocation) → In o (cond (e.object == x) (begun e.number e.action how) []) → (e.object ≡ x)
+    × (e.number ≡ o.number) × (e.action ≡ Invoke o.op) × (o.«end» ≡ how)
 begun_here x e how o i = go (e.object == x) refl i
   where
     named : (a : Action) → In o (begun e.number a how) → (e.number ≡ o.number) × (a ≡ Invoke o.op) × (o.«end» ≡ how)
@@ -58,13 +59,15 @@ operations_rising x (e ∷ es) h = go (e.object == x) (operations_rising x es h.
     above : (o : Invocation) → In o (operations_on x es) → e.number < o.number
     above o i = let b = operation_begins x es o i in let l = h.0 b.event b.stands in let q = b.number in omega arith
 
-    begun_rising : (a : Action) → Pairs (λ a b. a.number < b.number) (operations_on x es) → Pairs (λ a b. a.number < b.number) (begun e.number a (end_at (next_event e.process es)) ++ operations_on x es)
+    begun_rising : (a : Action) → Pairs (λ a b. a.number < b.number) (operations_on x es)
+        → Pairs (λ a b. a.number < b.number) (begun e.number a (end_at (next_event e.process es)) ++ operations_on x es)
     begun_rising (Invoke op) rest = (above, rest)
     begun_rising (Ok r) rest = rest
     begun_rising Fail rest = rest
     begun_rising Info rest = rest
 
-    go : (b : Bool) → Pairs (λ a b. a.number < b.number) (operations_on x es) → Pairs (λ a b. a.number < b.number) (cond b (begun e.number e.action (end_at (next_event e.process es))) [] ++ operations_on x es)
+    go : (b : Bool) → Pairs (λ a b. a.number < b.number) (operations_on x es)
+        → Pairs (λ a b. a.number < b.number) (cond b (begun e.number e.action (end_at (next_event e.process es))) [] ++ operations_on x es)
     go true rest = begun_rising e.action rest
     go false rest = rest
 
@@ -151,7 +154,8 @@ ends_after x es o h i = go o.«end» refl
 abbrev SameKind : Event → Event → Type 0
 SameKind e f = (a b : AnyOp) → e.object ≡ f.object → e.action ≡ Invoke a → f.action ≡ Invoke b → kind_of a ≡ kind_of b
 
-kind_follows : (earlier : List Event) (p x : ℕ) (a : Action) (b : AnyOp) → Follows earlier p x a → a ≡ Invoke b → (e : Event) (c : AnyOp) → In e earlier → e.object ≡ x → e.action ≡ Invoke c → kind_of c ≡ kind_of b
+kind_follows : (earlier : List Event) (p x : ℕ) (a : Action) (b : AnyOp) → Follows earlier p x a → a ≡ Invoke b → (e : Event) (c : AnyOp)
+    → In e earlier → e.object ≡ x → e.action ≡ Invoke c → kind_of c ≡ kind_of b
 kind_follows earlier p x (Invoke op) b h q e c i s t = h.1 e c (contains_from_in earlier e i) s t ∙ ap kind_of (let r : op ≡ b = cc in r)
 kind_follows earlier p x (Ok r) b h q e c i s t = absurd (cc (q))
 kind_follows earlier p x Fail b h q e c i s t = absurd (cc (q))
@@ -171,7 +175,8 @@ kind_here : (x : ℕ) (es : List Event) (o : Invocation) → Pairs SameKind es �
 kind_here x [] o h i = absurd i
 kind_here x (e ∷ es) o h i = go (e.object == x) refl (in_append o (cond (e.object == x) (begun e.number e.action (end_at (next_event e.process es))) []) (operations_on x es) i) (kind_here x es o h.1)
   where
-    own : (a : Action) → (e.object ≡ x) → e.action ≡ a → ((e.action ≡ Invoke o.op) ⊎ In o (operations_on x es)) → (In o (operations_on x es) → kind_of o.op ≡ kind_at es x) → kind_of o.op ≡ kind_in a (kind_at es x)
+    own : (a : Action) → (e.object ≡ x) → e.action ≡ a → ((e.action ≡ Invoke o.op) ⊎ In o (operations_on x es))
+        → (In o (operations_on x es) → kind_of o.op ≡ kind_at es x) → kind_of o.op ≡ kind_in a (kind_at es x)
     own (Invoke op) s q (inl t) f = ap kind_of (let r : Invoke op ≡ Invoke o.op = sym q ∙ t in let u : o.op ≡ op = cc in u)
     own (Invoke op) s q (inr j) f = let b = operation_begins x es o j in sym (h.0 b.event b.stands op o.op (s ∙ sym b.on_object) q b.invokes)
     own (Ok r) s q (inl t) f = let u : Ok r ≡ Invoke o.op = sym q ∙ t in absurd (cc u)
@@ -181,7 +186,8 @@ kind_here x (e ∷ es) o h i = go (e.object == x) refl (in_append o (cond (e.obj
     own Info s q (inl t) f = let u : Info ≡ Invoke o.op = sym q ∙ t in absurd (cc u)
     own Info s q (inr j) f = f j
 
-    go : (b : Bool) → (e.object == x) ≡ b → In o (cond (e.object == x) (begun e.number e.action (end_at (next_event e.process es))) []) ⊎ In o (operations_on x es) → (In o (operations_on x es) → kind_of o.op ≡ kind_at es x) → kind_of o.op ≡ cond b (kind_in e.action (kind_at es x)) (kind_at es x)
+    go : (b : Bool) → (e.object == x) ≡ b → In o (cond (e.object == x) (begun e.number e.action (end_at (next_event e.process es))) [])
+        ⊎ In o (operations_on x es) → (In o (operations_on x es) → kind_of o.op ≡ kind_at es x) → kind_of o.op ≡ cond b (kind_in e.action (kind_at es x)) (kind_at es x)
     go true q (inl j) f = own e.action (eqb-true e.object x q) refl (inl (begun_here x e (end_at (next_event e.process es)) o j).2) f
     go true q (inr j) f = own e.action (eqb-true e.object x q) refl (inr j) f
     go false q (inl j) f = let s : (e.object == x) ≡ true = eq-eqb e.object x (begun_here x e (end_at (next_event e.process es)) o j).0 in absurd (cc (q, s))

@@ -131,7 +131,8 @@ leaves p (e ∷ es) s h = go (e.process == p) refl (λ t. leaves p es t)
     go : (b : Bool) → (e.process == p) ≡ b → ((t : State) → Runs p t es → Leaves p t es) → Leaves p s (e ∷ es)
     go true q later =
         let own_event : e.process ≡ p = eqb-true e.process p q in
-        subst (λ n. Leaves n (state_by e.object e.action) es → Leaves n s (e ∷ es)) own_event (leaves_own e.number e.process e.object e.action es s (h.0 q).0) (later (state_by e.object e.action) (h.0 q).1)
+        subst (λ n. Leaves n (state_by e.object e.action) es → Leaves n s (e ∷ es)) own_event
+        (leaves_own e.number e.process e.object e.action es s (h.0 q).0) (later (state_by e.object e.action) (h.0 q).1)
     go false q later = leaves_other p e es s q (later s (h.1 q))
 
 -- ---- numbers

@@ -1,9 +1,9 @@
 -- The forms read so far.
 use Rattle.std.proofs.Common.{◌≡◌, ℕ, ◌+◌, ◌<◌, ◌≤◌, ◌⊎◌, inl, inr, List, [], ◌∷◌, ◌++◌, length, take, drop, get_or, map, zero, suc, append_assoc, zero-add, refl, ap, sym, ◌∙◌, subst, arith}
 use Rattle.std.proofs.lemmas.List.{append-nil, take_more, take_all}
-use Rattle.edn.specs.Datum.{Datum}
-use Rattle.edn.specs.View.{view, views}
-use Rattle.edn.specs.declared.form.Form.{Form}
+use Rattle.edn_reader.specs.Datum.{Datum}
+use Rattle.edn_reader.specs.View.{view, views}
+use Rattle.edn_reader.specs.declared.form.Form.{Form}
 use Rattle.events.specs.declared.event.Event.{Event}
 use Rattle.history.specs.declared.seen.Seen.{Seen}
 use Rattle.history.specs.declared.fault.HistoryFault.{HistoryFault}
@@ -26,7 +26,8 @@ events_push n (x ∷ ds) d =
     ∙ ap (λ k. (event_of n (client_of x) ++ events_from (n + 1) ds) ++ event_of k (client_of d)) (let e : n + 1 + length ds ≡ n + length (x ∷ ds) = omega arith in e))
 
 -- a split of a longer list
-split_push : (ds : List Datum) (d : Datum) (earlier later : List Datum) (e : Datum) → ds ++ d ∷ [] ≡ earlier ++ e ∷ later → ((earlier ≡ ds) × (e ≡ d)) ⊎ ((rest : List Datum) × (ds ≡ earlier ++ e ∷ rest))
+split_push : (ds : List Datum) (d : Datum) (earlier later : List Datum) (e : Datum) → ds ++ d ∷ [] ≡ earlier ++ e ∷ later → ((earlier ≡ ds) × (e ≡ d))
+    ⊎ ((rest : List Datum) × (ds ≡ earlier ++ e ∷ rest))
 split_push [] d [] later e q = inl (refl, let s : d ≡ e = cc in sym s)
 split_push [] d (x ∷ earlier) later e q = absurd (no_tail earlier (let s : [] ≡ earlier ++ e ∷ later = cc in s))
   where
@@ -56,17 +57,20 @@ one_more fs i f l is = ap views (take_more fs i f l) ∙ (map-append view (take 
     map-append g [] ys = refl
     map-append g (x ∷ xs) ys = ap (λ zs. g x ∷ zs) (map-append g xs ys)
 
-pub faultless_more : (seen : Seen) (fs : List Form) (i : ℕ) (f : Form) (es : List Event) → i < length fs → f ≡ get_or fs i f → IsSoFar seen (views (take i fs)) es → HasNoFault (views (take i fs)) (view f) → IsFaultless (views (take (i + 1) fs))
+pub faultless_more : (seen : Seen) (fs : List Form) (i : ℕ) (f : Form) (es : List Event) → i < length fs → f ≡ get_or fs i f
+    → IsSoFar seen (views (take i fs)) es → HasNoFault (views (take i fs)) (view f) → IsFaultless (views (take (i + 1) fs))
 faultless_more seen fs i f es l is h none = subst IsFaultless (sym (one_more fs i f l is)) (faultless_push (views (take i fs)) (view f) h.faultless none)
 
 -- one form more
-pub one_read : (old new : Seen) (fs : List Form) (i : ℕ) (f : Form) (es more : List Event) → i < length fs → f ≡ get_or fs i f → IsSoFar old (views (take i fs)) es → IsRead old new (views (take i fs)) (view f) more → IsSoFar new (views (take (i + 1) fs)) (es ++ more)
+pub one_read : (old new : Seen) (fs : List Form) (i : ℕ) (f : Form) (es more : List Event) → i < length fs → f ≡ get_or fs i f
+    → IsSoFar old (views (take i fs)) es → IsRead old new (views (take i fs)) (view f) more → IsSoFar new (views (take (i + 1) fs)) (es ++ more)
 one_read old new fs i f es more l is h r =
     let ds = views (take i fs) in
     subst (λ xs. IsSoFar new xs (es ++ more)) (sym (one_more fs i f l is)) (record {
       kept = r.seen;
       faultless = faultless_push ds (view f) h.faultless r.no_fault;
-      events = ap (λ x. x ++ more) h.events ∙ (ap (λ x. events_from 0 ds ++ x) r.events ∙ sym (events_push 0 ds (view f) ∙ ap (λ k. events_from 0 ds ++ event_of k (client_of (view f))) (zero-add (length ds))));
+      events = ap (λ x. x ++ more) h.events
+          ∙ (ap (λ x. events_from 0 ds ++ x) r.events ∙ sym (events_push 0 ds (view f) ∙ ap (λ k. events_from 0 ds ++ event_of k (client_of (view f))) (zero-add (length ds))));
     })
 
 -- the length of the forms so far is the number of the next
@@ -75,7 +79,8 @@ number_is [] i l = absurd (omega arith)
 number_is (f ∷ fs) zero l = refl
 number_is (f ∷ fs) (suc i) l = ap suc (number_is fs i (omega arith))
 
-pub first_fault : (seen : Seen) (fs : List Form) (i : ℕ) (f : Form) (es : List Event) (k : HistoryFaultKind) → i < length fs → f ≡ get_or fs i f → IsSoFar seen (views (take i fs)) es → HasFirst (views (take i fs)) (view f) k → IsFirstFault (views fs) (record { kind = k; map = i })
+pub first_fault : (seen : Seen) (fs : List Form) (i : ℕ) (f : Form) (es : List Event) (k : HistoryFaultKind) → i < length fs → f ≡ get_or fs i f
+    → IsSoFar seen (views (take i fs)) es → HasFirst (views (take i fs)) (view f) k → IsFirstFault (views fs) (record { kind = k; map = i })
 first_fault seen fs i f es k l is h first = record {
   earlier = views (take i fs);
   form = view f;

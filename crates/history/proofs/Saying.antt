@@ -1,12 +1,12 @@
 -- What a form says, by its entries or by its tokens.
 use Rattle.std.proofs.Common.{◌≡◌, ℕ, ℤ, ◌==◌, true, false, Option, Some, None, IfSome, List, [], ◌∷◌, ◌++◌, length, codes, refl, sym, ap, subst, ◌∙◌}
 use Rattle.std.specs.Prelude.{option_map, option_and_then, is_some}
-use Rattle.edn.specs.Truncation.{integer_in}
-use Rattle.edn.specs.Datum.{nil, boolean, integer, string, keyword, Datum, atom, vector, dictionary, Items, no_items, item, Entries}
-use Rattle.edn.specs.Token.{Token, close_vector, leaf, tokens_of, items_tokens}
-use Rattle.edn.specs.Pieces.{token_buffer_tokens}
-use Rattle.edn.specs.declared.Piece.{Piece}
-use Rattle.edn.proofs.Prefixes.{not_nothing}
+use Rattle.edn_reader.specs.Truncation.{integer_in}
+use Rattle.edn_reader.specs.Datum.{nil, boolean, integer, string, keyword, Datum, atom, vector, dictionary, Items, no_items, item, Entries}
+use Rattle.edn_reader.specs.Token.{Token, close_vector, leaf, tokens_of, items_tokens}
+use Rattle.edn_reader.specs.Pieces.{token_buffer_tokens}
+use Rattle.edn_reader.specs.declared.Piece.{Piece}
+use Rattle.edn_reader.proofs.Prefixes.{not_nothing}
 use Rattle.seq_objects.specs.declared.value.Value.{Value}
 use Rattle.seq_objects.specs.declared.value.Value.TheVariants.{Pair}
 use Rattle.edn_fields.specs.Fields.{value_at, natural_in, keyword_in, object_in, value_in}
@@ -36,7 +36,8 @@ no_second a b no_items e = by_first (integer_in a)
     by_first (Some x) = rw e refl
 no_second a b (item d ds) e = refl
 
-second_by : (x : ℤ) (b : Datum) (ds : Items) (ts : List Token) → pair_first (leaf (atom (integer x)) ∷ (((tokens_of b ++ items_tokens ds) ++ close_vector ∷ []) ++ ts)) ≡ pair_in (item (atom (integer x)) (item b ds))
+second_by : (x : ℤ) (b : Datum) (ds : Items) (ts : List Token)
+    → pair_first (leaf (atom (integer x)) ∷ (((tokens_of b ++ items_tokens ds) ++ close_vector ∷ []) ++ ts)) ≡ pair_in (item (atom (integer x)) (item b ds))
 second_by x (atom nil) ds ts = no_second (atom (integer x)) (atom nil) ds refl
 second_by x (atom (boolean b)) ds ts = no_second (atom (integer x)) (atom (boolean b)) ds refl
 second_by x (atom (string s)) ds ts = no_second (atom (integer x)) (atom (string s)) ds refl
@@ -99,7 +100,8 @@ client_is r p t f x v es map value ep et ef ex ev =
     ∙ ap (λ (y : Option ℕ). client_with (natural_in (value_at (codes "process") es)) (spec.type_in (value_at (codes "type") es)) (keyword_in (value_at (codes "f") es)) y w) ex in
     by_result r e value
   where
-    by_result : (o : Option ClientMap) → option_map (λ (c : ClientMap). client_map c (value_in (value_at (codes "value") es))) o ≡ client_in es → IfSome o (λ c. c.value ≡ v) → IsClient o (client_in es)
+    by_result : (o : Option ClientMap) → option_map (λ (c : ClientMap). client_map c (value_in (value_at (codes "value") es))) o ≡ client_in es
+        → IfSome o (λ c. c.value ≡ v) → IsClient o (client_in es)
     by_result None e h = sym e
     by_result (Some c) e h = (value_in (value_at (codes "value") es), sym e, sym (h ∙ ev))
 
@@ -111,8 +113,10 @@ no_map tokens h (dictionary es) e = absurd (h es e)
 pub a_client : (v : OperationValues) (d : Datum) (c : ClientMap) → IsMapWith v d → ((es : Entries) → HasValues v es → IsClient (Some c) (client_in es)) → Says (OfClient c) d
 a_client v d c (es, q, h) k = subst (λ (x : Datum). Says (OfClient c) x) (sym q) (k es h)
 
-pub an_ignored : (v : OperationValues) (d : Datum) → IsMapWith v d → ((es : Entries) → HasValues v es → IsClient None (client_in es)) → is_some (keyword_first (token_buffer_tokens v.process.now)) ≡ true → Says Ignored d
+pub an_ignored : (v : OperationValues) (d : Datum) → IsMapWith v d → ((es : Entries) → HasValues v es → IsClient None (client_in es))
+    → is_some (keyword_first (token_buffer_tokens v.process.now)) ≡ true → Says Ignored d
 an_ignored v d (es, q, h) k e = subst (λ (x : Datum). Says Ignored x) (sym q) (k es h, sym (ap is_some (keyword_is v.process.now (value_at (codes "process") es) h.process)) ∙ e)
 
-pub neither : (v : OperationValues) (d : Datum) → IsMapWith v d → ((es : Entries) → HasValues v es → IsClient None (client_in es)) → is_some (keyword_first (token_buffer_tokens v.process.now)) ≡ false → Says Neither d
+pub neither : (v : OperationValues) (d : Datum) → IsMapWith v d → ((es : Entries) → HasValues v es → IsClient None (client_in es))
+    → is_some (keyword_first (token_buffer_tokens v.process.now)) ≡ false → Says Neither d
 neither v d (es, q, h) k e = subst (λ (x : Datum). Says Neither x) (sym q) (k es h, sym (ap is_some (keyword_is v.process.now (value_at (codes "process") es) h.process)) ∙ e)

@@ -2,7 +2,7 @@
 use Rattle.std.proofs.Common.{◌≡◌, ◌≢◌, ℕ, ◌+◌, ◌<◌, ◌≤◌, true, Option, Some, None, List, [], ◌∷◌, ◌++◌, length, take, refl, sym, ap, subst, ◌∙◌, zero-add, arith}
 use Rattle.std.specs.Option.{is_some}
 use Rattle.std.proofs.lemmas.List.{length-append, take_all, take-append-le}
-use Rattle.edn.specs.Datum.{Datum}
+use Rattle.edn_reader.specs.Datum.{Datum}
 use Rattle.edn_fields.proofs.FirstFaults.{first_more}
 use Rattle.events.specs.declared.event.Event.{Event}
 use Rattle.events.specs.Events.{IsProper}
@@ -56,17 +56,20 @@ pub are_read : (r : Reading) (ds : List Datum) → r.fault ≡ None → IsReadin
 are_read r ds e h = subst (λ (o : Option HistoryFault). IsReadOrFaulty o r.seen r.map ds r.events.items) e h
 
 -- one map more
-pub one_more : (old new : Seen) (number : ℕ) (ds : List Datum) (d : Datum) (es more : List Event) → AreRead old number ds es → IsRead old new ds d more → AreRead new (number + 1) (ds ++ d ∷ []) (es ++ more)
+pub one_more : (old new : Seen) (number : ℕ) (ds : List Datum) (d : Datum) (es more : List Event) → AreRead old number ds es
+    → IsRead old new ds d more → AreRead new (number + 1) (ds ++ d ∷ []) (es ++ more)
 one_more old new number ds d es more h r =
     record {
       kept = r.seen;
       faultless = faultless_push ds d h.faultless r.no_fault;
-      events = ap (λ (x : List Event). x ++ more) h.events ∙ (ap (λ (x : List Event). events_from 0 ds ++ x) r.events ∙ sym (events_push 0 ds d ∙ ap (λ (k : ℕ). events_from 0 ds ++ event_of k (client_of d)) (zero-add (length ds))));
+      events = ap (λ (x : List Event). x ++ more) h.events
+          ∙ (ap (λ (x : List Event). events_from 0 ds ++ x) r.events ∙ sym (events_push 0 ds d ∙ ap (λ (k : ℕ). events_from 0 ds ++ event_of k (client_of d)) (zero-add (length ds))));
       count = omega (arith, length-append ds (d ∷ []), h.count);
     }
 
 -- what is wrong with the map behind those that were read
-pub found : (seen : Seen) (number : ℕ) (ds : List Datum) (d : Datum) (es : List Event) (k : HistoryFaultKind) → AreRead seen number ds es → (k ≢ NoMemory → HasFirst ds d k) → (k ≡ NoMemory → HasNoFault ds d) → IsFoundIn (ds ++ d ∷ []) (record { kind = k; map = number })
+pub found : (seen : Seen) (number : ℕ) (ds : List Datum) (d : Datum) (es : List Event) (k : HistoryFaultKind) → AreRead seen number ds es
+    → (k ≢ NoMemory → HasFirst ds d k) → (k ≡ NoMemory → HasNoFault ds d) → IsFoundIn (ds ++ d ∷ []) (record { kind = k; map = number })
 found seen number ds d es k h first none = (
   λ n. (let f = first n in record { earlier = ds; form = d; later = []; split = refl; place = h.count; stands = f.stands; least = h.faultless; first = f.first }),
   λ m. (

@@ -5,7 +5,7 @@ pub mod Texts
 pub mod Faults
 pub mod Seen
 pub mod Denotes
-pub use Rattle.edn.specs.Datum
-pub use Rattle.edn.specs.View
+pub use Rattle.edn_reader.specs.Datum
+pub use Rattle.edn_reader.specs.View
 pub use Rattle.events.specs.Events
 pub use Rattle.events.specs.Operations

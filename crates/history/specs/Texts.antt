@@ -1,9 +1,9 @@
 -- What is wrong with a history's text, and how far it is read.
 use Rattle.std.specs.Prelude.{◌≡◌, ◌≢◌, ℕ, ◌+◌, ◌<◌, ◌⊎◌, List, length, take, Option, Some, None}
-use Rattle.edn.specs.Datum.{Datum}
-use Rattle.edn.specs.Sound.{IsShort, IsSoundAt, IsUnreadable}
-use Rattle.edn.specs.Spells.{Spells}
-use Rattle.edn.specs.declared.fault.FaultKind.TheVariants as edn_kind
+use Rattle.edn_reader.specs.Datum.{Datum}
+use Rattle.edn_reader.specs.Sound.{IsShort, IsSoundAt, IsUnreadable}
+use Rattle.edn_reader.specs.Spells.{Spells}
+use Rattle.edn_reader.specs.declared.fault.FaultKind.TheVariants as edn_kind
 use Rattle.events.specs.declared.event.Event.{Event}
 use Rattle.history.specs.declared.seen.Seen.{Seen}
 use Rattle.history.specs.declared.fault.HistoryFault.{HistoryFault}

@@ -1,12 +1,13 @@
 //! From a text to a history, element by element.
 
-ghost use Rattle.std.specs.Prelude.{◌≡◌, ◌≢◌, ◌<◌, ◌+◌, ◌++◌, ◌∷◌, [], List, length, IfOk, IfErr, OnOk, MatchResult};
-ghost use Rattle.edn.specs.Truncation.{truncated};
-ghost use Rattle.edn.specs.Datum.{Datum};
-ghost use Rattle.edn.specs.Pieces.{token_buffer_tokens};
-ghost use Rattle.edn.specs.Sound.{IsShort};
-ghost use Rattle.edn.specs.Spells.{Spells};
-ghost use Rattle.edn.specs.Token.{tokens_of};
+ghost use Rattle.std.specs.Prelude.{◌≡◌, ◌≢◌, ◌<◌, ◌+◌, ◌++◌, ◌∷◌, [], List, length, IfOk, IfErr};
+ghost use Rattle.std.specs.Prelude.{OnOk, MatchResult};
+ghost use Rattle.edn_reader.specs.Truncation.{truncated};
+ghost use Rattle.edn_reader.specs.Datum.{Datum};
+ghost use Rattle.edn_reader.specs.Pieces.{token_buffer_tokens};
+ghost use Rattle.edn_reader.specs.Sound.{IsShort};
+ghost use Rattle.edn_reader.specs.Spells.{Spells};
+ghost use Rattle.edn_reader.specs.Token.{tokens_of};
 ghost use Rattle.events.specs.declared.event.Event.{Event};
 ghost use Rattle.history.specs.Denotes.{Denotes};
 ghost use Rattle.history.specs.Texts.{IsFoundIn, IsTextFault};

@@ -2,8 +2,8 @@
 
 ghost use Rattle.std.specs.Prelude.{All, IfOk, IsTrue};
 ghost use Rattle.certificate.specs.Denotes.{AreDistinct};
-ghost use Rattle.edn.specs.Datum.{Fits, max_open};
-ghost use Rattle.edn.specs.View.{view};
+ghost use Rattle.edn_reader.specs.Datum.{Fits, max_open};
+ghost use Rattle.edn_reader.specs.View.{view};
 
 use certificate::{Certificate, read_certificates_text};
 use edn::{Form, fits};

@@ -1,7 +1,7 @@
 -- Texts denote one history at most, and certificates that say one thing at most.
 use Rattle.std.proofs.Common.{◌≡◌, ◌∙◌, ℕ, List, [], ◌∷◌, Some, Option, inl, inr, refl, ap, sym, subst, map}
-use Rattle.edn.specs.Datum.{Datum}
-use Rattle.edn.specs.Spells.{Spells}
+use Rattle.edn_reader.specs.Datum.{Datum}
+use Rattle.edn_reader.specs.Spells.{Spells}
 use Rattle.events.specs.declared.event.Event.{Event}
 use Rattle.events.specs.Events.{IsNamed, kind_at, denoted}
 use Rattle.history.specs.Denotes as history_meaning

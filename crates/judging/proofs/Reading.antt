@@ -1,9 +1,9 @@
 -- What stops the reading of a history, and of certificates.
 use Rattle.std.proofs.Common.{◌≡◌, ℕ, ◌<◌, List, length, inl, inr, refl, subst, sym, arith}
-use Rattle.edn.specs.Datum.{Datum, max_length}
-use Rattle.edn.specs.Sound.{IsShort}
-use Rattle.edn.specs.declared.fault.EdnFault.{EdnFault}
-use Rattle.edn.proofs.Progress.{one_reading_of}
+use Rattle.edn_reader.specs.Datum.{Datum, max_length}
+use Rattle.edn_reader.specs.Sound.{IsShort}
+use Rattle.edn_reader.specs.declared.fault.EdnFault.{EdnFault}
+use Rattle.edn_reader.proofs.Progress.{one_reading_of}
 use Rattle.events.specs.declared.event.Event.{Event}
 use Rattle.history.specs.Denotes.{Denotes}
 use Rattle.history.specs.Texts.{IsTextFault}

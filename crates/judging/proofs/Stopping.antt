@@ -2,7 +2,7 @@
 use Rattle.std.proofs.Common.{◌≡◌, ◌∙◌, List, ℕ, Result, Ok, Err, IfErr, sym}
 use Rattle.events.specs.declared.event.Event.{Event}
 use Rattle.certificate.specs.declared.Certificate.{Certificate}
-use Rattle.edn.specs.Sound.{IsShort}
+use Rattle.edn_reader.specs.Sound.{IsShort}
 use Rattle.judging.specs.Texts.{DenotesHistory, DenotesCertificates, AreValidTexts}
 use Rattle.judging.specs.declared.texts.TextFailure.{TextFailure}
 use Rattle.judging.specs.declared.texts.TextFailure.TheVariants.{NoMemory}

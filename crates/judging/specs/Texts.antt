@@ -3,10 +3,10 @@
 use Rattle.std.specs.Prelude.{◌≡◌, ◌≢◌, ℕ, ◌⊎◌, List, length, map, Result, IfOk, IfErr}
 use Rattle.report.specs.declared.verdict.Summary.{Summary}
 use Rattle.report.specs.Counts.{operations_in, objects_in, kinds_in, uses, count_of}
-use Rattle.edn.specs.Datum.{Datum}
-use Rattle.edn.specs.Sound.{IsShort, IsSoundAt, IsUnreadable}
-use Rattle.edn.specs.Spells.{Spells}
-use Rattle.edn.specs.declared.fault.FaultKind.TheVariants as edn_kind
+use Rattle.edn_reader.specs.Datum.{Datum}
+use Rattle.edn_reader.specs.Sound.{IsShort, IsSoundAt, IsUnreadable}
+use Rattle.edn_reader.specs.Spells.{Spells}
+use Rattle.edn_reader.specs.declared.fault.FaultKind.TheVariants as edn_kind
 use Rattle.history.specs.declared.fault.HistoryFaultKind.TheVariants as history_kind
 use Rattle.certificate.specs.declared.fault.CertFaultKind.TheVariants as certificate_kind
 use Rattle.events.specs.declared.event.Event.{Event}

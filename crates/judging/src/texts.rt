@@ -4,7 +4,7 @@ ghost use Rattle.std.specs.Prelude.{◌≡◌, List, map, IfOk, IfErr, MatchBool
 ghost use Rattle.events.specs.declared.event.Event.{Event};
 ghost use Rattle.certificate.specs.declared.Certificate.{Certificate};
 ghost use Rattle.certificate.specs.Denotes.{AreDistinct, reading_of};
-ghost use Rattle.edn.specs.Sound.{IsShort};
+ghost use Rattle.edn_reader.specs.Sound.{IsShort};
 ghost use Rattle.judging.specs.Texts.{DenotesHistory, DenotesCertificates, DenoteOnly, AreValidTexts, WantsMemory, IsFailureOf, IsHistoryFault, IsCertificatesFault, IsHistoryRead, AreCertificatesRead, verdict_of};
 ghost use Rattle.judging.specs.Verdicts.{Judges};
 

@@ -48,7 +48,15 @@ no_more (e ∷ f ∷ es) r s = absurd (no_match e f r.0 s.0)
 
 -- the last operation, pending or with its late response
 last_ended : (p n x : ℕ) (op : AnyOp) (es : List Event) → Responses es → IsSequential (Inv p x op ∷ es) → Completed (at n (Inv p x op) ∷ []) (complete (Inv p x op ∷ es))
-last_ended p n x op [] r s = record { list = []; events_are = refl; rest = calls_in (at n (Inv p x op) ∷ []); front = refl; recorded = λ e r i q. absurd i; whole = λ o r i q. absurd (pending o r i q) }
+last_ended p n x op [] r s = record {
+  list = [];
+  events_are = refl;
+  rest = calls_in (at n (Inv p x op) ∷ []);
+  front = refl;
+  recorded =
+      λ e r i q. absurd i;
+  whole = λ o r i q. absurd (pending o r i q);
+}
   where
     pending : (o : ProcessCall) (r : Return) → In o (calls_in (at n (Inv p x op) ∷ [])) → o.call.returned ≡ Some r → ⊥
     pending o r i q = elim i [ inl e ↦ let no : None ≡ Some r = sym (ap (λ (y : ProcessCall). y.call.returned) e) ∙ q in cc no | inr j ↦ j ]
@@ -72,7 +80,9 @@ last_ended p n x op (Res q y v ∷ es) r s =
     })))
 
 pub completed_any : (p : ℕ) (h : List Numbered) (es : List Event) → Turns p h → Responses es → IsSequential (events h ++ es) → Completed h (complete (events h ++ es))
-completed_any p h es none r s = subst (λ (k : List Event). Completed [] (complete k)) (sym (no_more es r s)) (record { list = []; events_are = refl; rest = []; front = refl; recorded = λ e r i q. absurd i; whole = λ o r i q. absurd i })
+completed_any p h es none r s =
+    subst (λ (k : List Event). Completed [] (complete k)) (sym (no_more es r s))
+    (record { list = []; events_are = refl; rest = []; front = refl; recorded = λ e r i q. absurd i; whole = λ o r i q. absurd i })
 completed_any p h es (last n x op) r s = last_ended p n x op es r s
 completed_any p h es (call n x op m v rest t) r s =
     let below = completed_any p rest es t r s.1 in
@@ -84,13 +94,15 @@ completed_any p h es (call n x op m v rest t) r s =
       rest = below.rest;
       front = os ∙ ap (λ ys. o ∷ ys) below.front;
       recorded = λ e r i q. elim i [
-        | inl t ↦ let same : Some (record { at = m; reply = v }) ≡ Some r = sym (ap (λ (y : Ended). y.made.call.returned) t) ∙ q in ap (λ (y : Ended). y.reply) t ∙ ap (λ (y : Return). y.reply) (same_Some (record { at = m; reply = v }) r same)
+        | inl t ↦ let same : Some (record { at = m; reply = v }) ≡ Some r = sym (ap (λ (y : Ended). y.made.call.returned) t) ∙ q in
+            ap (λ (y : Ended). y.reply) t ∙ ap (λ (y : Return). y.reply) (same_Some (record { at = m; reply = v }) r same)
         | inr j ↦ below.recorded e r j q
       ];
       whole = λ w r i q. found o w r (subst (In w) os i) q below;
     }
   where
-    found : (o w : ProcessCall) (r : Return) → In w (o ∷ calls_in rest) → w.call.returned ≡ Some r → (b : Completed rest (complete (events rest ++ es))) → (e : Ended) × In e (record { made = o; reply = v } ∷ b.list) × (e.made ≡ w)
+    found : (o w : ProcessCall) (r : Return) → In w (o ∷ calls_in rest) → w.call.returned ≡ Some r
+        → (b : Completed rest (complete (events rest ++ es))) → (e : Ended) × In e (record { made = o; reply = v } ∷ b.list) × (e.made ≡ w)
     found o w r i q b = elim i [ inl t ↦ (record { made = o; reply = v }, inl refl, sym t) | inr j ↦ let e = b.whole w r j q in (e.0, inr e.1, e.2) ]
 
 ended_nil : (es : List Ended) → ended_events es ≡ [] → es ≡ []
@@ -107,7 +119,8 @@ pub record Lined (s : List Event) (q : ℕ → List Ended) : Type 0 where
 abbrev popped : ℕ → List Ended → (ℕ → List Ended) → ℕ → List Ended
 popped p es q k = cond (k == p) es (q k)
 
-lined_step : (e f : Event) (s : List Event) (q : ℕ → List Ended) (o : Ended) (os : List Ended) → q (process_of e) ≡ o ∷ os → e ∷ f ∷ by_process (process_of e) s ≡ ended_events (o ∷ os) → o.made.process ≡ process_of e → process_of f ≡ process_of e
+lined_step : (e f : Event) (s : List Event) (q : ℕ → List Ended) (o : Ended) (os : List Ended) → q (process_of e) ≡ o ∷ os
+    → e ∷ f ∷ by_process (process_of e) s ≡ ended_events (o ∷ os) → o.made.process ≡ process_of e → process_of f ≡ process_of e
     → ((q : ℕ → List Ended) → ((p : ℕ) → by_process p s ≡ ended_events (q p)) → ((p : ℕ) (o : Ended) → In o (q p) → o.made.process ≡ p) → Lined s q)
     → ((p : ℕ) → by_process p (e ∷ f ∷ s) ≡ ended_events (q p)) → ((p : ℕ) (o : Ended) → In o (q p) → o.made.process ≡ p) → Lined (e ∷ f ∷ s) q
 lined_step e f s q o os head same mine pair below all owned =
@@ -130,7 +143,8 @@ lined_step e f s q o os head same mine pair below all owned =
       | false ↦ λ t x i. owned k x i
     ] in
     let rest = below q' (λ k. here k (k == p) refl) (λ k x i. owns k (k == p) refl x i) in
-    let whole : (k : ℕ) (b : Bool) → (k == p) ≡ b → filter (λ e. e.made.process == k) rest.line ≡ cond b os (q k) → cond (o.made.process == k) (o ∷ filter (λ e. e.made.process == k) rest.line) (filter (λ e. e.made.process == k) rest.line) ≡ q k =
+    let whole : (k : ℕ) (b : Bool) → (k == p) ≡ b → filter (λ e. e.made.process == k) rest.line ≡ cond b os (q k)
+    → cond (o.made.process == k) (o ∷ filter (λ e. e.made.process == k) rest.line) (filter (λ e. e.made.process == k) rest.line) ≡ q k =
     λ k. elim [
       | true ↦ λ t r.
           let at_k : (o.made.process == k) ≡ true = eq-eqb o.made.process k (mine ∙ sym (eqb-true k p t)) in
@@ -167,6 +181,8 @@ lined (e ∷ []) sq q all owned =
     odd (o ∷ os) h = cc h
 lined (e ∷ f ∷ s) sq q all owned = go (q (process_of e)) refl (λ q. lined s sq.1 q)
   where
-    go : (os : List Ended) → q (process_of e) ≡ os → ((q : ℕ → List Ended) → ((p : ℕ) → by_process p s ≡ ended_events (q p)) → ((p : ℕ) (o : Ended) → In o (q p) → o.made.process ≡ p) → Lined s q) → Lined (e ∷ f ∷ s) q
+    go : (os : List Ended) → q (process_of e) ≡ os
+        → ((q : ℕ → List Ended) → ((p : ℕ) → by_process p s ≡ ended_events (q p)) → ((p : ℕ) (o : Ended) → In o (q p) → o.made.process ≡ p) → Lined s q) → Lined (e ∷ f ∷ s) q
     go [] h below = let bad : e ∷ f ∷ by_process (process_of e) s ≡ [] = sym (own_events e f s (same_process e f sq.0)) ∙ (all (process_of e) ∙ ap ended_events h) in absurd (cc bad)
-    go (o ∷ os) h below = lined_step e f s q o os h (sym (own_events e f s (same_process e f sq.0)) ∙ (all (process_of e) ∙ ap ended_events h)) (owned (process_of e) o (subst (In o) (sym h) (inl refl))) (same_process e f sq.0) below all owned
+    go (o ∷ os) h below = lined_step e f s q o os h (sym (own_events e f s (same_process e f sq.0)) ∙ (all (process_of e) ∙ ap ended_events h))
+        (owned (process_of e) o (subst (In o) (sym h) (inl refl))) (same_process e f sq.0) below all owned

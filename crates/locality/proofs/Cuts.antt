@@ -1,5 +1,6 @@
 -- Cutting histories: to a process or an object, and at a moment.
-use Rattle.std.proofs.Common.{◌≡◌, ℕ, suc, ◌<◌, ◌≤◌, ◌==◌, ◌&&◌, ◌||◌, nat_lt, Bool, true, false, not, cond, inl, inr, List, [], ◌∷◌, ◌++◌, length, filter, Option, Some, None, is_some, refl, ap, sym, ◌∙◌, subst, arith}
+use Rattle.std.proofs.Common.{◌≡◌, ℕ, suc, ◌<◌, ◌≤◌, ◌==◌, ◌&&◌, ◌||◌, nat_lt, Bool, true, false, not, cond, inl, inr, List, [], ◌∷◌, ◌++◌, length}
+use Rattle.std.proofs.Common.{filter, Option, Some, None, is_some, refl, ap, sym, ◌∙◌, subst, arith}
 use Rattle.std.specs.List.{flat_map, list_any}
 use Rattle.std.proofs.lemmas.List.{append-nil}
 use Rattle.std.proofs.lemmas.List.Elements.{filter-append}
@@ -31,7 +32,8 @@ not_less [] b m x u i = elim i [ inl e ↦ omega (arith, ap (λ (k : Numbered). 
 not_less (y ∷ a) b m x u i = not_less a b m x u.1 i
 
 -- where a test keeps all of what f gives of some elements, and nothing of the others
-pub filter_pieces : {X Y : Type 0} (q : Y → Bool) (s : X → Bool) (f : X → List Y) (xs : List X) → ((x : X) → s x ≡ true → filter q (f x) ≡ f x) → ((x : X) → s x ≡ false → filter q (f x) ≡ []) → filter q (flat_map f xs) ≡ flat_map f (filter s xs)
+pub filter_pieces : {X Y : Type 0} (q : Y → Bool) (s : X → Bool) (f : X → List Y) (xs : List X) → ((x : X) → s x ≡ true → filter q (f x) ≡ f x)
+    → ((x : X) → s x ≡ false → filter q (f x) ≡ []) → filter q (flat_map f xs) ≡ flat_map f (filter s xs)
 filter_pieces {X} q s f xs all none =
     filter-flat_map q f xs
     ∙ (sym (flat_map_filter (λ x. filter q (f x)) s xs (λ x i e. none x e))
@@ -40,13 +42,17 @@ filter_pieces {X} q s f xs all none =
     passes : (x : X) (xs : List X) → In x (filter s xs) → s x ≡ true
     passes x xs i = in_filter_passes s x xs i
 
-both_kept : (q : Event → Bool) (e : ProcessCall) (g : Option AnyReply) (b : Bool) → ((v : Event) → process_of v ≡ e.process → object_of v ≡ e.object → q v ≡ b) → filter q (done e g) ≡ cond b (done e g) []
+both_kept : (q : Event → Bool) (e : ProcessCall) (g : Option AnyReply) (b : Bool)
+    → ((v : Event) → process_of v ≡ e.process → object_of v ≡ e.object → q v ≡ b) → filter q (done e g) ≡ cond b (done e g) []
 both_kept q e None true h = refl
 both_kept q e None false h = refl
-both_kept q e (Some r) true h = filter_all q (done e (Some r)) (λ v i. elim i [ inl s ↦ h v (ap process_of s) (ap object_of s) | inr j ↦ elim j [ inl s ↦ h v (ap process_of s) (ap object_of s) | inr k ↦ absurd k ] ])
-both_kept q e (Some r) false h = filter_none q (done e (Some r)) (λ v i. elim i [ inl s ↦ h v (ap process_of s) (ap object_of s) | inr j ↦ elim j [ inl s ↦ h v (ap process_of s) (ap object_of s) | inr k ↦ absurd k ] ])
+both_kept q e (Some r) true h =
+    filter_all q (done e (Some r)) (λ v i. elim i [ inl s ↦ h v (ap process_of s) (ap object_of s) | inr j ↦ elim j [ inl s ↦ h v (ap process_of s) (ap object_of s) | inr k ↦ absurd k ] ])
+both_kept q e (Some r) false h =
+    filter_none q (done e (Some r)) (λ v i. elim i [ inl s ↦ h v (ap process_of s) (ap object_of s) | inr j ↦ elim j [ inl s ↦ h v (ap process_of s) (ap object_of s) | inr k ↦ absurd k ] ])
 
-late_kept : (q : Event → Bool) (e : ProcessCall) (o : Option Return) (g : Option AnyReply) (b : Bool) → ((v : Event) → process_of v ≡ e.process → object_of v ≡ e.object → q v ≡ b) → filter q (late e o g) ≡ cond b (late e o g) []
+late_kept : (q : Event → Bool) (e : ProcessCall) (o : Option Return) (g : Option AnyReply) (b : Bool)
+    → ((v : Event) → process_of v ≡ e.process → object_of v ≡ e.object → q v ≡ b) → filter q (late e o g) ≡ cond b (late e o g) []
 late_kept q e (Some r) g true h = refl
 late_kept q e (Some r) g false h = refl
 late_kept q e None None true h = refl
@@ -99,7 +105,8 @@ complete_of_process p (e ∷ h) =
             rest ∙ sym (ap (λ b. cond b (complete (by_process p h)) (e ∷ complete (by_process p h))) d')
         | false ↦ λ d.
             let d' : is_pending e (by_process p h) ≡ false = ap (λ b. is_invocation e && not b) (any_of_process p e h s) ∙ d in
-            ap (λ b. cond b (e ∷ by_process p (complete h)) (by_process p (complete h))) s ∙ (ap (λ es. e ∷ es) rest ∙ sym (ap (λ b. cond b (complete (by_process p h)) (e ∷ complete (by_process p h))) d'))
+            ap (λ b. cond b (e ∷ by_process p (complete h)) (by_process p (complete h))) s
+            ∙ (ap (λ es. e ∷ es) rest ∙ sym (ap (λ b. cond b (complete (by_process p h)) (e ∷ complete (by_process p h))) d'))
       ]
       | false ↦ λ s. elim [
         | true ↦ λ d. rest
@@ -120,46 +127,60 @@ pub length_filter_events : (q : Event → Bool) (h : List Numbered) → length (
 length_filter_events q [] = refl
 length_filter_events q (m ∷ h) =
     let rest = length_filter_events q h in
-    elim (q m.event) as (λ b. length (cond b (m.event ∷ filter q (events h)) (filter q (events h))) ≡ length (cond b (m ∷ filter (λ m. q m.event) h) (filter (λ m. q m.event) h))) [ true ↦ ap suc rest | false ↦ rest ]
+    elim (q m.event) as (λ b. length (cond b (m.event ∷ filter q (events h)) (filter q (events h)))
+    ≡ length (cond b (m ∷ filter (λ m. q m.event) h) (filter (λ m. q m.event) h))) [ true ↦ ap suc rest | false ↦ rest ]
 
 pairs_across : (R : Numbered → Numbered → Type 0) (a b : List Numbered) (x y : Numbered) → Pairs R (a ++ b) → In x a → In y b → R x y
 pairs_across R [] b x y h i j = absurd i
 pairs_across R (z ∷ a) b x y h i j = elim i [ inl e ↦ subst (λ w. R w y) (sym e) (h.0 y (in_right y a b j)) | inr k ↦ pairs_across R a b x y h.1 k j ]
 
 -- what stands before an event is what has a lesser number
-pub filter_before : (q : Numbered → Bool) (a : List Numbered) (m : Numbered) (b : List Numbered) → Pairs (λ x y. x.number < y.number) (a ++ m ∷ b) → filter q a ≡ filter (λ k. q k && nat_lt k.number m.number) (a ++ m ∷ b)
+pub filter_before : (q : Numbered → Bool) (a : List Numbered) (m : Numbered) (b : List Numbered) → Pairs (λ x y. x.number < y.number) (a ++ m ∷ b)
+    → filter q a ≡ filter (λ k. q k && nat_lt k.number m.number) (a ++ m ∷ b)
 filter_before q a m b u =
     let r : Numbered → Bool = λ k. q k && nat_lt k.number m.number in
-    let low : filter q a ≡ filter r a = filter_same q r a (λ x i. sym (and_true (q x) (nat_lt x.number m.number) (lt-ltb x.number m.number (pairs_across (λ x y. x.number < y.number) a (m ∷ b) x m u i (inl refl))))) in
+    let low : filter q a ≡ filter r a =
+    filter_same q r a (λ x i. sym (and_true (q x) (nat_lt x.number m.number) (lt-ltb x.number m.number (pairs_across (λ x y. x.number < y.number) a (m ∷ b) x m u i (inl refl))))) in
     let high : filter r (m ∷ b) ≡ [] = filter_none r (m ∷ b) (λ x i. and_right (q x) (nat_lt x.number m.number) (le-ltb x.number m.number (not_less a b m x u i))) in
     low ∙ (sym (append-nil (filter r a)) ∙ (ap (λ ks. filter r a ++ ks) (sym high) ∙ sym (filter-append r a (m ∷ b))))
 
 -- the invocations of a process, and its responses, are in its part
 pub invokes_of_process : (p : ℕ) (h : List Event) → filter (invokes p) (by_process p h) ≡ filter (invokes p) h
-invokes_of_process p h = filter-filter (invokes p) (λ e. process_of e == p) h ∙ filter_same (λ e. (process_of e == p) && invokes p e) (invokes p) h (λ e i. absorbs (process_of e == p) (is_invocation e))
+invokes_of_process p h = filter-filter (invokes p) (λ e. process_of e == p) h
+    ∙ filter_same (λ e. (process_of e == p) && invokes p e) (invokes p) h (λ e i. absorbs (process_of e == p) (is_invocation e))
 
 pub responds_in_part : (p t : ℕ) (h : List Numbered) → filter (λ m. responds p m.event && nat_lt m.number t) (part p h) ≡ filter (λ m. responds p m.event && nat_lt m.number t) h
-responds_in_part p t h = filter-filter (λ m. responds p m.event && nat_lt m.number t) (λ m. process_of m.event == p) h ∙ filter_same (λ m. (process_of m.event == p) && (responds p m.event && nat_lt m.number t)) (λ m. responds p m.event && nat_lt m.number t) h (λ m i. absorbs_more (process_of m.event == p) (not (is_invocation m.event)) (nat_lt m.number t))
+responds_in_part p t h = filter-filter (λ m. responds p m.event && nat_lt m.number t) (λ m. process_of m.event == p) h
+    ∙ filter_same (λ m. (process_of m.event == p) && (responds p m.event && nat_lt m.number t)) (λ m. responds p m.event && nat_lt m.number t) h
+    (λ m i. absorbs_more (process_of m.event == p) (not (is_invocation m.event)) (nat_lt m.number t))
 
 -- each operation that is given a reply invokes once and responds once
-pub invokes_dones : (p : ℕ) (give : ProcessCall → Option AnyReply) (os : List ProcessCall) → ((e : ProcessCall) → In e os → is_some (give e) ≡ true) → length (filter (invokes p) (dones give os)) ≡ length (filter (λ e. e.process == p) os)
+pub invokes_dones : (p : ℕ) (give : ProcessCall → Option AnyReply) (os : List ProcessCall) → ((e : ProcessCall) → In e os → is_some (give e) ≡ true)
+    → length (filter (invokes p) (dones give os)) ≡ length (filter (λ e. e.process == p) os)
 invokes_dones p give [] f = refl
 invokes_dones p give (e ∷ os) f =
     let rest = invokes_dones p give os (λ y i. f y (inr i)) in
-    let here : (g : Option AnyReply) → is_some g ≡ true → length (filter (invokes p) (done e g ++ dones give os)) ≡ length (cond (e.process == p) (e ∷ filter (λ e. e.process == p) os) (filter (λ e. e.process == p) os)) =
+    let here : (g : Option AnyReply) → is_some g ≡ true
+    → length (filter (invokes p) (done e g ++ dones give os)) ≡ length (cond (e.process == p) (e ∷ filter (λ e. e.process == p) os) (filter (λ e. e.process == p) os)) =
     elim [
       | None ↦ λ s. absurd (cc s)
-      | Some r ↦ λ s. elim (e.process == p) as (λ b. length (cond b (Inv e.process e.object e.call.op ∷ filter (invokes p) (dones give os)) (filter (invokes p) (dones give os))) ≡ length (cond b (e ∷ filter (λ e. e.process == p) os) (filter (λ e. e.process == p) os))) [ true ↦ ap suc rest | false ↦ rest ]
+      | Some r ↦ λ s. elim (e.process == p) as
+          (λ b. length (cond b (Inv e.process e.object e.call.op ∷ filter (invokes p) (dones give os)) (filter (invokes p) (dones give os)))
+          ≡ length (cond b (e ∷ filter (λ e. e.process == p) os) (filter (λ e. e.process == p) os))) [ true ↦ ap suc rest | false ↦ rest ]
     ] in
     here (give e) (f e (inl refl))
 
-pub responds_dones : (p : ℕ) (give : ProcessCall → Option AnyReply) (os : List ProcessCall) → ((e : ProcessCall) → In e os → is_some (give e) ≡ true) → length (filter (responds p) (dones give os)) ≡ length (filter (λ e. e.process == p) os)
+pub responds_dones : (p : ℕ) (give : ProcessCall → Option AnyReply) (os : List ProcessCall) → ((e : ProcessCall) → In e os → is_some (give e) ≡ true)
+    → length (filter (responds p) (dones give os)) ≡ length (filter (λ e. e.process == p) os)
 responds_dones p give [] f = refl
 responds_dones p give (e ∷ os) f =
     let rest = responds_dones p give os (λ y i. f y (inr i)) in
-    let here : (g : Option AnyReply) → is_some g ≡ true → length (filter (responds p) (done e g ++ dones give os)) ≡ length (cond (e.process == p) (e ∷ filter (λ e. e.process == p) os) (filter (λ e. e.process == p) os)) =
+    let here : (g : Option AnyReply) → is_some g ≡ true
+    → length (filter (responds p) (done e g ++ dones give os)) ≡ length (cond (e.process == p) (e ∷ filter (λ e. e.process == p) os) (filter (λ e. e.process == p) os)) =
     elim [
       | None ↦ λ s. absurd (cc s)
-      | Some r ↦ λ s. elim (e.process == p) as (λ b. length (cond b (Res e.process e.object r ∷ filter (responds p) (dones give os)) (filter (responds p) (dones give os))) ≡ length (cond b (e ∷ filter (λ e. e.process == p) os) (filter (λ e. e.process == p) os))) [ true ↦ ap suc rest | false ↦ rest ]
+      | Some r ↦ λ s. elim (e.process == p) as
+          (λ b. length (cond b (Res e.process e.object r ∷ filter (responds p) (dones give os)) (filter (responds p) (dones give os)))
+          ≡ length (cond b (e ∷ filter (λ e. e.process == p) os) (filter (λ e. e.process == p) os))) [ true ↦ ap suc rest | false ↦ rest ]
     ] in
     here (give e) (f e (inl refl))

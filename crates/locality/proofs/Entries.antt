@@ -1,6 +1,7 @@
 -- A valid order as a list of operations, by recursion; the points and the replies along it. The point of an entry is
 -- the greatest number of an invocation up to it: where it may be taken to have had its effect.
-use Rattle.std.proofs.Common.{◌≡◌, ◌≢◌, ℕ, ℤ, pos, ◌<◌, ◌≤◌, ◌==◌, max, Bool, true, false, cond, ◌⊎◌, inl, inr, List, [], ◌∷◌, ◌++◌, map, Option, Some, None, IfSome, IsSome, Contains, refl, ap, sym, ◌∙◌, subst, arith}
+use Rattle.std.proofs.Common.{◌≡◌, ◌≢◌, ℕ, ℤ, pos, ◌<◌, ◌≤◌, ◌==◌, max, Bool, true, false, cond, ◌⊎◌, inl, inr, List, [], ◌∷◌, ◌++◌, map, Option}
+use Rattle.std.proofs.Common.{Some, None, IfSome, IsSome, Contains, refl, ap, sym, ◌∙◌, subst, arith}
 use Rattle.std.specs.List.{flat_map}
 use Rattle.std.proofs.lemmas.Bool.{eqb-true, ne_eqb, eq-eqb, and_from}
 use Rattle.model.specs.declared.Kind.{Kind}
@@ -90,7 +91,8 @@ point_from m (f ∷ es) e o i =
     ]
 
 -- the point of an entry that returned is not after its return, where none stands behind one that it precedes
-pub point_before : (m : ℕ) (es : List ProcessCall) (e : ProcessCall) (r : Return) → Once es → Pairs (λ a b. ReturnsBefore b.call a.call → ⊥) es → In e es → e.call.returned ≡ Some r → number_of e ≤ r.at → m ≤ r.at → point_in m es (number_of e) ≤ r.at
+pub point_before : (m : ℕ) (es : List ProcessCall) (e : ProcessCall) (r : Return) → Once es → Pairs (λ a b. ReturnsBefore b.call a.call → ⊥) es
+    → In e es → e.call.returned ≡ Some r → number_of e ≤ r.at → m ≤ r.at → point_in m es (number_of e) ≤ r.at
 point_before m [] e r o p i q l k = absurd i
 point_before m (f ∷ es) e r o p i q l k = elim i [
   | inl s ↦ let h = point_here m f es in let t : number_of e ≡ number_of f = ap number_of s in
@@ -119,7 +121,8 @@ given_entry c (e ∷ es) h n r g =
     here (number_of e == n) refl g
 
 -- it is the reply that is recorded
-pub give_recorded : (c : Content) (es : List ProcessCall) (h : RepliesAlong c (calls es)) (e : ProcessCall) (r : Return) → Once es → In e es → e.call.returned ≡ Some r → give_in c es h (number_of e) ≡ Some r.reply
+pub give_recorded : (c : Content) (es : List ProcessCall) (h : RepliesAlong c (calls es)) (e : ProcessCall) (r : Return) → Once es → In e es
+    → e.call.returned ≡ Some r → give_in c es h (number_of e) ≡ Some r.reply
 give_recorded c [] h e r o i q = absurd i
 give_recorded c (f ∷ es) h e r o i q = elim i [
   | inl s ↦
@@ -135,7 +138,8 @@ done e None = []
 done e (Some r) = Inv e.process e.object e.call.op ∷ Res e.process e.object r ∷ []
 
 -- the entries with the replies that they are given follow `next`
-pub replies_from : (c : Content) (es : List ProcessCall) (h : RepliesAlong c (calls es)) (give : ProcessCall → Option AnyReply) → Once es → ((e : ProcessCall) → In e es → give e ≡ give_in c es h (number_of e)) → RepliesFrom c (flat_map (λ e. done e (give e)) es)
+pub replies_from : (c : Content) (es : List ProcessCall) (h : RepliesAlong c (calls es)) (give : ProcessCall → Option AnyReply) → Once es
+    → ((e : ProcessCall) → In e es → give e ≡ give_in c es h (number_of e)) → RepliesFrom c (flat_map (λ e. done e (give e)) es)
 replies_from c [] h give o g = tt
 replies_from c (e ∷ es) h give o g =
     let same : give e ≡ Some h.1 = g e (inl refl) ∙ give_here c e es h in
@@ -167,14 +171,16 @@ lifted ops (c ∷ cs) h =
     let rest = lifted ops cs (λ d i. h d (inr i)) in
     (e.0 ∷ rest.0, cc (rest.1, e.2), λ f i. elim i [ inl q ↦ subst (λ (g : ProcessCall). In g ops) (sym q) e.1 | inr j ↦ rest.2 f j ])
 
-pub valid_entries : (kind : Kind) (ops : List ProcessCall) (order : List ℤ) → Pairs (λ a b. number_of a < number_of b) ops → IsValidOrder kind (calls ops) order → (es : List ProcessCall) × ValidEntries kind ops es
+pub valid_entries : (kind : Kind) (ops : List ProcessCall) (order : List ℤ) → Pairs (λ a b. number_of a < number_of b) ops
+    → IsValidOrder kind (calls ops) order → (es : List ProcessCall) × ValidEntries kind ops es
 valid_entries kind ops order up v =
     let l = lifted ops v.entries (all_at (Contains (calls ops)) v.entries v.known) in
     let es : List ProcessCall = l.0 in
     let same : calls es ≡ v.entries = l.1 in
     let numbers : order ≡ map (λ (c : Call). pos c.number) (calls es) = v.numbers ∙ ap (map (λ (c : Call). pos c.number)) (sym same) in
     let once_order : Pairs (λ (a b : ℤ). a ≢ b) (map (λ (c : Call). pos c.number) (calls es)) = subst (Pairs (λ (a b : ℤ). a ≢ b)) numbers (pairs_from_all (λ (a b : ℤ). a ≢ b) order v.once) in
-    let in_order_calls : Pairs (λ (a b : Call). ReturnsBefore b a → ⊥) (calls es) = subst (Pairs (λ (a b : Call). ReturnsBefore b a → ⊥)) (sym same) (pairs_from_all (λ (a b : Call). ReturnsBefore b a → ⊥) v.entries v.in_order) in (
+    let in_order_calls : Pairs (λ (a b : Call). ReturnsBefore b a → ⊥) (calls es) =
+    subst (Pairs (λ (a b : Call). ReturnsBefore b a → ⊥)) (sym same) (pairs_from_all (λ (a b : Call). ReturnsBefore b a → ⊥) v.entries v.in_order) in (
       es,
       record {
         among = l.2;
@@ -183,7 +189,9 @@ valid_entries kind ops order up v =
         in_order = pairs_from_map (λ (a b : Call). ReturnsBefore b a → ⊥) (λ (e : ProcessCall). e.call) es in_order_calls;
         replies = subst (RepliesAlong (empty kind)) (sym same) v.replies;
         whole = λ e r i q.
-            let stands : Contains v.entries e.call = all_at (λ (c : Call). IsSome c.returned → Contains v.entries c) (calls ops) v.whole e.call (in_map_from (λ (e : ProcessCall). e.call) e ops i) (subst (λ (x : Option Return). IsSome x) (sym q) refl) in
+            let stands : Contains v.entries e.call =
+            all_at (λ (c : Call). IsSome c.returned → Contains v.entries c) (calls ops) v.whole e.call
+            (in_map_from (λ (e : ProcessCall). e.call) e ops i) (subst (λ (x : Option Return). IsSome x) (sym q) refl) in
             let f = in_map (λ (e : ProcessCall). e.call) e.call es (subst (In e.call) (sym same) (in_from_contains v.entries e.call stands)) in
             let one : e ≡ f.0 = one_number number_of ops e f.0 up i (l.2 f.0 f.1) (ap (λ (c : Call). c.number) f.2) in
             subst (λ (g : ProcessCall). In g es) (sym one) f.1;

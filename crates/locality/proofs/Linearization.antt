@@ -1,5 +1,6 @@
 -- Valid orders of all objects make the history linearizable.
-use Rattle.std.proofs.Common.{◌≡◌, ◌≢◌, ℕ, ◌<◌, ◌≤◌, ◌==◌, ◌&&◌, nat_lt, Bool, true, false, not, inl, inr, List, [], ◌∷◌, ◌++◌, length, filter, Option, Some, None, is_some, refl, ap, sym, ◌∙◌, subst, arith}
+use Rattle.std.proofs.Common.{◌≡◌, ◌≢◌, ℕ, ◌<◌, ◌≤◌, ◌==◌, ◌&&◌, nat_lt, Bool, true, false, not, inl, inr, List, [], ◌∷◌, ◌++◌, length, filter}
+use Rattle.std.proofs.Common.{Option, Some, None, is_some, refl, ap, sym, ◌∙◌, subst, arith}
 use Rattle.std.proofs.lemmas.List.{append-nil}
 use Rattle.std.proofs.lemmas.List.Concat.{flat_map-append}
 use Rattle.std.proofs.lemmas.List.Elements.{filter-append}
@@ -10,16 +11,22 @@ use Rattle.model.specs.Objects.{empty}
 use Rattle.model.specs.Histories.{Event, process_of, is_invocation, by_process, by_object, complete, invokes, responds, IsSequential, IsWellFormed, IsEquivalent, Operation, IsOperation, Precedes}
 use Rattle.model.specs.Linearizable.{RepliesFrom, IsLegal, IsLinearizable}
 use Rattle.model.specs.Orders.{Numbered, events, Return, ProcessCall, calls_in, IsHistory}
-use Rattle.model.proofs.Lists.{In, Pairs, in_filter, in_filter_passes, in_filter_from, pairs_filter, pairs_weaker, filter-filter, filter_same, flat_map_filter, below_split, length_filter_le, in_flat_map, all_from_in}
+use Rattle.model.proofs.Lists.{In, Pairs, in_filter, in_filter_passes, in_filter_from, pairs_filter, pairs_weaker, filter-filter, filter_same}
+use Rattle.model.proofs.Lists.{flat_map_filter, below_split, length_filter_le, in_flat_map, all_from_in}
 use Rattle.locality.specs.Locality.{HasValidOrder}
 use Rattle.locality.proofs.Merge.{ObjectOrders, line, line_in, line_of_object, line_of_process, line_points, one_number}
-use Rattle.locality.proofs.Entries.{number_of, point_in, give_in, point_own, points_rise, point_from, point_before, give_some, given_entry, give_recorded, done, replies_from, done_sequential, ValidEntries, valid_entries}
-use Rattle.locality.proofs.ProcessHistories.{part, events-part, calls_in-part, late, added, dones, completed, extended, Agrees, calls_rise, returns_after, Before, one_after_another, is_back, responses_before, invocations_before, turn_view, rise, up, part_up}
+use Rattle.locality.proofs.Entries.{number_of, point_in, give_in, point_own, points_rise, point_from, point_before, give_some, given_entry}
+use Rattle.locality.proofs.Entries.{give_recorded, done, replies_from, done_sequential, ValidEntries, valid_entries}
+use Rattle.locality.proofs.ProcessHistories.{part, events-part, calls_in-part, late, added, dones, completed, extended, Agrees, calls_rise}
+use Rattle.locality.proofs.ProcessHistories.{returns_after, Before, one_after_another, is_back, responses_before, invocations_before, turn_view, rise}
+use Rattle.locality.proofs.ProcessHistories.{up, part_up}
 use Rattle.locality.proofs.Moments.{Moment, moment_from, precedes_from}
-use Rattle.locality.proofs.Cuts.{dones_of_process, dones_of_object, added_of_process, complete_of_process, cut_numbered, length_filter_events, filter_before, invokes_of_process, responds_in_part, invokes_dones, responds_dones}
+use Rattle.locality.proofs.Cuts.{dones_of_process, dones_of_object, added_of_process, complete_of_process, cut_numbered, length_filter_events}
+use Rattle.locality.proofs.Cuts.{filter_before, invokes_of_process, responds_in_part, invokes_dones, responds_dones}
 
 -- what holds of each two holds of two in their order
-pairs_ordered : (R : ProcessCall → ProcessCall → Type 0) (os : List ProcessCall) (a b : ProcessCall) → Pairs (λ a b. number_of a < number_of b) os → Pairs R os → In a os → In b os → number_of a < number_of b → R a b
+pairs_ordered : (R : ProcessCall → ProcessCall → Type 0) (os : List ProcessCall) (a b : ProcessCall) → Pairs (λ a b. number_of a < number_of b) os
+    → Pairs R os → In a os → In b os → number_of a < number_of b → R a b
 pairs_ordered R [] a b u h i j l = absurd i
 pairs_ordered R (o ∷ os) a b u h i j l = elim i [
   | inl s ↦ elim j [ inl t ↦ let x = ap number_of s in let y = ap number_of t in absurd (omega arith) | inr k ↦ subst (λ z. R z b) (sym s) (h.0 b k) ]
@@ -103,7 +110,8 @@ module _ (kinds : ℕ → Kind) (h : List Numbered) (hist : IsHistory h) (entrie
       let all = calls_in-part b.process h in
       let i' : In a ops = subst (In a) (sym all) (in_filter_from (λ o. o.process == b.process) a (calls_in h) i (eq-eqb a.process b.process p)) in
       let j' : In b ops = subst (In b) (sym all) (in_filter_from (λ o. o.process == b.process) b (calls_in h) j (eq-eqb b.process b.process refl)) in
-      let before = pairs_ordered Before ops a b (calls_rise (part b.process h) (part_up h hist b.process)) (one_after_another b.process (part b.process h) (turn_view h hist b.process) (part_up h hist b.process)) i' j' l in
+      let before = pairs_ordered Before ops a b (calls_rise (part b.process h) (part_up h hist b.process))
+      (one_after_another b.process (part b.process h) (turn_view h hist b.process) (part_up h hist b.process)) i' j' l in
       let x = point_returns a before.0 (entry_from a i s) before.1 in
       let y = before.2 in
       let z = point_own 0 (entries b.object) b (good b.object).once (entry_from b j t) in
@@ -207,12 +215,14 @@ module _ (kinds : ℕ → Kind) (h : List Numbered) (hist : IsHistory h) (entrie
   below_stands t e i = merged_stands e (in_filter (λ e. nat_lt (point e) t) e merged i)
 
   -- what has returned before the moment t stands below it in the line
-  returned_below : (p : ℕ) (a : List Numbered) (m : Numbered) (b : List Numbered) → h ≡ a ++ m ∷ b → length (filter (responds p) (events a)) ≤ length (filter (responds p) (dones give (below m.number)))
+  returned_below : (p : ℕ) (a : List Numbered) (m : Numbered) (b : List Numbered) → h ≡ a ++ m ∷ b
+      → length (filter (responds p) (events a)) ≤ length (filter (responds p) (dones give (below m.number)))
   returned_below p a m b cut =
       let t : ℕ = m.number in
       let u : Pairs (λ (x y : Numbered). x.number < y.number) (a ++ m ∷ b) = subst (Pairs (λ (x y : Numbered). x.number < y.number)) cut (up h hist) in
       let e1 : length (filter (responds p) (events a)) ≡ length (filter (λ k. responds p k.event) a) = length_filter_events (responds p) a in
-      let e2 : length (filter (λ k. responds p k.event) a) ≡ length (filter (λ k. responds p k.event && nat_lt k.number t) h) = ap length (filter_before (λ k. responds p k.event) a m b u) ∙ ap (λ hs. length (filter (λ k. responds p k.event && nat_lt k.number t) hs)) (sym cut) in
+      let e2 : length (filter (λ k. responds p k.event) a) ≡ length (filter (λ k. responds p k.event && nat_lt k.number t) h) =
+      ap length (filter_before (λ k. responds p k.event) a m b u) ∙ ap (λ hs. length (filter (λ k. responds p k.event && nat_lt k.number t) hs)) (sym cut) in
       let e3 : length (filter (λ k. responds p k.event && nat_lt k.number t) (part p h)) ≡ length (filter (λ k. responds p k.event && nat_lt k.number t) h) = ap length (responds_in_part p t h) in
       let e4 = responses_before p t (part p h) (turn_view h hist p) in
       let e5 : length (filter (λ e. is_back t e.call.returned) (calls_in (part p h))) ≡ length (filter (λ e. (e.process == p) && is_back t e.call.returned) (calls_in h)) =
@@ -236,7 +246,8 @@ module _ (kinds : ℕ → Kind) (h : List Numbered) (hist : IsHistory h) (entrie
       let t : ℕ = m.number in
       let u : Pairs (λ (x y : Numbered). x.number < y.number) (a ++ m ∷ b) = subst (Pairs (λ (x y : Numbered). x.number < y.number)) cut (up h hist) in
       let e1 : length (filter (invokes p) (events a)) ≡ length (filter (λ k. invokes p k.event) a) = length_filter_events (invokes p) a in
-      let e2 : length (filter (λ k. invokes p k.event) a) ≡ length (filter (λ k. invokes p k.event && nat_lt k.number t) h) = ap length (filter_before (λ k. invokes p k.event) a m b u) ∙ ap (λ hs. length (filter (λ k. invokes p k.event && nat_lt k.number t) hs)) (sym cut) in
+      let e2 : length (filter (λ k. invokes p k.event) a) ≡ length (filter (λ k. invokes p k.event && nat_lt k.number t) h) =
+      ap length (filter_before (λ k. invokes p k.event) a m b u) ∙ ap (λ hs. length (filter (λ k. invokes p k.event && nat_lt k.number t) hs)) (sym cut) in
       let e3 = invocations_before p t h in
       let e4 : length (filter (λ e. ((e.process == p) && stands e) && nat_lt (point e) t) (calls_in h)) ≤ length (filter (λ e. (e.process == p) && nat_lt (number_of e) t) (calls_in h)) =
       length_filter_le (λ e. ((e.process == p) && stands e) && nat_lt (point e) t) (λ e. (e.process == p) && nat_lt (number_of e) t) (calls_in h)
@@ -280,7 +291,9 @@ module _ (kinds : ℕ → Kind) (h : List Numbered) (hist : IsHistory h) (entrie
           precedes_from sequence e f (record {
             front = dones give (below k.number);
             rest = dones give (filter (λ e. not (nat_lt (point e) k.number)) merged);
-            whole = ap (dones give) (below_split point k.number merged (line_points number_of (λ e. e.process) (λ e. e.object) point stands (calls_in h) entries orders)) ∙ flat_map-append (λ e. done e (give e)) (below k.number) (filter (λ e. not (nat_lt (point e) k.number)) merged);
+            whole = ap (dones give) (below_split point k.number merged
+                (line_points number_of (λ e. e.process) (λ e. e.object) point stands (calls_in h) entries orders))
+                ∙ flat_map-append (λ e. done e (give e)) (below k.number) (filter (λ e. not (nat_lt (point e) k.number)) merged);
             returned = omega arith;
             waiting = omega arith;
             begun = begun_in_both f j;
@@ -299,5 +312,6 @@ module _ (kinds : ℕ → Kind) (h : List Numbered) (hist : IsHistory h) (entrie
 
 pub locality_lem : (kinds : ℕ → Kind) (h : List Numbered) → IsHistory h → ((x : ℕ) → HasValidOrder kinds h x) → IsLinearizable kinds (events h)
 locality_lem kinds h hist valid =
-    let each : (x : ℕ) → (es : List ProcessCall) × ValidEntries (kinds x) (on x h) es = λ x. valid_entries (kinds x) (on x h) (valid x).0 (pairs_filter (λ a b. number_of a < number_of b) (λ e. e.object == x) (calls_in h) (rise h hist)) (valid x).1 in
+    let each : (x : ℕ) → (es : List ProcessCall) × ValidEntries (kinds x) (on x h) es =
+    λ x. valid_entries (kinds x) (on x h) (valid x).0 (pairs_filter (λ a b. number_of a < number_of b) (λ e. e.object == x) (calls_in h) (rise h hist)) (valid x).1 in
     linearizable kinds h hist (λ x. (each x).0) (λ x. (each x).1)

@@ -3,7 +3,9 @@ use Rattle.std.proofs.Common.{◌≡◌, ◌≢◌, ℕ, ◌<◌, ◌≤◌, ◌
 use Rattle.std.specs.List.{flat_map}
 use Rattle.std.proofs.lemmas.List.Folds.{flat_map-map}
 use Rattle.std.proofs.lemmas.Bool.{eqb-true, eq-eqb, and_parts, and_from, cases_order}
-use Rattle.model.proofs.Lists.{In, Pairs, in_filter, in_filter_passes, in_filter_from, pairs_filter, pairs_weaker, filter_all, filter_none, filter-flat_map, flat_map_same, flat_map_filter, in_flat_map, same_single, batches, pairs_flat_map, pairs_map, in_map_from}
+use Rattle.model.proofs.Lists.{In, Pairs, in_filter, in_filter_passes, in_filter_from, pairs_filter, pairs_weaker, filter_all, filter_none}
+use Rattle.model.proofs.Lists.{filter-flat_map, flat_map_same, flat_map_filter, in_flat_map, same_single, batches, pairs_flat_map, pairs_map}
+use Rattle.model.proofs.Lists.{in_map_from}
 
 -- Operations in the order of their invocations, and for each object an order of some of them. The point of one that
 -- stands in an order is the number of an operation of its object.
@@ -49,7 +51,8 @@ module _ {X : Type 0} (num proc obj point : X → ℕ) (stands : X → Bool) (op
       ap (λ k. k == x) at ∙ e) in
       let own : (n : X) → In n (filter here ops) → cut n ≡ of_number (num n) = λ n i.
       let at : obj n ≡ x = eqb-true (obj n) x (in_filter_passes here n ops i) in
-      let all : cut n ≡ batch num proc obj point stands ops entries n = filter_all here (batch num proc obj point stands ops entries n) (λ y j. eq-eqb (obj y) x (o.on_object (obj n) y (in_filter (λ e. point e == num n) y (entries (obj n)) j) ∙ at)) in
+      let all : cut n ≡ batch num proc obj point stands ops entries n =
+      filter_all here (batch num proc obj point stands ops entries n) (λ y j. eq-eqb (obj y) x (o.on_object (obj n) y (in_filter (λ e. point e == num n) y (entries (obj n)) j) ∙ at)) in
       all ∙ ap (λ k. filter (λ e. point e == num n) (entries k)) at in
       let numbers : List ℕ = map num (filter here ops) in
       let up : Pairs (λ (a b : ℕ). a < b) numbers = pairs_map (λ (a b : ℕ). a < b) num (filter here ops) (pairs_filter (λ a b. num a < num b) here ops o.rising) in
@@ -96,7 +99,8 @@ module _ {X : Type 0} (num proc obj point : X → ℕ) (stands : X → Bool) (op
       let y_both : (e : X) → In e ys → (proc e == p ≡ true) × (stands e ≡ true) = λ e j. and_parts (proc e == p) (stands e) (in_filter_passes both e ops (in_filter here e (made_by p) j)) in
       same_single xs ys
       (pairs_weaker (λ a b. a ≢ b) (λ a b. ⊥) xs
-      (λ a b i j ne. apart a b (o.among (obj n) a (x_in a i)) (o.among (obj n) b (x_in b j)) (o.stand (obj n) a (x_in a i)) (o.stand (obj n) b (x_in b j)) (x_of a i ∙ sym (x_of b j)) (x_at a i ∙ sym (x_at b j)) ne)
+      (λ a b i j ne. apart a b (o.among (obj n) a (x_in a i)) (o.among (obj n) b (x_in b j)) (o.stand (obj n) a (x_in a i))
+      (o.stand (obj n) b (x_in b j)) (x_of a i ∙ sym (x_of b j)) (x_at a i ∙ sym (x_at b j)) ne)
       (pairs_filter (λ a b. a ≢ b) mine (filter here es) (pairs_filter (λ a b. a ≢ b) here es (o.once (obj n)))))
       (pairs_weaker (λ a b. num a < num b) (λ a b. ⊥) ys
       (λ a b i j l.
@@ -105,7 +109,9 @@ module _ {X : Type 0} (num proc obj point : X → ℕ) (stands : X → Bool) (op
       let e' = y_at b j in
       omega arith)
       (pairs_filter (λ a b. num a < num b) here (made_by p) (pairs_filter (λ a b. num a < num b) both ops o.rising)))
-      (λ e j. in_filter_from here e (made_by p) (in_filter_from both e ops (o.among (obj n) e (x_in e j)) (and_from (proc e == p) (stands e) (eq-eqb (proc e) p (x_of e j)) (o.stand (obj n) e (x_in e j)))) (eq-eqb (point e) (num n) (x_at e j)))
+      (λ e j. in_filter_from here e (made_by p)
+      (in_filter_from both e ops (o.among (obj n) e (x_in e j))
+      (and_from (proc e == p) (stands e) (eq-eqb (proc e) p (x_of e j)) (o.stand (obj n) e (x_in e j)))) (eq-eqb (point e) (num n) (x_at e j)))
       (λ e j.
       let own = o.included e (y_in e j) (y_both e j).1 in
       let m = o.point_at (obj e) e own in

@@ -26,7 +26,9 @@ turn_at : (q : Event → Bool) (k : ℕ) (h : List Event) → k < count q h → 
 turn_at q k [] l = absurd (omega arith)
 turn_at q k (x ∷ h) l = go k (q x) refl l (turn_at q k h) (λ j. turn_at q j h)
   where
-    go : (k : ℕ) (t : Bool) → q x ≡ t → k < length (cond t (x ∷ filter q h) (filter q h)) → (k < count q h → (a : List Event) × (y : Event) × (b : List Event) × (h ≡ a ++ y ∷ b) × IsTurn q k a y) → ((j : ℕ) → j < count q h → (a : List Event) × (y : Event) × (b : List Event) × (h ≡ a ++ y ∷ b) × IsTurn q j a y)
+    go : (k : ℕ) (t : Bool) → q x ≡ t → k < length (cond t (x ∷ filter q h) (filter q h))
+        → (k < count q h → (a : List Event) × (y : Event) × (b : List Event) × (h ≡ a ++ y ∷ b) × IsTurn q k a y)
+        → ((j : ℕ) → j < count q h → (a : List Event) × (y : Event) × (b : List Event) × (h ≡ a ++ y ∷ b) × IsTurn q j a y)
         → (a : List Event) × (y : Event) × (b : List Event) × (x ∷ h ≡ a ++ y ∷ b) × IsTurn q k a y
     go zero true e l f g = ([], x, h, refl, (e, refl))
     go (suc k) true e l f g = let r = g k (omega arith) in (x ∷ r.0, r.1, r.2, ap (λ ys. x ∷ ys) r.3, (r.4.0, count_more q x r.0 e ∙ ap suc r.4.1))
@@ -35,8 +37,13 @@ turn_at q k (x ∷ h) l = go k (q x) refl l (turn_at q k h) (λ j. turn_at q j h
 pub moment_from : (h : List Event) (e f : Operation) → Precedes h e f → Moment h e f
 moment_from h e f p =
     let front : List Event = p.before ++ p.response ∷ p.between in
-    let r : count (responds e.process) front ≡ count (responds e.process) p.before + suc (count (responds e.process) p.between) = count-append (responds e.process) p.before (p.response ∷ p.between) ∙ ap (λ n. count (responds e.process) p.before + n) (count_more (responds e.process) p.response p.between p.is_first_response.0) in
-    let s : count (invokes f.process) h ≡ count (invokes f.process) front + suc (count (invokes f.process) p.after) = ap (count (invokes f.process)) p.whole ∙ (count-append (invokes f.process) front (p.invocation ∷ p.after) ∙ ap (λ n. count (invokes f.process) front + n) (count_more (invokes f.process) p.invocation p.after p.is_second_invocation.0)) in
+    let r : count (responds e.process) front ≡ count (responds e.process) p.before + suc (count (responds e.process) p.between) =
+    count-append (responds e.process) p.before (p.response ∷ p.between)
+    ∙ ap (λ n. count (responds e.process) p.before + n) (count_more (responds e.process) p.response p.between p.is_first_response.0) in
+    let s : count (invokes f.process) h ≡ count (invokes f.process) front + suc (count (invokes f.process) p.after) =
+    ap (count (invokes f.process)) p.whole
+    ∙ (count-append (invokes f.process) front (p.invocation ∷ p.after)
+    ∙ ap (λ n. count (invokes f.process) front + n) (count_more (invokes f.process) p.invocation p.after p.is_second_invocation.0)) in
     let t = p.is_first_response.1 in
     let u = p.is_second_invocation.1 in
     record { front = front; rest = p.invocation ∷ p.after; whole = p.whole; returned = omega arith; waiting = omega arith; begun = omega arith }
@@ -44,7 +51,8 @@ moment_from h e f p =
 pub precedes_from : (h : List Event) (e f : Operation) → Moment h e f → Precedes h e f
 precedes_from h e f m =
     let r = turn_at (responds e.process) e.turn m.front m.returned in
-    let n : count (invokes f.process) h ≡ count (invokes f.process) m.front + count (invokes f.process) m.rest = ap (count (invokes f.process)) m.whole ∙ count-append (invokes f.process) m.front m.rest in
+    let n : count (invokes f.process) h ≡ count (invokes f.process) m.front + count (invokes f.process) m.rest =
+    ap (count (invokes f.process)) m.whole ∙ count-append (invokes f.process) m.front m.rest in
     let l = m.waiting in
     let b = m.begun in
     let i = turn_at (invokes f.process) (f.turn - count (invokes f.process) m.front) m.rest (omega arith) in

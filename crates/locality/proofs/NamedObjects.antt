@@ -21,7 +21,8 @@ valid_nothing kind = record {
 }
 
 -- an object has a call, and so an order, or it has none
-order_of : (kinds : ℕ → Kind) (h : List Numbered) (x : ℕ) (on_x : List ProcessCall) → filter (λ e. e.object == x) (calls_in h) ≡ on_x → All (λ e. HasValidOrder kinds h e.object) (calls_in h) → HasValidOrder kinds h x
+order_of : (kinds : ℕ → Kind) (h : List Numbered) (x : ℕ) (on_x : List ProcessCall) → filter (λ e. e.object == x) (calls_in h) ≡ on_x
+    → All (λ e. HasValidOrder kinds h e.object) (calls_in h) → HasValidOrder kinds h x
 order_of kinds h x [] e valid = ([], subst (λ (on_x : List ProcessCall). IsValidOrder (kinds x) (map (λ e. e.call) on_x) []) (sym e) (valid_nothing (kinds x)))
 order_of kinds h x (call ∷ others) e valid =
     let among : In call (filter (λ e. e.object == x) (calls_in h)) = subst (In call) (sym e) (inl refl) in

@@ -48,7 +48,9 @@ filter_cut q [] [] b y e = absurd (cc e)
 filter_cut q [] (z ∷ a) b y e = absurd (cc e)
 filter_cut {X} q (x ∷ xs) a b y e = here (q x) a e (λ a. filter_cut q xs a b y)
   where
-    here : (t : Bool) (a : List X) → cond t (x ∷ filter q xs) (filter q xs) ≡ a ++ y ∷ b → ((a : List X) → filter q xs ≡ a ++ y ∷ b → (before after : List X) × (xs ≡ before ++ y ∷ after) × (filter q after ≡ b)) → (before after : List X) × (x ∷ xs ≡ before ++ y ∷ after) × (filter q after ≡ b)
+    here : (t : Bool) (a : List X) → cond t (x ∷ filter q xs) (filter q xs) ≡ a ++ y ∷ b
+        → ((a : List X) → filter q xs ≡ a ++ y ∷ b → (before after : List X) × (xs ≡ before ++ y ∷ after) × (filter q after ≡ b))
+        → (before after : List X) × (x ∷ xs ≡ before ++ y ∷ after) × (filter q after ≡ b)
     here true [] e f = ([], xs, cc e, cc e)
     here true (z ∷ a) e f = let r = f a (cc e) in (x ∷ r.0, r.1, ap (λ ys. x ∷ ys) r.2, r.3)
     here false a e f = let r = f a e in (x ∷ r.0, r.1, ap (λ ys. x ∷ ys) r.2, r.3)
@@ -95,12 +97,23 @@ module _ (h added : List Event) (sequential : IsWellFormed h) where
         let m : matches a.0.invocation r ≡ true = subst (λ v. matches a.0.invocation v ≡ true) (sym only) a.0.matching in
         let cut = filter_cut (λ v. process_of v == p) h a.0.front [] a.0.invocation a.0.last in
         let mine : (process_of a.0.invocation == p) ≡ true = eq-eqb (process_of a.0.invocation) p (sym (same_process a.0.invocation r m) ∙ own) in
-        let none : list_any (matches a.0.invocation) cut.1 ≡ false = sym (any_of_process p a.0.invocation cut.1 mine) ∙ ap (list_any (matches a.0.invocation)) cut.3 in
-        (a.0.invocation, record { before = cut.0; after = cut.1; whole = cut.2; pending = and_from (is_invocation a.0.invocation) (not (list_any (matches a.0.invocation) cut.1)) (matched_invocation a.0.invocation r m) (not_from_false (list_any (matches a.0.invocation) cut.1) none) }, m)
+        let none : list_any (matches a.0.invocation) cut.1 ≡ false = sym (any_of_process p a.0.invocation cut.1 mine) ∙ ap (list_any (matches a.0.invocation)) cut.3 in (
+          a.0.invocation,
+          record {
+            before = cut.0;
+            after = cut.1;
+            whole = cut.2;
+            pending =
+                and_from (is_invocation a.0.invocation) (not (list_any (matches a.0.invocation) cut.1)) (matched_invocation a.0.invocation r m)
+                (not_from_false (list_any (matches a.0.invocation) cut.1) none);
+          },
+          m,
+        )
 
     pub to_answers : AnswersPending h added
     to_answers = record {
-      each = all_from_in (λ r. (i : Event) × IsPendingIn h i × (matches i r ≡ true)) added (λ r i. answers r (process_of r) (by_process (process_of r) added) refl refl (in_filter_from (λ v. process_of v == process_of r) r added i (eq-eqb (process_of r) (process_of r) refl)));
+      each = all_from_in (λ r. (i : Event) × IsPendingIn h i × (matches i r ≡ true)) added
+          (λ r i. answers r (process_of r) (by_process (process_of r) added) refl refl (in_filter_from (λ v. process_of v == process_of r) r added i (eq-eqb (process_of r) (process_of r) refl)));
       apart = all_from_pairs (λ r s. process_of r ≢ process_of s) added (apart_from added (λ p. single p (by_process p added) refl));
     }
 
@@ -111,7 +124,8 @@ module _ (h added : List Event) (sequential : IsWellFormed h) where
     extended : (p : ℕ) (rs : List Event) → by_process p added ≡ rs → IsSequential (by_process p h ++ rs)
     extended p [] e = subst IsSequential (sym (append-nil (by_process p h))) (sequential p)
     extended p (r ∷ s ∷ rs) e =
-        let apart : Apart (r ∷ s ∷ rs) = subst Apart e (pairs_filter (λ r s. process_of r ≢ process_of s) (λ v. process_of v == p) added (pairs_from_all (λ r s. process_of r ≢ process_of s) added a.apart)) in
+        let apart : Apart (r ∷ s ∷ rs) =
+        subst Apart e (pairs_filter (λ r s. process_of r ≢ process_of s) (λ v. process_of v == p) added (pairs_from_all (λ r s. process_of r ≢ process_of s) added a.apart)) in
         absurd (apart.0 s (inl refl) (own_process p r (subst (In r) (sym e) (inl refl)) ∙ sym (own_process p s (subst (In s) (sym e) (inr (inl refl))))))
     extended p (r ∷ []) e =
         let i : In r (by_process p added) = subst (In r) (sym e) (inl refl) in
@@ -119,7 +133,8 @@ module _ (h added : List Event) (sequential : IsWellFormed h) where
         let mine : (process_of answer.0 == p) ≡ true = eq-eqb (process_of answer.0) p (sym (same_process answer.0 r answer.2) ∙ own_process p r i) in
         let pend = answer.1 in
         let parts : by_process p h ≡ by_process p pend.before ++ answer.0 ∷ by_process p pend.after =
-        ap (by_process p) pend.whole ∙ (filter-append (λ v. process_of v == p) pend.before (answer.0 ∷ pend.after) ∙ ap (λ b. by_process p pend.before ++ cond b (answer.0 ∷ by_process p pend.after) (by_process p pend.after)) mine) in
+        ap (by_process p) pend.whole ∙ (filter-append (λ v. process_of v == p) pend.before (answer.0 ∷ pend.after)
+        ∙ ap (λ b. by_process p pend.before ++ cond b (answer.0 ∷ by_process p pend.after) (by_process p pend.after)) mine) in
         let none : list_any (matches answer.0) pend.after ≡ false = unmatched answer.0 pend.after pend.pending in
         subst (λ (es : List Event). IsSequential (es ++ r ∷ [])) (sym parts)
         (goes_on (by_process p pend.before) (by_process p pend.after) answer.0 r (subst IsSequential parts (sequential p)) (any_of_process p answer.0 pend.after mine ∙ none) answer.2)

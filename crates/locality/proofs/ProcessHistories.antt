@@ -1,5 +1,6 @@
 -- The history of one process: its operations one after another, the last perhaps pending.
-use Rattle.std.proofs.Common.{◌≡◌, ℕ, suc, ◌<◌, ◌≤◌, ◌==◌, ◌&&◌, ◌||◌, nat_lt, Bool, true, false, not, cond, inl, inr, List, [], ◌∷◌, ◌++◌, length, filter, Option, Some, None, refl, ap, sym, ◌∙◌, subst, arith}
+use Rattle.std.proofs.Common.{◌≡◌, ℕ, suc, ◌<◌, ◌≤◌, ◌==◌, ◌&&◌, ◌||◌, nat_lt, Bool, true, false, not, cond, inl, inr, List, [], ◌∷◌, ◌++◌, length}
+use Rattle.std.proofs.Common.{filter, Option, Some, None, refl, ap, sym, ◌∙◌, subst, arith}
 use Rattle.std.specs.List.{flat_map, list_any}
 use Rattle.std.specs.Option.{option_or}
 use Rattle.std.proofs.lemmas.Bool.{eqb-true, eqb-false, ne_eqb, eq-eqb, and_from, and_parts}
@@ -66,9 +67,13 @@ response_of-part p x (m ∷ h) =
     elim [ true ↦ λ e. ap (option_or (response_in p x m.number m.event)) rest | false ↦ λ e. rest ∙ sym (ap (λ r. option_or r (response_of p x h)) (response_in_other p x m.number m.event e)) ] in
     here (process_of m.event == p) refl
 
-begins-part : (p n : ℕ) (e : Event) (later : List Numbered) → calls_in (part p later) ≡ filter (λ o. o.process == p) (calls_in later) → calls_in (cond (process_of e == p) (at n e ∷ part p later) (part p later)) ≡ filter (λ o. o.process == p) (begins n e later (calls_in later))
+begins-part : (p n : ℕ) (e : Event) (later : List Numbered) → calls_in (part p later) ≡ filter (λ o. o.process == p) (calls_in later)
+    → calls_in (cond (process_of e == p) (at n e ∷ part p later) (part p later)) ≡ filter (λ o. o.process == p) (begins n e later (calls_in later))
 begins-part p n (Inv q x op) later h =
-    let here : (b : Bool) → (q == p) ≡ b → calls_in (cond b (at n (Inv q x op) ∷ part p later) (part p later)) ≡ cond b (record { process = q; object = x; call = record { number = n; op = op; returned = response_of q x later } } ∷ filter (λ o. o.process == p) (calls_in later)) (filter (λ o. o.process == p) (calls_in later)) =
+    let here : (b : Bool) → (q == p) ≡ b
+    → calls_in (cond b (at n (Inv q x op) ∷ part p later) (part p later))
+    ≡ cond b (record { process = q; object = x; call = record { number = n; op = op; returned = response_of q x later } }
+    ∷ filter (λ o. o.process == p) (calls_in later)) (filter (λ o. o.process == p) (calls_in later)) =
     elim [
       | true ↦ λ e.
           let same : response_of q x (part p later) ≡ response_of q x later = subst (λ k. response_of q x (part k later) ≡ response_of q x later) (eqb-true q p e) (response_of-part q x later) in
@@ -106,7 +111,12 @@ first p n x op m r = record { process = p; object = x; call = record { number = 
 pub calls_in-call : (p n x : ℕ) (op : AnyOp) (m : ℕ) (r : AnyReply) (rest : List Numbered) → calls_in (at n (Inv p x op) ∷ at m (Res p x r) ∷ rest) ≡ first p n x op m r ∷ calls_in rest
 calls_in-call p n x op m r rest =
     let e : ((p == p) && (x == x)) ≡ true = and_from (p == p) (x == x) (eq-eqb p p refl) (eq-eqb x x refl) in
-    ap (λ (b : Bool). record { process = p; object = x; call = record { number = n; op = op; returned = option_or (cond b (Some (record { at = m; reply = r })) None) (response_of p x rest) } } ∷ calls_in rest) e
+    ap (λ (b : Bool). record {
+      process = p;
+      object = x;
+      call =
+          record { number = n; op = op; returned = option_or (cond b (Some (record { at = m; reply = r })) None) (response_of p x rest) };
+    } ∷ calls_in rest) e
 
 pub complete-call : (p x : ℕ) (op : AnyOp) (r : AnyReply) (es : List Event) → complete (Inv p x op ∷ Res p x r ∷ es) ≡ Inv p x op ∷ Res p x r ∷ complete es
 complete-call p x op r es =
@@ -153,7 +163,9 @@ pub call_event : (h : List Numbered) (e : ProcessCall) → In e (calls_in h) →
 call_event [] e i = absurd i
 call_event (m ∷ h) e i = here m.event refl i (call_event h e)
   where
-    here : (v : Event) → m.event ≡ v → In e (begins m.number v h (calls_in h)) → (In e (calls_in h) → (k : Numbered) × In k h × (k.number ≡ number_of e) × (k.event ≡ Inv e.process e.object e.call.op)) → (k : Numbered) × In k (m ∷ h) × (k.number ≡ number_of e) × (k.event ≡ Inv e.process e.object e.call.op)
+    here : (v : Event) → m.event ≡ v → In e (begins m.number v h (calls_in h))
+        → (In e (calls_in h) → (k : Numbered) × In k h × (k.number ≡ number_of e) × (k.event ≡ Inv e.process e.object e.call.op)) → (k : Numbered)
+        × In k (m ∷ h) × (k.number ≡ number_of e) × (k.event ≡ Inv e.process e.object e.call.op)
     here (Inv p x op) q i f = elim i [
       | inl s ↦ (m, inl refl, sym (ap number_of s), q ∙ sym (ap (λ (o : ProcessCall). Inv o.process o.object o.call.op) s))
       | inr j ↦ let k = f j in (k.0, inr k.1, k.2, k.3)
@@ -203,7 +215,11 @@ one_after_another p h (last n x op) u = (λ y i. absurd i, tt)
 one_after_another p h (call n x op m r rest t) u =
     let os = calls_in-call p n x op m r rest in
     let below = one_after_another p rest t u.1.1 in
-    subst (Pairs Before) (sym os) (λ y i. let k = call_event rest y i in let g : m < k.0.number = u.1.0 k.0 k.1 in let e : k.0.number ≡ number_of y = k.2 in (record { at = m; reply = r }, refl, omega arith), below)
+    subst (Pairs Before) (sym os) (
+      λ y i. let k = call_event rest y i in let g : m < k.0.number = u.1.0 k.0 k.1 in let e : k.0.number ≡ number_of y =
+          k.2 in (record { at = m; reply = r }, refl, omega arith),
+      below,
+    )
 
 -- whether it returned before t
 abbrev pub is_back : ℕ → Option Return → Bool
@@ -225,13 +241,18 @@ responses_before p t h (call n x op m r rest s) =
     (elim (nat_lt m t) as (λ b. length (cond b (first p n x op m r ∷ bs) bs) ≡ length (cond b (at m (Res p x r) ∷ rs) rs)) [ true ↦ ap suc below | false ↦ below ]))
 
 -- the invocations before t are those of the operations below t
-pub invocations_before : (p t : ℕ) (h : List Numbered) → length (filter (λ m. invokes p m.event && nat_lt m.number t) h) ≡ length (filter (λ e. (e.process == p) && nat_lt (number_of e) t) (calls_in h))
+pub invocations_before : (p t : ℕ) (h : List Numbered)
+    → length (filter (λ m. invokes p m.event && nat_lt m.number t) h) ≡ length (filter (λ e. (e.process == p) && nat_lt (number_of e) t) (calls_in h))
 invocations_before p t [] = refl
 invocations_before p t (m ∷ h) = here m.event refl (invocations_before p t h)
   where
     here : (v : Event) → m.event ≡ v → length (filter (λ m. invokes p m.event && nat_lt m.number t) h) ≡ length (filter (λ e. (e.process == p) && nat_lt (number_of e) t) (calls_in h)) →
-        length (cond (invokes p v && nat_lt m.number t) (m ∷ filter (λ m. invokes p m.event && nat_lt m.number t) h) (filter (λ m. invokes p m.event && nat_lt m.number t) h)) ≡ length (filter (λ e. (e.process == p) && nat_lt (number_of e) t) (begins m.number v h (calls_in h)))
-    here (Inv q x op) s f = elim ((q == p) && nat_lt m.number t) as (λ b. length (cond b (m ∷ filter (λ m. invokes p m.event && nat_lt m.number t) h) (filter (λ m. invokes p m.event && nat_lt m.number t) h)) ≡ length (cond b (record { process = q; object = x; call = record { number = m.number; op = op; returned = response_of q x h } } ∷ filter (λ e. (e.process == p) && nat_lt (number_of e) t) (calls_in h)) (filter (λ e. (e.process == p) && nat_lt (number_of e) t) (calls_in h)))) [ true ↦ ap suc f | false ↦ f ]
+        length (cond (invokes p v && nat_lt m.number t) (m ∷ filter (λ m. invokes p m.event && nat_lt m.number t) h)
+        (filter (λ m. invokes p m.event && nat_lt m.number t) h)) ≡ length (filter (λ e. (e.process == p) && nat_lt (number_of e) t) (begins m.number v h (calls_in h)))
+    here (Inv q x op) s f = elim ((q == p) && nat_lt m.number t) as
+        (λ b. length (cond b (m ∷ filter (λ m. invokes p m.event && nat_lt m.number t) h) (filter (λ m. invokes p m.event && nat_lt m.number t) h))
+        ≡ length (cond b (record { process = q; object = x; call = record { number = m.number; op = op; returned = response_of q x h } }
+        ∷ filter (λ e. (e.process == p) && nat_lt (number_of e) t) (calls_in h)) (filter (λ e. (e.process == p) && nat_lt (number_of e) t) (calls_in h)))) [ true ↦ ap suc f | false ↦ f ]
     here (Res q x r) s f = f
 
 -- in a history: numbers rise, also those of a process and those of operations, and each process has its turns

@@ -1,5 +1,6 @@
 -- What is refused of the worked histories.
-use Rattle.std.proofs.Common.{◌&&◌, ◌≢◌, ◌≡◌, ℤ, pos, ◌<◌, ◌⊎◌, true, false, inl, inr, List, [], ◌∷◌, ◌++◌, map, Option, Some, None, IfSome, IsSome, Contains, lit<, refl, ap, sym, ◌∙◌, subst, arith, Bool, int_eq}
+use Rattle.std.proofs.Common.{◌&&◌, ◌≢◌, ◌≡◌, ℤ, pos, ◌<◌, ◌⊎◌, true, false, inl, inr, List, [], ◌∷◌, ◌++◌, map, Option, Some, None, IfSome, IsSome}
+use Rattle.std.proofs.Common.{Contains, lit<, refl, ap, sym, ◌∙◌, subst, arith, Bool, int_eq}
 use Rattle.std.specs.List.{AllByRecursion}
 use Rattle.std.proofs.lemmas.Bool.{and_from}
 use Rattle.std.proofs.lemmas.Cmp.{int_eq_equiv}
@@ -15,7 +16,9 @@ use Rattle.model.specs.Objects.{Content, queue, next, empty}
 use Rattle.model.specs.Linearizable.{IsLinearizable}
 use Rattle.model.specs.Orders.{Numbered, events, Return, Call, calls_on, IsHistory, ReturnsBefore, RepliesAlong, IsValidOrder}
 use Rattle.model.proofs.Lists.{In, Pairs, in_from_contains, all_at, pairs_from_all, in_map_from, in_map}
-use Rattle.locality.specs.WorkedHistories.{invoke, invoked_while_pending, returned_unasked, returned_elsewhere, numbered_backwards, enqueued_then_dequeued, overlapping_enqueues, dequeued_out_of_turn, pending_overtakes_returned, mutex_passed_on}
+use Rattle.locality.specs.WorkedHistories.{invoke, invoked_while_pending, returned_unasked, returned_elsewhere, numbered_backwards}
+use Rattle.locality.specs.WorkedHistories.{enqueued_then_dequeued, overlapping_enqueues, dequeued_out_of_turn, pending_overtakes_returned}
+use Rattle.locality.specs.WorkedHistories.{mutex_passed_on}
 use Rattle.locality.proofs.ValidOrders.{linearizable_has_orders_lem}
 use Rattle.locality.proofs.WrittenOut.{history, linearizable, in_order, ordered}
 use Rattle.locality.proofs.WorkedOrders.{returned, pending}
@@ -32,13 +35,15 @@ abbrev IsEnqueue : AnyOp → Type 0
 IsEnqueue op = (v : ℤ) × (op ≡ Enqueue v)
 
 -- what a step leaves and replies, where its operation and content are known
-step : (c : Content) (op o : AnyOp) (made : Content × AnyReply) → op ≡ o → (after : Content) (reply : AnyReply) → next c op ≡ Some (after, reply) → next c o ≡ Some made → (after ≡ made.0) × (reply ≡ made.1)
+step : (c : Content) (op o : AnyOp) (made : Content × AnyReply) → op ≡ o → (after : Content) (reply : AnyReply) → next c op ≡ Some (after, reply)
+    → next c o ≡ Some made → (after ≡ made.0) × (reply ≡ made.1)
 step c op o made same after reply e m =
     let pair : (after, reply) ≡ made = same_Some (after, reply) made (sym e ∙ (ap (next c) same ∙ m)) in
     (ap (λ (x : Content × AnyReply). x.0) pair, ap (λ (x : Content × AnyReply). x.1) pair)
 
 -- while all others are enqueues, a dequeue has the first value
-first_out : (v : ℤ) (vs : List ℤ) (es : List Call) (d : Call) (r : Return) → d.op ≡ Dequeue → d.returned ≡ Some r → ((e : Call) → In e es → (e ≡ d) ⊎ IsEnqueue e.op) → In d es → RepliesAlong (queue (v ∷ vs)) es → r.reply ≡ Value (Some v)
+first_out : (v : ℤ) (vs : List ℤ) (es : List Call) (d : Call) (r : Return) → d.op ≡ Dequeue → d.returned ≡ Some r
+    → ((e : Call) → In e es → (e ≡ d) ⊎ IsEnqueue e.op) → In d es → RepliesAlong (queue (v ∷ vs)) es → r.reply ≡ Value (Some v)
 first_out v vs [] d r op back f i h = absurd i
 first_out v vs (e ∷ es) d r op back f i h = elim (f e (inl refl)) [
   | inl q ↦
@@ -54,10 +59,13 @@ first_out v vs (e ∷ es) d r op back f i h = elim (f e (inl refl)) [
 ]
 
 -- An enqueue returned before all other operations were invoked, and one of these is a dequeue: it has the value.
-first_in_first_out : (calls : List Call) (a d : Call) (v : ℤ) (r s : Return) (order : List ℤ) → a.op ≡ Enqueue v → a.returned ≡ Some s → d.op ≡ Dequeue → d.returned ≡ Some r → In a calls → In d calls → ((e : Call) → In e calls → (e ≡ a) ⊎ ReturnsBefore a e) → ((e : Call) → In e calls → (e ≡ d) ⊎ IsEnqueue e.op) → IsValidOrder Queue calls order → r.reply ≡ Value (Some v)
+first_in_first_out : (calls : List Call) (a d : Call) (v : ℤ) (r s : Return) (order : List ℤ) → a.op ≡ Enqueue v → a.returned ≡ Some s
+    → d.op ≡ Dequeue → d.returned ≡ Some r → In a calls → In d calls → ((e : Call) → In e calls → (e ≡ a) ⊎ ReturnsBefore a e)
+    → ((e : Call) → In e calls → (e ≡ d) ⊎ IsEnqueue e.op) → IsValidOrder Queue calls order → r.reply ≡ Value (Some v)
 first_in_first_out calls a d v r s order a_op a_back d_op d_back a_in d_in first other valid =
     let known : (e : Call) → In e valid.entries → In e calls = λ e i. in_from_contains calls e (all_at (Contains calls) valid.entries valid.known e i) in
-    let stands : (e : Call) (r : Return) → In e calls → e.returned ≡ Some r → In e valid.entries = λ e r i q. in_from_contains valid.entries e (all_at (λ (e : Call). IsSome e.returned → Contains valid.entries e) calls valid.whole e i (subst (λ (o : Option Return). IsSome o) (sym q) refl)) in
+    let stands : (e : Call) (r : Return) → In e calls → e.returned ≡ Some r → In e valid.entries =
+    λ e r i q. in_from_contains valid.entries e (all_at (λ (e : Call). IsSome e.returned → Contains valid.entries e) calls valid.whole e i (subst (λ (o : Option Return). IsSome o) (sym q) refl)) in
     let front = first_is a valid.entries (stands a s a_in a_back) (λ e i. first e (known e i)) (pairs_from_all (λ (a b : Call). ReturnsBefore b a → ⊥) valid.entries valid.in_order) in
     let along : RepliesAlong (queue []) (a ∷ front.0) = subst (RepliesAlong (queue [])) front.1 valid.replies in
     let s0 = step (queue []) a.op (Enqueue v) (queue (v ∷ []), Value (Some v)) a_op along.0 along.1 along.2 refl in
@@ -79,13 +87,25 @@ abbrev first : Call
 first = returned 0 (Enqueue (pos 1)) 1 (Some (pos 1))
 
 -- behind it another value is enqueued, and no dequeue gives 2
-overtaken : (h : List Numbered) (b d : Call) (v : ℤ) (r : Return) → IsHistory h → calls_on 0 h ≡ first ∷ b ∷ d ∷ [] → b.op ≡ Enqueue v → 1 < b.number → d.op ≡ Dequeue → 1 < d.number → d.returned ≡ Some r → r.reply ≡ Value (Some (pos 2)) → ¬ IsLinearizable (λ x. Queue) (events h)
+overtaken : (h : List Numbered) (b d : Call) (v : ℤ) (r : Return) → IsHistory h → calls_on 0 h ≡ first ∷ b ∷ d ∷ [] → b.op ≡ Enqueue v → 1 < b.number
+    → d.op ≡ Dequeue → 1 < d.number → d.returned ≡ Some r → r.reply ≡ Value (Some (pos 2)) → ¬ IsLinearizable (λ x. Queue) (events h)
 overtaken h b d v r hist is b_op b_later d_op d_later d_back two lin =
     let order = linearizable_has_orders_lem (λ x. Queue) h hist lin 0 in
     let returns : Return = record { at = 1; reply = Value (Some (pos 1)) } in
     let one = first_in_first_out (first ∷ b ∷ d ∷ []) first d (pos 1) r returns order.0 refl refl d_op d_back (inl refl) (inr (inr (inl refl)))
-    (λ e i. elim i [ inl q ↦ inl q | inr j ↦ elim j [ inl q ↦ inr (subst (ReturnsBefore first) (sym q) (returns, refl, b_later)) | inr k ↦ elim k [ inl q ↦ inr (subst (ReturnsBefore first) (sym q) (returns, refl, d_later)) | inr none ↦ absurd none ] ] ])
-    (λ e i. elim i [ inl q ↦ inr (pos 1, ap (λ (c : Call). c.op) q) | inr j ↦ elim j [ inl q ↦ inr (v, ap (λ (c : Call). c.op) q ∙ b_op) | inr k ↦ elim k [ inl q ↦ inl q | inr none ↦ absurd none ] ] ])
+    (λ e i. elim i [
+      | inl q ↦ inl q
+      | inr j ↦ elim j [
+        | inl q ↦ inr (subst (ReturnsBefore first) (sym q) (returns, refl, b_later))
+        | inr k ↦ elim k
+            [ inl q ↦ inr (subst (ReturnsBefore first) (sym q) (returns, refl, d_later)) | inr none ↦ absurd none ]
+      ]
+    ])
+    (λ e i. elim i [
+      | inl q ↦ inr (pos 1, ap (λ (c : Call). c.op) q)
+      | inr j ↦ elim j
+          [ inl q ↦ inr (v, ap (λ (c : Call). c.op) q ∙ b_op) | inr k ↦ elim k [ inl q ↦ inl q | inr none ↦ absurd none ] ]
+    ])
     (subst (λ cs. IsValidOrder Queue cs order.0) is order.1) in
     two_not_one (sym two ∙ one)
 
@@ -93,13 +113,16 @@ pub dequeued_out_of_turn-history : IsHistory dequeued_out_of_turn
 dequeued_out_of_turn-history = history 2 dequeued_out_of_turn refl
 
 pub dequeued_out_of_turn-refuted : ¬ IsLinearizable (λ x. Queue) (events dequeued_out_of_turn)
-dequeued_out_of_turn-refuted = overtaken dequeued_out_of_turn (returned 2 (Enqueue (pos 2)) 3 (Some (pos 2))) (returned 4 Dequeue 5 (Some (pos 2))) (pos 2) (record { at = 5; reply = Value (Some (pos 2)) }) dequeued_out_of_turn-history refl refl (lit< tt) refl (lit< tt) refl refl
+dequeued_out_of_turn-refuted = overtaken dequeued_out_of_turn (returned 2 (Enqueue (pos 2)) 3 (Some (pos 2))) (returned 4 Dequeue 5 (Some (pos 2)))
+    (pos 2) (record { at = 5; reply = Value (Some (pos 2)) }) dequeued_out_of_turn-history refl refl (lit< tt) refl (lit< tt) refl refl
 
 pub pending_overtakes_returned-history : IsHistory pending_overtakes_returned
 pending_overtakes_returned-history = history 3 pending_overtakes_returned refl
 
 pub pending_overtakes_returned-refuted : ¬ IsLinearizable (λ x. Queue) (events pending_overtakes_returned)
-pending_overtakes_returned-refuted = overtaken pending_overtakes_returned (pending 2 (Enqueue (pos 2))) (returned 3 Dequeue 4 (Some (pos 2))) (pos 2) (record { at = 4; reply = Value (Some (pos 2)) }) pending_overtakes_returned-history refl refl (lit< tt) refl (lit< tt) refl refl
+pending_overtakes_returned-refuted =
+    overtaken pending_overtakes_returned (pending 2 (Enqueue (pos 2))) (returned 3 Dequeue 4 (Some (pos 2))) (pos 2)
+    (record { at = 4; reply = Value (Some (pos 2)) }) pending_overtakes_returned-history refl refl (lit< tt) refl (lit< tt) refl refl
 
 pub dequeued_out_of_turn-no_order : (order : List ℤ) → ¬ IsValidOrder Queue (calls_on 0 dequeued_out_of_turn) order
 dequeued_out_of_turn-no_order order v = dequeued_out_of_turn-refuted (linearizable (λ x. Queue) dequeued_out_of_turn dequeued_out_of_turn-history refl (order, v))
@@ -155,7 +178,8 @@ replied_so (Some r) given h = subst (λ s. same_value r.reply s ≡ true) h (val
 
 along_may_reply : (es : List Call) (c : Content) → RepliesAlong c es → may_reply es c ≡ true
 along_may_reply [] c h = refl
-along_may_reply (e ∷ es) c h = ap (λ made. may_be made e.returned (may_reply es)) h.2 ∙ and_from (replied e.returned h.1) (may_reply es h.0) (replied_so e.returned h.1 h.3) (along_may_reply es h.0 h.4)
+along_may_reply (e ∷ es) c h = ap (λ made. may_be made e.returned (may_reply es)) h.2
+    ∙ and_from (replied e.returned h.1) (may_reply es h.0) (replied_so e.returned h.1 h.3) (along_may_reply es h.0 h.4)
 
 abbrev Ordered : List Call → Type 0
 Ordered cs = Pairs (λ (a b : Call). (a.number ≢ b.number) × (ReturnsBefore b a → ⊥)) cs
@@ -168,7 +192,8 @@ one_call (c ∷ cs) a b o i j e = elim i [
 ]
 
 -- the calls that have these numbers
-entries_are : (calls cs es : List Call) → Ordered calls → ((e : Call) → In e es → In e calls) → AllByRecursion (λ c. In c calls) cs → map (λ (e : Call). pos e.number) cs ≡ map (λ (e : Call). pos e.number) es → es ≡ cs
+entries_are : (calls cs es : List Call) → Ordered calls → ((e : Call) → In e es → In e calls) → AllByRecursion (λ c. In c calls) cs
+    → map (λ (e : Call). pos e.number) cs ≡ map (λ (e : Call). pos e.number) es → es ≡ cs
 entries_are calls [] [] up known these n = refl
 entries_are calls [] (e ∷ es) up known these n = absurd (cc n)
 entries_are calls (c ∷ cs) [] up known these n = absurd (cc n)
@@ -179,7 +204,8 @@ entries_are calls (c ∷ cs) (e ∷ es) up known these n =
     cc (here, rest)
 
 -- an order whose calls could not reply so
-not_replied : (kind : Kind) (calls cs : List Call) → in_order calls ≡ true → AllByRecursion (λ c. In c calls) cs → may_reply cs (empty kind) ≡ false → ¬ IsValidOrder kind calls (map (λ (e : Call). pos e.number) cs)
+not_replied : (kind : Kind) (calls cs : List Call) → in_order calls ≡ true → AllByRecursion (λ c. In c calls) cs → may_reply cs (empty kind) ≡ false
+    → ¬ IsValidOrder kind calls (map (λ (e : Call). pos e.number) cs)
 not_replied kind calls cs apart these fails v =
     let known : (e : Call) → In e v.entries → In e calls = λ e i. in_from_contains calls e (all_at (Contains calls) v.entries v.known e i) in
     let along : RepliesAlong (empty kind) cs = subst (RepliesAlong (empty kind)) (entries_are calls cs v.entries (ordered calls apart) known these v.numbers) v.replies in

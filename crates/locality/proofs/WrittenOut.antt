@@ -1,5 +1,6 @@
 -- Histories and orders that are written out: tests that compute, and what they decide.
-use Rattle.std.proofs.Common.{◌≡◌, ◌≢◌, ℕ, ℤ, pos, zero, suc, ◌<◌, ◌≤◌, ◌==◌, ◌&&◌, nat_lt, nat_le, Bool, true, false, not, inl, inr, List, [], ◌∷◌, map, Option, Some, IsSome, Contains, refl, ap, sym, ◌∙◌, subst, arith}
+use Rattle.std.proofs.Common.{◌≡◌, ◌≢◌, ℕ, ℤ, pos, zero, suc, ◌<◌, ◌≤◌, ◌==◌, ◌&&◌, nat_lt, nat_le, Bool, true, false, not, inl, inr, List, [], ◌∷◌}
+use Rattle.std.proofs.Common.{map, Option, Some, IsSome, Contains, refl, ap, sym, ◌∙◌, subst, arith}
 use Rattle.std.specs.List.{list_all, AllByRecursion}
 use Rattle.std.proofs.lemmas.List.Elements.{All-from_recursion}
 use Rattle.std.proofs.lemmas.Bool.{eqb-true, eq-eqb, ne_eqb, and_parts, ltb-true, leb-true, lt-ltb, not-true, cases_order}
@@ -65,7 +66,8 @@ well_formed n h all each p = elim (cases_order p n) [
   where
     absent : n ≤ p → IsSequential (by_process p h)
     absent l =
-        let none : by_process p h ≡ [] = filter_none (λ e. process_of e == p) h (λ e i. ne_eqb (process_of e) p (λ q. let low = ltb-true (process_of e) n (passes (λ e. nat_lt (process_of e) n) h all e i) in omega (arith, q))) in
+        let none : by_process p h ≡ [] =
+        filter_none (λ e. process_of e == p) h (λ e i. ne_eqb (process_of e) p (λ q. let low = ltb-true (process_of e) n (passes (λ e. nat_lt (process_of e) n) h all e i) in omega (arith, q))) in
         subst IsSequential (sym none) tt
 
 -- a history of processes below n
@@ -102,16 +104,20 @@ ordered (a ∷ es) e =
       ordered es both.1,
     )
 
-pub valid_order : (kind : Kind) (calls entries : List Call) → in_order entries ≡ true → AllByRecursion (Contains calls) entries → AllByRecursion (λ (e : Call). IsSome e.returned → Contains entries e) calls → RepliesAlong (empty kind) entries → IsValidOrder kind calls (map (λ (e : Call). pos e.number) entries)
+pub valid_order : (kind : Kind) (calls entries : List Call) → in_order entries ≡ true → AllByRecursion (Contains calls) entries
+    → AllByRecursion (λ (e : Call). IsSome e.returned → Contains entries e) calls → RepliesAlong (empty kind) entries → IsValidOrder kind calls (map (λ (e : Call). pos e.number) entries)
 valid_order kind calls entries e known whole replies =
     let o = ordered entries e in
     record {
       entries = entries;
       numbers = refl;
       known = All-from_recursion (Contains calls) entries known;
-      once = all_from_pairs (λ (a b : ℤ). a ≢ b) (map (λ (e : Call). pos e.number) entries) (pairs_map (λ (a b : ℤ). a ≢ b) (λ (e : Call). pos e.number) entries (pairs_weaker (λ (a b : Call). (a.number ≢ b.number) × (ReturnsBefore b a → ⊥)) (λ (a b : Call). pos a.number ≢ pos b.number) entries (λ a b i j r q. r.0 (same_pos a.number b.number q)) o));
+      once = all_from_pairs (λ (a b : ℤ). a ≢ b) (map (λ (e : Call). pos e.number) entries)
+          (pairs_map (λ (a b : ℤ). a ≢ b) (λ (e : Call). pos e.number) entries
+          (pairs_weaker (λ (a b : Call). (a.number ≢ b.number) × (ReturnsBefore b a → ⊥)) (λ (a b : Call). pos a.number ≢ pos b.number) entries (λ a b i j r q. r.0 (same_pos a.number b.number q)) o));
       whole = All-from_recursion (λ (e : Call). IsSome e.returned → Contains entries e) calls whole;
-      in_order = all_from_pairs (λ (a b : Call). ReturnsBefore b a → ⊥) entries (pairs_weaker (λ (a b : Call). (a.number ≢ b.number) × (ReturnsBefore b a → ⊥)) (λ (a b : Call). ReturnsBefore b a → ⊥) entries (λ a b i j r. r.1) o);
+      in_order = all_from_pairs (λ (a b : Call). ReturnsBefore b a → ⊥) entries
+          (pairs_weaker (λ (a b : Call). (a.number ≢ b.number) × (ReturnsBefore b a → ⊥)) (λ (a b : Call). ReturnsBefore b a → ⊥) entries (λ a b i j r. r.1) o);
       replies = replies;
     }
 

@@ -4,7 +4,12 @@ ghost use Rattle.std.specs.Prelude.{List, ℤ, pos, [], ◌∷◌};
 ghost use Rattle.model.specs.declared.Kind.{Kind};
 ghost use Rattle.model.specs.Linearizable.{IsLinearizable};
 ghost use Rattle.model.specs.Orders.{events, IsHistory, calls_on, IsValidOrder};
-ghost use Rattle.locality.specs.WorkedHistories.{enqueued_then_dequeued, overlapping_enqueues, dequeued_out_of_turn, dequeued_while_pending, pending_overtakes_returned, mutex_passed_on, found_empty_while_pending, two_queues, invoked_while_pending, returned_unasked, returned_elsewhere, numbered_backwards};
+ghost use Rattle.locality.specs.WorkedHistories.{enqueued_then_dequeued, overlapping_enqueues};
+ghost use Rattle.locality.specs.WorkedHistories.{dequeued_out_of_turn, dequeued_while_pending};
+ghost use Rattle.locality.specs.WorkedHistories.{pending_overtakes_returned, mutex_passed_on};
+ghost use Rattle.locality.specs.WorkedHistories.{found_empty_while_pending, two_queues};
+ghost use Rattle.locality.specs.WorkedHistories.{invoked_while_pending, returned_unasked};
+ghost use Rattle.locality.specs.WorkedHistories.{returned_elsewhere, numbered_backwards};
 
 /// One process alone enqueues and dequeues. Its order names each operation that returned, once, and
 /// no others.

@@ -19,7 +19,8 @@ pub record IsThat (x r x' r' : ℕ) (q q' : AnyRequest) : Type 0 where
 same_picked : (q q' : AnyRequest) → picked q ≡ picked q' → q' ≡ q
 same_picked q q' e = cc
 
-pub same_hand : (s : State) (c x r : ℕ) (q : AnyRequest) → IsInHand s c x r q → (x' r' : ℕ) (q' : AnyRequest) → (world_of s).holder x' ≡ Some c → (world_of s).hand x' ≡ Some r' → (world_of s).stage r' ≡ picked q' → IsThat x r x' r' q q'
+pub same_hand : (s : State) (c x r : ℕ) (q : AnyRequest) → IsInHand s c x r q → (x' r' : ℕ) (q' : AnyRequest) → (world_of s).holder x' ≡ Some c
+    → (world_of s).hand x' ≡ Some r' → (world_of s).stage r' ≡ picked q' → IsThat x r x' r' q q'
 same_hand s c x r q h x' r' q' held hand stage =
     let o : x' ≡ x = h.only x' held in
     let w : r' ≡ r = same_Some r' r (sym hand ∙ ap (world_of s).hand o ∙ h.hand) in

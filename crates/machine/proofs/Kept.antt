@@ -11,7 +11,8 @@ use Rattle.desk_model.specs.World as world
 use Rattle.model.specs.declared.AnyOp.{AnyOp}
 use Rattle.desk_model.specs.declared.JournalEvent.TheVariants.{Returned}
 use Rattle.desk_model.specs.World.{AnyRequest, AnyAnswer, AnyDone, AnyEvent, World, Stage, AnyEntry, kind_at, logged, Serves, request_of, invoked, calls_made, journal_of, journal_in, Replays}
-use Rattle.desk_model.specs.Transitions.{Step, Takes, Transition, MayEnd, HoldsNothing, changed, staged, ticked, held_by, handed, ended_by, served_by, draw_call, draw_return, answer, win, release, end}
+use Rattle.desk_model.specs.Transitions.{Step, Takes, Transition, MayEnd, HoldsNothing, changed, staged, ticked, held_by, handed, ended_by, served_by}
+use Rattle.desk_model.specs.Transitions.{draw_call, draw_return, answer, win, release, end}
 use Rattle.desk_model.proofs.Changed.{changed_here, changed_else, changed_all}
 use Rattle.machine.specs.declared.step.Stage.TheVariants.{Idle, Drawn, Posted, Picked, Answered, Taken}
 use Rattle.machine.specs.Machines.{State, AnyStage, HasRun, IsMachine, clients_of, world_of, stage_of, done_in}
@@ -22,7 +23,8 @@ use Rattle.machine.proofs.Lists.{get_or-set, slice_get-set_same, slice_get-set_o
 use Rattle.machine.proofs.States.{world-staged, world-ticked, world-held, world-handed, world-served, world-ended}
 use Rattle.machine.proofs.Journals.{done_in-journal_of, journal_called, journal_returned}
 
-leads_more : (kinds : List Kind) (quota : ℕ) (w : World) (ms : List (ℕ × Step)) (m : ℕ × Step) (between after : World) → Leads kinds quota w ms between → Transition kinds quota m.1 between m.0 after → Leads kinds quota w (ms ++ m ∷ []) after
+leads_more : (kinds : List Kind) (quota : ℕ) (w : World) (ms : List (ℕ × Step)) (m : ℕ × Step) (between after : World)
+    → Leads kinds quota w ms between → Transition kinds quota m.1 between m.0 after → Leads kinds quota w (ms ++ m ∷ []) after
 leads_more kinds quota w [] m between after l h = (after, subst (λ z. Transition kinds quota m.1 z m.0 after) l h, refl)
 leads_more kinds quota w (n ∷ ns) m between after l h = (l.0, l.1, leads_more kinds quota l.0 ns m between after l.2 h)
 
@@ -44,7 +46,8 @@ run_more kinds n quota step w after c r h = (r.0 ++ (c, step) ∷ [], leads_more
 pub run_taken : (s s' : State) (c : ℕ) (w : Step) → HasRun s → IsTaken s c w s' → HasRun s'
 run_taken s s' c w run t =
     let same : (ks : List Kind) (n q : ℕ) → s'.kinds ≡ ks → clients_of s' ≡ n → s'.quota ≡ q → IsWorldOfRun ks n q (world_of s') → HasRun s' =
-    λ ks n q a b d h. subst (λ (k : List Kind). IsWorldOfRun k (clients_of s') s'.quota (world_of s')) (sym a) (subst (λ (k : ℕ). IsWorldOfRun ks k s'.quota (world_of s')) (sym b) (subst (λ (k : ℕ). IsWorldOfRun ks n k (world_of s')) (sym d) h)) in
+    λ ks n q a b d h. subst (λ (k : List Kind). IsWorldOfRun k (clients_of s') s'.quota (world_of s')) (sym a)
+    (subst (λ (k : ℕ). IsWorldOfRun ks k s'.quota (world_of s')) (sym b) (subst (λ (k : ℕ). IsWorldOfRun ks n k (world_of s')) (sym d) h)) in
     same s.kinds (clients_of s) s.quota t.kinds t.clients t.quota (run_more s.kinds (clients_of s) s.quota w (world_of s) (world_of s') c run t.moves)
 
 -- a client that is there has come
@@ -104,14 +107,17 @@ module _ (contents : List Content) (s : State) (m : IsMachine contents s) (c : �
           fits = keeps.fits;
           journals_are = keeps.journals_are;
           single = keeps.single;
-          run = subst (λ (ks : List Kind). IsWorldOfRun ks (length s'.stages) s'.quota (world_of s')) (sym ek) (subst (λ (q : ℕ). IsWorldOfRun s.kinds (length s'.stages) q (world_of s')) (sym eq) (subst (λ (n : ℕ). IsWorldOfRun s.kinds n s.quota (world_of s')) (sym es) run));
+          run = subst (λ (ks : List Kind). IsWorldOfRun ks (length s'.stages) s'.quota (world_of s')) (sym ek)
+              (subst (λ (q : ℕ). IsWorldOfRun s.kinds (length s'.stages) q (world_of s')) (sym eq) (subst (λ (n : ℕ). IsWorldOfRun s.kinds n s.quota (world_of s')) (sym es) run));
         },
         record { moves = moved; kinds = ek; clients = es; quota = eq },
       )
 
   -- the same request, of each client
-  requests_staged : (s' : State) (r : ℕ) (t : Stage) → (world_of s').stage ≡ changed (world_of s).stage r t → request_of t ≡ request_of ((world_of s).stage r) → (j : ℕ) → request_of ((world_of s).stage j) ≡ request_of ((world_of s').stage j)
-  requests_staged s' r t is same j = changed_all (λ k v. request_of ((world_of s).stage k) ≡ request_of v) (world_of s).stage r t (sym same) (λ k _. refl) j ∙ ap (λ (f : ℕ → Stage). request_of (f j)) (sym is)
+  requests_staged : (s' : State) (r : ℕ) (t : Stage) → (world_of s').stage ≡ changed (world_of s).stage r t
+      → request_of t ≡ request_of ((world_of s).stage r) → (j : ℕ) → request_of ((world_of s).stage j) ≡ request_of ((world_of s').stage j)
+  requests_staged s' r t is same j =
+      changed_all (λ k v. request_of ((world_of s).stage k) ≡ request_of v) (world_of s).stage r t (sym same) (λ k _. refl) j ∙ ap (λ (f : ℕ → Stage). request_of (f j)) (sym is)
 
   -- A client only goes to another stage, with the same request.
   pub staged_now : (t : AnyStage) (w : Step) → Takes s.kinds s.quota w (world_of s) c (staged (world_of s) c (stage_of t)) → request_of (stage_of t) ≡ request_of ((world_of s).stage c)
@@ -191,8 +197,10 @@ module _ (contents : List Content) (s : State) (m : IsMachine contents s) (c : �
       (record { kinds = m.kinds; fits = m.fits; journals_are = m.journals_are; single = m.single })
 
   -- what a draw leaves: each journal is that of the world
-  ticked_now : (t : AnyStage) (js : List AnyEvent) (w : Step) → Takes s.kinds s.quota w (world_of s) c (ticked (world_of s) c (stage_of t) (done_in js)) → js ≡ journal_of (done_in js) (request_of (stage_of t))
-      → IsMachine contents (record s { clock = s.clock + 1; stages = set s.stages c t; journals = set s.journals c js }) × IsTaken s c w (record s { clock = s.clock + 1; stages = set s.stages c t; journals = set s.journals c js })
+  ticked_now : (t : AnyStage) (js : List AnyEvent) (w : Step)
+      → Takes s.kinds s.quota w (world_of s) c (ticked (world_of s) c (stage_of t) (done_in js)) → js ≡ journal_of (done_in js) (request_of (stage_of t))
+      → IsMachine contents (record s { clock = s.clock + 1; stages = set s.stages c t; journals = set s.journals c js })
+      × IsTaken s c w (record s { clock = s.clock + 1; stages = set s.stages c t; journals = set s.journals c js })
   ticked_now t js w takes here =
       let s' : State = record s { clock = s.clock + 1; stages = set s.stages c t; journals = set s.journals c js } in
       let low = go.0 in let long = m.journals in let within : c < length s.journals = omega arith in
@@ -206,14 +214,19 @@ module _ (contents : List Content) (s : State) (m : IsMachine contents s) (c : �
       IsOwn js t = js ≡ journal_of (done_in js) (request_of t)
 
       each : (s' : State) → world_of s' ≡ ticked (world_of s) c (stage_of t) (done_in js) → c < length s.journals → (j : ℕ) → IsOwn (get_or (set s.journals c js) j []) ((world_of s').stage j)
-      each s' is within j = subst (λ (xs : List AnyEvent). IsOwn xs ((world_of s').stage j)) (sym (get_or-set s.journals c js [] within j)) (subst (λ (z : World). IsOwn (changed (λ k. get_or s.journals k []) c js j) (z.stage j)) (sym is)
+      each s' is within j = subst (λ (xs : List AnyEvent). IsOwn xs ((world_of s').stage j)) (sym (get_or-set s.journals c js [] within j))
+          (subst (λ (z : World). IsOwn (changed (λ k. get_or s.journals k []) c js j) (z.stage j)) (sym is)
           (dite (ℕ_discrete j c)
           (λ same. subst (λ k. IsOwn (changed (λ k. get_or s.journals k []) c js k) (changed (world_of s).stage c (stage_of t) k)) (sym same)
-          (subst (λ xs. IsOwn xs (changed (world_of s).stage c (stage_of t) c)) (sym (changed_here (λ k. get_or s.journals k []) c js)) (subst (IsOwn js) (sym (changed_here (world_of s).stage c (stage_of t))) here)))
-          (λ other. subst (λ xs. IsOwn xs (changed (world_of s).stage c (stage_of t) j)) (sym (changed_else (λ k. get_or s.journals k []) c js j other)) (subst (IsOwn (get_or s.journals j [])) (sym (changed_else (world_of s).stage c (stage_of t) j other)) (m.journals_are j)))))
+          (subst (λ xs. IsOwn xs (changed (world_of s).stage c (stage_of t) c)) (sym (changed_here (λ k. get_or s.journals k []) c js))
+          (subst (IsOwn js) (sym (changed_here (world_of s).stage c (stage_of t))) here)))
+          (λ other. subst (λ xs. IsOwn xs (changed (world_of s).stage c (stage_of t) j))
+          (sym (changed_else (λ k. get_or s.journals k []) c js j other))
+          (subst (IsOwn (get_or s.journals j [])) (sym (changed_else (world_of s).stage c (stage_of t) j other)) (m.journals_are j)))))
 
   pub call_now : (x : ℕ) (op : AnyOp) → (world_of s).stage c ≡ world.idle → calls_made ((world_of s).done c) None < s.quota → x < length s.kinds → kind_of op ≡ kind_at s.kinds x
-      → let q : AnyRequest = record { object = x; ticket = s.clock; op = op } in let s' : State = record s { clock = s.clock + 1; stages = set s.stages c (Drawn q); journals = set s.journals c (get_or s.journals c [] ++ invoked q ∷ []) } in
+      → let q : AnyRequest = record { object = x; ticket = s.clock; op = op } in let s' : State =
+      record s { clock = s.clock + 1; stages = set s.stages c (Drawn q); journals = set s.journals c (get_or s.journals c [] ++ invoked q ∷ []) } in
       IsMachine contents s' × IsTaken s c (draw_call x op) s'
   call_now x op idle few low kind =
       let q : AnyRequest = record { object = x; ticket = s.clock; op = op } in
@@ -235,7 +248,8 @@ module _ (contents : List Content) (s : State) (m : IsMachine contents s) (c : �
       ticked_now Idle js draw_return (q, a, taken, ap (ticked (world_of s) c world.idle) over) (whole ∙ ap (λ z. journal_of z None) (sym over))
 
   -- A request is picked up or put back.
-  pub handed_now : (x : ℕ) (h : Option ℕ) (r : ℕ) (t : AnyStage) (w : Step) → x < length s.kinds → r < length s.stages → Takes s.kinds s.quota w (world_of s) c (handed (world_of s) x h r (stage_of t)) → request_of (stage_of t) ≡ request_of ((world_of s).stage r)
+  pub handed_now : (x : ℕ) (h : Option ℕ) (r : ℕ) (t : AnyStage) (w : Step) → x < length s.kinds → r < length s.stages
+      → Takes s.kinds s.quota w (world_of s) c (handed (world_of s) x h r (stage_of t)) → request_of (stage_of t) ≡ request_of ((world_of s).stage r)
       → IsMachine contents (record s { hands = set s.hands x h; stages = set s.stages r t }) × IsTaken s c w (record s { hands = set s.hands x h; stages = set s.stages r t })
   handed_now x h r t w low within takes same =
       let s' : State = record s { hands = set s.hands x h; stages = set s.stages r t } in
@@ -252,7 +266,8 @@ module _ (contents : List Content) (s : State) (m : IsMachine contents s) (c : �
       })
 
   -- The request in hand is answered: the object contains what the operation leaves, and the log has what was answered.
-  pub served_now : (x r : ℕ) (q : AnyRequest) (before after : Content) (a : AnyAnswer) → slice_get contents x ≡ Some before → x < length s.kinds → r < length s.stages → kind_at s.kinds x ≡ kind_with before → kind_with after ≡ kind_with before
+  pub served_now : (x r : ℕ) (q : AnyRequest) (before after : Content) (a : AnyAnswer) → slice_get contents x ≡ Some before → x < length s.kinds
+      → r < length s.stages → kind_at s.kinds x ≡ kind_with before → kind_with after ≡ kind_with before
       → (world_of s).holder x ≡ Some c → (world_of s).hand x ≡ Some r → (world_of s).stage r ≡ world.picked q → IsSome (next before q.op) → Serves before q.op a after
       → let s' : State = record s { logs = set s.logs x (get_or s.logs x [] ++ logged r q a); hands = set s.hands x None; stages = set s.stages r (Answered q a) } in
       IsMachine (set contents x after) s' × IsTaken s c answer s'
@@ -263,21 +278,35 @@ module _ (contents : List Content) (s : State) (m : IsMachine contents s) (c : �
       let is : world_of s' ≡ served_by (world_of s) x r q a = world-served s x r q a (omega arith) there within in
       let replays : Replays (empty (kind_at s.kinds x)) (get_or s.logs x []) before = subst (λ (k : Kind). Replays (empty k) (get_or s.logs x []) before) (sym kind) (m.fits x before at) in
       kept (set contents x after) s' answer
-      (record { kinds = refl; quota = refl; logs = length-set s.logs x (get_or s.logs x [] ++ logged r q a); holders = refl; hands = length-set s.hands x None; stages = length-set s.stages r (Answered q a); journals = refl; ended = refl })
+      (record {
+        kinds = refl;
+        quota = refl;
+        logs = length-set s.logs x (get_or s.logs x [] ++ logged r q a);
+        holders = refl;
+        hands =
+            length-set s.hands x None;
+        stages = length-set s.stages r (Answered q a);
+        journals = refl;
+        ended = refl;
+      })
       (subst (Takes s.kinds s.quota answer (world_of s) c) (sym is) (x, r, q, before, after, a, (held, hand, stage, replays), can, serves, refl))
       (record {
         kinds = m.kinds ∙ sym (map-set_same_at kind_with contents x after before at same);
         fits = fits_served x r q before after a at there kind same (replays_more (empty (kind_with before)) before after (get_or s.logs x []) r q a (m.fits x before at) serves);
         single = m.single;
-        journals_are = λ j. m.journals_are j ∙ ap (journal_of (done_in (get_or s.journals j []))) (requests_staged s' r (world.answered q a) (ap (λ (z : World). z.stage) is) (ap request_of (sym stage)) j);
+        journals_are = λ j. m.journals_are j
+            ∙ ap (journal_of (done_in (get_or s.journals j []))) (requests_staged s' r (world.answered q a) (ap (λ (z : World). z.stage) is) (ap request_of (sym stage)) j);
       })
     where
-      fits_served : (x r : ℕ) (q : AnyRequest) (before after : Content) (a : AnyAnswer) → slice_get contents x ≡ Some before → x < length s.logs → kind_at s.kinds x ≡ kind_with before → kind_with after ≡ kind_with before
+      fits_served : (x r : ℕ) (q : AnyRequest) (before after : Content) (a : AnyAnswer) → slice_get contents x ≡ Some before → x < length s.logs
+          → kind_at s.kinds x ≡ kind_with before → kind_with after ≡ kind_with before
           → Replays (empty (kind_with before)) (get_or s.logs x [] ++ logged r q a) after
           → (y : ℕ) (d : Content) → slice_get (set contents x after) y ≡ Some d → Replays (empty (kind_with d)) (get_or (set s.logs x (get_or s.logs x [] ++ logged r q a)) y []) d
       fits_served x r q before after a at there kind same whole y d e = dite (ℕ_discrete y x)
           (λ yx. let here : after ≡ d = same_Some after d (sym (slice_get-set_same contents x after before at) ∙ ap (slice_get (set contents x after)) (sym yx) ∙ e) in
           subst (λ (z : Content). Replays (empty (kind_with z)) (get_or (set s.logs x (get_or s.logs x [] ++ logged r q a)) y []) z) here
           (subst (λ (k : Kind). Replays (empty k) (get_or (set s.logs x (get_or s.logs x [] ++ logged r q a)) y []) after) (sym same)
-          (subst (λ (l : List AnyEntry). Replays (empty (kind_with before)) l after) (sym (ap (λ k. get_or (set s.logs x (get_or s.logs x [] ++ logged r q a)) k []) yx ∙ get_or-set_same s.logs x (get_or s.logs x [] ++ logged r q a) [] there)) whole)))
-          (λ yo. subst (λ (l : List AnyEntry). Replays (empty (kind_with d)) l d) (sym (get_or-set_other s.logs x y (get_or s.logs x [] ++ logged r q a) [] yo)) (m.fits y d (sym (slice_get-set_other contents x after y yo) ∙ e)))
+          (subst (λ (l : List AnyEntry). Replays (empty (kind_with before)) l after)
+          (sym (ap (λ k. get_or (set s.logs x (get_or s.logs x [] ++ logged r q a)) k []) yx ∙ get_or-set_same s.logs x (get_or s.logs x [] ++ logged r q a) [] there)) whole)))
+          (λ yo. subst (λ (l : List AnyEntry). Replays (empty (kind_with d)) l d)
+          (sym (get_or-set_other s.logs x y (get_or s.logs x [] ++ logged r q a) [] yo)) (m.fits y d (sym (slice_get-set_other contents x after y yo) ∙ e)))

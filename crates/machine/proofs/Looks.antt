@@ -71,7 +71,8 @@ module _ (contents : List Content) (s : State) (m : IsMachine contents s) where
   has_content x c at kind = (c, subst (λ (k : Kind). Replays (empty k) (get_or s.logs x []) c) (sym kind) (m.fits x c at))
 
   pub can_do_only : (x : ℕ) (c : Content) (op : AnyOp) → slice_get contents x ≡ Some c → kind_at s.kinds x ≡ kind_with c → CanDo s x op → IsSome (next c op)
-  can_do_only x c op at kind h = subst (λ (z : Content). IsSome (next z op)) (replays_once (empty (kind_with c)) h.0 c (get_or s.logs x []) (subst (λ (k : Kind). Replays (empty k) (get_or s.logs x []) h.0) kind h.1) (m.fits x c at)) h.2
+  can_do_only x c op at kind h = subst (λ (z : Content). IsSome (next z op))
+      (replays_once (empty (kind_with c)) h.0 c (get_or s.logs x []) (subst (λ (k : Kind). Replays (empty k) (get_or s.logs x []) h.0) kind h.1) (m.fits x c at)) h.2
 
   pub if_picked : (x : ℕ) (h : Option ℕ) → (world_of s).hand x ≡ h → IfSome h (λ r. (r < clients_of s) × HasPicked s x r)
   if_picked x None e = tt

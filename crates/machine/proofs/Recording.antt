@@ -17,14 +17,16 @@ use Rattle.machine.specs.Machines.{State, IsMachine, clients_of, world_of}
 use Rattle.machine.proofs.Rows.{state_in}
 use Rattle.machine.proofs.Runs.{run_sound}
 
-module _ {S O R : Type 0} (content : S → Content) (op_in : O → AnyOp) (reply_in : R → AnyReply) (m : Inside S O R) (is : IsMachine (map content m.objects.items) (state_in content op_in reply_in m)) where
+module _ {S O R : Type 0} (content : S → Content) (op_in : O → AnyOp) (reply_in : R → AnyReply) (m : Inside S O R)
+    (is : IsMachine (map content m.objects.items) (state_in content op_in reply_in m)) where
   journals_in : (c : ℕ) → map (event_in op_in reply_in) (get_or (items_of m.journals.items) c []) ≡ journal_in (world_of (state_in content op_in reply_in m)) c
   journals_in c = sym (ListN.get_or-map (map (event_in op_in reply_in)) (items_of m.journals.items) c []) ∙ is.journals_are c
 
   logs_in : (x : ℕ) → map (entry_in op_in reply_in) (get_or (items_of m.logs.items) x []) ≡ (world_of (state_in content op_in reply_in m)).log x
   logs_in x = sym (ListN.get_or-map (map (entry_in op_in reply_in)) (items_of m.logs.items) x [])
 
-  sound_in : IsSoundRecord (state_in content op_in reply_in m).kinds (state_in content op_in reply_in m).quota (λ c. map (event_in op_in reply_in) (get_or (items_of m.journals.items) c [])) (λ x. map (entry_in op_in reply_in) (get_or (items_of m.logs.items) x []))
+  sound_in : IsSoundRecord (state_in content op_in reply_in m).kinds (state_in content op_in reply_in m).quota
+      (λ c. map (event_in op_in reply_in) (get_or (items_of m.journals.items) c [])) (λ x. map (entry_in op_in reply_in) (get_or (items_of m.logs.items) x []))
   sound_in =
       let s = state_in content op_in reply_in m in
       subst (λ (js : ℕ → List AnyEvent). IsSoundRecord s.kinds s.quota js (λ x. map (entry_in op_in reply_in) (get_or (items_of m.logs.items) x []))) (λ i c. sym (journals_in c) i)
@@ -49,4 +51,5 @@ module _ {S O R : Type 0} (content : S → Content) (op_in : O → AnyOp) (reply
 
     pub is_sound : IsSoundRecord now.kinds now.quota (λ c. map (event_in op_in reply_in) (journal_at r c)) (λ x. map (entry_in op_in reply_in) (log_at r x))
     is_sound = subst (λ (s : State). IsSoundRecord s.kinds s.quota (λ c. map (event_in op_in reply_in) (journal_at r c)) (λ x. map (entry_in op_in reply_in) (log_at r x))) same
-        (subst (λ (z : Recorded O R). IsSoundRecord (state_in content op_in reply_in m).kinds (state_in content op_in reply_in m).quota (λ c. map (event_in op_in reply_in) (journal_at z c)) (λ x. map (entry_in op_in reply_in) (log_at z x))) (sym made) sound_in)
+        (subst (λ (z : Recorded O R). IsSoundRecord (state_in content op_in reply_in m).kinds (state_in content op_in reply_in m).quota
+        (λ c. map (event_in op_in reply_in) (journal_at z c)) (λ x. map (entry_in op_in reply_in) (log_at z x))) (sym made) sound_in)

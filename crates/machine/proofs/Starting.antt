@@ -1,5 +1,6 @@
 -- A machine at the start.
-use Rattle.std.proofs.Common.{◌≡◌, ℕ, zero, suc, add-one, ◌+◌, ◌<◌, ◌≤◌, inl, inr, List, [], ◌∷◌, ◌++◌, length, replicate, Option, Some, None, Bool, true, false, nat_lt, if◌then◌else◌, get_or, map, slice_get, refl, ap, sym, ◌∙◌, subst, arith}
+use Rattle.std.proofs.Common.{◌≡◌, ℕ, zero, suc, add-one, ◌+◌, ◌<◌, ◌≤◌, inl, inr, List, [], ◌∷◌, ◌++◌, length, replicate, Option, Some, None, Bool}
+use Rattle.std.proofs.Common.{true, false, nat_lt, if◌then◌else◌, get_or, map, slice_get, refl, ap, sym, ◌∙◌, subst, arith}
 use Rattle.std.proofs.lemmas.List.{length-map, map-append, get_or-replicate, get_or_past}
 use Rattle.std.proofs.lemmas.Bool.{cases_order}
 use Rattle.std.proofs.lemmas.Option.{same_Some}
@@ -51,7 +52,8 @@ at_start n c = elim (cases_order c n) [
     there low = let t : nat_lt c n ≡ true = grind (arith, nat_tests) in get_or-replicate n c world.idle world.absent low ∙ sym (ap (λ b. if b then world.idle else world.absent) t)
 
     past : n ≤ c → get_or (replicate n world.idle) c world.absent ≡ (if nat_lt c n then world.idle else world.absent)
-    past high = let t : nat_lt c n ≡ false = grind (arith, nat_tests) in let long = length-copies n world.idle in get_or_past (replicate n world.idle) c world.absent (omega arith) ∙ sym (ap (λ b. if b then world.idle else world.absent) t)
+    past high = let t : nat_lt c n ≡ false = grind (arith, nat_tests) in let long = length-copies n world.idle in
+        get_or_past (replicate n world.idle) c world.absent (omega arith) ∙ sym (ap (λ b. if b then world.idle else world.absent) t)
 
 -- the state at the start, of n objects and m clients
 abbrev pub start_state : List Kind → ℕ → ℕ → ℕ → State
@@ -84,7 +86,8 @@ no_request : (b : Bool) → request_of (if b then world.idle else world.absent) 
 no_request true = refl
 no_request false = refl
 
-pub machine_start : (contents : List Content) (m quota : ℕ) → length contents < 17 → m < 33 → quota < 10001 → ((x : ℕ) (c : Content) → slice_get contents x ≡ Some c → c ≡ empty (kind_with c)) → IsMachine contents (start_state (map kind_with contents) (length contents) m quota)
+pub machine_start : (contents : List Content) (m quota : ℕ) → length contents < 17 → m < 33 → quota < 10001
+    → ((x : ℕ) (c : Content) → slice_get contents x ≡ Some c → c ≡ empty (kind_with c)) → IsMachine contents (start_state (map kind_with contents) (length contents) m quota)
 machine_start contents m quota few_objects few_clients few_calls empties =
     let n = length contents in
     let s = start_state (map kind_with contents) n m quota in
@@ -114,7 +117,8 @@ kinds_twice content [] = refl
 kinds_twice content (o ∷ os) = ap (λ ks. kind_with (content o) ∷ ks) (kinds_twice content os)
 
 -- the fields of a new machine are those of the start
-pub made_start : {S O R : Type 0} (content : S → Content) (op_in : O → AnyOp) (reply_in : R → AnyReply) (objects : List S) (n m quota : ℕ) (logs : List (List (LogEntry O R))) (holders hands : List (Option ℕ)) (stages : List (Stage O R)) (journals : List (List (JournalEvent O R))) (ended : List Bool)
+pub made_start : {S O R : Type 0} (content : S → Content) (op_in : O → AnyOp) (reply_in : R → AnyReply) (objects : List S) (n m quota : ℕ)
+    (logs : List (List (LogEntry O R))) (holders hands : List (Option ℕ)) (stages : List (Stage O R)) (journals : List (List (JournalEvent O R))) (ended : List Bool)
     → logs ≡ replicate n [] → holders ≡ replicate n None → hands ≡ replicate n None → stages ≡ replicate m Idle → journals ≡ replicate m [] → ended ≡ replicate m false
     → state_of content op_in reply_in objects logs holders hands stages journals ended 0 quota ≡ start_state (map kind_with (map content objects)) n m quota
 made_start content op_in reply_in objects n m quota logs holders hands stages journals ended l h a s j e = λ i. record {
@@ -130,7 +134,9 @@ made_start content op_in reply_in objects n m quota logs holders hands stages jo
 }
 
 -- each object is empty, by number
-pub empties_at : {S : Type 0} (content : S → Content) (objects : List S) → ((i : ℕ) (d : S) → i < length objects → content (get_or objects i d) ≡ empty (kind_with (content (get_or objects i d)))) → (x : ℕ) (c : Content) → slice_get (map content objects) x ≡ Some c → c ≡ empty (kind_with c)
+pub empties_at : {S : Type 0} (content : S → Content) (objects : List S)
+    → ((i : ℕ) (d : S) → i < length objects → content (get_or objects i d) ≡ empty (kind_with (content (get_or objects i d)))) → (x : ℕ) (c : Content)
+    → slice_get (map content objects) x ≡ Some c → c ≡ empty (kind_with c)
 empties_at content [] all x c at = absurd (cc)
 empties_at content (o ∷ os) all zero c at = let here = all 0 o (omega arith) in let same = same_Some (content o) c at in subst (λ (z : Content). z ≡ empty (kind_with z)) same here
 empties_at content (o ∷ os) all (suc x) c at = empties_at content os (λ i d low. all (suc i) d (omega arith)) x c at

@@ -8,7 +8,8 @@ use Rattle.machine.specs.declared.step.Stage.TheVariants.{Answered}
 use Rattle.machine.specs.Machines.{State, AnyStage, world_of, stage_of, done_in}
 use Rattle.machine.proofs.Lists.{get_or-set, get_or-set_by}
 
-staged_at : (s : State) (c : ℕ) (t : AnyStage) → c < length s.stages → (j : ℕ) → get_or (map stage_of (set s.stages c t)) j world.absent ≡ changed (λ k. get_or (map stage_of s.stages) k world.absent) c (stage_of t) j
+staged_at : (s : State) (c : ℕ) (t : AnyStage) → c < length s.stages → (j : ℕ)
+    → get_or (map stage_of (set s.stages c t)) j world.absent ≡ changed (λ k. get_or (map stage_of s.stages) k world.absent) c (stage_of t) j
 staged_at s c t low j = ap (λ xs. get_or xs j world.absent) (map-set stage_of s.stages c t) ∙ get_or-set (map stage_of s.stages) c (stage_of t) world.absent (simp length-map low) j
 
 -- the stage of one client is written
@@ -35,4 +36,10 @@ world-handed s x h r t low within = λ i. record (world_of s) { hand = λ j. get
 -- also the log of the object
 pub world-served : (s : State) (x r : ℕ) (q : AnyRequest) (a : AnyAnswer) → x < length s.hands → x < length s.logs → r < length s.stages
     → world_of (record s { logs = set s.logs x (get_or s.logs x [] ++ logged r q a); hands = set s.hands x None; stages = set s.stages r (Answered q a) }) ≡ served_by (world_of s) x r q a
-world-served s x r q a low there within = λ i. record (world_of s) { hand = λ j. get_or-set s.hands x None None low j i; stage = λ j. staged_at s r (Answered q a) within j i; log = λ j. get_or-set s.logs x (get_or s.logs x [] ++ logged r q a) [] there j i }
+world-served s x r q a low there within =
+    λ i. record (world_of s) {
+      hand = λ j. get_or-set s.hands x None None low j i;
+      stage = λ j. staged_at s r (Answered q a) within j i;
+      log =
+          λ j. get_or-set s.logs x (get_or s.logs x [] ++ logged r q a) [] there j i;
+    }

@@ -1,5 +1,5 @@
 -- What a machine is made of, and the world that it is.
-use Rattle.std.specs.Prelude.{◌≡◌, ℕ, ◌<◌, Bool, false, List, [], ◌∷◌, map, length, slice_get}
+use Rattle.std.specs.Prelude.{◌≡◌, ℕ, ◌<◌, Bool, false, List, [], ◌∷◌, map, length, slice_get, ◌+◌}
 use Rattle.std.specs.Prelude.{slice_index_or, Option, Some, None}
 use Rattle.model.specs.declared.Kind.{Kind}
 use Rattle.model.specs.declared.AnyOp.{AnyOp}
@@ -15,6 +15,7 @@ use Rattle.machine.specs.declared.step.Stage.{Stage}
 use Rattle.machine.specs.declared.step.Stage.TheVariants.{Idle, Drawn, Posted, Picked, Answered}
 use Rattle.machine.specs.declared.step.Stage.TheVariants.{Taken}
 use Rattle.machine.specs.Runs.{IsWorldOfRun}
+use Rattle.desk_model.specs.Limits.{max_objects, max_clients, max_calls}
 
 -- a stage, of operations and replies of all kinds
 abbrev pub AnyStage : Type 0
@@ -103,9 +104,9 @@ pub record IsMachine (contents : List Content) (s : State) : Type 0 where
   pub hands : length s.hands ≡ length s.kinds
   pub journals : length s.journals ≡ length s.stages
   pub ended : length s.ended ≡ length s.stages
-  pub few_objects : length s.kinds < 17
-  pub few_clients : length s.stages < 33
-  pub few_calls : s.quota < 10001
+  pub few_objects : length s.kinds < 1 + max_objects
+  pub few_clients : length s.stages < 1 + max_clients
+  pub few_calls : s.quota < 1 + max_calls
   -- each object contains what its log leaves
   pub fits : (x : ℕ) (c : Content) → slice_get contents x ≡ Some c
       → Replays (empty (kind_with c)) (slice_index_or s.logs x []) c

@@ -1,6 +1,7 @@
 //! What a step asks of the machine.
 
-ghost use Rattle.std.specs.Prelude.{◌≡◌, ◌≢◌, ◌↔◌, ℕ, ◌+◌, ◌<◌, false, [], length, slice_index_or, IsTrue, IfSome, IfNone, Some, None};
+ghost use Rattle.std.specs.Prelude.{◌≡◌, ◌≢◌, ◌↔◌, ℕ, ◌+◌, ◌<◌, false, [], length, slice_index_or};
+ghost use Rattle.std.specs.Prelude.{IsTrue, IfSome, IfNone, Some, None};
 ghost use Rattle.model.specs.Objects.{kind_of};
 ghost use Rattle.desk_model.specs.World.{AnyRequest, idle, posted, picked, kind_at, calls_made};
 ghost use Rattle.desk_model.specs.Transitions.{HoldsNothing, MayEnd};

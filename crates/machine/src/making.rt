@@ -1,10 +1,11 @@
 //! A new machine.
 
-ghost use Rattle.std.specs.Prelude.{◌≡◌, ◌<◌, [], length, map, replicate, All, IfOk};
+ghost use Rattle.std.specs.Prelude.{◌≡◌, ◌<◌, [], length, map, replicate, All, IfOk, ◌+◌};
 ghost use Rattle.model.specs.Objects.{empty, kind_with};
 ghost use Rattle.recorder.specs.Records.{items_of};
 ghost use Rattle.machine.specs.Machines.{clients_of, world_of};
 ghost use Rattle.machine.specs.Runs.{start_of};
+ghost use Rattle.desk_model.specs.Limits.{max_objects, max_clients, max_calls};
 
 use crate::machine::Machine;
 use crate::step::Stage;
@@ -42,10 +43,10 @@ impl<S: SeqObject> Machine<S> {
         clients: u32,
         quota: u32,
     ) -> Result<Machine<S>, AllocError>
-        requires objects { (0 < length objects.items) × (length objects.items < 17)
+        requires objects { (0 < length objects.items) × (length objects.items < 1 + max_objects)
             × All (λ o. S.content o ≡ empty (kind_with (S.content o))) objects.items }
-        requires clients { (0 < clients) × (clients < 33) }
-        requires quota { quota < 10001 }
+        requires clients { (0 < clients) × (clients < 1 + max_clients) }
+        requires quota { quota < 1 + max_calls }
         ensures kinds { IfOk result (λ m. m.kinds
             ≡ map (λ o. kind_with (S.content o)) objects.items) }
         ensures counts { IfOk result (λ m. (clients_of m ≡ clients) × (m.quota ≡ quota)) }

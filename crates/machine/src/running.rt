@@ -1,6 +1,7 @@
 //! Many steps, and the end.
 
-ghost use Rattle.std.specs.Prelude.{◌≡◌, ◌≢◌, ℕ, ◌<◌, ◌≤◌, true, false, length, map, take, slice_get, IfOk, IfErr, IfSome, IfNone, OnErr, Some, [], ◌∷◌};
+ghost use Rattle.std.specs.Prelude.{◌≡◌, ◌≢◌, ℕ, ◌<◌, ◌≤◌, true, false, length, map, take};
+ghost use Rattle.std.specs.Prelude.{slice_get, IfOk, IfErr, IfSome, IfNone, OnErr, Some, [], ◌∷◌};
 ghost use Rattle.desk_model.specs.World.{journal_in};
 ghost use Rattle.desk_model.specs.Records.{IsSoundRecord};
 ghost use Rattle.desk_model.specs.Images.{entry_in, event_in};

@@ -1,6 +1,7 @@
 //! The steps that a client takes on its own row.
 
-ghost use Rattle.std.specs.Prelude.{◌≡◌, ◌<◌, [], ◌∷◌, ◌++◌, length, slice_set, slice_index_or, OnOk, IfErr};
+ghost use Rattle.std.specs.Prelude.{◌≡◌, ◌<◌, [], ◌∷◌, ◌++◌, length, slice_set, slice_index_or};
+ghost use Rattle.std.specs.Prelude.{OnOk, IfErr};
 ghost use Rattle.recorder.specs.Records.{items_of};
 ghost use Rattle.desk_model.specs.Transitions.{post, take, end, draw_call, draw_return};
 ghost use Rattle.machine.specs.declared.step.Step.TheVariants.{Draw};

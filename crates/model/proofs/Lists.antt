@@ -1,5 +1,6 @@
 -- What stands in a list, and what holds of each two of its elements, by recursion.
-use Rattle.std.proofs.Common.{◌≡◌, ℕ, zero, suc, ◌<◌, ◌≤◌, ◌==◌, ◌≢◌, nat_lt, ◌&&◌, Bool, true, false, not, cond, ◌⊎◌, inl, inr, List, [], ◌∷◌, ◌++◌, length, map, filter, Some, All, AllPairs, Contains, slice_get, get_or, refl, ap, sym, ◌∙◌, subst, arith}
+use Rattle.std.proofs.Common.{◌≡◌, ℕ, zero, suc, ◌<◌, ◌≤◌, ◌==◌, ◌≢◌, nat_lt, ◌&&◌, Bool, true, false, not, cond, ◌⊎◌, inl, inr, List, [], ◌∷◌, ◌++◌}
+use Rattle.std.proofs.Common.{length, map, filter, Some, All, AllPairs, Contains, slice_get, get_or, refl, ap, sym, ◌∙◌, subst, arith}
 use Rattle.std.proofs.lemmas.Option.{same_Some}
 use Rattle.std.specs.List.{flat_map}
 use Rattle.std.proofs.lemmas.List.Elements.{filter-append}
@@ -162,7 +163,8 @@ below_split {X} f t (x ∷ xs) h =
     here (nat_lt (f x) t) refl
 
 -- in rising order of what f gives, all numbers among ns
-pub batches : {X : Type 0} (f : X → ℕ) (ns : List ℕ) (xs : List X) → Pairs (λ a b. a < b) ns → Pairs (λ a b. f a ≤ f b) xs → ((x : X) → In x xs → In (f x) ns) → flat_map (λ n. filter (λ x. f x == n) xs) ns ≡ xs
+pub batches : {X : Type 0} (f : X → ℕ) (ns : List ℕ) (xs : List X) → Pairs (λ a b. a < b) ns → Pairs (λ a b. f a ≤ f b) xs
+    → ((x : X) → In x xs → In (f x) ns) → flat_map (λ n. filter (λ x. f x == n) xs) ns ≡ xs
 batches f [] [] up h all = refl
 batches f [] (x ∷ xs) up h all = absurd (all x (inl refl))
 batches {X} f (n ∷ ns) xs up h all =
@@ -174,7 +176,8 @@ batches {X} f (n ∷ ns) xs up h all =
     elim (all x (in_filter (λ x. not (f x == n)) x xs i)) [ inl e ↦ absurd (eqb-false (f x) n (not-true (f x == n) passes) e) | inr r ↦ r ] in
     let rest = batches f ns later up.1 (pairs_filter (λ a b. f a ≤ f b) (λ x. not (f x == n)) xs h) in_later in
     let same : flat_map (λ m. filter (λ x. f x == m) xs) ns ≡ flat_map (λ m. filter (λ x. f x == m) later) ns =
-    flat_map_same (λ m. filter (λ x. f x == m) xs) (λ m. filter (λ x. f x == m) later) ns (λ m i. sym (filter-filter (λ x. f x == m) (λ x. not (f x == n)) xs ∙ filter_same (λ x. not (f x == n) && (f x == m)) (λ x. f x == m) xs (λ x j. apart (f x) n m (up.0 m i)))) in
+    flat_map_same (λ m. filter (λ x. f x == m) xs) (λ m. filter (λ x. f x == m) later) ns
+    (λ m i. sym (filter-filter (λ x. f x == m) (λ x. not (f x == n)) xs ∙ filter_same (λ x. not (f x == n) && (f x == m)) (λ x. f x == m) xs (λ x j. apart (f x) n m (up.0 m i)))) in
     ap (λ ys. filter (λ x. f x == n) xs ++ ys) (same ∙ rest) ∙ sym split
   where
     apart : (a n m : ℕ) → n < m → (not (a == n) && (a == m)) ≡ (a == m)
@@ -185,7 +188,8 @@ pub pairs_append : {X : Type 0} (R : X → X → Type 0) (xs ys : List X) → Pa
 pairs_append R [] ys h k f = k
 pairs_append R (x ∷ xs) ys h k f = (λ y i. elim (in_append y xs ys i) [ inl a ↦ h.0 y a | inr b ↦ f x y (inl refl) b ], pairs_append R xs ys h.1 k (λ a b i j. f a b (inr i) j))
 
-pub pairs_flat_map : {X Y : Type 0} (R : Y → Y → Type 0) (S : X → X → Type 0) (f : X → List Y) (xs : List X) → Pairs S xs → ((x : X) → In x xs → Pairs R (f x)) → ((x z : X) → S x z → (a b : Y) → In a (f x) → In b (f z) → R a b) → Pairs R (flat_map f xs)
+pub pairs_flat_map : {X Y : Type 0} (R : Y → Y → Type 0) (S : X → X → Type 0) (f : X → List Y) (xs : List X) → Pairs S xs
+    → ((x : X) → In x xs → Pairs R (f x)) → ((x z : X) → S x z → (a b : Y) → In a (f x) → In b (f z) → R a b) → Pairs R (flat_map f xs)
 pairs_flat_map R S f [] h k g = tt
 pairs_flat_map R S f (x ∷ xs) h k g =
     pairs_append R (f x) (flat_map f xs) (k x (inl refl)) (pairs_flat_map R S f xs h.1 (λ y i. k y (inr i)) g)

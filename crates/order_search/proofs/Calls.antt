@@ -1,5 +1,6 @@
 -- Operations as calls.
-use Rattle.std.proofs.Common.{◌≡◌, ℕ, suc, zero, ◌+◌, ◌<◌, ◌≤◌, ◌≢◌, ◌&&◌, Bool, true, false, cond, List, [], ◌∷◌, Some, None, IsSome, is_some, length, map, filter, count_by, take, get_or, add-one, inl, All, Any, refl, ap, sym, ◌∙◌, subst, arith}
+use Rattle.std.proofs.Common.{◌≡◌, ℕ, suc, zero, ◌+◌, ◌<◌, ◌≤◌, ◌≢◌, ◌&&◌, Bool, true, false, cond, List, [], ◌∷◌, Some, None, IsSome, is_some}
+use Rattle.std.proofs.Common.{length, map, filter, count_by, take, get_or, add-one, inl, All, Any, refl, ap, sym, ◌∙◌, subst, arith}
 use Rattle.std.specs.List.{cons_option}
 use Rattle.std.specs.List.Sorted.{IsPermutation}
 use Rattle.std.proofs.lemmas.Option.{same_Some}
@@ -26,7 +27,9 @@ pub calls-filter : (ops : List Invocation) → calls_of ops ≡ map as_call (fil
 calls-filter [] = refl
 calls-filter (o ∷ ops) = go o.«end» (calls-filter ops)
   where
-    go : (e : End) → calls_of ops ≡ map as_call (filter happens ops) → cons_option (call_with o.number o.op e) (calls_of ops) ≡ map as_call (cond (is_some (call_with o.number o.op e)) (record { number = o.number; op = o.op; «end» = e } ∷ filter happens ops) (filter happens ops))
+    go : (e : End) → calls_of ops ≡ map as_call (filter happens ops)
+        → cons_option (call_with o.number o.op e) (calls_of ops)
+        ≡ map as_call (cond (is_some (call_with o.number o.op e)) (record { number = o.number; op = o.op; «end» = e } ∷ filter happens ops) (filter happens ops))
     go (Returned at r) h = ap (λ (cs : List Call). record { number = o.number; op = o.op; returned = Some (record { at = at; reply = r }) } ∷ cs) h
     go Pending h = ap (λ (cs : List Call). record { number = o.number; op = o.op; returned = None } ∷ cs) h
     go Failed h = h
@@ -49,7 +52,8 @@ all_items P ops items p h = All-permutation P (filter happens ops) items p (all_
 pub items_few : (ops items : List Invocation) → IsPermutation (filter happens ops) items → length items ≡ length (calls_of ops)
 items_few ops items p = length_permutation (filter happens ops) items p ∙ length-calls ops
 
-pub arranged : (h : ObjectCalls) (items : List Invocation) (floors : List ℕ) → IsObjectHistory h → length (calls_of h.ops) ≤ max_operations → IsPermutation (filter happens h.ops) items → AreFloors items floors → IsArranged h.kind items floors
+pub arranged : (h : ObjectCalls) (items : List Invocation) (floors : List ℕ) → IsObjectHistory h → length (calls_of h.ops) ≤ max_operations
+    → IsPermutation (filter happens h.ops) items → AreFloors items floors → IsArranged h.kind items floors
 arranged h items floors is few p f = record {
   few = let e = items_few h.ops items p in omega arith;
   floors_right = f;
@@ -77,12 +81,14 @@ count_first items (suc k) l = go (owes (call_at items) [] k) refl (count_first i
     more : count_by returns (take (k + 1) items) ≡ count_by returns (take (suc k) items)
     more = ap (λ (x : ℕ). count_by returns (take x items)) (add-one k)
 
-    go : (b : Bool) → owes (call_at items) [] k ≡ b → count_below (owes (call_at items) []) k ≡ count_by returns (take k items) → cond b (suc (count_below (owes (call_at items) []) k)) (count_below (owes (call_at items) []) k) ≡ count_by returns (take (suc k) items)
+    go : (b : Bool) → owes (call_at items) [] k ≡ b → count_below (owes (call_at items) []) k ≡ count_by returns (take k items)
+        → cond b (suc (count_below (owes (call_at items) []) k)) (count_below (owes (call_at items) []) k) ≡ count_by returns (take (suc k) items)
     go true e h = let q = count_by_more_yes returns items k none (omega arith) (by_owed (returns (get_or items k none)) true e) in let m = more in omega arith
     go false e h = let q = count_by_more_no returns items k none (omega arith) (by_owed (returns (get_or items k none)) false e) in let m = more in omega arith
 
 count_kept : (ops : List Invocation) → count_by returns (filter happens ops) ≡ count_by returns ops
-count_kept ops = sym (length-filter returns (filter happens ops)) ∙ ap length (filter-filter returns happens ops ∙ filter_same (λ o. happens o && returns o) returns ops (λ o i. both o.number o.op o.«end»)) ∙ length-filter returns ops
+count_kept ops = sym (length-filter returns (filter happens ops))
+    ∙ ap length (filter-filter returns happens ops ∙ filter_same (λ o. happens o && returns o) returns ops (λ o i. both o.number o.op o.«end»)) ∙ length-filter returns ops
   where
     both : (number : ℕ) (op : AnyOp) (e : End) → (is_some (call_with number op e) && is_some (return_of e)) ≡ is_some (return_of e)
     both number op (Returned at r) = refl

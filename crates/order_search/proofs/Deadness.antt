@@ -16,12 +16,14 @@ pub dead_not_possible : (n : ℕ) (call : ℕ → Call) (done : List ℕ) (c : C
 dead_not_possible n call done c k never rest h = never (subst IsSome (sym h.3.does) refl)
 
 -- what the call does is determined
-pub one_way : (call : ℕ → Call) (k : ℕ) (c after other : Content) (reply : AnyReply) → next c (call k).op ≡ Some (after, reply) → Places call k c other → (other ≡ after) × ((r : Return) → (call k).returned ≡ Some r → r.reply ≡ reply)
+pub one_way : (call : ℕ → Call) (k : ℕ) (c after other : Content) (reply : AnyReply) → next c (call k).op ≡ Some (after, reply)
+    → Places call k c other → (other ≡ after) × ((r : Return) → (call k).returned ≡ Some r → r.reply ≡ reply)
 one_way call k c after other reply e p =
     let s = same_Some (other, p.reply) (after, reply) (sym p.does ∙ e) in
     (ap (λ (x : Content × AnyReply). x.0) s, λ r q. p.agrees r q ∙ ap (λ (x : Content × AnyReply). x.1) s)
 
-pub dead_child : (n : ℕ) (call : ℕ → Call) (done : List ℕ) (c after : Content) (k : ℕ) (reply : AnyReply) → next c (call k).op ≡ Some (after, reply) → IsDead n call (k ∷ done) after → IsDeadAt n call done c k
+pub dead_child : (n : ℕ) (call : ℕ → Call) (done : List ℕ) (c after : Content) (k : ℕ) (reply : AnyReply) → next c (call k).op ≡ Some (after, reply)
+    → IsDead n call (k ∷ done) after → IsDeadAt n call done c k
 dead_child n call done c after k reply e d rest h =
     let s = one_way call k c after h.2 reply e h.3 in
     d rest (subst (λ (x : Content). Continues n call (k ∷ done) x rest) s.0 h.4)
@@ -30,7 +32,8 @@ pub dead_late : (n : ℕ) (call : ℕ → Call) (done : List ℕ) (c : Content) 
 dead_late n call done c k j l ne b rest h = h.1 j l ne b
 
 -- from `at` on to the next place that is left
-pub tried_more : (n : ℕ) (call : ℕ → Call) (done : List ℕ) (c : Content) (at more : ℕ) → IsTried n call done c at → IsDeadAt n call done c at → ((j : ℕ) → at < j → j < more → In j done) → IsTried n call done c more
+pub tried_more : (n : ℕ) (call : ℕ → Call) (done : List ℕ) (c : Content) (at more : ℕ) → IsTried n call done c at → IsDeadAt n call done c at
+    → ((j : ℕ) → at < j → j < more → In j done) → IsTried n call done c more
 tried_more n call done c at more t d p k l = elim (cases_order k at) [
   | inl e ↦ subst (IsDeadAt n call done c) (sym e) d
   | inr o ↦ elim o [ inl low ↦ t k low | inr high ↦ dead_placed n call done c k (p k high l) ]

@@ -25,7 +25,9 @@ pub none_dead : (t : Trials) (pairs : List Pair) → pairs ≡ [] → AreDead t 
 none_dead t [] e = λ k d l. absurd (omega arith)
 none_dead t (p ∷ pairs) e = absurd (cc e)
 
-pub begun : (n : ℕ) (call : ℕ → Call) (start c : Content) (ls : List Level) (nx pv : List ℕ) (at least left : ℕ) → ls ≡ [] → c ≡ start → Linked n [] nx pv → at ≡ get_or nx 0 0 → IsLeast n call [] least → left ≡ count_below (owes call []) n → 0 < left → IsWalk n call start (reverse ls) (befores (reverse ls) c) c nx pv 0 at least left
+pub begun : (n : ℕ) (call : ℕ → Call) (start c : Content) (ls : List Level) (nx pv : List ℕ) (at least left : ℕ) → ls ≡ [] → c ≡ start
+    → Linked n [] nx pv → at ≡ get_or nx 0 0 → IsLeast n call [] least → left ≡ count_below (owes call []) n → 0 < left
+    → IsWalk n call start (reverse ls) (befores (reverse ls) c) c nx pv 0 at least left
 begun n call start c ls nx pv at least left el ec link ea m counts owed =
     subst (λ (x : ℕ). IsWalk n call start (reverse ls) (befores (reverse ls) c) c nx pv 0 x least left) (sym ea)
     (subst (λ (x : List Level). IsWalk n call start (reverse x) (befores (reverse x) c) c nx pv 0 (get_or nx 0 0) least left) (sym el)
@@ -33,24 +35,30 @@ begun n call start c ls nx pv at least left el ec link ea m counts owed =
 
 -- ---- one level more
 
-pub stepped : (n : ℕ) (call : ℕ → Call) (start : Content) (olds news : List Level) (lv : Level) (oldb newb : List Content) (c after : Content) (nx pv nx2 pv2 : List ℕ) (high at least left high2 : ℕ) (gives : AnyReply) → IsWalk n call start (reverse olds) oldb c nx pv high at least left → at < n → (call at).number ≤ least → next c (call at).op ≡ Some (after, gives) → Agrees (call at).returned gives → high ≤ high2 → at < high2 →
+pub stepped : (n : ℕ) (call : ℕ → Call) (start : Content) (olds news : List Level) (lv : Level) (oldb newb : List Content) (c after : Content)
+    (nx pv nx2 pv2 : List ℕ) (high at least left high2 : ℕ) (gives : AnyReply) → IsWalk n call start (reverse olds) oldb c nx pv high at least left
+    → at < n → (call at).number ≤ least → next c (call at).op ≡ Some (after, gives) → Agrees (call at).returned gives → high ≤ high2 → at < high2 →
     lv.place ≡ at → lv.least ≡ least → lv.high ≡ high → news ≡ olds ++ lv ∷ [] → newb ≡ c ∷ oldb → nx2 ≡ next_without nx pv at → pv2 ≡ before_without nx pv at →
     Stack n call start (reverse news) newb after nx2 pv2 high2
 stepped n call start olds news lv oldb newb c after nx pv nx2 pv2 high at least left high2 gives w l low does agrees hi hat ep el eh en eb ex ev =
-    let s = placed_frame n call start (reverse olds) oldb c after nx pv high at least left high2 lv ep el eh w (candidate_now n call (places (reverse olds)) at least w.is_least low) l (record { reply = gives; does = does; agrees = agrees }) hi hat in
+    let s = placed_frame n call start (reverse olds) oldb c after nx pv high at least left high2 lv ep el eh w
+    (candidate_now n call (places (reverse olds)) at least w.is_least low) l (record { reply = gives; does = does; agrees = agrees }) hi hat in
     let rl : reverse news ≡ lv ∷ reverse olds = ap reverse en ∙ reverse_push olds lv in
     subst (λ (x : List ℕ). Stack n call start (reverse news) newb after x pv2 high2) (sym ex)
     (subst (λ (x : List ℕ). Stack n call start (reverse news) newb after (next_without nx pv at) x high2) (sym ev)
     (subst (λ (x : List Level). Stack n call start x newb after (next_without nx pv at) (before_without nx pv at) high2) (sym rl)
     (subst (λ (x : List Content). Stack n call start (lv ∷ reverse olds) x after (next_without nx pv at) (before_without nx pv at) high2) (sym eb) s)))
 
-pub taken_out : (n : ℕ) (call : ℕ → Call) (start : Content) (ls : List Level) (bs : List Content) (c : Content) (nx pv nx2 pv2 : List ℕ) (high at least left : ℕ) → IsWalk n call start ls bs c nx pv high at least left → at < n → nx2 ≡ next_without nx pv at → pv2 ≡ before_without nx pv at → Linked n (at ∷ places ls) nx2 pv2
+pub taken_out : (n : ℕ) (call : ℕ → Call) (start : Content) (ls : List Level) (bs : List Content) (c : Content) (nx pv nx2 pv2 : List ℕ)
+    (high at least left : ℕ) → IsWalk n call start ls bs c nx pv high at least left → at < n → nx2 ≡ next_without nx pv at → pv2 ≡ before_without nx pv at → Linked n (at ∷ places ls) nx2 pv2
 taken_out n call start ls bs c nx pv nx2 pv2 high at least left w l ex ev =
     subst (λ (x : List ℕ). Linked n (at ∷ places ls) x pv2) (sym ex) (subst (λ (y : List ℕ). Linked n (at ∷ places ls) (next_without nx pv at) y) (sym ev)
     (linked_without n (places ls) nx pv at (walk_linked n call start ls bs c nx pv high at least left w) (walk_left n call start ls bs c nx pv high at least left w l)))
 
 -- what is owed with one level more
-pub owed_less : (items : List Invocation) (o : Invocation) (start : Content) (olds news : List Level) (lv : Level) (bs : List Content) (c : Content) (nx pv : List ℕ) (high at least left left2 : ℕ) → IsWalk (length items) (call_at items) start (reverse olds) bs c nx pv high at least left → at < length items → as_call o ≡ call_at items at → lv.place ≡ at → news ≡ olds ++ lv ∷ [] →
+pub owed_less : (items : List Invocation) (o : Invocation) (start : Content) (olds news : List Level) (lv : Level) (bs : List Content) (c : Content)
+    (nx pv : List ℕ) (high at least left left2 : ℕ) → IsWalk (length items) (call_at items) start (reverse olds) bs c nx pv high at least left
+    → at < length items → as_call o ≡ call_at items at → lv.place ≡ at → news ≡ olds ++ lv ∷ [] →
     left ≡ (cond (is_some (return_of o.«end»)) (left2 + 1) left2) → left2 ≡ count_below (owes (call_at items) (places (reverse news))) (length items)
 owed_less items o start olds news lv bs c nx pv high at least left left2 w l eo ep en e =
     let n : ℕ = length items in
@@ -63,9 +71,12 @@ owed_less items o start olds news lv bs c nx pv high at least left left2 w l eo 
     go true q h = let z = owes_placed (length items) (call_at items) (places (reverse olds)) at (l, w.stop.left l) q in let y = w.counts in omega arith
     go false q h = let z = owes_pending (length items) (call_at items) (places (reverse olds)) at q in let y = w.counts in omega arith
 
-pub onward : (n : ℕ) (call : ℕ → Call) (start : Content) (ls : List Level) (bs : List Content) (c : Content) (nx pv : List ℕ) (high at least left : ℕ) → Stack n call start ls bs c nx pv high → at ≡ get_or nx 0 0 → ((done : List ℕ) → Linked n done nx pv → IsLeast n call done least) → left ≡ count_below (owes call (places ls)) n → (left ≡ 0 → ⊥) → IsWalk n call start ls bs c nx pv high at least left
+pub onward : (n : ℕ) (call : ℕ → Call) (start : Content) (ls : List Level) (bs : List Content) (c : Content) (nx pv : List ℕ) (high at least left : ℕ)
+    → Stack n call start ls bs c nx pv high → at ≡ get_or nx 0 0 → ((done : List ℕ) → Linked n done nx pv → IsLeast n call done least)
+    → left ≡ count_below (owes call (places ls)) n → (left ≡ 0 → ⊥) → IsWalk n call start ls bs c nx pv high at least left
 onward n call start ls bs c nx pv high at least left s ea m counts some =
-    subst (λ (x : ℕ). IsWalk n call start ls bs c nx pv high x least left) (sym ea) (placed n call start ls bs c nx pv high least left s (m (places ls) (linked_now n call start ls bs c nx pv high s)) counts (omega arith))
+    subst (λ (x : ℕ). IsWalk n call start ls bs c nx pv high x least left) (sym ea)
+    (placed n call start ls bs c nx pv high least left s (m (places ls) (linked_now n call start ls bs c nx pv high s)) counts (omega arith))
 
 -- ---- the last level
 
@@ -75,10 +86,12 @@ onto-reverse (x ∷ xs) ys = onto-reverse xs (x ∷ ys) ∙ sym (ap (λ (zs : Li
 
 places-reverse : (ls : List Level) → places (reverse ls) ≡ reverse (places ls)
 places-reverse [] = refl
-places-reverse (l ∷ ls) = ap places (reverse-append (l ∷ []) ls) ∙ map-append (λ l. l.place) (reverse ls) (l ∷ []) ∙ ap (λ (zs : List ℕ). zs ++ l.place ∷ []) (places-reverse ls) ∙ sym (reverse-append (l.place ∷ []) (places ls))
+places-reverse (l ∷ ls) = ap places (reverse-append (l ∷ []) ls) ∙ map-append (λ l. l.place) (reverse ls) (l ∷ [])
+    ∙ ap (λ (zs : List ℕ). zs ++ l.place ∷ []) (places-reverse ls) ∙ sym (reverse-append (l.place ∷ []) (places ls))
 
 -- nothing is owed: the levels are an order
-pub over_now : (n : ℕ) (call : ℕ → Call) (start : Content) (levels : List Level) (bs : List Content) (c : Content) (nx pv : List ℕ) (high left : ℕ) → Stack n call start (reverse levels) bs c nx pv high → left ≡ count_below (owes call (places (reverse levels))) n → left ≡ 0 → Continues n call [] start (places levels)
+pub over_now : (n : ℕ) (call : ℕ → Call) (start : Content) (levels : List Level) (bs : List Content) (c : Content) (nx pv : List ℕ) (high left : ℕ)
+    → Stack n call start (reverse levels) bs c nx pv high → left ≡ count_below (owes call (places (reverse levels))) n → left ≡ 0 → Continues n call [] start (places levels)
 over_now n call start levels bs c nx pv high left s counts zero_left =
     let r = continued n call start (reverse levels) bs c nx pv high [] s (none_owed n call (places (reverse levels)) (sym counts ∙ zero_left)) in
     let e = r.2 ∙ onto-reverse (places (reverse levels)) [] ∙ append-nil (reverse (places (reverse levels))) ∙ ap reverse (places-reverse levels) ∙ reverse-reverse (places levels) in

@@ -120,7 +120,8 @@ linked_without n done nx pv k h l =
             let f = h.forth s le (slot_less n done k s sl) in
             subst (IsForth n (k ∷ done) s) (sym is) (record {
               rises = f.rises;
-              stop = stop_more n done k (get_or nx s 0) f.stop (λ m. let m' : get_or nx s 0 ≡ k = m in let fr = f.rises in ne (same_slot n done s p k (slot_less n done k s sl) a.front.slot (omega arith) pk (subst (IsGap done s) m f.gap) a.front.gap));
+              stop = stop_more n done k (get_or nx s 0) f.stop (λ m. let m' : get_or nx s 0 ≡ k = m in let fr = f.rises in
+                  ne (same_slot n done s p k (slot_less n done k s sl) a.front.slot (omega arith) pk (subst (IsGap done s) m f.gap) a.front.gap));
               gap = gap_more done k s (get_or nx s 0) f.gap;
             })
       ];
@@ -138,7 +139,8 @@ linked_without n done nx pv k h l =
             let b = h.back t (stop_less n done k t st) in
             subst (λ (x : ℕ). IsBack n (k ∷ done) x t) (sym is) (record {
               rises = b.rises;
-              slot = slot_more n done k (get_or pv t 0) b.slot (λ m. let m' : get_or pv t 0 ≡ suc k = m in let br = b.rises in ne (same_stop n done (suc k) t q (stop_less n done k t st) a.behind.stop (omega arith) kq (subst (λ (x : ℕ). IsGap done x t) m b.gap) a.behind.gap));
+              slot = slot_more n done k (get_or pv t 0) b.slot (λ m. let m' : get_or pv t 0 ≡ suc k = m in let br = b.rises in
+                  ne (same_stop n done (suc k) t q (stop_less n done k t st) a.behind.stop (omega arith) kq (subst (λ (x : ℕ). IsGap done x t) m b.gap) a.behind.gap));
               gap = gap_more done k (get_or pv t 0) t b.gap;
             })
       ];
@@ -208,7 +210,8 @@ listed_left n done nx pv s (u ∷ us) high h le sl w k i =
     inside nx u [] high w = w.0
     inside nx u (v ∷ us) high w = w.0
 
-    listed_here : (n : ℕ) (done nx pv : List ℕ) (s u : ℕ) (us : List ℕ) (high : ℕ) → Linked n done nx pv → IsForth n done s (get_or nx s 0) → get_or nx s 0 ≡ u → Lists nx (suc u) us high → IsLeft n done u
+    listed_here : (n : ℕ) (done nx pv : List ℕ) (s u : ℕ) (us : List ℕ) (high : ℕ) → Linked n done nx pv → IsForth n done s (get_or nx s 0)
+        → get_or nx s 0 ≡ u → Lists nx (suc u) us high → IsLeft n done u
     listed_here n done nx pv s u us high h f e w =
         let long = h.long_next in
         let l : suc u < length nx = inside nx u us high w in
@@ -216,7 +219,8 @@ listed_left n done nx pv s (u ∷ us) high h le sl w k i =
         let un : u < n = omega arith in
         (un, st.left un)
 
-pub listed_cover : (n : ℕ) (done nx pv : List ℕ) (s : ℕ) (us : List ℕ) (high : ℕ) → Linked n done nx pv → s ≤ n → IsSlot n done s → Lists nx s us high → (k : ℕ) → s ≤ k → k < n → k < high → (In k us → ⊥) → In k done
+pub listed_cover : (n : ℕ) (done nx pv : List ℕ) (s : ℕ) (us : List ℕ) (high : ℕ) → Linked n done nx pv → s ≤ n → IsSlot n done s → Lists nx s us high
+    → (k : ℕ) → s ≤ k → k < n → k < high → (In k us → ⊥) → In k done
 listed_cover n done nx pv s [] high h le sl w k sk kn kh out =
     let f = h.forth s le sl in
     let long = h.long_next in

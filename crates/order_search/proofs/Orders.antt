@@ -1,5 +1,6 @@
 -- Valid orders of an object's calls, and orders of places that go on from nothing: each gives the other.
-use Rattle.std.proofs.Common.{◌≡◌, ◌≢◌, ℕ, ℤ, pos, ◌<◌, ◌==◌, Bool, inl, inr, List, [], ◌∷◌, Option, Some, None, IfSome, IsSome, length, map, filter, get_or, All, AllPairs, Contains, refl, ap, sym, ◌∙◌, subst, arith}
+use Rattle.std.proofs.Common.{◌≡◌, ◌≢◌, ℕ, ℤ, pos, ◌<◌, ◌==◌, Bool, inl, inr, List, [], ◌∷◌, Option, Some, None, IfSome, IsSome, length, map, filter}
+use Rattle.std.proofs.Common.{get_or, All, AllPairs, Contains, refl, ap, sym, ◌∙◌, subst, arith}
 use Rattle.std.specs.List.Sorted.{IsPermutation}
 use Rattle.std.proofs.lemmas.Bool.{cases_eq, cases_order, eq-eqb, ne_eqb}
 use Rattle.std.proofs.lemmas.List.Sorted.{IsPermutation-sym, Contains-permutation}
@@ -8,7 +9,8 @@ use Rattle.model.specs.declared.Kind.{Kind}
 use Rattle.model.specs.declared.AnyReply.{AnyReply}
 use Rattle.model.specs.Objects.{Content, empty}
 use Rattle.model.specs.Orders.{Call, Return, ReturnsBefore, RepliesAlong, IsValidOrder}
-use Rattle.model.proofs.Lists.{In, Pairs, in_map, in_map_from, in_from_contains, contains_from_in, in_from_get, all_from_in, all_at, all_from_pairs, pairs_from_all, pairs_filter, pairs_weaker, pairs_map, pairs_from_map}
+use Rattle.model.proofs.Lists.{In, Pairs, in_map, in_map_from, in_from_contains, contains_from_in, in_from_get, all_from_in, all_at, all_from_pairs}
+use Rattle.model.proofs.Lists.{pairs_from_all, pairs_filter, pairs_weaker, pairs_map, pairs_from_map}
 use Rattle.events.specs.declared.operations.Invocation.{Invocation}
 use Rattle.events.specs.Operations.{calls_of}
 use Rattle.order_search.specs.Arranged.{as_call, call_at}
@@ -34,7 +36,8 @@ pub record AreListed (calls : List Call) (n : ℕ) (call : ℕ → Call) : Type 
 abbrev same_number : Invocation → Invocation → Bool
 same_number a b = a.number == b.number
 
-numbers_differ : (ops items : List Invocation) → AllPairs (λ a b. a.number < b.number) ops → IsPermutation (filter happens ops) items → (j k : ℕ) → j < k → k < length items → (call_at items j).number ≢ (call_at items k).number
+numbers_differ : (ops items : List Invocation) → AllPairs (λ a b. a.number < b.number) ops → IsPermutation (filter happens ops) items → (j k : ℕ)
+    → j < k → k < length items → (call_at items j).number ≢ (call_at items k).number
 numbers_differ ops items up p j k l m e =
     let kept = all_from_pairs (λ a b. a.number < b.number) (filter happens ops) (pairs_filter (λ a b. a.number < b.number) happens ops (pairs_from_all (λ a b. a.number < b.number) ops up)) in
     let first = IsDistinct-from_apart same_number (filter happens ops) (λ i h d a b. let g = kept i h d a b in ne_eqb _ _ (λ q. omega (arith, q))) in
@@ -54,7 +57,8 @@ listed_calls ops items up p = record {
   ];
   known = λ k l.
       let o : Invocation = get_or items k none in
-      let i = in_from_contains (filter happens ops) o (Contains-permutation items (filter happens ops) o (IsPermutation-sym (filter happens ops) items p) (contains_from_in items o (in_from_get items k none l))) in
+      let i = in_from_contains (filter happens ops) o
+      (Contains-permutation items (filter happens ops) o (IsPermutation-sym (filter happens ops) items p) (contains_from_in items o (in_from_get items k none l))) in
       subst (In (as_call o)) (sym (calls-filter ops)) (in_map_from as_call o (filter happens ops) i);
   cover = λ e i.
       let m = in_map as_call e (filter happens ops) (subst (In e) (calls-filter ops) i) in
@@ -90,14 +94,19 @@ ordered n call done c (k ∷ rest) h = onto (ordered n call (k ∷ done) h.2 res
           whole = λ j r l e. elim (cases_eq j k) [ inl q ↦ inl q | inr ne ↦ inr (m.whole j r (l.0, λ i. elim i [ inl q ↦ ne q | inr d ↦ l.1 d ]) e) ];
         }
 
-pub valid_from : (kind : Kind) (calls : List Call) (n : ℕ) (call : ℕ → Call) (rest : List ℕ) (order : List ℤ) → AreListed calls n call → Continues n call [] (empty kind) rest → order ≡ map (λ k. pos (call k).number) rest → IsValidOrder kind calls order
+pub valid_from : (kind : Kind) (calls : List Call) (n : ℕ) (call : ℕ → Call) (rest : List ℕ) (order : List ℤ) → AreListed calls n call
+    → Continues n call [] (empty kind) rest → order ≡ map (λ k. pos (call k).number) rest → IsValidOrder kind calls order
 valid_from kind calls n call rest order a h eo =
     let m = ordered n call [] (empty kind) rest h in
     record {
       entries = map call rest;
       numbers = eo ∙ twice rest;
-      known = all_from_in (Contains calls) (map call rest) (λ e i. let k = in_map call e rest i in contains_from_in calls e (subst (λ (x : Call). In x calls) (sym k.2) (a.known k.0 (m.left k.0 k.1).0)));
-      once = subst (AllPairs (λ x y. x ≢ y)) (sym eo) (all_from_pairs (λ x y. x ≢ y) (map (λ k. pos (call k).number) rest) (pairs_map (λ x y. x ≢ y) (λ k. pos (call k).number) rest (pairs_weaker (λ j k. j ≢ k) (λ j k. pos (call j).number ≢ pos (call k).number) rest (λ j k i l ne e. ne (a.apart j k (m.left j i).0 (m.left k l).0 (same_pos _ _ e))) m.apart)));
+      known = all_from_in (Contains calls) (map call rest)
+          (λ e i. let k = in_map call e rest i in contains_from_in calls e (subst (λ (x : Call). In x calls) (sym k.2) (a.known k.0 (m.left k.0 k.1).0)));
+      once = subst (AllPairs (λ x y. x ≢ y)) (sym eo)
+          (all_from_pairs (λ x y. x ≢ y) (map (λ k. pos (call k).number) rest)
+          (pairs_map (λ x y. x ≢ y) (λ k. pos (call k).number) rest
+          (pairs_weaker (λ j k. j ≢ k) (λ j k. pos (call j).number ≢ pos (call k).number) rest (λ j k i l ne e. ne (a.apart j k (m.left j i).0 (m.left k l).0 (same_pos _ _ e))) m.apart)));
       whole = all_from_in (λ e. IsSome e.returned → Contains (map call rest) e) calls (λ e i some.
           let k = a.cover e i in
           let r = returned_some e.returned some in
@@ -115,7 +124,8 @@ valid_from kind calls n call rest order a h eo =
 pub none_valid : (kind : Kind) (calls : List Call) (n : ℕ) (call : ℕ → Call) → AreListed calls n call → IsDead n call [] (empty kind) → (order : List ℤ) → IsValidOrder kind calls order → ⊥
 none_valid kind calls n call a dead order v =
     let number : Call → ℤ = λ e. pos e.number in
-    let apart = pairs_weaker (λ x y. number x ≢ number y) (λ x y. x ≢ y) v.entries (λ x y i j ne e. ne (ap number e)) (pairs_from_map (λ x y. x ≢ y) number v.entries (subst (Pairs (λ x y. x ≢ y)) v.numbers (pairs_from_all (λ x y. x ≢ y) order v.once))) in
+    let apart = pairs_weaker (λ x y. number x ≢ number y) (λ x y. x ≢ y) v.entries (λ x y i j ne e. ne (ap number e))
+    (pairs_from_map (λ x y. x ≢ y) number v.entries (subst (Pairs (λ x y. x ≢ y)) v.numbers (pairs_from_all (λ x y. x ≢ y) order v.once))) in
     let r = goes_on_from n call [] (empty kind) v.entries (λ j k l m e. a.apart j k l m (ap (λ (x : Call). x.number) e))
     (λ e i. a.cover e (in_from_contains calls e (all_at (Contains calls) v.entries v.known e i)))
     (λ k l i z. z)
@@ -142,9 +152,11 @@ nothing_valid kind calls pending = record {
 -- ---- as a search has them
 
 pub places_within : (t : Trials) (levels : List Level) → Continues (length t.items.items) (call_at t.items.items) [] (empty t.kind) (places levels) → All (λ l. l.place < length t.items.items) levels
-places_within t levels h = all_from_in (λ l. l.place < length t.items.items) levels (λ l i. ((ordered (length t.items.items) (call_at t.items.items) [] (empty t.kind) (places levels) h).left l.place (in_map_from (λ (l : Level). l.place) l levels i)).0)
+places_within t levels h = all_from_in (λ l. l.place < length t.items.items) levels
+    (λ l i. ((ordered (length t.items.items) (call_at t.items.items) [] (empty t.kind) (places levels) h).left l.place (in_map_from (λ (l : Level). l.place) l levels i)).0)
 
-pub order_found : (t : Trials) (levels : List Level) (order : List ℤ) → Continues (length t.items.items) (call_at t.items.items) [] (empty t.kind) (places levels) → order ≡ map (λ l. pos (call_at t.items.items l.place).number) levels → IsOrderOf t order
+pub order_found : (t : Trials) (levels : List Level) (order : List ℤ)
+    → Continues (length t.items.items) (call_at t.items.items) [] (empty t.kind) (places levels) → order ≡ map (λ l. pos (call_at t.items.items l.place).number) levels → IsOrderOf t order
 order_found t levels order h e = record { rest = places levels; goes_on = h; numbers = e ∙ twice levels }
   where
     twice : (ls : List Level) → map (λ l. pos (call_at t.items.items l.place).number) ls ≡ map (λ k. pos (call_at t.items.items k).number) (places ls)

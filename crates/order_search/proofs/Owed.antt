@@ -76,7 +76,8 @@ none_owed n call done e j r l q =
     let u = count_zero (owes call done) n j e l.0 in
     absurd (cc (t, u))
 
-pub owes_placed : (n : ℕ) (call : ℕ → Call) (done : List ℕ) (at : ℕ) → IsLeft n done at → is_some (call at).returned ≡ true → count_below (owes call done) n ≡ suc (count_below (owes call (at ∷ done)) n)
+pub owes_placed : (n : ℕ) (call : ℕ → Call) (done : List ℕ) (at : ℕ) → IsLeft n done at → is_some (call at).returned ≡ true
+    → count_below (owes call done) n ≡ suc (count_below (owes call (at ∷ done)) n)
 owes_placed n call done at l t = count_one_less (owes call done) (owes call (at ∷ done)) n at l.0 here gone others
   where
     here : owes call done at ≡ true

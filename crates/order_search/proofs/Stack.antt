@@ -16,7 +16,8 @@ use Rattle.order_search.proofs.Owed.{count_some, owes_left}
 -- ---- which places can come next
 
 -- not one whose call was invoked after the least return
-pub dead_after : (n : ℕ) (call : ℕ → Call) (done : List ℕ) (c : Content) (least k : ℕ) → IsLeast n call done least → least < 4294967295 → least < (call k).number → ((r : Return) → (call k).returned ≡ Some r → (call k).number < r.at) → IsDeadAt n call done c k
+pub dead_after : (n : ℕ) (call : ℕ → Call) (done : List ℕ) (c : Content) (least k : ℕ) → IsLeast n call done least → least < 4294967295
+    → least < (call k).number → ((r : Return) → (call k).returned ≡ Some r → (call k).number < r.at) → IsDeadAt n call done c k
 dead_after n call done c least k m small late ends rest h = elim m.stands [
   | inl e ↦ let e' : least ≡ 4294967295 = e in omega arith
   | inr s ↦
@@ -26,7 +27,9 @@ dead_after n call done c least k m small late ends rest h = elim m.stands [
 ]
 
 -- and none at all where that is so of each place that was not tried
-pub dead_behind : (n : ℕ) (call : ℕ → Call) (done : List ℕ) (c : Content) (at least : ℕ) → IsTried n call done c at → IsLeast n call done least → least < 4294967295 → ((k : ℕ) → at ≤ k → k < n → least < (call k).number) → ((k : ℕ) (r : Return) → k < n → (call k).returned ≡ Some r → (call k).number < r.at) → (k : ℕ) → IsDeadAt n call done c k
+pub dead_behind : (n : ℕ) (call : ℕ → Call) (done : List ℕ) (c : Content) (at least : ℕ) → IsTried n call done c at → IsLeast n call done least
+    → least < 4294967295 → ((k : ℕ) → at ≤ k → k < n → least < (call k).number)
+    → ((k : ℕ) (r : Return) → k < n → (call k).returned ≡ Some r → (call k).number < r.at) → (k : ℕ) → IsDeadAt n call done c k
 dead_behind n call done c at least t m small late ends k rest h = elim (cases_order k at) [
   | inl e ↦ let e' : k ≡ at = e in behind (omega arith)
   | inr o ↦ elim o [ inl lo ↦ t k lo rest h | inr hi ↦ behind (omega arith) ]
@@ -43,7 +46,8 @@ pub candidate_now : (n : ℕ) (call : ℕ → Call) (done : List ℕ) (at least 
 candidate_now n call done at least m low j jl ne b = let g = m.below j b.0 jl b.1 in let h = b.2 in omega arith
 
 -- a walk that has no place left to try
-pub dead_now : (n : ℕ) (call : ℕ → Call) (start : Content) (ls : List Level) (bs : List Content) (c : Content) (nx pv : List ℕ) (high at least left : ℕ) → IsWalk n call start ls bs c nx pv high at least left → ((k : ℕ) → IsDeadAt n call (places ls) c k) → IsDead n call (places ls) c
+pub dead_now : (n : ℕ) (call : ℕ → Call) (start : Content) (ls : List Level) (bs : List Content) (c : Content) (nx pv : List ℕ)
+    (high at least left : ℕ) → IsWalk n call start ls bs c nx pv high at least left → ((k : ℕ) → IsDeadAt n call (places ls) c k) → IsDead n call (places ls) c
 dead_now n call start ls bs c nx pv high at least left w d =
     let some = count_some (owes call (places ls)) n (subst (λ (x : ℕ). 0 < x) w.counts w.owed) in
     let o = owes_left n call (places ls) some.0 some.1 some.2 in
@@ -56,7 +60,9 @@ pub record IsLeastBelow (n : ℕ) (call : ℕ → Call) (done : List ℕ) (at le
   pub stands : (least ≡ 4294967295) ⊎ ((j : ℕ) × (r : Return) × IsLeft n done j × ((call j).returned ≡ Some r) × (least ≡ r.at))
 
 -- with one more place
-pub least_more : (n : ℕ) (call : ℕ → Call) (done : List ℕ) (at more least next_least : ℕ) → IsLeastBelow n call done at least → IsLeft n done at → ((j : ℕ) → at < j → j < more → In j done) → next_least ≤ least → ((r : Return) → (call at).returned ≡ Some r → next_least ≤ r.at) → ((next_least ≡ least) ⊎ ((r : Return) × ((call at).returned ≡ Some r) × (next_least ≡ r.at))) → IsLeastBelow n call done more next_least
+pub least_more : (n : ℕ) (call : ℕ → Call) (done : List ℕ) (at more least next_least : ℕ) → IsLeastBelow n call done at least → IsLeft n done at
+    → ((j : ℕ) → at < j → j < more → In j done) → next_least ≤ least → ((r : Return) → (call at).returned ≡ Some r → next_least ≤ r.at)
+    → ((next_least ≡ least) ⊎ ((r : Return) × ((call at).returned ≡ Some r) × (next_least ≡ r.at))) → IsLeastBelow n call done more next_least
 least_more n call done at more least next_least m l gap low own either = record {
   below = λ j r jm jl q. elim (cases_order j at) [
     | inl e ↦ own r (ap (λ (x : ℕ). (call x).returned) (sym e) ∙ q)
@@ -69,7 +75,8 @@ least_more n call done at more least next_least m l gap low own either = record 
 }
 
 -- all that are behind return later
-pub least_of_all : (n : ℕ) (call : ℕ → Call) (done : List ℕ) (at least : ℕ) → IsLeastBelow n call done at least → ((j : ℕ) (r : Return) → at ≤ j → j < n → (call j).returned ≡ Some r → least ≤ r.at) → IsLeast n call done least
+pub least_of_all : (n : ℕ) (call : ℕ → Call) (done : List ℕ) (at least : ℕ) → IsLeastBelow n call done at least
+    → ((j : ℕ) (r : Return) → at ≤ j → j < n → (call j).returned ≡ Some r → least ≤ r.at) → IsLeast n call done least
 least_of_all n call done at least m later = record {
   below = λ j r jl q. elim (cases_order j at) [
     | inl e ↦ let e' : j ≡ at = e in later j r (omega arith) jl.0 q
@@ -80,29 +87,35 @@ least_of_all n call done at least m later = record {
 
 -- ---- steps
 
-pub linked_now : (n : ℕ) (call : ℕ → Call) (start : Content) (ls : List Level) (bs : List Content) (c : Content) (nx pv : List ℕ) (high : ℕ) → Stack n call start ls bs c nx pv high → Linked n (places ls) nx pv
+pub linked_now : (n : ℕ) (call : ℕ → Call) (start : Content) (ls : List Level) (bs : List Content) (c : Content) (nx pv : List ℕ) (high : ℕ)
+    → Stack n call start ls bs c nx pv high → Linked n (places ls) nx pv
 linked_now n call start [] [] c nx pv high s = s.1
 linked_now n call start [] (b ∷ bs) c nx pv high s = absurd s
 linked_now n call start (l ∷ ls) [] c nx pv high s = absurd s
 linked_now n call start (l ∷ ls) (b ∷ bs) c nx pv high s = s.1
 
-bound_now : (n : ℕ) (call : ℕ → Call) (start : Content) (ls : List Level) (bs : List Content) (c : Content) (nx pv : List ℕ) (high : ℕ) → Stack n call start ls bs c nx pv high → IsBound (places ls) high
+bound_now : (n : ℕ) (call : ℕ → Call) (start : Content) (ls : List Level) (bs : List Content) (c : Content) (nx pv : List ℕ) (high : ℕ)
+    → Stack n call start ls bs c nx pv high → IsBound (places ls) high
 bound_now n call start [] [] c nx pv high s = λ k i. absurd i
 bound_now n call start [] (b ∷ bs) c nx pv high s = absurd s
 bound_now n call start (l ∷ ls) [] c nx pv high s = absurd s
 bound_now n call start (l ∷ ls) (b ∷ bs) c nx pv high s = s.2
 
-pub walk_linked : (n : ℕ) (call : ℕ → Call) (start : Content) (ls : List Level) (bs : List Content) (c : Content) (nx pv : List ℕ) (high at least left : ℕ) → IsWalk n call start ls bs c nx pv high at least left → Linked n (places ls) nx pv
+pub walk_linked : (n : ℕ) (call : ℕ → Call) (start : Content) (ls : List Level) (bs : List Content) (c : Content) (nx pv : List ℕ)
+    (high at least left : ℕ) → IsWalk n call start ls bs c nx pv high at least left → Linked n (places ls) nx pv
 walk_linked n call start ls bs c nx pv high at least left w = linked_now n call start ls bs c nx pv high w.stack
 
-pub walk_bound : (n : ℕ) (call : ℕ → Call) (start : Content) (ls : List Level) (bs : List Content) (c : Content) (nx pv : List ℕ) (high at least left : ℕ) → IsWalk n call start ls bs c nx pv high at least left → IsBound (places ls) high
+pub walk_bound : (n : ℕ) (call : ℕ → Call) (start : Content) (ls : List Level) (bs : List Content) (c : Content) (nx pv : List ℕ)
+    (high at least left : ℕ) → IsWalk n call start ls bs c nx pv high at least left → IsBound (places ls) high
 walk_bound n call start ls bs c nx pv high at least left w = bound_now n call start ls bs c nx pv high w.stack
 
-pub walk_left : (n : ℕ) (call : ℕ → Call) (start : Content) (ls : List Level) (bs : List Content) (c : Content) (nx pv : List ℕ) (high at least left : ℕ) → IsWalk n call start ls bs c nx pv high at least left → at < n → IsLeft n (places ls) at
+pub walk_left : (n : ℕ) (call : ℕ → Call) (start : Content) (ls : List Level) (bs : List Content) (c : Content) (nx pv : List ℕ)
+    (high at least left : ℕ) → IsWalk n call start ls bs c nx pv high at least left → at < n → IsLeft n (places ls) at
 walk_left n call start ls bs c nx pv high at least left w l = (l, w.stop.left l)
 
 -- on to the next place that is left
-pub passed : (n : ℕ) (call : ℕ → Call) (start : Content) (ls : List Level) (bs : List Content) (c : Content) (nx pv : List ℕ) (high at least left : ℕ) → IsWalk n call start ls bs c nx pv high at least left → at < n → IsDeadAt n call (places ls) c at → IsWalk n call start ls bs c nx pv high (get_or nx (suc at) 0) least left
+pub passed : (n : ℕ) (call : ℕ → Call) (start : Content) (ls : List Level) (bs : List Content) (c : Content) (nx pv : List ℕ) (high at least left : ℕ)
+    → IsWalk n call start ls bs c nx pv high at least left → at < n → IsDeadAt n call (places ls) c at → IsWalk n call start ls bs c nx pv high (get_or nx (suc at) 0) least left
 passed n call start ls bs c nx pv high at least left w l d =
     let here = walk_left n call start ls bs c nx pv high at least left w l in
     let f = (linked_now n call start ls bs c nx pv high w.stack).forth (suc at) (omega arith) here in
@@ -117,7 +130,8 @@ passed n call start ls bs c nx pv high at least left w l d =
     }
 
 -- one more level
-pub placed_frame : (n : ℕ) (call : ℕ → Call) (start : Content) (ls : List Level) (bs : List Content) (c after : Content) (nx pv : List ℕ) (high at least left new_high : ℕ) (lv : Level) → lv.place ≡ at → lv.least ≡ least → lv.high ≡ high →
+pub placed_frame : (n : ℕ) (call : ℕ → Call) (start : Content) (ls : List Level) (bs : List Content) (c after : Content) (nx pv : List ℕ)
+    (high at least left new_high : ℕ) (lv : Level) → lv.place ≡ at → lv.least ≡ least → lv.high ≡ high →
     IsWalk n call start ls bs c nx pv high at least left → IsCandidate n call (places ls) at → at < n → Places call at c after → high ≤ new_high → at < new_high →
     Stack n call start (lv ∷ ls) (c ∷ bs) after (next_without nx pv at) (before_without nx pv at) new_high
 placed_frame n call start ls bs c after nx pv high at least left new_high lv ep el eh w cand l p hi hat =
@@ -130,13 +144,20 @@ placed_frame n call start ls bs c after nx pv high at least left new_high lv ep 
     let eb : before_with (next_without nx pv at) (before_without nx pv at) at ≡ pv = before_again n (places ls) nx pv at a in
     let frame : Frame n call (places ls) c after at least = record { left = here; candidate = cand; placed = p; tried = w.tried; is_least = w.is_least } in
     let old : Stack n call start ls bs c (next_with (next_without nx pv at) (before_without nx pv at) at) (before_with (next_without nx pv at) (before_without nx pv at) at) high =
-    subst (λ (x : List ℕ). Stack n call start ls bs c x (before_with (next_without nx pv at) (before_without nx pv at) at) high) (sym en) (subst (λ (y : List ℕ). Stack n call start ls bs c nx y high) (sym eb) w.stack) in
+    subst (λ (x : List ℕ). Stack n call start ls bs c x (before_with (next_without nx pv at) (before_without nx pv at) at) high) (sym en)
+    (subst (λ (y : List ℕ). Stack n call start ls bs c nx y high) (sym eb) w.stack) in
     let nb : IsBound (at ∷ places ls) new_high = λ k i. elim i [ inl e ↦ (let e' : k ≡ at = e in omega arith) | inr m ↦ (let b = bound k m in omega arith) ] in
-    let M : ℕ → ℕ → ℕ → Type 0 = λ x y z. Frame n call (places ls) c after x y × Linked n (x ∷ places ls) (next_without nx pv at) (before_without nx pv at) × IsBound (x ∷ places ls) new_high × AreWithin (next_without nx pv at) (before_without nx pv at) x × Stack n call start ls bs c (next_with (next_without nx pv at) (before_without nx pv at) x) (before_with (next_without nx pv at) (before_without nx pv at) x) z in
-    subst (λ (x : ℕ). M x lv.least lv.high) (sym ep) (subst (λ (y : ℕ). M at y lv.high) (sym el) (subst (λ (z : ℕ). M at least z) (sym eh) (frame, new_link, nb, within_after n (places ls) nx pv at a link, old)))
+    let M : ℕ → ℕ → ℕ → Type 0 = λ x y z. Frame n call (places ls) c after x y
+    × Linked n (x ∷ places ls) (next_without nx pv at) (before_without nx pv at) × IsBound (x ∷ places ls) new_high
+    × AreWithin (next_without nx pv at) (before_without nx pv at) x
+    × Stack n call start ls bs c (next_with (next_without nx pv at) (before_without nx pv at) x) (before_with (next_without nx pv at) (before_without nx pv at) x) z in
+    subst (λ (x : ℕ). M x lv.least lv.high) (sym ep)
+    (subst (λ (y : ℕ). M at y lv.high) (sym el) (subst (λ (z : ℕ). M at least z) (sym eh) (frame, new_link, nb, within_after n (places ls) nx pv at a link, old)))
 
 -- and the walk starts anew at the first place that is left
-pub placed : (n : ℕ) (call : ℕ → Call) (start : Content) (ls : List Level) (bs : List Content) (c : Content) (nx pv : List ℕ) (high least left : ℕ) → Stack n call start ls bs c nx pv high → IsLeast n call (places ls) least → left ≡ count_below (owes call (places ls)) n → 0 < left → IsWalk n call start ls bs c nx pv high (get_or nx 0 0) least left
+pub placed : (n : ℕ) (call : ℕ → Call) (start : Content) (ls : List Level) (bs : List Content) (c : Content) (nx pv : List ℕ) (high least left : ℕ)
+    → Stack n call start ls bs c nx pv high → IsLeast n call (places ls) least → left ≡ count_below (owes call (places ls)) n → 0 < left
+    → IsWalk n call start ls bs c nx pv high (get_or nx 0 0) least left
 placed n call start ls bs c nx pv high least left s least_is counts owed =
     let f = (linked_now n call start ls bs c nx pv high s).forth 0 (omega arith) tt in
     record {
@@ -149,7 +170,8 @@ placed n call start ls bs c nx pv high least left s least_is counts owed =
     }
 
 -- back to the level before, whose place is dead
-pub came_back : (n : ℕ) (call : ℕ → Call) (start : Content) (lv : Level) (ls : List Level) (b : Content) (bs : List Content) (c : Content) (nx pv : List ℕ) (high left : ℕ) → Stack n call start (lv ∷ ls) (b ∷ bs) c nx pv high → IsDead n call (lv.place ∷ places ls) c → left ≡ count_below (owes call (places ls)) n → 0 < left →
+pub came_back : (n : ℕ) (call : ℕ → Call) (start : Content) (lv : Level) (ls : List Level) (b : Content) (bs : List Content) (c : Content)
+    (nx pv : List ℕ) (high left : ℕ) → Stack n call start (lv ∷ ls) (b ∷ bs) c nx pv high → IsDead n call (lv.place ∷ places ls) c → left ≡ count_below (owes call (places ls)) n → 0 < left →
     IsWalk n call start ls bs b (next_with nx pv lv.place) (before_with nx pv lv.place) lv.high (get_or (next_with nx pv lv.place) (suc lv.place) 0) lv.least left
 came_back n call start lv ls b bs c nx pv high left s d counts owed =
     let f = s.0 in
@@ -166,7 +188,8 @@ onto [] ys = ys
 onto (x ∷ xs) ys = onto xs (x ∷ ys)
 
 -- what goes on from a beginning makes with it an order of all
-pub continued : (n : ℕ) (call : ℕ → Call) (start : Content) (ls : List Level) (bs : List Content) (c : Content) (nx pv : List ℕ) (high : ℕ) (rest : List ℕ) → Stack n call start ls bs c nx pv high → Continues n call (places ls) c rest → (all : List ℕ) × Continues n call [] start all × (all ≡ onto (places ls) rest)
+pub continued : (n : ℕ) (call : ℕ → Call) (start : Content) (ls : List Level) (bs : List Content) (c : Content) (nx pv : List ℕ) (high : ℕ)
+    (rest : List ℕ) → Stack n call start ls bs c nx pv high → Continues n call (places ls) c rest → (all : List ℕ) × Continues n call [] start all × (all ≡ onto (places ls) rest)
 continued n call start [] [] c nx pv high rest s h = (rest, subst (λ (x : Content). Continues n call [] x rest) s.0 h, refl)
 continued n call start [] (b ∷ bs) c nx pv high rest s h = absurd s
 continued n call start (l ∷ ls) [] c nx pv high rest s h = absurd s

@@ -1,5 +1,6 @@
 -- Steps of a search, as its lists are written.
-use Rattle.std.proofs.Common.{◌≡◌, ℕ, zero, suc, add-one, ◌<◌, ◌≤◌, ◌+◌, Bool, true, false, cond, ◌⊎◌, inl, inr, List, [], ◌∷◌, ◌++◌, append_assoc, Option, Some, IsSome, is_some, length, reverse, get_or, slice_get, take, refl, ap, sym, ◌∙◌, subst, arith}
+use Rattle.std.proofs.Common.{◌≡◌, ℕ, zero, suc, add-one, ◌<◌, ◌≤◌, ◌+◌, Bool, true, false, cond, ◌⊎◌, inl, inr, List, [], ◌∷◌, ◌++◌, append_assoc}
+use Rattle.std.proofs.Common.{Option, Some, IsSome, is_some, length, reverse, get_or, slice_get, take, refl, ap, sym, ◌∙◌, subst, arith}
 use Rattle.std.proofs.lemmas.List.{reverse-append, get_or_default, append-nil, take_all}
 use Rattle.model.specs.declared.Kind.{Kind}
 use Rattle.model.specs.Objects.{Content, next}
@@ -22,7 +23,8 @@ use Rattle.order_search.proofs.Owed.{owes_placed, owes_pending}
 pub reverse_push : {X : Type 0} (xs : List X) (x : X) → reverse (xs ++ x ∷ []) ≡ x ∷ reverse xs
 reverse_push xs x = reverse-append xs (x ∷ [])
 
-pub popped : (n : ℕ) (call : ℕ → Call) (start : Content) (olds news : List Level) (lv : Level) (oldb newb : List Content) (b c : Content) (nx pv : List ℕ) (high : ℕ) → olds ≡ news ++ lv ∷ [] → oldb ≡ b ∷ newb → Stack n call start (reverse olds) oldb c nx pv high → Stack n call start (lv ∷ reverse news) (b ∷ newb) c nx pv high
+pub popped : (n : ℕ) (call : ℕ → Call) (start : Content) (olds news : List Level) (lv : Level) (oldb newb : List Content) (b c : Content)
+    (nx pv : List ℕ) (high : ℕ) → olds ≡ news ++ lv ∷ [] → oldb ≡ b ∷ newb → Stack n call start (reverse olds) oldb c nx pv high → Stack n call start (lv ∷ reverse news) (b ∷ newb) c nx pv high
 popped n call start olds news lv oldb newb b c nx pv high e f s =
     let el : reverse olds ≡ lv ∷ reverse news = ap reverse e ∙ reverse_push news lv in
     subst (λ (x : List Content). Stack n call start (lv ∷ reverse news) x c nx pv high) f (subst (λ (y : List Level). Stack n call start y oldb c nx pv high) el s)
@@ -36,13 +38,15 @@ count_le f (suc n) = go (f n) (count_le f n)
     go false l = omega arith
 
 -- the place of the last level
-pub popped_within : (n : ℕ) (call : ℕ → Call) (start : Content) (olds news : List Level) (lv : Level) (oldb newb : List Content) (b c : Content) (nx pv : List ℕ) (high : ℕ) → olds ≡ news ++ lv ∷ [] → oldb ≡ b ∷ newb → Stack n call start (reverse olds) oldb c nx pv high → AreWithin nx pv lv.place × (lv.place < n) × (length nx ≡ suc n)
+pub popped_within : (n : ℕ) (call : ℕ → Call) (start : Content) (olds news : List Level) (lv : Level) (oldb newb : List Content) (b c : Content)
+    (nx pv : List ℕ) (high : ℕ) → olds ≡ news ++ lv ∷ [] → oldb ≡ b ∷ newb → Stack n call start (reverse olds) oldb c nx pv high → AreWithin nx pv lv.place × (lv.place < n) × (length nx ≡ suc n)
 popped_within n call start olds news lv oldb newb b c nx pv high e f s =
     let t = popped n call start olds news lv oldb newb b c nx pv high e f s in
     (t.3, t.0.left.0, t.1.long_next)
 
 -- what is left to remember where a walk is dead
-pub dead_pair : (n : ℕ) (call : ℕ → Call) (start : Content) (ls : List Level) (bs : List Content) (c : Content) (nx pv : List ℕ) (high at least left : ℕ) (undone : List ℕ) → IsWalk n call start ls bs c nx pv high at least left → IsDead n call (places ls) c → Lists nx 0 undone high → IsDeadPair n call high undone c
+pub dead_pair : (n : ℕ) (call : ℕ → Call) (start : Content) (ls : List Level) (bs : List Content) (c : Content) (nx pv : List ℕ)
+    (high at least left : ℕ) (undone : List ℕ) → IsWalk n call start ls bs c nx pv high at least left → IsDead n call (places ls) c → Lists nx 0 undone high → IsDeadPair n call high undone c
 dead_pair n call start ls bs c nx pv high at least left undone w d h = record {
   done = places ls;
   describes = listed n (places ls) nx pv undone high (walk_linked n call start ls bs c nx pv high at least left w) (walk_bound n call start ls bs c nx pv high at least left w) h;
@@ -50,7 +54,8 @@ dead_pair n call start ls bs c nx pv high at least left undone w d h = record {
 }
 
 -- back to the level before
-pub back_step : (n : ℕ) (call : ℕ → Call) (start : Content) (olds news : List Level) (lv : Level) (oldb newb : List Content) (b c : Content) (nx pv : List ℕ) (high at least left new_left : ℕ) → olds ≡ news ++ lv ∷ [] → oldb ≡ b ∷ newb →
+pub back_step : (n : ℕ) (call : ℕ → Call) (start : Content) (olds news : List Level) (lv : Level) (oldb newb : List Content) (b c : Content)
+    (nx pv : List ℕ) (high at least left new_left : ℕ) → olds ≡ news ++ lv ∷ [] → oldb ≡ b ∷ newb →
     IsWalk n call start (reverse olds) oldb c nx pv high at least left → IsDead n call (places (reverse olds)) c →
     new_left ≡ (cond (is_some (call lv.place).returned) (left + 1) left) →
     IsWalk n call start (reverse news) newb b (next_with nx pv lv.place) (before_with nx pv lv.place) lv.high (get_or (next_with nx pv lv.place) (suc lv.place) 0) lv.least new_left
@@ -68,7 +73,8 @@ back_step n call start olds news lv oldb newb b c nx pv high at least left new_l
     more true q l = omega arith
     more false q l = omega arith
 
-    go : (t : Bool) → is_some (call lv.place).returned ≡ t → new_left ≡ cond t (left + 1) left → left ≡ count_below (owes call (lv.place ∷ places (reverse news))) n → IsLeft n (places (reverse news)) lv.place → new_left ≡ count_below (owes call (places (reverse news))) n
+    go : (t : Bool) → is_some (call lv.place).returned ≡ t → new_left ≡ cond t (left + 1) left
+        → left ≡ count_below (owes call (lv.place ∷ places (reverse news))) n → IsLeft n (places (reverse news)) lv.place → new_left ≡ count_below (owes call (places (reverse news))) n
     go true q h k l = let z = owes_placed n call (places (reverse news)) lv.place l q in omega arith
     go false q h k l = let z = owes_pending n call (places (reverse news)) lv.place q in omega arith
 
@@ -76,7 +82,8 @@ back_step n call start olds news lv oldb newb b c nx pv high at least left new_l
 pub call_read : (items : List Invocation) (k : ℕ) (d : Invocation) → k < length items → as_call (get_or items k d) ≡ call_at items k
 call_read items k d l = ap as_call (get_or_default items k d _ l)
 
-pub back_walk : (items : List Invocation) (o : Invocation) (start : Content) (olds news : List Level) (lv : Level) (oldb newb : List Content) (b b2 c : Content) (nx pv nx2 pv2 : List ℕ) (high at least left at2 new_left : ℕ) → olds ≡ news ++ lv ∷ [] → oldb ≡ b ∷ newb →
+pub back_walk : (items : List Invocation) (o : Invocation) (start : Content) (olds news : List Level) (lv : Level) (oldb newb : List Content)
+    (b b2 c : Content) (nx pv nx2 pv2 : List ℕ) (high at least left at2 new_left : ℕ) → olds ≡ news ++ lv ∷ [] → oldb ≡ b ∷ newb →
     IsWalk (length items) (call_at items) start (reverse olds) oldb c nx pv high at least left → IsDead (length items) (call_at items) (places (reverse olds)) c →
     b2 ≡ b → nx2 ≡ next_with nx pv lv.place → pv2 ≡ before_with nx pv lv.place → at2 ≡ get_or nx2 (lv.place + 1) 0 → as_call o ≡ call_at items lv.place →
     new_left ≡ (cond (is_some (return_of o.«end»)) (left + 1) left) →
@@ -93,14 +100,16 @@ back_walk items o start olds news lv oldb newb b b2 c nx pv nx2 pv2 high at leas
     (subst (λ (x : List ℕ). IsWalk n call start (reverse news) newb b (next_with nx pv lv.place) x lv.high at2 lv.least new_left) (sym ep)
     (subst (λ (x : ℕ). IsWalk n call start (reverse news) newb b (next_with nx pv lv.place) (before_with nx pv lv.place) lv.high x lv.least new_left) (sym at_is) r)))
 
-pub pass_walk : (n : ℕ) (call : ℕ → Call) (start : Content) (ls : List Level) (bs : List Content) (c : Content) (nx pv : List ℕ) (high at least left at2 : ℕ) → IsWalk n call start ls bs c nx pv high at least left → at < n → IsDeadAt n call (places ls) c at → at2 ≡ get_or nx (at + 1) 0 →
+pub pass_walk : (n : ℕ) (call : ℕ → Call) (start : Content) (ls : List Level) (bs : List Content) (c : Content) (nx pv : List ℕ)
+    (high at least left at2 : ℕ) → IsWalk n call start ls bs c nx pv high at least left → at < n → IsDeadAt n call (places ls) c at → at2 ≡ get_or nx (at + 1) 0 →
     IsWalk n call start ls bs c nx pv high at2 least left
 pass_walk n call start ls bs c nx pv high at least left at2 w l dead ea =
     let r = passed n call start ls bs c nx pv high at least left w l dead in
     let at_is : at2 ≡ get_or nx (suc at) 0 = ea ∙ ap (λ (x : ℕ). get_or nx x 0) (add-one at) in
     subst (λ (x : ℕ). IsWalk n call start ls bs c nx pv high x least left) (sym at_is) r
 
-pub pass_rises : (n : ℕ) (call : ℕ → Call) (start : Content) (ls : List Level) (bs : List Content) (c : Content) (nx pv : List ℕ) (high at least left : ℕ) → IsWalk n call start ls bs c nx pv high at least left → at < n → (at < get_or nx (at + 1) 0) × (at + 1 < length nx)
+pub pass_rises : (n : ℕ) (call : ℕ → Call) (start : Content) (ls : List Level) (bs : List Content) (c : Content) (nx pv : List ℕ)
+    (high at least left : ℕ) → IsWalk n call start ls bs c nx pv high at least left → at < n → (at < get_or nx (at + 1) 0) × (at + 1 < length nx)
 pass_rises n call start ls bs c nx pv high at least left w l =
     let link = walk_linked n call start ls bs c nx pv high at least left w in
     let f = (link.forth (suc at) (omega arith) (walk_left n call start ls bs c nx pv high at least left w l)).rises in
@@ -114,28 +123,37 @@ get_some [] k z e = absurd (cc e)
 get_some (x ∷ xs) zero z e = (omega arith, same_Some x z e)
 get_some (x ∷ xs) (suc k) z e = let r = get_some xs k z e in let l = r.0 in (omega arith, r.1)
 
-pub listed_end : (nx us : List ℕ) (slot high place : ℕ) → ((rest : List ℕ) → Lists nx slot rest high → Lists nx 0 (us ++ rest) high) → slot < length nx → get_or nx slot 0 ≡ place → ((high ≤ place) ⊎ (length nx ≤ suc place)) → Lists nx 0 us high
+pub listed_end : (nx us : List ℕ) (slot high place : ℕ) → ((rest : List ℕ) → Lists nx slot rest high → Lists nx 0 (us ++ rest) high)
+    → slot < length nx → get_or nx slot 0 ≡ place → ((high ≤ place) ⊎ (length nx ≤ suc place)) → Lists nx 0 us high
 listed_end nx us slot high place front l e end = subst (λ (x : List ℕ). Lists nx 0 x high) (append-nil us) (front [] (l, elim end [ inl a ↦ inl (omega arith) | inr b ↦ inr (omega arith) ]))
 
 -- nothing goes on where each place that was not tried is invoked after the least return
-pub dead_here : (kind : Kind) (items : List Invocation) (floors : List ℕ) (start : Content) (ls : List Level) (bs : List Content) (c : Content) (nx pv : List ℕ) (high at least left : ℕ) → IsArranged kind items floors → IsWalk (length items) (call_at items) start ls bs c nx pv high at least left → ((length items ≤ at) ⊎ ((least < 4294967295) × (least < get_or floors at 0))) → IsDead (length items) (call_at items) (places ls) c
+pub dead_here : (kind : Kind) (items : List Invocation) (floors : List ℕ) (start : Content) (ls : List Level) (bs : List Content) (c : Content)
+    (nx pv : List ℕ) (high at least left : ℕ) → IsArranged kind items floors
+    → IsWalk (length items) (call_at items) start ls bs c nx pv high at least left
+    → ((length items ≤ at) ⊎ ((least < 4294967295) × (least < get_or floors at 0))) → IsDead (length items) (call_at items) (places ls) c
 dead_here kind items floors start ls bs c nx pv high at least left t w o = dead_now (length items) (call_at items) start ls bs c nx pv high at least left w (elim o [
   | inl e ↦ dead_at_end (length items) (call_at items) (places ls) c at w.tried e
   | inr r ↦ let l = r.1 in dead_behind (length items) (call_at items) (places ls) c at least w.tried w.is_least r.0 (λ k a b. let f = t.floors_right.below at k a b in omega arith) t.ends
 ])
 
 -- and so is a place whose call is
-pub dead_too_late : (kind : Kind) (items : List Invocation) (floors : List ℕ) (o : Invocation) (start : Content) (ls : List Level) (bs : List Content) (c : Content) (nx pv : List ℕ) (high at least left : ℕ) → IsArranged kind items floors → IsWalk (length items) (call_at items) start ls bs c nx pv high at least left → at < length items → as_call o ≡ call_at items at → least < 4294967295 → least < o.number → IsDeadAt (length items) (call_at items) (places ls) c at
+pub dead_too_late : (kind : Kind) (items : List Invocation) (floors : List ℕ) (o : Invocation) (start : Content) (ls : List Level) (bs : List Content)
+    (c : Content) (nx pv : List ℕ) (high at least left : ℕ) → IsArranged kind items floors
+    → IsWalk (length items) (call_at items) start ls bs c nx pv high at least left → at < length items → as_call o ≡ call_at items at
+    → least < 4294967295 → least < o.number → IsDeadAt (length items) (call_at items) (places ls) c at
 dead_too_late kind items floors o start ls bs c nx pv high at least left t w l eo small late =
     let e = ap (λ (x : Call). x.number) eo in
     dead_after (length items) (call_at items) (places ls) c least at w.is_least small (omega arith) (λ r q. t.ends at r l q)
 
 -- an operation that is not possible, by the invocation as it was read
-pub dead_impossible : (items : List Invocation) (o : Invocation) (done : List ℕ) (c : Content) (at : ℕ) → as_call o ≡ call_at items at → (IsSome (next c o.op) → ⊥) → IsDeadAt (length items) (call_at items) done c at
+pub dead_impossible : (items : List Invocation) (o : Invocation) (done : List ℕ) (c : Content) (at : ℕ) → as_call o ≡ call_at items at
+    → (IsSome (next c o.op) → ⊥) → IsDeadAt (length items) (call_at items) done c at
 dead_impossible items o done c at e never = dead_not_possible (length items) (call_at items) done c at (subst (λ (x : Call). IsSome (next c x.op) → ⊥) e never)
 
 -- a remembered pair is met: the place that leads to it is dead
-pub hit : (n : ℕ) (call : ℕ → Call) (start : Content) (ls : List Level) (bs : List Content) (c after cp : Content) (nx pv nx2 : List ℕ) (high at least left high2 hp : ℕ) (us : List ℕ) (gives : AnyReply) → IsWalk n call start ls bs c nx pv high at least left → at < n → next c (call at).op ≡ Some (after, gives) →
+pub hit : (n : ℕ) (call : ℕ → Call) (start : Content) (ls : List Level) (bs : List Content) (c after cp : Content) (nx pv nx2 : List ℕ)
+    (high at least left high2 hp : ℕ) (us : List ℕ) (gives : AnyReply) → IsWalk n call start ls bs c nx pv high at least left → at < n → next c (call at).op ≡ Some (after, gives) →
     nx2 ≡ next_without nx pv at → Lists nx2 0 us high2 → high ≤ high2 → at < high2 → IsDeadPair n call hp us cp → hp ≡ high2 → cp ≡ after → IsDeadAt n call (places ls) c at
 hit n call start ls bs c after cp nx pv nx2 high at least left high2 hp us gives w l does en lists hi hat pair eh ec =
     let link = walk_linked n call start ls bs c nx pv high at least left w in
@@ -146,17 +164,22 @@ hit n call start ls bs c after cp nx pv nx2 high at least left high2 hp us gives
     let here : IsDeadPair n call high2 us after = subst (λ (x : ℕ). IsDeadPair n call x us after) eh (subst (λ (x : Content). IsDeadPair n call hp us x) ec pair) in
     dead_child n call (places ls) c after at gives does (dead_again n call high2 us (at ∷ places ls) after here des)
 
-pub walk_within : (n : ℕ) (call : ℕ → Call) (start : Content) (ls : List Level) (bs : List Content) (c : Content) (nx pv : List ℕ) (high at least left : ℕ) → IsWalk n call start ls bs c nx pv high at least left → at < n → AreWithin nx pv at
-walk_within n call start ls bs c nx pv high at least left w l = within_before n (places ls) nx pv at (walk_linked n call start ls bs c nx pv high at least left w) (walk_left n call start ls bs c nx pv high at least left w l)
+pub walk_within : (n : ℕ) (call : ℕ → Call) (start : Content) (ls : List Level) (bs : List Content) (c : Content) (nx pv : List ℕ)
+    (high at least left : ℕ) → IsWalk n call start ls bs c nx pv high at least left → at < n → AreWithin nx pv at
+walk_within n call start ls bs c nx pv high at least left w l =
+    within_before n (places ls) nx pv at (walk_linked n call start ls bs c nx pv high at least left w) (walk_left n call start ls bs c nx pv high at least left w l)
 
-pub without_within : (n : ℕ) (call : ℕ → Call) (start : Content) (ls : List Level) (bs : List Content) (c : Content) (nx pv nx2 pv2 : List ℕ) (high at least left : ℕ) → IsWalk n call start ls bs c nx pv high at least left → at < n → nx2 ≡ next_without nx pv at → pv2 ≡ before_without nx pv at → AreWithin nx2 pv2 at
+pub without_within : (n : ℕ) (call : ℕ → Call) (start : Content) (ls : List Level) (bs : List Content) (c : Content) (nx pv nx2 pv2 : List ℕ)
+    (high at least left : ℕ) → IsWalk n call start ls bs c nx pv high at least left → at < n → nx2 ≡ next_without nx pv at → pv2 ≡ before_without nx pv at → AreWithin nx2 pv2 at
 without_within n call start ls bs c nx pv nx2 pv2 high at least left w l en ep =
     let link = walk_linked n call start ls bs c nx pv high at least left w in
     let a = around n (places ls) nx pv at link (walk_left n call start ls bs c nx pv high at least left w l) in
     subst (λ (x : List ℕ). AreWithin x pv2 at) (sym en) (subst (λ (y : List ℕ). AreWithin (next_without nx pv at) y at) (sym ep) (within_after n (places ls) nx pv at a link))
 
 -- taken out and put back
-pub walk_again : (n : ℕ) (call : ℕ → Call) (start : Content) (ls : List Level) (bs : List Content) (c : Content) (nx pv nx2 pv2 nx3 pv3 : List ℕ) (high at least left : ℕ) → IsWalk n call start ls bs c nx pv high at least left → at < n → nx2 ≡ next_without nx pv at → pv2 ≡ before_without nx pv at → nx3 ≡ next_with nx2 pv2 at → pv3 ≡ before_with nx2 pv2 at → IsWalk n call start ls bs c nx3 pv3 high at least left
+pub walk_again : (n : ℕ) (call : ℕ → Call) (start : Content) (ls : List Level) (bs : List Content) (c : Content) (nx pv nx2 pv2 nx3 pv3 : List ℕ)
+    (high at least left : ℕ) → IsWalk n call start ls bs c nx pv high at least left → at < n → nx2 ≡ next_without nx pv at
+    → pv2 ≡ before_without nx pv at → nx3 ≡ next_with nx2 pv2 at → pv3 ≡ before_with nx2 pv2 at → IsWalk n call start ls bs c nx3 pv3 high at least left
 walk_again n call start ls bs c nx pv nx2 pv2 nx3 pv3 high at least left w l en ep fn fp =
     let link = walk_linked n call start ls bs c nx pv high at least left w in
     let a = around n (places ls) nx pv at link (walk_left n call start ls bs c nx pv high at least left w l) in
@@ -164,7 +187,9 @@ walk_again n call start ls bs c nx pv nx2 pv2 nx3 pv3 high at least left w l en 
     let f : pv3 ≡ pv = fp ∙ ap (λ (x : List ℕ). before_with x pv2 at) en ∙ ap (λ (y : List ℕ). before_with (next_without nx pv at) y at) ep ∙ before_again n (places ls) nx pv at a in
     subst (λ (x : List ℕ). IsWalk n call start ls bs c x pv3 high at least left) (sym e) (subst (λ (y : List ℕ). IsWalk n call start ls bs c nx y high at least left) (sym f) w)
 
-pub below_end : (nx nx2 us : List ℕ) (i slot high place : ℕ) → nx2 ≡ nx → ((rest : List ℕ) → Lists nx slot rest high → Lists nx 0 (take i us ++ rest) high) → length us ≤ i → (slot < length nx2) × ((d : ℕ) → place ≡ get_or nx2 slot d) → ((high ≤ place) ⊎ (length nx2 ≤ place + 1)) → Lists nx 0 us high
+pub below_end : (nx nx2 us : List ℕ) (i slot high place : ℕ) → nx2 ≡ nx
+    → ((rest : List ℕ) → Lists nx slot rest high → Lists nx 0 (take i us ++ rest) high) → length us ≤ i → (slot < length nx2)
+    × ((d : ℕ) → place ≡ get_or nx2 slot d) → ((high ≤ place) ⊎ (length nx2 ≤ place + 1)) → Lists nx 0 us high
 below_end nx nx2 us i slot high place e front all here end =
     let l : slot < length nx = subst (λ (x : List ℕ). slot < length x) e here.0 in
     let is : get_or nx slot 0 ≡ place = ap (λ (x : List ℕ). get_or x slot 0) (sym e) ∙ sym (here.1 0) in
@@ -176,7 +201,8 @@ below_end nx nx2 us i slot high place e front all here end =
 pub next_stop : (n : ℕ) (done nx pv : List ℕ) (at : ℕ) → Linked n done nx pv → IsStop n done at → at < n → IsForth n done (suc at) (get_or nx (suc at) 0) × (at + 1 < length nx)
 next_stop n done nx pv at link stop l = let long = link.long_next in (link.forth (suc at) (omega arith) (l, stop.left l), omega arith)
 
-pub least_step : (items : List Invocation) (o : Invocation) (done nx pv : List ℕ) (at at2 least next_least : ℕ) → Linked (length items) done nx pv → IsLeastBelow (length items) (call_at items) done at least × IsStop (length items) done at → at < length items → as_call o ≡ call_at items at → at2 ≡ get_or nx (at + 1) 0 →
+pub least_step : (items : List Invocation) (o : Invocation) (done nx pv : List ℕ) (at at2 least next_least : ℕ) → Linked (length items) done nx pv
+    → IsLeastBelow (length items) (call_at items) done at least × IsStop (length items) done at → at < length items → as_call o ≡ call_at items at → at2 ≡ get_or nx (at + 1) 0 →
     next_least ≤ least → ((r : Return) → return_of o.«end» ≡ Some r → next_least ≤ r.at) → ((next_least ≡ least) ⊎ ((r : Return) × (return_of o.«end» ≡ Some r) × (next_least ≡ r.at))) →
     IsLeastBelow (length items) (call_at items) done at2 next_least × IsStop (length items) done at2
 least_step items o done nx pv at at2 least next_least link m l eo ea low own either =
@@ -191,20 +217,23 @@ least_step items o done nx pv at at2 least next_least link m l eo ea low own eit
       f.stop,
     )
 
-pub least_first : (items : List Invocation) (done nx pv : List ℕ) (at : ℕ) → Linked (length items) done nx pv → at ≡ get_or nx 0 0 → IsLeastBelow (length items) (call_at items) done at 4294967295 × IsStop (length items) done at
+pub least_first : (items : List Invocation) (done nx pv : List ℕ) (at : ℕ) → Linked (length items) done nx pv → at ≡ get_or nx 0 0
+    → IsLeastBelow (length items) (call_at items) done at 4294967295 × IsStop (length items) done at
 least_first items done nx pv at link ea =
     let f = link.forth 0 (omega arith) tt in
     subst (λ (x : ℕ). IsLeastBelow (length items) (call_at items) done x 4294967295 × IsStop (length items) done x) (sym ea)
     (record { below = λ j r l jl q. absurd (jl.1 (f.gap j (omega arith) l)); stands = inl refl }, f.stop)
 
-pub least_last : (kind : Kind) (items : List Invocation) (floors done : List ℕ) (at least : ℕ) → IsArranged kind items floors → IsLeastBelow (length items) (call_at items) done at least → ((length items ≤ at) ⊎ (least < get_or floors at 0)) → IsLeast (length items) (call_at items) done least
+pub least_last : (kind : Kind) (items : List Invocation) (floors done : List ℕ) (at least : ℕ) → IsArranged kind items floors
+    → IsLeastBelow (length items) (call_at items) done at least → ((length items ≤ at) ⊎ (least < get_or floors at 0)) → IsLeast (length items) (call_at items) done least
 least_last kind items floors done at least t m o = least_of_all (length items) (call_at items) done at least m (λ j r a b q. elim o [
   | inl e ↦ absurd (omega arith)
   | inr e ↦ let f = t.floors_right.below at j a b in let g = t.ends j r b q in omega arith
 ])
 
 -- one more place of those below `high`
-pub below_step : (n : ℕ) (done nx pv us us2 : List ℕ) (slot place high : ℕ) → Linked n done nx pv → slot ≤ n → IsSlot n done slot → ((rest : List ℕ) → Lists nx slot rest high → Lists nx 0 (us ++ rest) high) → place ≡ get_or nx slot 0 → place + 1 < length nx → us2 ≡ us ++ place ∷ [] →
+pub below_step : (n : ℕ) (done nx pv us us2 : List ℕ) (slot place high : ℕ) → Linked n done nx pv → slot ≤ n → IsSlot n done slot
+    → ((rest : List ℕ) → Lists nx slot rest high → Lists nx 0 (us ++ rest) high) → place ≡ get_or nx slot 0 → place + 1 < length nx → us2 ≡ us ++ place ∷ [] →
     (place + 1 ≤ n) × IsSlot n done (place + 1) × ((rest : List ℕ) → Lists nx (place + 1) rest high → Lists nx 0 (us2 ++ rest) high)
 below_step n done nx pv us us2 slot place high link le sl front e inside eu =
     let long = link.long_next in
@@ -214,5 +243,6 @@ below_step n done nx pv us us2 slot place high link le sl front e inside eu =
       omega arith,
       subst (IsSlot n done) (sym (add-one place)) left,
       λ rest w.
-          subst (λ (x : List ℕ). Lists nx 0 x high) (sym (ap (λ (x : List ℕ). x ++ rest) eu ∙ append_assoc us (place ∷ []) rest)) (front (place ∷ rest) (omega arith, sym e, subst (λ (x : ℕ). Lists nx x rest high) (add-one place) w)),
+          subst (λ (x : List ℕ). Lists nx 0 x high) (sym (ap (λ (x : List ℕ). x ++ rest) eu ∙ append_assoc us (place ∷ []) rest))
+          (front (place ∷ rest) (omega arith, sym e, subst (λ (x : ℕ). Lists nx x rest high) (add-one place) w)),
     )

@@ -11,6 +11,10 @@ use Rattle.events.specs.declared.operations.End.TheVariants.{Pending}
 use Rattle.events.specs.Operations.{return_of}
 use Rattle.order_search.specs.Outcomes.{max_operations}
 
+-- the number of a return that is not there: greater than each number of a map
+abbrev pub no_return : ℕ
+no_return = 4294967295
+
 -- an operation that did not fail, as a call
 abbrev pub as_call : Invocation → Call
 as_call o = record { number = o.number; op = o.op; returned = return_of o.«end» }

@@ -14,6 +14,7 @@ use Rattle.order_search.specs.Arranged.{call_at, owes, count_below, IsArranged}
 use Rattle.order_search.specs.Continuations.{IsLeft, IsCandidate, Places, Continues, IsDead}
 use Rattle.order_search.specs.Continuations.{IsDeadAt, IsTried, IsDeadPair}
 use Rattle.order_search.specs.Links.{Linked, IsStop, AreWithin, next_with, before_with}
+use Rattle.order_search.specs.Arranged.{no_return}
 
 abbrev pub places : List Level → List ℕ
 places ls = map (λ l. l.place) ls
@@ -21,7 +22,7 @@ places ls = map (λ l. l.place) ls
 -- the least return among the calls that are left, or a number that is none
 pub record IsLeast (n : ℕ) (call : ℕ → Call) (done : List ℕ) (least : ℕ) : Type 0 where
   pub below : (j : ℕ) (r : Return) → IsLeft n done j → (call j).returned ≡ Some r → least ≤ r.at
-  pub stands : (least ≡ 4294967295)
+  pub stands : (least ≡ no_return)
       ⊎ ((j : ℕ) × (r : Return) × IsLeft n done j × ((call j).returned ≡ Some r) × (least ≡ r.at))
 
 -- one level: what was placed, from which content to which

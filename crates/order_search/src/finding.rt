@@ -1,6 +1,7 @@
 //! The search for an order of the operations of one object.
 
-ghost use Rattle.std.specs.Prelude.{◌≡◌, ◌≢◌, ◌<◌, ◌≤◌, ◌↔◌, [], length, All, Any, IsSome, IfOk, map, pos, count_by, is_some};
+ghost use Rattle.std.specs.Prelude.{◌≡◌, ◌≢◌, ◌<◌, ◌≤◌, ◌↔◌, [], length, All, Any, IsSome, IfOk};
+ghost use Rattle.std.specs.Prelude.{map, pos, count_by, is_some};
 ghost use Rattle.model.specs.Orders.{IsValidOrder};
 ghost use Rattle.events.specs.Operations.{calls_of, return_of};
 ghost use Rattle.order_search.specs.Arranged.{call_at};

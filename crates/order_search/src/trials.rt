@@ -1,6 +1,7 @@
 //! The operations that a search is to order, in the order in which it tries them.
 
-ghost use Rattle.std.specs.Prelude.{◌≡◌, ◌<◌, ◌≤◌, length, IfOk, OnOk, All, AllPairs, filter, count_by, is_some};
+ghost use Rattle.std.specs.Prelude.{◌≡◌, ◌<◌, ◌≤◌, length, IfOk, OnOk, All, AllPairs, filter};
+ghost use Rattle.std.specs.Prelude.{count_by, is_some};
 ghost use Rattle.std.specs.List.Sorted.{IsPermutation};
 ghost use Rattle.model.specs.Objects.{kind_of};
 ghost use Rattle.events.specs.Operations.{call_of, calls_of, return_of, IsObjectHistory};

@@ -1,7 +1,8 @@
 //! The operations that are not yet in the order, as a linked list.
 
 ghost use Rattle.std.specs.Prelude.{◌≡◌, ℕ, ◌+◌, ◌<◌, ◌≤◌, List, [], IfOk, IsTrue, length, get_or};
-ghost use Rattle.order_search.specs.Links.{Linked, AreWithin, Lists, next_with, next_without, before_with, before_without};
+ghost use Rattle.order_search.specs.Links.{Linked, AreWithin, Lists, next_with, next_without};
+ghost use Rattle.order_search.specs.Links.{before_with, before_without};
 
 use std::alloc::{AllocError, Global};
 

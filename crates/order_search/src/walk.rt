@@ -1,13 +1,17 @@
 //! The walk through the beginnings of orders.
 
-ghost use Rattle.std.specs.Prelude.{◌≡◌, ℕ, ◌+◌, ◌<◌, ◌≤◌, ◌⊎◌, List, length, [], Some, None, IsSome, IfSome, IfOk, OnOk, map, reverse, is_some, true, false, if◌then◌else◌};
+ghost use Rattle.std.specs.Prelude.{◌≡◌, ℕ, ◌+◌, ◌<◌, ◌≤◌, ◌⊎◌, List, length, [], Some, None};
+ghost use Rattle.std.specs.Prelude.{IsSome, IfSome, IfOk, OnOk, map, reverse, is_some, true, false};
+ghost use Rattle.std.specs.Prelude.{if◌then◌else◌};
 ghost use Rattle.model.specs.Objects.{next};
 ghost use Rattle.model.specs.Orders.{Return};
 ghost use Rattle.events.specs.Operations.{return_of, Agrees};
 ghost use Rattle.reversible.specs.Undoing.{content_of};
 ghost use Rattle.order_search.specs.Arranged.{call_at};
 ghost use Rattle.order_search.specs.Links.{Linked};
-ghost use Rattle.order_search.specs.Searching.{places, content_before, AreTrials, AreOwed, IsLeast, IsOrder, IsNoOrder, IsDeadHere, IsDeadAtPlace, IsSearching, IsSearchingAt};
+ghost use Rattle.order_search.specs.Searching.{places, content_before, AreTrials, AreOwed, IsLeast};
+ghost use Rattle.order_search.specs.Searching.{IsOrder, IsNoOrder, IsDeadHere, IsDeadAtPlace};
+ghost use Rattle.order_search.specs.Searching.{IsSearching, IsSearchingAt};
 
 use crate::dead::{Dead, Pair};
 use crate::digest::Digest;

@@ -1,5 +1,6 @@
 -- The parts that workers gather, joined.
-use Rattle.std.proofs.Common.{◌≡◌, ◌≢◌, ℕ, ◌+◌, ◌%◌, ◌<◌, inl, inr, List, [], ◌∷◌, ◌++◌, length, map, get_or, Option, Some, None, Result, Ok, IfOk, Contains, refl, ap, sym, ◌∙◌, subst, append_assoc, arith}
+use Rattle.std.proofs.Common.{◌≡◌, ◌≢◌, ℕ, ◌+◌, ◌%◌, ◌<◌, inl, inr, List, [], ◌∷◌, ◌++◌, length, map, get_or, Option, Some, None, Result, Ok, IfOk}
+use Rattle.std.proofs.Common.{Contains, refl, ap, sym, ◌∙◌, subst, append_assoc, arith}
 use Rattle.std.specs.Ordering.{nat_cmp}
 use Rattle.std.specs.Cmp.{nat_cmp_total}
 use Rattle.std.specs.BTreeMap.{BTreeMap, IsOrdered, Updates, get, keys}
@@ -9,7 +10,8 @@ use Rattle.std.proofs.lemmas.List.{append-nil}
 use Rattle.std.proofs.lemmas.Map.Lookups.{exact_unsigned}
 use Rattle.std.proofs.lemmas.Map.Views.{All-found, btree_map_get_iff}
 use Rattle.model.specs.Orders.{calls_on}
-use Rattle.model.proofs.Lists.{In, Pairs, in_append, in_left, in_middle, in_map, in_map_from, pairs_map, pairs_weaker, pairs_from_map, in_from_contains, contains_from_in, all_at, all_from_in, all_from_pairs}
+use Rattle.model.proofs.Lists.{In, Pairs, in_append, in_left, in_middle, in_map, in_map_from, pairs_map, pairs_weaker, pairs_from_map}
+use Rattle.model.proofs.Lists.{in_from_contains, contains_from_in, all_at, all_from_in, all_from_pairs}
 use Rattle.events.specs.declared.event.Event.{Event}
 use Rattle.events.specs.Events.{IsNamed, kind_at, denoted}
 use Rattle.events.specs.Operations.{ObjectCalls, operations_on, calls_of}
@@ -28,7 +30,8 @@ pub record ArePutIn (all rest : List ObjectCalls) (old new : BTreeMap ℕ Object
 pub nothing_put : (all : List ObjectCalls) (m : BTreeMap ℕ ObjectCalls) → ArePutIn all all m m
 nothing_put all m = record { met = []; so_far = refl; kept = λ x. inr (λ c. absurd (in_from_contains [] x c), refl) }
 
-put_one : (met : List ObjectCalls) (o : ObjectCalls) (x : ℕ) (old kept new : Option ObjectCalls) → IsPutIn met x old kept → (x ≡ o.object → new ≡ Some o) → (x ≢ o.object → new ≡ kept) → IsPutIn (met ++ o ∷ []) x old new
+put_one : (met : List ObjectCalls) (o : ObjectCalls) (x : ℕ) (old kept new : Option ObjectCalls) → IsPutIn met x old kept
+    → (x ≡ o.object → new ≡ Some o) → (x ≢ o.object → new ≡ kept) → IsPutIn (met ++ o ∷ []) x old new
 put_one met o x old kept new h own other = elim (cases_eq x o.object) [
   | inl e ↦ inl (o, contains_from_in (met ++ o ∷ []) o (in_middle o met []), sym e, own e)
   | inr ne ↦ elim h [
@@ -39,11 +42,13 @@ put_one met o x old kept new h own other = elim (cases_eq x o.object) [
   where
     absent : (Contains (map (λ (o : ObjectCalls). o.object) met) x → ⊥) → x ≢ o.object → ((p : ObjectCalls) × In p (met ++ o ∷ []) × (x ≡ p.object)) → ⊥
     absent not_in ne p = elim (in_append p.0 met (o ∷ []) p.1) [
-      | inl i ↦ not_in (contains_from_in (map (λ (o : ObjectCalls). o.object) met) x (subst (λ y. In y (map (λ (o : ObjectCalls). o.object) met)) (sym p.2) (in_map_from (λ (o : ObjectCalls). o.object) p.0 met i)))
+      | inl i ↦ not_in (contains_from_in (map (λ (o : ObjectCalls). o.object) met) x
+          (subst (λ y. In y (map (λ (o : ObjectCalls). o.object) met)) (sym p.2) (in_map_from (λ (o : ObjectCalls). o.object) p.0 met i)))
       | inr i ↦ elim i [ inl e ↦ ne (p.2 ∙ ap (λ (o : ObjectCalls). o.object) e) | inr k ↦ absurd k ]
     ]
 
-pub put_more : (all rest later : List ObjectCalls) (old kept new : BTreeMap ℕ ObjectCalls) (o : ObjectCalls) (key : ℕ) → ArePutIn all rest old kept → rest ≡ o ∷ later → key ≡ o.object → Updates nat_cmp kept new key (Some o) → ArePutIn all later old new
+pub put_more : (all rest later : List ObjectCalls) (old kept new : BTreeMap ℕ ObjectCalls) (o : ObjectCalls) (key : ℕ) → ArePutIn all rest old kept
+    → rest ≡ o ∷ later → key ≡ o.object → Updates nat_cmp kept new key (Some o) → ArePutIn all later old new
 put_more all rest later old kept new o key h is k u = record {
   met = h.met ++ o ∷ [];
   so_far = h.so_far ∙ (ap (λ r. h.met ++ r) is ∙ sym (append_assoc h.met (o ∷ []) later));
@@ -52,8 +57,10 @@ put_more all rest later old kept new o key h is k u = record {
       (λ ne. u.2 x (apart_keys key x (λ e. ne (e ∙ k))));
 }
 
-pub all_put : (all rest given : List ObjectCalls) (old new : BTreeMap ℕ ObjectCalls) → all ≡ given → rest ≡ [] → ArePutIn all rest old new → (x : ℕ) → IsPutIn given x (get nat_cmp old x) (get nat_cmp new x)
-all_put all rest given old new is over h x = subst (λ os. IsPutIn os x (get nat_cmp old x) (get nat_cmp new x)) (sym (append-nil h.met) ∙ (ap (λ r. h.met ++ r) (sym over) ∙ (sym h.so_far ∙ is))) (h.kept x)
+pub all_put : (all rest given : List ObjectCalls) (old new : BTreeMap ℕ ObjectCalls) → all ≡ given → rest ≡ [] → ArePutIn all rest old new → (x : ℕ)
+    → IsPutIn given x (get nat_cmp old x) (get nat_cmp new x)
+all_put all rest given old new is over h x =
+    subst (λ os. IsPutIn os x (get nat_cmp old x) (get nat_cmp new x)) (sym (append-nil h.met) ∙ (ap (λ r. h.met ++ r) (sym over) ∙ (sym h.so_far ∙ is))) (h.kept x)
 
 -- ---- all parts
 
@@ -88,7 +95,8 @@ of_part es n parts os o h i = record {
   calls = all_at (λ (o : ObjectCalls). calls_of o.ops ≡ calls_on o.object (denoted es)) os h.calls o i;
 }
 
-whole_more : (es : List Event) (n parts : ℕ) (os : List ObjectCalls) (m next : BTreeMap ℕ ObjectCalls) → IsPart es n parts os → ((x : ℕ) → IsPutIn os x (get nat_cmp m x) (get nat_cmp next x)) → IsWholeTo es n parts m → IsWholeTo es (n + 1) parts next
+whole_more : (es : List Event) (n parts : ℕ) (os : List ObjectCalls) (m next : BTreeMap ℕ ObjectCalls) → IsPart es n parts os
+    → ((x : ℕ) → IsPutIn os x (get nat_cmp m x) (get nat_cmp next x)) → IsWholeTo es n parts m → IsWholeTo es (n + 1) parts next
 whole_more es n parts os m next part put h = record {
   right = λ x o is. elim (put x) [
     | inl p ↦
@@ -123,7 +131,8 @@ one_longer : {X : Type 0} (xs : List X) (y : X) → length (xs ++ y ∷ []) ≡ 
 one_longer [] y = refl
 one_longer (x ∷ xs) y = let l = one_longer xs y in omega (arith, l)
 
-pub join_more : {V E : Type 0} (items : V → List ObjectCalls) (all rest later : List (Result V E)) (m next : BTreeMap ℕ ObjectCalls) (r : Result V E) (v : V) → AreJoined items all rest m → rest ≡ r ∷ later → r ≡ Ok v → ((x : ℕ) → IsPutIn (items v) x (get nat_cmp m x) (get nat_cmp next x)) → AreJoined items all later next
+pub join_more : {V E : Type 0} (items : V → List ObjectCalls) (all rest later : List (Result V E)) (m next : BTreeMap ℕ ObjectCalls) (r : Result V E)
+    (v : V) → AreJoined items all rest m → rest ≡ r ∷ later → r ≡ Ok v → ((x : ℕ) → IsPutIn (items v) x (get nat_cmp m x) (get nat_cmp next x)) → AreJoined items all later next
 join_more {V} {E} items all rest later m next r v h is ok put = record {
   met = h.met ++ r ∷ [];
   so_far = whole ∙ sym (append_assoc h.met (r ∷ []) later);
@@ -137,7 +146,8 @@ join_more {V} {E} items all rest later m next r v h is ok put = record {
     whole : all ≡ h.met ++ r ∷ later
     whole = h.so_far ∙ ap (λ xs. h.met ++ xs) is
 
-pub all_joined : {V E : Type 0} (items : V → List ObjectCalls) (all rest given : List (Result V E)) (m : BTreeMap ℕ ObjectCalls) → all ≡ given → rest ≡ [] → 0 < length given → AreJoined items all rest m → (es : List Event) → ArePartsOf items es given → IsWhole es m
+pub all_joined : {V E : Type 0} (items : V → List ObjectCalls) (all rest given : List (Result V E)) (m : BTreeMap ℕ ObjectCalls) → all ≡ given
+    → rest ≡ [] → 0 < length given → AreJoined items all rest m → (es : List Event) → ArePartsOf items es given → IsWhole es m
 all_joined items all rest given m is over some h es parts =
     let k = h.kept es (subst (ArePartsOf items es) (sym is) parts) in
     let long : length all ≡ length h.met = ap length (h.so_far ∙ (ap (λ r. h.met ++ r) over ∙ append-nil h.met)) in
@@ -152,10 +162,12 @@ all_joined items all rest given m is over some h es parts =
 abbrev pub AreListed : List (ℕ × ObjectCalls) → List (ℕ × ObjectCalls) → List ObjectCalls → Type 0
 AreListed all rest objects = map (λ e. e.1) all ≡ objects ++ map (λ e. e.1) rest
 
-pub list_more : (all rest later : List (ℕ × ObjectCalls)) (objects : List ObjectCalls) (x : ℕ) (o : ObjectCalls) → AreListed all rest objects → rest ≡ (x, o) ∷ later → AreListed all later (objects ++ o ∷ [])
+pub list_more : (all rest later : List (ℕ × ObjectCalls)) (objects : List ObjectCalls) (x : ℕ) (o : ObjectCalls) → AreListed all rest objects
+    → rest ≡ (x, o) ∷ later → AreListed all later (objects ++ o ∷ [])
 list_more all rest later objects x o h is = h ∙ (ap (λ (r : List (ℕ × ObjectCalls)). objects ++ map (λ e. e.1) r) is ∙ sym (append_assoc objects (o ∷ []) (map (λ e. e.1) later)))
 
-pub all_listed : (es : List Event) (m : BTreeMap ℕ ObjectCalls) (all rest : List (ℕ × ObjectCalls)) (os : List ObjectCalls) → IsOrdered nat_cmp m → IsWhole es m → all ≡ m.entries → rest ≡ [] → AreListed all rest os → AreAll es os
+pub all_listed : (es : List Event) (m : BTreeMap ℕ ObjectCalls) (all rest : List (ℕ × ObjectCalls)) (os : List ObjectCalls) → IsOrdered nat_cmp m
+    → IsWhole es m → all ≡ m.entries → rest ≡ [] → AreListed all rest os → AreAll es os
 all_listed es m all rest os sorted h from over listed = record {
   rising = all_from_pairs (λ (a b : ObjectCalls). a.object < b.object) os (subst (Pairs (λ (a b : ObjectCalls). a.object < b.object)) (sym is)
       (pairs_map (λ (a b : ObjectCalls). a.object < b.object) (λ (e : ℕ × ObjectCalls). e.1) m.entries

@@ -1,5 +1,6 @@
 -- Places that are shared among workers.
-use Rattle.std.proofs.Common.{◌≡◌, ◌≢◌, ℕ, zero, suc, ◌+◌, ◌*◌, ◌/◌, ◌%◌, ◌<◌, ◌≤◌, ◌++◌, ◌∷◌, [], List, All, AllPairs, Contains, length, get_or, take, Result, Ok, Err, IsOk, Option, Some, None, IfNone, inl, inr, refl, ap, sym, ◌∙◌, subst, arith}
+use Rattle.std.proofs.Common.{◌≡◌, ◌≢◌, ℕ, zero, suc, ◌+◌, ◌*◌, ◌/◌, ◌%◌, ◌<◌, ◌≤◌, ◌++◌, ◌∷◌, [], List, All, AllPairs, Contains, length, get_or}
+use Rattle.std.proofs.Common.{take, Result, Ok, Err, IsOk, Option, Some, None, IfNone, inl, inr, refl, ap, sym, ◌∙◌, subst, arith}
 use Rattle.std.proofs.Math.Nat.{lt_of_mul-lt-mul_right, mul-lt-mul_of_pos_right, mod-lt, mod-add-div'}
 use Rattle.std.proofs.lemmas.Bool.{cases_order}
 use Rattle.std.proofs.lemmas.List.{get_or_default, take_all}
@@ -82,7 +83,8 @@ place_below (y ∷ xs) (suc n) x d i = elim i [
 ]
 
 -- the objects below a place are fine, where each worker's are
-pub fine_below : (es : List Event) (certificates : List Certificate) (os : List ObjectCalls) (n : ℕ) → AreObjects es os → ((k : ℕ) → k < n → k < length os → IsFinePiece os certificates k) → AreFine es certificates (take n os)
+pub fine_below : (es : List Event) (certificates : List Certificate) (os : List ObjectCalls) (n : ℕ) → AreObjects es os
+    → ((k : ℕ) → k < n → k < length os → IsFinePiece os certificates k) → AreFine es certificates (take n os)
 fine_below es certificates os n objects fine o i =
     let p = place_below os n o o i in
     let here : IsFine o.kind (calls_of o.ops) certificates o.object = subst (λ (q : ObjectCalls). IsFine q.kind (calls_of q.ops) certificates q.object) p.3 (fine p.0 p.1 p.2 o) in
@@ -122,7 +124,8 @@ stands_last xs x = contains_from_in (xs ++ x ∷ []) x (in_right x xs (x ∷ [])
 stands_still : {X : Type 0} (xs : List X) (x y : X) → Contains xs x → Contains (xs ++ y ∷ []) x
 stands_still xs x y h = contains_from_in (xs ++ y ∷ []) x (in_left x xs (y ∷ []) (in_from_contains xs x h))
 
-pub one_more_found : (rs : List (Result (Unit {0}) RefusedPiece)) (r : Result (Unit {0}) RefusedPiece) (least next : Option RefusedPiece) → IsLeastOf rs least → IsEarlier least r next → IsLeastOf (rs ++ r ∷ []) next
+pub one_more_found : (rs : List (Result (Unit {0}) RefusedPiece)) (r : Result (Unit {0}) RefusedPiece) (least next : Option RefusedPiece)
+    → IsLeastOf rs least → IsEarlier least r next → IsLeastOf (rs ++ r ∷ []) next
 one_more_found rs (Ok u) None next h is = subst (IsLeastOf (rs ++ Ok u ∷ [])) (sym is) (all_more IsOk rs (Ok u) h refl)
 one_more_found rs (Ok u) (Some f) next h is = subst (IsLeastOf (rs ++ Ok u ∷ [])) (sym is) (stands_still rs (Err f) (Ok u) h.0, all_more (IsNotBefore f) rs (Ok u) h.1 tt)
 one_more_found rs (Err g) None next h is = subst (IsLeastOf (rs ++ Err g ∷ [])) (sym is) (stands_last rs (Err g), all_more (IsNotBefore g) rs (Err g) (all_ok g rs h) (omega arith))
@@ -137,10 +140,12 @@ none_found rs (Some f) h = tt
 
 -- ---- one piece
 
-pub refused_at : (os : List ObjectCalls) (certificates : List Certificate) (k : ℕ) (o : ObjectCalls) (r : Refusal) → k < length os → o ≡ get_or os k o → IsRefused o.kind (calls_of o.ops) certificates o.object r → IsRefusedPiece os certificates k r
+pub refused_at : (os : List ObjectCalls) (certificates : List Certificate) (k : ℕ) (o : ObjectCalls) (r : Refusal) → k < length os → o ≡ get_or os k o
+    → IsRefused o.kind (calls_of o.ops) certificates o.object r → IsRefusedPiece os certificates k r
 refused_at os certificates k o r l is h = λ d. subst (λ (q : ObjectCalls). IsRefused q.kind (calls_of q.ops) certificates q.object r) (is ∙ get_or_default os k o d l) h
 
-pub fine_at : (os : List ObjectCalls) (certificates : List Certificate) (k : ℕ) (o : ObjectCalls) → k < length os → o ≡ get_or os k o → IsFine o.kind (calls_of o.ops) certificates o.object → IsFinePiece os certificates k
+pub fine_at : (os : List ObjectCalls) (certificates : List Certificate) (k : ℕ) (o : ObjectCalls) → k < length os → o ≡ get_or os k o
+    → IsFine o.kind (calls_of o.ops) certificates o.object → IsFinePiece os certificates k
 fine_at os certificates k o l is h = λ d. subst (λ (q : ObjectCalls). IsFine q.kind (calls_of q.ops) certificates q.object) (is ∙ get_or_default os k o d l) h
 
 -- ---- what all workers found
@@ -152,7 +157,8 @@ pub record AreShares (count : ℕ) (os : List ObjectCalls) (certificates : List 
   pub each : (i : ℕ) (d : Result (Unit {0}) RefusedPiece) → i < count → IsShare i count os certificates (get_or rs i d)
 
 -- a place below the first that was found is fine
-fine_before : (count : ℕ) (os : List ObjectCalls) (certificates : List Certificate) (rs : List (Result (Unit {0}) RefusedPiece)) (f : RefusedPiece) → AreShares count os certificates rs → All (IsNotBefore f) rs → (k : ℕ) → k < f.piece → k < length os → IsFinePiece os certificates k
+fine_before : (count : ℕ) (os : List ObjectCalls) (certificates : List Certificate) (rs : List (Result (Unit {0}) RefusedPiece)) (f : RefusedPiece)
+    → AreShares count os certificates rs → All (IsNotBefore f) rs → (k : ℕ) → k < f.piece → k < length os → IsFinePiece os certificates k
 fine_before count os certificates rs f shares least k below inside =
     let w = its_worker count k shares.some in
     let i = k % count in
@@ -164,7 +170,8 @@ fine_before count os certificates rs f shares least k below inside =
     go (Err g) h n own = h.found.before k (omega arith) own
 
 -- where nothing was found, each place is fine
-all_fine : (count : ℕ) (os : List ObjectCalls) (certificates : List Certificate) (rs : List (Result (Unit {0}) RefusedPiece)) → AreShares count os certificates rs → All IsOk rs → (k : ℕ) → k < length os → IsFinePiece os certificates k
+all_fine : (count : ℕ) (os : List ObjectCalls) (certificates : List Certificate) (rs : List (Result (Unit {0}) RefusedPiece))
+    → AreShares count os certificates rs → All IsOk rs → (k : ℕ) → k < length os → IsFinePiece os certificates k
 all_fine count os certificates rs shares ok k inside =
     let w = its_worker count k shares.some in
     let i = k % count in
@@ -176,7 +183,8 @@ all_fine count os certificates rs shares ok k inside =
     go (Err g) h n own = cc n
 
 -- what was found at the least place is what its worker found first
-found_first : (count : ℕ) (os : List ObjectCalls) (certificates : List Certificate) (rs : List (Result (Unit {0}) RefusedPiece)) (f : RefusedPiece) → AreShares count os certificates rs → Contains rs (Err f) → (f.piece < length os) × IsRefusedPiece os certificates f.piece f.refusal
+found_first : (count : ℕ) (os : List ObjectCalls) (certificates : List Certificate) (rs : List (Result (Unit {0}) RefusedPiece)) (f : RefusedPiece)
+    → AreShares count os certificates rs → Contains rs (Err f) → (f.piece < length os) × IsRefusedPiece os certificates f.piece f.refusal
 found_first count os certificates rs f shares stands =
     let i = stands.0 in
     let s = shares.each i (Err f) (subst (λ n. i < n) shares.long stands.1) in
@@ -184,7 +192,8 @@ found_first count os certificates rs f shares stands =
     (h.found.inside, h.found.refused)
 
 -- What was found at the least place is the first refusal. Certificates that are valid are refused by want of memory alone.
-pub first_of_all : (es : List Event) (count : ℕ) (os : List ObjectCalls) (certificates : List Certificate) (rs : List (Result (Unit {0}) RefusedPiece)) (f : RefusedPiece) → AllPairs (λ a b. a.object ≢ b.object) certificates → AreObjects es os
+pub first_of_all : (es : List Event) (count : ℕ) (os : List ObjectCalls) (certificates : List Certificate)
+    (rs : List (Result (Unit {0}) RefusedPiece)) (f : RefusedPiece) → AllPairs (λ a b. a.object ≢ b.object) certificates → AreObjects es os
     → AreShares count os certificates rs → Contains rs (Err f) → All (IsNotBefore f) rs → IsFirstRefusal es certificates f.refusal × (AreValid es certificates → f.refusal ≡ NoMemory)
 first_of_all es count os certificates rs f distinct objects shares stands least =
     let k = f.piece in
@@ -194,6 +203,7 @@ first_of_all es count os certificates rs f distinct objects shares stands least 
     let here = subst (λ (q : ObjectCalls). IsRefused q.kind (calls_of q.ops) certificates q.object f.refusal) (sym o.1) (found.1 o.0) in
     next_is_first es certificates os k o.0 f.refusal distinct objects below found.0 o.1 here
 
-pub all_are_fine : (es : List Event) (count : ℕ) (os : List ObjectCalls) (certificates : List Certificate) (rs : List (Result (Unit {0}) RefusedPiece)) → AreObjects es os → AreShares count os certificates rs → All IsOk rs → AreFine es certificates os
+pub all_are_fine : (es : List Event) (count : ℕ) (os : List ObjectCalls) (certificates : List Certificate)
+    (rs : List (Result (Unit {0}) RefusedPiece)) → AreObjects es os → AreShares count os certificates rs → All IsOk rs → AreFine es certificates os
 all_are_fine es count os certificates rs objects shares ok =
     subst (AreFine es certificates) (take_all (length os) os (omega arith)) (fine_below es certificates os (length os) objects (λ k l inside. all_fine count os certificates rs shares ok k inside))

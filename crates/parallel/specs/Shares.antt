@@ -7,6 +7,9 @@ use Rattle.checker.specs.declared.refusal.Refusal.{Refusal}
 use Rattle.checker.specs.Checking.{IsFine, IsRefused}
 use Rattle.parallel.specs.declared.share.RefusedPiece.{RefusedPiece}
 
+abbrev pub max_workers : ℕ
+max_workers = 16
+
 -- the object at this place falls to the worker: the places worker, worker + workers, and so on
 abbrev pub FallsTo : ℕ → ℕ → ℕ → Type 0
 FallsTo worker workers k = (turn : ℕ) × (k ≡ worker + turn * workers)

@@ -1,9 +1,12 @@
 //! The objects that one worker checks.
 
-ghost use Rattle.std.specs.Prelude.{◌≡◌, ◌<◌, ◌≤◌, ℕ, length, OnOk, IfErr, IfSome, IfNone, IsOk, All, AllPairs, Contains, Err};
+ghost use Rattle.std.specs.Prelude.{◌≡◌, ◌<◌, ◌≤◌, ℕ, length, OnOk, IfErr, IfSome, IfNone, IsOk};
+ghost use Rattle.std.specs.Prelude.{All, AllPairs, Contains, Err};
 ghost use Rattle.certificate.specs.declared.Certificate.{Certificate};
 ghost use Rattle.checker.specs.Checking.{AreAllPlaces};
-ghost use Rattle.parallel.specs.Shares.{FallsTo, IsFinePiece, IsFirstOfShare, IsNotBefore, IsEarlier};
+ghost use Rattle.parallel.specs.Shares.{FallsTo, IsFinePiece, IsFirstOfShare, IsNotBefore};
+ghost use Rattle.parallel.specs.Shares.{IsEarlier};
+ghost use Rattle.parallel.specs.Shares.{max_workers};
 
 use certificate::Certificate;
 use checker::{Refusal, check_piece};
@@ -42,7 +45,7 @@ pub(crate) fn check_share<G: Gate>(
     requires rising { AllPairs (λ a b. a.object < b.object) objects.now }
     requires places { AreAllPlaces places.now certificates.now }
     requires worker { worker < workers }
-    requires few { workers < 17 }
+    requires few { workers < 1 + max_workers }
     ensures fine { OnOk result ((k : ℕ) → k < length objects.now → FallsTo worker workers k →
         IsFinePiece objects.now certificates.now k) }
     ensures found { IfErr result (IsFirstOfShare worker workers objects.now certificates.now) }

@@ -5,6 +5,7 @@ ghost use Rattle.certificate.specs.Denotes.{AreDistinct};
 ghost use Rattle.checker.specs.Refusals.{AreValid, IsCheckAnswer, IsFirstRefusal};
 ghost use Rattle.checker.specs.Checking.{AreAllPlaces};
 ghost use Rattle.parallel.specs.Shares.{IsShare};
+ghost use Rattle.parallel.specs.Shares.{max_workers};
 
 use crate::gathering::split_by_workers;
 use crate::share::{RefusedPiece, check_share, least};
@@ -35,7 +36,7 @@ pub fn check_parallel<R: Threads + Sync, G: Gate>(
     // no object has two certificates
     requires distinct { AreDistinct certificates.now }
     requires some { 0 < workers }
-    requires few { workers < 17 }
+    requires few { workers < 1 + max_workers }
     ensures valid { OnOk result (AreValid history.now certificates.now) }
     ensures refused { IfErr result (IsFirstRefusal history.now certificates.now) }
     // Certificates that are refused, but for want of memory, are not valid.
@@ -57,7 +58,7 @@ pub fn check_parallel<R: Threads + Sync, G: Gate>(
         alloc,
         count,
         &|worker: usize| -> Result<(), RefusedPiece>
-            requires { (worker < count) × (count < 17)
+            requires { (worker < count) × (count < 1 + max_workers)
                 × AllPairs (λ a b. a.object < b.object) pieces.now
                 × AreAllPlaces places certificates.now }
             ensures { IsShare worker count pieces.entry.now certificates.entry.now result }

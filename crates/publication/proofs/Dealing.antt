@@ -53,7 +53,8 @@ row_there zero x c r e = absurd (some-ne-none r (sym e))
 row_there (suc n) zero c r e = sym (some-injective c r e)
 row_there (suc n) (suc x) c r e = row_there n x c r e
 
-pub own_place : (c x : ℕ) (lists : List TableId) (ps : List PlaceSeen) → x < 16 → ArePlacesOf c lists ps → (p : PlaceSeen) × (get_elem? ps x ≡ some p) × (p.row ≡ c) × (get_elem? (rosters ps) x ≡ some p.roster)
+pub own_place : (c x : ℕ) (lists : List TableId) (ps : List PlaceSeen) → x < 16 → ArePlacesOf c lists ps → (p : PlaceSeen) × (get_elem? ps x ≡ some p)
+    × (p.row ≡ c) × (get_elem? (rosters ps) x ≡ some p.roster)
 own_place c x lists ps low k =
     let long : length ps ≡ 16 = sym (length-map ps (λ (p : PlaceSeen). p.row)) ∙ ap length k.rows in let b = there ps x (omega arith) in (
       b.0,
@@ -86,18 +87,21 @@ or_last (x ∷ xs) a zero d h = absurd (omega arith)
 or_last (x ∷ xs) a (suc i) d h = or_last xs a i d (omega arith)
 
 -- of all walkers, the first n went: the next one walks the next list
-pub walker_there : (all ws : List WalkerSeen) (n m : ℕ) (w : WalkerSeen) → 0 < length ws → w ≡ get_or ws 0 w → m ≡ n → ((j : ℕ) → get_elem? (rosters_of ws) j ≡ get_elem? (rosters_of all) (n + j)) → get_elem? (rosters_of all) m ≡ some w.roster
+pub walker_there : (all ws : List WalkerSeen) (n m : ℕ) (w : WalkerSeen) → 0 < length ws → w ≡ get_or ws 0 w → m ≡ n
+    → ((j : ℕ) → get_elem? (rosters_of ws) j ≡ get_elem? (rosters_of all) (n + j)) → get_elem? (rosters_of all) m ≡ some w.roster
 walker_there all [] n m w some_left is same left = absurd (omega arith)
 walker_there all (x ∷ xs) n m w some_left is same left = ap (get_elem? (rosters_of all)) (omega arith) ∙ (sym (left 0) ∙ ap (λ (z : WalkerSeen). some z.roster) (sym is))
 
 -- and one more goes
-pub walkers_left : (all ws ws' : List WalkerSeen) (n n' : ℕ) → 0 < length ws → ws' ≡ remove ws 0 → n' ≡ n + 1 → ((j : ℕ) → get_elem? (rosters_of ws) j ≡ get_elem? (rosters_of all) (n + j)) → (j : ℕ) → get_elem? (rosters_of ws') j ≡ get_elem? (rosters_of all) (n' + j)
+pub walkers_left : (all ws ws' : List WalkerSeen) (n n' : ℕ) → 0 < length ws → ws' ≡ remove ws 0 → n' ≡ n + 1
+    → ((j : ℕ) → get_elem? (rosters_of ws) j ≡ get_elem? (rosters_of all) (n + j)) → (j : ℕ) → get_elem? (rosters_of ws') j ≡ get_elem? (rosters_of all) (n' + j)
 walkers_left all [] ws' n n' some_left gone more left j = absurd (omega arith)
 walkers_left all (x ∷ xs) ws' n n' some_left gone more left j = ap (λ z. get_elem? (rosters_of z) j) gone ∙ (left (suc j) ∙ ap (get_elem? (rosters_of all)) (omega arith))
 
 module _ {Z : Type 0} where
   -- one owner more
-  pub one_owner : (n : ℕ) (lists : List TableId) (old new : List (Vec PlaceSeen Z)) (v : Vec PlaceSeen Z) → new ≡ old ++ v ∷ [] → HasPlaces n lists v → AreDealt 0 n lists old → AreDealt 0 (n + 1) lists new
+  pub one_owner : (n : ℕ) (lists : List TableId) (old new : List (Vec PlaceSeen Z)) (v : Vec PlaceSeen Z) → new ≡ old ++ v ∷ [] → HasPlaces n lists v
+      → AreDealt 0 n lists old → AreDealt 0 (n + 1) lists new
   one_owner n lists old new v more has all = let count = all.0 in let long : length (old ++ v ∷ []) ≡ length old + 1 = length-append old (v ∷ []) in subst (AreDealt 0 (n + 1) lists) (sym more) (
     omega arith,
     λ i d l. dite (ℕ_discrete i n)
@@ -109,15 +113,17 @@ module _ {Z : Type 0} where
   room_left n lists owners low all c d l = let count = all.0 in let b = all.1 c d (omega arith) in let len = b.1 in let cap = b.2 in omega arith
 
   -- one list more
-  pub one_dealt : (id : TableId) (n : ℕ) (lists lists' : List TableId) (old new : List (Vec PlaceSeen Z)) → lists' ≡ lists ++ id ∷ [] → AreDealt 0 n lists old → AreGrown id old new → AreDealt 0 n lists' new
-  one_dealt id n lists lists' old new more all grown = let long = grown.0 in let count = all.0 in let wide : length (lists ++ id ∷ []) ≡ length lists + 1 = length-append lists (id ∷ []) in subst (λ ls. AreDealt 0 n ls new) (sym more) (
-    long ∙ count,
-    λ c d l. let g = grown.1 c d (omega arith) in let b = all.1 c d l in let e : c ≡ 0 + c = omega arith in (
-      g.0 ∙ ((λ i. b.0 i ++ record { roster = id; row = e i; tries = [] } ∷ []) ∙ sym (map-append (λ z. record { roster = z; row = 0 + c; tries = [] }) lists (id ∷ []))),
-      (let more = g.2 in let had = b.1 in omega arith),
-      g.1 ∙ b.2,
-    ),
-  )
+  pub one_dealt : (id : TableId) (n : ℕ) (lists lists' : List TableId) (old new : List (Vec PlaceSeen Z)) → lists' ≡ lists ++ id ∷ []
+      → AreDealt 0 n lists old → AreGrown id old new → AreDealt 0 n lists' new
+  one_dealt id n lists lists' old new more all grown = let long = grown.0 in let count = all.0 in
+      let wide : length (lists ++ id ∷ []) ≡ length lists + 1 = length-append lists (id ∷ []) in subst (λ ls. AreDealt 0 n ls new) (sym more) (
+        long ∙ count,
+        λ c d l. let g = grown.1 c d (omega arith) in let b = all.1 c d l in let e : c ≡ 0 + c = omega arith in (
+          g.0 ∙ ((λ i. b.0 i ++ record { roster = id; row = e i; tries = [] } ∷ []) ∙ sym (map-append (λ z. record { roster = z; row = 0 + c; tries = [] }) lists (id ∷ []))),
+          (let more = g.2 in let had = b.1 in omega arith),
+          g.1 ∙ b.2,
+        ),
+      )
 
   -- the first goes
   pub first_gone : (first n : ℕ) (lists : List TableId) (old new : List (Vec PlaceSeen Z)) → new ≡ remove old 0 → AreDealt first (n + 1) lists old → AreDealt (first + 1) n lists new

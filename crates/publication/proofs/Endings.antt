@@ -17,7 +17,8 @@ use Rattle.publication.specs.Closing.{HaveEnded, HasLearntEnds}
 use Rattle.publication.proofs.Holds.{agrees_light}
 
 -- one of two views, as the word was 1 or not
-pub either_view : (found d : ℕ) (v v' w : DeskView) → v ≡ v' → (found ≡ 1 → w ≡ after_end_seen d v) → (found ≢ 1 → w ≡ after_end_unset d v) → w ≡ (if eqb found 1 then after_end_seen d v' else after_end_unset d v')
+pub either_view : (found d : ℕ) (v v' w : DeskView) → v ≡ v' → (found ≡ 1 → w ≡ after_end_seen d v) → (found ≢ 1 → w ≡ after_end_unset d v)
+    → w ≡ (if eqb found 1 then after_end_seen d v' else after_end_unset d v')
 either_view found d v v' w same hit miss = dite (ℕ_discrete found 1)
     (λ e. hit e ∙ (ap (after_end_seen d) same ∙ ap (λ (b : Bool). if b then after_end_seen d v' else after_end_unset d v') (sym (eq-eqb found 1 e))))
     (λ n. miss n ∙ (ap (after_end_unset d) same ∙ ap (λ (b : Bool). if b then after_end_seen d v' else after_end_unset d v') (sym (ne_eqb found 1 n))))
@@ -36,7 +37,8 @@ one_ended n a b b' e t f before is = subst (λ z. HaveEnded (n + 1) z × HasLear
 )
 
 -- this one has not
-pub there_still : (d : DeskSeen) (n : ℕ) (a b b' : Known) → n < d.clients → n ≢ b.knows.number → b'.knows ≡ after_end_unset n b.knows → HaveEnded n b → HasLearntEnds a b → All (λ l. l.client ≢ n) b.knows.left → StillThere d a n b'
+pub there_still : (d : DeskSeen) (n : ℕ) (a b b' : Known) → n < d.clients → n ≢ b.knows.number → b'.knows ≡ after_end_unset n b.knows → HaveEnded n b
+    → HasLearntEnds a b → All (λ l. l.client ≢ n) b.knows.left → StillThere d a n b'
 there_still d n a b b' low other e before is untold = let same = ap (λ z. z.knows.number) is in record {
   client_low = low;
   other = λ f. other (f ∙ sym same);
@@ -47,9 +49,11 @@ there_still d n a b b' low other e before is untold = let same = ap (λ z. z.kno
 
 module _ {S O R : Type 0} (op_in : O → AnyOp) (reply_in : R → AnyReply) where
   -- a client that has only looked at ends
-  watching : (number calls quota : ℕ) (outstanding : Bool) (j : Journal O R) (m m' : Me (Slot S O R) DeskView) (retired still_there : List ℕ) → IsClient op_in reply_in number calls quota outstanding j m
+  watching : (number calls quota : ℕ) (outstanding : Bool) (j : Journal O R) (m m' : Me (Slot S O R) DeskView) (retired still_there : List ℕ)
+      → IsClient op_in reply_in number calls quota outstanding j m
       → m' ≡ (record m.0 { retired = retired; still_there = still_there }, m.1) → IsClient op_in reply_in number calls quota outstanding j m'
-  watching number calls quota outstanding j m m' retired still_there k e = subst (IsClient op_in reply_in number calls quota outstanding j) (sym e) record { agrees = agrees_light k.agrees; free = k.free; in_hand = k.in_hand }
+  watching number calls quota outstanding j m m' retired still_there k e =
+      subst (IsClient op_in reply_in number calls quota outstanding j) (sym e) record { agrees = agrees_light k.agrees; free = k.free; in_hand = k.in_hand }
 
   pub watching_ok : (number calls quota : ℕ) (outstanding : Bool) (j : Journal O R) (found d : ℕ) (m m' : Me (Slot S O R) DeskView) → IsClient op_in reply_in number calls quota outstanding j m
       → (found ≡ 1 → m' ≡ (after_end_seen d m.0, m.1)) → (found ≢ 1 → m' ≡ (after_end_unset d m.0, m.1)) → IsClient op_in reply_in number calls quota outstanding j m'

@@ -22,7 +22,8 @@ module _ {X : Type 0} where
   pub row_there : (rows rows' : List (List X)) (row : List X) (k : ℕ) → rows' ≡ rows ++ row ∷ [] → k < length rows → get_or rows' k [] ≡ get_or rows k []
   row_there rows rows' row k e low = ap (λ z. get_or z k []) e ∙ get_or-append rows (row ∷ []) [] k low
 
-  pub rows_more : (P : ℕ → List X → Type 0) (from n : ℕ) (rows rows' : List (List X)) (row : List X) → rows' ≡ rows ++ row ∷ [] → length rows ≡ n → ((k : ℕ) → from ≤ k → k < n → P k (get_or rows k [])) → P n row
+  pub rows_more : (P : ℕ → List X → Type 0) (from n : ℕ) (rows rows' : List (List X)) (row : List X) → rows' ≡ rows ++ row ∷ [] → length rows ≡ n
+      → ((k : ℕ) → from ≤ k → k < n → P k (get_or rows k [])) → P n row
       → (k : ℕ) → from ≤ k → k < n + 1 → P k (get_or rows' k [])
   rows_more P from n rows rows' row e long before here k g h = dite (ℕ_discrete k n)
       (λ same. subst (λ z. P z (get_or rows' z [])) (sym same) (subst (P n) (sym (row_here rows rows' row n e long)) here))

@@ -30,7 +30,8 @@ module _ {A : Type 0} where
       (λ other. at_longer l (a ∷ []) i (P i) (before i (omega arith)))
 
   -- one fewer
-  pub one_fewer : (P : ℕ → A) (l m : List A) (a : A) → m ≡ l ++ a ∷ [] → ((i : ℕ) → i < length m → get_elem? m i ≡ some (P i)) → (a ≡ P (length l)) × (length l + 1 ≡ length m) × ((i : ℕ) → i < length l → get_elem? l i ≡ some (P i))
+  pub one_fewer : (P : ℕ → A) (l m : List A) (a : A) → m ≡ l ++ a ∷ [] → ((i : ℕ) → i < length m → get_elem? m i ≡ some (P i)) → (a ≡ P (length l))
+      × (length l + 1 ≡ length m) × ((i : ℕ) → i < length l → get_elem? l i ≡ some (P i))
   one_fewer P l m a e all = let n : length m ≡ length l + 1 = ap length e ∙ length-append l (a ∷ []) in (
     some-injective a (P (length l)) (sym (at_last l a (length l) refl) ∙ (ap (λ z. get_elem? z (length l)) (sym e) ∙ all (length l) (omega arith))),
     sym n,
@@ -38,7 +39,8 @@ module _ {A : Type 0} where
   )
 
 module _ {S O R : Type 0} where
-  pub cores_more : (lists : List TableId) (os os' : List S) (ss ss' : List (Slot S O R)) (o : S) (k : Core S O R) → os' ≡ os ++ o ∷ [] → ss' ≡ ss ++ slot.Core k ∷ [] → length ss ≡ length os → k.object ≡ o → k.log.items ≡ []
+  pub cores_more : (lists : List TableId) (os os' : List S) (ss ss' : List (Slot S O R)) (o : S) (k : Core S O R) → os' ≡ os ++ o ∷ []
+      → ss' ≡ ss ++ slot.Core k ∷ [] → length ss ≡ length os → k.object ≡ o → k.log.items ≡ []
       → get_elem? lists (length os) ≡ some k.list.roster → AreCores os lists ss → AreCores os' lists ss'
   cores_more lists os os' ss ss' o k e f n on empty list before x p at = ⊎_elim
       (λ (t : get_elem? os x ≡ some p). let b = before x p t in (b.0, ap (λ z. get_elem? z x) f ∙ at_longer ss (slot.Core k ∷ []) x (slot.Core b.0) b.1, b.2, b.3, b.4))

@@ -55,10 +55,12 @@ none_held None never = refl
 none_held (Some c) never = absurd (never c refl)
 
 module _ {S O R : Type 0} (content : S → Content) (op_in : O → AnyOp) (reply_in : R → AnyReply) (kinds : List Kind) (clients quota : ℕ) where
-  leavings : (id : ℕ) (v : DeskView) (words : List ℕ) (xs : List (Slot S O R)) → v.role ≡ role.Client → v.held ≡ held.Free → IsAtRest v.own → ((c : ℕ) → c < clients → c ≢ v.number → Contains v.retired c)
+  leavings : (id : ℕ) (v : DeskView) (words : List ℕ) (xs : List (Slot S O R)) → v.role ≡ role.Client → v.held ≡ held.Free → IsAtRest v.own
+      → ((c : ℕ) → c < clients → c ≢ v.number → Contains v.retired c)
       → Final (Seen (Kept content op_in reply_in kinds clients quota) id v) words xs → Leavings op_in reply_in kinds clients quota v xs
   leavings id v words xs cl free rest all f =
-      let s = f.0 in let k = f.1.0 in let at = f.1.1 in let home = f.4 in let w : World = k.world in let ok = mine content op_in reply_in kinds clients quota s k id v cl at in let few = k.few_clients in
+      let s = f.0 in let k = f.1.0 in let at = f.1.1 in let home = f.4 in let w : World = k.world in let ok =
+      mine content op_in reply_in kinds clients quota s k id v cl at in let few = k.few_clients in
       let ended : (c : ℕ) → c < clients → c ≢ v.number → w.ended c ≡ true = λ c l other. All-contains (λ d. w.ended d ≡ true) v.retired c ok.retired (all c l other) in
       let not_mine : (x : ℕ) → w.holder x ≢ Some v.number = subst (HeldOk (length kinds) w v.number) free ok.held in
       let free_all : (x : ℕ) → w.holder x ≡ None = λ x. none_held (w.holder x) (λ c e. dite (ℕ_discrete c v.number)
@@ -88,12 +90,15 @@ nothing_past [] i past = refl
 nothing_past (l ∷ ls) zero past = absurd (omega arith)
 nothing_past (l ∷ ls) (suc i) past = nothing_past ls i (omega arith)
 
-module _ {S O R : Type 0} (op_in : O → AnyOp) (reply_in : R → AnyReply) (d : DeskSeen) (last : Known) (xs : List (Slot S O R)) (r : Recorded O R) (left : Leavings op_in reply_in d.id.kinds d.clients d.id.quota last.knows xs) where
+module _ {S O R : Type 0} (op_in : O → AnyOp) (reply_in : R → AnyReply) (d : DeskSeen) (last : Known) (xs : List (Slot S O R)) (r : Recorded O R)
+    (left : Leavings op_in reply_in d.id.kinds d.clients d.id.quota last.knows xs) where
   -- the record's logs and journals are those of the world
   same_logs : AreLogs (length d.id.kinds) xs r.logs → (x : ℕ) → map (entry_in op_in reply_in) (get_or r.logs x []) ≡ left.world.log x
   same_logs logs x = ⊎_elim
-      (λ (l : x < length d.id.kinds). let b = left.cores x l in let a = logs.1 x l in let same = same_core b.0 a.0 (sym b.1 ∙ a.1) in ap (map (entry_in op_in reply_in)) (sym a.2) ∙ (ap (log_of op_in reply_in) (sym same) ∙ b.2))
-      (λ (far : length d.id.kinds ≤ x). let count = logs.0 in ap (map (entry_in op_in reply_in)) (nothing_past r.logs x (omega arith)) ∙ sym (no_log_beyond d.id.kinds d.id.quota left.world left.sound x far))
+      (λ (l : x < length d.id.kinds). let b = left.cores x l in let a = logs.1 x l in let same = same_core b.0 a.0 (sym b.1 ∙ a.1) in
+      ap (map (entry_in op_in reply_in)) (sym a.2) ∙ (ap (log_of op_in reply_in) (sym same) ∙ b.2))
+      (λ (far : length d.id.kinds ≤ x). let count = logs.0 in ap (map (entry_in op_in reply_in)) (nothing_past r.logs x (omega arith))
+      ∙ sym (no_log_beyond d.id.kinds d.id.quota left.world left.sound x far))
       (cases_lt x (length d.id.kinds))
 
   same_journals : length r.journals ≡ d.clients → map (event_in op_in reply_in) (get_or r.journals last.knows.number []) ≡ journal last.knows
@@ -103,7 +108,8 @@ module _ {S O R : Type 0} (op_in : O → AnyOp) (reply_in : R → AnyReply) (d :
       (λ other. ⊎_elim
       (λ (l : c < d.clients). let b = left.journals c l other in let a = others c l other in let same = same_journal b.0 a.0 (sym b.1 ∙ a.1) in
       ap (map (event_in op_in reply_in)) (sym a.2) ∙ (ap (λ (j : Journal O R). map (event_in op_in reply_in) j.events.items) (sym same) ∙ b.2))
-      (λ (far : d.clients ≤ c). ap (map (event_in op_in reply_in)) (nothing_past r.journals c (omega arith)) ∙ sym (no_journal_beyond d.id.kinds d.id.quota left.world left.sound d.clients left.come c far))
+      (λ (far : d.clients ≤ c). ap (map (event_in op_in reply_in)) (nothing_past r.journals c (omega arith))
+      ∙ sym (no_journal_beyond d.id.kinds d.id.quota left.world left.sound d.clients left.come c far))
       (cases_lt c d.clients))
 
   pub closed_ok : AreLogs (length d.id.kinds) xs r.logs → length r.journals ≡ d.clients → map (event_in op_in reply_in) (get_or r.journals last.knows.number []) ≡ journal last.knows
@@ -123,12 +129,16 @@ module _ {S O R : Type 0} (op_in : O → AnyOp) (reply_in : R → AnyReply) (d :
 module _ {O R : Type 0} (op_in : O → AnyOp) (reply_in : R → AnyReply) where
   -- what the last client has learnt of end words does not matter
   pub closed_same : (d : DeskSeen) (a b : Known) (r : Recorded O R) → HasLearntEnds a b → Closed op_in reply_in d b r → Closed op_in reply_in d a r
-  closed_same d a b r is k = let same = subst (λ z. Closed op_in reply_in d z r) is k in record { journals = same.journals; logs = same.logs; own = same.own; left = same.left; legal = same.legal; seen = same.seen; accounts = same.accounts; sound = same.sound }
+  closed_same d a b r is k = let same = subst (λ z. Closed op_in reply_in d z r) is k in
+      record { journals = same.journals; logs = same.logs; own = same.own; left = same.left; legal = same.legal; seen = same.seen; accounts = same.accounts; sound = same.sound }
 
 module _ {S O R : Type 0} (content : S → Content) (op_in : O → AnyOp) (reply_in : R → AnyReply) where
   -- the same of a desk and its last client, as they are seen
-  pub left_by : (plan : Plan) (d : DeskSeen) (last : Known) (id : ℕ) (v : DeskView) (words : List ℕ) (xs : List (Slot S O R)) → plan.kinds.items ≡ d.id.kinds → plan.clients ≡ d.clients → plan.quota ≡ d.id.quota → v ≡ last.knows → v.role ≡ role.Client → v.held ≡ held.Free → IsAtRest v.own
-      → HaveEnded d.clients last → Final (Seen (Kept content op_in reply_in plan.kinds.items plan.clients plan.quota) id v) words xs → Leavings op_in reply_in d.id.kinds d.clients d.id.quota last.knows xs
-  left_by plan d last id v words xs kinds clients quota same cl free rest all f = subst (λ (t : List Kind × ℕ × ℕ × DeskView). Leavings op_in reply_in t.0 t.1 t.2 t.3 xs) (λ i. (kinds i, clients i, quota i, same i))
+  pub left_by : (plan : Plan) (d : DeskSeen) (last : Known) (id : ℕ) (v : DeskView) (words : List ℕ) (xs : List (Slot S O R))
+      → plan.kinds.items ≡ d.id.kinds → plan.clients ≡ d.clients → plan.quota ≡ d.id.quota → v ≡ last.knows → v.role ≡ role.Client → v.held ≡ held.Free → IsAtRest v.own
+      → HaveEnded d.clients last → Final (Seen (Kept content op_in reply_in plan.kinds.items plan.clients plan.quota) id v) words xs
+      → Leavings op_in reply_in d.id.kinds d.clients d.id.quota last.knows xs
+  left_by plan d last id v words xs kinds clients quota same cl free rest all f =
+      subst (λ (t : List Kind × ℕ × ℕ × DeskView). Leavings op_in reply_in t.0 t.1 t.2 t.3 xs) (λ i. (kinds i, clients i, quota i, same i))
       (leavings content op_in reply_in plan.kinds.items plan.clients plan.quota id v words xs cl free rest
       (subst (λ (t : ℕ × DeskView). (c : ℕ) → c < t.0 → c ≢ t.1.number → Contains t.1.retired c) (λ i. (sym clients i, sym same i)) all) f)

@@ -35,7 +35,8 @@ module _ {A : Type 0} where
   kind_there f (x ∷ xs) (suc i) a e = kind_there f xs i a e
 
 module _ {S O R : Type 0} (content : S → Content) (op_in : O → AnyOp) (reply_in : R → AnyReply) where
-  pub opens_on : (plan : Plan) (objects : List S) (slots : List (Slot S O R)) → IsSmall plan → plan.kinds.items ≡ kinds_with content objects → AreEmpty content objects → IsLaid objects plan.lists.items slots
+  pub opens_on : (plan : Plan) (objects : List S) (slots : List (Slot S O R)) → IsSmall plan → plan.kinds.items ≡ kinds_with content objects
+      → AreEmpty content objects → IsLaid objects plan.lists.items slots
       → Kept content op_in reply_in plan.kinds.items plan.clients plan.quota (opening (replicate 81 0) slots (first_maker plan.kinds.items plan.lists.items))
   opens_on plan objects slots small are clean laid = let count : length plan.kinds.items ≡ length objects = ap length are ∙ length-map objects (λ o. kind_with (content o)) in let few = small.0 in
       opening_keeps_rule content op_in reply_in plan.kinds.items plan.clients plan.quota plan.lists.items (replicate 81 0) slots small.0 small.1 small.2 refl (get_or-replicate_same 0 81) laid.long
@@ -47,7 +48,8 @@ module _ {S O R : Type 0} (content : S → Content) (op_in : O → AnyOp) (reply
 
 module _ {S O R : Type 0} (op_in : O → AnyOp) (reply_in : R → AnyReply) where
   -- a client after its first step
-  pub begun_ok : (kinds : List Kind) (lists : List TableId) (number quota : ℕ) (j : Journal O R) (m : Me (Slot S O R) DeskView) → number < 32 → quota < 10001 → HasRoom quota j → m ≡ (with_own own.Idle (new_client kinds lists number), at_hand number own.Idle)
+  pub begun_ok : (kinds : List Kind) (lists : List TableId) (number quota : ℕ) (j : Journal O R) (m : Me (Slot S O R) DeskView) → number < 32
+      → quota < 10001 → HasRoom quota j → m ≡ (with_own own.Idle (new_client kinds lists number), at_hand number own.Idle)
       → IsClient op_in reply_in number 0 quota false j m
   begun_ok kinds lists number quota j m low few room is = subst (IsClient op_in reply_in number 0 quota false j) (sym is) record {
     agrees = record {
@@ -72,7 +74,8 @@ module _ {S O R : Type 0} (op_in : O → AnyOp) (reply_in : R → AnyReply) wher
 
 module _ {S O R : Type 0} where
   -- its seat: the maker's, then split off, then after its first step
-  pub entered : (kinds : List Kind) (lists : List TableId) (number : ℕ) (f new m : Me (Slot S O R) DeskView) → f ≡ (maker_of kinds lists number, []) → new ≡ (new_client f.0.kinds f.0.lists f.0.made, [])
+  pub entered : (kinds : List Kind) (lists : List TableId) (number : ℕ) (f new m : Me (Slot S O R) DeskView) → f ≡ (maker_of kinds lists number, [])
+      → new ≡ (new_client f.0.kinds f.0.lists f.0.made, [])
       → m ≡ (with_own own.Idle new.0, (16 + number, slot.Nothing) ∷ (48 + number, slot.Nothing) ∷ new.1) → m ≡ (with_own own.Idle (new_client kinds lists number), at_hand number own.Idle)
   entered kinds lists number f new m a b e = e ∙ (ap (λ (z : Me (Slot S O R) DeskView). (with_own own.Idle z.0, (16 + number, slot.Nothing) ∷ (48 + number, slot.Nothing) ∷ z.1)) b
       ∙ ap (λ (z : Me (Slot S O R) DeskView). (with_own own.Idle (new_client z.0.kinds z.0.lists z.0.made), at_hand number own.Idle)) a)

@@ -1,5 +1,6 @@
 -- A client over a whole post, and over a whole poll: m before, and one seat after each step.
-use Rattle.std.proofs.Common.{◌≡◌, ⊎_elim, inl, ℕ, ◌+◌, ◌<◌, Bool, true, false, List, [], ◌∷◌, ◌++◌, map, length, length-append, All, Option, Some, None, vec_len, vec_capacity, arith, refl, sym, ap, subst, ◌∙◌, get_or-set_same, length-set, append-nil}
+use Rattle.std.proofs.Common.{◌≡◌, ⊎_elim, inl, ℕ, ◌+◌, ◌<◌, Bool, true, false, List, [], ◌∷◌, ◌++◌, map, length, length-append, All, Option, Some}
+use Rattle.std.proofs.Common.{None, vec_len, vec_capacity, arith, refl, sym, ap, subst, ◌∙◌, get_or-set_same, length-set, append-nil}
 use mathlib.Core.List.{map-append}
 use lib.ListN.{length-map}
 use Rattle.atomic_table.specs.Table.{rest, Me}
@@ -9,7 +10,8 @@ use Rattle.desk_model.specs.declared.Request.{Request}
 use Rattle.desk_model.specs.declared.Answer.{Answer}
 use Rattle.desk_model.specs.declared.JournalEvent.{JournalEvent}
 use Rattle.desk_model.specs.declared.JournalEvent.TheVariants.{Invoked, Returned}
-use Rattle.desk_model.specs.World.{AnyEntry, AnyRequest, AnyAnswer, AnyDone, AnyEvent, kind_at, logged, logged_on, entries_of, served, calls_made, tickets_drawn, invoked, journal_of, IsLegal, StartsWith}
+use Rattle.desk_model.specs.World.{AnyEntry, AnyRequest, AnyAnswer, AnyDone, AnyEvent, kind_at, logged, logged_on, entries_of, served, calls_made}
+use Rattle.desk_model.specs.World.{tickets_drawn, invoked, journal_of, IsLegal, StartsWith}
 use Rattle.desk_model.specs.Images.{request_in, answer_in, event_in}
 use Rattle.desk_model.proofs.Entries.{served_more, logged_here, logged_else}
 use Rattle.desk_invariant.specs.declared.board.Journal.{Journal}
@@ -39,7 +41,8 @@ own_waiting (own.Waiting q) a e = (q, refl, a)
 own_waiting (own.Taken q b) a e = absurd a
 
 -- the same client, where it is known whether a call is outstanding
-pub outstanding_is : {S O R : Type 0} {op_in : O → AnyOp} {reply_in : R → AnyReply} {number calls quota : ℕ} {a b : Bool} {j : Journal O R} {m : Me (Slot S O R) DeskView} → a ≡ b → IsClient op_in reply_in number calls quota a j m → IsClient op_in reply_in number calls quota b j m
+pub outstanding_is : {S O R : Type 0} {op_in : O → AnyOp} {reply_in : R → AnyReply} {number calls quota : ℕ} {a b : Bool} {j : Journal O R}
+    {m : Me (Slot S O R) DeskView} → a ≡ b → IsClient op_in reply_in number calls quota a j m → IsClient op_in reply_in number calls quota b j m
 outstanding_is {op_in = op_in} {reply_in = reply_in} {number = number} {calls = calls} {quota = quota} {j = j} {m = m} e k = subst (λ z. IsClient op_in reply_in number calls quota z j m) e k
 
 journal_long : (ds : List AnyDone) (q : Option AnyRequest) → length (journal_of ds q) ≡ tickets_drawn ds q
@@ -49,28 +52,33 @@ journal_long (d ∷ ds) q = let n = journal_long ds q in omega arith
 
 module _ {O R : Type 0} (op_in : O → AnyOp) (reply_in : R → AnyReply) where
   -- the journal's vector is as long as the journal
-  pub events_long : (number calls quota : ℕ) (outstanding : Bool) (j : Journal O R) (v : DeskView) → Agrees op_in reply_in number calls quota outstanding j v → vec_len j.events ≡ tickets_drawn v.done (own_request v.own)
+  pub events_long : (number calls quota : ℕ) (outstanding : Bool) (j : Journal O R) (v : DeskView)
+      → Agrees op_in reply_in number calls quota outstanding j v → vec_len j.events ≡ tickets_drawn v.done (own_request v.own)
   events_long number calls quota outstanding j v k = j.events.ok.0 ∙ (sym (length-map j.events.items (event_in op_in reply_in)) ∙ (ap length k.journal_is ∙ journal_long v.done (own_request v.own)))
 
   -- there is room for the return of the outstanding call
-  pub room_to_return : (number calls quota : ℕ) (j : Journal O R) (v : DeskView) (q : AnyRequest) → Agrees op_in reply_in number calls quota true j v → v.own ≡ own.Waiting q → vec_len j.events < vec_capacity j.events
+  pub room_to_return : (number calls quota : ℕ) (j : Journal O R) (v : DeskView) (q : AnyRequest) → Agrees op_in reply_in number calls quota true j v
+      → v.own ≡ own.Waiting q → vec_len j.events < vec_capacity j.events
   room_to_return number calls quota j v q k is = let n = events_long number calls quota true j v k in let room = k.room in let within = k.within in let count = k.calls_is in
       let tickets : tickets_drawn v.done (own_request v.own) ≡ tickets_drawn v.done (Some q) = ap (λ o. tickets_drawn v.done (own_request o)) is in
       let calls' : calls_made v.done (own_request v.own) ≡ calls_made v.done (Some q) = ap (λ o. calls_made v.done (own_request o)) is in omega arith
 
   -- there is room for one call more
   pub room_to_call : (number calls quota : ℕ) (j : Journal O R) (v : DeskView) → Agrees op_in reply_in number calls quota false j v → calls < quota → vec_len j.events < vec_capacity j.events
-  room_to_call number calls quota j v k few = let n = events_long number calls quota false j v k in let room = k.room in let is = own_idle v.own k.at_rest (sym k.outstanding_is) in let count = k.calls_is in
+  room_to_call number calls quota j v k few = let n = events_long number calls quota false j v k in let room = k.room in let is =
+      own_idle v.own k.at_rest (sym k.outstanding_is) in let count = k.calls_is in
       let tickets : tickets_drawn v.done (own_request v.own) ≡ tickets_drawn v.done None = ap (λ o. tickets_drawn v.done (own_request o)) is in
       let calls' : calls_made v.done (own_request v.own) ≡ calls_made v.done None = ap (λ o. calls_made v.done (own_request o)) is in omega arith
 
   -- a journal after one event more
-  journal_grows : (j j' : Journal O R) (e : JournalEvent O R) (l : List AnyEvent) → map (event_in op_in reply_in) j.events.items ≡ l → j'.events.items ≡ j.events.items ++ e ∷ [] → map (event_in op_in reply_in) j'.events.items ≡ l ++ event_in op_in reply_in e ∷ []
+  journal_grows : (j j' : Journal O R) (e : JournalEvent O R) (l : List AnyEvent) → map (event_in op_in reply_in) j.events.items ≡ l
+      → j'.events.items ≡ j.events.items ++ e ∷ [] → map (event_in op_in reply_in) j'.events.items ≡ l ++ event_in op_in reply_in e ∷ []
   journal_grows j j' e l is more = ap (map (event_in op_in reply_in)) more ∙ (map-append (event_in op_in reply_in) j.events.items (e ∷ []) ∙ ap (λ z. z ++ event_in op_in reply_in e ∷ []) is)
 
 module _ {S O R : Type 0} (op_in : O → AnyOp) (reply_in : R → AnyReply) where
   -- a after the request is in the slot, b after the draw, c after the request has its ticket, d after the post
-  pub post_turn : (number calls quota : ℕ) (j : Journal O R) (p q : Request O) (m a b c d : Me (Slot S O R) DeskView) → IsClient op_in reply_in number calls quota false j m → a ≡ (m.0, (16 + number, slot.Request p) ∷ rest m.1)
+  pub post_turn : (number calls quota : ℕ) (j : Journal O R) (p q : Request O) (m a b c d : Me (Slot S O R) DeskView)
+      → IsClient op_in reply_in number calls quota false j m → a ≡ (m.0, (16 + number, slot.Request p) ∷ rest m.1)
       → b ≡ (with_own (own.Drawn (request_in op_in q)) a.0, a.1) → c ≡ (b.0, (16 + number, slot.Request q) ∷ rest b.1) → d ≡ (with_own (own.Waiting (request_in op_in q)) c.0, rest c.1)
       → d ≡ (with_own (own.Waiting (request_in op_in q)) m.0, (48 + number, slot.Nothing) ∷ [])
   post_turn number calls quota j p q m a b c d k ea eb ec ed =
@@ -79,10 +87,12 @@ module _ {S O R : Type 0} (op_in : O → AnyOp) (reply_in : R → AnyReply) wher
       ∙ ap (λ z. (with_own (own.Waiting w) m.0, rest z)) (k.in_hand ∙ ap (at_hand number) is))))
 
   -- the client after a post
-  pub post_ok : (number calls quota : ℕ) (j j' : Journal O R) (q : Request O) (m d : Me (Slot S O R) DeskView) → IsClient op_in reply_in number calls quota false j m → d ≡ (with_own (own.Waiting (request_in op_in q)) m.0, (48 + number, slot.Nothing) ∷ [])
+  pub post_ok : (number calls quota : ℕ) (j j' : Journal O R) (q : Request O) (m d : Me (Slot S O R) DeskView)
+      → IsClient op_in reply_in number calls quota false j m → d ≡ (with_own (own.Waiting (request_in op_in q)) m.0, (48 + number, slot.Nothing) ∷ [])
       → q.object < 16 → calls < quota → j'.events.items ≡ j.events.items ++ Invoked q.ticket q.object q.op ∷ [] → vec_capacity j'.events ≡ vec_capacity j.events
       → IsClient op_in reply_in number (calls + 1) quota true j' d
-  post_ok number calls quota j j' q m d k e low few more same = let h = k.agrees in let w : AnyRequest = request_in op_in q in let is = own_idle m.0.own h.at_rest (sym h.outstanding_is) in let n = h.calls_is in
+  post_ok number calls quota j j' q m d k e low few more same = let h = k.agrees in let w : AnyRequest = request_in op_in q in let is =
+      own_idle m.0.own h.at_rest (sym h.outstanding_is) in let n = h.calls_is in
       let count : calls_made m.0.done (own_request m.0.own) ≡ length m.0.done + 0 = ap (λ z. calls_made m.0.done (own_request z)) is in let room = h.room in
       subst (IsClient op_in reply_in number (calls + 1) quota true j') (sym e) record {
         agrees = record {
@@ -95,7 +105,8 @@ module _ {S O R : Type 0} (op_in : O → AnyOp) (reply_in : R → AnyReply) wher
           within = omega arith;
           few = h.few;
           outstanding_is = refl;
-          journal_is = journal_grows op_in reply_in j j' (Invoked q.ticket q.object q.op) (journal_of m.0.done None) (h.journal_is ∙ ap (λ z. journal_of m.0.done (own_request z)) is) more ∙ sym (journal_begun m.0.done w);
+          journal_is = journal_grows op_in reply_in j j' (Invoked q.ticket q.object q.op) (journal_of m.0.done None)
+              (h.journal_is ∙ ap (λ z. journal_of m.0.done (own_request z)) is) more ∙ sym (journal_begun m.0.done w);
           room = omega arith;
           wide = h.wide;
           legal = h.legal;
@@ -108,7 +119,8 @@ module _ {S O R : Type 0} (op_in : O → AnyOp) (reply_in : R → AnyReply) wher
   -- what a post says
   pub posted : (number calls quota x t : ℕ) (j : Journal O R) (op : O) (v : DeskView) (m d : Me (Slot S O R) DeskView) → IsClient op_in reply_in number calls quota false j m → v ≡ m.0
       → d ≡ (with_own (own.Waiting record { object = x; ticket = t; op = op_in op }) m.0, (48 + number, slot.Nothing) ∷ []) → Posted v x (op_in op) d.0
-  posted number calls quota x t j op v m d k is e = let same = own_idle m.0.own k.agrees.at_rest (sym k.agrees.outstanding_is) in let q : AnyRequest = record { object = x; ticket = t; op = op_in op } in
+  posted number calls quota x t j op v m d k is e = let same = own_idle m.0.own k.agrees.at_rest (sym k.agrees.outstanding_is) in let q : AnyRequest =
+      record { object = x; ticket = t; op = op_in op } in
       subst (λ z. Posted z x (op_in op) d.0) (sym is) (subst (λ z. Posted m.0 x (op_in op) z) (sym (ap (λ z. z.0) e)) record {
         ticket = t;
         was_idle = same;
@@ -117,7 +129,8 @@ module _ {S O R : Type 0} (op_in : O → AnyOp) (reply_in : R → AnyReply) wher
       })
 
   -- a after the take, b with nothing in the slot, d after the draw of the return
-  pub poll_turn : (number calls quota t : ℕ) (j : Journal O R) (q : AnyRequest) (e : Answer R) (l : List AnyEntry) (m a b d : Me (Slot S O R) DeskView) → IsClient op_in reply_in number calls quota true j m → m.0.own ≡ own.Waiting q
+  pub poll_turn : (number calls quota t : ℕ) (j : Journal O R) (q : AnyRequest) (e : Answer R) (l : List AnyEntry)
+      (m a b d : Me (Slot S O R) DeskView) → IsClient op_in reply_in number calls quota true j m → m.0.own ≡ own.Waiting q
       → a ≡ (after_take q (answer_in reply_in e) l m.0, (16 + number, slot.Answer e) ∷ m.1) → b ≡ (a.0, (16 + number, slot.Nothing) ∷ rest a.1) → d ≡ (after_return q (answer_in reply_in e) t b.0, b.1)
       → d ≡ (after_return q (answer_in reply_in e) t (after_take q (answer_in reply_in e) l m.0), (16 + number, slot.Nothing) ∷ (48 + number, slot.Nothing) ∷ [])
   poll_turn number calls quota t j q e l m a b d k is ea eb ed = let w : AnyAnswer = answer_in reply_in e in
@@ -125,12 +138,15 @@ module _ {S O R : Type 0} (op_in : O → AnyOp) (reply_in : R → AnyReply) wher
       ∙ ap (λ z. (after_return q w t (after_take q w l m.0), (16 + number, slot.Nothing) ∷ z)) (k.in_hand ∙ ap (at_hand number) is)))
 
   -- the client after a poll that took the answer
-  pub poll_ok : (number calls quota t : ℕ) (j j' : Journal O R) (q : AnyRequest) (e : Answer R) (l : List AnyEntry) (m d : Me (Slot S O R) DeskView) → IsClient op_in reply_in number calls quota true j m → m.0.own ≡ own.Waiting q → q.object < 16 → IsLegal (kind_at m.0.kinds q.object) l
+  pub poll_ok : (number calls quota t : ℕ) (j j' : Journal O R) (q : AnyRequest) (e : Answer R) (l : List AnyEntry) (m d : Me (Slot S O R) DeskView)
+      → IsClient op_in reply_in number calls quota true j m → m.0.own ≡ own.Waiting q → q.object < 16 → IsLegal (kind_at m.0.kinds q.object) l
       → entries_of m.0.number l ≡ served q.object m.0.number m.0.done ++ logged m.0.number q (answer_in reply_in e)
       → d ≡ (after_return q (answer_in reply_in e) t (after_take q (answer_in reply_in e) l m.0), (16 + number, slot.Nothing) ∷ (48 + number, slot.Nothing) ∷ [])
       → j'.events.items ≡ j.events.items ++ Returned t e ∷ [] → vec_capacity j'.events ≡ vec_capacity j.events → IsClient op_in reply_in number calls quota false j' d
-  poll_ok number calls quota t j j' q e l m d k is low legal counted f more same = let h = k.agrees in let n = h.calls_is in let w : AnyAnswer = answer_in reply_in e in let room = h.room in let wide = h.wide in
-      let ds : List AnyDone = m.0.done ++ record { request = q; answer = w; returned = t } ∷ [] in let long : length ds ≡ length m.0.done + 1 = length-append m.0.done (record { request = q; answer = w; returned = t } ∷ []) in
+  poll_ok number calls quota t j j' q e l m d k is low legal counted f more same = let h = k.agrees in let n = h.calls_is in let w : AnyAnswer =
+      answer_in reply_in e in let room = h.room in let wide = h.wide in
+      let ds : List AnyDone = m.0.done ++ record { request = q; answer = w; returned = t } ∷ [] in let long : length ds ≡ length m.0.done + 1 =
+      length-append m.0.done (record { request = q; answer = w; returned = t } ∷ []) in
       let count : calls_made m.0.done (own_request m.0.own) ≡ length m.0.done + 1 = ap (λ z. calls_made m.0.done (own_request z)) is in
       subst (IsClient op_in reply_in number calls quota false j') (sym f) record {
         agrees = record {
@@ -143,14 +159,20 @@ module _ {S O R : Type 0} (op_in : O → AnyOp) (reply_in : R → AnyReply) wher
           within = h.within;
           few = h.few;
           outstanding_is = refl;
-          journal_is = journal_grows op_in reply_in j j' (Returned t e) (journal_of m.0.done (Some q)) (h.journal_is ∙ ap (λ z. journal_of m.0.done (own_request z)) is) more ∙ sym (journal_over m.0.done q w t);
+          journal_is = journal_grows op_in reply_in j j' (Returned t e) (journal_of m.0.done (Some q))
+              (h.journal_is ∙ ap (λ z. journal_of m.0.done (own_request z)) is) more ∙ sym (journal_over m.0.done q w t);
           room = omega arith;
           wide = length-set m.0.seen q.object l ∙ wide;
           legal = seen_all (λ x z. IsLegal (kind_at m.0.kinds x) z) m.0.seen q.object l (omega arith) legal (λ x _. h.legal x);
-          accounts = seen_all (λ x z. IsAccount x (after_return q w t (after_take q w l m.0)) z) m.0.seen q.object l (omega arith)
-              ([], counted ∙ (ap (λ z. served q.object m.0.number m.0.done ++ z) (sym (logged_here q.object m.0.number q w refl)) ∙ (sym (served_more q.object m.0.number t m.0.done q w) ∙ sym (append-nil (served q.object m.0.number ds)))), refl)
+          accounts = seen_all (λ x z. IsAccount x (after_return q w t (after_take q w l m.0)) z) m.0.seen q.object l (omega arith) (
+            [],
+            counted ∙ (ap (λ z. served q.object m.0.number m.0.done ++ z) (sym (logged_here q.object m.0.number q w refl))
+                ∙ (sym (served_more q.object m.0.number t m.0.done q w) ∙ sym (append-nil (served q.object m.0.number ds)))),
+            refl,
+          )
               (λ x other. let a = h.accounts x in let nothing : logged_on x m.0.number q w ≡ [] = logged_else x m.0.number q w (λ g. other (sym g)) in
-              let none_now : a.0 ≡ [] = ⊎_elim (λ g. g) (λ (g : (b : AnyAnswer) × (a.0 ≡ logged_on x m.0.number q b)). g.1 ∙ logged_else x m.0.number q g.0 (λ z. other (sym z))) (subst (λ o. MayHold x m.0.number o a.0) is a.2) in
+              let none_now : a.0 ≡ [] = ⊎_elim (λ g. g) (λ (g : (b : AnyAnswer) × (a.0 ≡ logged_on x m.0.number q b)). g.1
+              ∙ logged_else x m.0.number q g.0 (λ z. other (sym z))) (subst (λ o. MayHold x m.0.number o a.0) is a.2) in
               ([], a.1 ∙ (ap (λ z. served x m.0.number m.0.done ++ z) (none_now ∙ sym nothing) ∙ (sym (served_more x m.0.number t m.0.done q w) ∙ sym (append-nil (served x m.0.number ds)))), refl));
         };
         free = k.free;
@@ -158,7 +180,8 @@ module _ {S O R : Type 0} (op_in : O → AnyOp) (reply_in : R → AnyReply) wher
       }
 
   -- what a poll that took the answer says
-  pub polled : (number calls quota t : ℕ) (j : Journal O R) (q : AnyRequest) (e : Answer R) (l : List AnyEntry) (v u : DeskView) (m d : Me (Slot S O R) DeskView) → IsClient op_in reply_in number calls quota true j m → v ≡ m.0 → m.0.own ≡ own.Waiting q → q.object < 16
+  pub polled : (number calls quota t : ℕ) (j : Journal O R) (q : AnyRequest) (e : Answer R) (l : List AnyEntry) (v u : DeskView)
+      (m d : Me (Slot S O R) DeskView) → IsClient op_in reply_in number calls quota true j m → v ≡ m.0 → m.0.own ≡ own.Waiting q → q.object < 16
       → IsLegal (kind_at m.0.kinds q.object) l → StartsWith l (seen_of m.0 q.object) → entries_of m.0.number l ≡ served q.object m.0.number m.0.done ++ logged m.0.number q (answer_in reply_in e)
       → u ≡ after_take q (answer_in reply_in e) l m.0 → All (λ y. y.ticket < t) (seen_of u q.object)
       → d ≡ (after_return q (answer_in reply_in e) t (after_take q (answer_in reply_in e) l m.0), (16 + number, slot.Nothing) ∷ (48 + number, slot.Nothing) ∷ []) → Polled v (answer_in reply_in e) d.0

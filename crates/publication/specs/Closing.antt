@@ -13,6 +13,7 @@ use Rattle.desk_invariant.specs.declared.board.Journal.{Journal}
 use Rattle.desk_invariant.specs.declared.board.Slot.{Slot}
 use Rattle.desk_invariant.specs.declared.board.Slot.TheVariants as slot
 use Rattle.publication.specs.Handles.{Known}
+use Rattle.desk_invariant.specs.Views.{table_slots}
 
 -- the values of all slots
 abbrev pub values_of : {X A : Type 0} → Closed X A → List X
@@ -21,7 +22,7 @@ values_of left = slots_items left.slots
 -- those of the first n slots were taken out
 abbrev pub IsTakenTo : {X A : Type 0} → ℕ → Closed X A → Type 0
 IsTakenTo n left =
-    (slots_len left.slots ≡ 80) × Filled (slots_filled left.slots) n 80
+    (slots_len left.slots ≡ table_slots) × Filled (slots_filled left.slots) n table_slots
     × ((k : ℕ) → k < n → slice_index_or (slots_filled left.slots) k false ≡ false)
 
 module _ {S O R : Type 0} where

@@ -29,6 +29,8 @@ use Rattle.desk_invariant.specs.declared.board.DeskView.{DeskView}
 use Rattle.desk_invariant.specs.Views.{new_client, with_own, own_request, journal, is_waiting}
 use Rattle.desk_invariant.specs.Views.{seen_of, IsAtRest, IsAccount}
 use Rattle.desk_invariant.specs.Rule.{Fits}
+use Rattle.desk_model.specs.Limits.{max_objects, max_clients, max_calls}
+use Rattle.desk_invariant.specs.Views.{table_words, table_slots}
 
 -- which desk: its table, the quota of each of its clients, the kind of each of its objects, and
 -- which roster the publication list of each object is
@@ -109,9 +111,9 @@ IsRoom n v = (v.items ≡ []) × (n ≤ vec_capacity v)
 -- a desk over this table
 abbrev pub IsDesk : TableId → Plan → DeskSeen → Type 0
 IsDesk table plan d =
-    (table.words ≡ 81) × (table.slots ≡ 80) × (plan.kinds.items ≡ d.id.kinds)
-    × (plan.clients ≡ d.clients) × (plan.quota ≡ d.id.quota) × (length d.id.kinds < 17)
-    × (d.clients < 33) × (d.id.quota < 10001)
+    (table.words ≡ table_words) × (table.slots ≡ table_slots) × (plan.kinds.items ≡ d.id.kinds)
+    × (plan.clients ≡ d.clients) × (plan.quota ≡ d.id.quota) × (length d.id.kinds < 1 + max_objects)
+    × (d.clients < 1 + max_clients) × (d.id.quota < 1 + max_calls)
 
 module _ {O R : Type 0} (op_in : O → AnyOp) (reply_in : R → AnyReply) where
   -- what the client's fields say of what it knows
@@ -124,7 +126,7 @@ module _ {O R : Type 0} (op_in : O → AnyOp) (reply_in : R → AnyReply) where
     pub going : v.ended ≡ false
     pub calls_is : calls ≡ calls_made v.done (own_request v.own)
     pub within : calls ≤ quota
-    pub few : quota < 10001
+    pub few : quota < 1 + max_calls
     pub outstanding_is : outstanding ≡ is_waiting v.own
     pub journal_is : map (event_in op_in reply_in) j.events.items ≡ journal v
     pub room : quota + quota ≤ vec_capacity j.events

@@ -14,6 +14,8 @@ use Rattle.desk_invariant.specs.declared.board.Plan.{Plan}
 use Rattle.desk_invariant.specs.declared.board.Slot.{Slot}
 use Rattle.desk_invariant.specs.declared.board.Slot.TheVariants as slot
 use Rattle.publication.specs.Handles.{IsRoom, fresh_places}
+use Rattle.desk_model.specs.Limits.{max_objects, max_clients, max_calls}
+use Rattle.desk_invariant.specs.Views.{table_slots}
 
 module _ {S O R : Type 0} where
   -- slot x is the core of object x, with the walker of its list
@@ -26,9 +28,10 @@ module _ {S O R : Type 0} where
   -- and behind the objects there is nothing
   pub record IsLaid (objects : List S) (lists : List TableId) (slots : List (Slot S O R)) : Type 0
     where
-      pub long : length slots ≡ 80
+      pub long : length slots ≡ table_slots
       pub cores : AreCores objects lists slots
-      pub others : (i : ℕ) → length objects ≤ i → i < 80 → get_elem? slots i ≡ some slot.Nothing
+      pub others : (i : ℕ) → length objects ≤ i → i < table_slots
+          → get_elem? slots i ≡ some slot.Nothing
 
 -- which roster each of these walkers walks
 abbrev pub rosters_of : List WalkerSeen → List TableId
@@ -50,7 +53,9 @@ HasRoom quota j = IsRoom (quota + quota) j.events
 
 -- no more than there may be
 abbrev pub IsSmall : Plan → Type 0
-IsSmall plan = (length plan.kinds.items < 17) × (plan.clients < 33) × (plan.quota < 10001)
+IsSmall plan =
+    (length plan.kinds.items < 1 + max_objects) × (plan.clients < 1 + max_clients)
+    × (plan.quota < 1 + max_calls)
 
 -- the owner of the row c has a place of its row in each of these lists, at which nothing was tried,
 -- and room for 16

@@ -1,11 +1,18 @@
 //! The end of a client, and of the desk.
 
-ghost use Rattle.std.specs.Prelude.{◌≡◌, ◌≢◌, ℕ, ◌+◌, ◌<◌, ◌≤◌, ◌∷◌, [], All, false, length, slice_index_or, vec_len, vec_capacity, IfOk, IfErr, IfSome, IfNone, if◌then◌else◌};
+ghost use Rattle.std.specs.Prelude.{◌≡◌, ◌≢◌, ℕ, ◌+◌, ◌<◌, ◌≤◌, ◌∷◌, [], All, false, length};
+ghost use Rattle.std.specs.Prelude.{slice_index_or, vec_len, vec_capacity, IfOk, IfErr, IfSome};
+ghost use Rattle.std.specs.Prelude.{IfNone, if◌then◌else◌};
 ghost use Rattle.recorder.specs.Records.{items_of};
-ghost use Rattle.desk_invariant.specs.Views.{after_end_seen, after_end_unset, end_notice, after_notice};
+ghost use Rattle.desk_invariant.specs.Views.{after_end_seen, after_end_unset, end_notice};
+ghost use Rattle.desk_invariant.specs.Views.{after_notice};
 ghost use Rattle.publication.specs.Handles.{IsRoom};
 ghost use Rattle.publication.specs.Calls.{Closed, StillThere};
-ghost use Rattle.publication.specs.Closing.{values_of, IsTakenTo, HasCore, HasJournal, IsLogOf, IsJournalOf, AreLogs, AreJournals, IsSameBelow, HaveEnded, HasLearntEnds};
+ghost use Rattle.publication.specs.Closing.{values_of, IsTakenTo, HasCore, HasJournal, IsLogOf};
+ghost use Rattle.publication.specs.Closing.{IsJournalOf, AreLogs, AreJournals, IsSameBelow};
+ghost use Rattle.publication.specs.Closing.{HaveEnded, HasLearntEnds};
+ghost use Rattle.desk_model.specs.Limits.{max_objects, max_clients};
+ghost use Rattle.desk_invariant.specs.Views.{table_slots};
 
 use crate::client::{Client, Member, Place};
 use crate::desk::{Desk, ENDS};
@@ -142,7 +149,7 @@ fn take_log<S: SeqObject>(
     left: &mut Left<S, S::Op, S::Reply>,
     x: usize,
 ) -> Vec<LogEntry<S::Op, S::Reply>>
-    requires slots { IsTakenTo x left.old × (x < 80) }
+    requires slots { IsTakenTo x left.old × (x < table_slots) }
     requires core { HasCore (values_of left.old) x }
     ensures slots { IsTakenTo (x + 1) left.new × (values_of left.new ≡ values_of left.old) }
     ensures log { IsLogOf (values_of left.old) x result.items }
@@ -159,7 +166,7 @@ fn take_logs<S: SeqObject>(
     objects: usize,
     logs: &mut Vec<Vec<LogEntry<S::Op, S::Reply>>>,
 )
-    requires slots { IsTakenTo 0 left.old × (objects < 17) }
+    requires slots { IsTakenTo 0 left.old × (objects < 1 + max_objects) }
     requires cores { (x : ℕ) → x < objects → HasCore (values_of left.old) x }
     requires room { IsRoom objects logs.old }
     ensures slots { IsTakenTo objects left.new × (values_of left.new ≡ values_of left.old) }
@@ -172,7 +179,7 @@ fn take_logs<S: SeqObject>(
 
 // Drops what stands from one slot up to another.
 fn pass_over<S: SeqObject>(left: &mut Left<S, S::Op, S::Reply>, from: usize, to: usize)
-    requires { IsTakenTo from left.old × (from ≤ to) × (to ≤ 80) }
+    requires { IsTakenTo from left.old × (from ≤ to) × (to ≤ table_slots) }
     ensures { IsTakenTo to left.new × (values_of left.new ≡ values_of left.old) }
 {
     for i in from..to {
@@ -203,7 +210,7 @@ fn take_journals<S: SeqObject>(
     to: u32,
     journals: &mut Vec<Vec<JournalEvent<S::Op, S::Reply>>>,
 )
-    requires slots { IsTakenTo (48 + from) left.old × (from ≤ to) × (to < 33) }
+    requires slots { IsTakenTo (48 + from) left.old × (from ≤ to) × (to < 1 + max_clients) }
     requires present { (c : ℕ) → from ≤ c → c < to → HasJournal (values_of left.old) c }
     requires room { (vec_len journals.old ≡ from) × (to ≤ vec_capacity journals.old) }
     ensures slots { IsTakenTo (48 + to) left.new × (values_of left.new ≡ values_of left.old) }
@@ -224,7 +231,7 @@ fn take_all_journals<S: SeqObject>(
     own: Vec<JournalEvent<S::Op, S::Reply>>,
     journals: &mut Vec<Vec<JournalEvent<S::Op, S::Reply>>>,
 )
-    requires slots { IsTakenTo 48 left.old × (number < clients) × (clients < 33) }
+    requires slots { IsTakenTo 48 left.old × (number < clients) × (clients < 1 + max_clients) }
     requires present { (c : ℕ) → c < clients → c ≢ number → HasJournal (values_of left.old) c }
     requires room { IsRoom clients journals.old × (vec_len journals.old ≡ 0) }
     ensures slots { IsTakenTo (48 + clients) left.new × (values_of left.new ≡ values_of left.old) }

@@ -1,10 +1,11 @@
 //! The desk: posting a call, polling for its answer, and winning an object.
 
-ghost use Rattle.std.specs.Prelude.{◌≡◌, ◌<◌, length, IfOk, IfErr, IfSome, IfNone, OnOk};
+ghost use Rattle.std.specs.Prelude.{◌≡◌, ◌<◌, length, IfOk, IfErr, IfSome, IfNone, OnOk, ◌+◌};
 ghost use Rattle.model.specs.Objects.{kind_of};
 ghost use Rattle.desk_model.specs.World.{kind_at};
 ghost use Rattle.desk_model.specs.Images.{answer_in};
 ghost use Rattle.desk_invariant.specs.Views.{after_miss};
+ghost use Rattle.desk_model.specs.Limits.{max_clients};
 
 use crate::client::{Client, Hand, Member, Pass};
 use crate::looking::look_and_exchange;
@@ -111,7 +112,9 @@ pub enum Picked<S: SeqObject> {
 }
 
 impl<S: SeqObject> Desk<S> {
-    ghost use Rattle.publication.specs.Calls.{IsNotOfKind, MayPost, Posted, PostRefused, Polled, NotPolled, Opened, desk_after_win, places_after_win, IfWon, IfHeld};
+    ghost use Rattle.publication.specs.Calls.{IsNotOfKind, MayPost, Posted, PostRefused, Polled};
+    ghost use Rattle.publication.specs.Calls.{NotPolled, Opened, desk_after_win, places_after_win};
+    ghost use Rattle.publication.specs.Calls.{IfWon, IfHeld};
 
     /// How many objects there are.
     pub fn objects(&self) -> u32
@@ -123,7 +126,7 @@ impl<S: SeqObject> Desk<S> {
     /// How many clients there are.
     pub fn clients(&self) -> u32
         ensures clients { result ≡ self.now.clients }
-        ensures few { result < 33 }
+        ensures few { result < 1 + max_clients }
     {
         self.clients
     }

@@ -1,10 +1,14 @@
 //! A new desk, and its clients.
 
-ghost use Rattle.std.specs.Prelude.{◌≡◌, ◌+◌, ◌<◌, ◌≤◌, [], length, map, All, IfOk, vec_len, vec_capacity};
+ghost use Rattle.std.specs.Prelude.{◌≡◌, ◌+◌, ◌<◌, ◌≤◌, [], length, map, All, IfOk, vec_len};
+ghost use Rattle.std.specs.Prelude.{vec_capacity};
 ghost use Rattle.model.specs.Objects.{empty, kind_with};
 ghost use Rattle.desk_invariant.specs.Views.{maker_of};
 ghost use Rattle.publication.specs.Handles.{AllBegun, IsRoom, begun, fresh_places};
-ghost use Rattle.publication.specs.Making.{AreCores, IsLaid, AreEmpty, kinds_with, HasRoom, IsSmall, AreDealt, rosters_of, AreWalkersOf};
+ghost use Rattle.publication.specs.Making.{AreCores, IsLaid, AreEmpty, kinds_with, HasRoom};
+ghost use Rattle.publication.specs.Making.{IsSmall, AreDealt, rosters_of, AreWalkersOf};
+ghost use Rattle.desk_model.specs.Limits.{max_objects, max_clients, max_calls};
+ghost use Rattle.desk_invariant.specs.Views.{table_words, table_slots};
 
 use crate::client::{Client, Member, Place, Places};
 use crate::desk::{Board, Desk, ROWS};
@@ -52,7 +56,7 @@ struct Dealt {
 
 // A publication list for each object that there may be, in which each client has a place.
 fn lists(alloc: Global, owners: &mut Vec<Vec<SharedPlace>>) -> Result<Dealt, AllocError>
-    requires few { (0 < length owners.old.items) × (length owners.old.items < 33) }
+    requires few { (0 < length owners.old.items) × (length owners.old.items < 1 + max_clients) }
     requires owners { AreDealt 0 (length owners.old.items) [] owners.old.items }
     ensures lists { IfOk result (λ l. (vec_len l.rosters ≡ 16)
         × AreWalkersOf l.rosters.items l.walkers.items) }
@@ -75,8 +79,8 @@ fn cores<S: SeqObject>(
     objects: Vec<S>,
     mut lists: Vec<SharedWalker>,
 ) -> Result<Vec<Slot<S, S::Op, S::Reply>>, AllocError>
-    requires { (length objects.items < 17) × (vec_len lists ≡ 16) }
-    ensures { IfOk result (λ v. (vec_len v ≡ length objects.items) × (vec_capacity v ≡ 80)
+    requires { (length objects.items < 1 + max_objects) × (vec_len lists ≡ 16) }
+    ensures { IfOk result (λ v. (vec_len v ≡ length objects.items) × (vec_capacity v ≡ table_slots)
         × AreCores objects.items (rosters_of lists.items) v.items) }
 {
     let mut slots = Vec::with_capacity(alloc, SLOTS)?;
@@ -101,7 +105,7 @@ fn lay<S: SeqObject>(
     objects: Vec<S>,
     lists: Vec<SharedWalker>,
 ) -> Result<Vec<Slot<S, S::Op, S::Reply>>, AllocError>
-    requires { (length objects.items < 17) × (vec_len lists ≡ 16) }
+    requires { (length objects.items < 1 + max_objects) × (vec_len lists ≡ 16) }
     ensures { IfOk result (λ v. IsLaid objects.items (rosters_of lists.items) v.items) }
 {
     let mut slots = cores(alloc, objects, lists)?;
@@ -124,8 +128,8 @@ fn open<S: SeqObject>(
     requires lists { (vec_len lists ≡ 16) × AreWalkersOf plan.now.lists.items lists.items }
     requires plan { (plan.now.kinds.items ≡ kinds_with S.content objects.items) × IsSmall plan.now }
     ensures { IfOk result (λ r. (r.1.table_id ≡ r.0.shared.table_id)
-        × (r.0.shared.table_id.words ≡ 81)
-        × (r.0.shared.table_id.slots ≡ 80) × (r.0.shared.key ≡ plan.now)
+        × (r.0.shared.table_id.words ≡ table_words)
+        × (r.0.shared.table_id.slots ≡ table_slots) × (r.0.shared.key ≡ plan.now)
         × (r.1.me ≡ (maker_of plan.now.kinds.items plan.now.lists.items 0, []))) }
 {
     let slots = lay(alloc, objects, lists)?;
@@ -142,7 +146,7 @@ fn journals<O: Drop, R: Drop>(
     clients: u32,
     quota: u32,
 ) -> Result<Vec<Journal<O, R>>, AllocError>
-    requires { quota < 10001 }
+    requires { quota < 1 + max_calls }
     ensures { IfOk result (λ v. (vec_len v ≡ clients) × All (HasRoom quota) v.items) }
 {
     let mut journals = Vec::with_capacity(alloc, clients as usize)?;
@@ -163,7 +167,7 @@ fn make<S: SeqObject>(
     quota: u32,
 ) -> Client<S>
     requires table { (maker.old.table_id ≡ table.now.shared.table_id)
-        × (table.now.shared.table_id.words ≡ 81) }
+        × (table.now.shared.table_id.words ≡ table_words) }
     requires plan { IsSmall table.now.shared.key × (number < table.now.shared.key.clients)
         × (quota ≡ table.now.shared.key.quota) }
     requires maker { maker.old.me
@@ -210,7 +214,7 @@ fn make_all<S: SeqObject>(
     quota: u32,
 )
     requires table { (maker.table_id ≡ table.now.shared.table_id)
-        × (table.now.shared.table_id.words ≡ 81) }
+        × (table.now.shared.table_id.words ≡ table_words) }
     requires plan { IsSmall table.now.shared.key × (quota ≡ table.now.shared.key.quota) }
     requires maker { maker.me
         ≡ (maker_of table.now.shared.key.kinds.items table.now.shared.key.lists.items 0, []) }
@@ -250,10 +254,10 @@ impl<S: SeqObject> Desk<S> {
         clients: u32,
         quota: u32,
     ) -> Result<(Desk<S>, Vec<Client<S>>), AllocError>
-        requires objects { (0 < length objects.items) × (length objects.items < 17)
+        requires objects { (0 < length objects.items) × (length objects.items < 1 + max_objects)
             × All (λ o. S.content o ≡ empty (kind_with (S.content o))) objects.items }
-        requires clients { (0 < clients) × (clients < 33) }
-        requires quota { quota < 10001 }
+        requires clients { (0 < clients) × (clients < 1 + max_clients) }
+        requires quota { quota < 1 + max_calls }
         ensures desk { IfOk result (λ r.
             (r.0.id.kinds ≡ map (λ o. kind_with (S.content o)) objects.items)
             × (r.0.clients ≡ clients) × (r.0.id.quota ≡ quota)) }

@@ -1,11 +1,14 @@
 //! Serving the rows of an object that is held.
 
-ghost use Rattle.std.specs.Prelude.{◌≡◌, ◌+◌, ◌-◌, ◌^◌, ◌<◌, ◌++◌, ◌↔◌, length, min, map, vec_len, vec_capacity, IsTrue, IsSome};
+ghost use Rattle.std.specs.Prelude.{◌≡◌, ◌+◌, ◌-◌, ◌^◌, ◌<◌, ◌++◌, ◌↔◌, length, min, map, vec_len};
+ghost use Rattle.std.specs.Prelude.{vec_capacity, IsTrue, IsSome};
 ghost use Rattle.model.specs.Objects.{kind_of, kind_with, next};
 ghost use Rattle.desk_model.specs.World.{logged, Serves};
 ghost use Rattle.desk_model.specs.Images.{request_in, answer_in, entry_in};
 ghost use Rattle.desk_invariant.specs.Views.{after_release, seen_of};
-ghost use Rattle.publication.specs.Calls.{Got, NotGot, HasCallLeft, CanDo, kind_held, kind_in, Performed, Answered, IsPutBack, desk_after_pick, state_after_pick, IfGot, IfNot};
+ghost use Rattle.publication.specs.Calls.{Got, NotGot, HasCallLeft, CanDo, kind_held, kind_in};
+ghost use Rattle.publication.specs.Calls.{Performed, Answered, IsPutBack, desk_after_pick};
+ghost use Rattle.publication.specs.Calls.{state_after_pick, IfGot, IfNot};
 
 use crate::client::{Client, Hand, Pass};
 use crate::desk::{ANSWERED, CLOCK, Desk, PICKED, POSTED, Picked, ROWS};

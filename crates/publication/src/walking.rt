@@ -1,7 +1,8 @@
 //! The publication list of an object: a client puts its row in front, and who holds the object
 //! walks it.
 
-ghost use Rattle.std.specs.Prelude.{◌≡◌, ◌<◌, ◌≤◌, ◌∷◌, ◌++◌, All, [], length, remove, slice_index, slice_set, OnOk};
+ghost use Rattle.std.specs.Prelude.{◌≡◌, ◌<◌, ◌≤◌, ◌∷◌, ◌++◌, All, [], length, remove, slice_index};
+ghost use Rattle.std.specs.Prelude.{slice_set, OnOk};
 ghost use Rattle.publication_list.specs.PublicationList.{WalkMeets};
 ghost use Rattle.publication.specs.Handles.{HasPlaceAt, IsListOf, trying};
 

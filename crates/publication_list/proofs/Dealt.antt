@@ -1,5 +1,6 @@
 -- Dealing places out to the owners of rows.
-use Rattle.std.proofs.Common.{rules, ◌≡◌, ℕ, zero, suc, ◌+◌, ◌<◌, List, [], ◌∷◌, ◌++◌, length, get_or, set, vec_len, vec_capacity, length-append, length-set, get_or-set_same, get_or-set_other, refl, sym, ap, ◌∙◌, subst, arith}
+use Rattle.std.proofs.Common.{rules, ◌≡◌, ℕ, zero, suc, ◌+◌, ◌<◌, List, [], ◌∷◌, ◌++◌, length, get_or, set, vec_len, vec_capacity, length-append}
+use Rattle.std.proofs.Common.{length-set, get_or-set_same, get_or-set_other, refl, sym, ap, ◌∙◌, subst, arith}
 use Rattle.std.specs.declared.vec.Vec.{Vec}
 use mathlib.Core.Logic.{dite}
 use native.Mathlib.Decide.{ℕ_discrete}
@@ -23,12 +24,14 @@ any_default [] k d e h = absurd (omega arith)
 any_default (x ∷ xs) zero d e h = refl
 any_default (x ∷ xs) (suc k) d e h = any_default xs k d e (omega arith)
 
-pub popped : (id : TableId) (n : ℕ) (old new : List PlaceSeen) (p : PlaceSeen) → ArePlaces id n old → old ≡ new ++ p ∷ [] → ArePlaces id (length new) new × (p ≡ record { roster = id; row = length new; tries = [] }) × (n ≡ length new + 1)
-popped id n old new p k more = let long : length old ≡ length (new ++ p ∷ []) = ap length more in let both = length-append new (p ∷ []) in let count = k.0 in let n_is : n ≡ length new + 1 = omega arith in (
-  (refl, λ j h. at_first new p (record { roster = id; row = j; tries = [] }) j h (ap (λ z. get_elem? z j) (sym more) ∙ k.1 j (omega arith))),
-  some-injective p (record { roster = id; row = length new; tries = [] }) (sym (at_last new p (length new) refl) ∙ (ap (λ z. get_elem? z (length new)) (sym more) ∙ k.1 (length new) (omega arith))),
-  n_is,
-)
+pub popped : (id : TableId) (n : ℕ) (old new : List PlaceSeen) (p : PlaceSeen) → ArePlaces id n old → old ≡ new ++ p ∷ []
+    → ArePlaces id (length new) new × (p ≡ record { roster = id; row = length new; tries = [] }) × (n ≡ length new + 1)
+popped id n old new p k more = let long : length old ≡ length (new ++ p ∷ []) = ap length more in let both = length-append new (p ∷ []) in let count =
+    k.0 in let n_is : n ≡ length new + 1 = omega arith in (
+      (refl, λ j h. at_first new p (record { roster = id; row = j; tries = [] }) j h (ap (λ z. get_elem? z j) (sym more) ∙ k.1 j (omega arith))),
+      some-injective p (record { roster = id; row = length new; tries = [] }) (sym (at_last new p (length new) refl) ∙ (ap (λ z. get_elem? z (length new)) (sym more) ∙ k.1 (length new) (omega arith))),
+      n_is,
+    )
 
 module _ {Z : Type 0} where
   pub none_grown : (id : TableId) (k : ℕ) (ms : List (Vec PlaceSeen Z)) → k ≡ length ms → AreGrownFrom k id ms ms
@@ -38,10 +41,12 @@ module _ {Z : Type 0} where
   all_grown id k old ms e g = (g.0, λ c d l. g.2 c d (omega arith) l)
 
   -- the owner k has room still
-  pub still_room : (id : TableId) (k n : ℕ) (old ms : List (Vec PlaceSeen Z)) (m : Vec PlaceSeen Z) → HaveRoom old → AreGrownFrom n id old ms → k < n → k < length old → m ≡ get_or ms k m → vec_len m < vec_capacity m
+  pub still_room : (id : TableId) (k n : ℕ) (old ms : List (Vec PlaceSeen Z)) (m : Vec PlaceSeen Z) → HaveRoom old → AreGrownFrom n id old ms → k < n
+      → k < length old → m ≡ get_or ms k m → vec_len m < vec_capacity m
   still_room id k n old ms m room g low inside is = subst (λ z. vec_len z < vec_capacity z) (sym (is ∙ g.1 k m low)) (room k m inside)
 
-  pub one_grown : (id : TableId) (k n : ℕ) (old ms ms' : List (Vec PlaceSeen Z)) (m m' : Vec PlaceSeen Z) (p : PlaceSeen) → AreGrownFrom n id old ms → n ≡ k + 1 → k < length old → m ≡ get_or ms k m → ms' ≡ set ms k m' → p ≡ record { roster = id; row = k; tries = [] }
+  pub one_grown : (id : TableId) (k n : ℕ) (old ms ms' : List (Vec PlaceSeen Z)) (m m' : Vec PlaceSeen Z) (p : PlaceSeen) → AreGrownFrom n id old ms
+      → n ≡ k + 1 → k < length old → m ≡ get_or ms k m → ms' ≡ set ms k m' → p ≡ record { roster = id; row = k; tries = [] }
       → m'.items ≡ m.items ++ p ∷ [] → vec_capacity m' ≡ vec_capacity m → vec_len m' ≡ vec_len m + 1 → AreGrownFrom k id old ms'
   one_grown id k n old ms ms' m m' p g n_is inside is changed place items capacity len =
       let wide = g.0 in let was : m ≡ get_or old k m = is ∙ g.1 k m (omega arith) in
@@ -49,9 +54,11 @@ module _ {Z : Type 0} where
         length-set ms k m' ∙ wide,
         (λ c d h. get_or-set_other ms k c m' d (λ e. omega arith) ∙ g.1 c d (omega arith)),
         λ c d h l. dite (ℕ_discrete c k)
-            (λ (e : c ≡ k). subst (λ z. ((get_or (set ms k m') z d).items ≡ (get_or old z d).items ++ record { roster = id; row = z; tries = [] } ∷ []) × (vec_capacity (get_or (set ms k m') z d) ≡ vec_capacity (get_or old z d)) × (vec_len (get_or (set ms k m') z d) ≡ vec_len (get_or old z d) + 1)) (sym e)
+            (λ (e : c ≡ k). subst (λ z. ((get_or (set ms k m') z d).items ≡ (get_or old z d).items ++ record { roster = id; row = z; tries = [] }
+            ∷ []) × (vec_capacity (get_or (set ms k m') z d) ≡ vec_capacity (get_or old z d)) × (vec_len (get_or (set ms k m') z d) ≡ vec_len (get_or old z d) + 1)) (sym e)
             (let here : get_or (set ms k m') k d ≡ m' = get_or-set_same ms k m' d (omega arith) in let there : get_or old k d ≡ m = any_default old k d m inside ∙ sym was in (
-              ap (λ (z : Vec PlaceSeen Z). z.items) here ∙ (items ∙ ((λ i. m.items ++ place i ∷ []) ∙ ap (λ (z : Vec PlaceSeen Z). z.items ++ record { roster = id; row = k; tries = [] } ∷ []) (sym there))),
+              ap (λ (z : Vec PlaceSeen Z). z.items) here
+                  ∙ (items ∙ ((λ i. m.items ++ place i ∷ []) ∙ ap (λ (z : Vec PlaceSeen Z). z.items ++ record { roster = id; row = k; tries = [] } ∷ []) (sym there))),
               ap (λ (z : Vec PlaceSeen Z). vec_capacity z) here ∙ (capacity ∙ ap (λ (z : Vec PlaceSeen Z). vec_capacity z) (sym there)),
               ap (λ (z : Vec PlaceSeen Z). vec_len z) here ∙ (len ∙ ap (λ (z : Vec PlaceSeen Z). vec_len z + 1) (sym there)),
             )))

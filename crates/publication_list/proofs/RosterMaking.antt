@@ -1,5 +1,6 @@
 -- How a roster begins: the first state, and a place more.
-use Rattle.std.proofs.Common.{◌≡◌, ◌≢◌, ◌⊎◌, ℕ, zero, suc, ◌+◌, ◌<◌, List, [], ◌∷◌, ◌++◌, length, get_or, set, replicate, Option, Some, None, length-append, length-set, refl, sym, ap, ◌∙◌, subst, inl, inr, ⊎_elim, arith}
+use Rattle.std.proofs.Common.{◌≡◌, ◌≢◌, ◌⊎◌, ℕ, zero, suc, ◌+◌, ◌<◌, List, [], ◌∷◌, ◌++◌, length, get_or, set, replicate, Option, Some, None}
+use Rattle.std.proofs.Common.{length-append, length-set, refl, sym, ap, ◌∙◌, subst, inl, inr, ⊎_elim, arith}
 use mathlib.Core.Option.{some, some-injective, some-ne-none}
 use lib.ListN.{get_elem?}
 use Rattle.atomic_table.specs.Table.{Me, opening, Splits}
@@ -51,7 +52,8 @@ later : (w : PublicationList) (j : ℕ) (u : ListView) → j ≢ 0 → ViewOk w 
 later w j (view.Walker made left out walks) other ok = absurd (other ok.0)
 later w j (view.Place d o ts) other ok = let low = ok.1 in (ok.0, omega arith, ok.2)
 
-pub split_keeps_rule : (id made : ℕ) (left : List ℕ) (out : Option ℕ) (walks : List (List ℕ)) → made < 32 → Splits Holds id (view.Walker made left out walks) (view.Walker (made + 1) left out walks) (view.Place made own.Unknown [])
+pub split_keeps_rule : (id made : ℕ) (left : List ℕ) (out : Option ℕ) (walks : List (List ℕ)) → made < 32
+    → Splits Holds id (view.Walker made left out walks) (view.Walker (made + 1) left out walks) (view.Place made own.Unknown [])
 split_keeps_rule id made left out walks low s k at =
     let w : PublicationList = k.list in
     let ok : ViewOk w id (view.Walker made left out walks) = k.seats id (view.Walker made left out walks) at in

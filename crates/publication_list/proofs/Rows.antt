@@ -53,7 +53,8 @@ word_at-remove_above l i k inside above =
     let next : k + 1 ≡ suc k = omega arith in
     let long = length-remove l i inside in dite (dec_le (length (remove l i)) k)
     (λ past. word_at_past (remove l i) k past ∙ sym (word_at_past l (suc k) (omega arith)))
-    (λ n. let low = lt_of_not-le n in word_at_in (remove l i) k low ∙ (ap (λ z. 1 + z) (get_or-remove_above l i 0 k above inside ∙ ap (λ z. get_or l z 0) next) ∙ sym (word_at_in l (suc k) (omega arith))))
+    (λ n. let low = lt_of_not-le n in word_at_in (remove l i) k low
+    ∙ (ap (λ z. 1 + z) (get_or-remove_above l i 0 k above inside ∙ ap (λ z. get_or l z 0) next) ∙ sym (word_at_in l (suc k) (omega arith))))
 
 pub distinct_right : (xs ys : List ℕ) → IsDistinct (xs ++ ys) → IsDistinct ys
 distinct_right xs ys d i j li lj e = let long = length-append xs ys in
@@ -64,8 +65,10 @@ distinct_remove l p inside d i j li lj e =
     let a = was_at l p i inside li in
     let b = was_at l p j inside lj in
     let same : a.0 ≡ b.0 = d a.0 b.0 a.1 b.1 (sym a.2 ∙ (e ∙ b.2)) in
-    ⊎_elim (λ (x : (i < p) × (a.0 ≡ i)). ⊎_elim (λ (y : (j < p) × (b.0 ≡ j)). let u = x.1 in let v = y.1 in omega arith) (λ (y : (p ≤ j) × (b.0 ≡ j + 1)). let u = x.1 in let v = y.1 in let s = x.0 in let t = y.0 in omega arith) b.3)
-    (λ (x : (p ≤ i) × (a.0 ≡ i + 1)). ⊎_elim (λ (y : (j < p) × (b.0 ≡ j)). let u = x.1 in let v = y.1 in let s = x.0 in let t = y.0 in omega arith) (λ (y : (p ≤ j) × (b.0 ≡ j + 1)). let u = x.1 in let v = y.1 in omega arith) b.3) a.3
+    ⊎_elim (λ (x : (i < p) × (a.0 ≡ i)). ⊎_elim (λ (y : (j < p) × (b.0 ≡ j)). let u = x.1 in let v = y.1 in omega arith)
+    (λ (y : (p ≤ j) × (b.0 ≡ j + 1)). let u = x.1 in let v = y.1 in let s = x.0 in let t = y.0 in omega arith) b.3)
+    (λ (x : (p ≤ i) × (a.0 ≡ i + 1)). ⊎_elim (λ (y : (j < p) × (b.0 ≡ j)). let u = x.1 in let v = y.1 in let s = x.0 in let t = y.0 in omega arith)
+    (λ (y : (p ≤ j) × (b.0 ≡ j + 1)). let u = x.1 in let v = y.1 in omega arith) b.3) a.3
 
 -- what was taken out is gone
 pub gone : (l : List ℕ) (p k : ℕ) → p < length l → IsDistinct l → k < length (remove l p) → get_or (remove l p) k 0 ≢ get_or l p 0
@@ -82,7 +85,8 @@ distinct_more x xs fresh d (suc i) (suc j) li lj e = ap suc (d i j (omega arith)
 
 found : (n : ℕ) (l : List ℕ) → ((i : ℕ) × (i < length l) × (get_or l i 0 ≡ n)) ⊎ ((i : ℕ) → i < length l → get_or l i 0 ≢ n)
 found n [] = inr (λ i h e. omega arith)
-found n (x ∷ xs) = dite (ℕ_discrete x n) (λ e. inl (0, omega arith, e)) (λ ne. ⊎_elim (λ (t : (i : ℕ) × (i < length xs) × (get_or xs i 0 ≡ n)). let l = t.1 in inl (suc t.0, omega arith, t.2)) (λ t. inr (not_first n x xs ne t)) (found n xs))
+found n (x ∷ xs) = dite (ℕ_discrete x n) (λ e. inl (0, omega arith, e))
+    (λ ne. ⊎_elim (λ (t : (i : ℕ) × (i < length xs) × (get_or xs i 0 ≡ n)). let l = t.1 in inl (suc t.0, omega arith, t.2)) (λ t. inr (not_first n x xs ne t)) (found n xs))
   where
     not_first : (n x : ℕ) (xs : List ℕ) → x ≢ n → ((i : ℕ) → i < length xs → get_or xs i 0 ≢ n) → (i : ℕ) → i < length (x ∷ xs) → get_or (x ∷ xs) i 0 ≢ n
     not_first n x xs ne t zero h = ne

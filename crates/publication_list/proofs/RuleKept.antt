@@ -1,5 +1,6 @@
 -- What a step leaves: what holds of the list itself, the words, and what the other seats know.
-use Rattle.std.proofs.Common.{◌≡◌, ◌≢◌, ◌⊎◌, ℕ, zero, suc, ◌+◌, ◌<◌, ◌≤◌, List, ◌∷◌, ◌++◌, length, get_or, set, remove, Option, Some, None, length-set, get_or-set_other, get_or-set_same, refl, sym, ap, ◌∙◌, subst, ⊎_elim, append_assoc, arith}
+use Rattle.std.proofs.Common.{◌≡◌, ◌≢◌, ◌⊎◌, ℕ, zero, suc, ◌+◌, ◌<◌, ◌≤◌, List, ◌∷◌, ◌++◌, length, get_or, set, remove, Option, Some, None}
+use Rattle.std.proofs.Common.{length-set, get_or-set_other, get_or-set_same, refl, sym, ap, ◌∙◌, subst, ⊎_elim, append_assoc, arith}
 use mathlib.Core.Logic.{dite}
 use mathlib.Mathlib.Logic.Function.Basic.{update, update_self, update_of_ne}
 use native.Mathlib.Decide.{ℕ_discrete}
@@ -33,12 +34,16 @@ out_stays w r t rows (Some p) not new ok = (
 )
 
 -- what the others know stays true after a step of the owner of c, by which the list may have grown in front
-pub place_step_keeps_others : (w : PublicationList) (c : ℕ) (t : Stage) (rows pre : List ℕ) → w.stage c ≢ unlinked → t ≢ unlinked → rows ≡ pre ++ w.rows → (j : ℕ) (u : ListView) → j ≢ 1 + c → ViewOk w j u → ViewOk (with_stage w c t rows) j u
-place_step_keeps_others w c t rows pre not new grown j (view.Walker made left out walks) other ok = (ok.0, ok.1, (pre ++ ok.2.0, grown ∙ (ap (λ z. pre ++ z) ok.2.1 ∙ sym (append_assoc pre ok.2.0 left))), out_stays w c t rows out not new ok.3)
-place_step_keeps_others w c t rows pre not new grown j (view.Place d o ts) other ok = (ok.0, ok.1, subst (OwnOk o) (sym (update_of_ne ℕ_discrete (λ e. other (ok.0 ∙ ap (λ z. 1 + z) e)) t w.stage)) ok.2)
+pub place_step_keeps_others : (w : PublicationList) (c : ℕ) (t : Stage) (rows pre : List ℕ) → w.stage c ≢ unlinked → t ≢ unlinked
+    → rows ≡ pre ++ w.rows → (j : ℕ) (u : ListView) → j ≢ 1 + c → ViewOk w j u → ViewOk (with_stage w c t rows) j u
+place_step_keeps_others w c t rows pre not new grown j (view.Walker made left out walks) other ok =
+    (ok.0, ok.1, (pre ++ ok.2.0, grown ∙ (ap (λ z. pre ++ z) ok.2.1 ∙ sym (append_assoc pre ok.2.0 left))), out_stays w c t rows out not new ok.3)
+place_step_keeps_others w c t rows pre not new grown j (view.Place d o ts) other ok =
+    (ok.0, ok.1, subst (OwnOk o) (sym (update_of_ne ℕ_discrete (λ e. other (ok.0 ∙ ap (λ z. 1 + z) e)) t w.stage)) ok.2)
 
 -- what the owners know stays true after a step of the walker
-pub walker_step_keeps_others : (w : PublicationList) (r : ℕ) (t : Stage) (rows : List ℕ) → ((o : RowKnowledge) → OwnOk o (w.stage r) → OwnOk o t) → (j : ℕ) (u : ListView) → j ≢ 0 → ViewOk w j u → ViewOk (with_stage w r t rows) j u
+pub walker_step_keeps_others : (w : PublicationList) (r : ℕ) (t : Stage) (rows : List ℕ) → ((o : RowKnowledge) → OwnOk o (w.stage r) → OwnOk o t)
+    → (j : ℕ) (u : ListView) → j ≢ 0 → ViewOk w j u → ViewOk (with_stage w r t rows) j u
 walker_step_keeps_others w r t rows follows j (view.Walker made left out walks) other ok = absurd (other ok.0)
 walker_step_keeps_others w r t rows follows j (view.Place d o ts) other ok = (ok.0, ok.1, updated_all (λ q s. OwnOk o (w.stage q) → OwnOk o s) w.stage r t (follows o) (λ q _ k. k) d ok.2)
 
@@ -53,14 +58,16 @@ stage_keeps_sound w r t not new k = record {
 }
 
 -- the mark of a row that is not listed changes
-pub mark_keeps_tied : (w : PublicationList) (r n : ℕ) (t : Stage) (words : List ℕ) → r < 32 → n ≡ mark_of t → ((m : ℕ) → t ≡ awake m → get_or words (1 + r) 0 ≡ m) → Sound w → Tied w words → Tied (with_stage w r t w.rows) (set words (33 + r) n)
+pub mark_keeps_tied : (w : PublicationList) (r n : ℕ) (t : Stage) (words : List ℕ) → r < 32 → n ≡ mark_of t
+    → ((m : ℕ) → t ≡ awake m → get_or words (1 + r) 0 ≡ m) → Sound w → Tied w words → Tied (with_stage w r t w.rows) (set words (33 + r) n)
 mark_keeps_tied w r n t words low word link s k =
     let wide = k.wide in
     let few = s.few in record {
       wide = length-set words (33 + r) n ∙ wide;
       head = get_or-set_other words (33 + r) 0 n 0 (λ e. omega arith) ∙ k.head;
       nexts = λ i l. let h = s.low i l in get_or-set_other words (33 + r) (1 + get_or w.rows i 0) n 0 (λ e. omega arith) ∙ k.nexts i l;
-      links = λ q m l e. get_or-set_other words (33 + r) (1 + q) n 0 (λ f. omega arith) ∙ updated_all (λ p z. p < 32 → z ≡ awake m → get_or words (1 + p) 0 ≡ m) w.stage r t (λ _. link m) (λ p _ lp. k.links p m lp) q l e;
+      links = λ q m l e. get_or-set_other words (33 + r) (1 + q) n 0 (λ f. omega arith)
+          ∙ updated_all (λ p z. p < 32 → z ≡ awake m → get_or words (1 + p) 0 ≡ m) w.stage r t (λ _. link m) (λ p _ lp. k.links p m lp) q l e;
       marks = updated_all (λ p z. p < 32 → get_or (set words (33 + r) n) (33 + p) 0 ≡ mark_of z) w.stage r t
           (λ _. get_or-set_same words (33 + r) n 0 (omega arith) ∙ word) (λ p other l. get_or-set_other words (33 + r) (33 + p) n 0 (λ e. other (omega arith)) ∙ k.marks p l);
     }
@@ -72,11 +79,13 @@ link_keeps_tied w r n m words low was s k =
     let few = s.few in record {
       wide = length-set words (1 + r) n ∙ wide;
       head = get_or-set_other words (1 + r) 0 n 0 (λ e. omega arith) ∙ k.head;
-      nexts = λ i l. get_or-set_other words (1 + r) (1 + get_or w.rows i 0) n 0 (λ e. let same : get_or w.rows i 0 ≡ r = omega arith in let g = sym was ∙ (ap w.stage (sym same) ∙ s.listed i l) in absurd (cc)) ∙ k.nexts i l;
+      nexts = λ i l. get_or-set_other words (1 + r) (1 + get_or w.rows i 0) n 0 (λ e. let same : get_or w.rows i 0 ≡ r = omega arith in let g =
+          sym was ∙ (ap w.stage (sym same) ∙ s.listed i l) in absurd (cc)) ∙ k.nexts i l;
       links = λ q p l. updated_all (λ q z. q < 32 → z ≡ awake p → get_or (set words (1 + r) n) (1 + q) 0 ≡ p) w.stage r (awake n)
           (λ _ e. get_or-set_same words (1 + r) n 0 (omega arith) ∙ (cc)) (λ q other lq e. get_or-set_other words (1 + r) (1 + q) n 0 (λ f. other (omega arith)) ∙ k.links q p lq e) q l;
       marks = updated_all (λ q z. q < 32 → get_or (set words (1 + r) n) (33 + q) 0 ≡ mark_of z) w.stage r (awake n)
-          (λ l. get_or-set_other words (1 + r) (33 + r) n 0 (λ e. omega arith) ∙ (k.marks r l ∙ ap mark_of was)) (λ q other l. get_or-set_other words (1 + r) (33 + q) n 0 (λ e. omega arith) ∙ k.marks q l);
+          (λ l. get_or-set_other words (1 + r) (33 + r) n 0 (λ e. omega arith) ∙ (k.marks r l ∙ ap mark_of was))
+          (λ q other l. get_or-set_other words (1 + r) (33 + q) n 0 (λ e. omega arith) ∙ k.marks q l);
     }
 
 -- a row that is awake is put in front
@@ -101,7 +110,8 @@ enlist_keeps_sound w r n low was k = record {
     listed_there zero l = update_self ℕ_discrete r listed w.stage
     listed_there (suc i) l = let h : i < length w.rows = omega arith in update_of_ne ℕ_discrete (apart i h) listed w.stage ∙ k.listed i h
 
-pub enlist_keeps_tied : (w : PublicationList) (r n : ℕ) (words : List ℕ) → r < 32 → w.stage r ≡ awake n → get_or words 0 0 ≡ n → Sound w → Tied w words → Tied (with_stage w r listed (r ∷ w.rows)) (set words 0 (1 + r))
+pub enlist_keeps_tied : (w : PublicationList) (r n : ℕ) (words : List ℕ) → r < 32 → w.stage r ≡ awake n → get_or words 0 0 ≡ n → Sound w
+    → Tied w words → Tied (with_stage w r listed (r ∷ w.rows)) (set words 0 (1 + r))
 enlist_keeps_tied w r n words low was at s k = let wide = k.wide in record {
   wide = length-set words 0 (1 + r) ∙ wide;
   head = get_or-set_same words 0 (1 + r) 0 (omega arith);
@@ -109,7 +119,8 @@ enlist_keeps_tied w r n words low was at s k = let wide = k.wide in record {
   links = λ q p l. updated_all (λ q z. q < 32 → z ≡ awake p → get_or (set words 0 (1 + r)) (1 + q) 0 ≡ p) w.stage r listed
       (λ _ e. absurd (cc)) (λ q other lq e. get_or-set_other words 0 (1 + q) (1 + r) 0 (λ f. omega arith) ∙ k.links q p lq e) q l;
   marks = updated_all (λ q z. q < 32 → get_or (set words 0 (1 + r)) (33 + q) 0 ≡ mark_of z) w.stage r listed
-      (λ l. get_or-set_other words 0 (33 + r) (1 + r) 0 (λ e. omega arith) ∙ (k.marks r l ∙ ap mark_of was)) (λ q other l. get_or-set_other words 0 (33 + q) (1 + r) 0 (λ e. omega arith) ∙ k.marks q l);
+      (λ l. get_or-set_other words 0 (33 + r) (1 + r) 0 (λ e. omega arith) ∙ (k.marks r l ∙ ap mark_of was))
+      (λ q other l. get_or-set_other words 0 (33 + q) (1 + r) 0 (λ e. omega arith) ∙ k.marks q l);
 }
   where
     next_there : (i : ℕ) → i < length (r ∷ w.rows) → get_or (set words 0 (1 + r)) (1 + get_or (r ∷ w.rows) i 0) 0 ≡ word_at (r ∷ w.rows) (suc i)
@@ -138,7 +149,8 @@ unlink_keeps_tied w p n words inside word s k =
       head = get_or-set_other words (1 + get_or w.rows p 0) 0 n 0 (λ e. omega arith) ∙ (k.head ∙ sym (word_at-remove_below w.rows (suc p) 0 inside (omega arith)));
       nexts = λ i l. next_there i l (was_at w.rows (suc p) i inside l);
       links = λ q m l. updated_all (λ q z. q < 32 → z ≡ awake m → get_or (set words (1 + get_or w.rows p 0) n) (1 + q) 0 ≡ m) w.stage (get_or w.rows (suc p) 0) unlinked
-          (λ _ e. absurd (cc)) (λ q other lq e. get_or-set_other words (1 + get_or w.rows p 0) (1 + q) n 0 (λ f. let same : q ≡ get_or w.rows p 0 = omega arith in let g = sym e ∙ (ap w.stage same ∙ s.listed p (omega arith)) in absurd (cc)) ∙ k.links q m lq e) q l;
+          (λ _ e. absurd (cc)) (λ q other lq e. get_or-set_other words (1 + get_or w.rows p 0) (1 + q) n 0 (λ f. let same : q ≡ get_or w.rows p 0 =
+          omega arith in let g = sym e ∙ (ap w.stage same ∙ s.listed p (omega arith)) in absurd (cc)) ∙ k.links q m lq e) q l;
       marks = updated_all (λ q z. q < 32 → get_or (set words (1 + get_or w.rows p 0) n) (33 + q) 0 ≡ mark_of z) w.stage (get_or w.rows (suc p) 0) unlinked
           (λ l. get_or-set_other words (1 + get_or w.rows p 0) (33 + get_or w.rows (suc p) 0) n 0 (λ e. omega arith) ∙ (k.marks (get_or w.rows (suc p) 0) l ∙ ap mark_of (s.listed (suc p) inside)))
           (λ q other l. get_or-set_other words (1 + get_or w.rows p 0) (33 + q) n 0 (λ e. omega arith) ∙ k.marks q l);
@@ -148,19 +160,25 @@ unlink_keeps_tied w p n words inside word s k =
     next_else : (j : ℕ) → j < length w.rows → j ≢ p → get_or (set words (1 + get_or w.rows p 0) n) (1 + get_or w.rows j 0) 0 ≡ word_at w.rows (suc j)
     next_else j l other = get_or-set_other words (1 + get_or w.rows p 0) (1 + get_or w.rows j 0) n 0 (λ e. other (s.distinct j p l (omega arith) (omega arith))) ∙ k.nexts j l
 
-    next_there : (i : ℕ) → i < length (remove w.rows (suc p)) → (a : (j : ℕ) × (j < length w.rows) × (get_or (remove w.rows (suc p)) i 0 ≡ get_or w.rows j 0) × (((i < suc p) × (j ≡ i)) ⊎ ((suc p ≤ i) × (j ≡ i + 1)))) → get_or (set words (1 + get_or w.rows p 0) n) (1 + get_or (remove w.rows (suc p)) i 0) 0 ≡ word_at (remove w.rows (suc p)) (suc i)
+    next_there : (i : ℕ) → i < length (remove w.rows (suc p))
+        → (a : (j : ℕ) × (j < length w.rows) × (get_or (remove w.rows (suc p)) i 0 ≡ get_or w.rows j 0)
+        × (((i < suc p) × (j ≡ i)) ⊎ ((suc p ≤ i) × (j ≡ i + 1)))) → get_or (set words (1 + get_or w.rows p 0) n) (1 + get_or (remove w.rows (suc p)) i 0) 0 ≡ word_at (remove w.rows (suc p)) (suc i)
     next_there i l a = let F : ℕ → Type 0 = λ z. get_or (set words (1 + get_or w.rows p 0) n) (1 + z) 0 ≡ word_at (remove w.rows (suc p)) (suc i) in subst F (sym a.2) (⊎_elim
         (λ (b : (i < suc p) × (a.0 ≡ i)). let same = b.1 in let under = b.0 in subst (λ z. F (get_or w.rows z 0)) (sym same) (dite (ℕ_discrete i p)
         (λ (e : i ≡ p). subst (λ z. get_or (set words (1 + get_or w.rows p 0) n) (1 + get_or w.rows z 0) 0 ≡ word_at (remove w.rows (suc p)) (suc z)) (sym e)
-        (let few = s.few in let low = s.low p (omega arith) in let wide = k.wide in get_or-set_same words (1 + get_or w.rows p 0) n 0 (omega arith) ∙ (word ∙ sym (word_at-remove_above w.rows (suc p) (suc p) inside (omega arith)))))
+        (let few = s.few in let low = s.low p (omega arith) in let wide = k.wide in get_or-set_same words (1 + get_or w.rows p 0) n 0 (omega arith)
+        ∙ (word ∙ sym (word_at-remove_above w.rows (suc p) (suc p) inside (omega arith)))))
         (λ ne. next_else i (omega arith) ne ∙ sym (word_at-remove_below w.rows (suc p) (suc i) inside (omega arith)))))
-        (λ (b : (suc p ≤ i) × (a.0 ≡ i + 1)). let above = b.0 in let same : a.0 ≡ suc i = b.1 ∙ omega arith in subst (λ z. F (get_or w.rows z 0)) (sym same) (next_else (suc i) (subst (λ z. z < length w.rows) same a.1) (λ e. omega arith) ∙ sym (word_at-remove_above w.rows (suc p) (suc i) inside (omega arith)))) a.3)
+        (λ (b : (suc p ≤ i) × (a.0 ≡ i + 1)). let above = b.0 in let same : a.0 ≡ suc i = b.1 ∙ omega arith in
+        subst (λ z. F (get_or w.rows z 0)) (sym same) (next_else (suc i) (subst (λ z. z < length w.rows) same a.1) (λ e. omega arith)
+        ∙ sym (word_at-remove_above w.rows (suc p) (suc i) inside (omega arith)))) a.3)
 
 abbrev pub St : Type 0
 St = State ℕ ListView
 
 -- after a step of the seat id to the list w', each view is true
-seats_after : (w w' : PublicationList) (vs : List ListView) (id : ℕ) (v' : ListView) → ((j : ℕ) (u : ListView) → get_elem? vs j ≡ some u → ViewOk w j u) → ((j : ℕ) (u : ListView) → j ≢ id → ViewOk w j u → ViewOk w' j u) → ViewOk w' id v'
+seats_after : (w w' : PublicationList) (vs : List ListView) (id : ℕ) (v' : ListView)
+    → ((j : ℕ) (u : ListView) → get_elem? vs j ≡ some u → ViewOk w j u) → ((j : ℕ) (u : ListView) → j ≢ id → ViewOk w j u → ViewOk w' j u) → ViewOk w' id v'
     → (j : ℕ) (u : ListView) → get_elem? (set vs id v') j ≡ some u → ViewOk w' j u
 seats_after w w' vs id v' before others ok j u e = ⊎_elim (λ (t : (j ≡ id) × (v' ≡ u)). subst (λ (z : ℕ × ListView). ViewOk w' z.0 z.1) (λ i. (sym t.0 i, t.1 i)) ok)
     (λ (t : (j ≢ id) × (get_elem? vs j ≡ some u)). others j u t.0 (before j u t.1)) (at_set vs id j v' u e)

@@ -1,5 +1,6 @@
 -- The steps of the walker keep the rule.
-use Rattle.std.proofs.Common.{◌≡◌, ◌≢◌, ℕ, zero, suc, ◌+◌, ◌-◌, ◌<◌, ◌≤◌, List, [], ◌∷◌, ◌++◌, take, lt_of_not-le, length, get_or, set, remove, Option, Some, None, length-append, refl, sym, ap, ◌∙◌, subst, inl, inr, arith}
+use Rattle.std.proofs.Common.{◌≡◌, ◌≢◌, ℕ, zero, suc, ◌+◌, ◌-◌, ◌<◌, ◌≤◌, List, [], ◌∷◌, ◌++◌, take, lt_of_not-le, length, get_or, set, remove}
+use Rattle.std.proofs.Common.{Option, Some, None, length-append, refl, sym, ap, ◌∙◌, subst, inl, inr, arith}
 use mathlib.Core.Option as maybe
 use mathlib.Core.Option.{some}
 use lib.ListN.{get_elem?}
@@ -18,7 +19,8 @@ use Rattle.publication_list.specs.Rule.{OwnOk, TakenOutOk, Tied, Kept}
 use Rattle.publication_list.specs.Inside.{left_of, made_of, walks_of, HasMet, Meeting}
 use Rattle.publication_list.specs.Plays as play
 use Rattle.publication_list.proofs.Rows.{updated_all, word_at_in, word_at_past, word_at_append, remove_append, was_at, distinct_right, few_below}
-use Rattle.publication_list.proofs.RuleKept.{with_stage, walker_step_keeps_others, stage_keeps_sound, mark_keeps_tied, unlink_keeps_sound, unlink_keeps_tied, St, kept_after, same_words_keep_rule, unmade_stay_asleep}
+use Rattle.publication_list.proofs.RuleKept.{with_stage, walker_step_keeps_others, stage_keeps_sound, mark_keeps_tied, unlink_keeps_sound}
+use Rattle.publication_list.proofs.RuleKept.{unlink_keeps_tied, St, kept_after, same_words_keep_rule, unmade_stay_asleep}
 
 abbrev Holds : St → Type 0
 Holds = Kept
@@ -36,7 +38,8 @@ known : (s : St) (k : Kept s) (id made : ℕ) (left : List ℕ) (out : Option �
 known s k id made left out walks at = k.seats id (view.Walker made left out walks) at
 
 -- the list as it is now begins with newcomers, and goes on with what the walker has met
-pub meet_keeps_rule : (slots id made : ℕ) (left : List ℕ) (out : Option ℕ) (walks : List (List ℕ)) (cs : List (ℕ × ℕ)) → Allows Holds slots id (view.Walker made left out walks, cs) 0 (λ f. f) (play.meets (step slots 0 0 0 maybe.none) (view.Walker made left out walks, cs))
+pub meet_keeps_rule : (slots id made : ℕ) (left : List ℕ) (out : Option ℕ) (walks : List (List ℕ)) (cs : List (ℕ × ℕ))
+    → Allows Holds slots id (view.Walker made left out walks, cs) 0 (λ f. f) (play.meets (step slots 0 0 0 maybe.none) (view.Walker made left out walks, cs))
 meet_keeps_rule slots id made left out walks cs s k deep at small =
     let w : PublicationList = k.list in
     let ok = known s k id made left out walks at in
@@ -69,7 +72,8 @@ next_of : (w : PublicationList) (words pre left : List ℕ) (i : ℕ) → w.rows
 next_of w words pre left i e low k = ap (λ z. get_or words (1 + z) 0) (sym (placed w.rows pre left i e)) ∙ (k.nexts (length pre + i) (placed_low w.rows pre left i e low)
     ∙ (ap (λ z. word_at z (suc (length pre + i))) e ∙ word_at_append pre left (suc i) (suc (length pre + i)) (omega arith)))
 
-pub follow_keeps_rule : (slots id i made : ℕ) (left : List ℕ) (out : Option ℕ) (walks : List (List ℕ)) (cs : List (ℕ × ℕ)) → Allows Holds slots id (view.Walker made left out walks, cs) i (λ f. f) (play.follows (step slots i 0 0 maybe.none) (view.Walker made left out walks, cs))
+pub follow_keeps_rule : (slots id i made : ℕ) (left : List ℕ) (out : Option ℕ) (walks : List (List ℕ)) (cs : List (ℕ × ℕ))
+    → Allows Holds slots id (view.Walker made left out walks, cs) i (λ f. f) (play.follows (step slots i 0 0 maybe.none) (view.Walker made left out walks, cs))
 follow_keeps_rule slots id i made left out walks cs s k deep at small =
     let w : PublicationList = k.list in
     let ok = known s k id made left out walks at in
@@ -139,7 +143,8 @@ unlink_keeps_rule slots id i n p made left walks cs low word next s k deep at sm
           ∙ ap (λ (z : ℕ). (view.Walker made' (remove left' (suc z)) (Some (get_or left' (suc z) 0)) walks', cs)) (sym q_is),
     )
 
-pub sleep_keeps_rule : (slots id r made : ℕ) (left : List ℕ) (walks : List (List ℕ)) (cs : List (ℕ × ℕ)) → Allows Holds slots id (view.Walker made left (Some r) walks, cs) (33 + r) (λ _. 0) (λ _. play.sleeps (step slots (33 + r) 0 0 maybe.none) (view.Walker made left (Some r) walks, cs) 0)
+pub sleep_keeps_rule : (slots id r made : ℕ) (left : List ℕ) (walks : List (List ℕ)) (cs : List (ℕ × ℕ))
+    → Allows Holds slots id (view.Walker made left (Some r) walks, cs) (33 + r) (λ _. 0) (λ _. play.sleeps (step slots (33 + r) 0 0 maybe.none) (view.Walker made left (Some r) walks, cs) 0)
 sleep_keeps_rule slots id r made left walks cs s k deep at small =
     let w : PublicationList = k.list in
     let ok = known s k id made left (Some r) walks at in
@@ -188,7 +193,8 @@ take_all (x ∷ xs) zero h = absurd (omega arith)
 take_all (x ∷ xs) (suc n) h = ap (λ z. x ∷ z) (take_all xs n (omega arith))
 
 -- the walk begins at the head
-pub walk_begins : (found : ℕ) (left : List ℕ) (walks : List (List ℕ)) (m m' : Hands) → HasMet left walks m → play.meets (step 0 0 0 0 maybe.none) m found m' → Meeting left walks (made_of m.0) [] found m'
+pub walk_begins : (found : ℕ) (left : List ℕ) (walks : List (List ℕ)) (m m' : Hands) → HasMet left walks m
+    → play.meets (step 0 0 0 0 maybe.none) m found m' → Meeting left walks (made_of m.0) [] found m'
 walk_begins found left walks m m' p t =
     let a = t (made_of m.0) left None walks (ap (λ z. z.0) p) refl in
     let is : m' ≡ (view.Walker (made_of m.0) a.0 None (walks ++ a.0 ∷ []), []) = a.1 ∙ ap (λ z. (view.Walker (made_of m.0) a.0 None (walks ++ a.0 ∷ []), z.1)) p in
@@ -258,7 +264,8 @@ one_before : (at : ℕ) → 1 ≤ at → (p : ℕ) × (at ≡ suc p)
 one_before zero h = absurd (omega arith)
 one_before (suc p) h = (p, refl)
 
-module _ (i n at made : ℕ) (left : List ℕ) (walks : List (List ℕ)) (m : Hands) (is : m ≡ (view.Walker made left None walks, [])) (first : 1 ≤ at) (low : at < length left) (word : i ≡ 1 + get_or left (at - 1) 0) where
+module _ (i n at made : ℕ) (left : List ℕ) (walks : List (List ℕ)) (m : Hands) (is : m ≡ (view.Walker made left None walks, [])) (first : 1 ≤ at)
+    (low : at < length left) (word : i ≡ 1 + get_or left (at - 1) 0) where
   pub unlink_allowed : (slots id : ℕ) → n ≡ word_at left (at + 1) → Allows Holds slots id m i (λ _. n) (λ _. play.unlinks (step slots i n 0 maybe.none) m n)
   unlink_allowed slots id next =
       let b = one_before at first in
@@ -290,7 +297,8 @@ module _ (r made : ℕ) (left : List ℕ) (walks : List (List ℕ)) (m : Hands) 
   sleep_leaves m' t = t made left r walks (ap (λ z. z.0) is) refl ∙ ap (λ z. (view.Walker made left None walks, z.1)) is
 
 -- what stays where a row was taken out
-pub less_one : (n : ℕ) (l : List ℕ) (i : ℕ) → i < length l → length l ≤ n → ((k : ℕ) → k < length l → get_or l k 0 < n) → (length (remove l i) ≤ n) × ((k : ℕ) → k < length (remove l i) → get_or (remove l i) k 0 < n)
+pub less_one : (n : ℕ) (l : List ℕ) (i : ℕ) → i < length l → length l ≤ n → ((k : ℕ) → k < length l → get_or l k 0 < n) → (length (remove l i) ≤ n)
+    × ((k : ℕ) → k < length (remove l i) → get_or (remove l i) k 0 < n)
 less_one n l i inside few low =
     let long = length-remove l i inside in
     (omega arith, λ k h. let a = was_at l i k inside h in subst (λ z. z < n) (sym a.2) (low a.0 a.1))

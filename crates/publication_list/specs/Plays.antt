@@ -9,6 +9,7 @@ use Rattle.publication_list.specs.declared.board.RowKnowledge.TheVariants as own
 use Rattle.publication_list.specs.declared.board.ListView.{ListView}
 use Rattle.publication_list.specs.declared.board.ListView.TheVariants as view
 use Rattle.publication_list.specs.PublicationList.{WalkMeets, word_at}
+use Rattle.publication_list.specs.Rule.{mark_place}
 
 -- the walker's view once it has made a place more, and that of the place
 abbrev pub after_making : ListView → ListView
@@ -30,16 +31,16 @@ sees st m found m' = m' ≡ m
 -- The own mark was found: the row is asleep where it is 0, and else the try is over
 abbrev pub looks : Step ℕ → Hands → ℕ → Hands → Type 0
 looks st m found m' =
-    (c : ℕ) (o : RowKnowledge) (tries : List Enlist) → m.0 ≡ view.Place c o tries → st.word ≡ 33 + c
-    →
+    (c : ℕ) (o : RowKnowledge) (tries : List Enlist)
+    → m.0 ≡ view.Place c o tries → st.word ≡ mark_place c →
     (found ≡ 0 → m' ≡ (view.Place c own.Asleep tries, m.1))
     × (found ≢ 0 → m' ≡ (view.Place c o (tries ++ Already ∷ []), m.1))
 
 -- the own mark was set: the row is awake, with some next word
 abbrev pub wakes : Step ℕ → Hands → ℕ → Hands → Type 0
 wakes st m found m' =
-    (c : ℕ) (o : RowKnowledge) (tries : List Enlist) → m.0 ≡ view.Place c o tries → st.word ≡ 33 + c
-    →
+    (c : ℕ) (o : RowKnowledge) (tries : List Enlist)
+    → m.0 ≡ view.Place c o tries → st.word ≡ mark_place c →
     (n : ℕ) × (m' ≡ (view.Place c (own.Awake n) tries, m.1))
 
 -- the own next word was set: the row is awake, with this next word
@@ -85,5 +86,5 @@ unlinks st m found m' =
 abbrev pub sleeps : Step ℕ → Hands → ℕ → Hands → Type 0
 sleeps st m found m' =
     (made : ℕ) (left : List ℕ) (r : ℕ) (walks : List (List ℕ))
-    → m.0 ≡ view.Walker made left (Some r) walks → st.word ≡ 33 + r →
+    → m.0 ≡ view.Walker made left (Some r) walks → st.word ≡ mark_place r →
     m' ≡ (view.Walker made left None walks, m.1)

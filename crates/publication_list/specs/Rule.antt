@@ -1,6 +1,6 @@
 -- The rule of a roster's table: its words, and what each seat knows, are those of a sound
 -- publication list.
--- Word 0 is the head; word 1 + r is the next word of row r, and word 33 + r its mark.
+-- Word 0 is the head; word 1 + r is the next word of row r.
 use Rattle.std.specs.Prelude.{◌≡◌, ◌≢◌, ◌⊎◌, ℕ, suc, ◌+◌, ◌<◌, ◌≤◌, List, ◌++◌, length, slice_index}
 use Rattle.std.specs.Prelude.{Option, Some, None}
 use mathlib.Core.Option.{some}
@@ -12,6 +12,18 @@ use Rattle.publication_list.specs.declared.board.ListView.{ListView}
 use Rattle.publication_list.specs.declared.board.ListView.TheVariants as view
 use Rattle.publication_list.specs.PublicationList.{Stage, asleep, awake, listed, unlinked}
 use Rattle.publication_list.specs.PublicationList.{PublicationList, IsDistinct, word_at, mark_of}
+
+-- how many rows a list has at most
+abbrev pub max_rows : ℕ
+max_rows = 32
+
+-- how many words the table has
+abbrev pub list_words : ℕ
+list_words = 65
+
+-- the word that is the mark of a row
+abbrev pub mark_place : ℕ → ℕ
+mark_place r = 33 + r
 
 -- what the owner of a row knows of it
 abbrev pub OwnOk : RowKnowledge → Stage → Type 0
@@ -35,7 +47,7 @@ ViewOk l seat (view.Place c o tries) = (seat ≡ 1 + c) × (c < l.made) × OwnOk
 
 -- what holds of the list itself
 pub record Sound (l : PublicationList) : Type 0 where
-  pub few : l.made ≤ 32
+  pub few : l.made ≤ max_rows
   pub low : (k : ℕ) → k < length l.rows → slice_index l.rows k < l.made
   pub distinct : IsDistinct l.rows
   -- a row stands in the list where its stage says so, and no other does
@@ -45,12 +57,12 @@ pub record Sound (l : PublicationList) : Type 0 where
 
 -- what the words have to do with the list
 pub record Tied (l : PublicationList) (words : List ℕ) : Type 0 where
-  pub wide : length words ≡ 65
+  pub wide : length words ≡ list_words
   pub head : slice_index words 0 ≡ word_at l.rows 0
   pub nexts : (k : ℕ) → k < length l.rows
       → slice_index words (1 + slice_index l.rows k) ≡ word_at l.rows (suc k)
-  pub links : (r n : ℕ) → r < 32 → l.stage r ≡ awake n → slice_index words (1 + r) ≡ n
-  pub marks : (r : ℕ) → r < 32 → slice_index words (33 + r) ≡ mark_of (l.stage r)
+  pub links : (r n : ℕ) → r < max_rows → l.stage r ≡ awake n → slice_index words (1 + r) ≡ n
+  pub marks : (r : ℕ) → r < max_rows → slice_index words (mark_place r) ≡ mark_of (l.stage r)
 
 -- the rule
 pub record Kept {S : Type 0} (s : State S ListView) : Type 0 where

@@ -2,6 +2,7 @@
 
 ghost use Rattle.std.specs.Prelude.{◌≡◌, ◌∷◌, ◌++◌, [], true, false};
 ghost use Rattle.publication_list.specs.Inside.{IsPlace, after_look, is_missed, tries_of};
+ghost use Rattle.publication_list.specs.Rule.{list_words};
 
 use crate::board::{Chair, Enlist, HEAD, MARKS, NEXTS, Words};
 use crate::plays::{Enlists, Links, Looks, Sees, Wakes};
@@ -30,7 +31,8 @@ impl Model for Place {
 
 /// Wakes the row, where it is asleep. Whether it was.
 pub(crate) fn wake(shared: &Words, seat: &mut Chair, row: u32) -> bool
-    requires table { (seat.old.table_id ≡ shared.now.table_id) × (shared.now.table_id.words ≡ 65) }
+    requires table { (seat.old.table_id ≡ shared.now.table_id)
+        × (shared.now.table_id.words ≡ list_words) }
     requires seat { IsPlace row false (tries_of seat.old.me.0) seat.old.me }
     ensures table { seat.new.table_id ≡ seat.old.table_id }
     ensures seat { IsPlace row result (after_look result (tries_of seat.old.me.0)) seat.new.me }
@@ -45,7 +47,8 @@ pub(crate) fn wake(shared: &Words, seat: &mut Chair, row: u32) -> bool
 
 /// Tries to put the row in front of the list.
 pub(crate) fn list(shared: &Words, seat: &mut Chair, row: u32) -> Enlist
-    requires table { (seat.old.table_id ≡ shared.now.table_id) × (shared.now.table_id.words ≡ 65) }
+    requires table { (seat.old.table_id ≡ shared.now.table_id)
+        × (shared.now.table_id.words ≡ list_words) }
     requires seat { IsPlace row true (tries_of seat.old.me.0) seat.old.me }
     ensures table { seat.new.table_id ≡ seat.old.table_id }
     ensures seat { IsPlace row (is_missed result) (tries_of seat.old.me.0 ++ result ∷ [])

@@ -1,9 +1,11 @@
 //! A roster: one publication list, and its calls.
 
-ghost use Rattle.std.specs.Prelude.{◌≡◌, ◌<◌, ◌≤◌, ◌∷◌, ◌++◌, [], length, remove, IfOk, None, vec_len, vec_capacity};
+ghost use Rattle.std.specs.Prelude.{◌≡◌, ◌<◌, ◌≤◌, ◌∷◌, ◌++◌, [], length, remove, IfOk, None};
+ghost use Rattle.std.specs.Prelude.{vec_len, vec_capacity, ◌+◌};
 ghost use Rattle.publication_list.specs.declared.board.ListView.TheVariants as view;
 ghost use Rattle.publication_list.specs.PublicationList.{WalkMeets};
 ghost use Rattle.publication_list.specs.Calls.{ArePlaces};
+ghost use Rattle.publication_list.specs.Rule.{list_words, max_rows};
 
 use crate::board::{Board, Chair, Enlist, MARKS, NEXTS};
 use crate::place::{Place, list, wake};
@@ -28,15 +30,15 @@ impl Model for Roster {
 
     ghost view = { λ r. record { id = r.table.shared.table_id; rows = r.rows } };
 
-    ghost invariant = { λ r. (r.table.shared.table_id.words ≡ 65)
+    ghost invariant = { λ r. (r.table.shared.table_id.words ≡ list_words)
         × (r.table.shared.table_id.slots ≡ 0) };
 }
 
 // The places of the first rows.
 fn make_all(table: &Board, seat: &mut Chair, rows: u32, made: &mut Vec<Place>)
     requires table { (seat.old.table_id ≡ table.now.shared.table_id)
-        × (table.now.shared.table_id.words ≡ 65) }
-    requires rows { rows < 33 }
+        × (table.now.shared.table_id.words ≡ list_words) }
+    requires rows { rows < 1 + max_rows }
     requires seat { seat.old.me ≡ (view.Walker 0 [] None [], []) }
     requires made { (made.old.items ≡ []) × (vec_len made.old ≡ 0)
         × (rows ≤ vec_capacity made.old) }
@@ -58,7 +60,7 @@ impl Roster {
     /// A roster for so many rows, none of which is listed, with a place for each row, in rising
     /// order.
     pub fn new(alloc: Global, rows: u32) -> Result<(Roster, Vec<Place>, Walker), AllocError>
-        requires { (0 < rows) × (rows < 33) }
+        requires { (0 < rows) × (rows < 1 + max_rows) }
         ensures rows { IfOk result (λ r. r.0.rows ≡ rows) }
         ensures places { IfOk result (λ r. ArePlaces r.0.id rows r.1.items) }
         ensures walker { IfOk result (λ r.

@@ -1,8 +1,10 @@
 //! A roster that its walker, the owners of its rows and others share.
 
-ghost use Rattle.std.specs.Prelude.{◌≡◌, ◌<◌, ◌≤◌, ◌∷◌, ◌++◌, ℕ, [], length, slice_index, remove, IfOk};
+ghost use Rattle.std.specs.Prelude.{◌≡◌, ◌<◌, ◌≤◌, ◌∷◌, ◌++◌, ℕ, [], length, slice_index, remove};
+ghost use Rattle.std.specs.Prelude.{IfOk, ◌+◌};
 ghost use Rattle.publication_list.specs.PublicationList.{WalkMeets};
 ghost use Rattle.publication_list.specs.Dealing.{AreGrown, HaveRoom};
+ghost use Rattle.publication_list.specs.Rule.{max_rows};
 
 use crate::{Enlist, Place, Roster, Walker};
 use std::alloc::{AllocError, Global};
@@ -108,7 +110,7 @@ impl Roster {
         alloc: Global,
         owners: &mut Vec<Vec<SharedPlace>>,
     ) -> Result<(SharedRoster, SharedWalker), AllocError>
-        requires few { (0 < length owners.old.items) × (length owners.old.items < 33) }
+        requires few { (0 < length owners.old.items) × (length owners.old.items < 1 + max_rows) }
         requires room { HaveRoom owners.old.items }
         ensures walker { IfOk result (λ r.
             r.1 ≡ record { roster = r.0; places = length owners.old.items; rows = []; walks = [] }) }

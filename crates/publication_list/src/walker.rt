@@ -1,8 +1,10 @@
 //! The walker of a roster, and a walk.
 
-ghost use Rattle.std.specs.Prelude.{◌≡◌, ◌<◌, ◌≤◌, ◌∷◌, ◌++◌, ℕ, [], length, slice_index, vec_capacity};
+ghost use Rattle.std.specs.Prelude.{◌≡◌, ◌<◌, ◌≤◌, ◌∷◌, ◌++◌, ℕ, [], length, slice_index};
+ghost use Rattle.std.specs.Prelude.{vec_capacity};
 ghost use Rattle.publication_list.specs.PublicationList.{WalkMeets, word_at};
 ghost use Rattle.publication_list.specs.Inside.{HasMet, left_of, made_of, walks_of};
+ghost use Rattle.publication_list.specs.Rule.{list_words};
 
 use crate::board::{Chair, HEAD, NEXTS, Words};
 use crate::plays::{Follows, Meets};
@@ -47,7 +49,8 @@ impl Walker {
 
 /// Finds the list as it is now, from the head on.
 pub(crate) fn meet(shared: &Words, seat: &mut Chair, rows: &mut Vec<u32>)
-    requires table { (seat.old.table_id ≡ shared.now.table_id) × (shared.now.table_id.words ≡ 65) }
+    requires table { (seat.old.table_id ≡ shared.now.table_id)
+        × (shared.now.table_id.words ≡ list_words) }
     requires seat { HasMet (left_of seat.old.me.0) (walks_of seat.old.me.0) seat.old.me }
     requires room { (made_of seat.old.me.0 ≤ 32) × (made_of seat.old.me.0 ≤ vec_capacity rows.old) }
     ensures table { seat.new.table_id ≡ seat.old.table_id }

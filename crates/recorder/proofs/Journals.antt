@@ -29,7 +29,8 @@ pub data InTurn : List AnyEvent → Type 0 where
   call : (t x : ℕ) (op : AnyOp) (u : ℕ) (a : AnyAnswer) (es : List AnyEvent) → Fits op a → InTurn es → InTurn (Invoked t x op ∷ Returned u a ∷ es)
 
 -- so are those of a journal that denotes events in which each reply has its shape
-pub in_turn : (c : ℕ) (js : List AnyEvent) (h : List Numbered) → Denotes c js h → ((o : ProcessCall) (r : Return) → In o (calls_in h) → o.call.returned ≡ Some r → HasShape o.call.op r.reply) → InTurn js
+pub in_turn : (c : ℕ) (js : List AnyEvent) (h : List Numbered) → Denotes c js h
+    → ((o : ProcessCall) (r : Return) → In o (calls_in h) → o.call.returned ≡ Some r → HasShape o.call.op r.reply) → InTurn js
 in_turn c [] h d shape = none
 in_turn c (Invoked t x op ∷ []) h d shape = last t x op
 in_turn c (Invoked t x op ∷ Returned u (Reply r) ∷ es) h d shape =

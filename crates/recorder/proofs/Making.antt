@@ -32,7 +32,8 @@ module _ (kinds : List Kind) (quota : ℕ) (journals : ℕ → List AnyEvent) (l
   shapes : (c : ℕ) (o : ProcessCall) (r : Return) → In o (calls_in (part c s.history)) → o.call.returned ≡ Some r → HasShape o.call.op r.reply
   shapes c o r i back =
       let among : In o (calls_in s.history) = in_filter (λ (p : ProcessCall). p.process == c) o (calls_in s.history) (subst (In o) (calls_in-part c s.history) i) in
-      let own : In o (filter (λ (p : ProcessCall). p.object == o.object) (calls_in s.history)) = in_filter_from (λ (p : ProcessCall). p.object == o.object) o (calls_in s.history) among (eq-eqb o.object o.object refl) in
+      let own : In o (filter (λ (p : ProcessCall). p.object == o.object) (calls_in s.history)) =
+      in_filter_from (λ (p : ProcessCall). p.object == o.object) o (calls_in s.history) among (eq-eqb o.object o.object refl) in
       shape_ordered (kind_at kinds o.object) (calls_on o.object s.history) (order_of (logs o.object)) (s.valid o.object) o.call r
       (in_map_from (λ (p : ProcessCall). p.call) o (filter (λ (p : ProcessCall). p.object == o.object) (calls_in s.history)) own) back
 
@@ -44,7 +45,8 @@ module _ (kinds : List Kind) (quota : ℕ) (journals : ℕ → List AnyEvent) (l
 
   shares : Shares number_in process_in s.count (owner s.tickets) (λ c. events_of c (journals c))
   shares = record {
-    rising = λ c. pairs_from_map (λ t u. t < u) number_in (events_of c (journals c)) (subst (Pairs (λ t u. t < u)) (sym (numbers_of c 0 (journals c))) (pairs_from_all (λ t u. t < u) (map ticket_of (journals c)) (s.tickets.rising c)));
+    rising = λ c. pairs_from_map (λ t u. t < u) number_in (events_of c (journals c))
+        (subst (Pairs (λ t u. t < u)) (sym (numbers_of c 0 (journals c))) (pairs_from_all (λ t u. t < u) (map ticket_of (journals c)) (s.tickets.rising c)));
     below = λ c e i. (drawn_by s.tickets c e.number (number_drawn c e i)).0;
     owned = λ c e i. (drawn_by s.tickets c e.number (number_drawn c e i)).1;
     own = λ c e i. process_of_each c 0 (journals c) e i;
@@ -93,9 +95,12 @@ module _ (kinds : List Kind) (quota : ℕ) (journals : ℕ → List AnyEvent) (l
       proper = is_proper;
       few = all_from_in (λ (e : Event). e.number < max_tickets) events_in (λ e i. drawn_low e.process e.number (number_drawn e.process e (own_event e i)));
       few_logged = λ x. all_from_in (λ (e : AnyEntry). e.ticket < max_tickets) (logs x) (entry_low x);
-      on_objects = all_from_in (λ (e : Event). e.object < length kinds) events_in (λ e i. object_of_each kinds e.process 0 (journals e.process) (turns_in e.process) (among e.process) e (own_event e i));
+      on_objects = all_from_in (λ (e : Event). e.object < length kinds) events_in
+          (λ e i. object_of_each kinds e.process 0 (journals e.process) (turns_in e.process) (among e.process) e (own_event e i));
     }
 
 -- what is made of the journals and logs of a sound record
-pub record_from : {O R : Type 0} (op_in : O → AnyOp) (reply_in : R → AnyReply) (r : Recorded O R) (kinds : List Kind) (quota : ℕ) → IsSoundRecord kinds quota (journals_in op_in reply_in r) (logs_in op_in reply_in r) → length r.logs ≡ length kinds → quota < 10001 → IsRecordOf op_in reply_in r
-record_from op_in reply_in r kinds quota s long low = subst (λ (n : ℕ). IsRecord n (journals_in op_in reply_in r) (logs_in op_in reply_in r)) (sym long) (is_record kinds quota (journals_in op_in reply_in r) (logs_in op_in reply_in r) s low)
+pub record_from : {O R : Type 0} (op_in : O → AnyOp) (reply_in : R → AnyReply) (r : Recorded O R) (kinds : List Kind) (quota : ℕ)
+    → IsSoundRecord kinds quota (journals_in op_in reply_in r) (logs_in op_in reply_in r) → length r.logs ≡ length kinds → quota < 10001 → IsRecordOf op_in reply_in r
+record_from op_in reply_in r kinds quota s long low =
+    subst (λ (n : ℕ). IsRecord n (journals_in op_in reply_in r) (logs_in op_in reply_in r)) (sym long) (is_record kinds quota (journals_in op_in reply_in r) (logs_in op_in reply_in r) s low)

@@ -1,11 +1,12 @@
 //! The theorems of records.
 
-ghost use Rattle.std.specs.Prelude.{◌≡◌, ◌<◌, ℕ, List, length};
+ghost use Rattle.std.specs.Prelude.{◌≡◌, ◌<◌, ℕ, List, length, ◌+◌};
 ghost use Rattle.model.specs.declared.Kind.{Kind};
 ghost use Rattle.desk_model.specs.World.{AnyEntry, AnyEvent};
 ghost use Rattle.desk_model.specs.Records.{IsSoundRecord};
 ghost use Rattle.events.specs.declared.event.Event.{Event};
 ghost use Rattle.recorder.specs.Histories.{AreEventsOf, IsRecord};
+ghost use Rattle.desk_model.specs.Limits.{max_calls};
 
 /// Journals have one history at most.
 pub fn one_history()
@@ -19,5 +20,5 @@ pub fn sound_record_is_a_record()
     ensures { (kinds : List Kind) (quota : ℕ) (journals : ℕ → List AnyEvent)
         (logs : ℕ → List AnyEntry)
         →
-        IsSoundRecord kinds quota journals logs → quota < 10001 → IsRecord (length kinds) journals logs }
+        IsSoundRecord kinds quota journals logs → quota < 1 + max_calls → IsRecord (length kinds) journals logs }
 {}

@@ -1,7 +1,7 @@
 -- The lines of a verdict.
 use Rattle.std.specs.Prelude.{ℕ, Bool, true, false, List, [], ◌∷◌, ◌++◌, codes, decimal}
 use Rattle.std.specs.Fmt.{signed_decimal}
-use Rattle.edn.specs.Faults.{text_of_kind}
+use Rattle.edn_reader.specs.Faults.{text_of_kind}
 use Rattle.history.specs.Faults as history
 use Rattle.certificate.specs.Faults as certificate
 use Rattle.checker.specs.declared.refusal.OrderFault.{OrderFault}

@@ -1,7 +1,7 @@
 //! Lines made of pieces.
 
 ghost use Rattle.std.specs.Prelude.{◌≡◌, ◌++◌, false, true, decimal};
-ghost use Rattle.edn.specs.Sent.{Writes};
+ghost use Rattle.byte_streams.specs.Sent.{Writes};
 ghost use Rattle.report.specs.Lines.{comment_text};
 ghost use Rattle.report.specs.Pieces.{piece_text, pieces_text};
 

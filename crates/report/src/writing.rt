@@ -1,7 +1,7 @@
 //! The lines of a verdict, written.
 
 ghost use Rattle.std.specs.Prelude.{◌≡◌, ◌++◌, false, true, IfErr};
-ghost use Rattle.edn.specs.Sent.{Writes};
+ghost use Rattle.byte_streams.specs.Sent.{Writes};
 ghost use Rattle.report.specs.Lines as text;
 ghost use Rattle.report.specs.Lines.{comment_text};
 

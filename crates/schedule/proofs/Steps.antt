@@ -2,9 +2,9 @@
 use Rattle.std.proofs.Common.{◌≡◌, ◌≢◌, ℕ, ◌+◌, ◌<◌, ◌≤◌, List, [], ◌∷◌, ◌++◌, length, take, drop, map, get_or, Some, None, refl, ap, sym, ◌∙◌, subst, arith}
 use Rattle.std.proofs.lemmas.List.{map-append, take_more, drop_more, take-append-drop, length-map, length-take-le, take-map, take_all}
 use Rattle.model.proofs.Lists.{In, in_middle, in_map, in_map_from, all_from_in}
-use Rattle.edn.specs.Datum.{Datum}
-use Rattle.edn.specs.View.{view, views}
-use Rattle.edn.specs.declared.form.Form.{Form}
+use Rattle.edn_reader.specs.Datum.{Datum}
+use Rattle.edn_reader.specs.View.{view, views}
+use Rattle.edn_reader.specs.declared.form.Form.{Form}
 use Rattle.schedule.specs.Schedules.{AnyStep, step_of, Denotes}
 use Rattle.schedule.specs.Faults.{AreStepsTo, IsNoStepAt, StepFaultIs}
 use Rattle.schedule.specs.declared.header.Header.{Header}
@@ -12,7 +12,8 @@ use Rattle.schedule.specs.declared.fault.ScheduleFaultKind.{ScheduleFaultKind}
 use Rattle.schedule.specs.declared.fault.ScheduleFaultKind.TheVariants.{NoHeader, NotAStep, NoMemory}
 
 -- one step more
-pub step_more : (fs : List Form) (i : ℕ) (f : Form) (old new : List (ℕ × AnyStep)) (s : ℕ × AnyStep) → i < length fs → f ≡ get_or fs i f → map step_of (views (take i fs)) ≡ map (λ s. Some s) old → Some s ≡ step_of (view f) → new ≡ old ++ s ∷ []
+pub step_more : (fs : List Form) (i : ℕ) (f : Form) (old new : List (ℕ × AnyStep)) (s : ℕ × AnyStep) → i < length fs → f ≡ get_or fs i f
+    → map step_of (views (take i fs)) ≡ map (λ s. Some s) old → Some s ≡ step_of (view f) → new ≡ old ++ s ∷ []
     → map step_of (views (take (i + 1) fs)) ≡ map (λ s. Some s) new
 step_more fs i f old new s low is so_far one more =
     ap (λ xs. map step_of (views xs)) (take_more fs i f low)
@@ -32,7 +33,8 @@ each_step ds steps h d i none =
     absurd (cc (none, s.2))
 
 -- the next form is a step too
-pub steps_to : (fs : List Form) (i : ℕ) (f : Form) (steps : List (ℕ × AnyStep)) (s : ℕ × AnyStep) → i < length fs → f ≡ get_or fs i f → map step_of (views (take i fs)) ≡ map (λ s. Some s) steps → Some s ≡ step_of (view f) → AreStepsTo (views fs) (i + 1)
+pub steps_to : (fs : List Form) (i : ℕ) (f : Form) (steps : List (ℕ × AnyStep)) (s : ℕ × AnyStep) → i < length fs → f ≡ get_or fs i f
+    → map step_of (views (take i fs)) ≡ map (λ s. Some s) steps → Some s ≡ step_of (view f) → AreStepsTo (views fs) (i + 1)
 steps_to fs i f steps s low is so_far one =
     let long = length-map fs view in
     let more = step_more fs i f steps (steps ++ s ∷ []) s low is so_far one refl in
@@ -44,7 +46,8 @@ steps_to fs i f steps s low is so_far one =
     }
 
 -- the next form is no step
-pub no_step : (fs : List Form) (i : ℕ) (f : Form) (steps : List (ℕ × AnyStep)) → i < length fs → f ≡ get_or fs i f → map step_of (views (take i fs)) ≡ map (λ s. Some s) steps → None ≡ step_of (view f) → IsNoStepAt (views fs) (i + 1)
+pub no_step : (fs : List Form) (i : ℕ) (f : Form) (steps : List (ℕ × AnyStep)) → i < length fs → f ≡ get_or fs i f
+    → map step_of (views (take i fs)) ≡ map (λ s. Some s) steps → None ≡ step_of (view f) → IsNoStepAt (views fs) (i + 1)
 no_step fs i f steps low is so_far none = record {
   earlier = views (take i fs);
   form = view f;
@@ -60,7 +63,8 @@ pub no_steps : (ds : List Datum) (n : ℕ) → IsNoStepAt ds n → (steps : List
 no_steps ds n h steps are = each_step ds steps are h.form (subst (In h.form) (sym h.split) (in_middle h.form h.earlier h.later)) h.none
 
 -- behind a header, such a fault means that the forms denote no schedule
-pub refuses : (ds : List Datum) (first : Datum) (rest : List Datum) → ds ≡ first ∷ rest → (kind : ScheduleFaultKind) (n : ℕ) → StepFaultIs rest kind n → kind ≢ NoMemory → (h : Header) (steps : List (ℕ × AnyStep)) → Denotes ds h steps → ⊥
+pub refuses : (ds : List Datum) (first : Datum) (rest : List Datum) → ds ≡ first ∷ rest → (kind : ScheduleFaultKind) (n : ℕ) → StepFaultIs rest kind n
+    → kind ≢ NoMemory → (h : Header) (steps : List (ℕ × AnyStep)) → Denotes ds h steps → ⊥
 refuses ds first rest whole NoHeader n fault other h steps d = fault
 refuses ds first rest whole NotAStep n fault other h steps d =
     let both : first ∷ rest ≡ d.first ∷ d.rest = sym whole ∙ d.whole in

@@ -1,7 +1,7 @@
 -- What is wrong with the forms of a schedule, and which fault is the first.
 use Rattle.std.specs.Prelude.{◌≡◌, ◌≢◌, ℕ, ◌+◌, ◌<◌, ◌≤◌, List, [], ◌∷◌, ◌++◌, length, take, None}
 use Rattle.std.specs.Prelude.{All}
-use Rattle.edn.specs.Datum.{Datum}
+use Rattle.edn_reader.specs.Datum.{Datum}
 use Rattle.schedule.specs.Schedules.{header_of, step_of}
 use Rattle.schedule.specs.declared.fault.ScheduleFault.{ScheduleFault}
 use Rattle.schedule.specs.declared.fault.ScheduleFaultKind.{ScheduleFaultKind}

@@ -1,8 +1,8 @@
 //! The header of a schedule.
 
 ghost use Rattle.std.specs.Prelude.{◌≡◌, ◌<◌, ◌≤◌, IfSome, Some, option_map};
-ghost use Rattle.edn.specs.Datum.{dictionary, entries_of};
-ghost use Rattle.edn.specs.View.{view, pair_views};
+ghost use Rattle.edn_reader.specs.Datum.{dictionary, entries_of};
+ghost use Rattle.edn_reader.specs.View.{view, pair_views};
 ghost use Rattle.schedule.specs.Schedules as spec;
 ghost use Rattle.schedule.specs.Schedules.{IsWithin};
 
@@ -59,7 +59,7 @@ fn header_in(entries: &[(Name, Form)]) -> Option<Header>
 }
 
 /// The header that the form is, if it is one.
-#[tactic(auto, using(edn::proofs::Pairs::map_view))]
+#[tactic(auto, using(edn_reader::proofs::Pairs::map_view))]
 pub(crate) fn header_of(form: &Form) -> Option<Header>
     ensures header { result ≡ spec.header_of (view form.now) }
     ensures within { IfSome result IsWithin }

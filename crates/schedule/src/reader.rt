@@ -1,7 +1,7 @@
 //! From forms to a schedule.
 
 ghost use Rattle.std.specs.Prelude.{◌≡◌, ◌≢◌, ℕ, List, Some, None, IfOk, IfErr, map};
-ghost use Rattle.edn.specs.View.{views};
+ghost use Rattle.edn_reader.specs.View.{views};
 ghost use Rattle.schedule.specs.Schedules as spec;
 ghost use Rattle.schedule.specs.Schedules.{Denotes, AnyStep, IsWithin};
 ghost use Rattle.schedule.specs.Faults.{IsFirstFault, StepFaultIs};

@@ -1,8 +1,8 @@
 //! The steps of a schedule.
 
 ghost use Rattle.std.specs.Prelude.{◌≡◌, Some, codes, option_and_then, option_map};
-ghost use Rattle.edn.specs.Datum.{dictionary, entries_of};
-ghost use Rattle.edn.specs.View.{view, pair_views};
+ghost use Rattle.edn_reader.specs.Datum.{dictionary, entries_of};
+ghost use Rattle.edn_reader.specs.View.{view, pair_views};
 ghost use Rattle.edn_fields.specs.Fields.{keyword_in, value_at};
 ghost use Rattle.schedule.specs.Schedules as spec;
 
@@ -100,7 +100,7 @@ fn step_in(entries: &[(Name, Form)]) -> Option<(u32, Step<AnyOp>)>
 }
 
 /// The step of a client that the form is, if it is one.
-#[tactic(auto, using(edn::proofs::Pairs::map_view))]
+#[tactic(auto, using(edn_reader::proofs::Pairs::map_view))]
 pub(crate) fn step_of(form: &Form) -> Option<(u32, Step<AnyOp>)>
     ensures { result ≡ spec.step_of (view form.now) }
 {

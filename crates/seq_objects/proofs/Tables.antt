@@ -7,7 +7,8 @@ use Rattle.std.specs.List.{AllByRecursion}
 use Rattle.std.specs.List.Sorted.{IsStrictlySortedBy}
 use Rattle.std.specs.Map.{keys_of, lookup}
 use Rattle.std.specs.BTreeMap.{is_at}
-use Rattle.std.specs.FinMap.{FinMap, empty, empty_of_len, len-entries, find, is_sorted, from_sorted, get, insert, remove, get-from_sorted, get-insert, get-remove, entries-from_sorted, entries, same_map, int_cmp-IsAntisymmetric}
+use Rattle.std.specs.FinMap.{FinMap, empty, empty_of_len, len-entries, find, is_sorted, from_sorted, get, insert, remove, get-from_sorted, get-insert}
+use Rattle.std.specs.FinMap.{get-remove, entries-from_sorted, entries, same_map, int_cmp-IsAntisymmetric}
 use Rattle.std.specs.FinMap.Entries.{below_all}
 use Rattle.model.specs.declared.AnyOp.TheVariants.{Put, Get, Del}
 use Rattle.model.specs.declared.AnyReply.TheVariants.{Value}

@@ -2,11 +2,11 @@
 use Rattle.std.specs.Prelude.{◌≡◌, ◌≢◌, ◌⊎◌, ⊤, ℕ, ◌<◌, true, false, List}
 use Rattle.model.specs.declared.AnyOp.{AnyOp}
 use Rattle.model.specs.declared.AnyReply.{AnyReply}
-use Rattle.edn.specs.Datum.{Datum}
-use Rattle.edn.specs.Sound.{IsShort, IsSoundAt, IsUnreadable}
-use Rattle.edn.specs.Spells.{Spells}
-use Rattle.edn.specs.declared.fault.EdnFault.{EdnFault}
-use Rattle.edn.specs.declared.fault.FaultKind.TheVariants as edn_kind
+use Rattle.edn_reader.specs.Datum.{Datum}
+use Rattle.edn_reader.specs.Sound.{IsShort, IsSoundAt, IsUnreadable}
+use Rattle.edn_reader.specs.Spells.{Spells}
+use Rattle.edn_reader.specs.declared.fault.EdnFault.{EdnFault}
+use Rattle.edn_reader.specs.declared.fault.FaultKind.TheVariants as edn_kind
 use Rattle.desk_model.specs.World.{World}
 use Rattle.recorder.specs.Records.{Recorded}
 use Rattle.machine.specs.Runs.{IsWorldOfRun}

@@ -3,8 +3,9 @@
 ghost use Rattle.std.specs.Prelude.{◌≡◌, ◌≢◌, ℕ, List, IfErr, IfOk};
 ghost use Rattle.schedule.specs.Schedules.{AnyStep, IsWithin};
 ghost use Rattle.schedule.specs.declared.header.Header.{Header};
-ghost use Rattle.edn.specs.Sound.{IsShort};
-ghost use Rattle.simulation.specs.Simulations.{DenotesSchedule, IsOfSteps, IsSimulated, IsSimulationFault, IsTextFault, IsFormFault};
+ghost use Rattle.edn_reader.specs.Sound.{IsShort};
+ghost use Rattle.simulation.specs.Simulations.{DenotesSchedule, IsOfSteps, IsSimulated};
+ghost use Rattle.simulation.specs.Simulations.{IsSimulationFault, IsTextFault, IsFormFault};
 
 use crate::playing::{PlayFault, Played, play};
 use edn::{EdnFault, FaultKind, read_forms};

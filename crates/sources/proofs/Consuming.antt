@@ -3,7 +3,7 @@ use Rattle.std.proofs.Common.{◌-◌, take, subst, ◌≡◌, ℕ, ◌+◌, ◌
 use Rattle.std.specs.Io.KnownBytes.{Consumes}
 use Rattle.std.proofs.lemmas.List.{append_assoc, length-append, length-take-le, append-nil}
 use Rattle.std.proofs.Math.Seq.{take-append_seam}
-use Rattle.edn.specs.Given.{GivesBytes, WasRead}
+use Rattle.byte_streams.specs.Given.{GivesBytes, WasRead}
 
 pub nothing_consumed : (o : Option (List ℕ)) → Consumes o o []
 nothing_consumed None = tt

@@ -2,11 +2,11 @@
 use Rattle.std.proofs.Common.{◌≡◌, ◌∙◌, ◌<◌, ◌≤◌, ◌+◌, ◌⊎◌, ◌++◌, false, ℕ, List, length, Option, Some, None, ap, sym, subst, inl, inr, arith}
 use Rattle.std.proofs.lemmas.Bool.{cases_lt}
 use Rattle.std.proofs.lemmas.List.{append-nil, length-append}
-use Rattle.edn.specs.Datum.{max_length}
-use Rattle.edn.specs.Given.{WasRead}
-use Rattle.edn.specs.Sent.{WritesPrefix}
-use Rattle.edn.specs.Sound.{IsShort, IsUnreadable}
-use Rattle.edn.specs.declared.fault.EdnFault.{EdnFault}
+use Rattle.edn_reader.specs.Datum.{max_length}
+use Rattle.byte_streams.specs.Given.{WasRead}
+use Rattle.byte_streams.specs.Sent.{WritesPrefix}
+use Rattle.edn_reader.specs.Sound.{IsShort, IsUnreadable}
+use Rattle.edn_reader.specs.declared.fault.EdnFault.{EdnFault}
 use Rattle.std.specs.Io.KnownBytes.{Appends}
 use Rattle.report.specs.Lines.{verdict_text}
 use Rattle.report.specs.declared.verdict.Fault.TheVariants.{HistoryText, HistoryMaps, CertificateText, CertificateForms}

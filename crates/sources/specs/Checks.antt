@@ -1,8 +1,8 @@
 -- What a check of two sources does.
 use Rattle.std.specs.Prelude.{ℕ, List, Option, false}
 use Rattle.std.specs.Io.KnownBytes.{Appends}
-use Rattle.edn.specs.Given.{WasRead}
-use Rattle.edn.specs.Sent.{WritesPrefix}
+use Rattle.byte_streams.specs.Given.{WasRead}
+use Rattle.byte_streams.specs.Sent.{WritesPrefix}
 use Rattle.judging.specs.Verdicts.{Holds}
 use Rattle.report.specs.Lines.{verdict_text}
 use Rattle.report.specs.declared.verdict.Verdict.{Verdict}

@@ -1,7 +1,7 @@
 -- What was read of a source.
 use Rattle.std.specs.Prelude.{◌≡◌, ◌+◌, ◌<◌, ℕ, Bool, true, false, List, Option}
 use Rattle.std.specs.Io.KnownBytes.{Consumes}
-use Rattle.edn.specs.Datum.{max_length}
+use Rattle.edn_reader.specs.Datum.{max_length}
 use Rattle.sources.specs.declared.reading.ReadFault.{ReadFault}
 use Rattle.sources.specs.declared.reading.ReadFault.TheVariants.{Failed, NoMemory}
 

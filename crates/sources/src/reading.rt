@@ -1,7 +1,7 @@
 //! Reads a text to its end, or to one byte more than the longest that is judged.
 
 ghost use Rattle.std.specs.Prelude.{◌≡◌, ◌<◌, ◌≤◌, ℕ, length, false, true, OnOk, IfOk, IfErr};
-ghost use Rattle.edn.specs.Given.{WasRead};
+ghost use Rattle.byte_streams.specs.Given.{WasRead};
 ghost use Rattle.sources.specs.Reads.{read_limit, Left, WasRefused};
 
 use edn::{Failed, MAX_LENGTH, Source};

@@ -27,7 +27,8 @@ use Rattle.transcript.proofs.Naming.{own_event, named_in, named_by}
 use Rattle.transcript.proofs.Denoting.{part_denotes, denotes_once}
 
 -- the kind of a named object, where each invocation is of its object's kind
-kind_named : (kinds : ℕ → Kind) (es : List Event) → ((e : Event) (op : AnyOp) → In e es → e.action ≡ Invoke op → kind_of op ≡ kinds e.object) → (x : ℕ) (f : Event) (o : AnyOp) → In f es → f.object ≡ x → f.action ≡ Invoke o → kind_at es x ≡ kinds x
+kind_named : (kinds : ℕ → Kind) (es : List Event) → ((e : Event) (op : AnyOp) → In e es → e.action ≡ Invoke op → kind_of op ≡ kinds e.object)
+    → (x : ℕ) (f : Event) (o : AnyOp) → In f es → f.object ≡ x → f.action ≡ Invoke o → kind_at es x ≡ kinds x
 kind_named kinds [] of_kind x f o i on is = absurd i
 kind_named kinds (e ∷ es) of_kind x f o i on is = go (e.object == x) refl e.action refl (λ j. kind_named kinds es (λ g p k. of_kind g p (inr k)) x f o j on is)
   where
@@ -48,7 +49,9 @@ module _ (kinds : List Kind) (quota : ℕ) (journals : ℕ → List AnyEvent) (l
   same : events_in kinds quota journals logs s ≡ es
   same =
       let own = are_events kinds quota journals logs s in
-      same_by_parts (λ (e : Event). e.number) (λ (e : Event). e.process) (events_in kinds quota journals logs s) es (pairs_from_all (λ (a b : Event). a.number < b.number) (events_in kinds quota journals logs s) own.rising) (pairs_from_all (λ (a b : Event). a.number < b.number) es are.rising) (λ c. own.each c ∙ sym (are.each c))
+      same_by_parts (λ (e : Event). e.number) (λ (e : Event). e.process) (events_in kinds quota journals logs s) es
+      (pairs_from_all (λ (a b : Event). a.number < b.number) (events_in kinds quota journals logs s) own.rising)
+      (pairs_from_all (λ (a b : Event). a.number < b.number) es are.rising) (λ c. own.each c ∙ sym (are.each c))
 
   pub proper : IsProper es
   proper = subst IsProper same (is_proper kinds quota journals logs s)
@@ -66,7 +69,8 @@ module _ (kinds : List Kind) (quota : ℕ) (journals : ℕ → List AnyEvent) (l
       x n.event n.op (in_from_contains es n.event n.stands) n.on_object n.invokes
 
   valid_at : (x : ℕ) → IsNamed es x → IsValidOrder (kind_at es x) (calls_on x (denoted es)) (order_of (logs x))
-  valid_at x n = subst (λ (k : Kind). IsValidOrder k (calls_on x (denoted es)) (order_of (logs x))) (sym (kind_is x n)) (subst (λ (h : List Numbered). IsValidOrder (world.kind_at kinds x) (calls_on x h) (order_of (logs x))) (sym history_is) (s.valid x))
+  valid_at x n = subst (λ (k : Kind). IsValidOrder k (calls_on x (denoted es)) (order_of (logs x))) (sym (kind_is x n))
+      (subst (λ (h : List Numbered). IsValidOrder (world.kind_at kinds x) (calls_on x h) (order_of (logs x))) (sym history_is) (s.valid x))
 
   pub are_valid : (cs : List Certificate) → AreCertificatesOf journals logs cs → AreValid es cs
   are_valid cs h = record {
@@ -76,5 +80,6 @@ module _ (kinds : List Kind) (quota : ℕ) (journals : ℕ → List AnyEvent) (l
         let on : c.object ≡ x = sym at.2 in
         let order : c.order.items ≡ order_of (logs x) = all_at (λ (d : Certificate). d.order.items ≡ order_of (logs d.object)) cs h.orders c at.1 ∙ ap (λ y. order_of (logs y)) on in
         (record { certificate = c; stands = contains_from_in cs c at.1; for_object = on }, subst (IsValidOrder (kind_at es x) (calls_on x (denoted es))) (sym order) (valid_at x n));
-    none_besides = all_from_in (λ (c : Certificate). IsNamed es c.object) cs (λ c i. named_by journals es are c.object ((h.named c.object).0 (contains_from_in (map (λ (d : Certificate). d.object) cs) c.object (in_map_from (λ (d : Certificate). d.object) c cs i))));
+    none_besides = all_from_in (λ (c : Certificate). IsNamed es c.object) cs
+        (λ c i. named_by journals es are c.object ((h.named c.object).0 (contains_from_in (map (λ (d : Certificate). d.object) cs) c.object (in_map_from (λ (d : Certificate). d.object) c cs i))));
   }

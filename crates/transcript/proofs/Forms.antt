@@ -73,7 +73,8 @@ op_back op.Release = refl
 pub action_is : (l : Line) (last : Option Line) → Follows last l → action_of (map_of l).type (map_of l) ≡ Some l.event.action
 action_is l last h = go l.event.action refl h
   where
-    go : (a : Action) → l.event.action ≡ a → MayFollow last l.event.object l.op a → action_of (type_map a) (record { process = l.event.process; type = type_map a; function = Some (function_in l.op); object = l.event.object; value = value_form (value_of l.op a) }) ≡ Some a
+    go : (a : Action) → l.event.action ≡ a → MayFollow last l.event.object l.op a
+        → action_of (type_map a) (record { process = l.event.process; type = type_map a; function = Some (function_in l.op); object = l.event.object; value = value_form (value_of l.op a) }) ≡ Some a
     go (Invoke o) is f = ap (option_map Invoke) (ap (λ v. option_and_then (op_with (function_in l.op)) v) (value_back (op_value l.op)) ∙ op_back l.op) ∙ ap (λ z. Some (Invoke z)) f.0
     go (Ok r) is f = ap (option_map Ok) (ap (λ v. option_and_then (reply_with (function_in l.op)) v) (value_back (reply_value r)) ∙ f.1)
     go Fail is f = refl

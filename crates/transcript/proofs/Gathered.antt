@@ -1,5 +1,6 @@
 -- The lines of all journals, sorted by ticket.
-use Rattle.std.proofs.Common.{◌≡◌, ◌≢◌, ℕ, zero, suc, ◌+◌, ◌<◌, ◌≤◌, ◌==◌, eqb, Bool, true, false, cond, inl, inr, List, [], ◌∷◌, ◌++◌, length, map, filter, get_or, Option, Some, None, AllPairs, refl, ap, sym, ◌∙◌, subst, arith}
+use Rattle.std.proofs.Common.{◌≡◌, ◌≢◌, ℕ, zero, suc, ◌+◌, ◌<◌, ◌≤◌, ◌==◌, eqb, Bool, true, false, cond, inl, inr, List, [], ◌∷◌, ◌++◌, length, map}
+use Rattle.std.proofs.Common.{filter, get_or, Option, Some, None, AllPairs, refl, ap, sym, ◌∙◌, subst, arith}
 use Rattle.std.specs.List.Sorted.{IsPermutation, IsNonDecreasingBy}
 use Rattle.std.specs.List.{IsDistinct}
 use Rattle.std.proofs.lemmas.List.{get_or-map, length-map}
@@ -7,7 +8,9 @@ use Rattle.std.proofs.lemmas.List.Elements.{filter-append}
 use Rattle.std.proofs.lemmas.List.Sorted.{IsPermutation-map, IsPermutation-sym, Contains-permutation}
 use Rattle.std.proofs.lemmas.Map.Keys.{IsDistinct-from_apart, IsDistinct-IsPermutation, apart_from_distinct}
 use Rattle.std.proofs.lemmas.Bool.{eqb-true, eqb-false, eq-eqb, ne_eqb}
-use Rattle.model.proofs.Lists.{In, Pairs, in_append, in_filter, in_filter_passes, in_filter_from, in_map_from, in_from_contains, contains_from_in, pairs_append, pairs_filter, pairs_weaker, pairs_from_all, pairs_from_map, pairs_map, all_from_pairs, filter_all, filter_none}
+use Rattle.model.proofs.Lists.{In, Pairs, in_append, in_filter, in_filter_passes, in_filter_from, in_map_from, in_from_contains, contains_from_in}
+use Rattle.model.proofs.Lists.{pairs_append, pairs_filter, pairs_weaker, pairs_from_all, pairs_from_map, pairs_map, all_from_pairs, filter_all}
+use Rattle.model.proofs.Lists.{filter_none}
 use Rattle.desk_model.specs.declared.Answer.TheVariants.{Reply, Refused}
 use Rattle.desk_model.specs.declared.JournalEvent.TheVariants.{Invoked, Returned}
 use Rattle.desk_model.specs.World.{AnyAnswer, AnyEvent}
@@ -80,27 +83,36 @@ pub lines_at : (n : ℕ) (js : List (List AnyEvent)) (k : ℕ) → filter (λ l.
 lines_at n [] k = refl
 lines_at n (j ∷ js) zero =
     let here : n + 0 ≡ n = omega arith in
-    let own : filter (λ (l : Line). l.event.process == n + 0) (lines_of n j) ≡ lines_of n j = filter_all (λ (l : Line). l.event.process == n + 0) (lines_of n j) (λ l i. eq-eqb l.event.process (n + 0) (of_client n None j l i ∙ sym here)) in
-    let others : filter (λ (l : Line). l.event.process == n + 0) (lines_in (n + 1) js) ≡ [] = filter_none (λ (l : Line). l.event.process == n + 0) (lines_in (n + 1) js) (λ l i. ne_eqb l.event.process (n + 0) (λ e. let h = not_below (n + 1) js l i in absurd (omega arith))) in
-    filter-append (λ (l : Line). l.event.process == n + 0) (lines_of n j) (lines_in (n + 1) js) ∙ (ap (λ xs. xs ++ filter (λ (l : Line). l.event.process == n + 0) (lines_in (n + 1) js)) own ∙ (ap (λ xs. lines_of n j ++ xs) others ∙ (append_nil (lines_of n j) ∙ ap (λ m. lines_of m j) (sym here))))
+    let own : filter (λ (l : Line). l.event.process == n + 0) (lines_of n j) ≡ lines_of n j =
+    filter_all (λ (l : Line). l.event.process == n + 0) (lines_of n j) (λ l i. eq-eqb l.event.process (n + 0) (of_client n None j l i ∙ sym here)) in
+    let others : filter (λ (l : Line). l.event.process == n + 0) (lines_in (n + 1) js) ≡ [] =
+    filter_none (λ (l : Line). l.event.process == n + 0) (lines_in (n + 1) js) (λ l i. ne_eqb l.event.process (n + 0) (λ e. let h = not_below (n + 1) js l i in absurd (omega arith))) in
+    filter-append (λ (l : Line). l.event.process == n + 0) (lines_of n j) (lines_in (n + 1) js)
+    ∙ (ap (λ xs. xs ++ filter (λ (l : Line). l.event.process == n + 0) (lines_in (n + 1) js)) own
+    ∙ (ap (λ xs. lines_of n j ++ xs) others ∙ (append_nil (lines_of n j) ∙ ap (λ m. lines_of m j) (sym here))))
   where
     append_nil : (xs : List Line) → xs ++ [] ≡ xs
     append_nil [] = refl
     append_nil (x ∷ xs) = ap (λ ys. x ∷ ys) (append_nil xs)
 lines_at n (j ∷ js) (suc k) =
     let there : n + suc k ≡ (n + 1) + k = omega arith in
-    let own : filter (λ (l : Line). l.event.process == n + suc k) (lines_of n j) ≡ [] = filter_none (λ (l : Line). l.event.process == n + suc k) (lines_of n j) (λ l i. ne_eqb l.event.process (n + suc k) (λ e. let h = of_client n None j l i in absurd (omega arith))) in
-    let rest : filter (λ (l : Line). l.event.process == n + suc k) (lines_in (n + 1) js) ≡ lines_of (n + suc k) (get_or js k []) = subst (λ (m : ℕ). filter (λ (l : Line). l.event.process == m) (lines_in (n + 1) js) ≡ lines_of m (get_or js k [])) (sym there) (lines_at (n + 1) js k) in
-    filter-append (λ (l : Line). l.event.process == n + suc k) (lines_of n j) (lines_in (n + 1) js) ∙ (ap (λ xs. xs ++ filter (λ (l : Line). l.event.process == n + suc k) (lines_in (n + 1) js)) own ∙ rest)
+    let own : filter (λ (l : Line). l.event.process == n + suc k) (lines_of n j) ≡ [] =
+    filter_none (λ (l : Line). l.event.process == n + suc k) (lines_of n j) (λ l i. ne_eqb l.event.process (n + suc k) (λ e. let h = of_client n None j l i in absurd (omega arith))) in
+    let rest : filter (λ (l : Line). l.event.process == n + suc k) (lines_in (n + 1) js) ≡ lines_of (n + suc k) (get_or js k []) =
+    subst (λ (m : ℕ). filter (λ (l : Line). l.event.process == m) (lines_in (n + 1) js) ≡ lines_of m (get_or js k [])) (sym there) (lines_at (n + 1) js k) in
+    filter-append (λ (l : Line). l.event.process == n + suc k) (lines_of n j) (lines_in (n + 1) js)
+    ∙ (ap (λ xs. xs ++ filter (λ (l : Line). l.event.process == n + suc k) (lines_in (n + 1) js)) own ∙ rest)
 
 -- where those of each client rise, and no number is of two clients, no number stands twice
-apart : (n : ℕ) (js : List (List AnyEvent)) → ((k : ℕ) → Pairs (λ a b. number_in a < number_in b) (lines_of (n + k) (get_or js k []))) → ((a b : Line) → In a (lines_in n js) → In b (lines_in n js) → number_in a ≡ number_in b → process_in a ≡ process_in b)
+apart : (n : ℕ) (js : List (List AnyEvent)) → ((k : ℕ) → Pairs (λ a b. number_in a < number_in b) (lines_of (n + k) (get_or js k [])))
+    → ((a b : Line) → In a (lines_in n js) → In b (lines_in n js) → number_in a ≡ number_in b → process_in a ≡ process_in b)
     → Pairs (λ a b. number_in a ≢ number_in b) (lines_in n js)
 apart n [] up same = tt
 apart n (j ∷ js) up same =
     let here : n + 0 ≡ n = omega arith in
     pairs_append (λ a b. number_in a ≢ number_in b) (lines_of n j) (lines_in (n + 1) js)
-    (pairs_weaker (λ a b. number_in a < number_in b) (λ a b. number_in a ≢ number_in b) (lines_of n j) (λ a b i k l e. omega arith) (subst (λ (m : ℕ). Pairs (λ a b. number_in a < number_in b) (lines_of m j)) here (up 0)))
+    (pairs_weaker (λ a b. number_in a < number_in b) (λ a b. number_in a ≢ number_in b) (lines_of n j) (λ a b i k l e. omega arith)
+    (subst (λ (m : ℕ). Pairs (λ a b. number_in a < number_in b) (lines_of m j)) here (up 0)))
     (apart (n + 1) js
     (λ k. let there : n + suc k ≡ (n + 1) + k = omega arith in subst (λ (m : ℕ). Pairs (λ a b. number_in a < number_in b) (lines_of m (get_or js k []))) there (up (suc k)))
     (λ a b i k. same a b (behind a i) (behind b k)))
@@ -123,11 +135,13 @@ apart n (j ∷ js) up same =
 -- sorted, they rise
 sorted_rises : {X : Type 0} (n : X → ℕ) (xs ys : List X) → AllPairs (λ a b. n a ≢ n b) xs → IsPermutation xs ys → IsNonDecreasingBy n ys → AllPairs (λ a b. n a < n b) ys
 sorted_rises {X = X} n xs ys distinct p up i j d low high =
-    let start : IsDistinct eqb (map n xs) = IsDistinct-from_apart eqb (map n xs) (λ a b k l m. let within : b < length xs = subst (λ (z : ℕ). b < z) (length-map xs n) m in number_apart a b k l within) in
+    let start : IsDistinct eqb (map n xs) =
+    IsDistinct-from_apart eqb (map n xs) (λ a b k l m. let within : b < length xs = subst (λ (z : ℕ). b < z) (length-map xs n) m in number_apart a b k l within) in
     let kept : IsDistinct eqb (map n ys) = IsDistinct-IsPermutation eqb (λ a b. flips a b) (map n xs) (map n ys) (IsPermutation-map n xs ys p) start in
     let long : j < length (map n ys) = subst (λ (z : ℕ). j < z) (sym (length-map ys n)) high in
     let differ = apart_from_distinct eqb (map n ys) i j (n d) kept low long in
-    let ne : n (get_or ys i d) ≢ n (get_or ys j d) = λ e. absurd (cc (differ, eq-eqb (get_or (map n ys) i (n d)) (get_or (map n ys) j (n d)) (get_or-map n ys i d (n d) (omega arith) ∙ e ∙ sym (get_or-map n ys j d (n d) high)))) in
+    let ne : n (get_or ys i d) ≢ n (get_or ys j d) =
+    λ e. absurd (cc (differ, eq-eqb (get_or (map n ys) i (n d)) (get_or (map n ys) j (n d)) (get_or-map n ys i d (n d) (omega arith) ∙ e ∙ sym (get_or-map n ys j d (n d) high)))) in
     let le = up i j d (omega arith) high in
     omega arith
   where
@@ -150,7 +164,8 @@ sorted_rises {X = X} n xs ys distinct p up i j d low high =
 filter_events : (c : ℕ) (ls : List Line) → filter (λ e. e.process == c) (events_in ls) ≡ events_in (filter (λ l. l.event.process == c) ls)
 filter_events c [] = refl
 filter_events c (l ∷ ls) =
-    elim (l.event.process == c) as (λ b. cond b (l.event ∷ filter (λ (e : Event). e.process == c) (events_in ls)) (filter (λ (e : Event). e.process == c) (events_in ls)) ≡ events_in (cond b (l ∷ filter (λ (k : Line). k.event.process == c) ls) (filter (λ (k : Line). k.event.process == c) ls))) [
+    elim (l.event.process == c) as (λ b. cond b (l.event ∷ filter (λ (e : Event). e.process == c) (events_in ls))
+    (filter (λ (e : Event). e.process == c) (events_in ls)) ≡ events_in (cond b (l ∷ filter (λ (k : Line). k.event.process == c) ls) (filter (λ (k : Line). k.event.process == c) ls))) [
       | true ↦ ap (λ es. l.event ∷ es) (filter_events c ls)
       | false ↦ filter_events c ls
     ]
@@ -175,12 +190,15 @@ module _ (journals : ℕ → List AnyEvent) (es : List Event) (are : AreEventsOf
   -- lines in order of tickets have these events
   pub are_events : (ls : List Line) → AreLinesOf journals ls → AreEventsOf journals (events_in ls)
   are_events ls h = record {
-    rising = all_from_pairs (λ (a b : Event). a.number < b.number) (events_in ls) (pairs_map (λ (a b : Event). a.number < b.number) (λ (l : Line). l.event) ls (pairs_from_all (λ a b. number_in a < number_in b) ls h.rising));
+    rising = all_from_pairs (λ (a b : Event). a.number < b.number) (events_in ls)
+        (pairs_map (λ (a b : Event). a.number < b.number) (λ (l : Line). l.event) ls (pairs_from_all (λ a b. number_in a < number_in b) ls h.rising));
     each = λ c. filter_events c ls ∙ (ap events_in (h.each c) ∙ events_are c);
   }
 
   pub same_events : (ls : List Line) → AreLinesOf journals ls → es ≡ events_in ls
-  same_events ls h = let k = are_events ls h in same_by_parts (λ (e : Event). e.number) (λ (e : Event). e.process) es (events_in ls) rises (pairs_from_all (λ (a b : Event). a.number < b.number) (events_in ls) k.rising) (λ c. are.each c ∙ sym (k.each c))
+  same_events ls h = let k = are_events ls h in
+      same_by_parts (λ (e : Event). e.number) (λ (e : Event). e.process) es (events_in ls) rises
+      (pairs_from_all (λ (a b : Event). a.number < b.number) (events_in ls) k.rising) (λ c. are.each c ∙ sym (k.each c))
 
   pub is_proper : (ls : List Line) → AreLinesOf journals ls → IsProper (events_in ls)
   is_proper ls h = subst IsProper (same_events ls h) proper
@@ -188,7 +206,8 @@ module _ (journals : ℕ → List AnyEvent) (es : List Event) (are : AreEventsOf
   -- the lines of all journals, sorted
   module _ (js : List (List AnyEvent)) (same : (c : ℕ) → get_or js c [] ≡ journals c) (ls : List Line) (p : IsPermutation (lines_in 0 js) ls) (up : IsNonDecreasingBy (λ l. l.event.number) ls) where
     of_one : (c : ℕ) → filter (λ l. l.event.process == c) (lines_in 0 js) ≡ lines_of c (journals c)
-    of_one c = let e : 0 + c ≡ c = omega arith in subst (λ (m : ℕ). filter (λ (l : Line). l.event.process == m) (lines_in 0 js) ≡ lines_of m (get_or js c [])) e (lines_at 0 js c) ∙ ap (lines_of c) (same c)
+    of_one c = let e : 0 + c ≡ c = omega arith in
+        subst (λ (m : ℕ). filter (λ (l : Line). l.event.process == m) (lines_in 0 js) ≡ lines_of m (get_or js c [])) e (lines_at 0 js c) ∙ ap (lines_of c) (same c)
 
     own : (l : Line) → In l (lines_in 0 js) → In l (lines_of (process_in l) (journals (process_in l)))
     own l i = subst (In l) (of_one (process_in l)) (in_filter_from (λ (k : Line). k.event.process == process_in l) l (lines_in 0 js) i (eq-eqb (process_in l) (process_in l) refl))
@@ -201,7 +220,9 @@ module _ (journals : ℕ → List AnyEvent) (es : List Event) (are : AreEventsOf
 
     all_apart : Pairs (λ a b. number_in a ≢ number_in b) (lines_in 0 js)
     all_apart = apart 0 js
-        (λ k. let e : 0 + k ≡ k = omega arith in subst (λ (m : ℕ). Pairs (λ a b. number_in a < number_in b) (lines_of m (get_or js k []))) (sym e) (subst (λ (j : List AnyEvent). Pairs (λ a b. number_in a < number_in b) (lines_of k j)) (sym (same k)) (lines_rise k)))
+        (λ k. let e : 0 + k ≡ k = omega arith in
+        subst (λ (m : ℕ). Pairs (λ a b. number_in a < number_in b) (lines_of m (get_or js k []))) (sym e)
+        (subst (λ (j : List AnyEvent). Pairs (λ a b. number_in a < number_in b) (lines_of k j)) (sym (same k)) (lines_rise k)))
         (λ a b i k e. ap (λ (x : Event). x.process) (same_event es a.event b.event rises (in_events a i) (in_events b k) e))
 
     back : (l : Line) → In l ls → In l (lines_in 0 js)
@@ -219,7 +240,8 @@ module _ (journals : ℕ → List AnyEvent) (es : List Event) (are : AreEventsOf
         (λ l i.
         let at : process_in l ≡ c = eqb-true (process_in l) c (in_filter_passes (λ (k : Line). k.event.process == c) l ls i) in
         subst (λ (m : ℕ). In l (lines_of m (journals m))) at (own l (back l (in_filter (λ (k : Line). k.event.process == c) l ls i))))
-        (λ l i. in_filter_from (λ (k : Line). k.event.process == c) l ls (forth l (in_filter (λ (k : Line). k.event.process == c) l (lines_in 0 js) (subst (In l) (sym (of_one c)) i))) (eq-eqb (process_in l) c (of_client c None (journals c) l i)))
+        (λ l i. in_filter_from (λ (k : Line). k.event.process == c) l ls
+        (forth l (in_filter (λ (k : Line). k.event.process == c) l (lines_in 0 js) (subst (In l) (sym (of_one c)) i))) (eq-eqb (process_in l) c (of_client c None (journals c) l i)))
 
     pub are_lines : AreLinesOf journals ls
     are_lines = record { rising = sorted; each = part_is }

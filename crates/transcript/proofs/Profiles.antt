@@ -7,8 +7,8 @@ use Rattle.model.specs.declared.AnyOp.{AnyOp}
 use Rattle.model.specs.declared.AnyOp.TheVariants as op
 use Rattle.model.specs.declared.AnyReply.{AnyReply}
 use Rattle.model.proofs.Lists.{In, in_filter_from, all_from_in}
-use Rattle.edn.specs.Bytes.{is_name}
-use Rattle.edn.specs.Text.{InProfile}
+use Rattle.edn_reader.specs.Bytes.{is_name}
+use Rattle.edn_reader.specs.Text.{InProfile}
 use Rattle.seq_objects.specs.Functions.{name_of}
 use Rattle.seq_objects.specs.Values.{function_in}
 use Rattle.events.specs.declared.event.Action.{Action}
@@ -49,8 +49,10 @@ unfolding is_name
 form_in_profile l process object value = (refl, process, (refl, type_named l.event.action, (refl, function_named l.op, (refl, value, (refl, object, tt)))))
 
 -- one line more
-pub profiles_more : (ls : List Line) (i : ℕ) (d : Line) → i < length ls → All (λ l. InProfile (form_of l)) (take i ls) → InProfile (form_of (get_or ls i d)) → All (λ l. InProfile (form_of l)) (take (i + 1) ls)
-profiles_more ls i d low so_far here = subst (All (λ (l : Line). InProfile (form_of l))) (sym (take_more ls i d low)) (All-push (λ (l : Line). InProfile (form_of l)) (take i ls) (get_or ls i d) so_far here)
+pub profiles_more : (ls : List Line) (i : ℕ) (d : Line) → i < length ls → All (λ l. InProfile (form_of l)) (take i ls)
+    → InProfile (form_of (get_or ls i d)) → All (λ l. InProfile (form_of l)) (take (i + 1) ls)
+profiles_more ls i d low so_far here =
+    subst (All (λ (l : Line). InProfile (form_of l))) (sym (take_more ls i d low)) (All-push (λ (l : Line). InProfile (form_of l)) (take i ls) (get_or ls i d) so_far here)
 
 pub all_profiles : (ls : List Line) (i : ℕ) → length ls ≤ i → All (λ l. InProfile (form_of l)) (take i ls) → All (λ l. InProfile (form_of l)) ls
 all_profiles ls i high h = subst (All (λ (l : Line). InProfile (form_of l))) (take_all i ls high) h
@@ -66,7 +68,8 @@ module _ {O R : Type 0} (op_in : O → AnyOp) (reply_in : R → AnyReply) (r : R
     where
       low : (l : Line) → In l ls → l.event.process < n
       low l i =
-          let own : In l (lines_of l.event.process (journals_in op_in reply_in r l.event.process)) = subst (In l) (are.each l.event.process) (in_filter_from (λ (k : Line). k.event.process == l.event.process) l ls i (eq-eqb l.event.process l.event.process refl)) in
+          let own : In l (lines_of l.event.process (journals_in op_in reply_in r l.event.process)) =
+          subst (In l) (are.each l.event.process) (in_filter_from (λ (k : Line). k.event.process == l.event.process) l ls i (eq-eqb l.event.process l.event.process refl)) in
           elim (cases_lt l.event.process n) [
             | inl h ↦ h
             | inr h ↦ absurd (subst (λ (js : List AnyEvent). In l (lines_of l.event.process js)) (past l.event.process (omega arith)) own)

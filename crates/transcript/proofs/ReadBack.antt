@@ -1,15 +1,16 @@
 -- The lines of a record are read back as its events.
-use Rattle.std.proofs.Common.{◌≡◌, ◌≢◌, ℕ, ◌+◌, ◌<◌, ◌≤◌, ◌==◌, Bool, true, false, cond, inl, inr, List, [], ◌∷◌, ◌++◌, map, length, find, reverse, Option, Some, None, option_map, All, lit<, refl, ap, sym, ◌∙◌, subst, eq-eqb, length-append, arith}
+use Rattle.std.proofs.Common.{◌≡◌, ◌≢◌, ℕ, ◌+◌, ◌<◌, ◌≤◌, ◌==◌, Bool, true, false, cond, inl, inr, List, [], ◌∷◌, ◌++◌, map, length, find, reverse}
+use Rattle.std.proofs.Common.{Option, Some, None, option_map, All, lit<, refl, ap, sym, ◌∙◌, subst, eq-eqb, length-append, arith}
 use Rattle.std.specs.List.{cons_option}
 use Rattle.std.proofs.lemmas.Option.{same_Some}
 use Rattle.std.proofs.lemmas.List.{reverse-append, map-append, length-map}
 use Rattle.model.specs.declared.AnyOp.{AnyOp}
 use Rattle.model.specs.Objects.{kind_of}
 use Rattle.model.proofs.Lists.{In, Pairs, in_map, in_map_from, in_filter, in_filter_from, in_from_contains, in_split, in_left, in_middle, all_at, pairs_from_all}
-use Rattle.edn.specs.Datum.{Datum, Fits, max_open}
-use Rattle.edn.specs.Text.{InProfile}
-use Rattle.edn.specs.Laws.{EachSpelled}
-use Rattle.edn.proofs.Joined.{text_spells_it, lines_spell_them}
+use Rattle.edn_reader.specs.Datum.{Datum, Fits, max_open}
+use Rattle.edn_reader.specs.Text.{InProfile}
+use Rattle.edn_reader.specs.Laws.{EachSpelled}
+use Rattle.edn_reader.proofs.Joined.{text_spells_it, lines_spell_them}
 use Rattle.seq_objects.specs.declared.value.Value.{Value}
 use Rattle.seq_objects.specs.declared.value.Value.TheVariants.{Nil, False, Int, Pair}
 use Rattle.seq_objects.specs.Functions.{kind_of_function}
@@ -49,7 +50,8 @@ abbrev CountFrom : ℕ → List Event → Type 0
 CountFrom n [] = Unit {0}
 CountFrom n (e ∷ es) = (e.number ≡ n) × CountFrom (n + 1) es
 
-counted : (n count : ℕ) (es : List Event) → Pairs (λ a b. a.number < b.number) es → ((e : Event) → In e es → (n ≤ e.number) × (e.number < count)) → ((t : ℕ) → n ≤ t → t < count → (e : Event) × In e es × (e.number ≡ t)) → CountFrom n es
+counted : (n count : ℕ) (es : List Event) → Pairs (λ a b. a.number < b.number) es → ((e : Event) → In e es → (n ≤ e.number) × (e.number < count))
+    → ((t : ℕ) → n ≤ t → t < count → (e : Event) × In e es × (e.number ≡ t)) → CountFrom n es
 counted n count [] up within each = tt
 counted n count (e ∷ es) up within each =
     let here = within e (inl refl) in
@@ -71,7 +73,8 @@ count_few n m (e ∷ es) c low le = let l = low e (inl refl) in let q = c.0 in l
 
 -- ---- the forms of lines
 
-split_forms : (ls : List Line) (earlier later : List Datum) (d : Datum) → map form_of ls ≡ earlier ++ d ∷ later → (before after : List Line) × (l : Line) × (ls ≡ before ++ l ∷ after) × (earlier ≡ map form_of before) × (d ≡ form_of l)
+split_forms : (ls : List Line) (earlier later : List Datum) (d : Datum) → map form_of ls ≡ earlier ++ d ∷ later → (before after : List Line)
+    × (l : Line) × (ls ≡ before ++ l ∷ after) × (earlier ≡ map form_of before) × (d ≡ form_of l)
 split_forms [] [] later d e = absurd (cc)
 split_forms [] (x ∷ earlier) later d e = absurd (cc)
 split_forms (l ∷ ls) [] later d e = ([], ls, l, refl, refl, sym (cc (e)))
@@ -90,13 +93,15 @@ last_is p ls = ap (find (λ (m : ClientMap). m.process == p)) (sym (map-reverse 
   where
     map-reverse : (ks : List Line) → map map_of (reverse ks) ≡ reverse (map map_of ks)
     map-reverse [] = refl
-    map-reverse (k ∷ ks) = ap (map map_of) (reverse-append (k ∷ []) ks) ∙ (map-append map_of (reverse ks) (k ∷ []) ∙ (ap (λ ms. ms ++ map_of k ∷ []) (map-reverse ks) ∙ sym (reverse-append (map_of k ∷ []) (map map_of ks))))
+    map-reverse (k ∷ ks) = ap (map map_of) (reverse-append (k ∷ []) ks)
+        ∙ (map-append map_of (reverse ks) (k ∷ []) ∙ (ap (λ ms. ms ++ map_of k ∷ []) (map-reverse ks) ∙ sym (reverse-append (map_of k ∷ []) (map map_of ks))))
 
     found : (ks : List Line) → find (λ (m : ClientMap). m.process == p) (map map_of ks) ≡ option_map map_of (find (λ (l : Line). l.event.process == p) ks)
     found [] = refl
     found (k ∷ ks) = go (k.event.process == p) (found ks)
       where
-        go : (b : Bool) → find (λ (m : ClientMap). m.process == p) (map map_of ks) ≡ option_map map_of (find (λ (l : Line). l.event.process == p) ks) → cond b (Some (map_of k)) (find (λ (m : ClientMap). m.process == p) (map map_of ks)) ≡ option_map map_of (cond b (Some k) (find (λ (l : Line). l.event.process == p) ks))
+        go : (b : Bool) → find (λ (m : ClientMap). m.process == p) (map map_of ks) ≡ option_map map_of (find (λ (l : Line). l.event.process == p) ks)
+            → cond b (Some (map_of k)) (find (λ (m : ClientMap). m.process == p) (map map_of ks)) ≡ option_map map_of (cond b (Some k) (find (λ (l : Line). l.event.process == p) ks))
         go true h = refl
         go false h = h
 
@@ -109,7 +114,8 @@ record IsFine (before : List Line) (l : Line) : Type 0 where
   none_unknown : (k : Line) → In k before → k.event.action ≢ Info
 
 -- the line that is outstanding, where some map is
-outstanding : (before : List Line) (p : ℕ) (o : ClientMap) → IsOutstanding (map map_of before) p o → (k : Line) × (last_line p before ≡ Some k) × (o ≡ map_of k) × (op : AnyOp) × (k.event.action ≡ Invoke op)
+outstanding : (before : List Line) (p : ℕ) (o : ClientMap) → IsOutstanding (map map_of before) p o → (k : Line) × (last_line p before ≡ Some k)
+    × (o ≡ map_of k) × (op : AnyOp) × (k.event.action ≡ Invoke op)
 outstanding before p o h = go (last_line p before) refl (sym (last_is p before) ∙ h.last)
   where
     invoked : (a : Action) → type_map a ≡ invoke → (op : AnyOp) × (a ≡ Invoke op)
@@ -145,11 +151,15 @@ module _ (before : List Line) (l : Line) (fine : IsFine before l) where
   busy Info is t o h = absurd (cc)
 
   -- a completion's process has its call outstanding
-  pending : (a : Action) → l.event.action ≡ a → (type_map a ≢ invoke) → (k : Line) × (last_line l.event.process before ≡ Some k) × (op : AnyOp) × (k.event.action ≡ Invoke op) × (k.op ≡ l.op) × (k.event.object ≡ l.event.object)
+  pending : (a : Action) → l.event.action ≡ a → (type_map a ≢ invoke) → (k : Line) × (last_line l.event.process before ≡ Some k) × (op : AnyOp)
+      × (k.event.action ≡ Invoke op) × (k.op ≡ l.op) × (k.event.object ≡ l.event.object)
   pending (Invoke op) is t = absurd (t refl)
-  pending (Ok r) is t = let f : MayFollow (last_line l.event.process before) l.event.object l.op (Ok r) = subst (MayFollow (last_line l.event.process before) l.event.object l.op) is fine.follows in (f.0.0, f.0.1, l.op, f.0.2, f.0.3, f.0.4)
-  pending Fail is t = let f : MayFollow (last_line l.event.process before) l.event.object l.op Fail = subst (MayFollow (last_line l.event.process before) l.event.object l.op) is fine.follows in (f.0, f.1, l.op, f.2, f.3, f.4)
-  pending Info is t = let f : MayFollow (last_line l.event.process before) l.event.object l.op Info = subst (MayFollow (last_line l.event.process before) l.event.object l.op) is fine.follows in absurd f
+  pending (Ok r) is t = let f : MayFollow (last_line l.event.process before) l.event.object l.op (Ok r) =
+      subst (MayFollow (last_line l.event.process before) l.event.object l.op) is fine.follows in (f.0.0, f.0.1, l.op, f.0.2, f.0.3, f.0.4)
+  pending Fail is t = let f : MayFollow (last_line l.event.process before) l.event.object l.op Fail =
+      subst (MayFollow (last_line l.event.process before) l.event.object l.op) is fine.follows in (f.0, f.1, l.op, f.2, f.3, f.4)
+  pending Info is t = let f : MayFollow (last_line l.event.process before) l.event.object l.op Info =
+      subst (MayFollow (last_line l.event.process before) l.event.object l.op) is fine.follows in absurd f
 
   closed_not : IsClosed (map map_of before) l.event.process → ⊥
   closed_not h =
@@ -241,7 +251,8 @@ each_spelled : (ls : List Line) → ((l : Line) → In l ls → InProfile (form_
 each_spelled [] p = tt
 each_spelled (l ∷ ls) p = (text_spells_it (form_of l) (form_fits l) (p l (inl refl)), each_spelled ls (λ k i. p k (inr i)))
 
-events_are : (n : ℕ) (ls : List Line) → CountFrom n (events_in ls) → ((l : Line) → In l ls → (l.event.object ≤ max_object) × (action_of (map_of l).type (map_of l) ≡ Some l.event.action)) → events_in ls ≡ events_from n (map form_of ls)
+events_are : (n : ℕ) (ls : List Line) → CountFrom n (events_in ls)
+    → ((l : Line) → In l ls → (l.event.object ≤ max_object) × (action_of (map_of l).type (map_of l) ≡ Some l.event.action)) → events_in ls ≡ events_from n (map form_of ls)
 events_are n [] c h = refl
 events_are n (l ∷ ls) c h =
     let here = h l (inl refl) in
@@ -274,11 +285,14 @@ module _ (objects : ℕ) (journals : ℕ → List AnyEvent) (logs : ℕ → List
 
   number_low : (e : Event) → In e (events_in ls) → e.number < count
   number_low e i =
-      let own : In e (events_of e.process (journals e.process)) = subst (In e) (record_is.are_events.each e.process) (in_filter_from (λ (f : Event). f.process == e.process) e record_is.events (subst (In e) (sym same) i) (eq-eqb e.process e.process refl)) in
-      all_at (λ t. t < count) (map ticket_of (journals e.process)) (tickets.below e.process) e.number (subst (In e.number) (numbers_of e.process 0 (journals e.process)) (in_map_from (λ (f : Event). f.number) e (events_of e.process (journals e.process)) own))
+      let own : In e (events_of e.process (journals e.process)) =
+      subst (In e) (record_is.are_events.each e.process) (in_filter_from (λ (f : Event). f.process == e.process) e record_is.events (subst (In e) (sym same) i) (eq-eqb e.process e.process refl)) in
+      all_at (λ t. t < count) (map ticket_of (journals e.process)) (tickets.below e.process) e.number
+      (subst (In e.number) (numbers_of e.process 0 (journals e.process)) (in_map_from (λ (f : Event). f.number) e (events_of e.process (journals e.process)) own))
 
   numbered : CountFrom 0 (events_in ls)
-  numbered = counted 0 count (events_in ls) (subst (Pairs (λ (a b : Event). a.number < b.number)) same (pairs_from_all (λ (a b : Event). a.number < b.number) record_is.events record_is.are_events.rising))
+  numbered = counted 0 count (events_in ls)
+      (subst (Pairs (λ (a b : Event). a.number < b.number)) same (pairs_from_all (λ (a b : Event). a.number < b.number) record_is.events record_is.are_events.rising))
       (λ e i. (omega arith, number_low e i)) (λ t a b. has_ticket t b)
 
   number_few : (e : Event) → In e (events_in ls) → e.number < max_tickets
@@ -308,13 +322,15 @@ module _ (objects : ℕ) (journals : ℕ → List AnyEvent) (logs : ℕ → List
       let e = call_event k i in
       let f = call_event l j in
       one_kind journals record_is.events record_is.are_events record_is.proper
-      (record { number = e.0; process = k.event.process; object = k.event.object; action = Invoke k.op }) (record { number = f.0; process = l.event.process; object = l.event.object; action = Invoke l.op }) k.op l.op e.1 f.1 on refl refl
+      (record { number = e.0; process = k.event.process; object = k.event.object; action = Invoke k.op })
+      (record { number = f.0; process = l.event.process; object = l.event.object; action = Invoke l.op }) k.op l.op e.1 f.1 on refl refl
 
   follows_at : (before after : List Line) (l : Line) → ls ≡ before ++ l ∷ after → Follows (last_line l.event.process before) l
   follows_at before after l is = line_follows ls journals turn are.each before after l is
 
   not_info : (l : Line) → In l ls → l.event.action ≢ Info
-  not_info l i e = let r = in_split l ls i in let f : MayFollow (last_line l.event.process r.0) l.event.object l.op Info = subst (MayFollow (last_line l.event.process r.0) l.event.object l.op) e (follows_at r.0 r.1 l r.2) in f
+  not_info l i e = let r = in_split l ls i in let f : MayFollow (last_line l.event.process r.0) l.event.object l.op Info =
+      subst (MayFollow (last_line l.event.process r.0) l.event.object l.op) e (follows_at r.0 r.1 l r.2) in f
 
   fine_at : (before after : List Line) (l : Line) → ls ≡ before ++ l ∷ after → IsFine before l
   fine_at before after l is = record {
@@ -352,7 +368,9 @@ module _ (objects : ℕ) (journals : ℕ → List AnyEvent) (logs : ℕ → List
     spelled = lines_spell_them (map form_of ls) (each_spelled ls (λ l i. all_at (λ (k : Line). InProfile (form_of k)) ls profile l i));
     denoted = record {
       faultless = faultless;
-      events = (same_by_parts (λ (e : Event). e.number) (λ (e : Event). e.process) es record_is.events (pairs_from_all (λ (a b : Event). a.number < b.number) es h.rising) (pairs_from_all (λ (a b : Event). a.number < b.number) record_is.events record_is.are_events.rising) (λ c. h.each c ∙ sym (record_is.are_events.each c)) ∙ same)
+      events = (same_by_parts (λ (e : Event). e.number) (λ (e : Event). e.process) es record_is.events
+          (pairs_from_all (λ (a b : Event). a.number < b.number) es h.rising)
+          (pairs_from_all (λ (a b : Event). a.number < b.number) record_is.events record_is.are_events.rising) (λ c. h.each c ∙ sym (record_is.are_events.each c)) ∙ same)
           ∙ events_are 0 ls numbered (λ l i. (object_low l i, says_action l i));
     };
   }

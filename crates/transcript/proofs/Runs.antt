@@ -66,20 +66,33 @@ behind p front (l ∷ earlier) ls h =
 
 -- the lines of a journal go on like that
 
-journal_goes : (c : ℕ) (q : Option Call) (prior : Option Line) (js : List AnyEvent) → InTurn js → ((k : Line) (p : AnyOp) → prior ≡ Some k → k.event.action ≡ Invoke p → ⊥) → Goes c prior (lines_from c q js)
+journal_goes : (c : ℕ) (q : Option Call) (prior : Option Line) (js : List AnyEvent) → InTurn js
+    → ((k : Line) (p : AnyOp) → prior ≡ Some k → k.event.action ≡ Invoke p → ⊥) → Goes c prior (lines_from c q js)
 journal_goes c q prior l none h = tt
 journal_goes c q prior l (last t x op) h = (λ e. ((refl, h), tt), λ e. tt)
 journal_goes c q prior l (call t x op u a js fits rest) h =
     (λ e. ((refl, h), back a fits (λ o f. journal_goes c (Some (record { object = x; op = op })) o js rest f)), λ e. absurd (cc (e, eq-eqb c c refl)))
   where
-    back : (a : AnyAnswer) → Fits op a → ((o : Option Line) → ((k : Line) (p : AnyOp) → o ≡ Some k → k.event.action ≡ Invoke p → ⊥) → Goes c o (lines_from c (Some (record { object = x; op = op })) js))
-        → Goes c (Some (record { event = event_with c x (Invoked t x op); op = op })) (record { event = event_with c x (Returned u a); op = op } ∷ lines_from c (Some (record { object = x; op = op })) js)
+    back : (a : AnyAnswer) → Fits op a
+        → ((o : Option Line) → ((k : Line) (p : AnyOp) → o ≡ Some k → k.event.action ≡ Invoke p → ⊥) → Goes c o (lines_from c (Some (record { object = x; op = op })) js))
+        → Goes c (Some (record { event = event_with c x (Invoked t x op); op = op }))
+        (record { event = event_with c x (Returned u a); op = op } ∷ lines_from c (Some (record { object = x; op = op })) js)
     back (Reply r) f later = (
-      λ e. (((record { event = event_with c x (Invoked t x op); op = op }, refl, refl, refl, refl), f), later (Some (record { event = event_with c x (Returned u (Reply r)); op = op })) (λ k p s i. let same : record { event = event_with c x (Returned u (Reply r)); op = op } ≡ k = cc (s) in let act : Ok r ≡ Invoke p = ap (λ (z : Line). z.event.action) same ∙ i in absurd (cc (act)))),
+      λ e. (
+        ((record { event = event_with c x (Invoked t x op); op = op }, refl, refl, refl, refl), f),
+        later (Some (record { event = event_with c x (Returned u (Reply r)); op = op }))
+            (λ k p s i. let same : record { event = event_with c x (Returned u (Reply r)); op = op } ≡ k = cc (s) in let act : Ok r ≡ Invoke p =
+            ap (λ (z : Line). z.event.action) same ∙ i in absurd (cc (act))),
+      ),
       λ e. absurd (cc (e, eq-eqb c c refl)),
     )
     back Refused f later = (
-      λ e. ((record { event = event_with c x (Invoked t x op); op = op }, refl, refl, refl, refl), later (Some (record { event = event_with c x (Returned u Refused); op = op })) (λ k p s i. let same : record { event = event_with c x (Returned u Refused); op = op } ≡ k = cc (s) in let act : Fail ≡ Invoke p = ap (λ (z : Line). z.event.action) same ∙ i in absurd (cc (act)))),
+      λ e. (
+        (record { event = event_with c x (Invoked t x op); op = op }, refl, refl, refl, refl),
+        later (Some (record { event = event_with c x (Returned u Refused); op = op }))
+            (λ k p s i. let same : record { event = event_with c x (Returned u Refused); op = op } ≡ k = cc (s) in let act : Fail ≡ Invoke p =
+            ap (λ (z : Line). z.event.action) same ∙ i in absurd (cc (act))),
+      ),
       λ e. absurd (cc (e, eq-eqb c c refl)),
     )
 

@@ -1,7 +1,7 @@
 -- The text of a line's form is that of its pieces.
 use Rattle.std.proofs.Common.{◌≡◌, ℕ, ◌+◌, ◌<◌, ◌++◌, [], ◌∷◌, List, length, drop, get_or, refl, ap, sym, ◌∙◌, append_assoc, codes, decimal}
 use Rattle.std.proofs.lemmas.List.{drop_more, append-nil}
-use Rattle.edn.specs.Text.{text_of}
+use Rattle.edn_reader.specs.Text.{text_of}
 use Rattle.seq_objects.specs.Functions.{name_of}
 use Rattle.seq_objects.specs.Values.{function_in}
 use Rattle.seq_objects.specs.declared.value.Value.{Value}
@@ -16,7 +16,8 @@ value_is False = refl
 value_is (Int z) = refl
 value_is (Pair a b) = simp (append_assoc, append-nil)
 
-flat : (o k p l t m f q v r x c n : List ℕ) → (o ++ (((k ++ p) ++ ((l ++ t) ++ ((m ++ f) ++ ((q ++ v) ++ ((r ++ x) ++ []))))) ++ c)) ++ n ≡ ((o ++ k) ++ (p ++ (l ++ t))) ++ ((m ++ (f ++ (q ++ v))) ++ (r ++ (x ++ (c ++ n))))
+flat : (o k p l t m f q v r x c n : List ℕ) → (o ++ (((k ++ p) ++ ((l ++ t) ++ ((m ++ f) ++ ((q ++ v) ++ ((r ++ x) ++ []))))) ++ c)) ++ n
+    ≡ ((o ++ k) ++ (p ++ (l ++ t))) ++ ((m ++ (f ++ (q ++ v))) ++ (r ++ (x ++ (c ++ n))))
 flat o k p l t m f q v r x c n = simp (append_assoc, append-nil)
 
 line_is : (l : Line) → text_of (form_of l) ++ 10 ∷ [] ≡ line_text l
@@ -24,7 +25,8 @@ line_is l =
     let value = value_of l.op l.event.action in
     let t = type_of l.event.action in
     let f = name_of (function_in l.op) in
-    flat (codes "{") (codes ":process ") (decimal l.event.process) (codes ", :type :") t (codes ", :f :") f (codes ", :value ") (text_of (value_form value)) (codes ", :object ") (decimal l.event.object) (codes "}") (10 ∷ [])
+    flat (codes "{") (codes ":process ") (decimal l.event.process) (codes ", :type :") t (codes ", :f :") f (codes ", :value ")
+    (text_of (value_form value)) (codes ", :object ") (decimal l.event.object) (codes "}") (10 ∷ [])
     ∙ ap (λ v. (codes "{:process " ++ (decimal l.event.process ++ (codes ", :type :" ++ t))) ++ ((codes ", :f :" ++ (f ++ (codes ", :value " ++ v))) ++ object_text l.event.object)) (value_is value)
 
 pub texts_are : (ls : List Line) → history_text ls ≡ lines_text ls

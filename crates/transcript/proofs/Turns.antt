@@ -45,7 +45,8 @@ module _ (journals : ℕ → List AnyEvent) (es : List Event) (are : AreEventsOf
   turns_in c = turns c 0 (journals c) (subst (Runs c idle) (are.each c) (own_runs c idle es (runs_from_start es c proper)))
 
   -- two invocations on one object, the one before the other
-  kinds_before : (earlier later : List Event) (e f : Event) (o p : AnyOp) → es ≡ earlier ++ f ∷ later → In e earlier → e.object ≡ f.object → e.action ≡ Invoke o → f.action ≡ Invoke p → kind_of o ≡ kind_of p
+  kinds_before : (earlier later : List Event) (e f : Event) (o p : AnyOp) → es ≡ earlier ++ f ∷ later → In e earlier → e.object ≡ f.object
+      → e.action ≡ Invoke o → f.action ≡ Invoke p → kind_of o ≡ kind_of p
   kinds_before earlier later e f o p is i on invokes also =
       let h : Follows earlier f.process f.object (Invoke p) = subst (Follows earlier f.process f.object) also (proper.each earlier later f is) in
       h.1 e o (contains_from_in earlier e i) on invokes

@@ -1,9 +1,10 @@
 -- The lines of a record: each client event with the operation of its call, and the text of a line.
 use Rattle.std.specs.Prelude.{◌≡◌, ℕ, ◌+◌, ◌<◌, ◌==◌, false, pos, List, [], ◌∷◌, ◌++◌, Option, Some}
 use Rattle.std.specs.Prelude.{None, AllPairs, filter, map, codes}
-use Rattle.edn.specs.Datum.{Datum, nil, boolean, integer, keyword, atom, vector, dictionary, item}
-use Rattle.edn.specs.Datum.{no_items, entry, no_entries}
-use Rattle.edn.specs.Text as edn
+use Rattle.edn_reader.specs.Datum.{Datum, nil, boolean, integer, keyword, atom, vector, dictionary}
+use Rattle.edn_reader.specs.Datum.{item}
+use Rattle.edn_reader.specs.Datum.{no_items, entry, no_entries}
+use Rattle.edn_reader.specs.Text as edn
 use Rattle.model.specs.declared.AnyOp.{AnyOp}
 use Rattle.seq_objects.specs.Functions.{name_of}
 use Rattle.seq_objects.specs.Values.{function_in, op_value, reply_value}

@@ -1,7 +1,7 @@
 -- What is promised of the text of a record's history when it is read.
-use Rattle.std.specs.Prelude.{ℕ, ◌<◌, ◌≤◌, List, All, length, map}
-use Rattle.edn.specs.Datum.{Datum}
-use Rattle.edn.specs.Spells.{Spells}
+use Rattle.std.specs.Prelude.{ℕ, ◌<◌, ◌≤◌, List, All, length, map, ◌+◌}
+use Rattle.edn_reader.specs.Datum.{Datum}
+use Rattle.edn_reader.specs.Spells.{Spells}
 use Rattle.history.specs.Denotes.{Denotes}
 use Rattle.model.specs.declared.Kind.{Kind}
 use Rattle.desk_model.specs.World.{AnyEntry, AnyEvent, ticket_of}
@@ -11,6 +11,7 @@ use Rattle.events.specs.declared.event.Event.{Event}
 use Rattle.edn_fields.specs.Fields.{max_object}
 use Rattle.recorder.specs.Histories.{AreEventsOf, IsRecord}
 use Rattle.transcript.specs.Written.{IsHistoryText}
+use Rattle.desk_model.specs.Limits.{max_calls}
 
 -- the text spells forms that denote these events
 pub record DenotesEvents (text : List ℕ) (es : List Event) : Type 0 where
@@ -32,6 +33,6 @@ WrittenDenotes = (objects : ℕ) (journals : ℕ → List AnyEvent) (logs : ℕ 
 abbrev pub SoundWrittenDenotes : Type 0
 SoundWrittenDenotes =
     (kinds : List Kind) (quota : ℕ) (journals : ℕ → List AnyEvent) (logs : ℕ → List AnyEntry)
-    → IsSoundRecord kinds quota journals logs → quota < 10001 → length kinds ≤ 65536
+    → IsSoundRecord kinds quota journals logs → quota < 1 + max_calls → length kinds ≤ 65536
     → (text : List ℕ) (es : List Event) → IsHistoryText journals text → AreEventsOf journals es
     → DenotesEvents text es

@@ -1,10 +1,11 @@
 //! The text of a record's history.
 
-ghost use Rattle.std.specs.Prelude.{◌≡◌, ◌<◌, ◌^◌, ◌++◌, false, true, codes, decimal, All, IfErr, IfOk, OnOk};
+ghost use Rattle.std.specs.Prelude.{◌≡◌, ◌<◌, ◌^◌, ◌++◌, false, true, codes, decimal, All, IfErr};
+ghost use Rattle.std.specs.Prelude.{IfOk, OnOk};
 ghost use Rattle.std.specs.Fmt.{signed_decimal};
 ghost use Rattle.std.specs.Io.KnownBytes.{Appends, Keeps};
-ghost use Rattle.edn.specs.Sent.{WritesPrefix};
-ghost use Rattle.edn.specs.Text.{InProfile, IsInt64};
+ghost use Rattle.byte_streams.specs.Sent.{WritesPrefix};
+ghost use Rattle.edn_reader.specs.Text.{InProfile, IsInt64};
 ghost use Rattle.recorder.specs.Histories.{journals_in};
 ghost use Rattle.transcript.specs.Lines as spec;
 ghost use Rattle.transcript.specs.Pieces as text;

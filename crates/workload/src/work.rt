@@ -1,7 +1,8 @@
 //! What the clients of a desk are to call.
 
-ghost use Rattle.std.specs.Prelude.{◌≡◌, ◌<◌, ◌≤◌, ℕ, length, All};
+ghost use Rattle.std.specs.Prelude.{◌≡◌, ◌<◌, ◌≤◌, ℕ, length, All, ◌+◌};
 ghost use Rattle.workload.specs.Workloads.{calls_at, IsCall};
+ghost use Rattle.desk_model.specs.Limits.{max_objects, max_clients, max_calls};
 
 use model::{AnyOp, Kind};
 use std::marker::Model;
@@ -31,7 +32,7 @@ impl Workload {
     pub fn kinds(&self) -> &[Kind]
         ensures kinds { result.now ≡ self.now.kinds }
         ensures some { 0 < length self.now.kinds }
-        ensures few { length self.now.kinds < 17 }
+        ensures few { length self.now.kinds < 1 + max_objects }
     {
         &self.kinds
     }
@@ -40,7 +41,7 @@ impl Workload {
     pub fn clients(&self) -> u32
         ensures clients { result ≡ length self.now.calls }
         ensures some { 0 < result }
-        ensures few { result < 33 }
+        ensures few { result < 1 + max_clients }
     {
         self.calls.len() as u32
     }
@@ -50,7 +51,7 @@ impl Workload {
         requires { client < length self.now.calls }
         ensures calls { result.now ≡ calls_at self.now client }
         ensures fit { All (IsCall self.now.kinds) result.now }
-        ensures few { length result.now < 10001 }
+        ensures few { length result.now < 1 + max_calls }
     {
         &self.calls[client as usize]
     }
@@ -59,7 +60,7 @@ impl Workload {
     pub fn quota(&self) -> u32
         ensures enough { (c : ℕ) → c < length self.now.calls
             → length (calls_at self.now c) ≤ result }
-        ensures few { result < 10001 }
+        ensures few { result < 1 + max_calls }
     {
         let mut most = 0;
         for client in 0..self.clients() {

@@ -1,6 +1,6 @@
 use Rattle.std.proofs.Common.{◌≡◌, drop}
-use Rattle.edn.specs.Datum.{entries_of}
-use Rattle.edn.specs.View.{pair_views}
+use Rattle.edn_reader.specs.Datum.{entries_of}
+use Rattle.edn_reader.specs.View.{pair_views}
 use Rattle.edn_fields.specs.Fields as spec
 use Rattle.edn_fields.proofs.value_at.Given as goal
 

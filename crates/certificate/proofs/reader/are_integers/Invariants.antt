@@ -1,8 +1,8 @@
 use Rattle.std.proofs.Common.{◌≡◌, drop}
 use Rattle.std.specs.Prelude.{is_some}
-use Rattle.edn.specs.Truncation.{integers_in}
-use Rattle.edn.specs.Datum.{items_of}
-use Rattle.edn.specs.View.{views}
+use Rattle.edn_reader.specs.Truncation.{integers_in}
+use Rattle.edn_reader.specs.Datum.{items_of}
+use Rattle.edn_reader.specs.View.{views}
 use Rattle.certificate.proofs.reader.are_integers.Given as goal
 
 abbrev pub invariant-loop-form : goal.invariant-loop-form

@@ -1,7 +1,7 @@
 use Rattle.std.proofs.Common.{◌≡◌, drop}
-use Rattle.edn.specs.Truncation.{integers_in}
-use Rattle.edn.specs.Datum.{items_of}
-use Rattle.edn.specs.View.{views}
+use Rattle.edn_reader.specs.Truncation.{integers_in}
+use Rattle.edn_reader.specs.Datum.{items_of}
+use Rattle.edn_reader.specs.View.{views}
 use Rattle.certificate.proofs.Reading.{integers_behind}
 use Rattle.certificate.proofs.reader.integers_of.Given as goal
 

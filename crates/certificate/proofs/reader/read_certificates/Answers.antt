@@ -1,8 +1,8 @@
 use Rattle.std.proofs.Common.{◌≡◌, ◌<◌, List, length, take, get_or, ap, subst, ◌∙◌, arith}
 use Rattle.std.specs.Ordering.{nat_cmp}
 use Rattle.std.specs.BTreeSet.{contains}
-use Rattle.edn.specs.View.{view, views}
-use Rattle.edn.specs.declared.form.Form.{Form}
+use Rattle.edn_reader.specs.View.{view, views}
+use Rattle.edn_reader.specs.declared.form.Form.{Form}
 use Rattle.certificate.specs.Denotes.{reading_of}
 use Rattle.certificate.specs.Inside.{IsFaultAmong}
 use Rattle.certificate.proofs.Reading.{first_fault, sound_at, not_denoted, one_more_read, taken_one_more}
@@ -34,7 +34,8 @@ returns-in-Err-push-clause-memory c = λ _.
     let f = c.form-item.result in
     let lt : c.loop-place.place < length fs = omega (arith, ap length c.deref-form-items.ensures.value) in
     let is : f ≡ get_or fs c.loop-place.place f = c.form-item.is ∙ ap (λ (xs : List Form). get_or xs c.loop-place.place f) c.deref-form-items.ensures.value in
-    sound_at fs c.loop-place.place f c.loop-place.certificates.items (contains nat_cmp c.loop-place.objects) (reading_of c.in-Ok.certificate) lt is c.loop-place.invariant c.in-Ok.ensures.own c.in-Ok.ensures.new
+    sound_at fs c.loop-place.place f c.loop-place.certificates.items (contains nat_cmp c.loop-place.objects) (reading_of c.in-Ok.certificate) lt
+    is c.loop-place.invariant c.in-Ok.ensures.own c.in-Ok.ensures.new
 
 pub loop-place-preserved : goal.loop-place-preserved
 loop-place-preserved c =
@@ -43,5 +44,6 @@ loop-place-preserved c =
     let lt : c.loop-place.place < length fs = omega (arith, ap length c.deref-form-items.ensures.value) in
     let is : f ≡ get_or fs c.loop-place.place f = c.form-item.is ∙ ap (λ (xs : List Form). get_or xs c.loop-place.place f) c.deref-form-items.ensures.value in
     rw (taken_one_more fs c.loop-place.place f lt is, c.in-Ok-push.ensures.items)
-    (one_more_read (views (take c.loop-place.place fs)) c.loop-place.certificates.items (contains nat_cmp c.loop-place.objects) (contains nat_cmp c.next_certificate.new.objects) (view f) c.in-Ok.certificate c.loop-place.invariant
+    (one_more_read (views (take c.loop-place.place fs)) c.loop-place.certificates.items (contains nat_cmp c.loop-place.objects)
+    (contains nat_cmp c.next_certificate.new.objects) (view f) c.in-Ok.certificate c.loop-place.invariant
     c.in-Ok.ensures.own c.in-Ok.ensures.new c.in-Ok.ensures.among)

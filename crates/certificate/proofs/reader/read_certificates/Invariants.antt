@@ -1,7 +1,7 @@
 use Rattle.std.proofs.Common.{take}
 use Rattle.std.specs.Ordering.{nat_cmp}
 use Rattle.std.specs.BTreeSet.{contains}
-use Rattle.edn.specs.View.{views}
+use Rattle.edn_reader.specs.View.{views}
 use Rattle.certificate.specs.Inside.{AreRead}
 use Rattle.certificate.proofs.reader.read_certificates.Given as goal
 

@@ -1,5 +1,5 @@
 use Rattle.std.proofs.Common.{ap, ◌∙◌}
-use Rattle.edn.specs.Truncation.{truncated}
+use Rattle.edn_reader.specs.Truncation.{truncated}
 use Rattle.edn_fields.specs.Fields.{object_in}
 use Rattle.certificate.proofs.Orders.{object_is}
 use Rattle.certificate.proofs.text_reader.object_on.Goals as goal

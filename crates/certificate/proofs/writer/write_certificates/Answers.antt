@@ -1,8 +1,8 @@
 use Rattle.std.proofs.Common.{rules, arith, subst}
 use Rattle.std.proofs.lemmas.List.{take_all}
-use Rattle.edn.specs.Text.{IsInt64}
+use Rattle.edn_reader.specs.Text.{IsInt64}
 use Rattle.std.specs.List.{AllByRecursion}
-use Rattle.edn.proofs.Fronts.{within, further, fails}
+use Rattle.edn_writer.proofs.Fronts.{within, further, fails}
 use Rattle.certificate.specs.Lines.{lines_of}
 use Rattle.certificate.specs.declared.Certificate.{Certificate}
 use Rattle.certificate.proofs.Writing.{lines_left, lines_spell, all_taken_item, InProfiles}
@@ -27,7 +27,8 @@ loop-certificate-preserved g c =
       done = f.0;
       parts = f.1;
       sent = f.2;
-      in_profile = all_taken_item (λ (x : Certificate). AllByRecursion IsInt64 x.order.items) cs l.certificate-index c.certificate-item.result c.loop-certificate-test.true c.certificate-item.is l.invariant.in_profile c.in_ok-write_line.ensures.in_range;
+      in_profile = all_taken_item (λ (x : Certificate). AllByRecursion IsInt64 x.order.items) cs l.certificate-index c.certificate-item.result
+          c.loop-certificate-test.true c.certificate-item.is l.invariant.in_profile c.in_ok-write_line.ensures.in_range;
     }
 
 pub returns-clause-spelled : goal.returns-clause-spelled

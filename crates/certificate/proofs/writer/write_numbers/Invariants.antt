@@ -1,7 +1,7 @@
 use Rattle.std.proofs.Common.{◌≡◌, ℕ, List, ◌++◌, take, drop, false, true}
 use Rattle.std.specs.Io.KnownBytes.{Appends}
 use Rattle.std.specs.List.{AllByRecursion}
-use Rattle.edn.specs.Text.{IsInt64}
+use Rattle.edn_reader.specs.Text.{IsInt64}
 use Rattle.certificate.specs.Lines.{numbers_text}
 use Rattle.certificate.proofs.writer.write_numbers.Given as goal
 

@@ -11,15 +11,18 @@ use Rattle.checker.proofs.all.check_all.Goals.{In_err-check_piece, After-strange
 
 pub loop-object-init : goal.loop-object-init
 loop-object-init c = record {
-  objects = are_objects c.args.history.now c.deref-object-items.result.now c.in-Ok.objects.items c.deref-object-items.ensures.value c.in-Ok.ensures.rising c.in-Ok.ensures.named c.in-Ok.ensures.kinds c.in-Ok.ensures.calls;
+  objects = are_objects c.args.history.now c.deref-object-items.result.now c.in-Ok.objects.items c.deref-object-items.ensures.value
+      c.in-Ok.ensures.rising c.in-Ok.ensures.named c.in-Ok.ensures.kinds c.in-Ok.ensures.calls;
   fine = λ o i. absurd i;
 }
 
 -- the refusal of the object at hand is the first
-first : (c : In_err-check_piece) → IsFirstRefusal c.args.history.now c.args.certificates.now c.in_err-check_piece.field-0.0 × (AreValid c.args.history.now c.args.certificates.now → c.in_err-check_piece.field-0.0 ≡ NoMemory)
+first : (c : In_err-check_piece) → IsFirstRefusal c.args.history.now c.args.certificates.now c.in_err-check_piece.field-0.0
+    × (AreValid c.args.history.now c.args.certificates.now → c.in_err-check_piece.field-0.0 ≡ NoMemory)
 first c =
     let l = c.loop-object in
-    next_is_first c.args.history.now c.args.certificates.now c.deref-object-items.result.now l.object-index c.object-item.result c.in_err-check_piece.field-0.0 c.requires l.invariant.objects l.invariant.fine c.loop-object-test.true c.object-item.is c.in_err-check_piece.ensures.refused
+    next_is_first c.args.history.now c.args.certificates.now c.deref-object-items.result.now l.object-index c.object-item.result
+    c.in_err-check_piece.field-0.0 c.requires l.invariant.objects l.invariant.fine c.loop-object-test.true c.object-item.is c.in_err-check_piece.ensures.refused
 
 pub returns-in_err-check_piece-clause-refused : goal.returns-in_err-check_piece-clause-refused
 returns-in_err-check_piece-clause-refused c =
@@ -56,7 +59,8 @@ returns-in-Some-clause-refused c =
     let certificates = c.args.certificates.now in
     let x = c.in-Some.object in
     let d = (goal.at.returns-in-Some-clause-refused c).After-strange_object in
-    least_strange c.args.history.now certificates c.deref-object-items.result.now x c.requires c.loop-object.invariant.objects (checked d) (subst (λ os. IsLeastBesides (map (λ (o : ObjectCalls). o.object) os) certificates x) (same_objects d) c.in-Some.ensures.least)
+    least_strange c.args.history.now certificates c.deref-object-items.result.now x c.requires c.loop-object.invariant.objects (checked d)
+    (subst (λ os. IsLeastBesides (map (λ (o : ObjectCalls). o.object) os) certificates x) (same_objects d) c.in-Some.ensures.least)
 
 pub returns-in-Some-clause-exact : goal.returns-in-Some-clause-exact
 returns-in-Some-clause-exact c = λ valid. absurd (strange_is_not_valid c.args.history.now c.args.certificates.now c.in-Some.object (returns-in-Some-clause-refused c) valid)
@@ -65,7 +69,8 @@ pub returns-clause-valid : goal.returns-clause-valid
 returns-clause-valid c =
     let certificates = c.args.certificates.now in
     let d = (goal.at.returns-clause-valid c).After-strange_object in
-    all_valid c.args.history.now certificates c.deref-object-items.result.now c.loop-object.invariant.objects (checked d) (subst (λ os. AreForThese (map (λ (o : ObjectCalls). o.object) os) certificates) (same_objects d) c.in-None.ensures.none)
+    all_valid c.args.history.now certificates c.deref-object-items.result.now c.loop-object.invariant.objects (checked d)
+    (subst (λ os. AreForThese (map (λ (o : ObjectCalls). o.object) os) certificates) (same_objects d) c.in-None.ensures.none)
 
 pub returns-in_err-check_piece-clause-answer : goal.returns-in_err-check_piece-clause-answer
 returns-in_err-check_piece-clause-answer c =

@@ -30,10 +30,12 @@ pub returns-clause-fine : goal.returns-clause-fine
 returns-clause-fine c =
     let o = c.args.object.now in
     let p = here (goal.at.returns-clause-fine c).In-Some in
-    fine_here o.kind (calls_of o.ops) c.args.certificates.now o.object c.in-Some.place c.index-certificates-place.result c.check_object.result p c.index-certificates-place.is c.check_object.ensures.valid c.check_object.ensures.faultless
+    fine_here o.kind (calls_of o.ops) c.args.certificates.now o.object c.in-Some.place c.index-certificates-place.result c.check_object.result p
+    c.index-certificates-place.is c.check_object.ensures.valid c.check_object.ensures.faultless
 
 pub returns-clause-refused : goal.returns-clause-refused
 returns-clause-refused c =
     let o = c.args.object.now in
     let p = here (goal.at.returns-clause-refused c).In-Some in
-    refused_here o.kind (calls_of o.ops) c.args.certificates.now o.object c.in-Some.place c.index-certificates-place.result c.check_object.result p c.index-certificates-place.is c.check_object.ensures.refused c.check_object.ensures.exact
+    refused_here o.kind (calls_of o.ops) c.args.certificates.now o.object c.in-Some.place c.index-certificates-place.result c.check_object.result p
+    c.index-certificates-place.is c.check_object.ensures.refused c.check_object.ensures.exact

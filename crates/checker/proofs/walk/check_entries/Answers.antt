@@ -19,7 +19,8 @@ entry_at : (o : List ℤ) (i : ℕ) → i < length o → entry o i ≡ get_or o 
 entry_at o i l e = slice_get-get_or o i (pos 0) l ∙ ap Some (sym e)
 
 -- the entry at hand is that of an operation, where the walk has not been
-here : (g : Over) (c : After-late_by g) → IsHere c.args.kind c.args.ops.now c.args.order.now c.loop-entry.entry-index c.loop-entry.seen.items (g.S.SeqObject.content c.loop-entry.object) c.loop-entry.greatest (entry c.args.order.now c.loop-entry.entry-index) c.in-Some.k c.in-Some.ensures.some.1.0
+here : (g : Over) (c : After-late_by g) → IsHere c.args.kind c.args.ops.now c.args.order.now c.loop-entry.entry-index c.loop-entry.seen.items
+    (g.S.SeqObject.content c.loop-entry.object) c.loop-entry.greatest (entry c.args.order.now c.loop-entry.entry-index) c.in-Some.k c.in-Some.ensures.some.1.0
 here g c =
     let s = c.in-Some.ensures.some in
     let w = c.loop-entry.invariant in
@@ -70,7 +71,8 @@ pub loop-entry-preserved : goal.loop-entry-preserved
 loop-entry-preserved g c =
     let h = here g (goal.at.loop-entry-preserved g c).After-late_by in
     let done = c.in-Ok-apply.ensures.ok ∙ ap (λ (r : AnyReply). Some (g.S.SeqObject.content c.apply.new.self, r)) (c.requires.own_replies c.in-Ok-apply.gives) in
-    next_at _ _ _ _ _ _ _ _ _ _ _ _ _ _ _ c.requires.rising h c.loop-entry-test.true (omega (arith, ints)) c.in_default-late_by.ensures (c.requires.own_ops _) done c.if-differs.ensures c.in-Ok-apply.ensures.kind c.raised.ensures
+    next_at _ _ _ _ _ _ _ _ _ _ _ _ _ _ _ c.requires.rising h c.loop-entry-test.true (omega (arith, ints)) c.in_default-late_by.ensures
+    (c.requires.own_ops _) done c.if-differs.ensures c.in-Ok-apply.ensures.kind c.raised.ensures
 
 pub returns-in-Some-omitted-clause-refused : goal.returns-in-Some-omitted-clause-refused
 returns-in-Some-omitted-clause-refused g c =

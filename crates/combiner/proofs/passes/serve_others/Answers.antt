@@ -13,7 +13,15 @@ goes_tried a p q r before step is = subst (λ z. Goes a z) (sym is) (goes_on a p
 
 pub loop-at-preserved : goal.loop-at-preserved
 loop-at-preserved g c = let n = c.loop-at.invariant.1 in elim c.if-row-own.branch [
-  | then-row-own+then-eq w ↦ (goes_tried c.args.pass c.loop-at.pass w.try_row-after.result.0 c.if-row-own.pass c.loop-at.invariant.0 w.try_row-after.ensures.goes w.pass-is, (let i = w.count-is in omega arith))
-  | then-row-own+else-eq w ↦ (goes_tried c.args.pass c.loop-at.pass w.try_row-after.result.0 c.if-row-own.pass c.loop-at.invariant.0 w.try_row-after.ensures.goes w.pass-is, (let i = w.count-is in omega arith))
+  | then-row-own+then-eq w ↦ (
+    goes_tried c.args.pass c.loop-at.pass w.try_row-after.result.0 c.if-row-own.pass c.loop-at.invariant.0
+        w.try_row-after.ensures.goes w.pass-is,
+    (let i = w.count-is in omega arith),
+  )
+  | then-row-own+else-eq w ↦ (
+    goes_tried c.args.pass c.loop-at.pass w.try_row-after.result.0 c.if-row-own.pass c.loop-at.invariant.0
+        w.try_row-after.ensures.goes w.pass-is,
+    (let i = w.count-is in omega arith),
+  )
   | else-row-own w ↦ (subst (λ z. Goes c.args.pass z) (sym w.pass-is) c.loop-at.invariant.0, (let i = w.count-is in omega arith))
 ]

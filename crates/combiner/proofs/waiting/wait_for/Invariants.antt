@@ -3,4 +3,5 @@ use Rattle.combiner.specs.Passes.{KeepsCalls}
 use Rattle.combiner.proofs.waiting.wait_for.Given as goal
 
 abbrev pub invariant-loop : goal.invariant-loop
-invariant-loop g l = (goal.iterator-loop g).can_next l.iterator' × (goal.iterator-loop g).is_finite l.iterator' × (l.client.desk ≡ l.initial.client.desk) × KeepsCalls l.initial.client.knows l.client.knows
+invariant-loop g l = (goal.iterator-loop g).can_next l.iterator' × (goal.iterator-loop g).is_finite l.iterator'
+    × (l.client.desk ≡ l.initial.client.desk) × KeepsCalls l.initial.client.knows l.client.knows

@@ -1,4 +1,4 @@
-use Rattle.edn.proofs.Fronts.{further}
+use Rattle.edn_writer.proofs.Fronts.{further}
 use Rattle.commands.specs.Runs.{commented}
 use Rattle.commands.proofs.Reports.{comments_left}
 use Rattle.commands.proofs.comments.write_comments.Goals as goal

@@ -1,6 +1,6 @@
 use Rattle.std.specs.Io.KnownBytes.{Appends}
 use Rattle.std.proofs.lemmas.Result.{IfOk-weaker}
-use Rattle.edn.specs.Sent.{WritesPrefix}
+use Rattle.byte_streams.specs.Sent.{WritesPrefix}
 use Rattle.commands.specs.Findings.{AreFoundIn}
 use Rattle.commands.specs.Searches.{IsUnsearched}
 use Rattle.commands.proofs.Outputs.{front, written}

@@ -1,7 +1,7 @@
 use Rattle.std.proofs.Common.{◌∙◌, sym}
 use Rattle.std.specs.Io.KnownBytes.{Appends}
 use Rattle.std.proofs.lemmas.Result.{IfOk-weaker}
-use Rattle.edn.specs.Sent.{WritesPrefix}
+use Rattle.byte_streams.specs.Sent.{WritesPrefix}
 use Rattle.commands.specs.Judged.{IsOpenText, IsVerdictOnText}
 use Rattle.commands.proofs.Outputs.{front, written}
 use Rattle.commands.proofs.Answering.{never_failed}

@@ -1,5 +1,5 @@
 use Rattle.std.proofs.Common.{List, ℕ, ◌++◌, codes, inl, inr, refl, subst, true}
-use Rattle.edn.specs.Sent.{WritesPrefix}
+use Rattle.byte_streams.specs.Sent.{WritesPrefix}
 use Rattle.report.specs.Lines.{verdict_text}
 use Rattle.commands.specs.Runs.{IsReported, journals_of, logs_of}
 use Rattle.commands.specs.Statuses.{status_of}

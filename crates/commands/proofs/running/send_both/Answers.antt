@@ -1,8 +1,8 @@
 use Rattle.std.proofs.Common.{rules, true}
 use Rattle.std.specs.Io.KnownBytes.{Appends}
 use Rattle.std.proofs.KnownBytes.{Appends-trans}
-use Rattle.edn.specs.Sent.{WritesPrefix}
-use Rattle.edn.proofs.Fronts.{front_of_first, front_behind}
+use Rattle.byte_streams.specs.Sent.{WritesPrefix}
+use Rattle.edn_writer.proofs.Fronts.{front_of_first, front_behind}
 use Rattle.report.specs.Lines.{verdict_text}
 use Rattle.commands.proofs.running.send_both.Goals as goal
 

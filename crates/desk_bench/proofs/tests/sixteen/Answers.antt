@@ -11,5 +11,6 @@ loop-object-preserved c = let i = c.loop-object.invariant in let p = c.push_rese
   omega arith,
   omega arith,
   search rules,
-  subst (All (λ (o : AnyObject). content_of o ≡ empty (kind_with (content_of o)))) (sym p.items) (All-push (λ (o : AnyObject). content_of o ≡ empty (kind_with (content_of o))) c.loop-object.objects.items c.empty.result i.3 (is_empty _ _ c.empty.ensures)),
+  subst (All (λ (o : AnyObject). content_of o ≡ empty (kind_with (content_of o)))) (sym p.items)
+      (All-push (λ (o : AnyObject). content_of o ≡ empty (kind_with (content_of o))) c.loop-object.objects.items c.empty.result i.3 (is_empty _ _ c.empty.ensures)),
 )

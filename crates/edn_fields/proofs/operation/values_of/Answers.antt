@@ -1,5 +1,5 @@
 use Rattle.std.proofs.Common.{sym, ◌∙◌}
-use Rattle.edn.specs.Pieces.{token_buffer_tokens}
+use Rattle.edn_reader.specs.Pieces.{token_buffer_tokens}
 use Rattle.edn_fields.proofs.Operating.{is_map}
 use Rattle.edn_fields.proofs.operation.values_of.Goals as goal
 

@@ -1,7 +1,7 @@
 use Rattle.std.proofs.Common.{◌≡◌, [], ◌∷◌, ◌++◌, length}
-use Rattle.edn.specs.Datum.{Entries}
-use Rattle.edn.specs.Token.{close_map, entries_tokens}
-use Rattle.edn.specs.Pieces.{token_buffer_tokens}
+use Rattle.edn_reader.specs.Datum.{Entries}
+use Rattle.edn_reader.specs.Token.{close_map, entries_tokens}
+use Rattle.edn_reader.specs.Pieces.{token_buffer_tokens}
 use Rattle.edn_fields.proofs.Seeking.{Left}
 use Rattle.edn_fields.proofs.seek.value_behind.Given as goal
 

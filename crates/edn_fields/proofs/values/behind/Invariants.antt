@@ -1,5 +1,5 @@
 use Rattle.std.proofs.Common.{◌≡◌, ◌+◌, ◌≤◌, length}
-use Rattle.edn.specs.Pieces.{token_buffer_tokens}
+use Rattle.edn_reader.specs.Pieces.{token_buffer_tokens}
 use Rattle.edn_fields.specs.Values.{behind}
 use Rattle.edn_fields.proofs.values.behind.Given as goal
 

@@ -1,17 +1,20 @@
 use Rattle.std.proofs.Common.{ap, ◌∙◌}
-use Rattle.edn.specs.Truncation.{Keeping, kept_of}
-use Rattle.edn.specs.Token.{tokens_of}
-use Rattle.edn.specs.Left.{left_of, start_of, keeping_in, tokens_in, integer_vector_in}
-use Rattle.edn.proofs.Following.{along_more, along_spells, reads_some, reads_none, sound_behind, unreadable_behind}
+use Rattle.edn_reader.specs.Truncation.{Keeping, kept_of}
+use Rattle.edn_reader.specs.Token.{tokens_of}
+use Rattle.edn_reader.specs.Left.{left_of, start_of, keeping_in, tokens_in, integer_vector_in}
+use Rattle.edn_reader.proofs.Following.{along_more, along_spells, reads_some, reads_none, sound_behind, unreadable_behind}
 use Rattle.history.specs.Texts.{IsReading}
 use Rattle.history.proofs.text_reader.read_history_text.Goals as goal
 
 pub elements-preserved : goal.elements-preserved
 elements-preserved c =
-    let e = reads_some (keeping_in c.elements.elements) c.in-Ok-true.field-0 (left_of c.elements.elements) (tokens_in c.advance.new.self) (integer_vector_in c.advance.new.self) (left_of c.advance.new.self) c.in-Ok-true.field-0-test c.in-Ok-true.ensures.reads in
+    let e = reads_some (keeping_in c.elements.elements) c.in-Ok-true.field-0 (left_of c.elements.elements) (tokens_in c.advance.new.self)
+    (integer_vector_in c.advance.new.self) (left_of c.advance.new.self) c.in-Ok-true.field-0-test c.in-Ok-true.ensures.reads in
     record {
-      along = along_more (keeping_in c.elements.elements) (IsReading c.elements.reading) (IsReading c.take.new.self) c.args.text.now (left_of c.elements.elements) (left_of c.advance.new.self) (start_of c.elements.elements) (start_of c.advance.new.self)
-          (tokens_in c.advance.new.self) (integer_vector_in c.advance.new.self) e c.in-Ok-true.ensures.moves (λ ds d q _ h. c.take.ensures ds d (c.pieces.ensures ∙ q ∙ ap (λ (k : Keeping). tokens_of (kept_of k.cuts d)) c.elements.invariant.keeps) h) c.elements.invariant.along;
+      along = along_more (keeping_in c.elements.elements) (IsReading c.elements.reading) (IsReading c.take.new.self) c.args.text.now
+          (left_of c.elements.elements) (left_of c.advance.new.self) (start_of c.elements.elements) (start_of c.advance.new.self)
+          (tokens_in c.advance.new.self) (integer_vector_in c.advance.new.self) e c.in-Ok-true.ensures.moves
+          (λ ds d q _ h. c.take.ensures ds d (c.pieces.ensures ∙ q ∙ ap (λ (k : Keeping). tokens_of (kept_of k.cuts d)) c.elements.invariant.keeps) h) c.elements.invariant.along;
       short = c.elements.invariant.short;
       utf8 = c.elements.invariant.utf8;
       keeps = c.in-Ok-true.ensures.keeps ∙ c.elements.invariant.keeps;
@@ -20,19 +23,30 @@ elements-preserved c =
 pub returns-in-Ok-finish-clause-denotes : goal.returns-in-Ok-finish-clause-denotes
 returns-in-Ok-finish-clause-denotes c =
     let a = c.elements.invariant.along in
-    let n = reads_none (keeping_in c.elements.elements) c.in-Ok-false.field-0 (left_of c.elements.elements) (tokens_in c.advance.new.self) (integer_vector_in c.advance.new.self) (left_of c.advance.new.self) c.in-Ok-false.field-0-test c.in-Ok-false.ensures.reads in
+    let n = reads_none (keeping_in c.elements.elements) c.in-Ok-false.field-0 (left_of c.elements.elements) (tokens_in c.advance.new.self)
+    (integer_vector_in c.advance.new.self) (left_of c.advance.new.self) c.in-Ok-false.field-0-test c.in-Ok-false.ensures.reads in
     (a.forms, along_spells (IsReading c.elements.reading) c.args.text.now (left_of c.elements.elements) (start_of c.elements.elements) a n, c.in-Ok-finish.ensures a.forms a.holds)
 
 pub returns-in-Err-finish-clause-fault : goal.returns-in-Err-finish-clause-fault
 returns-in-Err-finish-clause-fault c =
     let a = c.elements.invariant.along in
-    let n = reads_none (keeping_in c.elements.elements) c.in-Ok-false.field-0 (left_of c.elements.elements) (tokens_in c.advance.new.self) (integer_vector_in c.advance.new.self) (left_of c.advance.new.self) c.in-Ok-false.field-0-test c.in-Ok-false.ensures.reads in
-    (c.elements.invariant.short, a.forms, along_spells (IsReading c.elements.reading) c.args.text.now (left_of c.elements.elements) (start_of c.elements.elements) a n, c.in-Err-finish.ensures a.forms a.holds)
+    let n = reads_none (keeping_in c.elements.elements) c.in-Ok-false.field-0 (left_of c.elements.elements) (tokens_in c.advance.new.self)
+    (integer_vector_in c.advance.new.self) (left_of c.advance.new.self) c.in-Ok-false.field-0-test c.in-Ok-false.ensures.reads in (
+      c.elements.invariant.short,
+      a.forms,
+      along_spells (IsReading c.elements.reading) c.args.text.now (left_of c.elements.elements)
+          (start_of c.elements.elements) a n,
+      c.in-Err-finish.ensures a.forms a.holds,
+    )
 
 pub returns-in-Err-advance-clause-fault : goal.returns-in-Err-advance-clause-fault
 returns-in-Err-advance-clause-fault c =
     let a = c.elements.invariant.along in
     let e = c.in-Err-advance.ensures in (
       unreadable_behind (IsReading c.elements.reading) c.args.text.now (left_of c.elements.elements) (start_of c.elements.elements) c.in-Err-advance.fault c.elements.invariant.short a e.short e.none,
-      λ m. (c.elements.invariant.short, sound_behind c.args.text.now (left_of c.elements.elements) a.forms (start_of c.elements.elements) c.in-Err-advance.fault.place c.elements.invariant.utf8 a.front a.place (e.memory m)),
+      λ m. (
+        c.elements.invariant.short,
+        sound_behind c.args.text.now (left_of c.elements.elements) a.forms (start_of c.elements.elements)
+            c.in-Err-advance.fault.place c.elements.invariant.utf8 a.front a.place (e.memory m),
+      ),
     )

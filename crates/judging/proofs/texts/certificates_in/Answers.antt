@@ -1,5 +1,5 @@
 use Rattle.std.proofs.Common.{subst}
-use Rattle.edn.proofs.Progress.{one_reading_of}
+use Rattle.edn_reader.proofs.Progress.{one_reading_of}
 use Rattle.certificate.specs.Texts.{IsTextFault}
 use Rattle.judging.proofs.Accepting.{one_meaning}
 use Rattle.judging.proofs.Reading.{stopped_forms, certificates_for_memory}

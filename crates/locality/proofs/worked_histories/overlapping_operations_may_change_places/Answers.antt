@@ -3,4 +3,9 @@ use Rattle.locality.proofs.WorkedOrders.{overlapping_enqueues-history, overlappi
 use Rattle.locality.proofs.worked_histories.overlapping_operations_may_change_places.Goals as goal
 
 pub returns : goal.returns
-returns c = record { history = overlapping_enqueues-history; valid = overlapping_enqueues-valid; linearizable = overlapping_enqueues-linearizable; refuses_wrong_reply = overlapping_enqueues-wrong_reply }
+returns c = record {
+  history = overlapping_enqueues-history;
+  valid = overlapping_enqueues-valid;
+  linearizable = overlapping_enqueues-linearizable;
+  refuses_wrong_reply = overlapping_enqueues-wrong_reply;
+}

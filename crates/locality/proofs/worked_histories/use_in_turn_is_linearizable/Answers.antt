@@ -3,4 +3,12 @@ use Rattle.locality.proofs.WorkedOrders.{enqueued_then_dequeued-history, enqueue
 use Rattle.locality.proofs.worked_histories.use_in_turn_is_linearizable.Goals as goal
 
 pub returns : goal.returns
-returns c = record { history = enqueued_then_dequeued-history; valid = enqueued_then_dequeued-valid; linearizable = enqueued_then_dequeued-linearizable; refuses_repeated = enqueued_then_dequeued-repeated; refuses_omitted = enqueued_then_dequeued-omitted; refuses_unknown = enqueued_then_dequeued-unknown }
+returns c = record {
+  history = enqueued_then_dequeued-history;
+  valid = enqueued_then_dequeued-valid;
+  linearizable =
+      enqueued_then_dequeued-linearizable;
+  refuses_repeated = enqueued_then_dequeued-repeated;
+  refuses_omitted = enqueued_then_dequeued-omitted;
+  refuses_unknown = enqueued_then_dequeued-unknown;
+}

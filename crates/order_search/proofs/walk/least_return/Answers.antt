@@ -29,7 +29,10 @@ loop-at-preserved c = λ done link.
     let t = c.loop-at-test.true in
     let at = c.loop-at.at in
     let s = next_stop (length c.args.trials.now.items.items) done nx c.args.undone.now.before.items at link m.1 (omega arith) in
-    least_step c.args.trials.now.items.items c.index-in-loop-at-2.result.now done nx c.args.undone.now.before.items at c.index-in-loop-at-3.result.now c.loop-at.least c.earlier-least.result link m (omega arith) (ap as_call c.index-in-loop-at-2.ensures ∙ call_read c.args.trials.now.items.items at _ (omega arith)) (c.index-in-loop-at-3.ensures ∙ get_or_default nx (at + 1) _ 0 s.1) c.earlier-least.ensures.below c.earlier-least.ensures.own c.earlier-least.ensures.either
+    least_step c.args.trials.now.items.items c.index-in-loop-at-2.result.now done nx c.args.undone.now.before.items at c.index-in-loop-at-3.result.now
+    c.loop-at.least c.earlier-least.result link m (omega arith)
+    (ap as_call c.index-in-loop-at-2.ensures ∙ call_read c.args.trials.now.items.items at _ (omega arith))
+    (c.index-in-loop-at-3.ensures ∙ get_or_default nx (at + 1) _ 0 s.1) c.earlier-least.ensures.below c.earlier-least.ensures.own c.earlier-least.ensures.either
 
 pub returns-else-index-least : goal.returns-else-index-least
 returns-else-index-least c = λ done link.

@@ -13,5 +13,7 @@ returns-then-are_used_alike c =
 
 pub returns-else-are_used_alike : goal.returns-else-are_used_alike
 returns-else-are_used_alike c =
-    let there = sym c.are_used_alike.ensures ∙ c.if-are_used_alike.false in
-    (λ e. let yes_too : c.are_used_alike.result ≡ true = search rules in absurd (false≢true (sym c.if-are_used_alike.false ∙ yes_too)), λ e. absurd (false≢true (sym there ∙ alike_from_same c.args.left.now c.args.right.now c.args.left.now e)))
+    let there = sym c.are_used_alike.ensures ∙ c.if-are_used_alike.false in (
+      λ e. let yes_too : c.are_used_alike.result ≡ true = search rules in absurd (false≢true (sym c.if-are_used_alike.false ∙ yes_too)),
+      λ e. absurd (false≢true (sym there ∙ alike_from_same c.args.left.now c.args.right.now c.args.left.now e)),
+    )

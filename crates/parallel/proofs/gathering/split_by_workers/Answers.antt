@@ -23,6 +23,8 @@ returns g c =
     let ok = c.in_ok-found.found.ok in
     let len = c.in_ok-found.ensures.len in
     let long : length rs ≡ c.args.workers = omega (arith, ok, len) in
-    let parts : ArePartsOf (λ v. v.items) es rs = λ i d l. subst (λ n. IfOk (get_or rs i d) (λ v. IsPart es i n v.items)) (sym long) (c.in_ok-found.ensures.each i d (subst (λ n. i < n) long l)).1.met in
+    let parts : ArePartsOf (λ v. v.items) es rs =
+    λ i d l. subst (λ n. IfOk (get_or rs i d) (λ v. IsPart es i n v.items)) (sym long) (c.in_ok-found.ensures.each i d (subst (λ n. i < n) long l)).1.met in
     let gives = c.into_iter-object-iterator.ensures.into_iter_gives in
-    all_listed es c.in_ok-sorted.sorted c.into_iter-object-iterator.result _ c.loop-object.objects.items gives.5 (c.in_ok-sorted.ensures es parts) gives.0 c.in-None.ensures.steps.0 c.loop-object.invariant
+    all_listed es c.in_ok-sorted.sorted c.into_iter-object-iterator.result _ c.loop-object.objects.items gives.5 (c.in_ok-sorted.ensures es parts)
+    gives.0 c.in-None.ensures.steps.0 c.loop-object.invariant

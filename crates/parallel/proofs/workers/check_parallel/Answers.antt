@@ -8,13 +8,15 @@ use Rattle.parallel.proofs.workers.check_parallel.Goals as goal
 use Rattle.parallel.proofs.workers.check_parallel.Goals.{After-least}
 
 objects : (g : Over) (c : After-least g) → AreObjects c.args.history.now c.as_slice-pieces.result.now
-objects g c = are_objects c.args.history.now c.as_slice-pieces.result.now c.in-Ok.objects.items c.as_slice-pieces.ensures.value c.in-Ok.ensures.rising c.in-Ok.ensures.named c.in-Ok.ensures.kinds c.in-Ok.ensures.calls
+objects g c = are_objects c.args.history.now c.as_slice-pieces.result.now c.in-Ok.objects.items c.as_slice-pieces.ensures.value c.in-Ok.ensures.rising
+    c.in-Ok.ensures.named c.in-Ok.ensures.kinds c.in-Ok.ensures.calls
 
 shares : (g : Over) (c : After-least g) → AreShares c.clamp-count.result c.as_slice-pieces.result.now c.args.certificates.now c.deref.result.now
 shares g c = record {
   some = subst (λ n. 0 < n) (sym c.clamp-count.ensures) (le-max_left 1 _);
   long = c.deref.ensures.len ∙ c.in-Ok-found.ensures.len;
-  each = λ i d l. subst (λ rs. IsShare i c.clamp-count.result c.as_slice-pieces.result.now c.args.certificates.now (get_or rs i d)) (sym c.deref.ensures.value) (c.in-Ok-found.ensures.each i d l).1.met;
+  each = λ i d l. subst (λ rs. IsShare i c.clamp-count.result c.as_slice-pieces.result.now c.args.certificates.now (get_or rs i d))
+      (sym c.deref.ensures.value) (c.in-Ok-found.ensures.each i d l).1.met;
 }
 
 pub returns-in-Some-clause-refused : goal.returns-in-Some-clause-refused
@@ -34,7 +36,8 @@ returns-in-Some-strange_object-clause-refused g c =
     least_strange _ _ _ _ c.requires.distinct (objects g d) fine c.in-Some-strange_object.ensures.least
 
 pub returns-in-Some-strange_object-clause-exact : goal.returns-in-Some-strange_object-clause-exact
-returns-in-Some-strange_object-clause-exact g c = λ valid. absurd (strange_is_not_valid c.args.history.now c.args.certificates.now c.in-Some-strange_object.object (returns-in-Some-strange_object-clause-refused g c) valid)
+returns-in-Some-strange_object-clause-exact g c =
+    λ valid. absurd (strange_is_not_valid c.args.history.now c.args.certificates.now c.in-Some-strange_object.object (returns-in-Some-strange_object-clause-refused g c) valid)
 
 pub returns-clause-valid : goal.returns-clause-valid
 returns-clause-valid g c =

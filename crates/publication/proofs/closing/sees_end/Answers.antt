@@ -22,12 +22,19 @@ invariant_of-last g c = let t = c.load.ensures.2 c.args.client refl in
 
 pub returns-clause-seen : goal.returns-clause-seen
 returns-clause-seen g c = let t = c.load.ensures.2 c.args.client refl in
-    either_view c.load.result c.args.client c.last.inside.member.seat.me.0 c.args.last.now.knows c.load.new.seat.me.0 (ap (λ k. k.knows) c.last.view_is) (λ e. ap (λ m. m.0) (t.0 e)) (λ n. ap (λ m. m.0) (t.1 n).0)
+    either_view c.load.result c.args.client c.last.inside.member.seat.me.0 c.args.last.now.knows c.load.new.seat.me.0
+    (ap (λ k. k.knows) c.last.view_is) (λ e. ap (λ m. m.0) (t.0 e)) (λ n. ap (λ m. m.0) (t.1 n).0)
 
 pub returns-clause-desk : goal.returns-clause-desk
 returns-clause-desk g c = let t = c.load.ensures.2 c.args.client refl in
     let kinds : c.load.new.seat.me.0.kinds ≡ c.last.inside.member.seat.me.0.kinds = dite (ℕ_discrete c.load.result 1) (λ e. ap (λ m. m.0.kinds) (t.0 e)) (λ n. ap (λ m. m.0.kinds) (t.1 n).0) in
-    (λ i. record { table = (c.load.ensures.0) i; quota = c.last.inside.member.quota; kinds = kinds i; lists = map (λ (p : PlaceSeen). p.roster) c.last.inside.member.places }) ∙ ap (λ k. k.desk) c.last.view_is
+    (λ i. record {
+      table = (c.load.ensures.0) i;
+      quota = c.last.inside.member.quota;
+      kinds = kinds i;
+      lists =
+          map (λ (p : PlaceSeen). p.roster) c.last.inside.member.places;
+    }) ∙ ap (λ k. k.desk) c.last.view_is
 
 pub returns-clause-untold : goal.returns-clause-untold
 returns-clause-untold g c = let t = c.load.ensures.2 c.args.client refl in

@@ -20,7 +20,8 @@ loop-object-preserved g c = let i = c.loop-object.invariant in let o = c.in-Some
       search rules,
       search rules,
       (let gone = c.remove.ensures.len in let have = i.5 in omega arith),
-      cores_more (rosters_of all) ys (ys ++ o ∷ []) c.loop-object.slots.items c.push_reserved.new.self.items o k refl p.items (i.3 ∙ sym i.2) (ap (λ z. z.object) is) (ap (λ z. z.log.items) is ∙ c.new-log.ensures.items) (list ∙ ap (λ z. some z.list.roster) (sym is)) i.6,
+      cores_more (rosters_of all) ys (ys ++ o ∷ []) c.loop-object.slots.items c.push_reserved.new.self.items o k refl p.items (i.3 ∙ sym i.2)
+          (ap (λ z. z.object) is) (ap (λ z. z.log.items) is ∙ c.new-log.ensures.items) (list ∙ ap (λ z. some z.list.roster) (sym is)) i.6,
       walkers_left all ws c.remove.new.self.items c.loop-object.slots.len c.push_reserved.new.self.len left c.remove.ensures.items n i.7,
     )
 

@@ -9,7 +9,8 @@ loop-slots-init g c = let e = c.in_ok-slots.ensures in let n = e.0 in let few = 
     (omega arith, e.1, search rules, omega arith, e.2, λ i l h. absurd (omega arith))
 
 pub loop-slots-preserved : goal.loop-slots-preserved
-loop-slots-preserved g c = let i = c.loop-slots.invariant in let p = c.push_reserved.ensures in let n = p.len in let room = c.loop-slots-test.true in let is = c.len.ensures in let few = i.3 in let same = i.2 in
+loop-slots-preserved g c = let i = c.loop-slots.invariant in let p = c.push_reserved.ensures in let n = p.len in let room = c.loop-slots-test.true in
+    let is = c.len.ensures in let few = i.3 in let same = i.2 in
     let count : length c.loop-slots.slots.items + 1 ≡ c.push_reserved.new.self.len = omega arith in (
       omega arith,
       search rules,

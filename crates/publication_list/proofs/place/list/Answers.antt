@@ -9,15 +9,21 @@ load-first-requires c = let t = c.requires.table in (t.0, omega arith, see_allow
 pub store-requires : goal.store-requires
 store-requires c =
     let t = c.requires.table in
-    let low = c.requires.seat.0 in (c.load-first.ensures.0 ∙ t.0, omega arith, link_allowed _ _ _ _ (tries_of c.args.seat.now.me.0) _ (subst (IsPlace c.args.row true (tries_of c.args.seat.now.me.0)) (sym c.load-first.ensures.2) c.requires.seat))
+    let low = c.requires.seat.0 in (
+      c.load-first.ensures.0 ∙ t.0,
+      omega arith,
+      link_allowed _ _ _ _ (tries_of c.args.seat.now.me.0) _ (subst (IsPlace c.args.row true (tries_of c.args.seat.now.me.0)) (sym c.load-first.ensures.2) c.requires.seat),
+    )
 
 pub compare_exchange-requires : goal.compare_exchange-requires
 compare_exchange-requires c = let t = c.requires.table in (
   c.store.ensures.0 ∙ (c.load-first.ensures.0 ∙ t.0),
   omega arith,
-  enlist_allowed _ _ _ _ (tries_of c.args.seat.now.me.0) _ (link_leaves_linked _ _ (tries_of c.args.seat.now.me.0) _ _ (subst (IsPlace c.args.row true (tries_of c.args.seat.now.me.0)) (sym c.load-first.ensures.2) c.requires.seat) c.store.ensures.2),
+  enlist_allowed _ _ _ _ (tries_of c.args.seat.now.me.0) _
+      (link_leaves_linked _ _ (tries_of c.args.seat.now.me.0) _ _ (subst (IsPlace c.args.row true (tries_of c.args.seat.now.me.0)) (sym c.load-first.ensures.2) c.requires.seat) c.store.ensures.2),
 )
 
 pub returns-then-compare_exchange-first-clause-seat : goal.returns-then-compare_exchange-first-clause-seat
 returns-then-compare_exchange-first-clause-seat c = enlist_leaves_missed _ _ _ (tries_of c.args.seat.now.me.0) _ _ c.requires.seat.0
-    (link_leaves_linked _ _ (tries_of c.args.seat.now.me.0) _ _ (subst (IsPlace c.args.row true (tries_of c.args.seat.now.me.0)) (sym c.load-first.ensures.2) c.requires.seat) c.store.ensures.2) c.compare_exchange.ensures.2 c.if-compare_exchange-first.true
+    (link_leaves_linked _ _ (tries_of c.args.seat.now.me.0) _ _
+    (subst (IsPlace c.args.row true (tries_of c.args.seat.now.me.0)) (sym c.load-first.ensures.2) c.requires.seat) c.store.ensures.2) c.compare_exchange.ensures.2 c.if-compare_exchange-first.true

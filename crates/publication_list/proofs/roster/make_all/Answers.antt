@@ -51,7 +51,8 @@ loop-row-preserved c =
       seat = s.2 ∙ ap (λ (m : Hands). (after_making m.0, m.1)) i.seat;
       long = omega arith;
       room = omega arith;
-      made = ArePlaces-more c.args.seat.now.table_id c.loop-row.row c.loop-row.made.items c.push_reserved.new.self.items _ i.made p.items (λ j. record { roster = (s.3 ∙ i.table) j; row = c.loop-row.row; tries = tries_of (new j).0 });
+      made = ArePlaces-more c.args.seat.now.table_id c.loop-row.row c.loop-row.made.items c.push_reserved.new.self.items _ i.made p.items
+          (λ j. record { roster = (s.3 ∙ i.table) j; row = c.loop-row.row; tries = tries_of (new j).0 });
     }
 
 -- the loop is over at the last row

@@ -12,7 +12,8 @@ loop-at-init c = record {
   table = c.load-at.ensures.0;
   room = c.clear.ensures.capacity;
   long = c.clear.ensures.len ∙ ap length (sym c.clear.ensures.items);
-  meeting = subst (λ z. Meeting (left_of c.args.seat.now.me.0) (walks_of c.args.seat.now.me.0) (made_of c.args.seat.now.me.0) z c.load-at.result c.load-at.new.seat.me) (sym c.clear.ensures.items) (walk_begins _ _ _ _ _ c.requires.seat c.load-at.ensures.2);
+  meeting = subst (λ z. Meeting (left_of c.args.seat.now.me.0) (walks_of c.args.seat.now.me.0) (made_of c.args.seat.now.me.0) z c.load-at.result
+      c.load-at.new.seat.me) (sym c.clear.ensures.items) (walk_begins _ _ _ _ _ c.requires.seat c.load-at.ensures.2);
 }
 
 pub overflow_cast-row : goal.overflow_cast-row

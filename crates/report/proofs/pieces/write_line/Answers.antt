@@ -1,5 +1,5 @@
 use Rattle.std.proofs.Common.{rules}
-use Rattle.edn.proofs.Fronts.{front_of_first, fails, sends_behind}
+use Rattle.edn_writer.proofs.Fronts.{front_of_first, fails, sends_behind}
 use Rattle.report.specs.Lines.{comment_text}
 use Rattle.report.specs.Pieces.{pieces_text}
 use Rattle.report.proofs.pieces.write_line.Goals as goal

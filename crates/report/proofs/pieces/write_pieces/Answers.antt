@@ -1,5 +1,5 @@
 use Rattle.std.proofs.Common.{rules}
-use Rattle.edn.proofs.Fronts.{within, further, fails}
+use Rattle.edn_writer.proofs.Fronts.{within, further, fails}
 use Rattle.report.specs.Pieces.{pieces_text}
 use Rattle.report.proofs.LinesLeft.{pieces_left}
 use Rattle.report.proofs.pieces.write_pieces.Goals as goal

@@ -1,5 +1,5 @@
 use Rattle.std.proofs.Common.{rules}
-use Rattle.edn.proofs.Fronts.{within, further, fails}
+use Rattle.edn_writer.proofs.Fronts.{within, further, fails}
 use Rattle.report.specs.Lines.{kind_lines}
 use Rattle.report.proofs.LinesLeft.{kinds_left}
 use Rattle.report.proofs.writing.write_kinds.Goals as goal

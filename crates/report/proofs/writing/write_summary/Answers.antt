@@ -1,6 +1,6 @@
 use Rattle.std.proofs.Common.{rules, ap, sym}
 use Rattle.std.specs.Prelude.{◌++◌}
-use Rattle.edn.proofs.Fronts.{front_of_first, fails, sends_behind, sends_as}
+use Rattle.edn_writer.proofs.Fronts.{front_of_first, fails, sends_behind, sends_as}
 use Rattle.report.specs.Lines.{comment_text, kind_lines, total_line}
 use Rattle.report.proofs.writing.write_summary.Goals as goal
 

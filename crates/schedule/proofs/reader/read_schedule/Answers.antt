@@ -1,5 +1,5 @@
 use Rattle.std.proofs.Common.{rules, ◌≡◌, ◌∷◌}
-use Rattle.edn.specs.View.{view, views}
+use Rattle.edn_reader.specs.View.{view, views}
 use Rattle.schedule.proofs.Steps.{refuses}
 use Rattle.schedule.proofs.reader.read_schedule.Goals as goal
 

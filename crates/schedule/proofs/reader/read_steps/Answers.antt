@@ -1,5 +1,5 @@
 use Rattle.std.proofs.Common.{rules, ◌≡◌, None, Some}
-use Rattle.edn.specs.View.{view}
+use Rattle.edn_reader.specs.View.{view}
 use Rattle.schedule.specs.Schedules.{step_of}
 use Rattle.schedule.proofs.Steps.{no_step, steps_to}
 use Rattle.schedule.proofs.reader.read_steps.Goals as goal

@@ -1,5 +1,5 @@
 use Rattle.std.proofs.Common.{◌≡◌, map, take, Some}
-use Rattle.edn.specs.View.{views}
+use Rattle.edn_reader.specs.View.{views}
 use Rattle.schedule.specs.Schedules.{step_of}
 use Rattle.schedule.proofs.reader.read_steps.Given as goal
 

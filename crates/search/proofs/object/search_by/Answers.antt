@@ -9,4 +9,5 @@ returns c =
     let h = c.args.history.now in
     let r = c.find_order-outcome.result in
     let e = c.find_order-outcome.ensures in
-    answer_from h.object h.kind (calls_of h.ops) c.args.limit r.outcome c.found_of-found.result r.steps (c.found_of-found.ensures ∙ ap (λ (x : ℕ). found_in x r.outcome) c.object.ensures) e.found e.impossible e.steps e.out_of_steps e.too_large e.memory
+    answer_from h.object h.kind (calls_of h.ops) c.args.limit r.outcome c.found_of-found.result r.steps
+    (c.found_of-found.ensures ∙ ap (λ (x : ℕ). found_in x r.outcome) c.object.ensures) e.found e.impossible e.steps e.out_of_steps e.too_large e.memory

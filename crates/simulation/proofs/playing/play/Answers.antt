@@ -13,7 +13,8 @@ returns-in-Ok-finish-clause-played c =
     let end = c.in-Ok-finish.ensures in
     is_played c.args.schedule.now.header c.args.schedule.now.steps.items c.in-Ok-run.field-0.refused start now
     c.in-Ok.ensures.kinds c.in-Ok.ensures.counts.0 c.in-Ok.ensures.counts.1 c.in-Ok-run.ensures.same c.in-Ok-finish.record c.in-Ok.ensures.start
-    (subst (λ (xs : List (ℕ × AnyStep)). TakesPossible start.kinds start.quota (world_of start) (steps_in (λ op. op) xs) c.in-Ok-run.field-0.refused (world_of now)) c.deref.ensures.value c.in-Ok-run.ensures.ran)
+    (subst (λ (xs : List (ℕ × AnyStep)). TakesPossible start.kinds start.quota (world_of start) (steps_in (λ op. op) xs) c.in-Ok-run.field-0.refused
+    (world_of now)) c.deref.ensures.value c.in-Ok-run.ensures.ran)
     c.in-Ok-run.ensures.run end.ended end.journals end.logs end.sound
 
 pub returns-clause-fault : goal.returns-clause-fault
@@ -23,5 +24,6 @@ returns-clause-fault c =
     let end = c.in-Err.ensures.going in
     is_going_on c.args.schedule.now.header c.args.schedule.now.steps.items c.in-Ok-run.field-0.refused start now
     c.in-Ok.ensures.kinds c.in-Ok.ensures.counts.0 c.in-Ok.ensures.counts.1 c.in-Ok-run.ensures.same c.in-Ok.ensures.start
-    (subst (λ (xs : List (ℕ × AnyStep)). TakesPossible start.kinds start.quota (world_of start) (steps_in (λ op. op) xs) c.in-Ok-run.field-0.refused (world_of now)) c.deref.ensures.value c.in-Ok-run.ensures.ran)
+    (subst (λ (xs : List (ℕ × AnyStep)). TakesPossible start.kinds start.quota (world_of start) (steps_in (λ op. op) xs) c.in-Ok-run.field-0.refused
+    (world_of now)) c.deref.ensures.value c.in-Ok-run.ensures.ran)
     c.in-Ok-run.ensures.run _ end.1 end.2 end.3

@@ -10,7 +10,8 @@ use Rattle.transcript.specs.Accounts.{AreCertificatesOf, IsRefused}
 use Rattle.transcript.proofs.Accepting.{are_valid}
 use Rattle.transcript.proofs.accounts.check_record.Goals as goal
 
-refused : {A : Type 0} (journals : ℕ → List AnyEvent) (logs : ℕ → List AnyEntry) (es : List Event) (cs : List Certificate) → AreEventsOf journals es → AreCertificatesOf journals logs cs → (r : Result A Refusal) → IfErr r (IsFirstRefusal es cs) → IfErr r (λ e. e ≢ NoMemory → IsRefused journals logs e)
+refused : {A : Type 0} (journals : ℕ → List AnyEvent) (logs : ℕ → List AnyEntry) (es : List Event) (cs : List Certificate) → AreEventsOf journals es
+    → AreCertificatesOf journals logs cs → (r : Result A Refusal) → IfErr r (IsFirstRefusal es cs) → IfErr r (λ e. e ≢ NoMemory → IsRefused journals logs e)
 refused journals logs es cs are h (Ok a) i = tt
 refused journals logs es cs are h (Err e) i = λ _. record { events = es; certificates = cs; are_events = are; are_certificates = h; first = i }
 

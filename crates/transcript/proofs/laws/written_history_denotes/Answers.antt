@@ -9,7 +9,8 @@ use Rattle.transcript.proofs.ReadBack.{read_back}
 use Rattle.transcript.proofs.laws.written_history_denotes.Goals as goal
 
 written : WrittenDenotes
-written objects journals logs r count tickets low text es t h = subst (λ (x : List ℕ). DenotesEvents x es) (sym t.text_is) (read_back objects journals logs r count tickets low t.lines t.are_lines t.in_profile es h)
+written objects journals logs r count tickets low text es t h =
+    subst (λ (x : List ℕ). DenotesEvents x es) (sym t.text_is) (read_back objects journals logs r count tickets low t.lines t.are_lines t.in_profile es h)
 
 sound : SoundWrittenDenotes
 sound kinds quota journals logs s low few text es t h =

@@ -17,4 +17,5 @@ loop-client-preserved g c =
     (c.in_ok-push_journal.ensures ∙ ap (λ js. c.loop-client.lines.items ++ lines_of c.loop-client.client (map (event_in g.S.SeqObject.op_in g.S.SeqObject.reply_in) js)) c.as_slice.ensures.value)
 
 pub returns-clause-lines : goal.returns-clause-lines
-returns-clause-lines g c = all_lines g.S.SeqObject.op_in g.S.SeqObject.reply_in c.journals-journal-items.result.now c.args.account.now.journals c.journals-journal-items.ensures.journals c.loop-client.client c.loop-client.lines.items c.loop-client-test.false c.loop-client.invariant
+returns-clause-lines g c = all_lines g.S.SeqObject.op_in g.S.SeqObject.reply_in c.journals-journal-items.result.now c.args.account.now.journals
+    c.journals-journal-items.ensures.journals c.loop-client.client c.loop-client.lines.items c.loop-client-test.false c.loop-client.invariant

@@ -1,6 +1,6 @@
 use Rattle.std.proofs.Common.{rules, All, subst}
-use Rattle.edn.specs.Sent.{WritesPrefix}
-use Rattle.edn.specs.Text.{InProfile}
+use Rattle.byte_streams.specs.Sent.{WritesPrefix}
+use Rattle.edn_reader.specs.Text.{InProfile}
 use Rattle.transcript.specs.declared.line.Line.{Line}
 use Rattle.transcript.specs.Lines.{form_of}
 use Rattle.transcript.proofs.text.write_history.Goals as goal

@@ -1,6 +1,6 @@
 use Rattle.std.proofs.Common.{◌≡◌, ℕ, List, ◌++◌, drop, take, All, false}
 use Rattle.std.specs.Io.KnownBytes.{Appends}
-use Rattle.edn.specs.Text.{InProfile}
+use Rattle.edn_reader.specs.Text.{InProfile}
 use Rattle.transcript.specs.Lines.{form_of}
 use Rattle.transcript.specs.Pieces.{lines_text}
 use Rattle.transcript.proofs.text.write_lines.Given as goal

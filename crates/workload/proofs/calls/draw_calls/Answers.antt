@@ -16,7 +16,10 @@ loop-preserved c =
     let long = ap length items ∙ length-append c.loop.calls.items ((d.object, c.operation.result) ∷ []) in
     record {
       drawn = ap (λ cs. cs ++ calls_from ks m (c.args.count - (c.loop.counter + 1)) (stream_at c.draw-draws.new.generator)) items
-          ∙ drawn_more ks m (c.args.count - c.loop.counter) (c.args.count - (c.loop.counter + 1)) (stream_at c.loop.generator) (stream_at c.draw-draws.new.generator) d c.operation.result c.loop.calls.items _ (omega arith) c.draw-draws.ensures.drawn op c.loop.invariant.drawn;
+          ∙ drawn_more ks m (c.args.count - c.loop.counter) (c.args.count - (c.loop.counter + 1)) (stream_at c.loop.generator)
+          (stream_at c.draw-draws.new.generator) d c.operation.result c.loop.calls.items _ (omega arith) c.draw-draws.ensures.drawn op c.loop.invariant.drawn;
       counts = omega (arith, long, c.loop.invariant.counts);
-      fit = subst (All (IsCall (kinds_of ks m))) (sym items) (All-push (IsCall (kinds_of ks m)) c.loop.calls.items (d.object, c.operation.result) c.loop.invariant.fit (is_call ks m d.object c.operation.result c.draw-draws.ensures.within (c.operation.ensures.kind ∙ c.kind.ensures)));
+      fit = subst (All (IsCall (kinds_of ks m))) (sym items)
+          (All-push (IsCall (kinds_of ks m)) c.loop.calls.items (d.object, c.operation.result) c.loop.invariant.fit
+          (is_call ks m d.object c.operation.result c.draw-draws.ensures.within (c.operation.ensures.kind ∙ c.kind.ensures)));
     }

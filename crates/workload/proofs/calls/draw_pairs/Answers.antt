@@ -22,7 +22,10 @@ loop-preserved c =
     let fit = All-push (IsCall (kinds_of ks m)) c.loop.calls.items acquire c.loop.invariant.fit (is_call ks m d.object Acquire c.draw-draws.ensures.within refl) in
     record {
       drawn = ap (λ cs. cs ++ mutex_calls_from m (c.args.count - (c.loop.counter + 1)) (stream_at c.draw.new.generator)) items
-          ∙ pair_more m (c.args.count - c.loop.counter) (c.args.count - (c.loop.counter + 1)) (stream_at c.loop.generator) (stream_at c.draw-draws.new.generator) (stream_at c.draw.new.generator) d c.draw.result c.loop.calls.items _ (omega arith) c.draw-draws.ensures.drawn c.draw.ensures.drawn c.loop.invariant.drawn;
+          ∙ pair_more m (c.args.count - c.loop.counter) (c.args.count - (c.loop.counter + 1)) (stream_at c.loop.generator)
+          (stream_at c.draw-draws.new.generator) (stream_at c.draw.new.generator) d c.draw.result c.loop.calls.items _ (omega arith)
+          c.draw-draws.ensures.drawn c.draw.ensures.drawn c.loop.invariant.drawn;
       counts = omega (arith, long, short, c.loop.invariant.counts);
-      fit = subst (All (IsCall (kinds_of ks m))) (sym items) (All-push (IsCall (kinds_of ks m)) (c.loop.calls.items ++ acquire ∷ []) release fit (is_call ks m d.object Release c.draw-draws.ensures.within refl));
+      fit = subst (All (IsCall (kinds_of ks m))) (sym items)
+          (All-push (IsCall (kinds_of ks m)) (c.loop.calls.items ++ acquire ∷ []) release fit (is_call ks m d.object Release c.draw-draws.ensures.within refl));
     }

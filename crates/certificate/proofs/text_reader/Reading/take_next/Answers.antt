@@ -28,7 +28,8 @@ returns-after-push c = λ ds d q h.
           )
       | in-Err-push w ↦ (
           let none = found ds old.certificates.items (contains nat_cmp old.objects) d NoMemory a (reading_of made, own, c.in-Ok.ensures.new) in
-          subst (λ (r : Reading). IsReading r (ds ++ d ∷ [])) (sym w.self-is) (subst (λ (n : ℕ). IsFoundIn (ds ++ d ∷ []) (record { kind = NoMemory; form = n })) (sym (c.len-form.ensures ∙ old.certificates.ok.0)) none)
+          subst (λ (r : Reading). IsReading r (ds ++ d ∷ [])) (sym w.self-is)
+          (subst (λ (n : ℕ). IsFoundIn (ds ++ d ∷ []) (record { kind = NoMemory; form = n })) (sym (c.len-form.ensures ∙ old.certificates.ok.0)) none)
           )
     ]
 

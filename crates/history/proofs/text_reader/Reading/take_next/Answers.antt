@@ -2,7 +2,7 @@ use Rattle.std.proofs.Common.{Option, List, ◌++◌, ◌∷◌, [], ◌+◌, sy
 use Rattle.events.specs.declared.event.Event.{Event}
 use Rattle.history.specs.declared.fault.HistoryFault.{HistoryFault}
 use Rattle.history.specs.Texts.{AreRead, IsReadOrFaulty}
-use Rattle.edn.specs.Truncation.{truncated}
+use Rattle.edn_reader.specs.Truncation.{truncated}
 use Rattle.history.proofs.Truncated.{says_as_much}
 use Rattle.history.proofs.TextReading.{are_read, one_more, found}
 use Rattle.history.proofs.text_reader.Reading.take_next.Goals as goal
@@ -19,4 +19,5 @@ pub returns-in-Err : goal.returns-in-Err
 returns-in-Err c = λ ds d q h.
     let a = are_read c.args.self.now ds c.requires h in
     let says = says_as_much _ d (c.said_on.ensures (truncated d) q) in
-    found c.args.self.now.seen c.args.self.now.map ds d c.args.self.now.events.items c.in-Err.kind a (λ n. c.in-Err.ensures.fault n ds d says a.kept a.count) (λ m. c.in-Err.ensures.memory m ds d says a.kept a.count)
+    found c.args.self.now.seen c.args.self.now.map ds d c.args.self.now.events.items c.in-Err.kind a
+    (λ n. c.in-Err.ensures.fault n ds d says a.kept a.count) (λ m. c.in-Err.ensures.memory m ds d says a.kept a.count)

@@ -12,7 +12,12 @@ returns-then-not-is_hand_free g c = (
 )
 
 pub invariant_of-self : goal.invariant_of-self
-invariant_of-self g c = (release_done g.S.SeqObject.content g.S.SeqObject.op_in g.S.SeqObject.reply_in c.self.inside c.self.invariant _ c.self.view_is c.args.client c.in-Some.object c.requires c.in-Some.ensures.held.0 c.in-Some.ensures.held.1 (c.if-not-is_hand_free.ensures.0 refl)).0
+invariant_of-self g c = (release_done g.S.SeqObject.content g.S.SeqObject.op_in g.S.SeqObject.reply_in c.self.inside c.self.invariant _ c.self.view_is
+    c.args.client c.in-Some.object c.requires c.in-Some.ensures.held.0 c.in-Some.ensures.held.1 (c.if-not-is_hand_free.ensures.0 refl)).0
 
 pub returns : goal.returns
-returns g c = ((release_done g.S.SeqObject.content g.S.SeqObject.op_in g.S.SeqObject.reply_in c.self.inside c.self.invariant _ c.self.view_is c.args.client c.in-Some.object c.requires c.in-Some.ensures.held.0 c.in-Some.ensures.held.1 (c.if-not-is_hand_free.ensures.0 refl)).1, tt)
+returns g c = (
+  (release_done g.S.SeqObject.content g.S.SeqObject.op_in g.S.SeqObject.reply_in c.self.inside c.self.invariant _ c.self.view_is
+      c.args.client c.in-Some.object c.requires c.in-Some.ensures.held.0 c.in-Some.ensures.held.1 (c.if-not-is_hand_free.ensures.0 refl)).1,
+  tt,
+)

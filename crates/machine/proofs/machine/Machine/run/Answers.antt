@@ -14,7 +14,8 @@ loop-at-preserved g c =
     let now = c.args.self.now in
     let v = c.index-steps-at.result in
     let one = subst (λ (ks : List Kind). TakesPossible ks now.quota (world_of c.loop-at.self) ((v.0, step_in g.S.SeqObject.op_in v.1) ∷ []) c.in-Ok.passed (world_of c.turn.new.self)) like.kinds
-    (subst (λ (q : ℕ). TakesPossible c.loop-at.self.kinds q (world_of c.loop-at.self) ((v.0, step_in g.S.SeqObject.op_in v.1) ∷ []) c.in-Ok.passed (world_of c.turn.new.self)) like.quota c.in-Ok.ensures.ok) in
+    (subst (λ (q : ℕ). TakesPossible c.loop-at.self.kinds q (world_of c.loop-at.self) ((v.0, step_in g.S.SeqObject.op_in v.1) ∷ []) c.in-Ok.passed
+    (world_of c.turn.new.self)) like.quota c.in-Ok.ensures.ok) in
     record {
       ran = subst (λ (ms : List (ℕ × Step)). TakesPossible now.kinds now.quota (world_of now) ms (c.loop-at.refused + c.in-Ok.passed) (world_of c.turn.new.self))
           (taken_more (λ m. (m.0, step_in g.S.SeqObject.op_in m.1)) c.args.steps.now c.loop-at.at v c.loop-at-test.true c.index-steps-at.is)

@@ -10,4 +10,7 @@ returns-clause-arranged c =
     let h = c.args.history.now in
     let items = c.arrange.new.items.items in
     let e = c.in_ok-items.ensures ∙ ap (filter happens) c.ops.ensures.ops in
-    subst (λ kind. IsArranged kind items c.in_ok-floors.floors.items) (sym c.kind-kind.ensures) (arranged h items c.in_ok-floors.floors.items c.ops.ensures.kept c.requires.few (subst (λ (xs : List Invocation). IsPermutation xs items) e c.arrange.ensures) (subst (λ (xs : List Invocation). AreFloors xs c.in_ok-floors.floors.items) c.deref.ensures.value c.in_ok-floors.ensures))
+    subst (λ kind. IsArranged kind items c.in_ok-floors.floors.items) (sym c.kind-kind.ensures)
+    (arranged h items c.in_ok-floors.floors.items c.ops.ensures.kept c.requires.few
+    (subst (λ (xs : List Invocation). IsPermutation xs items) e c.arrange.ensures)
+    (subst (λ (xs : List Invocation). AreFloors xs c.in_ok-floors.floors.items) c.deref.ensures.value c.in_ok-floors.ensures))

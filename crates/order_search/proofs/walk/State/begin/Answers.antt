@@ -15,6 +15,8 @@ returns-clause-search c =
     let link = subst (λ n. Linked n [] u.next.items u.before.items) len c.in_ok-undone.ensures in
     let long = link.long_next in
     record {
-      walk = begun (length items) (call_at items) (empty t.kind) _ c.new.result.items u.next.items u.before.items c.index-at.result.now c.least_return-least.result c.args.left c.new.ensures.items c.empty.ensures link (c.index-at.ensures ∙ get_or_default u.next.items 0 _ 0 (omega arith)) (c.least_return-least.ensures [] link) c.requires.counts c.requires.owed;
+      walk = begun (length items) (call_at items) (empty t.kind) _ c.new.result.items u.next.items u.before.items c.index-at.result.now
+          c.least_return-least.result c.args.left c.new.ensures.items c.empty.ensures link
+          (c.index-at.ensures ∙ get_or_default u.next.items 0 _ 0 (omega arith)) (c.least_return-least.ensures [] link) c.requires.counts c.requires.owed;
       dead = none_dead t c.new-2.result.pairs.items c.new-2.ensures;
     }

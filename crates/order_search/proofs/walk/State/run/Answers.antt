@@ -6,14 +6,16 @@ use Rattle.order_search.specs.Arranged.{as_call}
 use Rattle.order_search.specs.Searching.{places, befores}
 use Rattle.order_search.proofs.Measure.{step_smaller}
 use Rattle.order_search.proofs.Steps.{dead_here, dead_too_late, dead_impossible, call_read}
-use Rattle.order_search.proofs.walk.State.run.Goals.{then-at-len-via-then-at-len, then-at-len-via-else-at-len+then-index-self, then-item-self-via-then-item-self, then-item-self-via-else-item-self+then-not-is_possible}
+use Rattle.order_search.proofs.walk.State.run.Goals.{then-at-len-via-then-at-len, then-at-len-via-else-at-len+then-index-self}
+use Rattle.order_search.proofs.walk.State.run.Goals.{then-item-self-via-then-item-self, then-item-self-via-else-item-self+then-not-is_possible}
 use Rattle.order_search.proofs.walk.State.run.Goals as goal
 
 pub come_back-requires-clause-dead_here : goal.come_back-requires-clause-dead_here
 come_back-requires-clause-dead_here c =
     let s = c.loop-self.self in
     let t = c.args.trials.now in
-    dead_here t.kind t.items.items t.floors.items (empty t.kind) (reverse s.levels.items) (befores (reverse s.levels.items) (content_of s.object)) (content_of s.object) s.undone.next.items s.undone.before.items s.high s.at s.least s.left c.requires.trials c.loop-self.invariant.search.walk
+    dead_here t.kind t.items.items t.floors.items (empty t.kind) (reverse s.levels.items) (befores (reverse s.levels.items) (content_of s.object))
+    (content_of s.object) s.undone.next.items s.undone.before.items s.high s.at s.least s.left c.requires.trials c.loop-self.invariant.search.walk
     (elim c.then-at-len.branch [
       | then-at-len-via-then-at-len w ↦ inl (omega (arith, w.if-at-len.true))
       | then-at-len-via-else-at-len+then-index-self w ↦
@@ -29,8 +31,11 @@ pass-requires-clause-dead_at c =
     let l : s.at < length t.items.items = omega (arith, c.if-at-len.false) in
     let here = ap as_call c.index-item.ensures ∙ call_read t.items.items s.at _ l in
     elim c.then-item-self.branch [
-      | then-item-self-via-then-item-self w ↦ dead_too_late t.kind t.items.items t.floors.items c.index-item.result.now (empty t.kind) (reverse s.levels.items) (befores (reverse s.levels.items) (content_of s.object)) (content_of s.object) s.undone.next.items s.undone.before.items s.high s.at s.least s.left c.requires.trials c.loop-self.invariant.search.walk l here (omega (arith, w.if-item-self.true)) w.if-item-self.true
-      | then-item-self-via-else-item-self+then-not-is_possible w ↦ dead_impossible t.items.items c.index-item.result.now (places (reverse s.levels.items)) (content_of s.object) s.at here (λ h. let p = w.is_possible.ensures.1 h in let f = w.if-not-is_possible.true in absurd (cc (p, f)))
+      | then-item-self-via-then-item-self w ↦ dead_too_late t.kind t.items.items t.floors.items c.index-item.result.now (empty t.kind)
+          (reverse s.levels.items) (befores (reverse s.levels.items) (content_of s.object)) (content_of s.object) s.undone.next.items
+          s.undone.before.items s.high s.at s.least s.left c.requires.trials c.loop-self.invariant.search.walk l here (omega (arith, w.if-item-self.true)) w.if-item-self.true
+      | then-item-self-via-else-item-self+then-not-is_possible w ↦ dead_impossible t.items.items c.index-item.result.now
+          (places (reverse s.levels.items)) (content_of s.object) s.at here (λ h. let p = w.is_possible.ensures.1 h in let f = w.if-not-is_possible.true in absurd (cc (p, f)))
     ]
 
 pub loop-self-smaller : goal.loop-self-smaller

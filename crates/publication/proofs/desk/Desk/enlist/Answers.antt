@@ -8,8 +8,11 @@ pub enlist-requires : goal.enlist-requires
 enlist-requires g c = let few = c.self.invariant.0.5 in let low : c.args.object < length c.self.inside.kinds.items = search rules in omega arith
 
 pub invariant_of-client : goal.invariant_of-client
-invariant_of-client g c = let k = c.client.invariant in
-    (k.0, subst (λ (ps : List PlaceSeen). ArePlacesOf c.client.inside.member.number c.client.inside.member.seat.me.0.lists ps) (sym c.enlist.ensures) (still_own _ c.args.object c.enlist.result _ _ k.1))
+invariant_of-client g c = let k = c.client.invariant in (
+  k.0,
+  subst (λ (ps : List PlaceSeen). ArePlacesOf c.client.inside.member.number c.client.inside.member.seat.me.0.lists ps) (sym c.enlist.ensures)
+      (still_own _ c.args.object c.enlist.result _ _ k.1),
+)
 
 pub returns-clause-tried : goal.returns-clause-tried
 returns-clause-tried g c = let m = c.client.inside.member in let e = c.enlist.ensures in

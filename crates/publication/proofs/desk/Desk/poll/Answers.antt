@@ -16,7 +16,8 @@ pub look_and_exchange-found-requires-clause-look : goal.look_and_exchange-found-
 look_and_exchange-found-requires-clause-look g c = let k = c.client.invariant.0 in look_for_answer_keeps_rule _ _ _ _ _ _ _ _ _ _ k.agrees.client_is k.agrees.number_is k.agrees.number_low
 
 pub look_and_exchange-found-requires-clause-exchange : goal.look_and_exchange-found-requires-clause-exchange
-look_and_exchange-found-requires-clause-exchange g c = let k = c.client.invariant.0 in let low = k.agrees.number_low in let o = own_waiting _ k.agrees.at_rest (sym k.agrees.outstanding_is ∙ c.if-not-member.false) in
+look_and_exchange-found-requires-clause-exchange g c = let k = c.client.invariant.0 in let low = k.agrees.number_low in let o =
+    own_waiting _ k.agrees.at_rest (sym k.agrees.outstanding_is ∙ c.if-not-member.false) in
     take_keeps_rule _ _ _ _ _ _ _ _ _ _ o.0 k.agrees.client_is k.agrees.number_is o.1 k.free o.2 low
 
 pub look_and_exchange-found-requires-clause-found : goal.look_and_exchange-found-requires-clause-found
@@ -34,7 +35,8 @@ invariant_of-client-then-found-ne-ANSWERED g c = let k = c.client.invariant.0 in
 pub returns-then-found-ne-ANSWERED-clause-missed : goal.returns-then-found-ne-ANSWERED-clause-missed
 returns-then-found-ne-ANSWERED-clause-missed g c = let k = c.client.invariant.0 in let o = own_waiting _ k.agrees.at_rest (sym k.agrees.outstanding_is ∙ c.if-not-member.false) in
     let t = (c.look_and_exchange-found.ensures.tried c.client.inside.member.number o.0 k.agrees.number_is refl o.1).1 (search rules) in
-    subst (λ (v : DeskView). NotPolled v c.look_and_exchange-found.new.seat.me.0) (ap (λ v. v.knows) c.client.view_is) (inr (ap (λ z. z.0) t.0 ∙ ap (λ (n : ℕ). after_miss (row_place n) c.client.inside.member.seat.me.0) (sym k.agrees.number_is), t.1))
+    subst (λ (v : DeskView). NotPolled v c.look_and_exchange-found.new.seat.me.0) (ap (λ v. v.knows) c.client.view_is)
+    (inr (ap (λ z. z.0) t.0 ∙ ap (λ (n : ℕ). after_miss (row_place n) c.client.inside.member.seat.me.0) (sym k.agrees.number_is), t.1))
 
 pub exchange-requires : goal.exchange-requires
 exchange-requires g c = let k = c.client.invariant.0 in let o = own_waiting _ k.agrees.at_rest (sym k.agrees.outstanding_is ∙ c.if-not-member.false) in
@@ -42,7 +44,8 @@ exchange-requires g c = let k = c.client.invariant.0 in let o = own_waiting _ k.
 
 pub fetch_add-ticket-requires : goal.fetch_add-ticket-requires
 fetch_add-ticket-requires g c = let k = outstanding_is c.if-not-member.false c.client.invariant.0 in
-    let o = own_waiting _ k.agrees.at_rest (sym k.agrees.outstanding_is) in let t = (c.look_and_exchange-found.ensures.tried c.client.inside.member.number o.0 k.agrees.number_is refl o.1).0 c.if-found-ne-ANSWERED.false in
+    let o = own_waiting _ k.agrees.at_rest (sym k.agrees.outstanding_is) in let t =
+    (c.look_and_exchange-found.ensures.tried c.client.inside.member.number o.0 k.agrees.number_is refl o.1).0 c.if-found-ne-ANSWERED.false in
     let wide = c.self.invariant.0.0 in let took = ap (λ z. z.0) c.exchange.ensures.3 ∙ ap (λ z. z.0) t.2 in (
       search rules,
       omega arith,
@@ -51,41 +54,60 @@ fetch_add-ticket-requires g c = let k = outstanding_is c.if-not-member.false c.c
 
 pub push_reserved-requires : goal.push_reserved-requires
 push_reserved-requires g c = let k = outstanding_is c.if-not-member.false c.client.invariant.0 in
-    let o = own_waiting _ k.agrees.at_rest (sym k.agrees.outstanding_is) in let t = (c.look_and_exchange-found.ensures.tried c.client.inside.member.number o.0 k.agrees.number_is refl o.1).0 c.if-found-ne-ANSWERED.false in
+    let o = own_waiting _ k.agrees.at_rest (sym k.agrees.outstanding_is) in let t =
+    (c.look_and_exchange-found.ensures.tried c.client.inside.member.number o.0 k.agrees.number_is refl o.1).0 c.if-found-ne-ANSWERED.false in
     room_to_return g.S.SeqObject.op_in g.S.SeqObject.reply_in _ _ _ c.client.inside.member.journal _ o.0 k.agrees o.1
 
 pub invariant_of-client-2 : goal.invariant_of-client-2
 invariant_of-client-2 g c = let k = outstanding_is c.if-not-member.false c.client.invariant.0 in
-    let o = own_waiting _ k.agrees.at_rest (sym k.agrees.outstanding_is) in let t = (c.look_and_exchange-found.ensures.tried c.client.inside.member.number o.0 k.agrees.number_is refl o.1).0 c.if-found-ne-ANSWERED.false in
+    let o = own_waiting _ k.agrees.at_rest (sym k.agrees.outstanding_is) in let t =
+    (c.look_and_exchange-found.ensures.tried c.client.inside.member.number o.0 k.agrees.number_is refl o.1).0 c.if-found-ne-ANSWERED.false in
     let f = (c.fetch_add-ticket.ensures.2 _ _ (ap (λ z. z.0.own) c.exchange.ensures.3 ∙ ap (λ z. z.0.own) t.2)).0 in let p = c.push_reserved.ensures in
     let same = same_answer _ _ (sym (came_out _ _ _ _ _ (ap (λ m. m.1) t.2) c.exchange.ensures.2) ∙ c.in-Answer.is) in
     let turn = poll_turn g.S.SeqObject.op_in g.S.SeqObject.reply_in _ _ _ _ _ o.0 t.0 t.1 _ _ _ _ k o.1 t.2 c.exchange.ensures.3 f in (
-      poll_ok g.S.SeqObject.op_in g.S.SeqObject.reply_in _ _ _ _ c.client.inside.member.journal _ o.0 t.0 t.1 _ _ k o.1 o.2 t.3 t.5 turn (p.items ∙ ap (λ a. c.client.inside.member.journal.events.items ++ Returned c.fetch_add-ticket.result a ∷ []) (sym same)) p.capacity,
+      poll_ok g.S.SeqObject.op_in g.S.SeqObject.reply_in _ _ _ _ c.client.inside.member.journal _ o.0 t.0 t.1 _ _ k o.1 o.2 t.3 t.5 turn
+          (p.items ∙ ap (λ a. c.client.inside.member.journal.events.items ++ Returned c.fetch_add-ticket.result a ∷ []) (sym same)) p.capacity,
       own_still _ _ _ _ (ap (λ m. m.0.lists) turn) c.client.invariant.1,
     )
 
 pub returns-clause-polled : goal.returns-clause-polled
 returns-clause-polled g c = let k = outstanding_is c.if-not-member.false c.client.invariant.0 in
-    let o = own_waiting _ k.agrees.at_rest (sym k.agrees.outstanding_is) in let t = (c.look_and_exchange-found.ensures.tried c.client.inside.member.number o.0 k.agrees.number_is refl o.1).0 c.if-found-ne-ANSWERED.false in
+    let o = own_waiting _ k.agrees.at_rest (sym k.agrees.outstanding_is) in let t =
+    (c.look_and_exchange-found.ensures.tried c.client.inside.member.number o.0 k.agrees.number_is refl o.1).0 c.if-found-ne-ANSWERED.false in
     let f = c.fetch_add-ticket.ensures.2 _ _ (ap (λ z. z.0.own) c.exchange.ensures.3 ∙ ap (λ z. z.0.own) t.2) in
     let same = same_answer _ _ (sym (came_out _ _ _ _ _ (ap (λ m. m.1) t.2) c.exchange.ensures.2) ∙ c.in-Answer.is) in
     let turn = poll_turn g.S.SeqObject.op_in g.S.SeqObject.reply_in _ _ _ _ _ o.0 t.0 t.1 _ _ _ _ k o.1 t.2 c.exchange.ensures.3 f.0 in
     subst (λ a. Polled c.args.client.now.knows (answer_in g.S.SeqObject.reply_in a) c.fetch_add-ticket.new.seat.me.0) same
-    (polled g.S.SeqObject.op_in g.S.SeqObject.reply_in _ _ _ _ _ o.0 t.0 t.1 _ _ _ _ k (sym (ap (λ v. v.knows) c.client.view_is)) o.1 o.2 t.3 t.4 t.5 (ap (λ z. z.0) c.exchange.ensures.3 ∙ ap (λ z. z.0) t.2) f.1 turn)
+    (polled g.S.SeqObject.op_in g.S.SeqObject.reply_in _ _ _ _ _ o.0 t.0 t.1 _ _ _ _ k (sym (ap (λ v. v.knows) c.client.view_is)) o.1 o.2 t.3 t.4 t.5
+    (ap (λ z. z.0) c.exchange.ensures.3 ∙ ap (λ z. z.0) t.2) f.1 turn)
 
 pub returns-clause-desk : goal.returns-clause-desk
 returns-clause-desk g c = let k = outstanding_is c.if-not-member.false c.client.invariant.0 in
-    let o = own_waiting _ k.agrees.at_rest (sym k.agrees.outstanding_is) in let t = (c.look_and_exchange-found.ensures.tried c.client.inside.member.number o.0 k.agrees.number_is refl o.1).0 c.if-found-ne-ANSWERED.false in
+    let o = own_waiting _ k.agrees.at_rest (sym k.agrees.outstanding_is) in let t =
+    (c.look_and_exchange-found.ensures.tried c.client.inside.member.number o.0 k.agrees.number_is refl o.1).0 c.if-found-ne-ANSWERED.false in
     let f = c.fetch_add-ticket.ensures.2 _ _ (ap (λ z. z.0.own) c.exchange.ensures.3 ∙ ap (λ z. z.0.own) t.2) in
     let kinds : c.fetch_add-ticket.new.seat.me.0.kinds ≡ c.client.inside.member.seat.me.0.kinds = ap (λ m. m.0.kinds) f.0 ∙ (ap (λ m. m.0.kinds) c.exchange.ensures.3 ∙ ap (λ m. m.0.kinds) t.2) in
-    (λ i. record { table = (c.fetch_add-ticket.ensures.0 ∙ (c.exchange.ensures.0 ∙ c.look_and_exchange-found.ensures.table.0)) i; quota = c.client.inside.member.quota; kinds = kinds i; lists = map (λ (p : PlaceSeen). p.roster) c.client.inside.member.places }) ∙ ap (λ k. k.desk) c.client.view_is
+    (λ i. record {
+      table = (c.fetch_add-ticket.ensures.0 ∙ (c.exchange.ensures.0 ∙ c.look_and_exchange-found.ensures.table.0)) i;
+      quota =
+          c.client.inside.member.quota;
+      kinds = kinds i;
+      lists = map (λ (p : PlaceSeen). p.roster) c.client.inside.member.places;
+    }) ∙ ap (λ k. k.desk) c.client.view_is
 
 pub returns-then-found-ne-ANSWERED-clause-desk : goal.returns-then-found-ne-ANSWERED-clause-desk
 returns-then-found-ne-ANSWERED-clause-desk g c = let k = c.client.invariant.0 in let o = own_waiting _ k.agrees.at_rest (sym k.agrees.outstanding_is ∙ c.if-not-member.false) in
     let t = (c.look_and_exchange-found.ensures.tried c.client.inside.member.number o.0 k.agrees.number_is refl o.1).1 (search rules) in
     let kinds : c.look_and_exchange-found.new.seat.me.0.kinds ≡ c.client.inside.member.seat.me.0.kinds = ap (λ m. m.0.kinds) t.0 in
-    (λ i. record { table = (c.look_and_exchange-found.ensures.table.0) i; quota = c.client.inside.member.quota; kinds = kinds i; lists = map (λ (p : PlaceSeen). p.roster) c.client.inside.member.places }) ∙ ap (λ k. k.desk) c.client.view_is
+    (λ i. record {
+      table = (c.look_and_exchange-found.ensures.table.0) i;
+      quota = c.client.inside.member.quota;
+      kinds = kinds i;
+      lists =
+          map (λ (p : PlaceSeen). p.roster) c.client.inside.member.places;
+    }) ∙ ap (λ k. k.desk) c.client.view_is
 
 pub unreachable-requires : goal.unreachable-requires
 unreachable-requires g c = let k = c.client.invariant.0 in let o = own_waiting _ k.agrees.at_rest (sym k.agrees.outstanding_is ∙ c.if-not-member.false) in
-    let t = (c.look_and_exchange-found.ensures.tried c.client.inside.member.number o.0 k.agrees.number_is refl o.1).0 (search rules) in c.in_default.not-Answer t.0 (came_out _ _ _ _ _ (ap (λ z. z.1) t.2) c.exchange.ensures.2)
+    let t = (c.look_and_exchange-found.ensures.tried c.client.inside.member.number o.0 k.agrees.number_is refl o.1).0 (search rules) in
+    c.in_default.not-Answer t.0 (came_out _ _ _ _ _ (ap (λ z. z.1) t.2) c.exchange.ensures.2)

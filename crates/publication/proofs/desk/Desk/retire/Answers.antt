@@ -11,7 +11,8 @@ store-requires g c = let d = c.self.invariant.0 in let wide = d.0 in let k = c.c
     let calm = subst (λ (v : DeskView). IsAtRest v.own) (sym same) k.agrees.at_rest in (
       e.0 ∙ (t.0 ∙ (ap (λ k. k.desk.table) c.client.view_is ∙ (ap (λ s. s.table) c.requires ∙ sym (ap (λ s. s.id.table) c.self.view_is)))),
       omega arith,
-      end_keeps_rule _ _ _ _ _ _ _ _ _ _ c.client.inside.member.journal _ (ap (λ v. v.role) same ∙ k.agrees.client_is) (ap (λ v. v.number) same ∙ k.agrees.number_is) calm (ap (λ v. v.held) same ∙ k.free)
+      end_keeps_rule _ _ _ _ _ _ _ _ _ _ c.client.inside.member.journal _ (ap (λ v. v.role) same ∙ k.agrees.client_is)
+          (ap (λ v. v.number) same ∙ k.agrees.number_is) calm (ap (λ v. v.held) same ∙ k.free)
           (k.agrees.journal_is ∙ sym (ap journal same)) (ap (λ m. m.1) e.3),
     )
 

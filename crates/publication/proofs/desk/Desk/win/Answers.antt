@@ -10,7 +10,8 @@ pub look_and_exchange-found-requires-clause-look : goal.look_and_exchange-found-
 look_and_exchange-found-requires-clause-look g c = look_at_lock_keeps_rule _ _ _ _ _ _ _ _ _ _ c.client.invariant.0.agrees.client_is
 
 pub look_and_exchange-found-requires-clause-found : goal.look_and_exchange-found-requires-clause-found
-look_and_exchange-found-requires-clause-found g c = let there = subst (λ z. c.args.object < length z) (sym (ap (λ k. k.desk.kinds) c.client.view_is ∙ ap (λ d. d.kinds) c.requires.desk)) c.requires.object in
+look_and_exchange-found-requires-clause-found g c = let there =
+    subst (λ z. c.args.object < length z) (sym (ap (λ k. k.desk.kinds) c.client.view_is ∙ ap (λ d. d.kinds) c.requires.desk)) c.requires.object in
     λ m told. (told there).0 refl
 
 pub look_and_exchange-found-requires-clause-missed : goal.look_and_exchange-found-requires-clause-missed
@@ -36,7 +37,8 @@ pub invariant_of-result-in-Core : goal.invariant_of-result-in-Core
 invariant_of-result-in-Core g c = let there = subst (λ z. c.args.object < length z) (sym (ap (λ k. k.desk.kinds) c.client.view_is ∙ ap (λ d. d.kinds) c.requires.desk)) c.requires.object in
     let t = (c.look_and_exchange-found.ensures.tried there).0 c.if-found-ne0.false in let e = c.exchange.ensures in let few = c.self.invariant.0.5 in
     let low : c.args.object < length c.self.inside.kinds.items = search rules in (
-      pass_ok g.S.SeqObject.content g.S.SeqObject.op_in g.S.SeqObject.reply_in _ _ _ _ _ _ t.0 _ _ _ _ _ c.client.invariant.0 t.2 e.3 (same_core _ _ (sym c.in-Core.is ∙ came_out _ _ _ _ _ (ap (λ m. m.1) t.2) e.2)) t.3 (omega arith),
+      pass_ok g.S.SeqObject.content g.S.SeqObject.op_in g.S.SeqObject.reply_in _ _ _ _ _ _ t.0 _ _ _ _ _ c.client.invariant.0 t.2 e.3
+          (same_core _ _ (sym c.in-Core.is ∙ came_out _ _ _ _ _ (ap (λ m. m.1) t.2) e.2)) t.3 (omega arith),
       own_still _ _ _ _ (ap (λ m. m.0.lists) e.3 ∙ ap (λ m. m.0.lists) t.2) c.client.invariant.1,
     )
 
@@ -48,5 +50,6 @@ pub returns-clause-won : goal.returns-clause-won
 returns-clause-won g c = let there = subst (λ z. c.args.object < length z) (sym (ap (λ k. k.desk.kinds) c.client.view_is ∙ ap (λ d. d.kinds) c.requires.desk)) c.requires.object in
     let t = (c.look_and_exchange-found.ensures.tried there).0 c.if-found-ne0.false in let e = c.exchange.ensures in
     let same = same_core _ _ (sym c.in-Core.is ∙ came_out _ _ _ _ _ (ap (λ m. m.1) t.2) e.2) in
-    opened g.S.SeqObject.content g.S.SeqObject.op_in g.S.SeqObject.reply_in c.args.client c.args.object t.0 c.in-Core.core t.1 c.client.inside.member.seat.me c.look_and_exchange-found.new.seat.me c.exchange.new.seat.me _ _
+    opened g.S.SeqObject.content g.S.SeqObject.op_in g.S.SeqObject.reply_in c.args.client c.args.object t.0 c.in-Core.core t.1
+    c.client.inside.member.seat.me c.look_and_exchange-found.new.seat.me c.exchange.new.seat.me _ _
     (sym (ap (λ k. k.desk.kinds) c.client.view_is)) (sym (ap (λ k. k.knows) c.client.view_is)) t.2 e.3 same t.3 t.4

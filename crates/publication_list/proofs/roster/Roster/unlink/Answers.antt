@@ -23,9 +23,13 @@ row_out c =
     c.remove-row.ensures.value ∙ get_or_default_zero c.walker.inside.rows.items c.args.at c.remove-row.result (inside c)
 
 -- what the walker knows once the row is taken out
-taken_out : (c : After-store) → c.args.at < length c.walker.inside.rows.items → 1 + c.index-before.result.now ≡ 1 + get_or c.walker.inside.rows.items (c.args.at - 1) 0 → c.remove-row.result ≡ get_or c.walker.inside.rows.items c.args.at 0 → c.store.new.seat.me ≡ (view.Walker c.walker.inside.places (remove c.walker.inside.rows.items c.args.at) (Some c.remove-row.result) (walks_of c.walker.inside.seat.me.0), [])
+taken_out : (c : After-store) → c.args.at < length c.walker.inside.rows.items
+    → 1 + c.index-before.result.now ≡ 1 + get_or c.walker.inside.rows.items (c.args.at - 1) 0
+    → c.remove-row.result ≡ get_or c.walker.inside.rows.items c.args.at 0
+    → c.store.new.seat.me ≡ (view.Walker c.walker.inside.places (remove c.walker.inside.rows.items c.args.at) (Some c.remove-row.result) (walks_of c.walker.inside.seat.me.0), [])
 taken_out c low before out =
-    unlink_leaves (1 + c.index-before.result.now) c.word_to-next.result c.args.at _ c.walker.inside.rows.items (walks_of c.walker.inside.seat.me.0) _ c.walker.invariant.met c.requires.at.0 low before _ c.store.ensures.2
+    unlink_leaves (1 + c.index-before.result.now) c.word_to-next.result c.args.at _ c.walker.inside.rows.items (walks_of c.walker.inside.seat.me.0) _
+    c.walker.invariant.met c.requires.at.0 low before _ c.store.ensures.2
     ∙ ap (λ (z : ℕ). (view.Walker c.walker.inside.places (remove c.walker.inside.rows.items c.args.at) (Some z) (walks_of c.walker.inside.seat.me.0), [])) (sym out)
 
 pub store-requires : goal.store-requires
@@ -65,7 +69,8 @@ invariant_of-walker c =
     let room = w.room in
     record {
       within = subst (λ z. length z ≤ c.walker.inside.places) (sym p.items) less.0;
-      met = met ∙ ap (λ z. (view.Walker c.walker.inside.places z None (walks_of c.walker.inside.seat.me.0), [])) (sym p.items) ∙ ap (λ z. (view.Walker c.walker.inside.places c.remove-row.new.self.items None z, [])) (sym (ap (λ z. walks_of z.0) met));
+      met = met ∙ ap (λ z. (view.Walker c.walker.inside.places z None (walks_of c.walker.inside.seat.me.0), [])) (sym p.items)
+          ∙ ap (λ z. (view.Walker c.walker.inside.places c.remove-row.new.self.items None z, [])) (sym (ap (λ z. walks_of z.0) met));
       few = w.few;
       room = omega arith;
       low = subst (λ z. (k : ℕ) → k < length z → get_or z k 0 < c.walker.inside.places) (sym p.items) less.1;

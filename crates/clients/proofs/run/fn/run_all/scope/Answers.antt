@@ -29,7 +29,8 @@ loop-preserved g c =
       left = omega (arith, one.1, so_far.left);
       started = omega (arith, long, so_far.started);
       room = subst (λ z. length w.calls ≤ z) (sym c.push_reserved.ensures.capacity) so_far.room;
-      promised = and_last (λ h k. (h.promise.0.now ≡ d) × (h.promise.1.now ≡ w) × (h.promise.2 + (k + 1) ≡ length w.calls)) c.loop.workers.items c.push_reserved.new.self.items worker items so_far.promised
+      promised = and_last (λ h k. (h.promise.0.now ≡ d) × (h.promise.1.now ≡ w) × (h.promise.2 + (k + 1) ≡ length w.calls)) c.loop.workers.items
+          c.push_reserved.new.self.items worker items so_far.promised
           (ap (λ p. p.0.now) promise, ap (λ p. p.1.now) promise, omega (arith, number, one.1, so_far.left, so_far.started));
     }
 
@@ -74,5 +75,11 @@ returns g c =
     let last = c.loop-test.false in let last_2 = c.loop-2-test.false in let clients = started.desk.clients in
     let first : c.in-Some-pop.own.knows.number ≡ 0 = ap (λ (k : Known). k.knows.number) one.0 ∙ omega (arith, one.1, started.left, end, last) in
     let all : c.loop-2.counter ≡ d.clients = omega (arith, so_far.left, last_2, end_2, clients) in
-    let met = so_far.met w started.desk (λ k e low. let p = started.promised k e low in (p.1, p.2 ∙ sym end_2)) in
-    (record { worked = still_worked d w 0 c.work-own.result c.loop-2.own (subst (λ n. HasWorked d w n c.work-own.result) first c.work-own.ensures) so_far.kept so_far.own; met = subst (HasMetBelow w c.loop-2.own) all met.1 }, tt)
+    let met = so_far.met w started.desk (λ k e low. let p = started.promised k e low in (p.1, p.2 ∙ sym end_2)) in (
+      record {
+        worked = still_worked d w 0 c.work-own.result c.loop-2.own (subst (λ n. HasWorked d w n c.work-own.result) first c.work-own.ensures)
+            so_far.kept so_far.own;
+        met = subst (HasMetBelow w c.loop-2.own) all met.1;
+      },
+      tt,
+    )

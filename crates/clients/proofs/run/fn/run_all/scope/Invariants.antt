@@ -12,7 +12,8 @@ invariant-loop g l = record {
   left : length l.clients.items + l.counter ≡ length l.workload.calls + 1;
   started : length l.workers.items + 1 ≡ l.counter;
   room : length l.workload.calls ≤ vec_capacity l.workers;
-  promised : (k : ℕ) (d : _) → k < length l.workers.items → ((get_or l.workers.items k d).promise.0.now ≡ l.desk) × ((get_or l.workers.items k d).promise.1.now ≡ l.workload) × ((get_or l.workers.items k d).promise.2 + (k + 1) ≡ length l.workload.calls);
+  promised : (k : ℕ) (d : _) → k < length l.workers.items → ((get_or l.workers.items k d).promise.0.now ≡ l.desk)
+      × ((get_or l.workers.items k d).promise.1.now ≡ l.workload) × ((get_or l.workers.items k d).promise.2 + (k + 1) ≡ length l.workload.calls);
 }
 
 -- client 0 has met those whose threads have ended

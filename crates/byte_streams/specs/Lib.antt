@@ -1,0 +1,4 @@
+pub mod Given
+pub mod Ins
+pub mod Outs
+pub mod Sent

@@ -1,7 +1,0 @@
-use Rattle.edn.proofs.levels.Keys.push_to_many.Goals as goal
-
-pub invariant_of-self-in-Break-branch-2 : goal.invariant_of-self-in-Break-branch-2
-invariant_of-self-in-Break-branch-2 c = record { known = λ s e. let none = c.requires in absurd cc }
-
-pub invariant_of-self-in-Break-branch-3 : goal.invariant_of-self-in-Break-branch-3
-invariant_of-self-in-Break-branch-3 c = record { known = λ s e. let none = c.requires in absurd cc }

@@ -1,9 +1,0 @@
-use Rattle.std.proofs.Common.{◌≡◌, ◌++◌, length}
-use Rattle.edn.specs.Pieces.{unquoted}
-use Rattle.edn.proofs.string.string_in.Given as goal
-
-abbrev pub invariant-bytes : goal.invariant-bytes
-invariant-bytes l = l.bytes.items ++ unquoted l.rest ≡ unquoted l.raw
-
-abbrev pub decreases-bytes : goal.decreases-bytes
-decreases-bytes l = length l.rest

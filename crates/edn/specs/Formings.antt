@@ -1,8 +1,0 @@
--- What is left of the tokens of an element. No public clause speaks of it.
-use Rattle.std.specs.Prelude.{List}
-use Rattle.edn.specs.Token.{Token}
-use Rattle.edn.specs.Pieces.{token_buffer_tokens}
-use Rattle.edn.specs.declared.forming.Tokens.{Tokens}
-
-abbrev pub left_on : Tokens → List Token
-left_on t = token_buffer_tokens t.rest.now

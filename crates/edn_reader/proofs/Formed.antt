@@ -1,0 +1,249 @@
+-- Forms at the front of tokens.
+use Rattle.std.proofs.Common.{◌≡◌, ℕ, ◌<◌, true, false, List, [], ◌∷◌, ◌++◌, length, refl, sym, ap, ◌∙◌, subst, append_assoc, arith}
+use Rattle.edn_reader.specs.Bytes.{is_name}
+use Rattle.edn_reader.specs.Datum.{Atom, nil, boolean, integer, string, keyword, Datum, atom, vector, dictionary, Items, no_items, item, Entries, no_entries, entry, items_of, entries_of}
+use Rattle.edn_reader.specs.Token.{Token, open_vector, close_vector, open_map, close_map, leaf, tokens_of, items_tokens, entries_tokens}
+use Rattle.edn_reader.specs.Text.{InProfile, ItemsInProfile, EntriesInProfile, AtomInProfile}
+use Rattle.edn_reader.specs.Forming.{BeginsForm, BeginsItems, BeginsPairs}
+use Rattle.std.specs.Borrow.{Bor}
+use Rattle.edn_reader.specs.Names.{name_bytes}
+use Rattle.edn_reader.specs.Pieces.{piece_token, token_buffer_tokens, unquoted}
+use Rattle.edn_reader.specs.View.{view, views, pair_views}
+use Rattle.edn_reader.specs.declared.form.Form.{Form}
+use Rattle.edn_reader.specs.declared.form.Name.{Name}
+use Rattle.edn_reader.specs.declared.piece.Piece.{Piece}
+use Rattle.edn_reader.specs.declared.piece.Piece.TheVariants.{OpenVector, CloseVector, OpenMap, CloseMap, Nil, True, False, Int, Str, Keyword}
+use Rattle.edn_reader.proofs.Keys.{pair_views-append}
+use Rattle.edn_reader.proofs.Consumed.{list_tokens, pairs_tokens, list_tokens-append, pairs_tokens-append}
+use Rattle.edn_reader.proofs.Prefixes.{tails, same_datum}
+
+same_leaf : (a b : Atom) (ts us : List Token) → leaf (atom a) ∷ ts ≡ leaf (atom b) ∷ us → (a ≡ b) × (ts ≡ us)
+same_leaf a b ts us e = (cc, cc)
+
+-- ---- at the front of a form
+
+-- a single token is in the profile
+pub leaf_own : (a : Atom) (ts : List Token) → BeginsForm (leaf (atom a) ∷ ts) → AtomInProfile a
+leaf_own a ts b = by_form b.form b.own b.are
+  where
+    by_form : (d : Datum) → InProfile d → leaf (atom a) ∷ ts ≡ tokens_of d ++ b.behind → AtomInProfile a
+    by_form (atom x) p e = subst AtomInProfile (sym (same_leaf a x ts b.behind e).0) p
+    by_form (vector ds) p e = absurd cc
+    by_form (dictionary es) p e = absurd cc
+
+pub nothing_begins : BeginsForm [] → ⊥
+nothing_begins b = by_form b.form b.are
+  where
+    by_form : (d : Datum) → [] ≡ tokens_of d ++ b.behind → ⊥
+    by_form (atom x) e = cc
+    by_form (vector ds) e = cc
+    by_form (dictionary es) e = cc
+
+pub close_vector_begins : (ts : List Token) → BeginsForm (close_vector ∷ ts) → ⊥
+close_vector_begins ts b = by_form b.form b.are
+  where
+    by_form : (d : Datum) → close_vector ∷ ts ≡ tokens_of d ++ b.behind → ⊥
+    by_form (atom x) e = cc
+    by_form (vector ds) e = cc
+    by_form (dictionary es) e = cc
+
+pub close_map_begins : (ts : List Token) → BeginsForm (close_map ∷ ts) → ⊥
+close_map_begins ts b = by_form b.form b.are
+  where
+    by_form : (d : Datum) → close_map ∷ ts ≡ tokens_of d ++ b.behind → ⊥
+    by_form (atom x) e = cc
+    by_form (vector ds) e = cc
+    by_form (dictionary es) e = cc
+
+-- no bracket is a form alone
+pub open_vector_alone : BeginsForm (open_vector ∷ []) → ⊥
+open_vector_alone b = by_form b.form b.are
+  where
+    by_items : (ds : Items) → [] ≡ (items_tokens ds ++ close_vector ∷ []) ++ b.behind → ⊥
+    by_items no_items e = cc
+    by_items (item (atom x) ds) e = cc
+    by_items (item (vector es) ds) e = cc
+    by_items (item (dictionary es) ds) e = cc
+
+    by_form : (d : Datum) → open_vector ∷ [] ≡ tokens_of d ++ b.behind → ⊥
+    by_form (atom x) e = cc
+    by_form (vector ds) e = by_items ds (tails open_vector open_vector _ _ e)
+    by_form (dictionary es) e = cc
+
+pub open_map_alone : BeginsForm (open_map ∷ []) → ⊥
+open_map_alone b = by_form b.form b.are
+  where
+    by_pairs : (es : Entries) → [] ≡ (entries_tokens es ++ close_map ∷ []) ++ b.behind → ⊥
+    by_pairs no_entries e = cc
+    by_pairs (entry k d es) e = cc
+
+    by_form : (d : Datum) → open_map ∷ [] ≡ tokens_of d ++ b.behind → ⊥
+    by_form (atom x) e = cc
+    by_form (vector ds) e = cc
+    by_form (dictionary es) e = by_pairs es (tails open_map open_map _ _ e)
+
+pub vector_begins : (ts : List Token) → BeginsForm (open_vector ∷ ts) → BeginsItems ts
+vector_begins ts b = by_form b.form b.own b.are
+  where
+    by_form : (d : Datum) → InProfile d → open_vector ∷ ts ≡ tokens_of d ++ b.behind → BeginsItems ts
+    by_form (atom x) p e = absurd cc
+    by_form (vector ds) p e = record { items = ds; behind = b.behind; own = p; are = tails open_vector open_vector _ _ e ∙ append_assoc (items_tokens ds) (close_vector ∷ []) b.behind }
+    by_form (dictionary es) p e = absurd cc
+
+pub map_begins : (ts : List Token) → BeginsForm (open_map ∷ ts) → BeginsPairs ts
+map_begins ts b = by_form b.form b.own b.are
+  where
+    by_form : (d : Datum) → InProfile d → open_map ∷ ts ≡ tokens_of d ++ b.behind → BeginsPairs ts
+    by_form (atom x) p e = absurd cc
+    by_form (vector ds) p e = absurd cc
+    by_form (dictionary es) p e = record { pairs = es; behind = b.behind; own = p; are = tails open_map open_map _ _ e ∙ append_assoc (entries_tokens es) (close_map ∷ []) b.behind }
+
+-- a leaf, without what follows it
+pub leaf_alone : (a : Atom) (ts : List Token) → BeginsForm (leaf (atom a) ∷ ts) → BeginsForm (leaf (atom a) ∷ [])
+leaf_alone a ts b = record { form = atom a; behind = []; own = leaf_own a ts b; are = refl }
+
+-- ---- along the elements of a vector
+
+pub item_begins : (ts : List Token) → ((us : List Token) → ts ≡ close_vector ∷ us → ⊥) → BeginsItems ts → BeginsForm ts
+item_begins ts apart b = by_items b.items b.own b.are
+  where
+    by_items : (ds : Items) → ItemsInProfile ds → ts ≡ items_tokens ds ++ close_vector ∷ b.behind → BeginsForm ts
+    by_items no_items p e = absurd (apart b.behind e)
+    by_items (item d ds) p e = record { form = d; behind = items_tokens ds ++ close_vector ∷ b.behind; own = p.0; are = e ∙ append_assoc (tokens_of d) (items_tokens ds) (close_vector ∷ b.behind) }
+
+pub items_behind : (ts us : List Token) (d : Datum) → ((vs : List Token) → ts ≡ close_vector ∷ vs → ⊥) → ts ≡ tokens_of d ++ us → BeginsItems ts → BeginsItems us
+items_behind ts us d apart is b = by_items b.items b.own b.are
+  where
+    by_items : (ds : Items) → ItemsInProfile ds → ts ≡ items_tokens ds ++ close_vector ∷ b.behind → BeginsItems us
+    by_items no_items p e = absurd (apart b.behind e)
+    by_items (item x ds) p e =
+        let q = same_datum d x us (items_tokens ds ++ close_vector ∷ b.behind) (sym is ∙ e ∙ append_assoc (tokens_of x) (items_tokens ds) (close_vector ∷ b.behind)) in
+        record { items = ds; behind = b.behind; own = p.1; are = q.1 }
+
+-- ---- along the pairs of a map
+
+-- a key is a name, and its value comes next
+pub key_own : (ts us : List Token) (k : List ℕ) → ts ≡ leaf (atom (keyword k)) ∷ us → BeginsPairs ts → is_name k ≡ true
+key_own ts us k q b = by_pairs b.pairs b.own (sym q ∙ b.are)
+  where
+    by_pairs : (es : Entries) → EntriesInProfile es → leaf (atom (keyword k)) ∷ us ≡ entries_tokens es ++ close_map ∷ b.behind → is_name k ≡ true
+    by_pairs no_entries p e = absurd cc
+    by_pairs (entry l d es) p e = let h : keyword k ≡ keyword l = (same_leaf (keyword k) (keyword l) us _ e).0 in subst AtomInProfile (sym h) p.0
+
+pub value_begins : (ts us : List Token) (k : List ℕ) → ts ≡ leaf (atom (keyword k)) ∷ us → BeginsPairs ts → BeginsForm us
+value_begins ts us k q b = by_pairs b.pairs b.own (sym q ∙ b.are)
+  where
+    by_pairs : (es : Entries) → EntriesInProfile es → leaf (atom (keyword k)) ∷ us ≡ entries_tokens es ++ close_map ∷ b.behind → BeginsForm us
+    by_pairs no_entries p e = absurd cc
+    by_pairs (entry l d es) p e =
+        record {
+          form = d;
+          behind = entries_tokens es ++ close_map ∷ b.behind;
+          own = p.1;
+          are = (same_leaf (keyword k) (keyword l) us _ e).1
+              ∙ append_assoc (tokens_of d) (entries_tokens es) (close_map ∷ b.behind);
+        }
+
+pub pairs_behind : (ts us vs : List Token) (k : List ℕ) (d : Datum) → ts ≡ leaf (atom (keyword k)) ∷ us → us ≡ tokens_of d ++ vs → BeginsPairs ts → BeginsPairs vs
+pairs_behind ts us vs k d q is b = by_pairs b.pairs b.own (sym q ∙ b.are)
+  where
+    by_pairs : (es : Entries) → EntriesInProfile es → leaf (atom (keyword k)) ∷ us ≡ entries_tokens es ++ close_map ∷ b.behind → BeginsPairs vs
+    by_pairs no_entries p e = absurd cc
+    by_pairs (entry l x es) p e =
+        let t = (same_leaf (keyword k) (keyword l) us _ e).1 in
+        let r = same_datum d x vs (entries_tokens es ++ close_map ∷ b.behind) (sym is ∙ t ∙ append_assoc (tokens_of x) (entries_tokens es) (close_map ∷ b.behind)) in
+        record { pairs = es; behind = b.behind; own = p.2; are = r.1 }
+
+pub no_pairs : BeginsPairs [] → ⊥
+no_pairs b = by_pairs b.pairs b.are
+  where
+    by_pairs : (es : Entries) → [] ≡ entries_tokens es ++ close_map ∷ b.behind → ⊥
+    by_pairs no_entries e = cc
+    by_pairs (entry l d es) e = cc
+
+-- where no key stands, the map ends
+abbrev pub NoKey : Token → Type 0
+NoKey t = (k : List ℕ) → t ≡ leaf (atom (keyword k)) → ⊥
+
+pub pairs_end : (t : Token) (ts : List Token) → NoKey t → BeginsPairs (t ∷ ts) → t ∷ ts ≡ close_map ∷ ts
+pairs_end t ts apart b = by_pairs b.pairs b.are
+  where
+    by_pairs : (es : Entries) → t ∷ ts ≡ entries_tokens es ++ close_map ∷ b.behind → t ∷ ts ≡ close_map ∷ ts
+    by_pairs no_entries e = let h : t ≡ close_map = cc in ap (λ (x : Token). x ∷ ts) h
+    by_pairs (entry l d es) e = let h : t ≡ leaf (atom (keyword l)) = cc in absurd (apart l h)
+
+-- ---- the tokens so far
+
+-- one form more
+pub items_more : (all rest behind : List Token) (ds : List Datum) (d : Datum) → all ≡ list_tokens ds ++ rest → rest ≡ tokens_of d ++ behind → all ≡ list_tokens (ds ++ d ∷ []) ++ behind
+items_more all rest behind ds d e f =
+    e ∙ ap (λ (t : List Token). list_tokens ds ++ t) f ∙ sym (append_assoc (list_tokens ds) (tokens_of d) behind) ∙ ap (λ (t : List Token). t ++ behind) (sym (list_tokens-append ds d))
+
+pub pairs_more : (all rest value behind : List Token) (es : List (List ℕ × Datum)) (k : List ℕ) (d : Datum) → all ≡ pairs_tokens es ++ rest
+    → rest ≡ leaf (atom (keyword k)) ∷ value → value ≡ tokens_of d ++ behind
+    → all ≡ pairs_tokens (es ++ (k, d) ∷ []) ++ behind
+pairs_more all rest value behind es k d e f g =
+    e ∙ ap (λ (t : List Token). pairs_tokens es ++ t) (f ∙ ap (λ (t : List Token). leaf (atom (keyword k)) ∷ t) g)
+    ∙ sym (append_assoc (pairs_tokens es) (leaf (atom (keyword k)) ∷ tokens_of d) behind)
+    ∙ ap (λ (t : List Token). t ++ behind) (sym (pairs_tokens-append es k d))
+
+-- the whole vector, and the whole map
+pub vector_whole : (all rest behind : List Token) (ds : List Datum) → all ≡ list_tokens ds ++ rest → rest ≡ close_vector ∷ behind → open_vector ∷ all ≡ tokens_of (vector (items_of ds)) ++ behind
+vector_whole all rest behind ds e f =
+    ap (λ (t : List Token). open_vector ∷ t) (e ∙ ap (λ (t : List Token). list_tokens ds ++ t) f ∙ sym (append_assoc (list_tokens ds) (close_vector ∷ []) behind))
+
+pub map_whole : (all rest behind : List Token) (es : List (List ℕ × Datum)) → all ≡ pairs_tokens es ++ rest → rest ≡ close_map ∷ behind
+    → open_map ∷ all ≡ tokens_of (dictionary (entries_of es)) ++ behind
+map_whole all rest behind es e f =
+    ap (λ (t : List Token). open_map ∷ t) (e ∙ ap (λ (t : List Token). pairs_tokens es ++ t) f ∙ sym (append_assoc (pairs_tokens es) (close_map ∷ []) behind))
+
+-- ---- some tokens
+
+pub some_form : (ps : List Piece) → BeginsForm (token_buffer_tokens ps) → 0 < length ps
+some_form [] b = absurd (nothing_begins b)
+some_form (p ∷ ps) b = omega arith
+
+pub some_pairs : (ps : List Piece) → BeginsPairs (token_buffer_tokens ps) → 0 < length ps
+some_pairs [] b = absurd (no_pairs b)
+some_pairs (p ∷ ps) b = omega arith
+
+-- ---- by the token at the front
+
+no_key : (p : Piece) → ((name : Bor (List ℕ)) → p ≡ Keyword name → ⊥) → NoKey (piece_token p)
+no_key OpenVector h k e = cc
+no_key CloseVector h k e = cc
+no_key OpenMap h k e = cc
+no_key CloseMap h k e = cc
+no_key Nil h k e = cc
+no_key True h k e = cc
+no_key False h k e = cc
+no_key (Int z) h k e = cc
+no_key (Str raw) h k e = cc
+no_key (Keyword name) h k e = h name refl
+
+pub map_end : (p : Piece) (ts us : List Token) → ((name : Bor (List ℕ)) → p ≡ Keyword name → ⊥) → ts ≡ piece_token p ∷ us → BeginsPairs ts → ts ≡ close_map ∷ us
+map_end p ts us h e b = e ∙ pairs_end (piece_token p) us (no_key p h) (subst BeginsPairs e b)
+
+pub alone : (p : Piece) (ts us : List Token) → (p ≡ OpenVector → ⊥) → (p ≡ OpenMap → ⊥) → ts ≡ piece_token p ∷ us → BeginsForm ts → BeginsForm (piece_token p ∷ [])
+alone OpenVector ts us h k e b = absurd (h refl)
+alone CloseVector ts us h k e b = absurd (close_vector_begins us (subst BeginsForm e b))
+alone OpenMap ts us h k e b = absurd (k refl)
+alone CloseMap ts us h k e b = absurd (close_map_begins us (subst BeginsForm e b))
+alone Nil ts us h k e b = leaf_alone nil us (subst BeginsForm e b)
+alone True ts us h k e b = leaf_alone (boolean true) us (subst BeginsForm e b)
+alone False ts us h k e b = leaf_alone (boolean false) us (subst BeginsForm e b)
+alone (Int z) ts us h k e b = leaf_alone (integer z) us (subst BeginsForm e b)
+alone (Str raw) ts us h k e b = leaf_alone (string (unquoted raw.now)) us (subst BeginsForm e b)
+alone (Keyword name) ts us h k e b = leaf_alone (keyword name.now) us (subst BeginsForm e b)
+
+-- ---- one form more in a vector
+
+views-append : (xs : List Form) (x : Form) → views (xs ++ x ∷ []) ≡ views xs ++ view x ∷ []
+views-append [] x = refl
+views-append (y ∷ ys) x = ap (λ (r : List Datum). view y ∷ r) (views-append ys x)
+
+pub views_with : (xs ys : List Form) (x : Form) → ys ≡ xs ++ x ∷ [] → views ys ≡ views xs ++ view x ∷ []
+views_with xs ys x e = ap views e ∙ views-append xs x
+
+pub pairs_with : (xs ys : List (Name × Form)) (k : Name) (x : Form) → ys ≡ xs ++ (k, x) ∷ [] → pair_views ys ≡ pair_views xs ++ (name_bytes k, view x) ∷ []
+pairs_with xs ys k x e = ap pair_views e ∙ pair_views-append xs (k, x)

@@ -1,0 +1,75 @@
+-- What stands before a token, and how much is left behind it.
+use Rattle.std.proofs.Common.{◌≡◌, ℕ, suc, ◌<◌, ◌≤◌, Bool, true, false, cond, Option, Some, None, List, [], ◌∷◌, ◌++◌, length, refl, ap, subst, arith}
+use Rattle.std.specs.Prelude.{◌==◌, option_map}
+use Rattle.std.proofs.lemmas.List.{length-append}
+use Rattle.edn_reader.specs.Bytes.{is_separator}
+use Rattle.edn_reader.specs.Reading.{skip, skip_comment, word, after_word, Next, end, bad, got, got_word, first, atom_of, got_string, string_at, State}
+use Rattle.edn_reader.specs.Datum.{Atom}
+use Rattle.edn_reader.specs.Token.{Token}
+use Rattle.edn_reader.proofs.Strings.{some_is, string_less}
+use Rattle.edn_reader.proofs.Words.{word_parts}
+
+if_within : (c : Bool) (x y : List ℕ) (n : ℕ) → length x ≤ n → length y ≤ n → length (cond c x y) ≤ n
+if_within true x y n h k = h
+if_within false x y n h k = k
+
+mutual
+  pub skip_within : (t : List ℕ) → length (skip t) ≤ length t
+  skip_within [] = omega arith
+  skip_within (b ∷ bs) =
+      let n : ℕ = suc (length bs) in
+      let s : length (skip bs) ≤ n = omega (arith, skip_within bs) in
+      let c : length (skip_comment bs) ≤ n = omega (arith, skip_comment_within bs) in
+      let h : n ≤ n = omega arith in
+      if_within (is_separator b) (skip bs) (cond (b == 59) (skip_comment bs) (b ∷ bs)) n s (if_within (b == 59) (skip_comment bs) (b ∷ bs) n c h)
+
+  pub skip_comment_within : (t : List ℕ) → length (skip_comment t) ≤ length t
+  skip_comment_within [] = omega arith
+  skip_comment_within (b ∷ bs) =
+      let n : ℕ = suc (length bs) in
+      let s : length (skip bs) ≤ n = omega (arith, skip_within bs) in
+      let c : length (skip_comment bs) ≤ n = omega (arith, skip_comment_within bs) in
+      if_within (b == 10) (skip bs) (skip_comment bs) n s c
+
+-- a state, and the rest
+abbrev pub with_rest : List ℕ → State → State × List ℕ
+with_rest rest s = (s, rest)
+
+pub mapped_pair : (o : Option State) (q : List ℕ) (z : State) (r : List ℕ) → option_map (with_rest q) o ≡ Some (z, r) → (o ≡ Some z) × (q ≡ r)
+mapped_pair None q z r e = absurd cc
+mapped_pair (Some x) q z r e =
+    let p = some_is {A = State × List ℕ} (x, q) (z, r) e in
+    (ap (λ (y : State × List ℕ). Some y.0) p, ap (λ (y : State × List ℕ). y.1) p)
+
+-- what follows a token is shorter
+abbrev pub LeavesLess : List ℕ → Next → Type 0
+LeavesLess t end = Unit {0}
+LeavesLess t bad = Unit {0}
+LeavesLess t (got k r) = length r < length t
+
+if_less : (t : List ℕ) (c : Bool) (x y : Next) → LeavesLess t x → LeavesLess t y → LeavesLess t (cond c x y)
+if_less t true x y h k = h
+if_less t false x y h k = k
+
+word_less : (t w a : List ℕ) (o : Option Atom) → atom_of w ≡ o → w ++ a ≡ t → LeavesLess t (got_word o a)
+unfolding atom_of
+word_less t w a None e p = tt
+word_less t [] a (Some x) e p = absurd cc
+word_less t (c ∷ cs) a (Some x) e p = omega (arith, length-append (c ∷ cs) a, ap length p)
+
+string_leaves : (t bs : List ℕ) (o : Option (List ℕ × List ℕ)) → length bs < length t → string_at bs ≡ o → LeavesLess t (got_string o)
+string_leaves t bs None h e = tt
+string_leaves t bs (Some p) h e = let l : length p.1 < length bs = string_less bs p.0 p.1 e in omega arith
+
+first_less : (t : List ℕ) → LeavesLess t (first t)
+unfolding first
+first_less [] = tt
+first_less (b ∷ bs) =
+    let t : List ℕ = b ∷ bs in
+    let h : length bs < length t = omega arith in
+    let w : Next = got_word (atom_of (word t)) (after_word t) in
+    let last : LeavesLess t w = word_less t (word t) (after_word t) (atom_of (word t)) refl (word_parts t) in
+    if_less t (b == 91) _ _ h (if_less t (b == 93) _ _ h (if_less t (b == 123) _ _ h (if_less t (b == 125) _ _ h (if_less t (b == 34) _ _ (string_leaves t bs (string_at bs) h refl) last))))
+
+pub first_shorter : (t : List ℕ) (k : Token) (r : List ℕ) → first t ≡ got k r → length r < length t
+first_shorter t k r e = subst (LeavesLess t) e (first_less t)

@@ -1,0 +1,20 @@
+-- Words and the values of digits.
+use Rattle.std.proofs.Common.{◌≡◌, ℕ, ◌+◌, ◌-◌, ◌*◌, ◌≤◌, List, [], ◌∷◌, ◌++◌, length, take, refl, arith}
+use Rattle.edn_reader.specs.Bytes.{is_token_byte}
+use Rattle.edn_reader.specs.Reading.{word, after_word}
+use Rattle.edn_reader.specs.Spells.{value_after}
+use Rattle.edn_reader.proofs.Parts.{parts_by, rest_within, front_is}
+
+pub word_parts : (t : List ℕ) → word t ++ after_word t ≡ t
+word_parts [] = refl
+word_parts (b ∷ bs) = parts_by (is_token_byte b) b bs (word bs) (after_word bs) (word_parts bs)
+
+pub after_word_within : (t : List ℕ) → length (after_word t) ≤ length t
+after_word_within t = rest_within (word t) (after_word t) t (word_parts t)
+
+pub word_is_front : (t : List ℕ) → take (length t - length (after_word t)) t ≡ word t
+word_is_front t = front_is (word t) (after_word t) t (word_parts t)
+
+pub value_after_above : (n : ℕ) (ds : List ℕ) → n ≤ value_after n ds
+value_after_above n [] = omega arith
+value_after_above n (b ∷ bs) = omega (arith, value_after_above (n * 10 + (b - 48)) bs)

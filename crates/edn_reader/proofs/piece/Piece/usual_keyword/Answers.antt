@@ -1,0 +1,24 @@
+use Rattle.std.proofs.Common.{◌≡◌, ◌-◌, ◌≤◌, true, rules, length, take, drop, get_or, refl, sym, ap, ◌∙◌, arith}
+use Rattle.edn_reader.specs.Bytes.{is_letter}
+use Rattle.edn_reader.specs.Spells.{EndsToken}
+use Rattle.edn_reader.specs.Token.{leaf}
+use Rattle.edn_reader.specs.Datum.{atom, keyword}
+use Rattle.edn_reader.specs.Reading.{got}
+use Rattle.std.specs.Prelude.{List, ℕ}
+use Rattle.edn_reader.proofs.Runs.{usual_keyword}
+use Rattle.edn_reader.proofs.piece.Piece.usual_keyword.Goals as goal
+
+pub from_utf8_unchecked-name-requires : goal.from_utf8_unchecked-name-requires
+from_utf8_unchecked-name-requires c =
+    let h : is_letter (get_or c.args.text.now 0 0) ≡ true = search rules in
+    let l : length (take (length c.args.text.now - 1) (drop 1 c.args.text.now)) - length c.behind_name-rest.result.now ≤ 63 = omega arith in
+    let w : EndsToken c.behind_name-rest.result.now = c.ends_token.ensures c.if-not-ends_token.false in
+    (usual_keyword c.args.text.now (take (length c.args.text.now - 1) (drop 1 c.args.text.now)) c.behind_name-rest.result.now (omega arith) refl c.behind_name-rest.ensures h l w).utf8
+
+pub returns : goal.returns
+returns c =
+    let h : is_letter (get_or c.args.text.now 0 0) ≡ true = search rules in
+    let l : length (take (length c.args.text.now - 1) (drop 1 c.args.text.now)) - length c.behind_name-rest.result.now ≤ 63 = omega arith in
+    let w : EndsToken c.behind_name-rest.result.now = c.ends_token.ensures c.if-not-ends_token.false in
+    let k = usual_keyword c.args.text.now (take (length c.args.text.now - 1) (drop 1 c.args.text.now)) c.behind_name-rest.result.now (omega arith) refl c.behind_name-rest.ensures h l w in
+    k.read ∙ ap (λ (x : List ℕ). got (leaf (atom (keyword x))) c.behind_name-rest.result.now) (sym c.from_utf8_unchecked-name.ensures)

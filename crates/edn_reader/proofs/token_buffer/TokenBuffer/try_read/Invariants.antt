@@ -1,0 +1,11 @@
+use Rattle.std.proofs.Common.{length, ◌<◌}
+use Rattle.edn_reader.specs.Kepts.{keeping_of}
+use Rattle.edn_reader.specs.TokenBuffers.{held_on, open_on}
+use Rattle.edn_reader.proofs.Turns.{Midway}
+use Rattle.edn_reader.proofs.token_buffer.TokenBuffer.try_read.Given as goal
+
+abbrev pub invariant-tokens : goal.invariant-tokens
+invariant-tokens l = Midway (keeping_of l.keeping) l.text l.self.behind.now (open_on l.self) (held_on l.self) × (length l.self.behind.now < length l.text)
+
+abbrev pub decreases-tokens : goal.decreases-tokens
+decreases-tokens l = length l.self.behind.now

@@ -1,0 +1,28 @@
+-- Tokens at whose front those of a form stand. No public clause speaks of it.
+use Rattle.std.specs.Prelude.{◌≡◌, List, ◌∷◌, ◌++◌}
+use Rattle.edn_reader.specs.Datum.{Datum, Items, Entries}
+use Rattle.edn_reader.specs.Text.{InProfile, ItemsInProfile, EntriesInProfile}
+use Rattle.edn_reader.specs.Token.{Token, close_vector, close_map, tokens_of, items_tokens}
+use Rattle.edn_reader.specs.Token.{entries_tokens}
+
+-- The tokens of a form, and then these. Its integers have 64 bits, its strings are text and its
+-- keywords are spelled as keywords.
+pub record BeginsForm (tokens : List Token) : Type 0 where
+  pub form : Datum
+  pub behind : List Token
+  pub own : InProfile form
+  pub are : tokens ≡ tokens_of form ++ behind
+
+-- the same of a vector's elements and the bracket behind them
+pub record BeginsItems (tokens : List Token) : Type 0 where
+  pub items : Items
+  pub behind : List Token
+  pub own : ItemsInProfile items
+  pub are : tokens ≡ items_tokens items ++ close_vector ∷ behind
+
+-- and of a map's pairs, and the brace behind them
+pub record BeginsPairs (tokens : List Token) : Type 0 where
+  pub pairs : Entries
+  pub behind : List Token
+  pub own : EntriesInProfile pairs
+  pub are : tokens ≡ entries_tokens pairs ++ close_map ∷ behind

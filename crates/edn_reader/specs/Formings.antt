@@ -1,0 +1,8 @@
+-- What is left of the tokens of an element. No public clause speaks of it.
+use Rattle.std.specs.Prelude.{List}
+use Rattle.edn_reader.specs.Token.{Token}
+use Rattle.edn_reader.specs.Pieces.{token_buffer_tokens}
+use Rattle.edn_reader.specs.declared.forming.Tokens.{Tokens}
+
+abbrev pub left_on : Tokens → List Token
+left_on t = token_buffer_tokens t.rest.now

@@ -1,0 +1,28 @@
+-- What reading and writing promise each other.
+use Rattle.std.specs.Prelude.{◌≡◌, ℕ, List, [], ◌∷◌, ◌++◌}
+use Rattle.edn_reader.specs.Datum.{Datum, Fits, max_open}
+use Rattle.edn_reader.specs.Spells.{Spells}
+use Rattle.edn_reader.specs.Text.{InProfile, text_of, lines_of}
+
+-- the text of each of these forms spells it
+abbrev pub EachSpelled : List Datum → Type 0
+EachSpelled [] = Unit {0}
+EachSpelled (d ∷ ds) = Spells (d ∷ []) (text_of d) × EachSpelled ds
+
+-- A text spells one list of forms at most.
+abbrev pub OneReading : Type 0
+OneReading = (ds es : List Datum) (bytes : List ℕ) → Spells ds bytes → Spells es bytes → ds ≡ es
+
+-- The text that is written for a form spells it.
+abbrev pub TextSpells : Type 0
+TextSpells = (d : Datum) → Fits max_open d → InProfile d → Spells (d ∷ []) (text_of d)
+
+-- Two texts with a line feed between them spell the forms of both.
+abbrev pub JoinedSpell : Type 0
+JoinedSpell =
+    (ds es : List Datum) (a b : List ℕ) → Spells ds a → Spells es b
+    → Spells (ds ++ es) (a ++ 10 ∷ b)
+
+-- The texts of some forms, each followed by a line feed, spell these forms.
+abbrev pub LinesSpell : Type 0
+LinesSpell = (ds : List Datum) → EachSpelled ds → Spells ds (lines_of ds)

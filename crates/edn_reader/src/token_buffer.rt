@@ -1,0 +1,237 @@
+//! A text, element by element, on a token buffer that is used again.
+ghost use Rattle.std.specs.Prelude.{◌≡◌, ◌≢◌, ◌<◌, [], List, length, Some, None, IfOk, IfErr};
+ghost use Rattle.std.specs.Prelude.{IfSome, OnOk, MatchResult, option_map};
+ghost use Rattle.std.specs.Str.{IsUtf8};
+ghost use Rattle.edn_reader.specs.Datum.{Datum};
+ghost use Rattle.edn_reader.specs.Reading as reading;
+ghost use Rattle.edn_reader.specs.Shapes.{after_piece, nothing_open};
+ghost use Rattle.edn_reader.specs.Spells.{Spells};
+ghost use Rattle.edn_reader.specs.Elements.{ReadsNext, HoldsToken};
+ghost use Rattle.edn_reader.specs.Results.{Denies};
+ghost use Rattle.edn_reader.specs.TokenBuffers.{IsSoundBehind};
+
+use crate::fault::{Cause, Stop};
+use crate::integer_vector::IntegerVector;
+use crate::levels::Levels;
+use crate::lexer::skip;
+use crate::piece::Piece;
+use crate::truncated::TruncatedTokens;
+use std::alloc::Global;
+
+/// What is kept of each element: whether it is cut, and under which key its integer vector is kept,
+/// if one is.
+#[derive(Clone, Copy)]
+pub struct Keeping<'a> {
+    pub cuts: bool,
+    pub integer_vector_key: Option<&'a [u8]>,
+}
+
+/// The tokens of one element that are kept, its integer vector, what is open while they are read,
+/// and what follows the last of them; and, where reading fails, how much of the text was left
+/// there.
+#[derive(Drop)]
+pub struct TokenBuffer<'a> {
+    truncated: TruncatedTokens<'a>,
+    integer_vector: IntegerVector<'a>,
+    levels: Levels<'a>,
+    behind: &'a [u8],
+    left: usize,
+}
+
+impl<'a> TokenBuffer<'a> {
+    ghost use Rattle.edn_reader.specs.TokenBuffers.{tokens_on, integer_vector_on, held_on, open_on};
+    ghost use Rattle.edn_reader.specs.Kepts.{keeping_of};
+    ghost use Rattle.edn_reader.specs.Pieces.{piece_token, token_buffer_tokens};
+
+    pub fn new(alloc: Global) -> TokenBuffer<'a>
+        ensures { open_on result ≡ nothing_open }
+    {
+        TokenBuffer {
+            truncated: TruncatedTokens::new(alloc),
+            integer_vector: IntegerVector::new(alloc),
+            levels: Levels::new(alloc),
+            behind: b"",
+            left: 0,
+        }
+    }
+
+    /// Takes this token, which stands at the front, and keeps what follows it.
+    // Put in its callers' place, so that a token whose kind is known there is never copied. What
+    // follows, and where reading fails, are no part of the result: they would be copied in parts,
+    // and the parts read as one.
+    #[inline(always)]
+    fn put(
+        &mut self,
+        alloc: Global,
+        piece: Piece<'a>,
+        here: &'a [u8],
+        rest: &'a [u8],
+    ) -> Result<(), Cause>
+        requires front { reading.first here.now ≡ reading.got (piece_token piece) rest.now }
+        requires place { self.old.left ≡ length here.now }
+        ensures taken { MatchResult result
+            (λ _. after_piece (open_on self.old) (reading.first here.entry.now)
+            ≡ Some (open_on self.new, self.new.behind.now))
+            (λ cause. Denies cause (after_piece (open_on self.old) (reading.first here.entry.now))) }
+        ensures place { self.new.left ≡ length here.entry.now }
+        ensures kept { OnOk result
+            (HoldsToken (held_on self.old) (reading.first here.entry.now) (held_on self.new)) }
+    {
+        self.levels.step(alloc, &piece)?;
+        self.behind = rest;
+        self.integer_vector.note(&piece)?;
+        self.truncated.keep(piece)?;
+        Ok(())
+    }
+
+    /// Takes the token at the front, of whatever kind.
+    #[inline(never)]
+    fn take_any(&mut self, alloc: Global, here: &'a [u8]) -> Result<(), Cause>
+        requires some { 0 < length here.now }
+        requires place { self.old.left ≡ length here.now }
+        ensures taken { MatchResult result
+            (λ _. after_piece (open_on self.old) (reading.first here.entry.now)
+            ≡ Some (open_on self.new, self.new.behind.now))
+            (λ cause. Denies cause (after_piece (open_on self.old) (reading.first here.entry.now))) }
+        ensures place { IfErr result (λ cause. cause ≡ Cause.NoMemory →
+            self.new.left ≡ length here.entry.now) }
+        ensures kept { OnOk result
+            (HoldsToken (held_on self.old) (reading.first here.entry.now) (held_on self.new)) }
+    {
+        // A string is no key, whatever it holds.
+        if self.levels.takes_key() && here[0] == b'"' {
+            return Err(Cause::KeyKind);
+        }
+        match Piece::first(here) {
+            Ok((piece, rest)) => self.put(alloc, piece, here, rest),
+            Err(stop) => {
+                self.left = stop.left;
+                Err(stop.cause)
+            }
+        }
+    }
+
+    /// Takes the token at the front, and keeps what follows it. After an error the token buffer is
+    /// of no use.
+    #[inline(always)]
+    #[tactic(auto, unfolding(crate::specs::Reading::first))]
+    fn take(&mut self, alloc: Global, here: &'a [u8]) -> Result<(), Cause>
+        requires { 0 < length here.now }
+        ensures taken { MatchResult result
+            (λ _. after_piece (open_on self.old) (reading.first here.entry.now)
+            ≡ Some (open_on self.new, self.new.behind.now))
+            (λ cause. Denies cause (after_piece (open_on self.old) (reading.first here.entry.now))) }
+        ensures place { IfErr result (λ cause. cause ≡ Cause.NoMemory →
+            self.new.left ≡ length here.entry.now) }
+        ensures kept { OnOk result
+            (HoldsToken (held_on self.old) (reading.first here.entry.now) (held_on self.new)) }
+    {
+        self.left = here.len();
+        match here {
+            [b':', tail @ ..] => match Piece::usual_keyword(tail) {
+                Some((name, rest)) => self.put(alloc, Piece::Keyword(name), here, rest),
+                None => self.take_any(alloc, here),
+            },
+            [b'1'..=b'9', ..] => match Piece::usual_number(here) {
+                Some((number, rest)) => self.put(alloc, Piece::Int(number), here, rest),
+                None => self.take_any(alloc, here),
+            },
+            [b'{', rest @ ..] => self.put(alloc, Piece::OpenMap, here, rest),
+            [b'}', rest @ ..] => self.put(alloc, Piece::CloseMap, here, rest),
+            _ => self.take_any(alloc, here),
+        }
+    }
+
+    /// Reads the next element. After an error the token buffer is of no use.
+    #[tactic(auto, using(crate::proofs::Lexical::skip_within, crate::proofs::Turns::after_piece_shorter))]
+    fn try_read(
+        &mut self,
+        alloc: Global,
+        keeping: Keeping<'a>,
+        text: &'a [u8],
+    ) -> Result<Option<&'a [u8]>, Cause>
+        requires utf8 { IsUtf8 text.now }
+        requires fresh { open_on self.old ≡ nothing_open }
+        ensures reads { IfOk result (λ rest.
+            ReadsNext (keeping_of keeping.entry) text.entry.now (tokens_on self.new)
+            (integer_vector_on self.new)
+            (option_map (λ r. r.now) rest)) }
+        ensures shorter { IfOk result (λ rest. IfSome rest
+            (λ r. length r.now < length text.entry.now)) }
+        ensures none { IfErr result (λ cause. cause ≢ Cause.NoMemory → (ds : List Datum) →
+            Spells ds text.entry.now → ⊥) }
+        ensures memory { IfErr result (λ cause. cause ≡ Cause.NoMemory →
+            IsSoundBehind self.new.left text.entry.now) }
+        ensures fresh { OnOk result (open_on self.new ≡ nothing_open) }
+    {
+        self.truncated.clear(keeping.cuts);
+        self.integer_vector.clear(keeping.integer_vector_key);
+        let here = skip(text);
+        if here.is_empty() {
+            return Ok(None);
+        }
+        self.take(alloc, here)?;
+        'tokens: while !self.levels.is_outermost() {
+            let here = skip(self.behind);
+            if here.is_empty() {
+                self.left = 0;
+                return Err(Cause::Unfinished);
+            }
+            self.take(alloc, here)?;
+        }
+        Ok(Some(self.behind))
+    }
+
+    /// Reads the next element of a text, and gives what follows it, or none where there is no
+    /// element more. Of its tokens all are kept, or the beginning of each value where it is to be
+    /// cut, and its integer vector where there is a key for it. After an error nothing is open, as
+    /// before.
+    pub fn read(
+        &mut self,
+        alloc: Global,
+        keeping: Keeping<'a>,
+        text: &'a [u8],
+    ) -> Result<Option<&'a [u8]>, Stop>
+        requires utf8 { IsUtf8 text.now }
+        requires fresh { open_on self.old ≡ nothing_open }
+        ensures reads { IfOk result (λ rest.
+            ReadsNext (keeping_of keeping.entry) text.entry.now (tokens_on self.new)
+            (integer_vector_on self.new)
+            (option_map (λ r. r.now) rest)) }
+        ensures shorter { IfOk result (λ rest. IfSome rest
+            (λ r. length r.now < length text.entry.now)) }
+        ensures none { IfErr result (λ e. e.cause ≢ Cause.NoMemory → (ds : List Datum) →
+            Spells ds text.entry.now → ⊥) }
+        ensures memory { IfErr result (λ e. e.cause ≡ Cause.NoMemory →
+            IsSoundBehind e.left text.entry.now) }
+        ensures fresh { open_on self.new ≡ nothing_open }
+    {
+        match self.try_read(alloc, keeping, text) {
+            Ok(rest) => Ok(rest),
+            Err(cause) => {
+                self.levels = Levels::new(alloc);
+                Err(Stop {
+                    cause,
+                    left: self.left,
+                })
+            }
+        }
+    }
+
+    /// The tokens that were kept of the element that was read last.
+    pub fn pieces(&self) -> &[Piece<'a>]
+        ensures { token_buffer_tokens result.now ≡ tokens_on self.now }
+    {
+        self.truncated.pieces()
+    }
+
+    /// The integer vector of the element that was read last, which is gone then.
+    pub fn take_integer_vector(&mut self, alloc: Global) -> Option<Vec<i64>>
+        ensures integer_vector { option_map (λ v. v.items) result ≡ integer_vector_on self.old }
+        ensures gone { integer_vector_on self.new ≡ None }
+        ensures tokens { tokens_on self.new ≡ tokens_on self.old }
+        ensures open { open_on self.new ≡ open_on self.old }
+    {
+        self.integer_vector.take(alloc)
+    }
+}
