@@ -16,7 +16,8 @@ use edn::Piece;
 #[inline]
 pub fn behind_bracket<'p, 'a>(pieces: &'p [Piece<'a>]) -> Option<&'p [Piece<'a>]>
     ensures { MatchOption result (NoMap (token_buffer_tokens pieces.entry.now))
-        (λ inside. token_buffer_tokens pieces.entry.now ≡ open_map ∷ token_buffer_tokens inside.now) }
+        (λ inside. token_buffer_tokens pieces.entry.now ≡ open_map ∷ token_buffer_tokens
+        inside.now) }
 {
     match pieces {
         [Piece::OpenMap, inside @ ..] => Some(inside),
@@ -28,7 +29,8 @@ pub fn behind_bracket<'p, 'a>(pieces: &'p [Piece<'a>]) -> Option<&'p [Piece<'a>]
 #[inline]
 pub fn pair_at<'p, 'a>(pieces: &'p [Piece<'a>]) -> Option<(&'a str, &'p [Piece<'a>])>
     ensures { MatchOption result (NoPair (token_buffer_tokens pieces.entry.now))
-        (λ x. token_buffer_tokens pieces.entry.now ≡ leaf (atom (keyword x.0.now)) ∷ token_buffer_tokens x.1.now) }
+        (λ x. token_buffer_tokens pieces.entry.now ≡ leaf (atom (keyword x.0.now))
+        ∷ token_buffer_tokens x.1.now) }
 {
     match pieces {
         [Piece::Keyword(name), tail @ ..] => Some((name, tail)),

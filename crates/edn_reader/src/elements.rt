@@ -49,7 +49,10 @@ impl<'a> Elements<'a> {
     ) -> Result<Elements<'a>, EdnFault>
         ensures text { IfOk result (λ r. (left_of r ≡ text.entry.now) × (start_of r ≡ 0)) }
         ensures keeps { IfOk result (λ r. keeping_in r
-            ≡ record { cuts = cuts; integer_vector_key = option_map (λ k. k.now) integer_vector_key.entry }) }
+            ≡ record {
+              cuts = cuts;
+              integer_vector_key = option_map (λ k. k.now) integer_vector_key.entry;
+            }) }
         ensures short { IfOk result (λ r. IsShort text.entry.now × IsUtf8 text.entry.now) }
         ensures unreadable { IfErr result (IsUnreadable text.entry.now) }
     {

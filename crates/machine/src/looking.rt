@@ -137,7 +137,8 @@ impl<S: SeqObject> Machine<S> {
     // The request for the object that stands in the row, if there is one.
     pub(crate) fn posted_at(&self, row: u32, object: u32) -> Option<Request<S::Op>>
         ensures found { IfSome result (λ q. (row < clients_of self.now)
-            × ((world_of self.now).stage row ≡ posted (request_in S.op_in q)) × (q.object ≡ object)) }
+            × ((world_of self.now).stage row ≡ posted (request_in S.op_in q))
+            × (q.object ≡ object)) }
         ensures none { IfNone result ((q : AnyRequest) → (world_of self.now).stage row ≡ posted q →
             q.object ≢ object) }
     {

@@ -56,7 +56,8 @@ impl<S: SeqObject> Machine<S> {
         // With `taken` and `memory`: it is refused as not possible now exactly where it is possible
         // in no way.
         ensures not_now { IfErr result (λ e. e ≡ StepFault.NotNow →
-            IsImpossible self.old.kinds self.old.quota (world_of self.old) (client, step_in S.op_in step)) }
+            IsImpossible self.old.kinds self.old.quota (world_of self.old)
+            (client, step_in S.op_in step)) }
         ensures memory { IfErr result (λ e. e ≡ StepFault.NoMemory →
             IsDraw (step_in S.op_in step) × IsPossible self.old client (step_in S.op_in step)) }
         ensures unchanged { OnErr result (self.new ≡ self.old) }

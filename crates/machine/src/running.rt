@@ -105,7 +105,8 @@ impl<S: SeqObject> Machine<S> {
         // The world is that of a run, and so the record is sound.
         ensures run { HasRun self }
         ensures sound { IfOk result (λ r.
-            IsSoundRecord self.kinds self.quota (λ c. map (event_in S.op_in S.reply_in) (journal_at r c))
+            IsSoundRecord self.kinds self.quota
+            (λ c. map (event_in S.op_in S.reply_in) (journal_at r c))
             (λ x. map (entry_in S.op_in S.reply_in) (log_at r x))) }
         ensures going { IfErr result (λ e. (e.0 ≡ self) × (e.1 < clients_of self)
             × ((world_of self).ended e.1 ≡ false) × ((d : ℕ) → d < e.1 → HasEnded self d)) }

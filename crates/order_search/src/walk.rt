@@ -48,7 +48,8 @@ fn earlier(end: &End, least: u32) -> u32
 fn least_return(trials: &Trials, undone: &Undone) -> u32
     requires trials { AreTrials trials.now }
     requires linked { (done : List ℕ)
-        × Linked (length trials.now.items.items) done undone.now.next.items undone.now.before.items }
+        × Linked (length trials.now.items.items) done undone.now.next.items
+        undone.now.before.items }
     ensures { (done : List ℕ) →
         Linked (length trials.now.items.items) done undone.now.next.items undone.now.before.items →
         IsLeast (length trials.now.items.items) (call_at trials.now.items.items) done result }

@@ -119,7 +119,8 @@ fn sees_end<S: SeqObject>(desk: &Desk<S>, last: &mut Client<S>, client: u32) -> 
     ensures desk { last.new.desk ≡ last.old.desk }
     ensures places { last.new.places ≡ last.old.places }
     ensures seen { last.new.knows
-        ≡ (if result then after_end_seen client last.old.knows else after_end_unset client last.old.knows) }
+        ≡ (if result then after_end_seen client last.old.knows
+        else after_end_unset client last.old.knows) }
     ensures untold { result ≡ false → All (λ l. l.client ≢ client) last.old.knows.left }
 {
     let shared = &desk.table.shared;

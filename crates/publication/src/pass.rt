@@ -183,7 +183,8 @@ impl<S: SeqObject> Hand<S> {
         ensures state { result.0.state ≡ record self.state { room = result.0.state.room } }
         // An entry takes room for one, where there was room.
         ensures room { 0 < self.state.room →
-            result.0.state.room + length (logged self.row self.request (answer_in S.reply_in result.1))
+            result.0.state.room + length (logged self.row self.request
+            (answer_in S.reply_in result.1))
             ≡ self.state.room }
         ensures answered { Answered self (answer_in S.reply_in result.1) result.0 }
     {

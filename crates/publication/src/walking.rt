@@ -62,8 +62,11 @@ impl<S: SeqObject> Pass<S> {
         requires { (1 ≤ at) × (at < length self.old.state.list.rows) }
         ensures unlinked { self.new
             ≡ record self.old {
-              state = record self.old.state
-                  { list = record self.old.state.list { rows = remove self.old.state.list.rows at } };
+              state = record self.old.state {
+                list = record self.old.state.list {
+                  rows = remove self.old.state.list.rows at;
+                };
+              };
             } }
         ensures list { IsListOf self.new.desk self.new.object self.new.state.list.roster }
     {

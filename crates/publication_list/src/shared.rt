@@ -113,7 +113,12 @@ impl Roster {
         requires few { (0 < length owners.old.items) × (length owners.old.items < 1 + max_rows) }
         requires room { HaveRoom owners.old.items }
         ensures walker { IfOk result (λ r.
-            r.1 ≡ record { roster = r.0; places = length owners.old.items; rows = []; walks = [] }) }
+            r.1 ≡ record {
+              roster = r.0;
+              places = length owners.old.items;
+              rows = [];
+              walks = [];
+            }) }
         ensures grown { IfOk result (λ r. AreGrown r.0 owners.old.items owners.new.items) }
     {
         let (roster, mut places, walker) = Roster::new(alloc, owners.len() as u32)?;

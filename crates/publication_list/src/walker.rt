@@ -54,7 +54,8 @@ pub(crate) fn meet(shared: &Words, seat: &mut Chair, rows: &mut Vec<u32>)
     requires seat { HasMet (left_of seat.old.me.0) (walks_of seat.old.me.0) seat.old.me }
     requires room { (made_of seat.old.me.0 ≤ 32) × (made_of seat.old.me.0 ≤ vec_capacity rows.old) }
     ensures table { seat.new.table_id ≡ seat.old.table_id }
-    ensures seat { HasMet rows.new.items (walks_of seat.old.me.0 ++ rows.new.items ∷ []) seat.new.me }
+    ensures seat { HasMet rows.new.items (walks_of seat.old.me.0 ++ rows.new.items ∷ [])
+        seat.new.me }
     ensures made { made_of seat.new.me.0 ≡ made_of seat.old.me.0 }
     ensures met { WalkMeets (left_of seat.old.me.0) rows.new.items }
     ensures low { (k : ℕ) → k < length rows.new.items

@@ -20,5 +20,6 @@ pub fn sound_record_is_a_record()
     ensures { (kinds : List Kind) (quota : ℕ) (journals : ℕ → List AnyEvent)
         (logs : ℕ → List AnyEntry)
         →
-        IsSoundRecord kinds quota journals logs → quota < 1 + max_calls → IsRecord (length kinds) journals logs }
+        IsSoundRecord kinds quota journals logs → quota < 1 + max_calls
+        → IsRecord (length kinds) journals logs }
 {}

@@ -25,7 +25,8 @@ impl<S: SeqObject> Model for Record<S> {
 
     ghost view = { λ r. recorded r.journals.items r.logs.items };
 
-    ghost invariant = { λ r. IsRecordOf S.op_in S.reply_in (recorded r.journals.items r.logs.items) };
+    ghost invariant = { λ r. IsRecordOf S.op_in S.reply_in
+        (recorded r.journals.items r.logs.items) };
 }
 
 impl<S: SeqObject> Record<S> {
