@@ -15,9 +15,9 @@ abbrev pub has_failed_in : {D : Type 0} → In D → Bool
 has_failed_in source = is_some (failure_in source)
 
 -- memory was refused
-abbrev pub is_want_of_memory : Option ErrorKind → Bool
-is_want_of_memory (Some OutOfMemory) = true
-is_want_of_memory failure = false
+abbrev pub is_allocation_failure : Option ErrorKind → Bool
+is_allocation_failure (Some OutOfMemory) = true
+is_allocation_failure failure = false
 
 -- the supply failed in a call for a buffer of this length, for the reason that the source keeps
 pub record IsFailedRead {D : Type 0} (answers : D → ℕ → Result ℕ ErrorKind → D → Type 0)

@@ -71,7 +71,7 @@ pub struct In<D: Supply + Drop> {
 }
 
 impl<D: Supply + Drop> In<D> {
-    ghost use Rattle.byte_streams.specs.Ins.{has_failed_in, failure_in, is_want_of_memory};
+    ghost use Rattle.byte_streams.specs.Ins.{has_failed_in, failure_in, is_allocation_failure};
     ghost use Rattle.byte_streams.specs.Ins.{supply_of};
 
     pub fn new(supply: D) -> In<D>
@@ -86,7 +86,7 @@ impl<D: Supply + Drop> In<D> {
 
     /// Whether it failed since memory was refused.
     pub fn lacks_memory(&self) -> bool
-        ensures { result ≡ is_want_of_memory (failure_in self.now) }
+        ensures { result ≡ is_allocation_failure (failure_in self.now) }
     {
         matches!(self.failure, Some(ErrorKind::OutOfMemory))
     }

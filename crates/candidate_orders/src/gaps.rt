@@ -9,7 +9,7 @@ pub(crate) struct Gaps {
 }
 
 impl Gaps {
-    /// So many gaps, none covered, and one behind them, which is never covered.
+    /// This many gaps, none covered, and one after them, which is never covered.
     pub(crate) fn new(alloc: Global, count: u32) -> Result<Gaps, AllocError> {
         let mut next = Vec::new(alloc);
         for gap in 0..=count {
@@ -40,7 +40,7 @@ impl Gaps {
         gap
     }
 
-    /// Covers the gaps `from <= gap < to`, but for the one behind the last.
+    /// Covers the gaps `from <= gap < to`, except for the one after the last.
     pub(crate) fn cover(&mut self, from: u32, to: u32) {
         let mut gap = self.first_free(from);
         for _ in 0..self.next.len() {

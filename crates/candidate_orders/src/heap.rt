@@ -1,16 +1,16 @@
 //! Heaps in which each value comes once.
 //!
-//! Values are placed from the least up. An extract takes the first gap of its time, behind the
-//! begin of its insert, in which no lesser value surely is in the heap; an insert goes as late as
-//! its return and that extract allow. That a heap of such calls has a valid order only where this
-//! finds a gap for each is not proved.
+//! Values are placed from the least up. An extract takes the first gap of its time, after the begin
+//! of its insert, in which no lesser value surely is in the heap; an insert goes as late as its
+//! return and that extract allow. That a heap of such calls has a valid order only where this finds
+//! a gap for each is not proved.
 
 use crate::calls::{PENDING, TimedCall, moment_count};
 use crate::gaps::Gaps;
 use crate::residences::{Residence, Residences};
 use std::alloc::{AllocError, Global};
 
-/// What comes first in one gap: extracts by rising value, each behind its insert where that is in
+/// What comes first in one gap: extracts by rising value, each after its insert where that is in
 /// the same gap, then calls that find nothing, then inserts of what is extracted later.
 #[derive(Clone, Copy, PartialEq, Eq, PartialOrd, Ord, Debug)]
 enum Phase {

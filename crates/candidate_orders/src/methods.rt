@@ -52,7 +52,7 @@ fn order_of_kind(
     }
 }
 
-/// The most steps of the search among so many operations.
+/// The most steps of the search among this many operations.
 fn most_steps(operations: usize) -> u64 {
     20_000_u64.saturating_add((operations as u64).saturating_mul(20))
 }

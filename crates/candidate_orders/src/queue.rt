@@ -1,6 +1,6 @@
 //! Queues in which each value comes once.
 //!
-//! A call that finds nothing stands in a gap in which no value surely is in the queue, and cuts the
+//! A call that finds nothing is in a gap in which no value surely is in the queue, and cuts the
 //! values in two: those that can have come and gone before it, and the others. Values leave in the
 //! order in which they come, so a value goes before another where its enqueue or its dequeue
 //! returns before that of the other begins; a queue of such calls has a valid order only where that

@@ -5,14 +5,14 @@ use crate::calls::PENDING;
 use std::alloc::{AllocError, Global};
 use std::collections::BTreeSet;
 
-/// A place in the order, before one of its calls or behind them all.
+/// A place in the order, before one of its calls or after them all.
 #[derive(Clone, Copy, Debug)]
 struct Spot {
     /// What the cell holds here.
     holds: usize,
     /// The last begin of a call before.
     greatest_begin: u32,
-    /// The first return of a call behind.
+    /// The first return of a call after.
     least_end: u32,
     /// The next spot at which the cell holds something else.
     next_other: usize,
@@ -42,7 +42,7 @@ fn spots_before(
     Ok(spots)
 }
 
-/// Adds what comes behind each spot.
+/// Adds what comes after each spot.
 fn add_behind(spots: &mut [Spot], accesses: &[Access], order: &[usize]) {
     let mut behind: Option<Spot> = None;
     for k in (0..spots.len()).rev() {

@@ -6,7 +6,7 @@ use crate::calls::{PENDING, TimedCall};
 use seq_objects::{AnyOp, AnyReply};
 use std::alloc::{AllocError, Global};
 
-/// The moment that a value is taken which nobody takes: behind that of a call that is pending.
+/// The moment that a value is taken which nobody takes: after that of a call that is pending.
 pub(crate) const NEVER: u32 = 0xffff_ffff;
 
 /// A value, the call that puts it in, and the one that takes it.

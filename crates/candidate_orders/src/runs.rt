@@ -11,7 +11,7 @@ use crate::calls::PENDING;
 use crate::links::Links;
 use std::alloc::{AllocError, Global};
 
-/// The end of a zone that reaches behind all moments.
+/// The end of a zone that reaches after all moments.
 const FOREVER: i64 = 0x1_0000_0000;
 
 /// Calls that stand side by side.
@@ -21,7 +21,7 @@ struct Run {
     /// The last gap before a call of it has returned.
     first_return: i64,
     last_begin: i64,
-    /// Whether the cell is empty behind it.
+    /// Whether the cell is empty after it.
     empties: bool,
 }
 

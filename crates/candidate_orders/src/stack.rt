@@ -1,10 +1,10 @@
 //! Stacks in which each value comes once.
 //!
 //! A value whose put and removal overlap is put and taken in one gap, anywhere. The others surely
-//! are in the stack for a while, and are cut where none of them surely is: what is behind the cut
-//! can stand behind all that is before it. Where there is no such gap one value lies below all
-//! others, and any that can be put before them all and taken behind them all may be that one. That
-//! a stack of such calls has a valid order only where this finds one is not proved.
+//! are in the stack for a while, and are cut where none of them surely is: what is after the cut
+//! can stand after all that is before it. Where there is no such gap one value lies below all
+//! others, and any that can be put before them all and taken after them all may be that one. That a
+//! stack of such calls has a valid order only where this finds one is not proved.
 
 use crate::calls::{TimedCall, moment_count};
 use crate::gaps::Gaps;
@@ -46,10 +46,10 @@ struct Values {
     /// taken, negated.
     lowest_put: Least,
     lowest_take: Least,
-    /// 0 for values that can be put before all others that are left, and taken behind them.
+    /// 0 for values that can be put before all others that are left, and taken after them.
     lowest: Least,
     /// For each value how many of the two are known: that it can be put before the others, and
-    /// taken behind them.
+    /// taken after them.
     known: Vec<u8>,
 }
 
@@ -112,7 +112,7 @@ impl Values {
         })
     }
 
-    /// Notes that a value can be put before all others, or taken behind them.
+    /// Notes that a value can be put before all others, or taken after them.
     fn note(&mut self, place: usize) {
         if let Some(known) = self.known.get_mut(place) {
             *known = known.saturating_add(1);
@@ -132,7 +132,7 @@ impl Values {
         }
     }
 
-    /// Notes the values that can be taken behind this gap.
+    /// Notes the values that can be taken after this gap.
     fn note_takes(&mut self, from: usize, to: usize, gap: i64) {
         let behind = gap.saturating_neg().saturating_sub(1);
         for _ in 0..self.residences.len() {
@@ -169,7 +169,7 @@ struct Ordering {
 }
 
 impl Ordering {
-    /// The place from which on the values surely are in the stack behind this gap.
+    /// The place from which on the values surely are in the stack after this gap.
     fn behind(&self, gap: u32) -> usize {
         self.values
             .residences
@@ -271,7 +271,7 @@ impl Ordering {
 
     /// Does what is planned. False where it can't be done.
     fn run_all(&mut self) -> Result<bool, AllocError> {
-        // each value is put and taken once, and is the first behind a cut at most once
+        // each value is put and taken once, and is the first after a cut at most once
         let most = self
             .values
             .residences

@@ -2,11 +2,11 @@
 
 use std::alloc::{AllocError, Global};
 
-/// What stands in place of a number that is taken out.
+/// What is in place of a number that is taken out.
 pub(crate) const ABSENT: i64 = i64::MAX;
 
-/// The shape of a binary tree with at least so many leaves: their number, and how far they are from
-/// the root.
+/// The shape of a binary tree with at least n leaves: their number, and how far they are from the
+/// root.
 fn shape(leaves: usize) -> (usize, u32) {
     let mut width: usize = 1;
     let mut depth: u32 = 0;

@@ -23,7 +23,7 @@ use Rattle.certificate.specs.declared.fault.CertFaultKind.TheVariants.{NotACerti
 
 -- ---- the elements of an order
 
--- the integers of a list of forms, behind some that were read
+-- the integers of a list of forms, after some that were read
 abbrev pub integers_behind : List ℤ → List Form → Option (List ℤ)
 integers_behind done fs = option_map (λ zs. done ++ zs) (integers_in (items_of (views fs)))
 
@@ -186,7 +186,7 @@ not_denoted ds e f cs h = no_fault ds cs h f.earlier f.later f.form e.kind f.spl
 parts_at : (fs : List Form) (i : ℕ) (f : Form) → i < length fs → f ≡ get_or fs i f → views fs ≡ views (take i fs) ++ view f ∷ views (drop (i + 1) fs)
 parts_at fs i f lt is = ap views (sym (take-append-drop i fs) ∙ ap (λ (xs : List Form). take i fs ++ xs) (at_place fs i f lt is)) ∙ map-append view (take i fs) (f ∷ drop (i + 1) fs)
 
--- the first fault, behind forms that were read
+-- the first fault, after forms that were read
 pub first_fault : (fs : List Form) (i : ℕ) (f : Form) (cs : List Certificate) (among : ℕ → Bool) (kind : CertFaultKind) → i < length fs
     → f ≡ get_or fs i f → AreRead (views (take i fs)) cs among → IsFaultAmong among (view f) kind
     → kind ≢ NoMemory → IsFirstFault (views fs) (record { kind = kind; form = i })

@@ -8,7 +8,7 @@ use Rattle.certificate.specs.declared.fault.CertFaultKind.TheVariants.{NotACerti
 use Rattle.certificate.specs.declared.fault.CertFaultKind.TheVariants.{TwoForOneObject, NoMemory}
 use Rattle.certificate.specs.declared.fault.CertFault.{CertFault}
 
--- the number that is printed behind the letter K
+-- the number that is printed after the letter K
 abbrev pub number_of : CertFaultKind → ℕ
 number_of NotACertificate = 1
 number_of TwoForOneObject = 2

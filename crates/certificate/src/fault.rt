@@ -18,7 +18,7 @@ pub enum CertFaultKind {
 impl CertFaultKind {
     ghost use Rattle.certificate.specs.Faults.{number_of};
 
-    /// The number behind the letter K.
+    /// The number after the letter K.
     pub fn number(self) -> u8
         ensures { result ≡ number_of self }
     {

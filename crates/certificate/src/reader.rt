@@ -110,9 +110,8 @@ fn next_certificate(
     }
 }
 
-/// The certificates that the forms are, one by one and in order.
-/// A fault is that of the least faulty form, but for want of memory, which names the form that was
-/// being read.
+/// The certificates that the forms are, one by one and in order. A fault is that of the least
+/// faulty form, except for an allocation failure, which names the form that was being read.
 pub fn read_certificates(alloc: Global, forms: Vec<Form>) -> Result<Vec<Certificate>, CertFault>
     requires fit { All (λ f. Fits max_open (view f)) forms.items }
     ensures denotes { IfOk result (λ v. Denotes (views forms.items) v.items) }

@@ -303,7 +303,7 @@ first_refusal es certificates all os o later r d objects split h refused = go r 
     go (BadOrder y f) s = record { object = o.object; named = named; stands = (s.0, s.1, s.2); least = least }
     go NoMemory s = tt
 
--- certificates that are valid are refused by want of memory alone
+-- certificates that are valid are refused by an allocation failure alone
 refused_are_not_valid : (es : List Event) (certificates : List Certificate) (all os : List ObjectCalls) (o : ObjectCalls) (later : List ObjectCalls)
     (r : Refusal) → AllPairs (λ a b. a.object ≢ b.object) certificates → AreObjects es all
     → all ≡ os ++ o ∷ later → AreFine es certificates os → IsRefused (kind_at es o.object) (calls_on o.object (denoted es)) certificates o.object r → AreValid es certificates → r ≡ NoMemory
@@ -351,7 +351,7 @@ pub next_fine : (es : List Event) (certificates : List Certificate) (fs : List O
     → i < length fs → o ≡ get_or fs i o → IsFine o.kind (calls_of o.ops) certificates o.object → IsFineAt es certificates o.object
 next_fine es certificates fs i o h l is fine = next_is es fs i o (λ kind calls. IsFine kind calls certificates o.object) h l is fine
 
--- Where the next object is refused, that is the first refusal. Certificates that are valid are refused by want of memory alone.
+-- Where the next object is refused, that is the first refusal. Certificates that are valid are refused by an allocation failure alone.
 pub next_is_first : (es : List Event) (certificates : List Certificate) (fs : List ObjectCalls) (i : ℕ) (o : ObjectCalls) (r : Refusal)
     → AllPairs (λ a b. a.object ≢ b.object) certificates → AreObjects es fs → AreFine es certificates (take i fs)
     → i < length fs → o ≡ get_or fs i o → IsRefused o.kind (calls_of o.ops) certificates o.object r → IsFirstRefusal es certificates r × (AreValid es certificates → r ≡ NoMemory)

@@ -127,7 +127,7 @@ pub at_end : (kind : Kind) (ops : List Invocation) (order : List ℤ) (i : ℕ) 
     → Walk kind ops (take i order) seen content greatest → length order ≤ i → Walk kind ops order seen content greatest
 at_end kind ops order i seen content greatest w l = subst (λ o. Walk kind ops o seen content greatest) (take_all i order l) w
 
--- a call that returned and was passed stands in the order
+-- a call that returned and was passed is in the order
 stands_marked : (kind : Kind) (ops : List Invocation) (order : List ℤ) (seen : List Bool) (content : Content) (greatest : Option ℕ) (k : ℕ)
     (d : Invocation) (c : Call) → Walk kind ops order seen content greatest → k < length ops → call_of (get_or ops k d) ≡ Some c → get_or seen k false ≡ true → In (pos c.number) order
 stands_marked kind ops order seen content greatest k d c w l e m =

@@ -45,7 +45,7 @@ numbers_apart ops k j d e up l m ne q = elim (cases_order k j) [
   ]
 ]
 
--- whether the number stands in an order
+-- whether the number is in an order
 abbrev pub is_number : ℕ → ℤ → Bool
 is_number n (pos m) = m == n
 is_number n (negsuc m) = false

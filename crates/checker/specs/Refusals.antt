@@ -11,8 +11,8 @@ use Rattle.checker.specs.declared.refusal.Refusal.TheVariants.{NoCertificate, St
 use Rattle.checker.specs.declared.refusal.Refusal.TheVariants.{BadOrder, NoMemory}
 use Rattle.checker.specs.Faults.{IsFirstFault}
 
--- The refusal of an object's order names the object and the order's first fault. Want of memory
--- says nothing.
+-- The refusal of an object's order names the object and the order's first fault. An allocation
+-- failure says nothing.
 abbrev pub RefusesOrder : ℕ → Kind → List Call → List ℤ → Refusal → Type 0
 RefusesOrder x kind calls order (BadOrder y fault) = (y ≡ x) × IsFirstFault kind calls order fault
 RefusesOrder x kind calls order (NoCertificate y) = ⊥
@@ -64,15 +64,15 @@ pub record IsLeastStrange (es : List Event) (certificates : List Certificate) (x
   pub none : (y : ℕ) (r : Refusal) → IsNamed es y → IsRefusalAt es certificates y r → ⊥
 
 -- The first refusal of a list of certificates: named objects come in rising number, an object
--- without a certificate in its place among them, and strange objects last. Want of memory says
--- nothing.
+-- without a certificate in its place among them, and strange objects last. An allocation failure
+-- says nothing.
 abbrev pub IsFirstRefusal : List Event → List Certificate → Refusal → Type 0
 IsFirstRefusal es certificates (StrangeObject x) = IsLeastStrange es certificates x
 IsFirstRefusal es certificates NoMemory = ⊤
 IsFirstRefusal es certificates r = IsLeastRefusal es certificates r
 
 -- What a check of all certificates answers: Ok exactly where they are valid, and else the first
--- refusal. Want of memory says nothing.
+-- refusal. An allocation failure says nothing.
 pub record IsCheckAnswer (es : List Event) (certificates : List Certificate)
     (answer : Result Unit Refusal) : Type 0 where
   pub valid : OnOk answer (AreValid es certificates)

@@ -67,7 +67,8 @@ pub fn strange_object(
 }
 
 /// Checks the certificates of a history's objects. `Ok` exactly where each named object has a valid
-/// order and no other object has a certificate, and else the first refusal, but for want of memory.
+/// order and no other object has a certificate, and else the first refusal, except for an
+/// allocation failure.
 pub fn check_all(
     alloc: Global,
     history: &History,
@@ -77,7 +78,7 @@ pub fn check_all(
     requires { AreDistinct certificates.now }
     ensures valid { OnOk result (AreValid history.now certificates.now) }
     ensures refused { IfErr result (IsFirstRefusal history.now certificates.now) }
-    // Certificates that are refused, but for want of memory, are not valid.
+    // Certificates that are refused, except for an allocation failure, are not valid.
     ensures exact { AreValid history.now certificates.now →
         IfErr result (λ e. e ≡ Refusal.NoMemory) }
     // There is one such answer, as `one_first_refusal` says.

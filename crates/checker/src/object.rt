@@ -14,7 +14,7 @@ use seq_objects::AnyObject;
 use std::alloc::Global;
 
 /// Checks the certificate of an object. `Ok` exactly where its order is valid, and else the first
-/// fault, but for want of memory.
+/// fault, except for an allocation failure.
 pub fn check_object(
     alloc: Global,
     history: &ObjectHistory,
@@ -29,7 +29,7 @@ pub fn check_object(
     ensures faultless { OnOk result ((fault : OrderFault) →
         IsFirstFault history.now.kind (calls_of history.now.ops) certificate.now.order.items fault →
         ⊥) }
-    // An order that is refused, but for want of memory, is not valid.
+    // An order that is refused, except for an allocation failure, is not valid.
     ensures exact { IsValidOrder history.now.kind
         (calls_of history.now.ops) certificate.now.order.items →
         IfErr result (λ e. e ≡ Refusal.NoMemory) }

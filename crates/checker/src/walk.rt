@@ -119,8 +119,8 @@ fn check_entries<S: SeqObject<Op = AnyOp, Reply = AnyReply>>(
 }
 
 /// Checks an order of the operations of the object with this number, from an object of its kind
-/// that is empty. `Ok` exactly where the order is valid, and else the first fault, but for want of
-/// memory.
+/// that is empty. `Ok` exactly where the order is valid, and else the first fault, except for an
+/// allocation failure.
 pub fn check_order<S: SeqObject<Op = AnyOp, Reply = AnyReply>>(
     alloc: Global,
     number: u32,
@@ -138,7 +138,7 @@ pub fn check_order<S: SeqObject<Op = AnyOp, Reply = AnyReply>>(
     ensures refused { IfErr result (RefusesOrder number kind (calls_of ops.now) order.now) }
     ensures faultless { OnOk result ((fault : OrderFault) →
         IsFirstFault kind (calls_of ops.now) order.now fault → ⊥) }
-    // An order that is refused, but for want of memory, is not valid.
+    // An order that is refused, except for an allocation failure, is not valid.
     ensures exact { IsValidOrder kind (calls_of ops.now) order.now →
         IfErr result (λ e. e ≡ Refusal.NoMemory) }
 {

@@ -41,7 +41,7 @@ parts [] i d h = absurd (omega arith)
 parts (x ∷ xs) zero d h = refl
 parts (x ∷ xs) (suc i) d h = ap (λ z. x ∷ z) (parts xs i d (omega arith))
 
--- the call i is outstanding, behind those that were made
+-- the call i is outstanding, after those that were made
 pub stopped : (cs : List Call) (i : ℕ) (none : Call) (v w x : DeskView) → i < length cs → HasMade (take i cs) v w → IsOutstanding w (get_or cs i none).0 (get_or cs i none).1 x → Worked cs v x
 stopped cs i none v w x low k o = let u : DeskView = o.0 in let p = o.1 in let c : Call = get_or cs i none in record {
   number = o.2.number ∙ (ap (λ z. z.number) p.knows ∙ k.number);

@@ -17,7 +17,7 @@ use seq_objects::SeqObject;
 /// What a try to combine did.
 #[derive(Clone, Copy, Debug, PartialEq, Eq)]
 pub enum Combined {
-    /// The pass of this number answered so many requests, refused ones too.
+    /// The pass of this number answered this many requests, refused ones too.
     Served { pass: u64, count: u64 },
     /// The object was held.
     Busy,

@@ -116,7 +116,7 @@ pub(crate) fn enlist<R: Abort>(
     assert_eq!(rt; desk.enlist(client, 0), wanted);
 }
 
-// One pass, of this number, which answers so many requests.
+// One pass, of this number, which answers this many requests.
 pub(crate) fn passes<R: Abort>(
     rt: &R,
     desk: &Desk<AnyObject>,
@@ -133,7 +133,7 @@ pub(crate) fn passes<R: Abort>(
     client
 }
 
-// The passes behind the first so many, up to this one, none of which answers a request.
+// The passes after the first n, up to this one, none of which answers a request.
 pub(crate) fn combines_to<R: Abort>(
     rt: &R,
     desk: &Desk<AnyObject>,

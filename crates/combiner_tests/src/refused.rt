@@ -11,7 +11,7 @@ use std::alloc::{AllocError, Global};
 use std::process::Abort;
 use std::test::Fail;
 
-// An object that refuses one call: the one behind so many others.
+// An object that refuses one call: the one after n others.
 #[derive(Drop)]
 struct Refusing {
     inside: AnyObject,
@@ -78,7 +78,7 @@ impl SeqObject for Refusing {
     ghost replies_apart = { λ a b e. e };
 }
 
-// A queue that refuses the call behind so many, with one client.
+// A queue that refuses the call after n others, with one client.
 fn desk_of(
     alloc: Global,
     left: u32,

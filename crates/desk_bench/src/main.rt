@@ -1,6 +1,6 @@
 //! How long calls on a desk take.
 //!
-//! So many threads, each with a client of its own, make calls on one object. Printed are for each
+//! This many threads, each with a client of its own, make calls on one object. Printed are for each
 //! kind of object and number of threads two least times of a call in nanoseconds, over all rounds,
 //! that of `call` and that of `call_at_once`: the time of a whole round, through the number of its
 //! calls. The word is the number of rounds; with none there is one round of each, and no time is
@@ -169,7 +169,7 @@ fn round<R: Host>(rt: &R, job: Job, clients: u32) -> io::Result<u64>
     Ok(u64::try_from(start.elapsed(rt)?.as_nanos()).unwrap_or(u64::MAX))
 }
 
-/// The least nanoseconds of a call in so many rounds.
+/// The least nanoseconds of a call in this many rounds.
 fn least<R: Host>(rt: &R, job: Job, clients: u32, rounds: u32) -> io::Result<u64>
     requires { (0 < clients) × (clients < 1 + max_clients) }
 {

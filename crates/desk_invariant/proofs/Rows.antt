@@ -102,7 +102,7 @@ later_row w x r c d q t h logs from to never grow keep apart unposted holds othe
   ended = refl;
 }
 
--- the request that was put back stands in its row, and its object is held
+-- the request that was put back is in its row, and its object is held
 abbrev InRow : (ℕ → Stage) → (ℕ → Option ℕ) → ℕ → PutBack → Type 0
 InRow stage holder c b = (stage b.row ≡ posted b.request) × (holder b.request.object ≡ Some c)
 

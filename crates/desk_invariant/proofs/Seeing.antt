@@ -15,7 +15,7 @@ use Rattle.desk_model.proofs.Entries.{entries-append}
 use Rattle.desk_invariant.specs.Views.{owed, after_meet, IsAtRest, MayHold, IsAccount}
 use Rattle.desk_invariant.specs.Rule.{OwnOk, SeatOk}
 
--- what is owed to a client stands in the log
+-- what is owed to a client is in the log
 owed_served : (x c : ℕ) (o : Own) (t : Stage) → OwnOk o t → StartsWith (served_now x c t) (owed x c o)
 owed_served x c own.Absent t e = (served_now x c t, refl)
 owed_served x c own.Idle t e = (served_now x c t, refl)

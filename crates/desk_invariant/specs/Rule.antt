@@ -93,7 +93,7 @@ pub record SeatOk (kinds : List Kind) (w : World) (c : ℕ) (v : DeskView) : Typ
   pub held : HeldOk (length kinds) w c v.held
   pub ended : w.ended c ≡ v.ended
   pub retired : All (λ d. w.ended d ≡ true) v.retired
-  -- what was put back stands in its row, and its object is held
+  -- what was put back is in its row, and its object is held
   pub back : All (λ b. (w.stage b.row ≡ posted b.request)
       × (w.holder b.request.object ≡ Some c)) v.back
 

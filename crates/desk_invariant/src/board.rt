@@ -123,7 +123,7 @@ pub struct DeskView {
 }
 
 /// What the desk is made for: objects of these kinds, with these publication lists, this many
-/// clients, and so many calls for each of them.
+/// clients, and this many calls for each of them.
 #[derive(Drop)]
 pub struct Plan {
     pub kinds: Vec<Kind>,

@@ -1,4 +1,4 @@
--- Nothing stands in the log of an object that there is not, or in the journal of a client that has not come.
+-- Nothing is in the log of an object that there is not, or in the journal of a client that has not come.
 use Rattle.std.proofs.Common.{◌≡◌, ◌≢◌, ℕ, ◌<◌, ◌≤◌, List, [], ◌∷◌, ◌++◌, Option, Some, None, All, length, cond, eq-eqb, refl, sym, ap, subst, ◌∙◌, arith}
 use Rattle.std.proofs.lemmas.List.Elements.{All-head, All-tail, All-contains, Contains-push}
 use Rattle.model.specs.declared.Kind.{Kind}

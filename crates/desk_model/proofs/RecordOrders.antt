@@ -20,7 +20,7 @@ use Rattle.model.proofs.Orders.{returned_some}
 abbrev entry_for : ProcessCall → Return → AnyEntry
 entry_for o r = record { client = o.process; ticket = o.call.number; op = o.call.op; reply = r.reply }
 
--- it stands in the log behind entries with tickets from before the return
+-- it is in the log after entries with tickets from before the return
 record IsLogged (log : List AnyEntry) (o : ProcessCall) (r : Return) : Type 0 where
   before : List AnyEntry
   after : List AnyEntry

@@ -50,7 +50,7 @@ splits_at c [] (y ∷ s) e is = absurd (cc)
 splits_at c (x ∷ l) s e is = elim (eqb x.client c) as (λ b. cond b (x ∷ entries_of c l) (entries_of c l) ≡ s ++ e ∷ [] → Splits (x ∷ l) e)
     [ true ↦ splits_own x e l (entries_of c l) s (λ s' f. splits_at c l s' e f) | false ↦ λ f. one_more x e l (splits_at c l s e f) ] is
 
--- what is logged last of a client stands behind entries that are all of tickets below n
+-- what is logged last of a client stands after entries that are all of tickets below n
 pub stands_in : (c n : ℕ) (l s : List AnyEntry) (q : AnyRequest) (a : AnyAnswer) → entries_of c l ≡ s ++ logged c q a → All (λ (e : AnyEntry). e.ticket < n) l
     → (before : List AnyEntry) × (after : List AnyEntry) × (l ≡ before ++ logged c q a ++ after) × All (λ (e : AnyEntry). e.ticket < n) before
 stands_in c n l s q (Reply r) is low = let e : AnyEntry = record { client = c; ticket = q.ticket; op = q.op; reply = r } in let b = splits_at c l s e is in

@@ -25,7 +25,7 @@ abbrev pub IsAmong : List Kind → AnyEvent → Type 0
 IsAmong kinds (Invoked t x op) = (x < length kinds) × (kind_of op ≡ kind_at kinds x)
 IsAmong kinds (Returned t a) = ⊤
 
--- what a call that is over has put into the log stands behind calls that were invoked before it
+-- what a call that is over has put into the log stands after calls that were invoked before it
 -- returned
 abbrev pub IsInTime : World → ℕ → AnyDone → Type 0
 IsInTime w c d =
@@ -35,7 +35,7 @@ IsInTime w c d =
 
 -- what holds of the journals
 pub record SoundJournals (kinds : List Kind) (w : World) : Type 0 where
-  -- each ticket below the clock stands in one journal, once
+  -- each ticket below the clock is in one journal, once
   pub tickets : ShareOut w.clock (tickets_in w)
   pub on_objects : (c : ℕ) → All (IsAmong kinds) (journal_in w c)
   pub in_time : (c : ℕ) → All (IsInTime w c) (w.done c)

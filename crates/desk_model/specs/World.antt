@@ -41,11 +41,11 @@ pub data Stage : Type 0 where
   idle : Stage
   -- the call has its ticket
   drawn : AnyRequest → Stage
-  -- its request stands in the client's row
+  -- its request is in the client's row
   posted : AnyRequest → Stage
   -- it was picked up by the holder of its object
   picked : AnyRequest → Stage
-  -- its answer stands in the client's row
+  -- its answer is in the client's row
   answered : AnyRequest → AnyAnswer → Stage
   -- the client has the answer, and has not yet drawn the ticket of the return
   taken : AnyRequest → AnyAnswer → Stage

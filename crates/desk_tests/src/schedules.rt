@@ -95,7 +95,7 @@ fn end_all(steps: &mut Vec<(u32, Step<AnyOp>)>, clients: u32) -> Result<(), Allo
     Ok(())
 }
 
-/// One client serves the rows on this object, each step behind the other.
+/// One client serves the rows on this object, each step after the other.
 fn serve(
     steps: &mut Vec<(u32, Step<AnyOp>)>,
     server: u32,

@@ -42,7 +42,7 @@ impl Together {
         }
     }
 
-    /// Whether all clients were once before their first calls, and the gate was called around so
+    /// Whether all clients were once before their first calls, and the gate was called around this
     /// many calls.
     fn held(&self, calls: u64) -> bool {
         self.gave_up.load(Ordering::SeqCst) == 0
@@ -146,7 +146,7 @@ fn is_whole(record: &Record<AnyObject>, work: &Workload) -> bool {
         && calls_made(record, work) == Some(entries(record))
 }
 
-/// Runs so many clients, all of which are before their first calls at once, and checks that they
+/// Runs this many clients, all of which are before their first calls at once, and checks that they
 /// make all their calls.
 fn run_together<R: AllocGlobal + Abort + Threads + Wait + Sync>(
     rt: &R,

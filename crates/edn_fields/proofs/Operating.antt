@@ -60,7 +60,7 @@ onto-none (p ∷ ps) = ap (entry p.0 p.1) (onto-none ps)
 pub walk_starts : (es : Entries) (tokens : List Token) (v : OperationValues) → tokens ≡ entries_tokens es ++ close_map ∷ [] → HasValues v (entries_of []) → Walk es tokens v
 walk_starts es tokens v h k = record { before = []; left = es; parts = refl; goes_on = h; so_far = k }
 
--- tokens behind a map's bracket are those of a map
+-- tokens after a map's bracket are those of a map
 pub is_map : (tokens : List Token) (v : OperationValues) → ((es : Entries) → tokens ≡ entries_tokens es ++ close_map ∷ [] → HasValues v es)
     → (d : Datum) → open_map ∷ tokens ≡ tokens_of d → IsMapWith v d
 is_map tokens v h (atom a) e = absurd cc

@@ -60,7 +60,7 @@ left_none key es tokens none l = by_left l.left refl
     by_left no_entries e = subst (IsValue []) (sym (l.same ∙ ap (value_at key) e)) refl
     by_left (entry k d ds) e = absurd (none k ((tokens_of d ++ entries_tokens ds) ++ close_map ∷ []) (l.goes_on ∙ ap (λ (x : Entries). entries_tokens x ++ close_map ∷ []) e))
 
--- tokens behind a map's bracket are those of a map
+-- tokens after a map's bracket are those of a map
 pub value_in_map : (tokens : List Token) (key : List ℕ) (value : List Piece)
     → ((es : Entries) → tokens ≡ entries_tokens es ++ close_map ∷ [] → IsValue value (value_at key es)) → (d : Datum) → open_map ∷ tokens ≡ tokens_of d → IsValueIn value key d
 value_in_map tokens key value h (atom a) e = absurd cc

@@ -21,7 +21,7 @@ IsValueIn ps k (atom a) = ⊥
 IsValueIn ps k (vector ds) = ⊥
 IsValueIn ps k (dictionary es) = IsValue ps (value_at k es)
 
--- what follows so many closing brackets, but for those of what is opened here
+-- what follows this many closing brackets, except for those of what is opened here
 abbrev pub behind : ℕ → List Token → List Token
 behind zero ts = ts
 behind (suc n) [] = []

@@ -78,7 +78,7 @@ impl<'p, 'a> OperationValues<'p, 'a> {
     }
 }
 
-/// The values in a map, behind its bracket.
+/// The values in a map, after its bracket.
 fn values_in<'p, 'a>(inside: &'p [Piece<'a>]) -> OperationValues<'p, 'a>
     ensures { (es : Entries)
         → token_buffer_tokens inside.entry.now ≡ entries_tokens es ++ close_map ∷ [] →

@@ -12,7 +12,7 @@ use crate::is_same;
 use crate::values::after_value;
 use edn::Piece;
 
-/// The token buffer behind the bracket that opens a map.
+/// The token buffer after the bracket that opens a map.
 #[inline]
 pub fn behind_bracket<'p, 'a>(pieces: &'p [Piece<'a>]) -> Option<&'p [Piece<'a>]>
     ensures { MatchOption result (NoMap (token_buffer_tokens pieces.entry.now))
@@ -25,7 +25,7 @@ pub fn behind_bracket<'p, 'a>(pieces: &'p [Piece<'a>]) -> Option<&'p [Piece<'a>]
     }
 }
 
-/// The key at the front, and the token buffer behind it.
+/// The key at the front, and the token buffer after it.
 #[inline]
 pub fn pair_at<'p, 'a>(pieces: &'p [Piece<'a>]) -> Option<(&'a str, &'p [Piece<'a>])>
     ensures { MatchOption result (NoPair (token_buffer_tokens pieces.entry.now))
@@ -38,7 +38,7 @@ pub fn pair_at<'p, 'a>(pieces: &'p [Piece<'a>]) -> Option<(&'a str, &'p [Piece<'
     }
 }
 
-/// The value of a key in a map, behind the map's bracket.
+/// The value of a key in a map, after the map's bracket.
 fn value_behind<'p, 'a>(inside: &'p [Piece<'a>], key: &[u8]) -> &'p [Piece<'a>]
     ensures { (es : Entries)
         → token_buffer_tokens inside.entry.now ≡ entries_tokens es ++ close_map ∷ [] →

@@ -49,7 +49,7 @@ opened f s z in_it h e =
     let b = kept_if (nat_lt (length s.outer) max_open) (record { inner = f; outer = s.inner ∷ s.outer }) z a.1 in
     subst (λ (x : State). IsGrounded x.inner x.outer) b.1 (in_it s.inner s.outer a.0 h)
 
--- what is behind the innermost frame
+-- what is after the innermost frame
 abbrev Behind : List Frame → Type 0
 Behind [] = Unit {0}
 Behind (f ∷ fs) = IsGrounded f fs

@@ -30,7 +30,7 @@ lacking k (e ∷ es) h =
 abbrev pub From : ℕ → List (Name × Form) → ℕ → Type 0
 From n xs i = EntriesFit n (entries_of (pair_views (drop i xs)))
 
--- the pair at i, and those behind it
+-- the pair at i, and those after it
 abbrev pub AtAndBehind : ℕ → List (Name × Form) → ℕ → Name × Form → Type 0
 AtAndBehind n xs i x = Lacks (name_bytes x.0) (entries_of (pair_views (drop (i + 1) xs))) × Fits n (view x.1) × From n xs (i + 1)
 

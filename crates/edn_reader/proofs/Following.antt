@@ -1,4 +1,4 @@
--- Forms at the front of a text, one more behind them, and what is sound behind them.
+-- Forms at the front of a text, one more after them, and what is sound after them.
 use Rattle.std.proofs.Common.{◌≡◌, ◌≢◌, ℕ, ◌+◌, Bool, true, false, cond, Option, Some, None, List, [], ◌∷◌, ◌++◌, length, refl, sym, ap, subst, ◌∙◌, append_assoc, arith}
 use Rattle.std.specs.Prelude.{ℤ}
 use Rattle.std.specs.Str.{IsUtf8}
@@ -22,7 +22,7 @@ begin_both : (ts us : List Token) (text mid rest : List ℕ) → BeginWith ts te
 begin_both [] us text mid rest b k = subst (λ (x : List ℕ). BeginWith us x rest) (sym b) k
 begin_both (t ∷ ts) us text mid rest (q, n, b) k = (q, n, begin_both ts us q mid rest b k)
 
--- a front, and forms behind it
+-- a front, and forms after it
 pub front_more : (text mid rest : List ℕ) (ds more : List Datum) → SpellsFront text ds mid → SpellsFront mid more rest → SpellsFront text (ds ++ more) rest
 front_more text mid rest ds more f g =
     record {
@@ -36,7 +36,7 @@ front_more text mid rest ds more f g =
           );
     }
 
--- what is sound behind a front is sound in the text
+-- what is sound after a front is sound in the text
 pub sound_behind : (text rest : List ℕ) (ds : List Datum) (start place : ℕ) → IsUtf8 text → SpellsFront text ds rest
     → start + length rest ≡ length text → IsSoundFrom start place rest → IsSoundAt place text
 sound_behind text rest ds start place u f l (n, e, s) =

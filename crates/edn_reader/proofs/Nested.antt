@@ -1,4 +1,4 @@
--- Levels as they lie in a vector, and from the innermost out.
+-- Levels as they are in a vector, and from the innermost out.
 use Rattle.std.proofs.Common.{◌≡◌, ◌+◌, List, [], ◌∷◌, ◌++◌, length, refl, arith}
 use Rattle.edn_reader.specs.declared.levels.Level.{Level}
 use Rattle.edn_reader.specs.Shapes.{Shape}

@@ -14,7 +14,7 @@ use Rattle.edn_reader.specs.declared.integer_vector.Stage.TheVariants.{Start, Ke
 abbrev at : List ℕ → Stage → List ℤ → IntegerVector
 at key s zs = record { key = key; stage = s; numbers = zs }
 
--- ---- what is behind the integer vector, or where none is
+-- ---- what is after the integer vector, or where none is
 
 over_stays : (ts : List Token) (key : List ℕ) (zs : List ℤ) → noted (note_all ts (at key Over zs)) ≡ None
 over_stays [] key zs = refl
@@ -70,7 +70,7 @@ mutual
       ∙ value_passed d (entries_tokens es ++ us) key n
       ∙ entries_passed es us key n
 
--- behind it comes a key
+-- after it comes a key
 other_passed : (d : Datum) (us : List Token) (key : List ℕ) → noted_from (tokens_of d ++ us) key (Other 0) ≡ noted_from us key Key
 other_passed (atom a) us key = refl
 other_passed (vector ds) us key = ap (λ (vs : List Token). noted_from vs key (Other 1)) (append_assoc (items_tokens ds) (close_vector ∷ []) us) ∙ items_passed ds (close_vector ∷ us) key 0

@@ -45,7 +45,7 @@ is_next rest t r e = subst (IsNextOf rest) e (next_is rest)
 same_got : (t u : Token) (r q : List ℕ) → got t r ≡ got u q → (t ≡ u) × (r ≡ q)
 same_got t u r q e = (cc, cc)
 
--- what the text goes on with, behind its first token
+-- what the text goes on with, after its first token
 goes_behind : (rest : List ℕ) (t : Token) (r : List ℕ) (s z : State) (us : List Token) → next rest ≡ got t r → step t s ≡ Some z → Lexes us rest
     → (vs : List Token) × Lexes vs r × (steps us s ≡ steps vs z)
 goes_behind rest t r s z [] e f h = let k = ending_next rest h in absurd cc

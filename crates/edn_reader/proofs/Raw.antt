@@ -15,11 +15,11 @@ same_end : (b : ℕ) (o : Option (List ℕ × List ℕ)) → option_map (λ (p :
 same_end b None = refl
 same_end b (Some p) = refl
 
--- behind a byte that ends nothing
+-- after a byte that ends nothing
 pub end_behind_byte : (b : ℕ) (bs : List ℕ) → (b == 34) ≡ false → (b == 92) ≡ false → string_end (b ∷ bs) ≡ string_end bs
 end_behind_byte b bs h k = rw (h, k) (same_end b (string_at bs))
 
--- behind an escape
+-- after an escape
 pub end_behind_escape : (c : ℕ) (cs : List ℕ) (e : ℕ) → escape_of c ≡ Some e → string_end (92 ∷ c ∷ cs) ≡ string_end cs
 end_behind_escape c cs e h = let x : escape_of c ≡ Some e = h in rw x (same_end e (string_at cs))
 

@@ -48,7 +48,7 @@ pub is_name_run : (b : ℕ) (t : List ℕ) → is_letter b ≡ true → nat_le (
 unfolding is_name
 is_name_run b t h l = and_from (is_letter b && list_all is_name_byte (names t)) (nat_le (length (names t)) 63) (and_from (is_letter b) (list_all is_name_byte (names t)) h (names_all t)) l
 
--- a keyword that ends behind its name
+-- a keyword that ends after its name
 pub keyword_first : (b : ℕ) (t : List ℕ) → is_letter b ≡ true → nat_le (length (names t)) 63 ≡ true → EndsToken (after_names t)
     → first (58 ∷ b ∷ t) ≡ got (leaf (atom (keyword (b ∷ names t)))) (after_names t)
 keyword_first b t h l e =
@@ -63,7 +63,7 @@ decimal_run b t h n = by_tail (digits t) (digits_all t)
     by_tail [] k = h
     by_tail (c ∷ cs) k = let z : not (b == 48) ≡ true = ap not (ne_eqb b 48 n) in and_from (is_digit b && not (b == 48)) (list_all is_digit (c ∷ cs)) (and_from (is_digit b) (not (b == 48)) h z) k
 
--- a number that ends behind its digits
+-- a number that ends after its digits
 pub integer_first : (b : ℕ) (t : List ℕ) → is_digit b ≡ true → (b ≡ 48 → ⊥) → value_after 0 (b ∷ digits t) < 2 ^ 63 → EndsToken (after_digits t)
     → first (b ∷ t) ≡ got (leaf (atom (integer (pos (value_after 0 (b ∷ digits t)))))) (after_digits t)
 integer_first b t h n lt e =

@@ -1,4 +1,4 @@
--- The tokens that stand in a text: their strings are text and their keywords names, and the first stands behind separators and comments.
+-- The tokens that are in a text: their strings are text and their keywords names, and the first stands after separators and comments.
 use Rattle.std.proofs.Common.{◌≡◌, ℕ, suc, zero, ◌+◌, ◌-◌, ◌≤◌, List, [], ◌∷◌, ◌++◌, length, refl, sym, ap, ◌∙◌, subst, append_assoc, arith, lit<, inl, inr}
 use Rattle.std.specs.Prelude.{ℤ, ◌^◌}
 use Rattle.std.specs.Str.{IsUtf8}
@@ -90,7 +90,7 @@ mutual
       let q = entries_in es ts p.1 in
       ((h.0, p.0, q.0), q.1)
 
--- what stands in a text is in the profile
+-- what is in a text is in the profile
 pub element_in : (text rest : List ℕ) (d : Datum) → IsUtf8 text → SpellsFront text (d ∷ []) rest → InProfile d
 element_in text rest d u f = (datum_in d [] (tokens_in (tokens_of d ++ []) text rest u f.begins)).0
 

@@ -125,7 +125,7 @@ step_first (leaf d) z e = inr (d, sym (some_is (closed (d ∷ [])) z e))
 
 -- ---- one turn of the loop over an element's tokens
 
--- behind the tokens that were kept the element goes on, or it is whole
+-- after the tokens that were kept the element goes on, or it is whole
 pub record Midway (keeping : Keeping) (text rest : List ℕ) (now_open : Shapes) (k : Held) : Type 0 where
   pub state : State
   pub progress : Progress text rest state
@@ -211,7 +211,7 @@ first_turn keeping text here r now_open kept u h e k =
       going = step_first t.token t.after t.steps_to;
     }
 
--- a token behind others
+-- a token after others
 pub next_turn : (keeping : Keeping) (text rest here r : List ℕ) (old new : Shapes) (kept more : Held) → here ≡ skip rest → (old.outer ≡ [] → ⊥)
     → after_piece old (first here) ≡ Some (new, r) → HoldsToken kept (first here) more
     → Midway keeping text rest old kept → Midway keeping text r new more

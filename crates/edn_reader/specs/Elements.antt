@@ -10,7 +10,7 @@ use Rattle.edn_reader.specs.IntegerVectors.{Held, hold}
 use Rattle.edn_reader.specs.Reading.{Next, got}
 
 -- The text begins with these forms, and this rest follows them: what the rest spells, the text
--- spells behind them, and it spells nothing else.
+-- spells after them, and it spells nothing else.
 pub record SpellsFront (text : List ℕ) (ds : List Datum) (rest : List ℕ) : Type 0 where
   pub begins : BeginWith (items_tokens (items_of ds)) text rest
   pub fits : ItemsFit max_open (items_of ds)

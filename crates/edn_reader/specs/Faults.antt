@@ -7,7 +7,7 @@ use Rattle.edn_reader.specs.declared.fault.FaultKind.TheVariants.{KeyKind, TooDe
 use Rattle.edn_reader.specs.declared.fault.FaultKind.TheVariants.{TooLong}
 use Rattle.edn_reader.specs.declared.fault.FaultKind.TheVariants.{NoMemory}
 
--- the number that is printed behind the letter E
+-- the number that is printed after the letter E
 abbrev pub number_of : FaultKind → ℕ
 number_of BadUtf8 = 1
 number_of Unfinished = 2

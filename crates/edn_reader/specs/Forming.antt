@@ -13,14 +13,14 @@ pub record BeginsForm (tokens : List Token) : Type 0 where
   pub own : InProfile form
   pub are : tokens ≡ tokens_of form ++ behind
 
--- the same of a vector's elements and the bracket behind them
+-- the same of a vector's elements and the bracket after them
 pub record BeginsItems (tokens : List Token) : Type 0 where
   pub items : Items
   pub behind : List Token
   pub own : ItemsInProfile items
   pub are : tokens ≡ items_tokens items ++ close_vector ∷ behind
 
--- and of a map's pairs, and the brace behind them
+-- and of a map's pairs, and the brace after them
 pub record BeginsPairs (tokens : List Token) : Type 0 where
   pub pairs : Entries
   pub behind : List Token

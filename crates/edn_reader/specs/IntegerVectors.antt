@@ -49,7 +49,7 @@ behind_value open_map = Over
 behind_value close_map = Over
 behind_value (leaf d) = Over
 
--- in the value of another key, of which so many brackets are open
+-- in the value of another key, of which this many brackets are open
 abbrev pub behind_other : ℕ → Token → Stage
 behind_other n open_vector = Other (n + 1)
 behind_other n close_vector = if nat_le n 1 then Key else Other (n - 1)

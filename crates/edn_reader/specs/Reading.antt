@@ -88,7 +88,7 @@ abbrev pub with_byte : ℕ → Option (List ℕ × List ℕ) → Option (List �
 with_byte b None = None
 with_byte b (Some p) = Some (b ∷ p.0, p.1)
 
--- what a string holds behind its quote, and what follows the quote that ends it
+-- what a string holds after its quote, and what follows the quote that ends it
 abbrev mutual
   pub string_at : List ℕ → Option (List ℕ × List ℕ)
   string_at [] = None
@@ -147,7 +147,7 @@ put_key es (integer z) = None
 put_key es (string s) = None
 put_key es (keyword k) = if has_key k es then None else Some (in_pair es k)
 
--- a form behind the others
+-- a form after the others
 abbrev pub put : Frame → Datum → Option Frame
 put (in_text ds) d = Some (in_text (ds ++ d ∷ []))
 put (in_vector ds) d = Some (in_vector (ds ++ d ∷ []))
@@ -192,7 +192,7 @@ step open_map s = open_at (in_map []) s
 step close_map s = close_map_at s.inner s.outer
 step (leaf d) s = option_map (λ f. record s { inner = f }) (put s.inner d)
 
--- the state after a token, and the text behind it
+-- the state after a token, and the text after it
 abbrev pub after_token : State → Next → Option (State × List ℕ)
 after_token s end = None
 after_token s bad = None

@@ -4,7 +4,7 @@ use Rattle.std.specs.Prelude.{◌≡◌, Option, Some, None, IsSome, Result, Mat
 use Rattle.edn_reader.specs.declared.fault.Cause.{Cause}
 use Rattle.edn_reader.specs.declared.fault.Cause.TheVariants.{NoMemory}
 
--- An error says that nothing is expected, but want of memory that something is.
+-- An error says that nothing is expected, but an allocation failure that something is.
 abbrev pub Denies : {B : Type 0} → Cause → Option B → Type 0
 Denies e expected = ((e ≡ NoMemory → ⊥) → expected ≡ None) × (e ≡ NoMemory → IsSome expected)
 

@@ -104,7 +104,7 @@ shape_step open_map s = opened (a_map false []) s
 shape_step close_map s = map_closed s.inner s.outer
 shape_step (leaf d) s = option_map (λ f. record s { inner = f }) (put_in s.inner (key_in d))
 
--- the shapes after a token, and the text behind it
+-- the shapes after a token, and the text after it
 abbrev pub after_piece : Shapes → Next → Option (Shapes × List ℕ)
 after_piece s end = None
 after_piece s bad = None

@@ -13,7 +13,7 @@ BeginWith [] bytes rest = bytes ≡ rest
 BeginWith (t ∷ ts) bytes rest = (behind : List ℕ) × IsNext bytes t behind × BeginWith ts behind rest
 
 -- The text is UTF-8, and begins with the first tokens of some forms, in which keys are distinct and
--- no bracket lies too deep. The last of these tokens stands at this place, behind separators and
+-- no bracket lies too deep. The last of these tokens stands at this place, after separators and
 -- comments.
 pub record IsSoundAt (place : ℕ) (text : List ℕ) : Type 0 where
   pub utf8 : IsUtf8 text
@@ -39,8 +39,8 @@ IsSoundFrom start place left = (n : ℕ) × (place ≡ start + n) × IsSoundAt n
 abbrev pub IsShort : List ℕ → Type 0
 IsShort text = length text ≤ max_length
 
--- The text is too long to be read, and E10 says so; or it is not, and spells no forms. Want of
--- memory is no such fault.
+-- The text is too long to be read, and E10 says so; or it is not, and spells no forms. An
+-- allocation failure is no such fault.
 pub record IsUnreadable (text : List ℕ) (e : EdnFault) : Type 0 where
   pub not_memory : e.kind ≢ NoMemory
   pub too_long : (e.kind ≡ TooLong) ↔ (max_length < length text)

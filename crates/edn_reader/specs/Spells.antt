@@ -14,7 +14,7 @@ use Rattle.edn_reader.specs.Token.{items_tokens}
 use Rattle.edn_reader.specs.Bytes.{is_separator, is_token_byte, is_digit, is_name}
 
 -- What may stand before a token: separators and comments. A comment goes on to its line feed, and
--- `EndsComment` is of the bytes behind its semicolon.
+-- `EndsComment` is of the bytes after its semicolon.
 abbrev mutual
   pub IsGap : List ℕ → Type 0
   IsGap [] = Unit {0}
@@ -24,7 +24,7 @@ abbrev mutual
   EndsComment [] = ⊥
   EndsComment (b ∷ bs) = ((b ≡ 10) × IsGap bs) ⊎ ((b ≡ 10 → ⊥) × EndsComment bs)
 
--- What may stand behind the last token: the same, where the last comment needs no line feed.
+-- What may stand after the last token: the same, where the last comment needs no line feed.
 abbrev mutual
   pub IsEnding : List ℕ → Type 0
   IsEnding [] = Unit {0}
@@ -55,7 +55,7 @@ abbrev pub IsPositive : ℤ → List ℕ → Type 0
 IsPositive z ds =
     (is_decimal ds ≡ true) × (value_after 0 ds < 2 ^ 63) × (z ≡ pos (value_after 0 ds))
 
--- the same behind a minus sign
+-- the same after a minus sign
 abbrev pub IsNegative : ℤ → List ℕ → Type 0
 IsNegative z ds =
     (is_decimal ds ≡ true) × (value_after 0 ds ≤ 2 ^ 63) × (z ≡ minus (value_after 0 ds))
@@ -75,7 +75,7 @@ IsWord (integer z) own = IsInteger z own
 IsWord (string s) own = ⊥
 IsWord (keyword k) own = (own ≡ 58 ∷ k) × (is_name k ≡ true)
 
--- what a byte behind a backslash stands for: t, r, n, a backslash and a quote have a meaning
+-- what a byte after a backslash stands for: t, r, n, a backslash and a quote have a meaning
 abbrev pub escape_of : ℕ → Option ℕ
 escape_of c =
     if c == 116 then Some 9 else if c == 114 then Some 13 else if c == 110 then Some 10 else if c ==
@@ -119,7 +119,7 @@ Begins bytes open_map rest = bytes ≡ 123 ∷ rest
 Begins bytes close_map rest = bytes ≡ 125 ∷ rest
 Begins bytes (leaf d) rest = BeginsWord bytes d rest ⊎ BeginsString bytes d rest
 
--- The same behind separators and comments.
+-- The same after separators and comments.
 abbrev pub IsNext : List ℕ → Token → List ℕ → Type 0
 IsNext bytes t rest =
     (gap after : List ℕ) × IsGap gap × Begins after t rest × (bytes ≡ gap ++ after)
@@ -130,7 +130,7 @@ Lexes [] bytes = IsEnding bytes
 Lexes (t ∷ ts) bytes = (rest : List ℕ) × IsNext bytes t rest × Lexes ts rest
 
 -- The text is UTF-8 and made of the tokens of these forms, in which the keys of each map are
--- distinct and at most 16 vectors and maps lie in one another.
+-- distinct and at most 16 vectors and maps are in one another.
 pub record Spells (ds : List Datum) (bytes : List ℕ) : Type 0 where
   pub utf8 : IsUtf8 bytes
   pub tokens : Lexes (items_tokens (items_of ds)) bytes

@@ -26,7 +26,7 @@ escaped (b ∷ bs) = escape_text b ++ escaped bs
 abbrev pub quoted : List ℕ → List ℕ
 quoted s = 34 ∷ (escaped s ++ 34 ∷ [])
 
--- integers in decimal, keywords behind their colon
+-- integers in decimal, keywords after their colon
 abbrev pub atom_text : Atom → List ℕ
 atom_text nil = codes "nil"
 atom_text (boolean true) = codes "true"
@@ -57,7 +57,7 @@ abbrev mutual
   entries_text first (entry k d es) =
       (between first (codes ", ") ++ ((58 ∷ k) ++ (32 ∷ text_of d))) ++ entries_text false es
 
--- a pair of a map, behind what stands between it and the pair before
+-- a pair of a map, after what stands between it and the pair before
 abbrev pub pair_text : Bool → List ℕ → Datum → List ℕ
 pair_text first k d = between first (codes ", ") ++ ((58 ∷ k) ++ (32 ∷ text_of d))
 

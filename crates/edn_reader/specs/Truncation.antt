@@ -18,7 +18,7 @@ truncated_item (atom a) = atom a
 truncated_item (vector ds) = atom nil
 truncated_item (dictionary es) = atom nil
 
--- so many elements at most
+-- this many elements at most
 abbrev pub truncated_items : ℕ → Items → Items
 truncated_items zero ds = no_items
 truncated_items (suc n) no_items = no_items

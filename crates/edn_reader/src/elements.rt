@@ -130,7 +130,7 @@ impl<'a> Elements<'a> {
     }
 
     /// Reads the next element, or says that there is none. After an error what is left stays as it
-    /// was, and the next call answers the same, but for want of memory.
+    /// was, and the next call answers the same, except for an allocation failure.
     pub fn advance(&mut self) -> Result<bool, EdnFault>
         ensures reads { IfOk result (λ more.
             ReadsNext (keeping_in self.old) (left_of self.old) (tokens_in self.new)

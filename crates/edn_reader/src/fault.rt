@@ -43,7 +43,7 @@ pub enum FaultKind {
 impl FaultKind {
     ghost use Rattle.edn_reader.specs.Faults.{number_of};
 
-    /// The number behind the letter E.
+    /// The number after the letter E.
     pub fn number(self) -> u8
         ensures { result ≡ number_of self }
     {

@@ -6,10 +6,10 @@ ghost use Rattle.edn_reader.specs.NameTexts.{text_bytes, short_length};
 
 use std::alloc::{AllocError, Global};
 
-/// How many bytes of a name lie in place.
+/// How many bytes of a name are in place.
 const SHORT: usize = 22;
 
-/// A name's bytes: their number and the bytes with zeros behind them, or in memory of their own.
+/// A name's bytes: their number and the bytes with zeros after them, or in memory of their own.
 #[derive(Debug, PartialEq, Eq, Drop)]
 enum Text {
     Short(u8, [u8; SHORT]),

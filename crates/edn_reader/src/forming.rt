@@ -97,7 +97,7 @@ impl<'p, 'a> Tokens<'p, 'a> {
         }
     }
 
-    /// The vector behind its first bracket.
+    /// The vector after its first bracket.
     #[cycle(forms)]
     fn vector(&mut self, alloc: Global) -> Result<Form, AllocError>
         requires { BeginsItems (left_on self.old) }
@@ -113,7 +113,7 @@ impl<'p, 'a> Tokens<'p, 'a> {
         Ok(Form::Vector(forms))
     }
 
-    /// The map behind its first brace.
+    /// The map after its first brace.
     #[cycle(forms)]
     fn map(&mut self, alloc: Global) -> Result<Form, AllocError>
         requires { BeginsPairs (left_on self.old) }

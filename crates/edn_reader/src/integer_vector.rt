@@ -7,7 +7,7 @@ use crate::piece::Piece;
 use std::alloc::{AllocError, Global};
 use std::mem;
 
-/// How far a map is read. In the value of another key so many brackets are open.
+/// How far a map is read. In the value of another key this many brackets are open.
 #[derive(Clone, Copy)]
 pub enum Stage {
     Start,
@@ -27,7 +27,7 @@ pub struct IntegerVector<'a> {
     numbers: Vec<i64>,
 }
 
-/// The stage behind a token of another key's value, where so many brackets are open before it.
+/// The stage after a token of another key's value, where this many brackets are open before it.
 fn behind_other(depth: usize, piece: &Piece) -> Result<Stage, AllocError>
     ensures { IfOk result (λ stage. stage ≡ spec.behind_other depth (piece_token piece.now)) }
 {
@@ -84,7 +84,7 @@ impl<'a> IntegerVector<'a> {
         }
     }
 
-    /// The stage behind a key, or behind the end of the map.
+    /// The stage after a key, or after the end of the map.
     fn behind_key(&self, piece: &Piece) -> Stage
         ensures { result ≡ spec.behind_key self.now.key.now (piece_token piece.now) }
     {
@@ -146,7 +146,7 @@ impl<'a> IntegerVector<'a> {
         if let Stage::Over = self.stage {
             return Ok(());
         }
-        // A copy, so that the token need not lie in memory where nothing is looked for.
+        // A copy, so that the token need not be in memory where nothing is looked for.
         let copy = *piece;
         self.note_next(&copy)
     }

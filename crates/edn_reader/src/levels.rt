@@ -13,11 +13,11 @@ use std::mem;
 /// How many vectors and maps may be open at once.
 pub const MAX_OPEN: usize = 16;
 
-/// From how many keys on they stand in a set too.
+/// From how many keys on they are in a set too.
 const MANY: usize = 16;
 
 /// The keys of a map so far, in order, and a set of them once there are many. A key that waits for
-/// its value is the last. Keys stay where they lie in the text. The set is in a box, since levels
+/// its value is the last. Keys stay where they are in the text. The set is in a box, since levels
 /// are moved as maps are opened and closed.
 #[derive(Drop)]
 pub struct Keys<'a> {
@@ -120,7 +120,7 @@ impl<'a> Keys<'a> {
         self.push_growing(name)
     }
 
-    /// One more name, with which they stand in a set.
+    /// One more name, with which they are in a set.
     #[cold]
     #[inline(never)]
     fn push_to_many(&mut self, alloc: Global, name: &'a str) -> Result<(), AllocError>
@@ -218,7 +218,7 @@ impl<'a> Keys<'a> {
         Ok(())
     }
 
-    /// The room that the names lie in.
+    /// The room that the names are in.
     fn into_room(self) -> Vec<&'a str> {
         let Keys {
             names,

@@ -21,15 +21,15 @@ fn is_among(pairs: &[(Name, Form)], name: &[u8]) -> bool
     false
 }
 
-/// Whether the keys of each map are distinct and at most 16 vectors and maps lie in one another,
-/// as in each form that was read. It takes no memory, and compares the keys of a map pair by pair.
+/// Whether the keys of each map are distinct and at most 16 vectors and maps are in one another, as
+/// in each form that was read. It takes no memory, and compares the keys of a map pair by pair.
 pub fn fits(form: &Form) -> bool
     ensures { IsTrue result ↔ Fits max_open (view form.now) }
 {
     fits_within(form, MAX_OPEN)
 }
 
-/// Whether the form fits where so many vectors and maps may still be opened.
+/// Whether the form fits where this many vectors and maps may still be opened.
 #[cycle(fits)]
 fn fits_within(form: &Form, depth: usize) -> bool
     ensures { IsTrue result ↔ Fits depth (view form.now) }

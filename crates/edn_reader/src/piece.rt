@@ -1,4 +1,4 @@
-//! Tokens from the front of a text, which stay where they lie in it.
+//! Tokens from the front of a text, which stay where they are in it.
 ghost use Rattle.std.specs.Prelude.{◌≡◌, ◌≢◌, ◌<◌, ◌^◌, length, true, Some, None, IfOk, IfErr};
 ghost use Rattle.std.specs.Prelude.{IfSome};
 ghost use Rattle.edn_reader.specs.Spells.{EndsToken, value_after};
@@ -27,7 +27,7 @@ pub enum Piece<'a> {
     Keyword(&'a str),
 }
 
-/// What follows the quote that ends a string, behind its first quote.
+/// What follows the quote that ends a string, after its first quote.
 #[tactic(auto, using(crate::proofs::Raw::end_behind_byte, crate::proofs::Raw::end_behind_escape, crate::proofs::Raw::no_end_behind))]
 fn behind_string(text: &[u8]) -> Result<&[u8], Stop>
     ensures ends { IfOk result (λ rest. string_end text.now ≡ Some rest.now) }
@@ -108,7 +108,7 @@ impl<'a> Piece<'a> {
     ghost use Rattle.edn_reader.specs.Token.{leaf};
     ghost use Rattle.edn_reader.specs.Pieces.{GivesPiece, IsWordPiece};
 
-    /// A string behind its first quote, and what follows it.
+    /// A string after its first quote, and what follows it.
     #[tactic(auto, using(crate::proofs::Raw::end_shorter, crate::proofs::Raw::got_raw))]
     fn of_string(text: &'a [u8]) -> Result<(Piece<'a>, &'a [u8]), Stop>
         ensures { GivesPiece result (spec.got_string (spec.string_at text.entry.now)) }
@@ -161,7 +161,7 @@ impl<'a> Piece<'a> {
         }
     }
 
-    /// A keyword of the usual form, behind its colon, and what follows it.
+    /// A keyword of the usual form, after its colon, and what follows it.
     #[inline(always)]
     #[tactic(auto, using(crate::proofs::Runs::names_within))]
     pub fn usual_keyword(text: &'a [u8]) -> Option<(&'a str, &'a [u8])>

@@ -57,7 +57,7 @@ pub fn read_forms(alloc: Global, text: &[u8]) -> Result<Vec<Form>, EdnFault>
     }
 }
 
-/// Puts the form of an element's tokens behind the others.
+/// Puts the form of an element's tokens after the others.
 fn put_form(alloc: Global, pieces: &[Piece], forms: &mut Vec<Form>) -> Result<(), AllocError>
     requires { BeginsForm (token_buffer_tokens pieces.now) }
     ensures { OnOk result ((d : Datum) → token_buffer_tokens pieces.now ≡ tokens_of d

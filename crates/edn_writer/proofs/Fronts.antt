@@ -18,7 +18,7 @@ use Rattle.byte_streams.specs.Sent.{WritesPrefix, Writes}
 pub front_of_first : (old new : Option (List ℕ)) (part more : List ℕ) → WritesPrefix old new part → WritesPrefix old new (part ++ more)
 front_of_first old new part more h = record { front = h.front; back = h.back ++ more; parts = ap (λ (t : List ℕ). t ++ more) h.parts ∙ append_assoc h.front h.back more; sent = h.sent }
 
--- the part comes behind one that went out
+-- the part comes after one that went out
 pub front_behind : (old mid new : Option (List ℕ)) (first part : List ℕ) → Appends old mid first → WritesPrefix mid new part → WritesPrefix old new (first ++ part)
 front_behind old mid new first part e h = record {
   front = first ++ h.front;
@@ -45,19 +45,19 @@ pub on_ok : {A E : Type 0} (r : Result A E) (P : Type 0) → P → OnOk r P
 on_ok (Ok x) P p = p
 on_ok (Err e) P p = tt
 
--- an error exit, behind a beginning of the text
+-- an error exit, after a beginning of the text
 pub fails : {A E : Type 0} (r : Result A E) (old new : Option (List ℕ)) (broken : Bool) (text : List ℕ)
     → OnOk r (Appends old new text × (broken ≡ false)) → WritesPrefix old new text → broken ≡ true → Writes r old new broken text
 fails (Ok x) old new broken text ok front failed = (ok, tt)
 fails (Err e) old new broken text ok front failed = (tt, (front, failed))
 
--- the last part of the text, behind one that went out
+-- the last part of the text, after one that went out
 pub sends_behind : {A E : Type 0} (r : Result A E) (old mid new : Option (List ℕ)) (broken : Bool) (first part : List ℕ)
     → Appends old mid first → Writes r mid new broken part → Writes r old new broken (first ++ part)
 sends_behind (Ok x) old mid new broken first part e h = ((Appends-trans old mid new first part e h.0.0, h.0.1), tt)
 sends_behind (Err x) old mid new broken first part e h = (tt, (front_behind old mid new first part e h.1.0, h.1.1))
 
--- behind two
+-- after two
 pub sends_third : {A E : Type 0} (r : Result A E) (o m k n : Option (List ℕ)) (broken : Bool) (first second part : List ℕ)
     → Appends o m first → Appends m k second → Writes r k n broken part → Writes r o n broken (first ++ (second ++ part))
 sends_third r o m k n broken first second part e f h = sends_behind r o m n broken first (second ++ part) e (sends_behind r m k n broken second part f h)

@@ -96,7 +96,7 @@ next_stands p (e ∷ es) f q = go (e.process == p) q (next_stands p es f)
     go true r g = let s : e ≡ f = cc in inl (sym s)
     go false r g = inr (g r)
 
--- where an operation returned, an event says so behind its invocation
+-- where an operation returned, an event says so after its invocation
 pub record Returns (es : List Event) (o : Invocation) (at : ℕ) (r : AnyReply) : Type 0 where
   pub event : Event
   pub stands : In event es

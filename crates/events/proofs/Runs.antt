@@ -20,7 +20,7 @@ state_by x (Ok r) = idle
 state_by x Fail = idle
 state_by x Info = closed
 
--- what it is doing behind its last event
+-- what it is doing after its last event
 abbrev pub state_after : Option Event → State
 state_after None = idle
 state_after (Some e) = state_by e.object e.action

@@ -50,7 +50,7 @@ IsOutstanding last x op = (e : Event) × (last ≡ Some e) × (e.object ≡ x) �
 abbrev pub HasShape : AnyOp → AnyReply → Type 0
 HasShape op r = reply_with (function_in op) (reply_value r) ≡ Some r
 
--- An event fits behind earlier ones: an invocation of an idle process, of the kind of the object's
+-- An event fits after earlier ones: an invocation of an idle process, of the kind of the object's
 -- earlier ones, or a completion of the operation that is outstanding, on its object, and with a
 -- reply of its shape.
 abbrev pub Follows : List Event → ℕ → ℕ → Action → Type 0
@@ -60,7 +60,7 @@ Follows earlier p x (Ok r) =
 Follows earlier p x Fail = (op : AnyOp) × IsOutstanding (last_event p earlier) x op
 Follows earlier p x Info = (op : AnyOp) × IsOutstanding (last_event p earlier) x op
 
--- Numbers rise, and each event fits behind those before it.
+-- Numbers rise, and each event fits after those before it.
 pub record IsProper (es : List Event) : Type 0 where
   pub rising : AllPairs (λ a b. a.number < b.number) es
   pub each : (earlier later : List Event) (e : Event) → es ≡ earlier ++ e ∷ later
@@ -85,8 +85,8 @@ denoted_by number p x (Ok r) failed = record { number = number; event = Res p x 
 denoted_by number p x Fail failed = []
 denoted_by number p x Info failed = []
 
--- The history that events denote: in their order, and with their numbers, the invocations, but for
--- those whose process next fails, and the responses. Where nothing is known of an operation its
+-- The history that events denote: in their order, and with their numbers, the invocations, except
+-- for those whose process next fails, and the responses. Where nothing is known of an operation its
 -- invocation stays pending.
 abbrev pub denoted : List Event → List Numbered
 denoted [] = []

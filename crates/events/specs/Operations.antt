@@ -90,7 +90,7 @@ pub record ObjectCalls : Type 0 where
   pub kind : Kind
   pub ops : List Invocation
 
--- Numbers rise, the operations are of the kind, and a response stands behind its invocation, and at
+-- Numbers rise, the operations are of the kind, and a response stands after its invocation, and at
 -- no invocation.
 pub record IsObjectHistory (h : ObjectCalls) : Type 0 where
   pub rising : AllPairs (λ a b. a.number < b.number) h.ops
@@ -102,6 +102,6 @@ abbrev pub IsGathered : Option (List Invocation) → List Invocation → Type 0
 IsGathered None ops = ops ≡ []
 IsGathered (Some kept) ops = (kept ≡ reverse ops) × (ops ≢ [])
 
--- an object of which something is kept stands in the list
+-- an object of which something is kept is in the list
 abbrev pub IsListed : {V : Type 0} → Option V → List ℕ → ℕ → Type 0
 IsListed kept objects x = (kept ≡ None) ⊎ Contains objects x

@@ -26,7 +26,7 @@ no_split (x ∷ earlier) later d e = cc
 pub nothing_faulty : IsFaultless []
 nothing_faulty earlier later d kind e f = no_split earlier later d e
 
--- more forms behind a fault
+-- more forms after a fault
 found_more : (ds : List Datum) (d : Datum) (f : HistoryFault) → IsFoundIn ds f → IsFoundIn (ds ++ d ∷ []) f
 found_more ds d f h = (
   λ n. first_more ds d f.map f.kind (h.0 n),
@@ -67,7 +67,7 @@ one_more old new number ds d es more h r =
       count = omega (arith, length-append ds (d ∷ []), h.count);
     }
 
--- what is wrong with the map behind those that were read
+-- what is wrong with the map after those that were read
 pub found : (seen : Seen) (number : ℕ) (ds : List Datum) (d : Datum) (es : List Event) (k : HistoryFaultKind) → AreRead seen number ds es
     → (k ≢ NoMemory → HasFirst ds d k) → (k ≡ NoMemory → HasNoFault ds d) → IsFoundIn (ds ++ d ∷ []) (record { kind = k; map = number })
 found seen number ds d es k h first none = (

@@ -75,7 +75,7 @@ const FAILED: &str = "
     {:process 0 :type :invoke :f :enqueue :value 5}
     {:process 0 :type :fail :f :enqueue :value 5}";
 
-/// The maps of one process behind two that are no client's.
+/// The maps of one process after two that are no client's.
 const BEHIND_OTHERS: &str = "
     {:process :nemesis} {:process :nemesis}
     {:process 0 :type :invoke :f :enqueue :value 1}
@@ -273,8 +273,8 @@ fn several_objects_are_checked_in_rising_number(rt: HostRuntime) -> Result<(), F
             "{:object 0 :order [2 0]} {:object 1 :order [3 0]}",
             bad_order(1, OrderFault::UnknownOperation { op: 0 }),
         ),
-        // An object without a certificate comes before a fault of a later one, and behind that of
-        // an earlier one.
+        // An object without a certificate comes before a fault of a later one, and after that of an
+        // earlier one.
         (
             TWO_QUEUES,
             "{:object 1 :order [1 3]}",

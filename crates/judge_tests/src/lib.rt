@@ -1,5 +1,5 @@
 //! Tests of the public calls of `history`, `certificate`, `checker`, `parallel`, `report`,
-//! `judging` and `sources`. They stand in a crate of their own, so that each of these libraries is
+//! `judging` and `sources`. They are in a crate of their own, so that each of these libraries is
 //! proved once, and not again for its tests.
 #![tactic(auto)]
 

@@ -254,7 +254,7 @@ fn workers_split_a_history_as_one_does(rt: HostRuntime) -> Result<(), Fail> {
     Ok(())
 }
 
-/// Waits until so many are counted; what waits too long is counted too.
+/// Waits until n are counted; what waits too long is counted too.
 fn wait_for(least: u64, counted: &AtomicU64, gave_up: &AtomicU64) {
     for _ in 0..TURNS {
         if counted.load(Ordering::SeqCst) >= least {

@@ -43,7 +43,7 @@ point_here m e es = ap (λ b. cond b (max m (number_of e)) (point_in (max m (num
 give_here : (c : Content) (e : ProcessCall) (es : List ProcessCall) (h : RepliesAlong c (calls (e ∷ es))) → give_in c (e ∷ es) h (number_of e) ≡ Some h.1
 give_here c e es h = ap (λ b. cond b (Some h.1) (give_in h.0 es h.4 (number_of e))) (eq-eqb (number_of e) (number_of e) refl)
 
--- an entry behind it
+-- an entry after it
 point_there : (m : ℕ) (e : ProcessCall) (es : List ProcessCall) (n : ℕ) → number_of e ≢ n → point_in m (e ∷ es) n ≡ point_in (max m (number_of e)) es n
 point_there m e es n ne = ap (λ b. cond b (max m (number_of e)) (point_in (max m (number_of e)) es n)) (ne_eqb (number_of e) n ne)
 
@@ -90,7 +90,7 @@ point_from m (f ∷ es) e o i =
           ]
     ]
 
--- the point of an entry that returned is not after its return, where none stands behind one that it precedes
+-- the point of an entry that returned is not after its return, where none stands after one that it precedes
 pub point_before : (m : ℕ) (es : List ProcessCall) (e : ProcessCall) (r : Return) → Once es → Pairs (λ a b. ReturnsBefore b.call a.call → ⊥) es
     → In e es → e.call.returned ≡ Some r → number_of e ≤ r.at → m ≤ r.at → point_in m es (number_of e) ≤ r.at
 point_before m [] e r o p i q l k = absurd i

@@ -7,8 +7,8 @@ use Rattle.model.proofs.Lists.{In, Pairs, in_filter, in_filter_passes, in_filter
 use Rattle.model.proofs.Lists.{filter-flat_map, flat_map_same, flat_map_filter, in_flat_map, same_single, batches, pairs_flat_map, pairs_map}
 use Rattle.model.proofs.Lists.{in_map_from}
 
--- Operations in the order of their invocations, and for each object an order of some of them. The point of one that
--- stands in an order is the number of an operation of its object.
+-- Operations in the order of their invocations, and for each object an order of some of them. The point of one that is in an order is the number of an
+-- operation of its object.
 pub record ObjectOrders {X : Type 0} (num proc obj point : X → ℕ) (stands : X → Bool) (ops : List X) (entries : ℕ → List X) : Type 0 where
   pub rising : Pairs (λ a b. num a < num b) ops
   pub on_object : (x : ℕ) (e : X) → In e (entries x) → obj e ≡ x
@@ -26,7 +26,7 @@ module _ {X : Type 0} (num proc obj point : X → ℕ) (stands : X → Bool) (op
   abbrev batch : X → List X
   batch n = filter (λ e. point e == num n) (entries (obj n))
 
-  -- in the order of their points, and at one point as they stand in the object's order
+  -- in the order of their points, and at one point as they are in the object's order
   abbrev pub line : List X
   line = flat_map batch ops
 
@@ -65,7 +65,7 @@ module _ {X : Type 0} (num proc obj point : X → ℕ) (stands : X → Bool) (op
       ∙ (sym (flat_map-map of_number num (filter here ops))
       ∙ batches point numbers (entries x) up (o.points x) all)))
 
-  -- the operations of a process that stand in an order, as the process made them
+  -- the operations of a process that are in an order, as the process made them
   abbrev made_by : ℕ → List X
   made_by p = filter (λ e. (proc e == p) && stands e) ops
 
@@ -156,7 +156,7 @@ module _ {X : Type 0} (num proc obj point : X → ℕ) (stands : X → Bool) (op
       let f = eqb-true (point b) (num n) (in_filter_passes (λ e. point e == num n) b (entries (obj n)) j) in
       omega arith)
 
-  -- what is in the line stands in its object's order
+  -- what is in the line is in its object's order
   pub line_in : (e : X) → In e (line num proc obj point stands ops entries) → In e (entries (obj e))
   line_in e i =
       let n = in_flat_map (batch num proc obj point stands ops entries) e ops i in

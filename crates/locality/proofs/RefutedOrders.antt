@@ -86,7 +86,7 @@ two_not_one e = omega (arith, ints, ap value_in e)
 abbrev first : Call
 first = returned 0 (Enqueue (pos 1)) 1 (Some (pos 1))
 
--- behind it another value is enqueued, and no dequeue gives 2
+-- after it another value is enqueued, and no dequeue gives 2
 overtaken : (h : List Numbered) (b d : Call) (v : ℤ) (r : Return) → IsHistory h → calls_on 0 h ≡ first ∷ b ∷ d ∷ [] → b.op ≡ Enqueue v → 1 < b.number
     → d.op ≡ Dequeue → 1 < d.number → d.returned ≡ Some r → r.reply ≡ Value (Some (pos 2)) → ¬ IsLinearizable (λ x. Queue) (events h)
 overtaken h b d v r hist is b_op b_later d_op d_later d_back two lin =

@@ -83,7 +83,7 @@ history n h e =
       well_formed = well_formed n (events h) b.0 b.1;
     }
 
--- each has a number of its own, and none returned before one that stands in front of it
+-- each has a number of its own, and none returned before one that is in front of it
 abbrev pub in_order : List Call → Bool
 in_order [] = true
 in_order (a ∷ es) = list_all (λ b. not (a.number == b.number) && not (is_back a.number b.returned)) es && in_order es

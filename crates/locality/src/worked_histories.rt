@@ -53,14 +53,14 @@ pub fn pending_operation_may_take_effect()
     ensures linearizable { IsLinearizable (λ x. Kind.Queue) (events dequeued_while_pending) }
 {}
 
-/// An operation that is pending need not have taken effect: then it does not stand in the order.
+/// An operation that is pending need not have taken effect: then it is not in the order.
 pub fn pending_operation_may_be_left_out()
     ensures history { IsHistory found_empty_while_pending }
     ensures valid { IsValidOrder Kind.Queue (calls_on 0 found_empty_while_pending) (pos 1 ∷ []) }
     ensures linearizable { IsLinearizable (λ x. Kind.Queue) (events found_empty_while_pending) }
 {}
 
-/// An operation that is pending takes effect behind those that returned before it was invoked. Read
+/// An operation that is pending takes effect after those that returned before it was invoked. Read
 /// literally, Herlihy and Wing order only operations that returned; this project orders pending
 /// ones too.
 pub fn pending_operation_does_not_overtake()
@@ -77,7 +77,7 @@ pub fn each_object_has_its_order()
     ensures linearizable { IsLinearizable (λ x. Kind.Queue) (events two_queues) }
 {}
 
-/// A mutex is acquired by one process at a time: the second acquire stands behind the release.
+/// A mutex is acquired by one process at a time: the second acquire stands after the release.
 pub fn mutex_is_held_by_one()
     ensures history { IsHistory mutex_passed_on }
     ensures valid { IsValidOrder Kind.Mutex (calls_on 0 mutex_passed_on)

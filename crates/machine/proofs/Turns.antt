@@ -1,4 +1,4 @@
--- Steps taken or passed over, one list behind another.
+-- Steps taken or passed over, one list after another.
 use Rattle.std.proofs.Common.{◌≡◌, inl, inr, ℕ, zero, suc, add-one, ◌+◌, ◌<◌, List, [], ◌∷◌, ◌++◌, take, length, get_or, map, ap, sym, ◌∙◌, subst, arith}
 use Rattle.model.specs.declared.Kind.{Kind}
 use Rattle.desk_model.specs.World.{World}

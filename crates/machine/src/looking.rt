@@ -127,14 +127,14 @@ impl<S: SeqObject> Machine<S> {
         }
     }
 
-    // The ticket behind the next one.
+    // The ticket after the next one.
     pub(crate) fn next_ticket(&self) -> u64
         ensures { result ≡ self.now.clock + 1 }
     {
         self.clock + 1
     }
 
-    // The request for the object that stands in the row, if there is one.
+    // The request for the object that is in the row, if there is one.
     pub(crate) fn posted_at(&self, row: u32, object: u32) -> Option<Request<S::Op>>
         ensures found { IfSome result (λ q. (row < clients_of self.now)
             × ((world_of self.now).stage row ≡ posted (request_in S.op_in q))

@@ -12,7 +12,7 @@ use crate::step::Stage;
 use seq_objects::SeqObject;
 use std::alloc::{AllocError, Global};
 
-// The value so many times.
+// The value n times.
 fn copies<T: Copy + Drop>(alloc: Global, count: usize, value: T) -> Result<Vec<T>, AllocError>
     ensures { IfOk result (λ v. v.items ≡ replicate count value) }
 {
@@ -23,7 +23,7 @@ fn copies<T: Copy + Drop>(alloc: Global, count: usize, value: T) -> Result<Vec<T
     Ok(values)
 }
 
-// So many empty lists.
+// This many empty lists.
 fn lists<T: Drop>(alloc: Global, count: usize) -> Result<Vec<Vec<T>>, AllocError>
     ensures { IfOk result (λ v. items_of v.items ≡ replicate count []) }
 {
@@ -35,8 +35,8 @@ fn lists<T: Drop>(alloc: Global, count: usize) -> Result<Vec<Vec<T>>, AllocError
 }
 
 impl<S: SeqObject> Machine<S> {
-    /// A machine for these objects, which are empty, and so many clients, each of which may make so
-    /// many calls. All clients are idle, and nothing has happened.
+    /// A machine for these objects, which are empty, and this many clients, each of which may make
+    /// this many calls. All clients are idle, and nothing has happened.
     pub fn new(
         alloc: Global,
         objects: Vec<S>,

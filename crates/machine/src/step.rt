@@ -73,11 +73,11 @@ pub enum Stage<O, R> {
     Idle,
     /// The call has its ticket.
     Drawn(Request<O>),
-    /// Its request stands in the client's row.
+    /// Its request is in the client's row.
     Posted(Request<O>),
     /// It was picked up by the holder of its object.
     Picked(Request<O>),
-    /// Its answer stands in the client's row.
+    /// Its answer is in the client's row.
     Answered(Request<O>, Answer<R>),
     /// The client has the answer, and has not yet drawn the ticket of the return.
     Taken(Request<O>, Answer<R>),

@@ -1,4 +1,4 @@
--- What stands in a list, and what holds of each two of its elements, by recursion.
+-- What is in a list, and what holds of each two of its elements, by recursion.
 use Rattle.std.proofs.Common.{◌≡◌, ℕ, zero, suc, ◌<◌, ◌≤◌, ◌==◌, ◌≢◌, nat_lt, ◌&&◌, Bool, true, false, not, cond, ◌⊎◌, inl, inr, List, [], ◌∷◌, ◌++◌}
 use Rattle.std.proofs.Common.{length, map, filter, Some, All, AllPairs, Contains, slice_get, get_or, refl, ap, sym, ◌∙◌, subst, arith}
 use Rattle.std.proofs.lemmas.Option.{same_Some}

@@ -49,7 +49,7 @@ complete [] = []
 complete (e ∷ later) = if is_pending e later then complete later else e ∷ complete later
 
 -- A history is sequential where it is empty, or begins with an invocation, each invocation except
--- perhaps the last is at once followed by a matching response, and each response is at once behind
+-- perhaps the last is at once followed by a matching response, and each response is at once after
 -- an invocation that it matches.
 abbrev pub IsSequential : List Event → Type 0
 IsSequential [] = ⊤
@@ -74,7 +74,7 @@ pub record IsCompletion (h c : List Event) : Type 0 where
 abbrev pub IsEquivalent : List Event → List Event → Type 0
 IsEquivalent c s = (p : ℕ) → by_process p c ≡ by_process p s
 
--- An operation of a well-formed history: the invocation of a process that has so many of its
+-- An operation of a well-formed history: the invocation of a process that has this many of its
 -- invocations before it, with its response, if there is one. The k-th response of a process answers
 -- its k-th invocation. What is pending is the last of its process, so a completion renames no
 -- operation.
@@ -92,7 +92,7 @@ responds p e = not (is_invocation e) && (process_of e == p)
 abbrev pub IsOperation : List Event → Operation → Type 0
 IsOperation h e = e.turn < length (filter (invokes e.process) h)
 
--- the event passes the test, and so many events before it do
+-- the event passes the test, and n events before it do
 abbrev pub IsTurn : (Event → Bool) → ℕ → List Event → Event → Type 0
 IsTurn test turn before event = IsTrue (test event) × (length (filter test before) ≡ turn)
 

@@ -96,9 +96,9 @@ pub record IsValidOrder (kind : Kind) (calls : List Call) (order : List ℤ) : T
   pub known : All (Contains calls) entries
   -- none stands twice
   pub once : AllPairs (λ a b. a ≢ b) order
-  -- each operation that returned stands in it
+  -- each operation that returned is in it
   pub whole : All (λ e. IsSome e.returned → Contains entries e) calls
-  -- none stands behind one that it precedes
+  -- none stands after one that it precedes
   pub in_order : AllPairs (λ a b. ReturnsBefore b a → ⊥) entries
   -- along the order from the empty content each is possible, and what it returned is the reply
   pub replies : RepliesAlong (empty kind) entries

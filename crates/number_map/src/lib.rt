@@ -8,11 +8,11 @@ use std::alloc::{AllocError, Global};
 use std::collections::BTreeMap;
 use std::mem;
 
-/// From this key on values lie in the sorted map.
+/// From this key on values are in the sorted map.
 const TABLE: u64 = 65_536;
 
-/// A map from numbers to values. The values of small numbers lie in a table, which is as long as
-/// the greatest of them needs; the others lie in a sorted map.
+/// A map from numbers to values. The values of small numbers are in a table, which is as long as
+/// the greatest of them needs; the others are in a sorted map.
 #[derive(Drop)]
 pub struct NumberMap<V> {
     table: Vec<Option<V>>,

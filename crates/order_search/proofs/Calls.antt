@@ -66,7 +66,7 @@ arranged h items floors is few p f = record {
 abbrev pub returns : Invocation → Bool
 returns o = is_some (return_of o.«end»)
 
--- what `call_at` reads behind the end
+-- what `call_at` reads after the end
 abbrev pub none : Invocation
 none = record { number = 0; op = Dequeue; «end» = Pending }
 

@@ -74,8 +74,7 @@ continues_same n call p q c (k ∷ rest) s h = (
 pub dead_same : (n : ℕ) (call : ℕ → Call) (p q : List ℕ) (c : Content) → SamePlaces n p q → IsDead n call p c → IsDead n call q c
 dead_same n call p q c s d rest h = d rest (continues_same n call q p c rest (same_flip n p q s) h)
 
--- An order in calls, each two of them apart, none behind one that it precedes, that leaves out no returned call,
--- and whose replies are right, completes.
+-- An order in calls, each two of them apart, none after one that it precedes, that leaves out no returned call, and whose replies are right, completes.
 pub goes_on_from : (n : ℕ) (call : ℕ → Call) (done : List ℕ) (c : Content) (es : List Call) →
     ((j k : ℕ) → j < n → k < n → call j ≡ call k → j ≡ k) →
     ((e : Call) → In e es → (k : ℕ) × (k < n) × (call k ≡ e)) →

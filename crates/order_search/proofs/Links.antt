@@ -11,7 +11,7 @@ pub slot_within : (n : ℕ) (done : List ℕ) (s : ℕ) → IsSlot n done s → 
 slot_within n done zero h = omega arith
 slot_within n done (suc k) h = let l = h.0 in omega arith
 
--- of two slots with the same stop behind a gap, neither is less
+-- of two slots with the same stop after a gap, neither is less
 same_slot_le : (n : ℕ) (done : List ℕ) (s t q : ℕ) → IsSlot n done t → t ≤ q → IsGap done s q → s < t → ⊥
 same_slot_le n done s zero q h le gap l = omega arith
 same_slot_le n done s (suc k) q h le gap l = h.1 (gap k (omega arith) (omega arith))

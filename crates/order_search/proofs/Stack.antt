@@ -41,7 +41,7 @@ dead_behind n call done c at least t m small late ends k rest h = elim (cases_or
 pub dead_at_end : (n : ℕ) (call : ℕ → Call) (done : List ℕ) (c : Content) (at : ℕ) → IsTried n call done c at → n ≤ at → (k : ℕ) → IsDeadAt n call done c k
 dead_at_end n call done c at t l k rest h = let kn = h.0.0 in t k (omega arith) rest h
 
--- a place below the least return comes behind no call that is left and returned before it
+-- a place below the least return comes after no call that is left and returned before it
 pub candidate_now : (n : ℕ) (call : ℕ → Call) (done : List ℕ) (at least : ℕ) → IsLeast n call done least → (call at).number ≤ least → IsCandidate n call done at
 candidate_now n call done at least m low j jl ne b = let g = m.below j b.0 jl b.1 in let h = b.2 in omega arith
 
@@ -74,7 +74,7 @@ least_more n call done at more least next_least m l gap low own either = record 
   ];
 }
 
--- all that are behind return later
+-- all that are after return later
 pub least_of_all : (n : ℕ) (call : ℕ → Call) (done : List ℕ) (at least : ℕ) → IsLeastBelow n call done at least
     → ((j : ℕ) (r : Return) → at ≤ j → j < n → (call j).returned ≡ Some r → least ≤ r.at) → IsLeast n call done least
 least_of_all n call done at least m later = record {

@@ -4,7 +4,7 @@ use Rattle.std.specs.Prelude.{get_or}
 use Rattle.model.proofs.Lists.{In}
 use Rattle.order_search.specs.Continuations.{IsLeft}
 
--- slot 0, or the one behind a place that is left
+-- slot 0, or the one after a place that is left
 abbrev pub IsSlot : ℕ → List ℕ → ℕ → Type 0
 IsSlot n done zero = Unit {0}
 IsSlot n done (suc k) = IsLeft n done k

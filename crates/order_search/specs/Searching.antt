@@ -86,7 +86,7 @@ IsDeadAtPlace t s k =
     IsDeadAt (length t.items.items) (call_at t.items.items) (places (reverse s.levels.items))
     (content_of s.object) k
 
--- so many calls returned
+-- this many calls returned
 abbrev pub AreOwed : Trials → ℕ → Type 0
 AreOwed t left = left ≡ count_below (owes (call_at t.items.items) []) (length t.items.items)
 

@@ -77,7 +77,8 @@ fn search_from_start(
     }
 }
 
-/// Searches where some operation returned and there are not too many. Want of memory is an error.
+/// Searches where some operation returned and there are not too many. An allocation failure is an
+/// error.
 fn search_operations(
     alloc: Global,
     history: &ObjectHistory,
@@ -104,8 +105,8 @@ fn search_operations(
     search_from_start(alloc, &trials, left, limit, steps)
 }
 
-/// Searches for an order of the operations that is valid, depth first, in at most so many steps. A
-/// step is one operation tried. Pairs of operations done and content from which nothing goes on are
+/// Searches for an order of the operations that is valid, depth first, in at most n steps. A step
+/// is one operation tried. Pairs of operations done and content from which nothing goes on are
 /// remembered.
 ///
 /// That a limit is enough is not promised.

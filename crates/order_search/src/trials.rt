@@ -68,7 +68,7 @@ fn floors_of(alloc: Global, items: &[Invocation]) -> Result<Vec<u32>, AllocError
     Ok(floors)
 }
 
-/// The number of the return, or one behind all.
+/// The number of the return, or one after all.
 fn return_number(end: &End) -> u64 {
     match end {
         End::Returned { at, .. } => u64::from(*at),

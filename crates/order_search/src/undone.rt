@@ -7,10 +7,9 @@ ghost use Rattle.order_search.specs.Links.{before_with, before_without};
 use std::alloc::{AllocError, Global};
 
 /// The places of the operations that are not yet in the order, rising. Slot 0 stands before the
-/// first of all places, and slot `k + 1` behind place `k`. `next` has for each slot the first place
-/// behind it that is in the list, and
-/// `before`, for each place, the slot before it in the list. The place behind the last one is the
-/// end.
+/// first of all places, and slot `k + 1` after place `k`. `next` has for each slot the first place
+/// after it that is in the list, and `before`, for each place, the slot before it in the list. The
+/// place after the last one is the end.
 ///
 /// A place that was taken out keeps what it knows of its neighbours, so that it can be put back:
 /// Knuth, "Dancing Links", 2000.

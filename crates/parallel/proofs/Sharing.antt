@@ -150,7 +150,7 @@ fine_at os certificates k o l is h = λ d. subst (λ (q : ObjectCalls). IsFine q
 
 -- ---- what all workers found
 
--- what so many workers found, each on its share of the objects
+-- what this many workers found, each on its share of the objects
 pub record AreShares (count : ℕ) (os : List ObjectCalls) (certificates : List Certificate) (rs : List (Result (Unit {0}) RefusedPiece)) : Type 0 where
   pub some : 0 < count
   pub long : length rs ≡ count
@@ -191,7 +191,7 @@ found_first count os certificates rs f shares stands =
     let h = subst (IsShare i count os certificates) stands.2 s in
     (h.found.inside, h.found.refused)
 
--- What was found at the least place is the first refusal. Certificates that are valid are refused by want of memory alone.
+-- What was found at the least place is the first refusal. Certificates that are valid are refused by an allocation failure alone.
 pub first_of_all : (es : List Event) (count : ℕ) (os : List ObjectCalls) (certificates : List Certificate)
     (rs : List (Result (Unit {0}) RefusedPiece)) (f : RefusedPiece) → AllPairs (λ a b. a.object ≢ b.object) certificates → AreObjects es os
     → AreShares count os certificates rs → Contains rs (Err f) → All (IsNotBefore f) rs → IsFirstRefusal es certificates f.refusal × (AreValid es certificates → f.refusal ≡ NoMemory)

@@ -42,8 +42,8 @@ fn join_parts(
     Ok(sorted)
 }
 
-/// As `events::split`, by so many workers: the history of each object that some invocation names, a
-/// failed one too, in rising object number.
+/// As `events::split`, by this many workers: the history of each object that some invocation names,
+/// a failed one too, in rising object number.
 ///
 /// Worker `w` gathers the objects whose numbers leave the remainder `w` by the number of workers.
 /// So the work is shared where the objects' numbers are spread over the remainders; each worker

@@ -16,7 +16,7 @@ use seq_objects::Gate;
 use std::alloc::Global;
 use std::thread::{Threads, map_indices};
 
-/// Checks the certificates of a history's objects by so many workers. The answer is that of
+/// Checks the certificates of a history's objects by this many workers. The answer is that of
 /// `check_all`: `Ok` exactly where each named object has a valid order and no other object has a
 /// certificate, and else the first refusal, that of the least object and strange objects last,
 /// whichever was found first in time.
@@ -39,7 +39,7 @@ pub fn check_parallel<R: Threads + Sync, G: Gate>(
     requires few { workers < 1 + max_workers }
     ensures valid { OnOk result (AreValid history.now certificates.now) }
     ensures refused { IfErr result (IsFirstRefusal history.now certificates.now) }
-    // Certificates that are refused, but for want of memory, are not valid.
+    // Certificates that are refused, except for an allocation failure, are not valid.
     ensures exact { AreValid history.now certificates.now →
         IfErr result (λ e. e ≡ Refusal.NoMemory) }
     // There is one such answer, as `one_first_refusal` of `checker` says: that of `check_all`.

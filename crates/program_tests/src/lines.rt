@@ -13,7 +13,7 @@ pub(crate) fn asked(alloc: Global, words: &[&str]) -> Result<Line, Fail> {
     }
 }
 
-/// A search with so many steps, of the operation with the least number first.
+/// A search with this many steps, of the operation with the least number first.
 pub(crate) fn search_line(alloc: Global, steps: u32) -> Result<Line, Fail> {
     Ok(Line::Search {
         history: String::from_str(alloc, "h.edn")?,

@@ -105,7 +105,7 @@ fn two_texts_are_answered_yes_no_or_malformed(rt: HostRuntime) -> Result<(), Fai
     check_rows(&rt, &MALFORMED, 2)
 }
 
-/// Whether a check of these texts is answered in whole lines, and not for want of memory.
+/// Whether a check of these texts is answered in whole lines, and not for an allocation failure.
 fn is_answered<R: AllocGlobal + Threads + Wait + Sync>(
     rt: &R,
     check: &Line,

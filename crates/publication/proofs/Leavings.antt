@@ -1,4 +1,4 @@
--- What stands in the slots of a desk when all clients but one have ended, and that one holds nothing.
+-- What is in the slots of a desk when all clients but one have ended, and that one holds nothing.
 use Rattle.std.proofs.Common.{◌≡◌, ◌≢◌, ℕ, zero, suc, ◌+◌, ◌<◌, ◌≤◌, true, List, [], ◌∷◌, map, length, get_or, Option, Some, None, Contains, All, refl, sym, ap, subst, ◌∙◌, ⊎_elim, arith}
 use mathlib.Core.Logic.{dite}
 use mathlib.Core.Option.{some}

@@ -59,7 +59,7 @@ module _ {S O R : Type 0} (content : S → Content) (op_in : O → AnyOp) (reply
   abbrev any_step : Step (Slot S O R)
   any_step = step 0 0 0 0 none
 
-  -- the slots of the client, behind that of its own row
+  -- the slots of the client, after that of its own row
   abbrev pub others : ℕ → ℕ → List (ℕ × Slot S O R)
   others n x = (48 + n, slot.Nothing) ∷ (x, slot.Nothing) ∷ []
 

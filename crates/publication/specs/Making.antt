@@ -25,7 +25,7 @@ module _ {S O R : Type 0} where
       → (k : Core S O R) × (get_elem? slots x ≡ some (slot.Core k)) × (k.object ≡ o)
       × (k.log.items ≡ []) × (get_elem? lists x ≡ some k.list.roster)
 
-  -- and behind the objects there is nothing
+  -- and after the objects there is nothing
   pub record IsLaid (objects : List S) (lists : List TableId) (slots : List (Slot S O R)) : Type 0
     where
       pub long : length slots ≡ table_slots

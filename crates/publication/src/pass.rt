@@ -116,7 +116,7 @@ impl<S: SeqObject> Pass<S> {
         let slot = ROWS + number as usize;
         let shared = &desk.table.shared;
         let seat = &mut member.seat;
-        // The slot of its own row is in hand, behind that of the object.
+        // The slot of its own row is in hand, after that of the object.
         seat.turn();
         let asked = Request {
             object,

@@ -94,7 +94,7 @@ impl<S: SeqObject> Pass<S> {
         core.ages[row as usize] = core.passes;
     }
 
-    /// Makes room in the log for so many entries.
+    /// Makes room in the log for this many entries.
     pub fn reserve(&mut self, entries: usize) -> Result<(), AllocError>
         ensures same { self.new
             ≡ record self.old { state = record self.old.state { room = self.new.state.room } } }

@@ -16,7 +16,7 @@ use Rattle.publication_list.specs.PublicationList.{Stage, asleep, awake, listed,
 use Rattle.publication_list.specs.Rule.{OwnOk, TakenOutOk, ViewOk, Sound, Tied, Kept}
 use Rattle.publication_list.proofs.Rows.{updated_all, was_at, is_at, word_at-remove_below, word_at-remove_above, distinct_remove, distinct_more, gone}
 
--- the row r stands in the list
+-- the row r is in the list
 abbrev Stands : List ℕ → ℕ → Type 0
 Stands rows r = (k : ℕ) × (k < length rows) × (get_or rows k 0 ≡ r)
 
@@ -127,7 +127,7 @@ enlist_keeps_tied w r n words low was at s k = let wide = k.wide in record {
     next_there zero l = get_or-set_other words 0 (1 + r) (1 + r) 0 (λ e. omega arith) ∙ (k.links r n low was ∙ (sym at ∙ k.head))
     next_there (suc i) l = get_or-set_other words 0 (1 + get_or w.rows i 0) (1 + r) 0 (λ e. omega arith) ∙ k.nexts i (omega arith)
 
--- the row behind the place p is taken out
+-- the row after the place p is taken out
 pub unlink_keeps_sound : (w : PublicationList) (p : ℕ) → p < length w.rows → Sound w → Sound (with_stage w (get_or w.rows p 0) unlinked (remove w.rows p))
 unlink_keeps_sound w p inside k = record {
   few = k.few;

@@ -58,7 +58,7 @@ meet_keeps_rule slots id made left out walks cs s k deep at small =
       ),
     )
 
--- where a place of what the walker has met stands in the list
+-- where a place of what the walker has met is in the list
 placed : (rows pre left : List ℕ) (i : ℕ) → rows ≡ pre ++ left → get_or rows (length pre + i) 0 ≡ get_or left i 0
 placed rows pre left i e = ap (λ z. get_or z (length pre + i) 0) e ∙ get_or-append-add pre left i 0
 
@@ -67,7 +67,7 @@ placed_low rows pre left i e low =
     let long : length rows ≡ length (pre ++ left) = ap length e in
     let both = length-append pre left in omega arith
 
--- the next word of a row that the walker has met leads to the place behind it
+-- the next word of a row that the walker has met leads to the place after it
 next_of : (w : PublicationList) (words pre left : List ℕ) (i : ℕ) → w.rows ≡ pre ++ left → i < length left → Tied w words → get_or words (1 + get_or left i 0) 0 ≡ word_at left (suc i)
 next_of w words pre left i e low k = ap (λ z. get_or words (1 + z) 0) (sym (placed w.rows pre left i e)) ∙ (k.nexts (length pre + i) (placed_low w.rows pre left i e low)
     ∙ (ap (λ z. word_at z (suc (length pre + i))) e ∙ word_at_append pre left (suc i) (suc (length pre + i)) (omega arith)))
@@ -259,7 +259,7 @@ module _ (left : List ℕ) (walks : List (List ℕ)) (made : ℕ) (rows : List �
         let long = longer in
         omega arith
 
--- a place that is not the first is behind another
+-- a place that is not the first is after another
 one_before : (at : ℕ) → 1 ≤ at → (p : ℕ) × (at ≡ suc p)
 one_before zero h = absurd (omega arith)
 one_before (suc p) h = (p, refl)

@@ -74,7 +74,7 @@ follows st m found m' =
     → m.0 ≡ view.Walker made left out walks →
     k < length left → st.word ≡ 1 + slice_index left k → (m' ≡ m) × (found ≡ word_at left (suc k))
 
--- the place behind the row of this word is taken out
+-- the place after the row of this word is taken out
 abbrev pub unlinks : Step ℕ → Hands → ℕ → Hands → Type 0
 unlinks st m found m' =
     (made : ℕ) (left : List ℕ) (out : Option ℕ) (walks : List (List ℕ)) (k : ℕ)

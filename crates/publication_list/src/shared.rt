@@ -104,7 +104,7 @@ impl SharedWalker {
 }
 
 impl Roster {
-    /// A roster more, in which each of these owners has the place of its row, which lies behind the
+    /// A roster more, in which each of these owners has the place of its row, which lies after the
     /// places that it has.
     pub fn deal(
         alloc: Global,

@@ -3,7 +3,7 @@ use Rattle.std.proofs.Common.{◌≡◌, ℕ, ◌<◌, ◌==◌, inl, inr, List,
 use Rattle.std.proofs.lemmas.Bool.{eq-eqb}
 use Rattle.model.proofs.Lists.{In, Pairs, in_filter, in_filter_from}
 
--- what stands in both lists, but for the equal first elements, stands behind them
+-- what is in both lists, except for the equal first elements, stands after them
 behind : {X : Type 0} (f : X → ℕ) (x y z : X) (xs ys : List X) → ((w : X) → In w xs → f x < f w) → x ≡ y → In z xs → In z (y ∷ ys) → In z ys
 behind f x y z xs ys low same i j = elim j [
   | inl e ↦ let l = low z i in let k : f z ≡ f x = ap f (e ∙ sym same) in absurd (omega arith)

@@ -50,7 +50,7 @@ pub record IsNamedIn (journals : ℕ → List AnyEvent) (x : ℕ) : Type 0 where
 abbrev pub max_tickets : ℕ
 max_tickets = 640000
 
--- Journals and the logs of so many objects are a record.
+-- Journals and the logs of this many objects are a record.
 pub record IsRecord (objects : ℕ) (journals : ℕ → List AnyEvent) (logs : ℕ → List AnyEntry) : Type 0
   where
     -- no ticket stands twice in the journals, and in order of tickets their events are proper

@@ -16,7 +16,7 @@ looked m q k x Less e = refl
 looked m q k x Equal e = ap (get m) (sym (int_cmp-IsAntisymmetric q k (sym e)))
 looked m q k x Greater e = refl
 
--- changed: the table behind a change at k to x
+-- changed: the table after a change at k to x
 back : (m changed : FinMap int_cmp ℤ) (k : ℤ) (x o : Option ℤ) → ((q : ℤ) → get changed q ≡ cond (eq_by_cmp int_cmp q k) x (get m q)) → o ≡ get m k → undone (SetKey k o) (table changed) ≡ table m
 back m changed k x None at e =
     ap table (same_map int_cmp_total int_cmp-IsAntisymmetric _ _ (λ q.

@@ -62,7 +62,7 @@ no_step fs i f steps low is so_far none = record {
 pub no_steps : (ds : List Datum) (n : ℕ) → IsNoStepAt ds n → (steps : List (ℕ × AnyStep)) → map step_of ds ≡ map (λ s. Some s) steps → ⊥
 no_steps ds n h steps are = each_step ds steps are h.form (subst (In h.form) (sym h.split) (in_middle h.form h.earlier h.later)) h.none
 
--- behind a header, such a fault means that the forms denote no schedule
+-- after a header, such a fault means that the forms denote no schedule
 pub refuses : (ds : List Datum) (first : Datum) (rest : List Datum) → ds ≡ first ∷ rest → (kind : ScheduleFaultKind) (n : ℕ) → StepFaultIs rest kind n
     → kind ≢ NoMemory → (h : Header) (steps : List (ℕ × AnyStep)) → Denotes ds h steps → ⊥
 refuses ds first rest whole NoHeader n fault other h steps d = fault

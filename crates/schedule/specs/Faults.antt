@@ -13,7 +13,7 @@ abbrev pub LacksHeader : List Datum → Type 0
 LacksHeader [] = Unit {0}
 LacksHeader (d ∷ ds) = header_of d ≡ None
 
--- of the forms behind the header, with the numbers from 1 on, this is the first that is no step
+-- of the forms after the header, with the numbers from 1 on, this is the first that is no step
 pub record IsNoStepAt (ds : List Datum) (place : ℕ) : Type 0 where
   pub earlier : List Datum
   pub form : Datum
@@ -34,14 +34,14 @@ StepFaultIs ds NoHeader n = ⊥
 StepFaultIs ds NotAStep n = IsNoStepAt ds n
 StepFaultIs ds NoMemory n = AreStepsTo ds n
 
--- The first form is a header, and each form behind it up to this one and with it is a step.
+-- The first form is a header, and each form after it up to this one and with it is a step.
 abbrev pub IsSoundTo : List Datum → ℕ → Type 0
 IsSoundTo ds n =
     (first : Datum) × (rest : List Datum) × (ds ≡ first ∷ rest) × (header_of first ≢ None)
     × AreStepsTo rest n
 
--- the fault of a kind stands at this form, and none at an earlier one; want of memory, at a form in
--- which nothing is wrong
+-- the fault of a kind stands at this form, and none at an earlier one; an allocation failure, at a
+-- form in which nothing is wrong
 abbrev pub FaultIs : List Datum → ScheduleFaultKind → ℕ → Type 0
 FaultIs ds NoHeader n = LacksHeader ds × (n ≡ 0)
 FaultIs ds NotAStep n =
@@ -49,11 +49,11 @@ FaultIs ds NotAStep n =
     × IsNoStepAt rest n
 FaultIs ds NoMemory n = IsSoundTo ds n
 
--- The first fault: that of the least faulty form, or want of memory before one was met.
+-- The first fault: that of the least faulty form, or an allocation failure before one was met.
 abbrev pub IsFirstFault : List Datum → ScheduleFault → Type 0
 IsFirstFault ds fault = FaultIs ds fault.kind fault.form
 
--- The number that is printed behind the letter S. Want of memory is never printed.
+-- The number that is printed after the letter S. An allocation failure is never printed.
 abbrev pub number_of : ScheduleFaultKind → ℕ
 number_of NoHeader = 1
 number_of NotAStep = 2

@@ -16,7 +16,7 @@ pub enum ScheduleFaultKind {
 impl ScheduleFaultKind {
     ghost use Rattle.schedule.specs.Faults.{number_of};
 
-    /// The number behind the letter S. Want of memory is never printed.
+    /// The number after the letter S. An allocation failure is never printed.
     pub fn number(self) -> u8
         ensures { result ≡ number_of self }
     {

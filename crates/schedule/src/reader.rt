@@ -22,7 +22,7 @@ pub struct Schedule {
     pub steps: Vec<(u32, Step<AnyOp>)>,
 }
 
-/// The steps that the forms are, which stand behind a header.
+/// The steps that the forms are, which stand after a header.
 fn read_steps(alloc: Global, forms: &[Form]) -> Result<Vec<(u32, Step<AnyOp>)>, ScheduleFault>
     ensures steps { IfOk result (λ v. map spec.step_of (views forms.now)
         ≡ map (λ s. Some s) v.items) }
@@ -47,14 +47,14 @@ fn read_steps(alloc: Global, forms: &[Form]) -> Result<Vec<(u32, Step<AnyOp>)>, 
 }
 
 /// The schedule that the forms are: a header, and then a step for each further form. The fault is
-/// that of the least faulty form; want of memory comes only where nothing is wrong up to a form and
-/// with it.
+/// that of the least faulty form; an allocation failure comes only where nothing is wrong up to a
+/// form and with it.
 pub fn read_schedule(alloc: Global, forms: &[Form]) -> Result<Schedule, ScheduleFault>
     ensures denotes { IfOk result (λ s. Denotes (views forms.now) s.header s.steps.items) }
     // What the header asks for is within the bounds of a machine.
     ensures within { IfOk result (λ s. IsWithin s.header) }
     ensures fault { IfErr result (IsFirstFault (views forms.now)) }
-    // Forms that denote a schedule are refused for want of memory alone.
+    // Forms that denote a schedule are refused for an allocation failure alone.
     ensures refused { IfErr result (λ e. e.kind ≢ ScheduleFaultKind.NoMemory →
         (h : Header) (steps : List (ℕ × AnyStep)) → Denotes (views forms.now) h steps → ⊥) }
 {

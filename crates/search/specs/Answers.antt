@@ -55,7 +55,7 @@ pub record IsAnswer (object : ℕ) (kind : Kind) (calls : List Call) (limit : �
     pub found : IfFound s.found (IsFor object kind calls)
     -- impossible is answered only where no order is valid
     pub impossible : s.found ≡ Impossible → IsNoneValid kind calls
-    -- at most so many operations were tried, and just so many where that was not enough
+    -- at most n operations were tried, and just this many where that was not enough
     pub steps : s.steps ≤ limit
     pub out_of_steps : s.found ≡ OutOfSteps → s.steps ≡ limit
     pub too_large : (s.found ≡ TooLarge) ↔ (max_operations < length calls)

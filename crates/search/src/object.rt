@@ -24,7 +24,7 @@ fn found_of(object: u32, outcome: Outcome) -> SearchOutcome
     }
 }
 
-/// Searches for a certificate of an object, depth first, in at most so many steps: a step is one
+/// Searches for a certificate of an object, depth first, in at most n steps: a step is one
 /// operation tried. Of the operations that can come next, that with the least number is tried
 /// first.
 ///

@@ -8,7 +8,7 @@ use std::alloc::Global;
 use std::test::Fail;
 
 /// A queue that takes out what was put in, one that takes out what never was, and a register that
-/// is read before and behind a write.
+/// is read before and after a write.
 const HISTORY: &str = "
     {:process 0 :type :invoke :f :enqueue :value 5 :object 3}
     {:process 0 :type :ok :f :enqueue :value 5 :object 3}

@@ -37,8 +37,7 @@ fn found_in(alloc: Global, text: &str) -> Result<String, Fail> {
 
 /// Histories, each of one object, and the order that is found.
 const FOUND: [(&str, &str); 9] = [
-    // The second dequeue returns what the first enqueue, which runs long, puts in behind the
-    // second.
+    // The second dequeue returns what the first enqueue, which runs long, puts in after the second.
     (
         "{:process 0, :type :invoke, :f :enqueue, :value 1}
         {:process 1, :type :invoke, :f :enqueue, :value 2}
@@ -131,7 +130,7 @@ const FOUND: [(&str, &str); 9] = [
         {:process 1, :type :ok, :f :put, :value nil}",
         "[0, 2, 3]",
     ),
-    // Two values of which the lower one is pushed behind the begin of the other push, and one that
+    // Two values of which the lower one is pushed after the begin of the other push, and one that
     // comes and goes between.
     (
         "{:process 0, :type :invoke, :f :push, :value 1}

@@ -1,4 +1,4 @@
-//! Tests of the public calls of `search`, `finder` and `deciding`. They stand in a crate of their
+//! Tests of the public calls of `search`, `finder` and `deciding`. They are in a crate of their
 //! own, so that each of these libraries is proved once, and not again for its tests.
 #![tactic(auto)]
 

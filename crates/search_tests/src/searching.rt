@@ -211,7 +211,7 @@ fn a_search_by_return_takes_these_steps(rt: HostRuntime) -> Result<(), Fail> {
     Ok(())
 }
 
-/// So many operations that are pending, and one that failed.
+/// This many operations that are pending, and one that failed.
 fn pending(alloc: Global, count: u32) -> Result<String, Fail> {
     let mut text = format!(in alloc; "{FAILED}")?;
     for process in 1..=count {

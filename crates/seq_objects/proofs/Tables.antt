@@ -72,7 +72,7 @@ from_sorted-injective es fs he hf e =
 pub from_sorted-empty : (es : Entries) → es ≡ [] → Ordered es → from_sorted {R = int_cmp} es ≡ empty
 from_sorted-empty es e h = empty_of_len _ (len-entries _ ∙ ap length (entries-from_sorted int_cmp es (is_sorted-entries es h) ∙ e))
 
--- The step of each operation. The table m has the entries es before it, and fs behind it.
+-- The step of each operation. The table m has the entries es before it, and fs after it.
 pub next-put : (m : FinMap int_cmp ℤ) (es fs : Entries) (k v : ℤ) (r : Option ℤ) → from_sorted es ≡ m → Ordered es → Ordered fs → Changes es fs k (Some v) → r ≡ at_key k es
     → next (table m) (Put k v) ≡ Some (table (from_sorted fs), Value r)
 next-put m es fs k v r is he hf changes old =

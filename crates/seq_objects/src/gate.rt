@@ -1,7 +1,7 @@
 //! What is called around each piece of a worker's work.
 
 /// A gate that workers pass through. `before` is called before each piece of work of a worker, and
-/// `after` behind it. Workers and pieces are counted from 0.
+/// `after` after it. Workers and pieces are counted from 0.
 pub trait Gate: Sync {
     fn before(&self, worker: u32, piece: u32);
 

@@ -44,7 +44,7 @@ fn objects_of(alloc: Global, header: &Header) -> Result<Vec<AnyObject>, AllocErr
     Ok(objects)
 }
 
-/// The machine that the header asks for, of which no step was taken: so many clients, and empty
+/// The machine that the header asks for, of which no step was taken: this many clients, and empty
 /// objects. An error stands only where memory was refused.
 pub fn machine_of(alloc: Global, header: &Header) -> Result<Machine<AnyObject>, AllocError>
     requires { IsWithin header.now }

@@ -69,7 +69,7 @@ pub fn simulate(alloc: Global, text: &[u8]) -> Result<Played, SimulationFault>
     ensures simulated { IfOk result (λ p. IsSimulated text.now p.refused p.record) }
     ensures short { IfOk result (λ _. IsShort text.now) }
     ensures fault { IfErr result (IsSimulationFault text.now) }
-    // A text that denotes a schedule is refused for want of memory, or for its steps, alone.
+    // A text that denotes a schedule is refused for an allocation failure, or for its steps, alone.
     ensures accepts { IfErr result (λ f. (h : Header) (steps : List (ℕ × AnyStep)) →
         DenotesSchedule text.now h steps → IsShort text.now → IsOfSteps f) }
 {

@@ -107,7 +107,7 @@ last_is p ls = ap (find (λ (m : ClientMap). m.process == p)) (sym (map-reverse 
 
 -- ---- no line is faulty
 
--- what is known of a line behind others
+-- what is known of a line after others
 record IsFine (before : List Line) (l : Line) : Type 0 where
   follows : Follows (last_line l.event.process before) l
   of_kind : (k : Line) → In k before → k.event.object ≡ l.event.object → kind_of k.op ≡ kind_of l.op

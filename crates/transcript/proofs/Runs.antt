@@ -18,7 +18,7 @@ use Rattle.transcript.specs.Lines.{event_with, lines_from, lines_of}
 abbrev pub Pending : Option Line → ℕ → AnyOp → Type 0
 Pending prior x op = (k : Line) × (prior ≡ Some k) × (k.event.action ≡ Invoke op) × (k.op ≡ op) × (k.event.object ≡ x)
 
--- what a line may be behind the last one of its process
+-- what a line may be after the last one of its process
 abbrev pub MayFollow : Option Line → ℕ → AnyOp → Action → Type 0
 MayFollow prior x op (Invoke o) = (op ≡ o) × ((k : Line) (p : AnyOp) → prior ≡ Some k → k.event.action ≡ Invoke p → ⊥)
 MayFollow prior x op (Ok r) = Pending prior x op × HasShape op r
@@ -28,7 +28,7 @@ MayFollow prior x op Info = ⊥
 abbrev pub Follows : Option Line → Line → Type 0
 Follows prior l = MayFollow prior l.event.object l.op l.event.action
 
--- the lines of process p go on like that behind this one
+-- the lines of process p go on like that after this one
 abbrev pub Goes : ℕ → Option Line → List Line → Type 0
 Goes p prior [] = Unit {0}
 Goes p prior (l ∷ ls) = ((l.event.process == p) ≡ true → Follows prior l × Goes p (Some l) ls) × ((l.event.process == p) ≡ false → Goes p prior ls)

@@ -1,4 +1,4 @@
--- The journals of a record, as they lie in memory.
+-- The journals of a record, as they are in memory.
 use Rattle.std.proofs.Common.{◌≡◌, ℕ, ◌<◌, ◌≤◌, ◌==◌, List, [], ◌∷◌, ◌++◌, length, drop, map, filter, get_or, refl, ap, sym, ◌∙◌, subst}
 use Rattle.std.specs.declared.vec.Vec.{Vec}
 use Rattle.std.proofs.Math.ListN as ListN

@@ -35,7 +35,7 @@ abbrev pub line_with : ℕ → AnyEvent → Option Call → List Line
 line_with c e None = []
 line_with c e (Some q) = record { event = event_with c q.object e; op = q.op } ∷ []
 
--- the lines of a journal of the client c, behind this call
+-- the lines of a journal of the client c, after this call
 abbrev pub lines_from : ℕ → Option Call → List AnyEvent → List Line
 lines_from c last [] = []
 lines_from c last (e ∷ es) =
@@ -66,14 +66,14 @@ value_form False = atom (boolean false)
 value_form (Int z) = atom (integer z)
 value_form (Pair a b) = vector (item (atom (integer a)) (item (atom (integer b)) no_items))
 
--- what stands behind :type
+-- what stands after :type
 abbrev pub type_of : Action → List ℕ
 type_of (Invoke op) = codes "invoke"
 type_of (Ok r) = codes "ok"
 type_of Fail = codes "fail"
 type_of Info = codes "info"
 
--- what stands behind :value: the reply of a call that returned one, else the argument
+-- what stands after :value: the reply of a call that returned one, else the argument
 abbrev pub value_of : AnyOp → Action → Value
 value_of op (Invoke o) = op_value op
 value_of op (Ok r) = reply_value r

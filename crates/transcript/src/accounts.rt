@@ -76,7 +76,7 @@ pub fn certificates<S: SeqObject>(
 }
 
 /// Checks the record's history with its certificates. Where the record is sound they are accepted,
-/// but for want of memory.
+/// except for an allocation failure.
 pub fn check_record<S: SeqObject>(alloc: Global, account: &Record<S>) -> Result<(), Refusal>
     ensures accepted { (kinds : List Kind) (quota : ℕ)
         → IsSoundRecord kinds quota (journals_in S.op_in S.reply_in account.now)

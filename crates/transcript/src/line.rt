@@ -80,7 +80,7 @@ fn event_with<S: SeqObject>(
     }
 }
 
-/// Puts the line of an event of this call behind the others.
+/// Puts the line of an event of this call after the others.
 fn push_line<S: SeqObject>(
     client: usize,
     event: &JournalEvent<S::Op, S::Reply>,
@@ -98,7 +98,7 @@ fn push_line<S: SeqObject>(
     Ok(())
 }
 
-/// Puts the lines of a client's journal behind the others.
+/// Puts the lines of a client's journal after the others.
 fn push_journal<S: SeqObject>(
     client: usize,
     journal: &[JournalEvent<S::Op, S::Reply>],

@@ -36,7 +36,7 @@ stream_at g = stream_of (steps_u32 pcg32) g
 abbrev pub number_below : ℕ → Stream → ℕ × Stream
 number_below n s = canon (2 ^ 32) next_u32 n s
 
--- the numbers of one call on one of so many objects: the object, the choice of an operation, and
+-- the numbers of one call on one of this many objects: the object, the choice of an operation, and
 -- two values
 abbrev pub draws_from : ℕ → Stream → Draws × Stream
 draws_from objects s =
@@ -59,15 +59,15 @@ op_for Map d =
     (Del (pos d.first))
 op_for Mutex d = one_of_two (d.choice % 2) Acquire Release
 
--- so many calls
+-- this many calls
 abbrev pub calls_from : Kinds → ℕ → ℕ → Stream → List Call
 calls_from kinds objects zero s = []
 calls_from kinds objects (suc n) s =
     let d = draws_from objects s in
     (d.0.object, op_for (kind_in kinds d.0.object) d.0) ∷ calls_from kinds objects n d.1
 
--- so many pairs of calls on mutexes: each acquires one that was drawn, and releases it; the release
--- draws its numbers too
+-- this many pairs of calls on mutexes: each acquires one that was drawn, and releases it; the
+-- release draws its numbers too
 abbrev pub mutex_calls_from : ℕ → ℕ → Stream → List Call
 mutex_calls_from objects zero s = []
 mutex_calls_from objects (suc n) s =

@@ -11,7 +11,7 @@ use rand_pcg::Lcg64Xsh32;
 use seq_objects::Kinds;
 use std::alloc::{AllocError, Global};
 
-/// So many calls, each drawn.
+/// This many calls, each drawn.
 fn draw_calls(
     alloc: Global,
     kinds: Kinds,
@@ -33,8 +33,8 @@ fn draw_calls(
     Ok(calls)
 }
 
-/// So many pairs of calls on mutexes: each acquires one that was drawn, and releases it. Both draw
-/// their numbers.
+/// This many pairs of calls on mutexes: each acquires one that was drawn, and releases it. Both
+/// draw their numbers.
 fn draw_pairs(
     alloc: Global,
     objects: u32,

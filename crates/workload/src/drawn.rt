@@ -11,7 +11,7 @@ use model::Kind;
 use seq_objects::Kinds;
 use std::alloc::{AllocError, Global};
 
-/// The kinds of so many objects.
+/// The kinds of this many objects.
 fn kinds_for(alloc: Global, kinds: Kinds, objects: u32) -> Result<Vec<Kind>, AllocError>
     ensures { IfOk result (λ v. v.items ≡ kinds_of kinds objects) }
 {
@@ -22,7 +22,7 @@ fn kinds_for(alloc: Global, kinds: Kinds, objects: u32) -> Result<Vec<Kind>, All
     Ok(all)
 }
 
-/// The calls of so many clients on so many objects, each client's drawn from the seed and its
+/// The calls of this many clients on this many objects, each client's drawn from the seed and its
 /// number.
 ///
 /// For each call four numbers are drawn: the object, the choice of an operation, and two values

@@ -25,7 +25,7 @@ fn below(generator: &mut Lcg64Xsh32, n: u32) -> u32
     generator.random_range(0..n)
 }
 
-/// Draws the numbers of one call on one of so many objects.
+/// Draws the numbers of one call on one of this many objects.
 pub(crate) fn draw(generator: &mut Lcg64Xsh32, objects: u32) -> Draws
     requires { 0 < objects }
     ensures within { result.object < objects }

@@ -89,7 +89,7 @@ fn a_history_alone_is_answered_yes_as_with_certificates(rt: HostRuntime) -> Resu
     Ok(())
 }
 
-/// A register that is written 4,100 times and then read otherwise: no search is made of so many
+/// A register that is written 4,100 times and then read otherwise: no search is made of this many
 /// operations.
 #[test]
 fn an_open_object_of_too_many_operations_is_not_searched(rt: HostRuntime) -> Result<(), Fail> {

@@ -191,8 +191,8 @@ fn a_schedule_has_a_record_or_its_first_fault(rt: HostRuntime) -> Result<(), Fai
     Ok(())
 }
 
-/// The lines of a schedule are a history, and the orders behind them its certificates, which a
-/// check answers yes.
+/// The lines of a schedule are a history, and the orders after them its certificates, which a check
+/// answers yes.
 #[test]
 fn the_record_of_a_schedule_is_accepted_by_a_check(rt: HostRuntime) -> Result<(), Fail> {
     let check = checking(rt.alloc())?;

@@ -124,8 +124,8 @@ fn lines_with(alloc: Global, output: &[u8], front: &[u8], less: usize) -> Result
     Ok(lines)
 }
 
-/// Runs so many clients, and looks at what is put out: each client's invocations are its calls, in
-/// order; and the history is judged yes by its certificates.
+/// Runs this many clients, and looks at what is put out: each client's invocations are its calls,
+/// in order; and the history is judged yes by its certificates.
 fn check_run<R: AllocGlobal + Abort + Threads + Wait + Sync>(
     rt: &R,
     options: RunOptions,

@@ -1,5 +1,5 @@
 //! Histories at random, in which each value is put in once and each call returns: where the bounded
-//! search finds an order of a small one, the finder does. Behind so many calls that the finder
+//! search finds an order of a small one, the finder does. After this many calls that the finder
 //! makes no search, only its way for the kind is left to find it.
 
 use super::objects_of;
@@ -273,7 +273,7 @@ fn idle_pair(alloc: Global, kind: Kind) -> Result<String, AllocError> {
     )
 }
 
-/// This history behind 4,098 calls that leave the object as it is.
+/// This history after 4,098 calls that leave the object as it is.
 fn behind_idle_calls(alloc: Global, kind: Kind, text: &str) -> Result<String, AllocError> {
     let pair = idle_pair(alloc, kind)?;
     let mut long = String::new(alloc);
@@ -355,7 +355,7 @@ fn what_a_search_finds_is_found(rt: HostRuntime) -> Result<(), Fail> {
     Ok(())
 }
 
-/// Nothing but the way for the kind can find an order behind the idle calls, and it finds one
+/// Nothing but the way for the kind can find an order after the idle calls, and it finds one
 /// wherever there is one.
 fn check_behind_idle_calls<R: AllocGlobal + Abort>(rt: &R, kind: Kind) -> Result<(), Fail> {
     let alloc = rt.alloc();

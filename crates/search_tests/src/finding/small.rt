@@ -158,7 +158,7 @@ fn power(base: u32, exponent: u32) -> u32 {
     power
 }
 
-/// Tries each history of so many operations.
+/// Tries each history of this many operations.
 fn try_each(
     alloc: Global,
     words: Words<'_>,
@@ -176,7 +176,7 @@ fn try_each(
     Ok(())
 }
 
-/// Tries some histories of so many operations, drawn at random.
+/// Tries some histories of this many operations, drawn at random.
 fn try_some(
     alloc: Global,
     words: Words<'_>,

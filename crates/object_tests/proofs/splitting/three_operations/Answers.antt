@@ -12,7 +12,7 @@ use Rattle.events.specs.declared.event.Event.{Event}
 use Rattle.events.specs.Events.{Follows, IsOfKindAt, IsProper}
 use Rattle.object_tests.proofs.splitting.three_operations.Goals as goal
 
--- each event fits behind those before it
+-- each event fits after those before it
 abbrev AllFollow : List Event → List Event → Type 0
 AllFollow front [] = Unit {0}
 AllFollow front (e ∷ es) = Follows front e.process e.object e.action × AllFollow (front ++ e ∷ []) es

@@ -2,7 +2,7 @@ use Rattle.std.proofs.Common.{ℕ, ◌-◌, ◌≤◌, ◌++◌, List, length}
 use Rattle.order_search.specs.Links.{Linked, IsSlot, Lists}
 use Rattle.order_search.proofs.undone.Undone.below.Given as goal
 
--- the places so far stand in front of any that the list has from the slot on
+-- the places so far are in front of any that the list has from the slot on
 abbrev pub invariant-loop-places : goal.invariant-loop-places
 invariant-loop-places l = record {
   n : ℕ;

@@ -4,7 +4,7 @@ use Rattle.workload.specs.Workloads.{Work}
 use Rattle.clients.specs.Made.{HasMetBelow, IsDeskFor, Keeps}
 use Rattle.clients.proofs.run.fn.run_all.scope.Given as goal
 
--- The workers are started from the last client on: the one at place k is of the client that has k others behind it.
+-- The workers are started from the last client on: the one at place k is of the client that has k others after it.
 abbrev pub invariant-loop : goal.invariant-loop
 invariant-loop g l = record {
   desk : IsDeskFor l.desk l.workload;
