@@ -38,7 +38,7 @@ fn answer<R: Abort>(
 }
 
 #[test]
-fn the_second_is_served_first(rt: HostRuntime) -> Result<(), Fail> {
+fn the_call_posted_second_may_be_served_first(rt: HostRuntime) -> Result<(), Fail> {
     let (desk, mut zero, mut one) = for_two(rt.alloc(), Kind::Queue, 2)?;
     post(&rt, &desk, &mut zero, AnyOp::Enqueue(1));
     post(&rt, &desk, &mut one, AnyOp::Enqueue(2));
@@ -69,7 +69,7 @@ fn the_second_is_served_first(rt: HostRuntime) -> Result<(), Fail> {
 }
 
 #[test]
-fn one_client_and_one_call(rt: HostRuntime) -> Result<(), Fail> {
+fn a_lone_call_is_answered(rt: HostRuntime) -> Result<(), Fail> {
     let (desk, mut client) = for_one(rt.alloc(), Kind::Queue, 1)?;
     post(&rt, &desk, &mut client, AnyOp::Enqueue(4));
     assert!(rt; desk.post(&mut client, 0, AnyOp::Enqueue(4)) == Err(Post::Outstanding));

@@ -107,7 +107,7 @@ stack: 1 objects, 1 operations
 ";
 
 #[test]
-fn objects_and_faults_of_a_post(rt: HostRuntime) -> Result<(), Fail> {
+fn two_objects_have_one_record(rt: HostRuntime) -> Result<(), Fail> {
     let (desk, mut zero, mut one) = queue_and_stack(rt.alloc())?;
     assert!(rt; desk.post(&mut zero, 0, AnyOp::Push(5)) == Err(Post::OtherKind));
     assert!(rt; desk.post(&mut zero, 2, AnyOp::Enqueue(1)) == Err(Post::NoSuchObject));

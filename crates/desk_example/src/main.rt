@@ -1,10 +1,10 @@
-//! The desk in a few lines: two clients of one queue, each of which is the combiner of its own
-//! call.
+//! The desk in a few lines: two clients of one queue. The first makes its call step by step, the
+//! second by `call`, which does the same.
 #![tactic(auto)]
 
 ghost use Rattle.std.specs.Prelude.{◌≡◌, IfOk};
 
-use combiner::call;
+use combiner::{Combined, call, combine};
 use publication::{Client, Desk};
 use seq_objects::{AnyObject, AnyOp, Kind};
 use std::alloc::{AllocError, Global};
@@ -27,14 +27,38 @@ fn desk_for_two(
     Ok((desk, zero, one))
 }
 
+/// Combines on object 0 until a pass has served, at most twice. A pass that gets no memory for the
+/// log serves nothing, and the next one tries again.
+fn combine_until_served(
+    rt: &HostRuntime,
+    desk: &Desk<AnyObject>,
+    client: Client<AnyObject>,
+) -> std::io::Result<Client<AnyObject>>
+    requires { (client.desk ≡ desk.now.id) }
+    ensures { IfOk result (λ c. c.desk ≡ client.desk) }
+{
+    let (client, first) = combine(desk, client, 0);
+    println!(rt; "{first:?}")?;
+    if let Combined::Served { .. } = first {
+        return Ok(client);
+    }
+    let (client, second) = combine(desk, client, 0);
+    println!(rt; "{second:?}")?;
+    Ok(client)
+}
+
 fn main(rt: HostRuntime) -> std::io::Result<()> {
-    let (desk, zero, one) = desk_for_two(rt.alloc())?;
-    // A call posts a request on object 0, and then polls, enlists the row and combines until it is
-    // answered. Here the pass that answers it is the client's own. A client can go to a thread of
-    // its own, and then another's pass may serve it.
-    let (zero, enqueued) = call(&rt, &desk, zero, 0, AnyOp::Enqueue(7));
+    let (desk, mut zero, one) = desk_for_two(rt.alloc())?;
+    // A call posts a request on object 0, and combines until a pass has served it: its own, or that
+    // of another client in another thread. Then it takes the answer.
+    if desk.post(&mut zero, 0, AnyOp::Enqueue(7)).is_err() {
+        return println!(rt; "the call was not posted");
+    }
+    let mut zero = combine_until_served(&rt, &desk, zero)?;
+    println!(rt; "{:?}", desk.poll(&mut zero))?;
+    // `call` does all of that.
     let (mut one, dequeued) = call(&rt, &desk, one, 0, AnyOp::Dequeue);
-    println!(rt; "{enqueued:?}, {dequeued:?}")?;
+    println!(rt; "{dequeued:?}")?;
     // Client 0 retires, client 1 hears of it and closes the desk. The record has all that happened.
     desk.tell(&mut one, desk.retire(zero));
     let Ok(record) = desk.close(one) else {

@@ -169,7 +169,7 @@ fn run_together<R: AllocGlobal + Abort + Threads + Wait + Sync>(
 
 /// Two clients of one call each are before their calls at once.
 #[test]
-fn one_thread(rt: HostRuntime) -> Result<(), Fail> {
+fn two_clients_are_before_their_calls_at_once(rt: HostRuntime) -> Result<(), Fail> {
     run_together(&rt, Kinds::One(Kind::Queue), 1, 2, 1)?;
     Ok(())
 }
@@ -191,20 +191,20 @@ fn each_client_makes_its_calls(rt: HostRuntime) -> Result<(), Fail> {
 }
 
 #[test]
-fn thirty_two_clients(rt: HostRuntime) -> Result<(), Fail> {
+fn thirty_two_clients_make_their_calls(rt: HostRuntime) -> Result<(), Fail> {
     run_together(&rt, Kinds::Mixed, 16, 32, 200)?;
     Ok(())
 }
 
 #[test]
-fn eight_clients_at_one_mutex(rt: HostRuntime) -> Result<(), Fail> {
+fn eight_clients_share_one_mutex(rt: HostRuntime) -> Result<(), Fail> {
     run_together(&rt, Kinds::One(Kind::Mutex), 1, 8, 100)?;
     Ok(())
 }
 
 /// A client alone makes the same journal each time.
 #[test]
-fn one_client(rt: HostRuntime) -> Result<(), Fail> {
+fn one_client_makes_its_calls(rt: HostRuntime) -> Result<(), Fail> {
     let work = workload(rt.alloc(), Kinds::Mixed, 5, 1, 50, 7)?;
     let first = run_workers(&rt, rt.alloc(), &work, &Open)?;
     let second = run_workers(&rt, rt.alloc(), &work, &Open)?;
@@ -238,7 +238,7 @@ fn is_served_beside(record: &Record<AnyObject>, first: &Entry, second: &Entry) -
 /// At one queue, some passes of four clients serve more than one request: entries of two clients
 /// stand between two returns.
 #[test]
-fn passes_serve_others(rt: HostRuntime) -> Result<(), Fail> {
+fn passes_serve_calls_of_others(rt: HostRuntime) -> Result<(), Fail> {
     for _ in 0..100 {
         let record = run_together(&rt, Kinds::One(Kind::Queue), 1, 4, 500)?;
         assert_eq!(rt; record.objects(), 1);

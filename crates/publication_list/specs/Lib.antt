@@ -1,3 +1,4 @@
+pub mod Limits
 pub mod PublicationList
 pub mod Rule
 pub mod Plays

@@ -9,7 +9,7 @@ use Rattle.publication_list.specs.declared.board.RowKnowledge.TheVariants as own
 use Rattle.publication_list.specs.declared.board.ListView.{ListView}
 use Rattle.publication_list.specs.declared.board.ListView.TheVariants as view
 use Rattle.publication_list.specs.PublicationList.{WalkMeets, word_at}
-use Rattle.publication_list.specs.Rule.{mark_place}
+use Rattle.publication_list.specs.Limits.{mark_place}
 
 -- the walker's view once it has made a place more, and that of the place
 abbrev pub after_making : ListView → ListView

@@ -10,20 +10,9 @@ use Rattle.publication_list.specs.declared.board.RowKnowledge.{RowKnowledge}
 use Rattle.publication_list.specs.declared.board.RowKnowledge.TheVariants as own
 use Rattle.publication_list.specs.declared.board.ListView.{ListView}
 use Rattle.publication_list.specs.declared.board.ListView.TheVariants as view
+use Rattle.publication_list.specs.Limits.{max_rows, list_words, mark_place}
 use Rattle.publication_list.specs.PublicationList.{Stage, asleep, awake, listed, unlinked}
 use Rattle.publication_list.specs.PublicationList.{PublicationList, IsDistinct, word_at, mark_of}
-
--- how many rows a list has at most
-abbrev pub max_rows : ℕ
-max_rows = 32
-
--- how many words the table has
-abbrev pub list_words : ℕ
-list_words = 65
-
--- the word that is the mark of a row
-abbrev pub mark_place : ℕ → ℕ
-mark_place r = 33 + r
 
 -- what the owner of a row knows of it
 abbrev pub OwnOk : RowKnowledge → Stage → Type 0

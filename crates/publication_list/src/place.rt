@@ -2,7 +2,7 @@
 
 ghost use Rattle.std.specs.Prelude.{◌≡◌, ◌∷◌, ◌++◌, [], true, false};
 ghost use Rattle.publication_list.specs.Inside.{IsPlace, after_look, is_missed, tries_of};
-ghost use Rattle.publication_list.specs.Rule.{list_words};
+ghost use Rattle.publication_list.specs.Limits.{list_words};
 
 use crate::board::{Chair, Enlist, HEAD, MARKS, NEXTS, Words};
 use crate::plays::{Enlists, Links, Looks, Sees, Wakes};

@@ -5,7 +5,7 @@ ghost use Rattle.std.specs.Prelude.{vec_len, vec_capacity, ◌+◌};
 ghost use Rattle.publication_list.specs.declared.board.ListView.TheVariants as view;
 ghost use Rattle.publication_list.specs.PublicationList.{WalkMeets};
 ghost use Rattle.publication_list.specs.Calls.{ArePlaces};
-ghost use Rattle.publication_list.specs.Rule.{list_words, max_rows};
+ghost use Rattle.publication_list.specs.Limits.{list_words, max_rows};
 
 use crate::board::{Board, Chair, Enlist, MARKS, NEXTS};
 use crate::place::{Place, list, wake};
@@ -25,6 +25,7 @@ pub struct Roster {
 impl Model for Roster {
     ghost use Rattle.std.specs.Prelude.{◌≡◌};
     ghost use Rattle.publication_list.specs.Calls.{RosterSeen};
+    ghost use Rattle.publication_list.specs.Limits.{list_words};
 
     ghost Value = { RosterSeen };
 

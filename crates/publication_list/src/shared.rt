@@ -4,7 +4,7 @@ ghost use Rattle.std.specs.Prelude.{◌≡◌, ◌<◌, ◌≤◌, ◌∷◌, �
 ghost use Rattle.std.specs.Prelude.{IfOk, ◌+◌};
 ghost use Rattle.publication_list.specs.PublicationList.{WalkMeets};
 ghost use Rattle.publication_list.specs.Dealing.{AreGrown, HaveRoom};
-ghost use Rattle.publication_list.specs.Rule.{max_rows};
+ghost use Rattle.publication_list.specs.Limits.{max_rows};
 
 use crate::{Enlist, Place, Roster, Walker};
 use std::alloc::{AllocError, Global};

@@ -4,7 +4,7 @@ ghost use Rattle.std.specs.Prelude.{◌≡◌, ◌<◌, ◌≤◌, ◌∷◌, �
 ghost use Rattle.std.specs.Prelude.{vec_capacity};
 ghost use Rattle.publication_list.specs.PublicationList.{WalkMeets, word_at};
 ghost use Rattle.publication_list.specs.Inside.{HasMet, left_of, made_of, walks_of};
-ghost use Rattle.publication_list.specs.Rule.{list_words};
+ghost use Rattle.publication_list.specs.Limits.{list_words};
 
 use crate::board::{Chair, HEAD, NEXTS, Words};
 use crate::plays::{Follows, Meets};
