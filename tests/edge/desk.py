@@ -1,0 +1,44 @@
+"""Refuses each allocation of the example of the desk in turn: a pass that gets no memory for its log serves nothing, releases
+the object, and the next pass serves. A call that the object refuses for lack of memory is answered so."""
+import os
+
+from .running import ROOT, at_once, in_room
+
+DESK = f"{ROOT}/crates/desk_example/out/desk_example"
+
+ENQUEUED = b"LogEntry { client: 0, ticket: 0, op: Enqueue(7), reply: Value(Some(7)) }"
+DEQUEUED = b"LogEntry { client: 1, ticket: 2, op: Dequeue, reply: Value(Some(7)) }"
+FOUND_NOTHING = b"LogEntry { client: 1, ticket: 2, op: Dequeue, reply: Value(None) }"
+SERVED = b"Served { pass: 1, count: 1 }\n"
+SERVED_LATER = b"NoMemory\nServed { pass: 2, count: 1 }\n"
+ANSWERED = b"Some(Reply(Value(Some(7))))\nOk(Reply(Value(Some(7))))\n[" + ENQUEUED + b", " + DEQUEUED + b"]\n"
+REFUSED = b"Some(Refused)\nOk(Reply(Value(None)))\n[" + FOUND_NOTHING + b"]\n"
+OUT = b"Error: Kind(OutOfMemory)\n"
+
+
+def refused_reserve(program, report):
+    """Each allocation of the example is refused in a run of its own."""
+    if not os.path.exists(DESK):
+        report.holds("desk: the example is built", False, f"{DESK} is missing: rt run in crates/desk_example builds it")
+        return None
+    desk = in_room(DESK, program.room, "desk_example", None)
+    whole, count, _ = desk.counts()
+    report.answers("desk: with ample memory", whole, SERVED + ANSWERED, 0)
+    numbers = range(1, count + 1)
+    runs = at_once(lambda at: desk.run(faults={"REFUSE_AT": at}), numbers)
+    ends = {
+        (0, SERVED + ANSWERED, b""): "as with ample memory",
+        (0, SERVED_LATER + ANSWERED, b""): "a pass without memory serves nothing, and the next one serves",
+        (0, SERVED + REFUSED, b""): "a call for which the object gets no memory is refused",
+        (1, b"", OUT): "there is no desk",
+    }
+    came = [ends.get((it.status, it.out, it.err)) for it in runs]
+    for at, end, ran in zip(numbers, came, runs):
+        report.holds(f"desk: allocation {at} of {count} is refused", end is not None, ran)
+    for end in ends.values():
+        if end != "as with ample memory":
+            report.holds(f"desk: some run shows: {end}", end in came)
+    return f"{count} allocations refused"
+
+
+PARTS = (refused_reserve,)
