@@ -47,7 +47,7 @@ def end_feeder(path, feeder):
 
 
 def through_pipes(program, files, words, size=7, pause=0.0, **how):
-    """Runs the program while its files are named pipes, which are fed in pieces of so many bytes."""
+    """Runs the program while its files are named pipes, which are fed in pieces of n bytes."""
     threads = []
     for name, text in files:
         path = f"{program.room}/{name}"

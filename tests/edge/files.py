@@ -94,7 +94,7 @@ def in_pieces(program, report):
 
 
 def with_zeros(program, name, length):
-    """Makes a file of so many zero bytes, which take no room on the disk."""
+    """Makes a file of n zero bytes, which take no room on the disk."""
     with open(f"{program.room}/{name}", "wb") as file:
         file.truncate(length)
 

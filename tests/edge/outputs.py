@@ -32,7 +32,7 @@ def failing_output(program, report):
 
 
 def output_cut_short(program, report):
-    """Of an output that takes so many bytes and then fails, these bytes were written, and the status is 4."""
+    """Of an output that takes n bytes and then fails, these bytes were written, and the status is 4."""
     program.write(HISTORY, rows.ENQUEUE_DEQUEUE)
     program.write(CERTIFICATES, rows.order(0, 2))
     whole = rows.QUEUE_YES.encode()
