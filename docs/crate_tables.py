@@ -1,0 +1,67 @@
+#!/usr/bin/env python3
+"""Writes what each crate stands on into the tables of docs/architecture.md, from crates.txt.
+
+    docs/crate_tables.py [--check]
+
+The words of each row stay. With --check nothing is written: the exit status is 1 where a row is missing, is of no crate, is in
+another group or order than in crates.txt, or names other crates."""
+import os
+import re
+import sys
+
+ROOT = os.path.dirname(os.path.dirname(os.path.realpath(__file__)))
+PAGE = f"{ROOT}/docs/architecture.md"
+ROW = re.compile(r"\| `(\w+)` \| (.*) \|([^|]*)\|$")
+
+
+def groups():
+    """The headings of crates.txt, each with its crates and what these stand on."""
+    found, heading = [], None
+    with open(f"{ROOT}/crates.txt") as file:
+        for line in map(str.strip, file):
+            if line.startswith("# ") and ":" in line and not line.startswith("# Each line"):
+                found.append((line[2:], []))
+            elif line and not line.startswith("#"):
+                name, _, used = line.partition(":")
+                found[-1][1].append((name.split()[0], used.split()))
+    return found
+
+
+def stands_on(used, own):
+    """The last cell of a row: crates of this repository, then those of the kit."""
+    names = [f"`{it}`" for it in used if it in own] + [f"*{it}*" for it in used if it not in own]
+    return f" {' '.join(names)} " if names else "  "
+
+
+def page(text):
+    """The page with its tables made anew, and the names of crates that have no words yet."""
+    rows = {name: words for name, words, _ in (found.groups() for found in map(ROW.match, text.split("\n")) if found)}
+    listed = groups()
+    own = [name for _, crates in listed for name, _ in crates]
+    missing = [name for name in own if name not in rows]
+    for heading, crates in listed:
+        made = "\n".join(f"| `{name}` | {rows.get(name, '')} |{stands_on(used, own)}|" for name, used in crates)
+        table = re.compile(rf"(### {re.escape(heading)}\n\n\| crate [^\n]*\n\|---[^\n]*\n)(?:\|[^\n]*\n)*")
+        if not table.search(text):
+            missing.append(heading)
+        text = table.sub(lambda found: f"{found.group(1)}{made}\n", text)
+    return text, missing
+
+
+def main(*options):
+    with open(PAGE) as file:
+        text = file.read()
+    made, missing = page(text)
+    for name in missing:
+        print(f"docs/architecture.md has no words for {name}")
+    if "--check" in options:
+        if made != text:
+            print("docs/architecture.md does not agree with crates.txt: docs/crate_tables.py mends it")
+        return 1 if missing or made != text else 0
+    with open(PAGE, "w") as file:
+        file.write(made)
+    return 1 if missing else 0
+
+
+if __name__ == "__main__":
+    sys.exit(main(*sys.argv[1:]))
