@@ -24,67 +24,82 @@ new_place v = v
 abbrev pub Hands : Type 0
 Hands = Me ℕ ListView
 
+-- what it knows
+abbrev pub known : Hands → ListView
+known hands = hands.0
+
+abbrev pub taken_slots : Hands → List (ℕ × ℕ)
+taken_slots hands = hands.1
+
 -- the head was found: nothing
 abbrev pub sees : Step ℕ → Hands → ℕ → Hands → Type 0
-sees st m found m' = m' ≡ m
+sees step before found after = after ≡ before
 
 -- The own mark was found: the row is asleep where it is 0, and else the try is over
 abbrev pub looks : Step ℕ → Hands → ℕ → Hands → Type 0
-looks st m found m' =
+looks step before found after =
     (c : ℕ) (o : RowKnowledge) (tries : List Enlist)
-    → m.0 ≡ view.Place c o tries → st.word ≡ mark_place c →
-    (found ≡ 0 → m' ≡ (view.Place c own.Asleep tries, m.1))
-    × (found ≢ 0 → m' ≡ (view.Place c o (tries ++ Already ∷ []), m.1))
+    → known before ≡ view.Place c o tries → step.word ≡ mark_place c →
+    (found ≡ 0 → after ≡ (view.Place c own.Asleep tries, taken_slots before))
+    × (found ≢ 0 → after ≡ (view.Place c o (tries ++ Already ∷ []), taken_slots before))
 
 -- the own mark was set: the row is awake, with some next word
 abbrev pub wakes : Step ℕ → Hands → ℕ → Hands → Type 0
-wakes st m found m' =
+wakes step before found after =
     (c : ℕ) (o : RowKnowledge) (tries : List Enlist)
-    → m.0 ≡ view.Place c o tries → st.word ≡ mark_place c →
-    (n : ℕ) × (m' ≡ (view.Place c (own.Awake n) tries, m.1))
+    → known before ≡ view.Place c o tries → step.word ≡ mark_place c →
+    (n : ℕ) × (after ≡ (view.Place c (own.Awake n) tries, taken_slots before))
 
 -- the own next word was set: the row is awake, with this next word
 abbrev pub links : Step ℕ → Hands → ℕ → Hands → Type 0
-links st m found m' =
-    (c : ℕ) (o : RowKnowledge) (tries : List Enlist) → m.0 ≡ view.Place c o tries → st.word ≡ 1 + c
-    →
-    m' ≡ (view.Place c (own.Awake st.first) tries, m.1)
+links step before found after =
+    (c : ℕ) (o : RowKnowledge) (tries : List Enlist)
+    → known before ≡ view.Place c o tries → step.word ≡ 1 + c →
+    after ≡ (view.Place c (own.Awake step.first) tries, taken_slots before)
 
 -- the row is listed where the head was as expected, and else the try has missed
 abbrev pub enlists : Step ℕ → Hands → ℕ → Hands → Type 0
-enlists st m found m' =
-    (c : ℕ) (o : RowKnowledge) (tries : List Enlist) → m.0 ≡ view.Place c o tries → st.word ≡ 0 →
-    (found ≡ st.first → m' ≡ (view.Place c own.Unknown (tries ++ Listed ∷ []), m.1))
-    × (found ≢ st.first → m' ≡ (view.Place c o (tries ++ Missed ∷ []), m.1))
+enlists step before found after =
+    (c : ℕ) (o : RowKnowledge) (tries : List Enlist)
+    → known before ≡ view.Place c o tries → step.word ≡ 0 →
+    (found ≡ step.first → after ≡ (
+      view.Place c own.Unknown (tries ++ Listed ∷ []),
+      taken_slots before,
+    ))
+    × (found ≢ step.first → after ≡ (view.Place c o (tries ++ Missed ∷ []), taken_slots before))
 
 -- A walk begins, and this is the whole list as it is now: its head word was found
 abbrev pub meets : Step ℕ → Hands → ℕ → Hands → Type 0
-meets st m found m' =
+meets step before found after =
     (made : ℕ) (left : List ℕ) (out : Option ℕ) (walks : List (List ℕ))
-    → m.0 ≡ view.Walker made left out walks → st.word ≡ 0 →
-    (met : List ℕ) × (m' ≡ (view.Walker made met out (walks ++ met ∷ []), m.1))
+    → known before ≡ view.Walker made left out walks → step.word ≡ 0 →
+    (met : List ℕ) × (after ≡ (view.Walker made met out (walks ++ met ∷ []), taken_slots before))
     × (found ≡ word_at met 0)
     × WalkMeets left met × ((k : ℕ) → k < length met → slice_index met k < made)
     × (length met ≤ made)
 
 -- the word that leads to the next place of the list that the walker has met
 abbrev pub follows : Step ℕ → Hands → ℕ → Hands → Type 0
-follows st m found m' =
+follows step before found after =
     (made : ℕ) (left : List ℕ) (out : Option ℕ) (walks : List (List ℕ)) (k : ℕ)
-    → m.0 ≡ view.Walker made left out walks →
-    k < length left → st.word ≡ 1 + slice_index left k → (m' ≡ m) × (found ≡ word_at left (suc k))
+    → known before ≡ view.Walker made left out walks →
+    k < length left → step.word ≡ 1 + slice_index left k → (after ≡ before)
+    × (found ≡ word_at left (suc k))
 
 -- the place after the row of this word is taken out
 abbrev pub unlinks : Step ℕ → Hands → ℕ → Hands → Type 0
-unlinks st m found m' =
+unlinks step before found after =
     (made : ℕ) (left : List ℕ) (out : Option ℕ) (walks : List (List ℕ)) (k : ℕ)
-    → m.0 ≡ view.Walker made left out walks →
-    suc k < length left → st.word ≡ 1 + slice_index left k →
-    m' ≡ (view.Walker made (remove left (suc k)) (Some (slice_index left (suc k))) walks, m.1)
+    → known before ≡ view.Walker made left out walks →
+    suc k < length left → step.word ≡ 1 + slice_index left k →
+    after ≡ (
+      view.Walker made (remove left (suc k)) (Some (slice_index left (suc k))) walks,
+      taken_slots before,
+    )
 
 -- what was taken out is marked inactive
 abbrev pub sleeps : Step ℕ → Hands → ℕ → Hands → Type 0
-sleeps st m found m' =
+sleeps step before found after =
     (made : ℕ) (left : List ℕ) (r : ℕ) (walks : List (List ℕ))
-    → m.0 ≡ view.Walker made left (Some r) walks → st.word ≡ mark_place r →
-    m' ≡ (view.Walker made left None walks, m.1)
+    → known before ≡ view.Walker made left (Some r) walks → step.word ≡ mark_place r →
+    after ≡ (view.Walker made left None walks, taken_slots before)
