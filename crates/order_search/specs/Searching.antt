@@ -42,16 +42,21 @@ befores (l ∷ ls) c = undone l.undo c ∷ befores ls (undone l.undo c)
 abbrev pub IsBound : List ℕ → ℕ → Type 0
 IsBound done high = (k : ℕ) → In k done → k < high
 
--- the levels, the last one first, with the contents before each
+-- The levels of a search, the last one first, from the content `start` to the content `now`.
+-- `before` has the content before each level; `next` and `back` link the places that are left, and
+-- no place of a level reaches `high`. Each level placed one call, and without it the links, and the
+-- bound that it kept, are those of the levels below it.
 abbrev pub Stack : (n : ℕ) (call : ℕ → Call) → Content → List Level → List Content → Content
     → List ℕ → List ℕ → ℕ → Type 0
-Stack n call start [] [] c nx pv high = (c ≡ start) × Linked n [] nx pv
-Stack n call start [] (b ∷ bs) c nx pv high = ⊥
-Stack n call start (l ∷ ls) [] c nx pv high = ⊥
-Stack n call start (l ∷ ls) (b ∷ bs) c nx pv high =
-    Frame n call (places ls) b c l.place l.least × Linked n (l.place ∷ places ls) nx pv
-    × IsBound (l.place ∷ places ls) high × AreWithin nx pv l.place
-    × Stack n call start ls bs b (next_with nx pv l.place) (before_with nx pv l.place) l.high
+Stack n call start [] [] now next back high = (now ≡ start) × Linked n [] next back
+Stack n call start [] (b ∷ before) now next back high = ⊥
+Stack n call start (l ∷ levels) [] now next back high = ⊥
+Stack n call start (l ∷ levels) (b ∷ before) now next back high =
+    Frame n call (places levels) b now l.place l.least
+    × Linked n (l.place ∷ places levels) next back
+    × IsBound (l.place ∷ places levels) high × AreWithin next back l.place
+    × Stack n call start levels before b (next_with next back l.place)
+    (before_with next back l.place) l.high
 
 -- ls and bs: the levels and the contents before them, the last one first
 pub record IsWalk (n : ℕ) (call : ℕ → Call) (start : Content) (ls : List Level) (bs : List Content)
