@@ -166,7 +166,6 @@ closed_fits vs settled kept ops t s h = all_from_each (λ o. fits_end (keeps_all
 pub kept_shows : (vs : Values) (settled : Bool) (kept : ℕ → Bool) (h : ObjectCalls) → IsObjectHistory h → (settled ≡ true → count_by (λ o. is_put (keeps_value vs) o.op o.«end») h.ops ≤ count_by (λ o. is_taken (keeps_value vs) o.op o.«end») h.ops) → list_all (λ o. fits_end (keeps_all vs) settled (keeps_value vs) (kept o.number) o.op o.«end») h.ops ≡ true → IsPart h (record { object = h.object; kind = h.kind; ops = filter (λ o. kept o.number) h.ops })
 kept_shows vs settled kept h is s all = record {
   object = refl;
-  kind = refl;
   shows = λ none order v.
       let r = projection_valid h.kind (calls_of h.ops) (keeps_all vs) settled (keeps_value vs) kept order (rising_calls h.ops is.rising) (closed_calls vs settled kept h.ops s all) v in
       none r.0 (subst (λ (cs : List Call). IsValidOrder h.kind cs r.0) (sym (kept_calls_of kept h.ops)) r.1);

@@ -247,7 +247,6 @@ from_calls from at first ops = pieces_calls (piece_from from at first) (call_fro
 pub from_shows : (h : ObjectCalls) (from at : ℕ) (first : Option (AnyOp × AnyReply)) → IsObjectHistory h → IsStart (calls_of h.ops) from at first → IsPart h (record { object = h.object; kind = h.kind; ops = filter_map (piece_from from at first) h.ops })
 from_shows h from at first is s = record {
   object = refl;
-  kind = refl;
   shows = λ none order v.
       let kinds = all_calls (λ number op returned. kind_of op ≡ h.kind) h.ops (λ z i c q. all_at (λ o. kind_of o.op ≡ h.kind) h.ops is.of_kind z i) in
       let found = start_valid h.kind (calls_of h.ops) from at first order kinds s v in

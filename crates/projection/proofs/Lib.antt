@@ -14,4 +14,6 @@ pub mod Later
 pub mod Naming
 pub mod Bounds
 pub mod Mapped
+pub mod Recasts
 pub mod Shadows
+pub mod Keyed

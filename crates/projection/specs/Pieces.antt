@@ -13,6 +13,7 @@ use Rattle.events.specs.declared.operations.Invocation.{Invocation}
 use Rattle.projection.specs.declared.counting.Counted.{Counted}
 use Rattle.projection.specs.Counts.{sets, takes}
 use Rattle.projection.specs.Cells.{cell_done, cell_open}
+use Rattle.projection.specs.Entries.{entry_done, entry_open}
 use Rattle.projection.specs.Parts.{fits, puts_in, takes_out, key_of, written_before}
 
 abbrev pub has_failed : End → Bool
@@ -108,14 +109,19 @@ is_gone what from number op (Returned at reply) =
 is_gone what from number op Pending = false
 is_gone what from number op Failed = false
 
--- ---- cells
+-- ---- cells, and entries of a map
 
-abbrev pub cell_end : (ℤ → Bool) → ℤ → Bool → ℕ → AnyOp → End → Option Invocation
-cell_end keeps other kept number op (Returned at reply) =
-    option_map (returned_piece number at) (cell_done keeps other kept op reply)
-cell_end keeps other kept number op Pending =
-    option_map (pending_piece number) (cell_open keeps op)
-cell_end keeps other kept number op Failed = None
+abbrev pub recast_end : (AnyOp → AnyReply → Option (AnyOp × AnyReply)) → (AnyOp → Option AnyOp)
+    → ℕ → AnyOp → End → Option Invocation
+recast_end done pending number op (Returned at reply) =
+    option_map (returned_piece number at) (done op reply)
+recast_end done pending number op Pending = option_map (pending_piece number) (pending op)
+recast_end done pending number op Failed = None
 
 abbrev pub cell_piece : (ℤ → Bool) → ℤ → (ℕ → Bool) → Invocation → Option Invocation
-cell_piece keeps other kept o = cell_end keeps other (kept o.number) o.number o.op o.«end»
+cell_piece keeps other kept o = recast_end (cell_done keeps other (kept o.number))
+    (cell_open keeps) o.number o.op o.«end»
+
+abbrev pub entry_piece : ℤ → (ℤ → Bool) → ℤ → (ℕ → Bool) → Invocation → Option Invocation
+entry_piece key keeps other kept o = recast_end (entry_done key keeps other (kept o.number))
+    (entry_open key keeps) o.number o.op o.«end»

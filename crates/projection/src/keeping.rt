@@ -184,6 +184,7 @@ pub fn keep(
     numbers: &BTreeSet<u32>,
 ) -> Result<Option<ObjectHistory>, AllocError>
     ensures part { IfOk result (λ o. IfSome o (λ p. IsPart history.now p)) }
+    ensures kind { IfOk result (λ o. IfSome o (λ p. p.kind ≡ history.now.kind)) }
     ensures closed { IfOk result (λ o. IfSome o (λ p.
         IsClosedPart values.now numbers.now (calls_of history.now.ops))) }
     ensures calls { IfOk result (λ o. IfSome o (λ p. calls_of p.ops
