@@ -1,6 +1,8 @@
 pub mod Simulation
 pub mod Contents
-pub mod Settling
+pub mod Conserved
+pub mod Fitting
+pub mod Exchanged
 pub mod Closed
 pub mod Prefixes
 pub mod Freshness

@@ -38,8 +38,8 @@ keeps_number numbers n = contains nat_cmp numbers n
 
 -- these values, or keys, and the calls with these numbers make a closed part
 abbrev pub IsClosedPart : Values → BTreeSet ℕ → List Call → Type 0
-IsClosedPart values numbers calls = (settled : Bool)
-    × IsClosed (keeps_all values) settled (keeps_value values) (keeps_number numbers) calls
+IsClosedPart values numbers calls =
+    IsClosed (keeps_all values) (keeps_value values) (keeps_number numbers) calls
 
 -- the calls of the suffix that begins with the call of this number
 pub record IsSuffix (from : ℕ) (calls part : List Call) : Type 0 where

@@ -17,10 +17,11 @@ ghost use Rattle.projection.specs.Parts.{IsClosed, kept_calls, calls_before, IsS
 /// Closure under projection: where the calls of an object have a valid order, a closed part has
 /// one.
 pub fn projection_is_valid()
-    ensures { (kind : Kind) (calls : List Call) (all settled : Bool) (keeps : ℤ → Bool)
+    ensures { (kind : Kind) (calls : List Call) (all : Bool) (keeps : ℤ → Bool)
         (kept : ℕ → Bool) (order : List ℤ)
+        → All (λ e. kind_of e.op ≡ kind) calls
         → AllPairs (λ a b. a.number < b.number) calls
-        → IsClosed all settled keeps kept calls
+        → IsClosed all keeps kept calls
         → IsValidOrder kind calls order
         → (part : List ℤ) × IsValidOrder kind (kept_calls kept calls) part }
 {}

@@ -10,6 +10,24 @@ pub(crate) const PENDING_TAKING: &str = "
     {:process 0 :type :invoke :f :dequeue}
     {:process 0 :type :ok :f :dequeue :value 2}";
 
+/// Values 1 and 2 are put in, two takings are pending, and 2 is taken.
+pub(crate) const TWO_PENDING: &str = "
+    {:process 0 :type :invoke :f :enqueue :value 1}
+    {:process 0 :type :ok :f :enqueue :value 1}
+    {:process 0 :type :invoke :f :enqueue :value 2}
+    {:process 0 :type :ok :f :enqueue :value 2}
+    {:process 1 :type :invoke :f :dequeue}
+    {:process 0 :type :invoke :f :dequeue}
+    {:process 0 :type :ok :f :dequeue :value 2}
+    {:process 2 :type :invoke :f :dequeue}";
+
+/// A put and a taking are pending, and then nothing is found.
+pub(crate) const BOTH_PENDING: &str = "
+    {:process 0 :type :invoke :f :enqueue :value 1}
+    {:process 1 :type :invoke :f :dequeue}
+    {:process 2 :type :invoke :f :dequeue}
+    {:process 2 :type :ok :f :dequeue :value nil}";
+
 /// Value 1 is taken, and only a pending call put it in.
 pub(crate) const PENDING_PUT: &str = "
     {:process 0 :type :invoke :f :enqueue :value 1}

@@ -1,9 +1,10 @@
 //! Parts by cuts, as a table.
 
 use crate::histories::{
-    CROSSED, FAILED_SWAP, FOUND_TWICE, GONE, HEAP, LATE_RETURN, OVERLAPPING, OVERLAPPING_READ,
-    OVERLAPPING_TAKING, PENDING_ENTRY, PENDING_PUT, PENDING_SWAP, PENDING_TAKING, REMOVED,
-    SEEN_AFTER_ANOTHER, SEEN_AFTER_NONE, STACK, STALE_READ, SWAPPED, TWO_HOLD, WRONG_ORDER,
+    BOTH_PENDING, CROSSED, FAILED_SWAP, FOUND_TWICE, GONE, HEAP, LATE_RETURN, OVERLAPPING,
+    OVERLAPPING_READ, OVERLAPPING_TAKING, PENDING_ENTRY, PENDING_PUT, PENDING_SWAP, PENDING_TAKING,
+    REMOVED, SEEN_AFTER_ANOTHER, SEEN_AFTER_NONE, STACK, STALE_READ, SWAPPED, TWO_HOLD,
+    TWO_PENDING, WRONG_ORDER,
 };
 use events::{ObjectHistory, split};
 use history::read_history_text;
@@ -120,10 +121,10 @@ fn check<R: AllocGlobal + Abort>(rt: &R, rows: &[(&str, &[Plan], Verdict)]) -> R
     Ok(())
 }
 
-/// Projections of containers, maps and mutexes. Before each part that a laxer rule would take
-/// stands its whole, which has an order.
+/// Projections of containers with pending takings and puts. Before each part that a laxer rule
+/// would take stands its whole, which has an order.
 #[test]
-fn projections(rt: HostRuntime) -> Result<(), Fail> {
+fn pending_calls(rt: HostRuntime) -> Result<(), Fail> {
     check(
         &rt,
         &[
@@ -135,8 +136,27 @@ fn projections(rt: HostRuntime) -> Result<(), Fail> {
                 Possible,
             ),
             (PENDING_TAKING, &[Plan::Keep(&[2], &[2, 5])], Possible),
+            // One value is left for the pending takings, so the first of them is kept.
+            (TWO_PENDING, &[], Possible),
+            (TWO_PENDING, &[Plan::Keep(&[1, 2], &[0, 2, 4, 5])], Possible),
+            (TWO_PENDING, &[Plan::Keep(&[1, 2], &[0, 2, 5, 7])], NoPart),
+            (TWO_PENDING, &[Plan::Keep(&[1, 2], &[0, 2, 5])], NoPart),
+            (TWO_PENDING, &[Plan::Keep(&[2], &[2, 5])], Possible),
+            (BOTH_PENDING, &[Plan::Keep(&[1], &[0, 2])], NoPart),
+            (BOTH_PENDING, &[Plan::Keep(&[1], &[0, 1, 2])], Possible),
+            (BOTH_PENDING, &[Plan::Keep(&[], &[2])], Possible),
             (PENDING_PUT, &[], Possible),
             (PENDING_PUT, &[Plan::Keep(&[1], &[1])], NoPart),
+        ],
+    )
+}
+
+/// Projections of containers, maps and mutexes.
+#[test]
+fn projections(rt: HostRuntime) -> Result<(), Fail> {
+    check(
+        &rt,
+        &[
             // As many were put in as were taken, so the pending taking, number 6, may be left out.
             (
                 WRONG_ORDER,
