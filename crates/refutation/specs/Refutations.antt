@@ -1,5 +1,5 @@
 -- What is answered of a reason why no order of an object's operations is valid.
-use Rattle.std.specs.Prelude.{◌≡◌, ◌≢◌, ℕ, ℤ, ◌<◌, Bool, true, false, ⊤, List, length}
+use Rattle.std.specs.Prelude.{◌≡◌, ◌≢◌, ℕ, ℤ, ◌<◌, Bool, true, false, ⊤, List, Any, IsSome, length}
 use Rattle.model.specs.declared.Kind.{Kind}
 use Rattle.model.specs.Orders.{Call, IsValidOrder, calls_on}
 use Rattle.events.specs.declared.event.Event.{Event}
@@ -39,20 +39,26 @@ IfNotShown (refutation.NotShown part doubt) P = P part doubt
 IfNotShown refutation.NoPart P = ⊤
 IfNotShown refutation.OtherObject P = ⊤
 
+abbrev pub IsSearch : Evidence → Type 0
+IsSearch Search = ⊤
+IsSearch (Counting count) = ⊥
+
 -- a count does not show that the part has no valid order
 abbrev pub IsNotOverdrawn : Evidence → ObjectCalls → Type 0
 IsNotOverdrawn Search part = ⊥
 IsNotOverdrawn (Counting count) part =
     IsOverdrawn part.kind count (calls_of part.ops) → ⊥
 
--- why the evidence does not show that the part has no valid order
+-- Why the evidence does not show that the part has no valid order. A count has one answer alone.
 abbrev pub IsDoubt : Evidence → ObjectCalls → Doubt → Type 0
 IsDoubt evidence part Possible =
-    (order : List ℤ) × IsValidOrder part.kind (calls_of part.ops) order
+    IsSearch evidence × (order : List ℤ) × IsValidOrder part.kind (calls_of part.ops) order
 IsDoubt evidence part NotOverdrawn = IsNotOverdrawn evidence part
-IsDoubt evidence part OutOfSteps = ⊤
-IsDoubt evidence part TooLarge = max_operations < length (calls_of part.ops)
-IsDoubt evidence part NoMemory = ⊤
+IsDoubt evidence part OutOfSteps = IsSearch evidence
+IsDoubt evidence part TooLarge =
+    IsSearch evidence × (max_operations < length (calls_of part.ops))
+IsDoubt evidence part NoMemory =
+    IsSearch evidence × Any (λ call. IsSome call.returned) (calls_of part.ops)
 
 -- the part that the cuts name of the calls of an object, x, of this kind
 pub record IsNamedPart (cuts : List Cut) (x : ℕ) (whole : Kind) (calls : List Call)
