@@ -63,7 +63,6 @@ before_calls until ops = pieces_calls (piece_before until) (call_then until) ops
 pub before_shows : (until : ℕ) (h : ObjectCalls) → IsObjectHistory h → IsPart h (record { object = h.object; kind = h.kind; ops = filter_map (piece_before until) h.ops })
 before_shows until h is = record {
   object = refl;
-  kind = refl;
   shows = λ none order v.
       let r = prefix_valid h.kind (calls_of h.ops) until order (calls_end h.object h.kind h.ops is) v in
       none r.0 (subst (λ (cs : List Call). IsValidOrder h.kind cs r.0) (sym (before_calls until h.ops)) r.1);

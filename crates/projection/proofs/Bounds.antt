@@ -30,7 +30,7 @@ use Rattle.events.specs.declared.operations.Invocation.{Invocation}
 use Rattle.events.specs.Operations.{call_with, call_of, calls_of, ObjectCalls, IsObjectHistory}
 use Rattle.order_search.specs.Outcomes.{IsNoneValid}
 use Rattle.projection.proofs.Pieces.{rising_calls, calls_end}
-use Rattle.projection.proofs.Settling.{one, tally, count_tally, balanced, count_among, and_false}
+use Rattle.projection.proofs.Conserved.{one, tally, count_tally, balanced, count_among, and_false}
 
 unlike : false ≡ true → ⊥
 unlike e = absurd (cc e)

@@ -36,10 +36,10 @@ free_keeps None e v = refl
 free_keeps (Some k) e v = absurd (unlike e)
 
 -- a part that keeps all calls on a key is closed
-pub all_fit : (op : AnyOp) (key : Option ℤ) (o : Option AnyReply) → key_of op ≡ key → fits (is_free key) false (on_key key) true op o ≡ true
-all_fit op key o e = subst (λ (z : Option ℤ). fits (is_free z) false (on_key z) true op o ≡ true) e (go op o)
+pub all_fit : (op : AnyOp) (key : Option ℤ) (o : Option AnyReply) → key_of op ≡ key → fits (is_free key) (on_key key) true op o ≡ true
+all_fit op key o e = subst (λ (z : Option ℤ). fits (is_free z) (on_key z) true op o ≡ true) e (go op o)
   where
-    go : (op : AnyOp) (o : Option AnyReply) → fits (is_free (key_of op)) false (on_key (key_of op)) true op o ≡ true
+    go : (op : AnyOp) (o : Option AnyReply) → fits (is_free (key_of op)) (on_key (key_of op)) true op o ≡ true
     go (Enqueue v) o = refl
     go Dequeue None = refl
     go Dequeue (Some (Value None)) = refl

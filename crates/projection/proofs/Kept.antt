@@ -1,23 +1,23 @@
 -- The operations that are kept.
-use Rattle.std.proofs.Common.{◌≡◌, inl, inr, zero, ℕ, ℤ, ◌≤◌, ◌+◌, Bool, true, false, ◌&&◌, ◌||◌, cond, List, [], ◌∷◌, Option, Some, None, count_by, filter, refl, ap, sym, ◌∙◌, subst, arith}
+use Rattle.std.proofs.Common.{◌≡◌, inl, inr, zero, suc, ℕ, ℤ, ◌<◌, ◌≤◌, ◌+◌, ◌-◌, ◌==◌, nat_lt, Bool, true, false, ◌&&◌, ◌||◌, cond, List, [], ◌∷◌, Option, Some, None, AllPairs, count_by, filter, length, get_or, drop, refl, ap, sym, ◌∙◌, subst, arith}
 use Rattle.std.specs.List.{filter_map, cons_option, list_all}
 use Rattle.std.proofs.lemmas.Option.{same_Some}
+use Rattle.std.proofs.Math.Seq.{drop-cons}
+use Rattle.std.proofs.lemmas.Bool.Decides.{nat_tests}
 use Rattle.model.specs.declared.AnyOp.{AnyOp}
-use Rattle.model.specs.declared.AnyOp.TheVariants.{Dequeue, Pop, ExtractMin}
-use Rattle.model.specs.declared.AnyReply.{AnyReply}
-use Rattle.model.specs.declared.AnyReply.TheVariants.{Value, Swapped, NotSwapped}
+use Rattle.model.specs.Objects.{kind_of}
 use Rattle.model.specs.Orders.{Call, IsValidOrder}
-use Rattle.model.proofs.Lists.{In, all_at}
+use Rattle.model.proofs.Lists.{In, Pairs, all_at, pairs_from_all}
 use Rattle.events.specs.declared.operations.End.{End}
 use Rattle.events.specs.declared.operations.End.TheVariants.{Returned, Pending, Failed}
 use Rattle.events.specs.declared.operations.Invocation.{Invocation}
 use Rattle.events.specs.Operations.{call_with, call_of, calls_of, return_of, ObjectCalls, IsObjectHistory}
-use Rattle.projection.specs.Parts.{fits, reply_of, puts_in, is_taking, takes_out, put_count, taken_count, kept_calls, IsClosed}
+use Rattle.projection.specs.Parts.{fits, reply_of, puts_in, is_taking, takes_out, is_pending_taking, put_count, taken_count, pending_before, kept_calls, IsClosed}
 use Rattle.projection.specs.declared.keeping.Values.{Values}
 use Rattle.projection.specs.declared.keeping.Values.TheVariants as values
 use Rattle.projection.specs.Cuts.{keeps_all, keeps_value, IsPart}
-use Rattle.projection.specs.Pieces.{fits_end, is_put, is_taken}
-use Rattle.projection.proofs.Settling.{tally, count_tally}
+use Rattle.projection.specs.Pieces.{fits_end, is_put, is_taken, is_open_taking, keeps_first}
+use Rattle.projection.proofs.Conserved.{one, tally, count_tally}
 use Rattle.projection.proofs.Closed.{projection_valid}
 use Rattle.projection.proofs.Sequences.{in_filter_map_from}
 use Rattle.projection.proofs.Pieces.{bind, filter_map-filter, map-same, IsPiece, pieces_history, pieces_calls, rising_calls, all_calls}
@@ -81,14 +81,154 @@ taken_of keeps (o ∷ ops) = go o.«end» (taken_of keeps ops)
     go Pending h = let n = nothing (is_taking o.op) in omega arith
     go Failed h = omega arith
 
-settled_counts : (keeps : ℤ → Bool) (ops : List Invocation) → count_by (λ o. is_put keeps o.op o.«end») ops ≤ count_by (λ o. is_taken keeps o.op o.«end») ops → put_count keeps (calls_of ops) ≤ taken_count keeps (calls_of ops)
-settled_counts keeps ops l =
-    let a = sym (count_tally (λ o. is_put keeps o.op o.«end») ops) ∙ puts_of keeps ops ∙ count_tally (λ e. puts_in keeps e.op) (calls_of ops) in
-    let b = sym (count_tally (λ o. is_taken keeps o.op o.«end») ops) ∙ taken_of keeps ops ∙ count_tally (λ e. takes_out keeps e.op (reply_of e.returned)) (calls_of ops) in
-    sums _ _ _ _ a b l
+put_counts : (keeps : ℤ → Bool) (ops : List Invocation) → count_by (λ o. is_put keeps o.op o.«end») ops ≡ put_count keeps (calls_of ops)
+put_counts keeps ops = sym (count_tally (λ o. is_put keeps o.op o.«end») ops) ∙ puts_of keeps ops ∙ count_tally (λ e. puts_in keeps e.op) (calls_of ops)
+
+taken_counts : (keeps : ℤ → Bool) (ops : List Invocation) → count_by (λ o. is_taken keeps o.op o.«end») ops ≡ taken_count keeps (calls_of ops)
+taken_counts keeps ops = sym (count_tally (λ o. is_taken keeps o.op o.«end») ops) ∙ taken_of keeps ops ∙ count_tally (λ e. takes_out keeps e.op (reply_of e.returned)) (calls_of ops)
+
+-- ---- pending takings
+
+abbrev is_open : Invocation → Bool
+is_open o = is_open_taking o.op o.«end»
+
+abbrev open_before : ℕ → List Invocation → ℕ
+open_before n ops = tally (λ o. is_open o && nat_lt o.number n) ops
+
+open_of : (n : ℕ) (ops : List Invocation) → open_before n ops ≡ tally (λ e. is_pending_taking e.op e.returned && nat_lt e.number n) (calls_of ops)
+open_of n [] = refl
+open_of n (o ∷ ops) = go o.«end» (open_of n ops)
   where
-    sums : (p q r s : ℕ) → p ≡ q → r ≡ s → p ≤ r → q ≤ s
-    sums p q r s a b l = omega arith
+    pending : (a b : Bool) → (a && b) ≡ ((a && true) && b)
+    pending true b = refl
+    pending false b = refl
+
+    over : (a b : Bool) → false ≡ ((a && false) && b)
+    over true b = refl
+    over false b = refl
+
+    sums : (a b x y : ℕ) → a ≡ b → x ≡ y → a + x ≡ b + y
+    sums a b x y e f = omega arith
+
+    go : (e : End) → open_before n ops ≡ tally (λ e. is_pending_taking e.op e.returned && nat_lt e.number n) (calls_of ops) → cond (is_open_taking o.op e && nat_lt o.number n) 1 0 + open_before n ops ≡ tally (λ e. is_pending_taking e.op e.returned && nat_lt e.number n) (cons_option (call_with o.number o.op e) (calls_of ops))
+    go (Returned at r) h = sums _ _ _ _ (ap one (over (is_taking o.op) (nat_lt o.number n))) h
+    go Pending h = sums _ _ _ _ (ap one (pending (is_taking o.op) (nat_lt o.number n))) h
+    go Failed h = omega arith
+
+pending_counts : (n : ℕ) (ops : List Invocation) → open_before n ops ≡ pending_before n (calls_of ops)
+pending_counts n ops = open_of n ops ∙ count_tally (λ e. is_pending_taking e.op e.returned && nat_lt e.number n) (calls_of ops)
+
+unlike : false ≡ true → ⊥
+unlike e = absurd (cc e)
+
+lt_yes : (a b : ℕ) → a < b → nat_lt a b ≡ true
+lt_yes a b l = grind (arith, nat_tests)
+
+lt_no : (a b : ℕ) → b ≤ a → nat_lt a b ≡ false
+lt_no a b l = grind (arith, nat_tests)
+
+-- one more comes before what is later
+open_more : (o x : Invocation) (ops : List Invocation) (b : Bool) → is_open o ≡ b → o.number < x.number → open_before x.number (o ∷ ops) ≡ one b + open_before x.number ops
+open_more o x ops b q l = ap (λ z. one z + open_before x.number ops) (ap (λ z. is_open o && z) (lt_yes o.number x.number l) ∙ ap (λ z. z && true) q ∙ same b)
+  where
+    same : (b : Bool) → (b && true) ≡ b
+    same true = refl
+    same false = refl
+
+open_none : (n : ℕ) (ops : List Invocation) → ((x : Invocation) → In x ops → n ≤ x.number) → open_before n ops ≡ zero
+open_none n [] f = refl
+open_none n (o ∷ ops) f =
+    let rest = open_none n ops (λ x i. f x (inr i)) in
+    let here = ap one (ap (λ z. is_open o && z) (lt_no o.number n (f o (inl refl))) ∙ none (is_open o)) in
+    omega arith
+  where
+    none : (b : Bool) → (b && false) ≡ false
+    none true = refl
+    none false = refl
+
+zero_is : (m : ℕ) → m ≡ zero → (m == 0) ≡ true
+zero_is m e = grind (arith, nat_tests)
+
+is_zero : (m : ℕ) → (m == 0) ≡ true → m ≡ zero
+is_zero m e = grind (arith, nat_tests)
+
+not_zero : (m : ℕ) → zero < m → (m == 0) ≡ false
+not_zero m l = grind (arith, nat_tests)
+
+missing : (kept : ℕ → Bool) (m : ℕ) (o : Invocation) (ops : List Invocation) → zero < m → is_open o ≡ true → kept o.number ≡ false → keeps_first kept m (o ∷ ops) ≡ false
+missing kept m o ops l q n = go (is_open o) (m == 0) (kept o.number) q (not_zero m l) n
+  where
+    go : (b d c : Bool) → b ≡ true → d ≡ false → c ≡ false → cond b ((d || c) && keeps_first kept (m - 1) ops) (keeps_first kept m ops) ≡ false
+    go false d c e f g = absurd (unlike e)
+    go true true c e f g = absurd (unlike (sym f))
+    go true false true e f g = absurd (unlike (sym g))
+    go true false false e f g = refl
+
+-- a pending taking among the first ones is left out
+pub one_missing : (kept : ℕ → Bool) (most left i : ℕ) (ops : List Invocation) (d : Invocation) → i < length ops → keeps_first kept most ops ≡ keeps_first kept left (drop i ops) → is_open (get_or ops i d) ≡ true → zero < left → kept (get_or ops i d).number ≡ false → false ≡ keeps_first kept most ops
+one_missing kept most left i ops d lt e o less n = sym (e ∙ ap (keeps_first kept left) (drop-cons ops i d lt) ∙ missing kept left (get_or ops i d) (drop (suc i) ops) less o n)
+
+-- what is left out comes behind this many
+pub first_kept : (kept : ℕ → Bool) (most : ℕ) (ops : List Invocation) → Pairs (λ a b. a.number < b.number) ops → keeps_first kept most ops ≡ true → (x : Invocation) → In x ops → is_open x ≡ true → kept x.number ≡ false → most ≤ open_before x.number ops
+first_kept kept most [] h k x i o n = absurd i
+first_kept kept most (y ∷ ops) h k x i o n = go (λ m e j. first_kept kept m ops h.1 e x j o n) (is_open y) refl k
+  where
+    left_out : (d b c : Bool) → ((d || b) && c) ≡ true → b ≡ false → d ≡ true
+    left_out true b c e f = refl
+    left_out false true c e f = absurd (unlike (sym f))
+    left_out false false c e f = absurd (unlike e)
+
+    rest : (b c : Bool) → (b && c) ≡ true → c ≡ true
+    rest true c e = e
+    rest false c e = absurd (unlike e)
+
+    none : most ≡ zero → most ≤ open_before x.number (y ∷ ops)
+    none e = omega arith
+
+    go : ((m : ℕ) → keeps_first kept m ops ≡ true → In x ops → m ≤ open_before x.number ops) → (b : Bool) → is_open y ≡ b → cond b ((most == 0 || kept y.number) && keeps_first kept (most - 1) ops) (keeps_first kept most ops) ≡ true → most ≤ open_before x.number (y ∷ ops)
+    go again true q e = elim i [
+      | inl w ↦ none (is_zero most (left_out (most == 0) (kept y.number) (keeps_first kept (most - 1) ops) e (ap (λ (u : Invocation). kept u.number) (sym w) ∙ n)))
+      | inr j ↦
+          let l = again (most - 1) (rest (most == 0 || kept y.number) (keeps_first kept (most - 1) ops) e) j in
+          let m = open_more y x ops true q (h.0 x j) in
+          omega arith
+    ]
+    go again false q e = elim i [
+      | inl w ↦ absurd (unlike (sym q ∙ ap (λ (u : Invocation). is_open u) (sym w) ∙ o))
+      | inr j ↦
+          let l = again most e j in
+          let m = open_more y x ops false q (h.0 x j) in
+          omega arith
+    ]
+
+pub kept_first : (kept : ℕ → Bool) (most : ℕ) (ops : List Invocation) → Pairs (λ a b. a.number < b.number) ops → ((x : Invocation) → In x ops → is_open x ≡ true → kept x.number ≡ false → most ≤ open_before x.number ops) → keeps_first kept most ops ≡ true
+kept_first kept most [] h f = refl
+kept_first kept most (y ∷ ops) h f = go (λ m g. kept_first kept m ops h.1 g) (is_open y) refl
+  where
+    both : (a b : Bool) → a ≡ true → b ≡ true → (a && b) ≡ true
+    both true b e f = f
+    both false b e f = absurd (unlike e)
+
+    either : (d b : Bool) → b ≡ true → (d || b) ≡ true
+    either true b e = refl
+    either false b e = e
+
+    here : is_open y ≡ true → (b : Bool) → kept y.number ≡ b → (most == 0 || kept y.number) ≡ true
+    here q true k = either (most == 0) (kept y.number) k
+    here q false k =
+        let l = f y (inl refl) q k in
+        let m = open_none y.number (y ∷ ops) (λ x i. elim i [ inl w ↦ subst (λ (u : Invocation). y.number ≤ u.number) (sym w) (omega arith) | inr j ↦ let le = h.0 x j in omega arith ]) in
+        ap (λ z. z || kept y.number) (zero_is most (omega arith))
+
+    go : ((m : ℕ) → ((x : Invocation) → In x ops → is_open x ≡ true → kept x.number ≡ false → m ≤ open_before x.number ops) → keeps_first kept m ops ≡ true) → (b : Bool) → is_open y ≡ b → cond b ((most == 0 || kept y.number) && keeps_first kept (most - 1) ops) (keeps_first kept most ops) ≡ true
+    go again true q = both (most == 0 || kept y.number) (keeps_first kept (most - 1) ops) (here q (kept y.number) refl) (again (most - 1) (λ x i o n.
+        let l = f x (inr i) o n in
+        let m = open_more y x ops true q (h.0 x i) in
+        omega arith))
+    go again false q = again most (λ x i o n.
+        let l = f x (inr i) o n in
+        let m = open_more y x ops false q (h.0 x i) in
+        omega arith)
 
 -- ---- closed parts
 
@@ -104,70 +244,71 @@ each_from_all {X} p (y ∷ ys) h x i = elim i [ inl e ↦ ap p e ∙ (both (p y)
     both true b e = (refl, e)
     both false b e = absurd (cc e)
 
-pub closed_calls : (vs : Values) (settled : Bool) (kept : ℕ → Bool) (ops : List Invocation) → (settled ≡ true → count_by (λ o. is_put (keeps_value vs) o.op o.«end») ops ≤ count_by (λ o. is_taken (keeps_value vs) o.op o.«end») ops) → list_all (λ o. fits_end (keeps_all vs) settled (keeps_value vs) (kept o.number) o.op o.«end») ops ≡ true → IsClosed (keeps_all vs) settled (keeps_value vs) kept (calls_of ops)
-closed_calls vs settled kept ops s h = record {
+pub closed_calls : (vs : Values) (kept : ℕ → Bool) (ops : List Invocation) → AllPairs (λ a b. a.number < b.number) ops → keeps_first kept (count_by (λ o. is_put (keeps_value vs) o.op o.«end») ops - count_by (λ o. is_taken (keeps_value vs) o.op o.«end») ops) ops ≡ true → list_all (λ o. fits_end (keeps_all vs) (keeps_value vs) (kept o.number) o.op o.«end») ops ≡ true → IsClosed (keeps_all vs) (keeps_value vs) kept (calls_of ops)
+closed_calls vs kept ops rising first h = record {
   every = all_keeps vs;
-  settles = λ y. settled_counts (keeps_value vs) ops (s y);
-  each = all_calls (λ number op returned. fits (keeps_all vs) settled (keeps_value vs) (kept number) op (reply_of returned) ≡ true) ops (λ o i c e. go o.number o.op o.«end» c e (each_from_all (λ o. fits_end (keeps_all vs) settled (keeps_value vs) (kept o.number) o.op o.«end») ops h o i));
+  each = all_calls (λ number op returned. fits (keeps_all vs) (keeps_value vs) (kept number) op (reply_of returned) ≡ true) ops (λ o i c e. go o.number o.op o.«end» c e (each_from_all (λ o. fits_end (keeps_all vs) (keeps_value vs) (kept o.number) o.op o.«end») ops h o i));
+  pending = all_calls (λ number op returned. is_pending_taking op returned ≡ true → kept number ≡ false → put_count (keeps_value vs) (calls_of ops) ≤ taken_count (keeps_value vs) (calls_of ops) + pending_before number (calls_of ops)) ops (λ o i c e t n. sums _ _ _ _ _ _ (put_counts (keeps_value vs) ops) (taken_counts (keeps_value vs) ops) (pending_counts o.number ops) (first_kept kept _ ops (pairs_from_all (λ a b. a.number < b.number) ops rising) first o i (was o.number o.op o.«end» c e t) n));
 }
   where
-    go : (number : ℕ) (op : AnyOp) (e : End) (c : Call) → call_with number op e ≡ Some c → fits_end (keeps_all vs) settled (keeps_value vs) (kept number) op e ≡ true → fits (keeps_all vs) settled (keeps_value vs) (kept number) op (reply_of (return_of e)) ≡ true
+    go : (number : ℕ) (op : AnyOp) (e : End) (c : Call) → call_with number op e ≡ Some c → fits_end (keeps_all vs) (keeps_value vs) (kept number) op e ≡ true → fits (keeps_all vs) (keeps_value vs) (kept number) op (reply_of (return_of e)) ≡ true
     go number op (Returned at r) c e f = f
     go number op Pending c e f = f
     go number op Failed c e f = absurd (cc e)
 
-either : (kept s t : Bool) → (s ≡ true → t ≡ true) → (kept || s) ≡ true → (kept || t) ≡ true
-either true s t f h = refl
-either false s t f h = f h
+    not_both : (b : Bool) → (b && false) ≡ true → ⊥
+    not_both true e = unlike e
+    not_both false e = unlike e
 
--- a part that is closed fits, also where more is settled
-fits_more : (all s t : Bool) (keeps : ℤ → Bool) (kept : Bool) (op : AnyOp) (reply : Option AnyReply) → (s ≡ true → t ≡ true) → fits all s keeps kept op reply ≡ true → fits all t keeps kept op reply ≡ true
-fits_more all s t keeps kept Dequeue None f h = either kept s t f h
-fits_more all s t keeps kept Pop None f h = either kept s t f h
-fits_more all s t keeps kept ExtractMin None f h = either kept s t f h
-fits_more all s t keeps kept Dequeue (Some (Value None)) f h = refl
-fits_more all s t keeps kept Dequeue (Some (Value (Some v))) f h = h
-fits_more all s t keeps kept Dequeue (Some (Swapped a b)) f h = refl
-fits_more all s t keeps kept Dequeue (Some NotSwapped) f h = refl
-fits_more all s t keeps kept Pop (Some (Value None)) f h = refl
-fits_more all s t keeps kept Pop (Some (Value (Some v))) f h = h
-fits_more all s t keeps kept Pop (Some (Swapped a b)) f h = refl
-fits_more all s t keeps kept Pop (Some NotSwapped) f h = refl
-fits_more all s t keeps kept ExtractMin (Some (Value None)) f h = refl
-fits_more all s t keeps kept ExtractMin (Some (Value (Some v))) f h = h
-fits_more all s t keeps kept ExtractMin (Some (Swapped a b)) f h = refl
-fits_more all s t keeps kept ExtractMin (Some NotSwapped) f h = refl
-fits_more all s t keeps kept op reply f h = h
+    alone : (b : Bool) → (b && true) ≡ true → b ≡ true
+    alone true e = refl
+    alone false e = e
+
+    was : (number : ℕ) (op : AnyOp) (e : End) (c : Call) → call_with number op e ≡ Some c → is_pending_taking op (return_of e) ≡ true → is_open_taking op e ≡ true
+    was number op (Returned at r) c e f = absurd (not_both (is_taking op) f)
+    was number op Pending c e f = alone (is_taking op) f
+    was number op Failed c e f = absurd (cc e)
+
+    sums : (p q r s m n : ℕ) → p ≡ q → r ≡ s → m ≡ n → p - r ≤ m → q ≤ s + n
+    sums p q r s m n a b d l = omega arith
 
 all_from_each : {X : Type 0} (p : X → Bool) (xs : List X) → ((x : X) → In x xs → p x ≡ true) → list_all p xs ≡ true
 all_from_each p [] f = refl
 all_from_each p (x ∷ xs) f = ap (λ b. b && list_all p xs) (f x (inl refl)) ∙ all_from_each p xs (λ y i. f y (inr i))
 
-counts_settled : (keeps : ℤ → Bool) (ops : List Invocation) → put_count keeps (calls_of ops) ≤ taken_count keeps (calls_of ops) → count_by (λ o. is_put keeps o.op o.«end») ops ≤ count_by (λ o. is_taken keeps o.op o.«end») ops
-counts_settled keeps ops l =
-    let a = sym (count_tally (λ o. is_put keeps o.op o.«end») ops) ∙ puts_of keeps ops ∙ count_tally (λ e. puts_in keeps e.op) (calls_of ops) in
-    let b = sym (count_tally (λ o. is_taken keeps o.op o.«end») ops) ∙ taken_of keeps ops ∙ count_tally (λ e. takes_out keeps e.op (reply_of e.returned)) (calls_of ops) in
-    sums _ _ _ _ a b l
+pub closed_fits : (vs : Values) (kept : ℕ → Bool) (ops : List Invocation) → IsClosed (keeps_all vs) (keeps_value vs) kept (calls_of ops) → list_all (λ o. fits_end (keeps_all vs) (keeps_value vs) (kept o.number) o.op o.«end») ops ≡ true
+closed_fits vs kept ops h = all_from_each (λ o. fits_end (keeps_all vs) (keeps_value vs) (kept o.number) o.op o.«end») ops (λ o i. go o i o.«end» refl)
   where
-    sums : (p q r s : ℕ) → p ≡ q → r ≡ s → q ≤ s → p ≤ r
-    sums p q r s a b l = omega arith
+    at : (o : Invocation) → In o ops → (c : Call) → call_of o ≡ Some c → fits (keeps_all vs) (keeps_value vs) (kept c.number) c.op (reply_of c.returned) ≡ true
+    at o i c e = all_at (λ e. fits (keeps_all vs) (keeps_value vs) (kept e.number) e.op (reply_of e.returned) ≡ true) (calls_of ops) h.each c (in_filter_map_from call_of o c ops i e)
 
-pub closed_fits : (vs : Values) (settled : Bool) (kept : ℕ → Bool) (ops : List Invocation) → (count_by (λ o. is_put (keeps_value vs) o.op o.«end») ops ≤ count_by (λ o. is_taken (keeps_value vs) o.op o.«end») ops → settled ≡ true) → (s : Bool) → IsClosed (keeps_all vs) s (keeps_value vs) kept (calls_of ops) → list_all (λ o. fits_end (keeps_all vs) settled (keeps_value vs) (kept o.number) o.op o.«end») ops ≡ true
-closed_fits vs settled kept ops t s h = all_from_each (λ o. fits_end (keeps_all vs) settled (keeps_value vs) (kept o.number) o.op o.«end») ops (λ o i. go o i o.«end» refl)
-  where
-    at : (o : Invocation) → In o ops → (c : Call) → call_of o ≡ Some c → fits (keeps_all vs) settled (keeps_value vs) (kept c.number) c.op (reply_of c.returned) ≡ true
-    at o i c e = fits_more (keeps_all vs) s settled (keeps_value vs) (kept c.number) c.op (reply_of c.returned) (λ y. t (counts_settled (keeps_value vs) ops (h.settles y))) (all_at (λ e. fits (keeps_all vs) s (keeps_value vs) (kept e.number) e.op (reply_of e.returned) ≡ true) (calls_of ops) h.each c (in_filter_map_from call_of o c ops i e))
-
-    go : (o : Invocation) → In o ops → (e : End) → o.«end» ≡ e → fits_end (keeps_all vs) settled (keeps_value vs) (kept o.number) o.op e ≡ true
+    go : (o : Invocation) → In o ops → (e : End) → o.«end» ≡ e → fits_end (keeps_all vs) (keeps_value vs) (kept o.number) o.op e ≡ true
     go o i (Returned when r) q = at o i (record { number = o.number; op = o.op; returned = Some (record { at = when; reply = r }) }) (ap (call_with o.number o.op) q)
     go o i Pending q = at o i (record { number = o.number; op = o.op; returned = None }) (ap (call_with o.number o.op) q)
     go o i Failed q = refl
 
-pub kept_shows : (vs : Values) (settled : Bool) (kept : ℕ → Bool) (h : ObjectCalls) → IsObjectHistory h → (settled ≡ true → count_by (λ o. is_put (keeps_value vs) o.op o.«end») h.ops ≤ count_by (λ o. is_taken (keeps_value vs) o.op o.«end») h.ops) → list_all (λ o. fits_end (keeps_all vs) settled (keeps_value vs) (kept o.number) o.op o.«end») h.ops ≡ true → IsPart h (record { object = h.object; kind = h.kind; ops = filter (λ o. kept o.number) h.ops })
-kept_shows vs settled kept h is s all = record {
+pub closed_first : (vs : Values) (kept : ℕ → Bool) (ops : List Invocation) → AllPairs (λ a b. a.number < b.number) ops → IsClosed (keeps_all vs) (keeps_value vs) kept (calls_of ops) → keeps_first kept (count_by (λ o. is_put (keeps_value vs) o.op o.«end») ops - count_by (λ o. is_taken (keeps_value vs) o.op o.«end») ops) ops ≡ true
+closed_first vs kept ops rising h = kept_first kept _ ops (pairs_from_all (λ a b. a.number < b.number) ops rising) (λ o i t n. go o i o.«end» refl t n)
+  where
+    sums : (p q r s m n : ℕ) → p ≡ q → r ≡ s → m ≡ n → q ≤ s + n → p - r ≤ m
+    sums p q r s m n a b d l = omega arith
+
+    most : ℕ
+    most = count_by (λ o. is_put (keeps_value vs) o.op o.«end») ops - count_by (λ o. is_taken (keeps_value vs) o.op o.«end») ops
+
+    go : (o : Invocation) → In o ops → (e : End) → o.«end» ≡ e → is_open_taking o.op e ≡ true → kept o.number ≡ false → most ≤ open_before o.number ops
+    go o i (Returned when r) q t n = absurd (unlike t)
+    go o i Failed q t n = absurd (unlike t)
+    go o i Pending q t n =
+        let c : Call = record { number = o.number; op = o.op; returned = None } in
+        let l = all_at (λ e. is_pending_taking e.op e.returned ≡ true → kept e.number ≡ false → put_count (keeps_value vs) (calls_of ops) ≤ taken_count (keeps_value vs) (calls_of ops) + pending_before e.number (calls_of ops)) (calls_of ops) h.pending c (in_filter_map_from call_of o c ops i (ap (call_with o.number o.op) q)) in
+        sums _ _ _ _ _ _ (put_counts (keeps_value vs) ops) (taken_counts (keeps_value vs) ops) (pending_counts o.number ops) (l (ap (λ z. z && true) t) n)
+
+pub kept_shows : (vs : Values) (kept : ℕ → Bool) (h : ObjectCalls) → IsObjectHistory h → IsClosed (keeps_all vs) (keeps_value vs) kept (calls_of h.ops) → IsPart h (record { object = h.object; kind = h.kind; ops = filter (λ o. kept o.number) h.ops })
+kept_shows vs kept h is closed = record {
   object = refl;
-  kind = refl;
   shows = λ none order v.
-      let r = projection_valid h.kind (calls_of h.ops) (keeps_all vs) settled (keeps_value vs) kept order (rising_calls h.ops is.rising) (closed_calls vs settled kept h.ops s all) v in
+      let of_kind = all_calls (λ number op returned. kind_of op ≡ h.kind) h.ops (λ o i c e. all_at (λ o. kind_of o.op ≡ h.kind) h.ops is.of_kind o i) in
+      let r = projection_valid h.kind (calls_of h.ops) (keeps_all vs) (keeps_value vs) kept order of_kind (rising_calls h.ops is.rising) closed v in
       none r.0 (subst (λ (cs : List Call). IsValidOrder h.kind cs r.0) (sym (kept_calls_of kept h.ops)) r.1);
 }

@@ -1,5 +1,5 @@
 -- The operations of a suffix.
-use Rattle.std.proofs.Common.{◌≡◌, inl, inr, ℕ, ℤ, ◌<◌, ◌==◌, nat_lt, Bool, true, false, cond, List, [], ◌∷◌, Option, Some, None, IfSome, All, Contains, refl, ap, sym, ◌∙◌, subst, arith}
+use Rattle.std.proofs.Common.{◌≡◌, inl, inr, ℕ, ℤ, ◌<◌, ◌==◌, nat_lt, Bool, true, false, cond, List, Option, Some, None, IfSome, All, Contains, refl, ap, sym, ◌∙◌, subst}
 use Rattle.std.specs.Prelude.{option_map}
 use Rattle.std.specs.Option.{option_map_or}
 use Rattle.std.specs.List.{filter_map}
@@ -19,7 +19,7 @@ use Rattle.events.specs.Operations.{call_with, call_of, calls_of, return_of, Obj
 use Rattle.projection.specs.Parts.{leaves, IsStart, key_of, ended_before, written_before, write_call, pending_call, overlapping, call_later, returned_call, call_from, calls_from}
 use Rattle.projection.specs.Cuts.{IsPart, IsSuffix}
 use Rattle.projection.specs.Pieces.{has_failed, IsOnKey, is_over, returned_piece, write_piece, pending_piece, overlapping_piece, piece_later, piece_from}
-use Rattle.projection.proofs.Sequences.{in_filter_map, in_filter_map_from}
+use Rattle.projection.proofs.Sequences.{one_number, in_filter_map, in_filter_map_from}
 use Rattle.projection.proofs.Overlaps.{before_facts}
 use Rattle.projection.proofs.Suffixes.{start_valid}
 use Rattle.projection.proofs.Pieces.{bind, IsPiece, pieces_history, pieces_calls, all_calls, call_cases}
@@ -41,23 +41,6 @@ leaves_kind (Del k) reply = tt
 leaves_kind Acquire reply = refl
 leaves_kind Release reply = tt
 leaves_kind op reply = tt
-
--- of two elements with one number each is the other
-pub one_number : {X : Type 0} (number : X → ℕ) (a b : X) (xs : List X) → Pairs (λ x y. number x < number y) xs → In a xs → In b xs → number a ≡ number b → a ≡ b
-one_number number a b [] h i j e = absurd i
-one_number {X} number a b (x ∷ xs) h i j e = elim i [
-  | inl p ↦ elim j [
-    | inl q ↦ p ∙ sym q
-    | inr l ↦ absurd (risen (number x) (number b) (h.0 b l) (sym (ap number p) ∙ e))
-  ]
-  | inr k ↦ elim j [
-    | inl q ↦ absurd (risen (number x) (number a) (h.0 a k) (sym (ap number q) ∙ sym e))
-    | inr l ↦ one_number number a b xs h.1 k l e
-  ]
-]
-  where
-    risen : (x y : ℕ) → x < y → x ≡ y → ⊥
-    risen x y l e = absurd (omega arith)
 
 -- ---- where a suffix begins
 
@@ -247,7 +230,6 @@ from_calls from at first ops = pieces_calls (piece_from from at first) (call_fro
 pub from_shows : (h : ObjectCalls) (from at : ℕ) (first : Option (AnyOp × AnyReply)) → IsObjectHistory h → IsStart (calls_of h.ops) from at first → IsPart h (record { object = h.object; kind = h.kind; ops = filter_map (piece_from from at first) h.ops })
 from_shows h from at first is s = record {
   object = refl;
-  kind = refl;
   shows = λ none order v.
       let kinds = all_calls (λ number op returned. kind_of op ≡ h.kind) h.ops (λ z i c q. all_at (λ o. kind_of o.op ≡ h.kind) h.ops is.of_kind z i) in
       let found = start_valid h.kind (calls_of h.ops) from at first order kinds s v in

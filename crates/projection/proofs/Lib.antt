@@ -1,6 +1,8 @@
 pub mod Simulation
 pub mod Contents
-pub mod Settling
+pub mod Conserved
+pub mod Fitting
+pub mod Exchanged
 pub mod Closed
 pub mod Prefixes
 pub mod Freshness
@@ -14,4 +16,6 @@ pub mod Later
 pub mod Naming
 pub mod Bounds
 pub mod Mapped
+pub mod Recasts
 pub mod Shadows
+pub mod Keyed

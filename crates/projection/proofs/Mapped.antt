@@ -8,7 +8,7 @@ use Rattle.model.specs.Orders.{Call, Return, ReturnsBefore, RepliesAlong, IsVali
 use Rattle.model.proofs.Lists.{In, Pairs, in_from_contains, contains_from_in, all_from_in, all_at, all_from_pairs, pairs_from_all, pairs_map, pairs_from_map}
 use Rattle.projection.proofs.Simulation.{pick, in_pick, pairs_pick}
 use Rattle.projection.proofs.Sequences.{in_filter_map, in_filter_map_from, pairs_filter_map}
-use Rattle.projection.proofs.Overlaps.{IsCutOf, in_time_cut}
+use Rattle.projection.proofs.Overlaps.{IsTimed, in_time}
 
 -- The step in the part, where the whole comes to `after`: a call that is left out, or is pending, may be none.
 abbrev pub StepOf : (Content → Content → Type 0) → Option Call → Content → Content → Type 0
@@ -16,7 +16,7 @@ StepOf R None d after = R after d
 StepOf R (Some f) d after = ((f.returned ≡ None) × R after d) ⊎ ((behind : Content) × (reply : AnyReply) × (next d f.op ≡ Some (behind, reply)) × IfSome f.returned (λ r. r.reply ≡ reply) × R after behind)
 
 pub record Maps (R : Content → Content → Type 0) (cut : Call → Option Call) : Type 0 where
-  pub own : (y x : Call) → cut y ≡ Some x → IsCutOf x y
+  pub own : (y x : Call) → cut y ≡ Some x → IsTimed x y
   pub step : (e : Call) (c d after : Content) (reply : AnyReply) → R c d → next c e.op ≡ Some (after, reply) → IfSome e.returned (λ r. r.reply ≡ reply) → StepOf R (cut e) d after
 
 record Picked (d : Content) (xs : List Call) : Type 0 where
@@ -53,16 +53,16 @@ picked R cut m (e ∷ es) c d r h = go (λ b s. picked R cut m es h.0 b s h.4) (
           }
     ]
 
--- what becomes of the calls has a valid order where they have one
-pub mapped_valid : (R : Content → Content → Type 0) (cut : Call → Option Call) (calls : List Call) (kind : Kind) → Maps R cut → R (empty kind) (empty kind) → (order : List ℤ) → IsValidOrder kind calls order → (part : List ℤ) × IsValidOrder kind (filter_map cut calls) part
-mapped_valid R cut calls kind m start order v =
+-- what becomes of the calls has a valid order where they have one, maybe as calls of another kind
+pub mapped_valid : (R : Content → Content → Type 0) (cut : Call → Option Call) (calls : List Call) (kind into : Kind) → Maps R cut → R (empty kind) (empty into) → (order : List ℤ) → IsValidOrder kind calls order → (part : List ℤ) × IsValidOrder into (filter_map cut calls) part
+mapped_valid R cut calls kind into m start order v =
     let number : Call → ℤ = λ e. pos e.number in
     let known : (e : Call) → In e v.entries → In e calls = λ e i. in_from_contains calls e (all_at (Contains calls) v.entries v.known e i) in
-    let p = picked R cut m v.entries (empty kind) (empty kind) start v.replies in
+    let p = picked R cut m v.entries (empty kind) (empty into) start v.replies in
     let all : List Call = filter_map cut v.entries in
     let entries : List Call = pick p.flags all in
     let apart = pairs_from_map (λ x y. x ≢ y) number v.entries (subst (Pairs (λ x y. x ≢ y)) v.numbers (pairs_from_all (λ x y. x ≢ y) order v.once)) in
-    let in_time = pairs_from_all (λ x y. ReturnsBefore y x → ⊥) v.entries v.in_order in (
+    let in_order = pairs_from_all (λ x y. ReturnsBefore y x → ⊥) v.entries v.in_order in (
       map number entries,
       record {
         entries = entries;
@@ -75,7 +75,7 @@ mapped_valid R cut calls kind m start order v =
             let y = in_filter_map cut x calls i in
             let here = in_from_contains v.entries y.0 (all_at (λ e. IsSome e.returned → Contains v.entries e) calls v.whole y.0 y.1 (was x.returned y.0.returned (m.own y.0 x y.2).returned so)) in
             contains_from_in entries x (p.whole x (in_filter_map_from cut y.0 x v.entries here y.2) so));
-        in_order = all_from_pairs (λ x y. ReturnsBefore y x → ⊥) entries (pairs_pick (λ x y. ReturnsBefore y x → ⊥) p.flags all (pairs_filter_map (λ x y. ReturnsBefore y x → ⊥) (λ x y. ReturnsBefore y x → ⊥) cut v.entries (λ x y a b i j h f g. in_time_cut a b x y (m.own x a f) (m.own y b g) h) in_time));
+        in_order = all_from_pairs (λ x y. ReturnsBefore y x → ⊥) entries (pairs_pick (λ x y. ReturnsBefore y x → ⊥) p.flags all (pairs_filter_map (λ x y. ReturnsBefore y x → ⊥) (λ x y. ReturnsBefore y x → ⊥) cut v.entries (λ x y a b i j h f g. in_time a b x y (m.own x a f) (m.own y b g) h) in_order));
         replies = p.replies;
       },
     )

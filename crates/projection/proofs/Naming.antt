@@ -3,12 +3,13 @@ use Rattle.std.proofs.Common.{◌≡◌, suc, ℕ, ◌<◌, ◌+◌, List, ◌�
 use Rattle.std.proofs.Math.Seq.{drop-cons, drop-length}
 use Rattle.std.specs.declared.alloc.AllocError.{AllocError}
 use Rattle.std.specs.Prelude.{Result, Ok, Err, Option, Some, None, IfOk, IfSome}
+use Rattle.model.specs.declared.Kind.{Kind}
 use Rattle.model.specs.Orders.{Call}
 use Rattle.events.specs.Operations.{ObjectCalls, calls_of}
 use Rattle.model.proofs.Lists.{Pairs}
 use Rattle.projection.specs.declared.cutting.Cut.{Cut}
 use Rattle.projection.specs.declared.cutting.Cut.TheVariants.{From}
-use Rattle.projection.specs.Cuts.{IsSuffix, Names, NamesPart}
+use Rattle.projection.specs.Cuts.{IsSuffix, Names, NamesPart, kind_cut, part_kind}
 use Rattle.projection.proofs.Later.{one_suffix}
 
 -- a suffix that was cut out is the one that the cut names
@@ -44,3 +45,13 @@ none_left cuts i d whole now lt h none part k = let r = subst (λ (cs : List Cut
 
 pub all_cut : (cuts : List Cut) (whole now : List Call) → IsCutSoFar cuts (length cuts) whole now → NamesPart cuts whole now
 all_cut cuts whole now h = h.names now (subst (λ (cs : List Cut). NamesPart cs now now) (sym (drop-length cuts)) refl)
+
+-- the cuts leave the same kind as those of them that are left leave of what the others cut
+abbrev pub IsKindSoFar : List Cut → ℕ → Kind → Kind → Type 0
+IsKindSoFar cuts i whole now = part_kind cuts whole ≡ part_kind (drop i cuts) now
+
+pub kind_further : (cuts : List Cut) (i : ℕ) (d : Cut) (whole now next : Kind) → i < length cuts → IsKindSoFar cuts i whole now → next ≡ kind_cut (get_or cuts i d) now → IsKindSoFar cuts (i + 1) whole next
+kind_further cuts i d whole now next lt h e = h ∙ ap (λ (cs : List Cut). part_kind cs now) (left cuts i d lt) ∙ ap (part_kind (drop (i + 1) cuts)) (sym e)
+
+pub kind_cut_all : (cuts : List Cut) (whole now : Kind) → IsKindSoFar cuts (length cuts) whole now → now ≡ part_kind cuts whole
+kind_cut_all cuts whole now h = sym (h ∙ ap (λ (cs : List Cut). part_kind cs now) (drop-length cuts))

@@ -86,6 +86,11 @@ later_replies first at (e ∷ es) c h =
 
 -- ---- what becomes of one call
 
+-- the first is invoked and returns where the second does, if it returns
+pub record IsTimed (x y : Call) : Type 0 where
+  pub number : x.number ≡ y.number
+  pub returned : (t : Return) → x.returned ≡ Some t → (u : Return) × (y.returned ≡ Some u) × (u.at ≡ t.at)
+
 pub record IsCutOf (x y : Call) : Type 0 where
   pub number : x.number ≡ y.number
   pub key : key_of x.op ≡ key_of y.op
@@ -113,13 +118,16 @@ cut_of first at y = whole (nat_lt at y.number)
     whole true = record { number = refl; key = refl; returned = λ t e. (t, e, refl) }
     whole false = returned y.returned refl
 
-pub in_time_cut : (x z y w : Call) → IsCutOf x y → IsCutOf z w → (ReturnsBefore w y → ⊥) → ReturnsBefore z x → ⊥
-in_time_cut x z y w a b h r =
+pub in_time : (x z y w : Call) → IsTimed x y → IsTimed z w → (ReturnsBefore w y → ⊥) → ReturnsBefore z x → ⊥
+in_time x z y w a b h r =
     let u = b.returned r.0 r.1 in
     h (u.0, u.1, less u.0.at r.0.at x.number y.number u.2 a.number r.2)
   where
     less : (p q m n : ℕ) → p ≡ q → m ≡ n → q < m → p < n
     less p q m n e f l = omega arith
+
+pub in_time_cut : (x z y w : Call) → IsCutOf x y → IsCutOf z w → (ReturnsBefore w y → ⊥) → ReturnsBefore z x → ⊥
+in_time_cut x z y w a b h r = in_time x z y w (record { number = a.number; returned = a.returned }) (record { number = b.number; returned = b.returned }) h r
 
 -- ---- writes that may stand before the first call
 

@@ -44,10 +44,16 @@ pub record IsPiece (o p : Invocation) : Type 0 where
   pub kind : kind_of p.op ≡ kind_of o.op
   pub returned : (at : ℕ) (reply : AnyReply) → p.«end» ≡ Returned at reply → (own : AnyReply) × (o.«end» ≡ Returned at own)
 
-pub pieces_history : (object : ℕ) (kind : Kind) (ops : List Invocation) (piece : Invocation → Option Invocation) → ((o p : Invocation) → In o ops → piece o ≡ Some p → IsPiece o p) → IsObjectHistory (record { object = object; kind = kind; ops = ops }) → IsObjectHistory (record { object = object; kind = kind; ops = filter_map piece ops })
-pieces_history object kind ops piece is h = record {
+-- the same, with the kind of its operation
+pub record IsPieceOf (into : Kind) (o p : Invocation) : Type 0 where
+  pub number : p.number ≡ o.number
+  pub kind : kind_of p.op ≡ into
+  pub returned : (at : ℕ) (reply : AnyReply) → p.«end» ≡ Returned at reply → (own : AnyReply) × (o.«end» ≡ Returned at own)
+
+pub pieces_into : (object : ℕ) (kind into : Kind) (ops : List Invocation) (piece : Invocation → Option Invocation) → ((o p : Invocation) → In o ops → piece o ≡ Some p → IsPieceOf into o p) → IsObjectHistory (record { object = object; kind = kind; ops = ops }) → IsObjectHistory (record { object = object; kind = into; ops = filter_map piece ops })
+pieces_into object kind into ops piece is h = record {
   rising = all_from_pairs (λ a b. a.number < b.number) (filter_map piece ops) (pairs_filter_map (λ a b. a.number < b.number) (λ a b. a.number < b.number) piece ops (λ x y a b i j l e f. less x.number y.number a.number b.number l (is x a i e).number (is y b j f).number) (pairs_from_all (λ a b. a.number < b.number) ops h.rising));
-  of_kind = all_from_in (λ o. kind_of o.op ≡ kind) (filter_map piece ops) (λ p i. let o = in_filter_map piece p ops i in (is o.0 p o.1 o.2).kind ∙ all_at (λ o. kind_of o.op ≡ kind) ops h.of_kind o.0 o.1);
+  of_kind = all_from_in (λ o. kind_of o.op ≡ into) (filter_map piece ops) (λ p i. let o = in_filter_map piece p ops i in (is o.0 p o.1 o.2).kind);
   ends = all_from_in (λ o. EndsAfter o.number (filter_map piece ops) o.«end») (filter_map piece ops) (λ p i.
       let o = in_filter_map piece p ops i in
       let own = is o.0 p o.1 o.2 in
@@ -64,6 +70,12 @@ pieces_history object kind ops piece is h = record {
     go number (Returned at reply) f = f at reply refl
     go number Pending f = tt
     go number Failed f = tt
+
+pub pieces_history : (object : ℕ) (kind : Kind) (ops : List Invocation) (piece : Invocation → Option Invocation) → ((o p : Invocation) → In o ops → piece o ≡ Some p → IsPiece o p) → IsObjectHistory (record { object = object; kind = kind; ops = ops }) → IsObjectHistory (record { object = object; kind = kind; ops = filter_map piece ops })
+pieces_history object kind ops piece is h =
+    pieces_into object kind kind ops piece (λ o p i e.
+    let q = is o p i e in
+    record { number = q.number; kind = q.kind ∙ all_at (λ o. kind_of o.op ≡ kind) ops h.of_kind o i; returned = q.returned }) h
 
 pub pieces_calls : (piece : Invocation → Option Invocation) (part : Call → Option Call) (ops : List Invocation) → ((o : Invocation) → bind (piece o) call_of ≡ bind (call_of o) part) → calls_of (filter_map piece ops) ≡ filter_map part (calls_of ops)
 pieces_calls piece part [] f = refl
@@ -112,7 +124,7 @@ same_history e f g = λ i. record { object = e i; kind = f i; ops = g i }
 
 -- a part of a part is a part
 pub part_of_part : (a b c : ObjectCalls) → IsPart a b → IsPart b c → IsPart a c
-part_of_part a b c h k = record { object = k.object ∙ h.object; kind = k.kind ∙ h.kind; shows = λ none. h.shows (k.shows none) }
+part_of_part a b c h k = record { object = k.object ∙ h.object; shows = λ none. h.shows (k.shows none) }
 
 pub own_part : (a : ObjectCalls) → IsPart a a
-own_part a = record { object = refl; kind = refl; shows = λ none. none }
+own_part a = record { object = refl; shows = λ none. none }

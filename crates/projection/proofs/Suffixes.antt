@@ -18,13 +18,10 @@ use Rattle.model.proofs.Lists.{In, Pairs, in_append, in_left, in_right, in_split
 use Rattle.projection.specs.Parts.{reply_of, key_of, leaves, IsStart, ended_before, call_later, returned_call, call_from, calls_from}
 use Rattle.projection.proofs.Simulation.{pick, in_pick, pairs_pick, Replied, Choice, choose}
 use Rattle.projection.proofs.Contents.{IsShadow}
-use Rattle.projection.proofs.Closed.{MayStep, may_step, closed_simulates}
+use Rattle.projection.proofs.Fitting.{MayStep, all_step, closed_simulates}
 use Rattle.projection.proofs.Freshness.{on_key, is_free, free_keeps, all_fit, Begins, tells}
 use Rattle.projection.proofs.Sequences.{in_filter_map, in_filter_map_from, pairs_at, pairs_filter_map}
 use Rattle.projection.proofs.Overlaps.{later_replies, IsCutOf, cut_of, in_time_cut, front_call, IsFront, front_facts, late_facts, first_write, IsWrite, front_replies}
-
-unlike : false ≡ true → ⊥
-unlike e = absurd (cc e)
 
 lt_true : (a b : ℕ) → nat_lt a b ≡ true → a < b
 lt_true a b e = grind (arith, nat_tests)
@@ -135,11 +132,11 @@ record Chosen (kind : Kind) (from at : ℕ) (first : Option (AnyOp × AnyReply))
 chosen : (kind : Kind) (key : Option ℤ) (from at : ℕ) (first : Option (AnyOp × AnyReply)) (front es : List Call) (after : Content) → ((x : Call) → In x es → key_of x.op ≡ key) → ((x : Call) → In x front → (first ≢ None) × IsWrite x × (kind ≡ Register)) → ((p : AnyOp × AnyReply) → first ≡ Some p → kind ≡ Register → (v : ℤ) × (p ≡ (Write v, Value (Some v)))) → Begins (on_key key) kind first after → RepliesAlong after es → Chosen kind from at first front es
 chosen kind key from at first front es after on writes reg begins h = go first refl begins
   where
-    may : Replied (MayStep (is_free key) false (on_key key) (λ n. true)) after es
-    may = may_step (is_free key) false (on_key key) (λ n. true) es after (λ e i. all_fit e.op key (reply_of e.returned) (on e i)) (λ y. absurd (unlike y)) h
+    may : Replied (MayStep (is_free key) (on_key key) (λ n. true)) after es
+    may = all_step (is_free key) (on_key key) es after (λ e i. all_fit e.op key (reply_of e.returned) (on e i)) h
 
     choice : (d : Content) → IsShadow (on_key key) after d → Choice (λ n. true) d es
-    choice d s = choose (IsShadow (on_key key)) (λ n. true) (MayStep (is_free key) false (on_key key) (λ n. true)) (closed_simulates (is_free key) false (on_key key) (λ n. true) (free_keeps key)) es after d s may
+    choice d s = choose (IsShadow (on_key key)) (λ n. true) (MayStep (is_free key) (on_key key) (λ n. true)) (closed_simulates (is_free key) (on_key key) (λ n. true) (free_keeps key)) es after d s may
 
     go : (f : Option (AnyOp × AnyReply)) → first ≡ f → Begins (on_key key) kind f after → Chosen kind from at f front es
     go None e b = let m = choice (empty kind) b in record { flags = m.flags; entries = pick m.flags es; joined = joined_none kind from at front (pick m.flags es) (λ x i. (writes x i).0 e) m.replies; whole = λ x i so. m.whole x i refl so }

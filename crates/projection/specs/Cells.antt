@@ -1,14 +1,14 @@
 -- A register of which the part keeps some values. All others are one other value, so that a call
 -- that shows another value can stay as a write of it.
 use Rattle.std.specs.Prelude.{ℕ, ℤ, Bool, true, false, List, if◌then◌else◌}
-use Rattle.std.specs.Prelude.{Option, Some, None, option_map}
+use Rattle.std.specs.Prelude.{Option, Some, None}
 use Rattle.std.specs.List.{filter_map}
 use Rattle.model.specs.declared.AnyOp.{AnyOp}
 use Rattle.model.specs.declared.AnyOp.TheVariants.{Write, Read, Cas}
 use Rattle.model.specs.declared.AnyReply.{AnyReply}
 use Rattle.model.specs.declared.AnyReply.TheVariants.{Value, Swapped}
-use Rattle.model.specs.Orders.{Call, Return}
-use Rattle.projection.specs.Parts.{pending_call, returned_call}
+use Rattle.model.specs.Orders.{Call}
+use Rattle.projection.specs.Recasts.{recast}
 
 abbrev pub write_of : ℤ → AnyOp × AnyReply
 write_of v = (Write v, Value (Some v))
@@ -41,14 +41,9 @@ cell_open keeps (Cas a b) =
     if keeps b then (if keeps a then Some (Cas a b) else Some (Write b)) else None
 cell_open keeps op = None
 
-abbrev pub cell_with : (ℤ → Bool) → ℤ → Bool → ℕ → AnyOp → Option Return → Option Call
-cell_with keeps other kept number op None =
-    option_map (pending_call number) (cell_open keeps op)
-cell_with keeps other kept number op (Some r) =
-    option_map (returned_call number r.at) (cell_done keeps other kept op r.reply)
-
 abbrev pub cell_call : (ℤ → Bool) → ℤ → (ℕ → Bool) → Call → Option Call
-cell_call keeps other kept e = cell_with keeps other (kept e.number) e.number e.op e.returned
+cell_call keeps other kept e = recast (cell_done keeps other (kept e.number)) (cell_open keeps)
+    e.number e.op e.returned
 
 abbrev pub cell_calls : (ℤ → Bool) → ℤ → (ℕ → Bool) → List Call → List Call
 cell_calls keeps other kept calls = filter_map (cell_call keeps other kept) calls

@@ -2,23 +2,26 @@
 use Rattle.std.specs.Prelude.{◌≡◌, ℕ, ℤ, Bool, true, false, List, [], ◌∷◌, Option}
 use Rattle.std.specs.Ordering.{nat_cmp, int_cmp}
 use Rattle.std.specs.BTreeSet.{BTreeSet, contains}
+use Rattle.model.specs.declared.Kind.{Kind}
+use Rattle.model.specs.declared.Kind.TheVariants.{Register}
 use Rattle.model.specs.declared.AnyOp.{AnyOp}
 use Rattle.model.specs.declared.AnyReply.{AnyReply}
 use Rattle.model.specs.Orders.{Call}
 use Rattle.events.specs.Operations.{ObjectCalls, calls_of}
 use Rattle.order_search.specs.Outcomes.{IsNoneValid}
 use Rattle.projection.specs.Cells.{cell_calls}
+use Rattle.projection.specs.Entries.{entry_calls}
 use Rattle.projection.specs.Parts.{IsClosed, kept_calls, calls_before, IsStart, calls_from}
 use Rattle.projection.specs.declared.keeping.Values.{Values}
 use Rattle.projection.specs.declared.keeping.Values.TheVariants.{All, Only}
 use Rattle.projection.specs.declared.cutting.Cut.{Cut}
 use Rattle.projection.specs.declared.cutting.Cut.TheVariants.{From, Until, Keep, Cell}
+use Rattle.projection.specs.declared.cutting.Cut.TheVariants.{Entry}
 
--- A part is of the same object and kind. If no order of its calls is valid, then none of the
--- whole's is.
+-- A part is of the same object, maybe as an object of another kind. If no order of its calls is
+-- valid for its kind, then none of the whole's is for the whole's.
 pub record IsPart (whole part : ObjectCalls) : Type 0 where
   pub object : part.object ≡ whole.object
-  pub kind : part.kind ≡ whole.kind
   pub shows : IsNoneValid part.kind (calls_of part.ops)
       → IsNoneValid whole.kind (calls_of whole.ops)
 
@@ -35,8 +38,8 @@ keeps_number numbers n = contains nat_cmp numbers n
 
 -- these values, or keys, and the calls with these numbers make a closed part
 abbrev pub IsClosedPart : Values → BTreeSet ℕ → List Call → Type 0
-IsClosedPart values numbers calls = (settled : Bool)
-    × IsClosed (keeps_all values) settled (keeps_value values) (keeps_number numbers) calls
+IsClosedPart values numbers calls =
+    IsClosed (keeps_all values) (keeps_value values) (keeps_number numbers) calls
 
 -- the calls of the suffix that begins with the call of this number
 pub record IsSuffix (from : ℕ) (calls part : List Call) : Type 0 where
@@ -53,9 +56,24 @@ Names (Keep values numbers) calls part =
     IsClosedPart values numbers calls × (part ≡ kept_calls (keeps_number numbers) calls)
 Names (Cell values other numbers) calls part =
     part ≡ cell_calls (keeps_value values) other (keeps_number numbers) calls
+Names (Entry key values other numbers) calls part =
+    part ≡ entry_calls key (keeps_value values) other (keeps_number numbers) calls
 
 -- the calls of the part that the cuts name, one after another
 abbrev pub NamesPart : List Cut → List Call → List Call → Type 0
 NamesPart [] calls part = part ≡ calls
 NamesPart (cut ∷ cuts) calls part =
     (next : List Call) × Names cut calls next × NamesPart cuts next part
+
+-- the kind of the part that a cut of an object of this kind names
+abbrev pub kind_cut : Cut → Kind → Kind
+kind_cut (From number) kind = kind
+kind_cut (Until number) kind = kind
+kind_cut (Keep values numbers) kind = kind
+kind_cut (Cell values other numbers) kind = kind
+kind_cut (Entry key values other numbers) kind = Register
+
+-- the same, of cuts one after another
+abbrev pub part_kind : List Cut → Kind → Kind
+part_kind [] kind = kind
+part_kind (cut ∷ cuts) kind = part_kind cuts (kind_cut cut kind)

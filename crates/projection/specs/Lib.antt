@@ -1,5 +1,7 @@
 pub mod Parts
+pub mod Recasts
 pub mod Cells
+pub mod Entries
 pub mod Cuts
 pub mod Counts
 pub mod Pieces

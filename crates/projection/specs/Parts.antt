@@ -1,7 +1,7 @@
 -- Parts of the calls of an object. Where the calls have a valid order, the part has one.
-use Rattle.std.specs.Prelude.{◌≡◌, ◌==◌, ◌≤◌, ℕ, ℤ, nat_lt, Bool, true, false, not, ◌||◌, ◌&&◌}
+use Rattle.std.specs.Prelude.{◌≡◌, ◌==◌, ◌≤◌, ◌+◌, ℕ, ℤ, nat_lt, Bool, true, false, not, ◌||◌, ◌&&◌}
 use Rattle.std.specs.Prelude.{List, All, Contains, map, filter, count_by, if◌then◌else◌}
-use Rattle.std.specs.Prelude.{Option, Some, None, option_map}
+use Rattle.std.specs.Prelude.{Option, Some, None, is_some, option_map}
 use Rattle.std.specs.Option.{option_map_or}
 use Rattle.std.specs.List.{filter_map}
 use Rattle.model.specs.declared.AnyOp.{AnyOp}
@@ -25,15 +25,14 @@ abbrev pub reply_of : Option Return → Option AnyReply
 reply_of None = None
 reply_of (Some r) = Some r.reply
 
--- A taking is kept exactly where the value that it took is kept. A pending one may have taken any
--- value. It is kept, except where the part is settled: no kept value is left for it. One that found
--- nothing is kept or left out.
-abbrev pub fits_taking : Bool → (ℤ → Bool) → Bool → Option AnyReply → Bool
-fits_taking settled keeps kept None = kept || settled
-fits_taking settled keeps kept (Some (Value (Some v))) = is_same kept (keeps v)
-fits_taking settled keeps kept (Some (Value None)) = true
-fits_taking settled keeps kept (Some (Swapped a b)) = true
-fits_taking settled keeps kept (Some NotSwapped) = true
+-- A taking is kept exactly where the value that it took is kept. One that found nothing is kept or
+-- left out. When a pending one may be left out is said of all of them (`IsClosed`).
+abbrev pub fits_taking : (ℤ → Bool) → Bool → Option AnyReply → Bool
+fits_taking keeps kept None = true
+fits_taking keeps kept (Some (Value (Some v))) = is_same kept (keeps v)
+fits_taking keeps kept (Some (Value None)) = true
+fits_taking keeps kept (Some (Swapped a b)) = true
+fits_taking keeps kept (Some NotSwapped) = true
 
 -- A read is kept only where its value is kept. A pending one, or one that found nothing, is kept or
 -- left out.
@@ -62,23 +61,22 @@ fits_del keeps kept k (Some (Swapped c d)) = true
 fits_del keeps kept k (Some NotSwapped) = true
 
 -- Whether a part that keeps these values, or keys, may keep an operation with this reply (`kept`),
--- or leave it out. `all` says that all values are kept, and `settled` that no kept value is left
--- for a pending taking.
-abbrev pub fits : Bool → Bool → (ℤ → Bool) → Bool → AnyOp → Option AnyReply → Bool
-fits all settled keeps kept (Enqueue v) reply = is_same kept (keeps v)
-fits all settled keeps kept Dequeue reply = fits_taking settled keeps kept reply
-fits all settled keeps kept (Push v) reply = is_same kept (keeps v)
-fits all settled keeps kept Pop reply = fits_taking settled keeps kept reply
-fits all settled keeps kept (Insert v) reply = is_same kept (keeps v)
-fits all settled keeps kept ExtractMin reply = fits_taking settled keeps kept reply
-fits all settled keeps kept (Write v) reply = kept || not (keeps v)
-fits all settled keeps kept Read reply = fits_read keeps kept reply
-fits all settled keeps kept (Cas a b) reply = fits_cas all keeps kept a b reply
-fits all settled keeps kept (Put k v) reply = is_same kept (keeps k)
-fits all settled keeps kept (Get k) reply = only_where kept (keeps k)
-fits all settled keeps kept (Del k) reply = fits_del keeps kept k reply
-fits all settled keeps kept Acquire reply = kept
-fits all settled keeps kept Release reply = kept
+-- or leave it out. `all` says that all values are kept.
+abbrev pub fits : Bool → (ℤ → Bool) → Bool → AnyOp → Option AnyReply → Bool
+fits all keeps kept (Enqueue v) reply = is_same kept (keeps v)
+fits all keeps kept Dequeue reply = fits_taking keeps kept reply
+fits all keeps kept (Push v) reply = is_same kept (keeps v)
+fits all keeps kept Pop reply = fits_taking keeps kept reply
+fits all keeps kept (Insert v) reply = is_same kept (keeps v)
+fits all keeps kept ExtractMin reply = fits_taking keeps kept reply
+fits all keeps kept (Write v) reply = kept || not (keeps v)
+fits all keeps kept Read reply = fits_read keeps kept reply
+fits all keeps kept (Cas a b) reply = fits_cas all keeps kept a b reply
+fits all keeps kept (Put k v) reply = is_same kept (keeps k)
+fits all keeps kept (Get k) reply = only_where kept (keeps k)
+fits all keeps kept (Del k) reply = fits_del keeps kept k reply
+fits all keeps kept Acquire reply = kept
+fits all keeps kept Release reply = kept
 
 -- whether an operation puts in a kept value
 abbrev pub puts_in : (ℤ → Bool) → AnyOp → Bool
@@ -109,14 +107,24 @@ put_count keeps calls = count_by (λ e. puts_in keeps e.op) calls
 abbrev pub taken_count : (ℤ → Bool) → List Call → ℕ
 taken_count keeps calls = count_by (λ e. takes_out keeps e.op (reply_of e.returned)) calls
 
+abbrev pub is_pending_taking : AnyOp → Option Return → Bool
+is_pending_taking op returned = is_taking op && not (is_some returned)
+
+-- how many pending takings were invoked before this number
+abbrev pub pending_before : ℕ → List Call → ℕ
+pending_before number calls =
+    count_by (λ e. is_pending_taking e.op e.returned && nat_lt e.number number) calls
+
 -- The part that keeps these values, and the calls with these numbers, is closed.
-pub record IsClosed (all settled : Bool) (keeps : ℤ → Bool) (kept : ℕ → Bool)
+pub record IsClosed (all : Bool) (keeps : ℤ → Bool) (kept : ℕ → Bool)
     (calls : List Call) : Type 0 where
   pub every : all ≡ true → (v : ℤ) → keeps v ≡ true
-  -- as many kept values were taken out as can have been put in
-  pub settles : settled ≡ true → put_count keeps calls ≤ taken_count keeps calls
-  pub each : All (λ e. fits all settled keeps (kept e.number) e.op (reply_of e.returned) ≡ true)
-      calls
+  pub each : All (λ e. fits all keeps (kept e.number) e.op (reply_of e.returned) ≡ true) calls
+  -- A pending taking may have taken any value. It is left out only where as many kept values were
+  -- taken out, or can be by the pending takings that were invoked before it, as can have been put
+  -- in.
+  pub pending : All (λ e. is_pending_taking e.op e.returned ≡ true → kept e.number ≡ false
+      → put_count keeps calls ≤ taken_count keeps calls + pending_before e.number calls) calls
 
 abbrev pub kept_calls : (ℕ → Bool) → List Call → List Call
 kept_calls kept calls = filter (λ e. kept e.number) calls

@@ -1,6 +1,6 @@
 -- What becomes of one operation of an object, failed ones too. The code works on these.
 use Rattle.std.specs.Prelude.{◌≡◌, ◌==◌, ◌⊎◌, ℕ, ℤ, nat_lt, Bool, true, false, not, ◌&&◌}
-use Rattle.std.specs.Prelude.{if◌then◌else◌}
+use Rattle.std.specs.Prelude.{List, [], ◌∷◌, ◌-◌, ◌||◌, if◌then◌else◌}
 use Rattle.std.specs.Prelude.{Option, Some, None, option_map}
 use Rattle.std.specs.Option.{option_map_or}
 use Rattle.model.specs.declared.AnyOp.{AnyOp}
@@ -13,7 +13,8 @@ use Rattle.events.specs.declared.operations.Invocation.{Invocation}
 use Rattle.projection.specs.declared.counting.Counted.{Counted}
 use Rattle.projection.specs.Counts.{sets, takes}
 use Rattle.projection.specs.Cells.{cell_done, cell_open}
-use Rattle.projection.specs.Parts.{fits, puts_in, takes_out, key_of, written_before}
+use Rattle.projection.specs.Entries.{entry_done, entry_open}
+use Rattle.projection.specs.Parts.{fits, puts_in, is_taking, takes_out, key_of, written_before}
 
 abbrev pub has_failed : End → Bool
 has_failed (Returned at reply) = false
@@ -23,10 +24,23 @@ has_failed Failed = true
 -- ---- projection
 
 -- whether an operation may be kept, or left out; a failed one may be either
-abbrev pub fits_end : Bool → Bool → (ℤ → Bool) → Bool → AnyOp → End → Bool
-fits_end all settled keeps kept op (Returned at reply) = fits all settled keeps kept op (Some reply)
-fits_end all settled keeps kept op Pending = fits all settled keeps kept op None
-fits_end all settled keeps kept op Failed = true
+abbrev pub fits_end : Bool → (ℤ → Bool) → Bool → AnyOp → End → Bool
+fits_end all keeps kept op (Returned at reply) = fits all keeps kept op (Some reply)
+fits_end all keeps kept op Pending = fits all keeps kept op None
+fits_end all keeps kept op Failed = true
+
+abbrev pub is_open_taking : AnyOp → End → Bool
+is_open_taking op (Returned at reply) = false
+is_open_taking op Pending = is_taking op
+is_open_taking op Failed = false
+
+-- whether the first pending takings, this many, are kept
+abbrev pub keeps_first : (ℕ → Bool) → ℕ → List Invocation → Bool
+keeps_first kept most [] = true
+keeps_first kept most (o ∷ ops) =
+    if is_open_taking o.op o.«end»
+    then (most == 0 || kept o.number) && keeps_first kept (most - 1) ops
+    else keeps_first kept most ops
 
 -- whether an operation that did not fail puts in a kept value
 abbrev pub is_put : (ℤ → Bool) → AnyOp → End → Bool
@@ -108,14 +122,19 @@ is_gone what from number op (Returned at reply) =
 is_gone what from number op Pending = false
 is_gone what from number op Failed = false
 
--- ---- cells
+-- ---- cells, and entries of a map
 
-abbrev pub cell_end : (ℤ → Bool) → ℤ → Bool → ℕ → AnyOp → End → Option Invocation
-cell_end keeps other kept number op (Returned at reply) =
-    option_map (returned_piece number at) (cell_done keeps other kept op reply)
-cell_end keeps other kept number op Pending =
-    option_map (pending_piece number) (cell_open keeps op)
-cell_end keeps other kept number op Failed = None
+abbrev pub recast_end : (AnyOp → AnyReply → Option (AnyOp × AnyReply)) → (AnyOp → Option AnyOp)
+    → ℕ → AnyOp → End → Option Invocation
+recast_end done pending number op (Returned at reply) =
+    option_map (returned_piece number at) (done op reply)
+recast_end done pending number op Pending = option_map (pending_piece number) (pending op)
+recast_end done pending number op Failed = None
 
 abbrev pub cell_piece : (ℤ → Bool) → ℤ → (ℕ → Bool) → Invocation → Option Invocation
-cell_piece keeps other kept o = cell_end keeps other (kept o.number) o.number o.op o.«end»
+cell_piece keeps other kept o = recast_end (cell_done keeps other (kept o.number))
+    (cell_open keeps) o.number o.op o.«end»
+
+abbrev pub entry_piece : ℤ → (ℤ → Bool) → ℤ → (ℕ → Bool) → Invocation → Option Invocation
+entry_piece key keeps other kept o = recast_end (entry_done key keeps other (kept o.number))
+    (entry_open key keeps) o.number o.op o.«end»

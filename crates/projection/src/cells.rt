@@ -5,7 +5,7 @@ ghost use Rattle.std.specs.List.{filter_map};
 ghost use Rattle.events.specs.Operations.{calls_of};
 ghost use Rattle.projection.specs.Cells as spec;
 ghost use Rattle.projection.specs.Cuts.{keeps_value, keeps_number, IsPart};
-ghost use Rattle.projection.specs.Pieces.{cell_end, cell_piece};
+ghost use Rattle.projection.specs.Pieces.{recast_end, cell_piece};
 
 use crate::keeping::Values;
 use events::{End, Invocation, ObjectHistory};
@@ -14,14 +14,14 @@ use std::alloc::{AllocError, Global};
 use std::collections::BTreeSet;
 
 /// A write, with its reply.
-fn write_of(value: i64) -> (AnyOp, AnyReply)
+pub(crate) fn write_of(value: i64) -> (AnyOp, AnyReply)
     ensures { result ≡ spec.write_of value }
 {
     (AnyOp::Write(value), AnyReply::Value(Some(value)))
 }
 
 /// What a swap becomes, where these are kept: its new value, its expected value, and the operation.
-fn swap_done(
+pub(crate) fn swap_done(
     keeps: (bool, bool, bool),
     other: i64,
     expected: i64,
@@ -91,8 +91,9 @@ fn pending_op(values: &Values, op: AnyOp) -> Option<AnyOp>
 
 /// What an operation becomes; `None`: it is left out.
 fn piece(values: &Values, other: i64, kept: bool, operation: &Invocation) -> Option<Invocation>
-    ensures { result ≡ cell_end (keeps_value values.now) other kept operation.now.number
-        operation.now.op operation.now.«end» }
+    ensures { result ≡ recast_end (spec.cell_done (keeps_value values.now) other kept)
+        (spec.cell_open (keeps_value values.now)) operation.now.number operation.now.op
+        operation.now.«end» }
 {
     let number = operation.number;
     match operation.end {
@@ -147,6 +148,7 @@ pub fn cell(
     numbers: &BTreeSet<u32>,
 ) -> Result<ObjectHistory, AllocError>
     ensures part { IfOk result (λ p. IsPart history.now p) }
+    ensures kind { IfOk result (λ p. p.kind ≡ history.now.kind) }
     ensures calls { IfOk result (λ p. calls_of p.ops
         ≡ spec.cell_calls (keeps_value values.now) other (keeps_number numbers.now)
         (calls_of history.now.ops)) }

@@ -3,9 +3,10 @@
 ghost use Rattle.std.specs.Prelude.{◌≡◌, List, None, IfOk, IfSome};
 ghost use Rattle.model.specs.Orders.{Call};
 ghost use Rattle.events.specs.Operations.{calls_of};
-ghost use Rattle.projection.specs.Cuts.{IsPart, Names, NamesPart};
+ghost use Rattle.projection.specs.Cuts.{IsPart, Names, NamesPart, kind_cut, part_kind};
 
 use crate::cells::cell;
+use crate::entries::entry;
 use crate::keeping::{Values, keep};
 use crate::prefix::until;
 use crate::suffix::from;
@@ -33,6 +34,15 @@ pub enum Cut {
         other: i64,
         numbers: BTreeSet<u32>,
     },
+    /// A map's operations on one key, as a register: those that can leave one of these values, and
+    /// of the others those with these numbers, with one other value in place of no value and of all
+    /// others: see [`entry`].
+    Entry {
+        key: i64,
+        values: Values,
+        other: i64,
+        numbers: BTreeSet<u32>,
+    },
 }
 
 /// The same history once more.
@@ -50,6 +60,8 @@ fn cut_by(
     cut: &Cut,
 ) -> Result<Option<ObjectHistory>, AllocError>
     ensures part { IfOk result (λ o. IfSome o (λ p. IsPart history.now p)) }
+    ensures kind { IfOk result (λ o. IfSome o (λ p.
+        p.kind ≡ kind_cut cut.now history.now.kind)) }
     ensures named { IfOk result (λ o. IfSome o (λ p.
         Names cut.now (calls_of history.now.ops) (calls_of p.ops))) }
     ensures one { IfOk result (λ o. IfSome o (λ p. (part : List Call)
@@ -68,6 +80,12 @@ fn cut_by(
             other,
             numbers,
         } => Ok(Some(cell(alloc, history, values, *other, numbers)?)),
+        Cut::Entry {
+            key,
+            values,
+            other,
+            numbers,
+        } => Ok(Some(entry(alloc, history, *key, values, *other, numbers)?)),
     }
 }
 
@@ -82,6 +100,8 @@ pub fn part_by(
 ) -> Result<Option<ObjectHistory>, AllocError>
     // Where no order of the part is valid, none of the whole is.
     ensures part { IfOk result (λ o. IfSome o (λ p. IsPart history.now p)) }
+    ensures kind { IfOk result (λ o. IfSome o (λ p.
+        p.kind ≡ part_kind cuts.now history.now.kind)) }
     // The calls of the part are those that the cuts name.
     ensures named { IfOk result (λ o. IfSome o (λ p.
         NamesPart cuts.now (calls_of history.now.ops) (calls_of p.ops))) }

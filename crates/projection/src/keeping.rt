@@ -1,11 +1,13 @@
 //! Projections: the operations on some values, or on some keys.
 
-ghost use Rattle.std.specs.Prelude.{◌≡◌, ◌≤◌, true, IfOk, IfSome, None, filter, count_by};
+ghost use Rattle.std.specs.Prelude.{◌≡◌, ◌<◌, ◌-◌, true, IfOk, IfSome, None, AllPairs};
+ghost use Rattle.std.specs.Prelude.{filter, count_by};
 ghost use Rattle.std.specs.List.{list_all};
 ghost use Rattle.events.specs.Operations.{calls_of};
 ghost use Rattle.projection.specs.Parts.{fits, fits_taking, kept_calls};
 ghost use Rattle.projection.specs.Cuts.{keeps_all, keeps_value, keeps_number, IsClosedPart, IsPart};
-ghost use Rattle.projection.specs.Pieces.{fits_end, is_put, is_taken};
+ghost use Rattle.projection.specs.Pieces.{fits_end, is_put, is_taken, is_open_taking};
+ghost use Rattle.projection.specs.Pieces.{keeps_first};
 
 use events::{End, Invocation, ObjectHistory};
 use seq_objects::{AnyOp, AnyReply};
@@ -37,33 +39,24 @@ impl Values {
 }
 
 /// Whether a taking with this reply may be kept, or left out. No reply: it is pending.
-fn taking_fits(values: &Values, settled: bool, kept: bool, reply: Option<AnyReply>) -> bool
-    ensures { result ≡ fits_taking settled (keeps_value values.now) kept reply }
+fn taking_fits(values: &Values, kept: bool, reply: Option<AnyReply>) -> bool
+    ensures { result ≡ fits_taking (keeps_value values.now) kept reply }
 {
     match reply {
-        None => kept || settled,
         Some(AnyReply::Value(Some(value))) => kept == values.has(value),
-        Some(_) => true,
+        _ => true,
     }
 }
 
 /// Whether an operation with this reply may be kept, or left out. No reply: it is pending.
-fn reply_fits(
-    values: &Values,
-    settled: bool,
-    kept: bool,
-    op: AnyOp,
-    reply: Option<AnyReply>,
-) -> bool
-    ensures { result ≡ fits (keeps_all values.now) settled (keeps_value values.now) kept op reply }
+fn reply_fits(values: &Values, kept: bool, op: AnyOp, reply: Option<AnyReply>) -> bool
+    ensures { result ≡ fits (keeps_all values.now) (keeps_value values.now) kept op reply }
 {
     match op {
         AnyOp::Enqueue(value) => kept == values.has(value),
         AnyOp::Push(value) => kept == values.has(value),
         AnyOp::Insert(value) => kept == values.has(value),
-        AnyOp::Dequeue | AnyOp::Pop | AnyOp::ExtractMin => {
-            taking_fits(values, settled, kept, reply)
-        }
+        AnyOp::Dequeue | AnyOp::Pop | AnyOp::ExtractMin => taking_fits(values, kept, reply),
         AnyOp::Write(value) => kept || !values.has(value),
         AnyOp::Read => match reply {
             Some(AnyReply::Value(Some(value))) => !kept || values.has(value),
@@ -88,13 +81,13 @@ fn reply_fits(
 }
 
 /// Whether an operation may be kept, or left out. A failed one may be either.
-fn operation_fits(values: &Values, settled: bool, kept: bool, operation: &Invocation) -> bool
-    ensures { result ≡ fits_end (keeps_all values.now) settled (keeps_value values.now) kept
+fn operation_fits(values: &Values, kept: bool, operation: &Invocation) -> bool
+    ensures { result ≡ fits_end (keeps_all values.now) (keeps_value values.now) kept
         operation.now.op operation.now.«end» }
 {
     match operation.end {
-        End::Returned { reply, .. } => reply_fits(values, settled, kept, operation.op, Some(reply)),
-        End::Pending => reply_fits(values, settled, kept, operation.op, None),
+        End::Returned { reply, .. } => reply_fits(values, kept, operation.op, Some(reply)),
+        End::Pending => reply_fits(values, kept, operation.op, None),
         End::Failed => true,
     }
 }
@@ -130,31 +123,63 @@ fn takes(values: &Values, operation: &Invocation) -> bool
     }
 }
 
-/// Whether as many kept values were taken out as can have been put in.
-fn is_settled(values: &Values, operations: &[Invocation]) -> bool
-    ensures yes { result ≡ true
-        → count_by (λ o. is_put (keeps_value values.now) o.op o.«end») operations.now
-        ≤ count_by (λ o. is_taken (keeps_value values.now) o.op o.«end») operations.now }
-    ensures no { count_by (λ o. is_put (keeps_value values.now) o.op o.«end») operations.now
-        ≤ count_by (λ o. is_taken (keeps_value values.now) o.op o.«end») operations.now
-        → result ≡ true }
+/// How many kept values can be left for pending takings.
+fn left_over(values: &Values, operations: &[Invocation]) -> usize
+    ensures { result ≡ count_by (λ o. is_put (keeps_value values.now) o.op o.«end») operations.now
+        - count_by (λ o. is_taken (keeps_value values.now) o.op o.«end») operations.now }
 {
     let put = operations.iter().filter(|o| puts(values, o)).count();
     let taken = operations.iter().filter(|o| takes(values, o)).count();
-    put <= taken
+    put.saturating_sub(taken)
+}
+
+/// Whether the operation is a taking that is pending.
+fn is_pending_taking(operation: &Invocation) -> bool
+    ensures { result ≡ is_open_taking operation.now.op operation.now.«end» }
+{
+    match (operation.op, operation.end) {
+        (AnyOp::Dequeue | AnyOp::Pop | AnyOp::ExtractMin, End::Pending) => true,
+        _ => false,
+    }
+}
+
+/// Whether the first pending takings, this many, have these numbers.
+fn has_first(numbers: &BTreeSet<u32>, most: usize, operations: &[Invocation]) -> bool
+    ensures { result ≡ keeps_first (keeps_number numbers.now) most operations.now }
+{
+    let mut left = most;
+    for operation in operations {
+        if is_pending_taking(operation) {
+            if left > 0 && !numbers.contains(&operation.number) {
+                return false;
+            }
+            left = left.saturating_sub(1);
+        }
+    }
+    true
+}
+
+/// Whether each operation may be kept, or left out.
+fn all_fit(values: &Values, numbers: &BTreeSet<u32>, operations: &[Invocation]) -> bool
+    ensures { result ≡ list_all (λ o. fits_end (keeps_all values.now) (keeps_value values.now)
+        (keeps_number numbers.now o.number) o.op o.«end») operations.now }
+{
+    operations
+        .iter()
+        .all(|o| operation_fits(values, numbers.contains(&o.number), o))
 }
 
 /// Whether the operations with these numbers make a closed part.
-fn is_closed(
-    values: &Values,
-    numbers: &BTreeSet<u32>,
-    settled: bool,
-    operations: &[Invocation],
-) -> bool
-    ensures { result ≡ list_all (λ o. fits_end (keeps_all values.now) settled
-        (keeps_value values.now) (keeps_number numbers.now o.number) o.op o.«end») operations.now }
+fn is_closed(values: &Values, numbers: &BTreeSet<u32>, operations: &[Invocation]) -> bool
+    requires { AllPairs (λ a b. a.number < b.number) operations.now }
+    ensures yes { result ≡ true
+        → IsClosedPart values.now numbers.now (calls_of operations.now) }
+    ensures no { IsClosedPart values.now numbers.now (calls_of operations.now) → result ≡ true }
 {
-    operations.iter().all(|o| operation_fits(values, settled, numbers.contains(&o.number), o))
+    if !all_fit(values, numbers, operations) {
+        return false;
+    }
+    has_first(numbers, left_over(values, operations), operations)
 }
 
 /// The operations with these numbers.
@@ -174,7 +199,9 @@ fn pieces(
 }
 
 /// The part of the operations with these numbers, which keeps these values, or at a map these keys.
-/// `None`: the part is not closed, so a whole with a valid order can have a part that has none.
+/// Of the pending takings it has at least the first ones: as many as kept values were put in, and
+/// not taken out by calls that returned. `None`: the part is not closed, so a whole with a valid
+/// order can have a part that has none.
 ///
 /// An error: the allocator refused memory.
 pub fn keep(
@@ -184,6 +211,7 @@ pub fn keep(
     numbers: &BTreeSet<u32>,
 ) -> Result<Option<ObjectHistory>, AllocError>
     ensures part { IfOk result (λ o. IfSome o (λ p. IsPart history.now p)) }
+    ensures kind { IfOk result (λ o. IfSome o (λ p. p.kind ≡ history.now.kind)) }
     ensures closed { IfOk result (λ o. IfSome o (λ p.
         IsClosedPart values.now numbers.now (calls_of history.now.ops))) }
     ensures calls { IfOk result (λ o. IfSome o (λ p. calls_of p.ops
@@ -193,8 +221,7 @@ pub fn keep(
         → IsClosedPart values.now numbers.now (calls_of history.now.ops) → ⊥) }
 {
     let operations = history.ops();
-    let settled = is_settled(values, operations);
-    if !is_closed(values, numbers, settled, operations) {
+    if !is_closed(values, numbers, operations) {
         return Ok(None);
     }
     let ops = pieces(alloc, numbers, operations)?;

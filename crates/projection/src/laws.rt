@@ -1,5 +1,5 @@
-//! Closure under projection, prefixes, suffixes and cells, and the bound of a count: functions that
-//! do nothing, whose contracts are theorems.
+//! Closure under projection, prefixes, suffixes, cells and entries, and the bound of a count:
+//! functions that do nothing, whose contracts are theorems.
 
 ghost use Rattle.std.specs.Prelude.{◌≡◌, ◌<◌, ◌≤◌, ◌+◌, ℕ, ℤ, Bool, List, Option, Some};
 ghost use Rattle.std.specs.Prelude.{All, AllPairs};
@@ -10,16 +10,18 @@ ghost use Rattle.model.specs.Objects.{kind_of};
 ghost use Rattle.model.specs.Orders.{Call, Return, IsValidOrder};
 ghost use Rattle.projection.specs.declared.counting.Counted.{Counted};
 ghost use Rattle.projection.specs.Cells.{cell_calls};
+ghost use Rattle.projection.specs.Entries.{entry_calls};
 ghost use Rattle.projection.specs.Counts.{most_before, set_since, taken_since};
 ghost use Rattle.projection.specs.Parts.{IsClosed, kept_calls, calls_before, IsStart, calls_from};
 
 /// Closure under projection: where the calls of an object have a valid order, a closed part has
 /// one.
 pub fn projection_is_valid()
-    ensures { (kind : Kind) (calls : List Call) (all settled : Bool) (keeps : ℤ → Bool)
+    ensures { (kind : Kind) (calls : List Call) (all : Bool) (keeps : ℤ → Bool)
         (kept : ℕ → Bool) (order : List ℤ)
+        → All (λ e. kind_of e.op ≡ kind) calls
         → AllPairs (λ a b. a.number < b.number) calls
-        → IsClosed all settled keeps kept calls
+        → IsClosed all keeps kept calls
         → IsValidOrder kind calls order
         → (part : List ℤ) × IsValidOrder kind (kept_calls kept calls) part }
 {}
@@ -62,4 +64,14 @@ pub fn cell_is_valid()
         (order : List ℤ)
         → IsValidOrder kind calls order
         → (part : List ℤ) × IsValidOrder kind (cell_calls keeps other kept calls) part }
+{}
+
+/// Where the calls of an object have a valid order, those of an entry have one as calls of a
+/// register, whatever its key is, whatever it keeps and whatever its other value is.
+pub fn entry_is_valid()
+    ensures { (kind : Kind) (calls : List Call) (key : ℤ) (keeps : ℤ → Bool) (other : ℤ)
+        (kept : ℕ → Bool) (order : List ℤ)
+        → IsValidOrder kind calls order
+        → (part : List ℤ)
+        × IsValidOrder Kind.Register (entry_calls key keeps other kept calls) part }
 {}

@@ -5,6 +5,7 @@
 mod cells;
 mod counting;
 mod cutting;
+mod entries;
 mod keeping;
 mod laws;
 mod prefix;
@@ -13,9 +14,11 @@ mod suffix;
 pub use cells::cell;
 pub use counting::{Count, Counted, is_overdrawn};
 pub use cutting::{Cut, part_by};
+pub use entries::entry;
 pub use keeping::{Values, keep};
 pub use laws::{
-    cell_is_valid, count_is_bounded, prefix_is_valid, projection_is_valid, suffix_is_valid,
+    cell_is_valid, count_is_bounded, entry_is_valid, prefix_is_valid, projection_is_valid,
+    suffix_is_valid,
 };
 pub use prefix::until;
 pub use suffix::from;

@@ -58,6 +58,7 @@ pub fn until(
     until: u32,
 ) -> Result<ObjectHistory, AllocError>
     ensures part { IfOk result (λ p. IsPart history.now p) }
+    ensures kind { IfOk result (λ p. p.kind ≡ history.now.kind) }
     ensures calls { IfOk result (λ p.
         calls_of p.ops ≡ calls_before until (calls_of history.now.ops)) }
 {

@@ -253,6 +253,7 @@ pub fn from(
     number: u32,
 ) -> Result<Option<ObjectHistory>, AllocError>
     ensures part { IfOk result (λ o. IfSome o (λ p. IsPart history.now p)) }
+    ensures kind { IfOk result (λ o. IfSome o (λ p. p.kind ≡ history.now.kind)) }
     ensures calls { IfOk result (λ o. IfSome o (λ p.
         IsSuffix number (calls_of history.now.ops) (calls_of p.ops))) }
     // `None` is given only where no suffix begins at this number.

@@ -10,6 +10,24 @@ pub(crate) const PENDING_TAKING: &str = "
     {:process 0 :type :invoke :f :dequeue}
     {:process 0 :type :ok :f :dequeue :value 2}";
 
+/// Values 1 and 2 are put in, two takings are pending, and 2 is taken.
+pub(crate) const TWO_PENDING: &str = "
+    {:process 0 :type :invoke :f :enqueue :value 1}
+    {:process 0 :type :ok :f :enqueue :value 1}
+    {:process 0 :type :invoke :f :enqueue :value 2}
+    {:process 0 :type :ok :f :enqueue :value 2}
+    {:process 1 :type :invoke :f :dequeue}
+    {:process 0 :type :invoke :f :dequeue}
+    {:process 0 :type :ok :f :dequeue :value 2}
+    {:process 2 :type :invoke :f :dequeue}";
+
+/// A put and a taking are pending, and then nothing is found.
+pub(crate) const BOTH_PENDING: &str = "
+    {:process 0 :type :invoke :f :enqueue :value 1}
+    {:process 1 :type :invoke :f :dequeue}
+    {:process 2 :type :invoke :f :dequeue}
+    {:process 2 :type :ok :f :dequeue :value nil}";
+
 /// Value 1 is taken, and only a pending call put it in.
 pub(crate) const PENDING_PUT: &str = "
     {:process 0 :type :invoke :f :enqueue :value 1}
@@ -220,3 +238,41 @@ pub(crate) const HEAP: &str = "
     {:process 0 :type :ok :f :extract-min :value 2}
     {:process 0 :type :invoke :f :extract-min}
     {:process 0 :type :ok :f :extract-min :value 1}";
+
+/// Key 7 is removed, and then has no value.
+pub(crate) const GONE: &str = "
+    {:process 0 :type :invoke :f :put :value [7 1]}
+    {:process 0 :type :ok :f :put :value nil}
+    {:process 0 :type :invoke :f :del :value 7}
+    {:process 0 :type :ok :f :del :value 1}
+    {:process 0 :type :invoke :f :get :value 7}
+    {:process 0 :type :ok :f :get :value nil}";
+
+/// Two puts under key 7 find value 1, which was put there once.
+pub(crate) const FOUND_TWICE: &str = "
+    {:process 0 :type :invoke :f :put :value [7 1]}
+    {:process 0 :type :ok :f :put :value nil}
+    {:process 0 :type :invoke :f :put :value [7 2]}
+    {:process 0 :type :ok :f :put :value 1}
+    {:process 0 :type :invoke :f :put :value [7 3]}
+    {:process 0 :type :ok :f :put :value 1}";
+
+/// Value 5 under key 7 is seen, and then 1, which a pending call put there.
+pub(crate) const PENDING_ENTRY: &str = "
+    {:process 0 :type :invoke :f :put :value [7 5]}
+    {:process 0 :type :ok :f :put :value nil}
+    {:process 0 :type :invoke :f :get :value 7}
+    {:process 0 :type :ok :f :get :value 5}
+    {:process 1 :type :invoke :f :put :value [7 1]}
+    {:process 0 :type :invoke :f :get :value 7}
+    {:process 0 :type :ok :f :get :value 1}";
+
+/// No value is found under key 7, and then value 1, which was put there before.
+pub(crate) const SEEN_AFTER_NONE: &str = "
+    {:process 0 :type :invoke :f :put :value [7 1]}
+    {:process 0 :type :ok :f :put :value nil}
+    {:process 1 :type :invoke :f :del :value 7}
+    {:process 0 :type :invoke :f :get :value 7}
+    {:process 0 :type :ok :f :get :value nil}
+    {:process 0 :type :invoke :f :get :value 7}
+    {:process 0 :type :ok :f :get :value 1}";

@@ -1,9 +1,10 @@
 //! Parts by cuts, as a table.
 
 use crate::histories::{
-    CROSSED, FAILED_SWAP, HEAP, LATE_RETURN, OVERLAPPING, OVERLAPPING_READ, OVERLAPPING_TAKING,
-    PENDING_PUT, PENDING_SWAP, PENDING_TAKING, REMOVED, SEEN_AFTER_ANOTHER, STACK, STALE_READ,
-    SWAPPED, TWO_HOLD, WRONG_ORDER,
+    BOTH_PENDING, CROSSED, FAILED_SWAP, FOUND_TWICE, GONE, HEAP, LATE_RETURN, OVERLAPPING,
+    OVERLAPPING_READ, OVERLAPPING_TAKING, PENDING_ENTRY, PENDING_PUT, PENDING_SWAP, PENDING_TAKING,
+    REMOVED, SEEN_AFTER_ANOTHER, SEEN_AFTER_NONE, STACK, STALE_READ, SWAPPED, TWO_HOLD,
+    TWO_PENDING, WRONG_ORDER,
 };
 use events::{ObjectHistory, split};
 use history::read_history_text;
@@ -25,6 +26,8 @@ enum Plan {
     Keep(&'static [i64], &'static [u32]),
     /// A cell of these values, with 0 for all others.
     Cell(&'static [i64], &'static [u32]),
+    /// An entry under this key of these values, with 0 for all others.
+    Entry(i64, &'static [i64], &'static [u32]),
 }
 
 /// What is known of the part.
@@ -83,6 +86,12 @@ fn cut_of(alloc: Global, plan: Plan) -> Result<Cut, Fail> {
             other: 0,
             numbers: numbers_of(alloc, numbers)?,
         },
+        Plan::Entry(key, values, numbers) => Cut::Entry {
+            key,
+            values: values_of(alloc, values)?,
+            other: 0,
+            numbers: numbers_of(alloc, numbers)?,
+        },
     })
 }
 
@@ -112,10 +121,10 @@ fn check<R: AllocGlobal + Abort>(rt: &R, rows: &[(&str, &[Plan], Verdict)]) -> R
     Ok(())
 }
 
-/// Projections of containers, maps and mutexes. Before each part that a laxer rule would take
-/// stands its whole, which has an order.
+/// Projections of containers with pending takings and puts. Before each part that a laxer rule
+/// would take stands its whole, which has an order.
 #[test]
-fn projections(rt: HostRuntime) -> Result<(), Fail> {
+fn pending_calls(rt: HostRuntime) -> Result<(), Fail> {
     check(
         &rt,
         &[
@@ -127,8 +136,27 @@ fn projections(rt: HostRuntime) -> Result<(), Fail> {
                 Possible,
             ),
             (PENDING_TAKING, &[Plan::Keep(&[2], &[2, 5])], Possible),
+            // One value is left for the pending takings, so the first of them is kept.
+            (TWO_PENDING, &[], Possible),
+            (TWO_PENDING, &[Plan::Keep(&[1, 2], &[0, 2, 4, 5])], Possible),
+            (TWO_PENDING, &[Plan::Keep(&[1, 2], &[0, 2, 5, 7])], NoPart),
+            (TWO_PENDING, &[Plan::Keep(&[1, 2], &[0, 2, 5])], NoPart),
+            (TWO_PENDING, &[Plan::Keep(&[2], &[2, 5])], Possible),
+            (BOTH_PENDING, &[Plan::Keep(&[1], &[0, 2])], NoPart),
+            (BOTH_PENDING, &[Plan::Keep(&[1], &[0, 1, 2])], Possible),
+            (BOTH_PENDING, &[Plan::Keep(&[], &[2])], Possible),
             (PENDING_PUT, &[], Possible),
             (PENDING_PUT, &[Plan::Keep(&[1], &[1])], NoPart),
+        ],
+    )
+}
+
+/// Projections of containers, maps and mutexes.
+#[test]
+fn projections(rt: HostRuntime) -> Result<(), Fail> {
+    check(
+        &rt,
+        &[
             // As many were put in as were taken, so the pending taking, number 6, may be left out.
             (
                 WRONG_ORDER,
@@ -195,6 +223,53 @@ fn registers(rt: HostRuntime) -> Result<(), Fail> {
             (SEEN_AFTER_ANOTHER, &[Plan::Cell(&[1], &[5])], Possible),
             (SEEN_AFTER_ANOTHER, &[Plan::Keep(&[1], &[0, 5])], Possible),
             (SEEN_AFTER_ANOTHER, &[Plan::Keep(&[1], &[0, 3, 5])], NoPart),
+        ],
+    )
+}
+
+/// Keys of maps as registers.
+#[test]
+fn entries(rt: HostRuntime) -> Result<(), Fail> {
+    check(
+        &rt,
+        &[
+            (GONE, &[], Possible),
+            // The removal is left out, and that there is no value is no read of it.
+            (GONE, &[Plan::Entry(7, &[1], &[4])], Possible),
+            (GONE, &[Plan::Entry(7, &[1], &[2, 4])], Possible),
+            (GONE, &[Plan::Entry(7, &[], &[0, 2, 4])], Possible),
+            (PENDING_ENTRY, &[], Possible),
+            // A get of 5, which is not kept, is no read of it, and each put of 1 stays.
+            (PENDING_ENTRY, &[Plan::Entry(7, &[1], &[2, 5])], Possible),
+            (PENDING_ENTRY, &[Plan::Entry(7, &[5], &[2, 5])], Possible),
+            (FOUND_TWICE, &[Plan::Entry(7, &[1], &[2, 4])], Impossible),
+            (FOUND_TWICE, &[Plan::Entry(7, &[1, 2, 3], &[])], Impossible),
+            (FOUND_TWICE, &[Plan::Entry(7, &[1], &[2])], Possible),
+            (FOUND_TWICE, &[Plan::Entry(7, &[2, 3], &[])], Possible),
+            (FOUND_TWICE, &[Plan::Entry(8, &[1], &[2, 4])], Possible),
+            (
+                SEEN_AFTER_NONE,
+                &[Plan::Entry(7, &[1], &[3, 5])],
+                Impossible,
+            ),
+            (SEEN_AFTER_NONE, &[Plan::Entry(7, &[1], &[5])], Possible),
+            // The get under key 8 says nothing of key 7.
+            (
+                REMOVED,
+                &[Plan::Until(8), Plan::Entry(7, &[1], &[4, 6])],
+                Possible,
+            ),
+            (REMOVED, &[Plan::Entry(8, &[1], &[4, 6, 8])], Possible),
+            (REMOVED, &[Plan::Entry(7, &[1], &[4, 8])], Impossible),
+            (REMOVED, &[Plan::Entry(7, &[1], &[8])], Possible),
+            // A suffix of an entry, as of a register.
+            (
+                REMOVED,
+                &[Plan::Entry(7, &[1], &[4, 8]), Plan::From(4)],
+                Impossible,
+            ),
+            // Of another kind nothing stays.
+            (TWO_HOLD, &[Plan::Entry(7, &[1], &[0])], Possible),
         ],
     )
 }

@@ -2,21 +2,16 @@
 
 use crate::histories::{PENDING_TAKING, TWO_HOLD};
 use crate::parts::only_object;
+use history::read_history_text;
 use projection::{Count, Counted, Cut, Values};
-use refutation::{Doubt, Evidence, Reason, Refutation, refute};
+use refutation::{Doubt, Evidence, Reason, Refutation, refute, refute_all};
 use std::alloc::Global;
 use std::collections::BTreeSet;
 use std::test::Fail;
 
 /// The answer in a word, with the number of operations that were handed out.
-fn answer(
-    alloc: Global,
-    text: &str,
-    reason: &Reason,
-    limit: u64,
-) -> Result<(&'static str, usize), Fail> {
-    let object = only_object(alloc, text)?;
-    Ok(match refute(alloc, &object, reason, limit)? {
+fn word_of(answer: &Refutation) -> (&'static str, usize) {
+    match answer {
         Refutation::Impossible(part) => ("impossible", part.ops().len()),
         Refutation::NotShown { part, doubt } => {
             let word = match doubt {
@@ -30,7 +25,18 @@ fn answer(
         }
         Refutation::NoPart => ("no part", 0),
         Refutation::OtherObject => ("other object", 0),
-    })
+    }
+}
+
+/// The answer to a reason on the only object of a history.
+fn answer(
+    alloc: Global,
+    text: &str,
+    reason: &Reason,
+    limit: u64,
+) -> Result<(&'static str, usize), Fail> {
+    let object = only_object(alloc, text)?;
+    Ok(word_of(&refute(alloc, &object, reason, limit)?))
 }
 
 /// A reason by the window between two numbers; from 0 there is no suffix.
@@ -97,5 +103,24 @@ fn open_projection(rt: HostRuntime) -> Result<(), Fail> {
     };
     let given = answer(rt.alloc(), PENDING_TAKING, &reason, 100)?;
     assert!(rt; given == ("no part", 0), "{given:?}");
+    Ok(())
+}
+
+/// Each reason is answered in its turn, on the object with its number.
+#[test]
+fn all_answers(rt: HostRuntime) -> Result<(), Fail> {
+    let Ok(history) = read_history_text(rt.alloc(), TWO_HOLD.as_bytes()) else {
+        return Err(Fail::new("a history is refused"));
+    };
+    let mut reasons = Vec::new(rt.alloc());
+    for (object, from, end) in [(0, 4, 7), (1, 4, 8), (0, 4, 8), (0, 5, 8)] {
+        reasons.push(reason(rt.alloc(), object, from, end, Evidence::Search)?)?;
+    }
+    let answers = refute_all(rt.alloc(), &history, &reasons, 100)?;
+    assert!(rt; answers.len() == 4);
+    assert!(rt; word_of(&answers[0]) == ("possible", 2));
+    assert!(rt; word_of(&answers[1]) == ("other object", 0));
+    assert!(rt; word_of(&answers[2]) == ("impossible", 2));
+    assert!(rt; word_of(&answers[3]) == ("no part", 0));
     Ok(())
 }

@@ -1,11 +1,17 @@
 -- What is answered of a reason why no order of an object's operations is valid.
-use Rattle.std.specs.Prelude.{ℤ, ◌<◌, Bool, true, false, ⊤, List, length}
-use Rattle.model.specs.Orders.{IsValidOrder}
+use Rattle.std.specs.Prelude.{◌≡◌, ◌≢◌, ℕ, ℤ, ◌<◌, Bool, true, false, ⊤, List, Any, IsSome, length}
+use Rattle.model.specs.declared.Kind.{Kind}
+use Rattle.model.specs.Orders.{Call, IsValidOrder, calls_on}
+use Rattle.events.specs.declared.event.Event.{Event}
+use Rattle.events.specs.Events.{kind_at, denoted, IsNamed}
 use Rattle.events.specs.Operations.{ObjectCalls, calls_of}
-use Rattle.order_search.specs.Outcomes.{max_operations}
+use Rattle.order_search.specs.Outcomes.{max_operations, IsNoneValid}
+use Rattle.projection.specs.declared.cutting.Cut.{Cut}
 use Rattle.projection.specs.Counts.{IsOverdrawn}
+use Rattle.projection.specs.Cuts.{NamesPart, part_kind}
 use Rattle.refutation.specs.declared.reason.Evidence.{Evidence}
 use Rattle.refutation.specs.declared.reason.Evidence.TheVariants.{Search, Counting}
+use Rattle.refutation.specs.declared.reason.Reason.{Reason}
 use Rattle.refutation.specs.declared.refuting.Doubt.{Doubt}
 use Rattle.refutation.specs.declared.refuting.Doubt.TheVariants.{Possible, NotOverdrawn, OutOfSteps}
 use Rattle.refutation.specs.declared.refuting.Doubt.TheVariants.{TooLarge, NoMemory}
@@ -33,17 +39,49 @@ IfNotShown (refutation.NotShown part doubt) P = P part doubt
 IfNotShown refutation.NoPart P = ⊤
 IfNotShown refutation.OtherObject P = ⊤
 
+abbrev pub IsSearch : Evidence → Type 0
+IsSearch Search = ⊤
+IsSearch (Counting count) = ⊥
+
 -- a count does not show that the part has no valid order
 abbrev pub IsNotOverdrawn : Evidence → ObjectCalls → Type 0
 IsNotOverdrawn Search part = ⊥
 IsNotOverdrawn (Counting count) part =
     IsOverdrawn part.kind count (calls_of part.ops) → ⊥
 
--- why the evidence does not show that the part has no valid order
+-- Why the evidence does not show that the part has no valid order. A count has one answer alone.
 abbrev pub IsDoubt : Evidence → ObjectCalls → Doubt → Type 0
 IsDoubt evidence part Possible =
-    (order : List ℤ) × IsValidOrder part.kind (calls_of part.ops) order
+    IsSearch evidence × (order : List ℤ) × IsValidOrder part.kind (calls_of part.ops) order
 IsDoubt evidence part NotOverdrawn = IsNotOverdrawn evidence part
-IsDoubt evidence part OutOfSteps = ⊤
-IsDoubt evidence part TooLarge = max_operations < length (calls_of part.ops)
-IsDoubt evidence part NoMemory = ⊤
+IsDoubt evidence part OutOfSteps = IsSearch evidence
+IsDoubt evidence part TooLarge =
+    IsSearch evidence × (max_operations < length (calls_of part.ops))
+IsDoubt evidence part NoMemory =
+    IsSearch evidence × Any (λ call. IsSome call.returned) (calls_of part.ops)
+
+-- the part that the cuts name of the calls of an object, x, of this kind
+pub record IsNamedPart (cuts : List Cut) (x : ℕ) (whole : Kind) (calls : List Call)
+    (part : ObjectCalls) : Type 0 where
+  pub object : part.object ≡ x
+  pub kind : part.kind ≡ part_kind cuts whole
+  pub named : NamesPart cuts calls (calls_of part.ops)
+
+-- the answer to a reason on the operations of an object that has the reason's number
+pub record IsAnswerOn (kind : Kind) (calls : List Call) (reason : Reason)
+    (answer : Refutation) : Type 0 where
+  -- it is impossible only where no order of the operations is valid
+  pub impossible : is_impossible answer ≡ true → IsNoneValid kind calls
+  -- what is handed out is the part that the reason names
+  pub part : IfPart answer (IsNamedPart reason.cuts.items reason.object kind calls)
+  pub not_shown : IfNotShown answer (IsDoubt reason.evidence)
+  pub no_part : answer ≡ refutation.NoPart → (part : List Call)
+      → NamesPart reason.cuts.items calls part → ⊥
+
+-- the answer to a reason on a history
+pub record IsAnswer (es : List Event) (reason : Reason) (answer : Refutation) : Type 0 where
+  pub on : IsAnswerOn (kind_at es reason.object) (calls_on reason.object (denoted es)) reason
+      answer
+  -- another object is answered exactly where no invocation names the reason's object
+  pub other_object : answer ≡ refutation.OtherObject → IsNamed es reason.object → ⊥
+  pub own_object : answer ≢ refutation.OtherObject → IsNamed es reason.object

@@ -1,12 +1,12 @@
 //! The check of reasons on the objects of a history.
 
-ghost use Rattle.std.specs.Prelude.{◌≡◌, true, Any, IfOk, length};
+ghost use Rattle.std.specs.Prelude.{◌≡◌, ◌≢◌, true, All, Any, Contains, IfOk};
+ghost use Rattle.std.specs.List.{AllZip};
 ghost use Rattle.model.specs.Linearizable.{IsLinearizable};
 ghost use Rattle.model.specs.Orders.{events};
 ghost use Rattle.events.specs.Events.{kind_at, denoted};
-ghost use Rattle.events.specs.Operations.{calls_of};
-ghost use Rattle.order_search.specs.Outcomes.{IsNoneValid};
-ghost use Rattle.refutation.specs.Refutations.{is_impossible};
+ghost use Rattle.events.specs.Operations.{ObjectCalls, calls_of};
+ghost use Rattle.refutation.specs.Refutations.{is_impossible, IsAnswerOn, IsAnswer};
 
 use crate::reason::Reason;
 use crate::refuting::{Refutation, refute};
@@ -21,8 +21,11 @@ fn refute_among(
     reason: &Reason,
     limit: u64,
 ) -> Result<Refutation, AllocError>
-    ensures { IfOk result (λ r. is_impossible r ≡ true
-        → Any (λ o. IsNoneValid o.kind (calls_of o.ops)) objects.now) }
+    ensures on { IfOk result (λ r. r ≢ Refutation.OtherObject → (o : ObjectCalls)
+        × Contains objects.now o × (o.object ≡ reason.now.object)
+        × IsAnswerOn o.kind (calls_of o.ops) reason.now r) }
+    ensures other_object { IfOk result (λ r. r ≡ Refutation.OtherObject
+        → All (λ o. o.object ≢ reason.now.object) objects.now) }
 {
     for object in objects {
         if object.object() == reason.object {
@@ -43,7 +46,8 @@ pub fn refute_all(
     reasons: &[Reason],
     limit: u64,
 ) -> Result<Vec<Refutation>, AllocError>
-    ensures each { IfOk result (λ v. length v.items ≡ length reasons.now) }
+    // Each is the answer to its reason on the object that has the reason's number.
+    ensures each { IfOk result (λ v. AllZip (IsAnswer history.now) reasons.now v.items) }
     // Where one is impossible the history is not linearizable.
     ensures impossible { IfOk result (λ v. Any (λ r. is_impossible r ≡ true) v.items
         → IsLinearizable (kind_at history.now) (events (denoted history.now)) → ⊥) }

@@ -6,6 +6,7 @@ ghost use Rattle.events.specs.Operations.{calls_of};
 ghost use Rattle.order_search.specs.Outcomes.{IsNoneValid};
 ghost use Rattle.projection.specs.Cuts.{NamesPart};
 ghost use Rattle.refutation.specs.Refutations.{is_impossible, IfNotShown, IfPart, IsDoubt};
+ghost use Rattle.refutation.specs.Refutations.{IsNamedPart};
 
 use crate::reason::{Evidence, Reason};
 use events::ObjectHistory;
@@ -92,8 +93,8 @@ pub fn refute(
     ensures impossible { IfOk result (λ r. is_impossible r ≡ true
         → IsNoneValid history.now.kind (calls_of history.now.ops)) }
     // What is handed out is the part that the reason names.
-    ensures part { IfOk result (λ r. IfPart r (λ p.
-        NamesPart reason.now.cuts.items (calls_of history.now.ops) (calls_of p.ops))) }
+    ensures part { IfOk result (λ r. IfPart r (IsNamedPart reason.now.cuts.items
+        history.now.object history.now.kind (calls_of history.now.ops))) }
     ensures not_shown { IfOk result (λ r. IfNotShown r (IsDoubt reason.now.evidence)) }
     ensures no_part { IfOk result (λ r. r ≡ Refutation.NoPart → (part : List Call)
         → NamesPart reason.now.cuts.items (calls_of history.now.ops) part → ⊥) }

@@ -1,10 +1,10 @@
-use Rattle.std.proofs.Common.{◌≡◌, List, Option, IfSome, get_or, sym, subst}
+use Rattle.std.proofs.Common.{◌≡◌, List, Option, IfSome, get_or, ap, sym, ◌∙◌, subst}
 use Rattle.model.specs.Orders.{Call}
 use Rattle.events.specs.Operations.{ObjectCalls, calls_of}
 use Rattle.projection.specs.declared.cutting.Cut.{Cut}
-use Rattle.projection.specs.Cuts.{IsPart, Names}
+use Rattle.projection.specs.Cuts.{IsPart, Names, kind_cut, part_kind}
 use Rattle.projection.proofs.Pieces.{own_part, part_of_part}
-use Rattle.projection.proofs.Naming.{IsCutSoFar, not_cut, cut_further}
+use Rattle.projection.proofs.Naming.{IsCutSoFar, not_cut, cut_further, kind_further}
 use Rattle.projection.proofs.cutting.part_by.Goals as goal
 
 pub loop-cut-init : goal.loop-cut-init
@@ -12,6 +12,7 @@ loop-cut-init c =
     let h = c.args.history.now in
     record {
       part = subst (IsPart h) (sym c.in_ok-part.ensures) (own_part h);
+      kind = ap (λ (z : ObjectCalls). part_kind c.args.cuts.now z.kind) (sym c.in_ok-part.ensures);
       names = subst (λ (z : ObjectCalls). IsCutSoFar c.args.cuts.now 0 (calls_of h.ops) (calls_of z.ops)) (sym c.in_ok-part.ensures) (not_cut c.args.cuts.now (calls_of h.ops));
     }
 
@@ -23,8 +24,10 @@ loop-cut-preserved c =
     let part = subst (λ (o : Option ObjectCalls). IfSome o (λ p. IsPart c.loop-cut.part p)) c.in-Some.is c.in_ok-next.ensures.part in
     let named = subst (λ (o : Option ObjectCalls). IfSome o (λ p. Names cut now (calls_of p.ops))) c.in-Some.is c.in_ok-next.ensures.named in
     let one = subst (λ (o : Option ObjectCalls). IfSome o (λ p. (part : List Call) → Names cut now part → part ≡ calls_of p.ops)) c.in-Some.is c.in_ok-next.ensures.one in
+    let kind = subst (λ (o : Option ObjectCalls). IfSome o (λ p. p.kind ≡ kind_cut cut c.loop-cut.part.kind)) c.in-Some.is c.in_ok-next.ensures.kind in
     let is : cut ≡ get_or c.args.cuts.now c.loop-cut.cut-index cut = c.cut-item.is in
     record {
       part = part_of_part h c.loop-cut.part c.in-Some.next c.loop-cut.invariant.part part;
+      kind = kind_further c.args.cuts.now c.loop-cut.cut-index cut h.kind c.loop-cut.part.kind c.in-Some.next.kind c.loop-cut-test.true c.loop-cut.invariant.kind (kind ∙ ap (λ (z : Cut). kind_cut z c.loop-cut.part.kind) is);
       names = cut_further c.args.cuts.now c.loop-cut.cut-index cut (calls_of h.ops) now (calls_of c.in-Some.next.ops) c.loop-cut-test.true c.loop-cut.invariant.names (subst (λ (z : Cut). Names z now (calls_of c.in-Some.next.ops)) is named) (λ p k. one p (subst (λ (z : Cut). Names z now p) (sym is) k));
     }

@@ -1,12 +1,13 @@
-use Rattle.std.proofs.Common.{◌≡◌, ◌≤◌, List, ap, sym, ◌∙◌, subst, filter, count_by, true}
-use Rattle.std.specs.List.{list_all}
+use Rattle.std.proofs.Common.{◌<◌, List, AllPairs, ap, sym, ◌∙◌, subst, filter}
 use Rattle.events.specs.declared.operations.Invocation.{Invocation}
 use Rattle.events.specs.Operations.{ObjectCalls, IsObjectHistory, calls_of}
-use Rattle.projection.specs.Cuts.{keeps_all, keeps_value, keeps_number, IsPart}
-use Rattle.projection.specs.Pieces.{fits_end, is_put, is_taken}
+use Rattle.projection.specs.Cuts.{keeps_number, IsClosedPart, IsPart}
 use Rattle.projection.proofs.Pieces.{same_history}
-use Rattle.projection.proofs.Kept.{kept_history, kept_calls_of, kept_shows, closed_calls, closed_fits}
+use Rattle.projection.proofs.Kept.{kept_history, kept_calls_of, kept_shows}
 use Rattle.projection.proofs.keeping.keep.Goals as goal
+
+pub is_closed-requires : goal.is_closed-requires
+is_closed-requires c = subst (λ (os : List Invocation). AllPairs (λ a b. a.number < b.number) os) (sym c.ops-operations.ensures.ops) c.ops-operations.ensures.kept.rising
 
 pub new-requires : goal.new-requires
 new-requires c =
@@ -17,25 +18,13 @@ new-requires c =
 pub returns-clause-part : goal.returns-clause-part
 returns-clause-part c =
     let h = c.args.history.now in
-    let vs = c.args.values.now in
     let kept = keeps_number c.args.numbers.now in
-    let settled = c.is_settled-settled.result in
-    let put : settled ≡ true → count_by (λ o. is_put (keeps_value vs) o.op o.«end») h.ops ≤ count_by (λ o. is_taken (keeps_value vs) o.op o.«end») h.ops
-    = subst (λ (os : List Invocation). settled ≡ true → count_by (λ o. is_put (keeps_value vs) o.op o.«end») os ≤ count_by (λ o. is_taken (keeps_value vs) o.op o.«end») os) c.ops-operations.ensures.ops c.is_settled-settled.ensures.yes in
-    let all = ap (list_all (λ o. fits_end (keeps_all vs) settled (keeps_value vs) (kept o.number) o.op o.«end»)) (sym c.ops-operations.ensures.ops) ∙ sym c.is_closed.ensures ∙ c.if-not-is_closed.false in
+    let closed = subst (λ (os : List Invocation). IsClosedPart c.args.values.now c.args.numbers.now (calls_of os)) c.ops-operations.ensures.ops (c.is_closed.ensures.yes c.if-not-is_closed.false) in
     subst (IsPart h) (sym (c.new.ensures ∙ same_history c.object.ensures c.kind.ensures (c.in_ok-ops.ensures ∙ ap (filter (λ o. kept o.number)) c.ops-operations.ensures.ops)))
-    (kept_shows vs settled kept h c.ops-operations.ensures.kept put all)
+    (kept_shows c.args.values.now kept h c.ops-operations.ensures.kept closed)
 
 pub returns-clause-closed : goal.returns-clause-closed
-returns-clause-closed c =
-    let h = c.args.history.now in
-    let vs = c.args.values.now in
-    let kept = keeps_number c.args.numbers.now in
-    let settled = c.is_settled-settled.result in
-    let put : settled ≡ true → count_by (λ o. is_put (keeps_value vs) o.op o.«end») h.ops ≤ count_by (λ o. is_taken (keeps_value vs) o.op o.«end») h.ops
-    = subst (λ (os : List Invocation). settled ≡ true → count_by (λ o. is_put (keeps_value vs) o.op o.«end») os ≤ count_by (λ o. is_taken (keeps_value vs) o.op o.«end») os) c.ops-operations.ensures.ops c.is_settled-settled.ensures.yes in
-    let all = ap (list_all (λ o. fits_end (keeps_all vs) settled (keeps_value vs) (kept o.number) o.op o.«end»)) (sym c.ops-operations.ensures.ops) ∙ sym c.is_closed.ensures ∙ c.if-not-is_closed.false in
-    (settled, closed_calls vs settled kept h.ops put all)
+returns-clause-closed c = subst (λ (os : List Invocation). IsClosedPart c.args.values.now c.args.numbers.now (calls_of os)) c.ops-operations.ensures.ops (c.is_closed.ensures.yes c.if-not-is_closed.false)
 
 pub returns-clause-calls : goal.returns-clause-calls
 returns-clause-calls c =
@@ -44,13 +33,6 @@ returns-clause-calls c =
 
 pub returns-then-not-is_closed-clause-refused : goal.returns-then-not-is_closed-clause-refused
 returns-then-not-is_closed-clause-refused c e part =
-    let h = c.args.history.now in
-    let vs = c.args.values.now in
-    let kept = keeps_number c.args.numbers.now in
-    let settled = c.is_settled-settled.result in
-    let no : count_by (λ o. is_put (keeps_value vs) o.op o.«end») h.ops ≤ count_by (λ o. is_taken (keeps_value vs) o.op o.«end») h.ops → settled ≡ true
-    = subst (λ (os : List Invocation). count_by (λ o. is_put (keeps_value vs) o.op o.«end») os ≤ count_by (λ o. is_taken (keeps_value vs) o.op o.«end») os → settled ≡ true) c.ops-operations.ensures.ops c.is_settled-settled.ensures.no in
-    let all = ap (list_all (λ o. fits_end (keeps_all vs) settled (keeps_value vs) (kept o.number) o.op o.«end»)) c.ops-operations.ensures.ops ∙ closed_fits vs settled kept h.ops no part.0 part.1 in
-    let yes = c.is_closed.ensures ∙ all in
+    let yes = c.is_closed.ensures.no (subst (λ (os : List Invocation). IsClosedPart c.args.values.now c.args.numbers.now (calls_of os)) (sym c.ops-operations.ensures.ops) part) in
     let not_closed = c.if-not-is_closed.true in
     absurd (cc (yes, not_closed))

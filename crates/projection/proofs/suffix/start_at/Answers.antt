@@ -3,7 +3,8 @@ use Rattle.model.proofs.Lists.{in_from_contains, all_at, pairs_from_all}
 use Rattle.events.specs.declared.operations.Invocation.{Invocation}
 use Rattle.projection.specs.Parts.{key_of, leaves}
 use Rattle.projection.specs.Pieces.{IsOnKey}
-use Rattle.projection.proofs.Later.{one_number, start_piece}
+use Rattle.projection.proofs.Later.{start_piece}
+use Rattle.projection.proofs.Sequences.{one_number}
 use Rattle.projection.proofs.suffix.start_at.Goals as goal
 
 pub returns-clause-none : goal.returns-clause-none

@@ -1,27 +1,35 @@
-use Rattle.std.proofs.Common.{List, Any, length, ap, sym, subst}
+use Rattle.std.proofs.Common.{◌≡◌, ◌≢◌, ◌+◌, List, All, Contains, take, sym, subst}
+use Rattle.std.specs.List.{AllZip}
 use Rattle.model.specs.Linearizable.{IsLinearizable}
 use Rattle.model.specs.Orders.{events}
 use Rattle.events.specs.Events.{kind_at, denoted}
 use Rattle.events.specs.Operations.{ObjectCalls, calls_of}
-use Rattle.order_search.specs.Outcomes.{IsNoneValid}
-use Rattle.refutation.proofs.Objects.{AreRefutations, none_among, one_more, length_more, refutes}
+use Rattle.refutation.specs.declared.refuting.Refutation.{Refutation}
+use Rattle.refutation.specs.declared.refuting.Refutation.TheVariants.{OtherObject}
+use Rattle.refutation.specs.Refutations.{IsAnswerOn, IsAnswer}
+use Rattle.refutation.proofs.Objects.{AreRefutations, none_among, one_more, refutes, answer_is, refuted_among, zip_more}
 use Rattle.refutation.proofs.all.refute_all.Goals as goal
 
 pub loop-reason-init : goal.loop-reason-init
 loop-reason-init c =
     let es = c.args.history.now in
     record {
-      each = ap length c.new-answers.ensures.items;
+      each = subst (AllZip (IsAnswer es) (take 0 c.args.reasons.now)) (sym c.new-answers.ensures.items) tt;
       refutations = subst (AreRefutations (IsLinearizable (kind_at es) (events (denoted es)) → ⊥)) (sym c.new-answers.ensures.items) (λ r i p. absurd i);
     }
 
 pub loop-reason-preserved : goal.loop-reason-preserved
 loop-reason-preserved c =
     let es = c.args.history.now in
-    let objects = c.in_ok-objects.objects.items in
+    let objects : List ObjectCalls = c.in_ok-objects.objects.items in
+    let reason = c.reason-item.result in
+    let r : Refutation = c.in_ok-answer.answer in
+    let on = subst (λ (os : List ObjectCalls). r ≢ OtherObject → (o : ObjectCalls) × Contains os o × (o.object ≡ reason.object) × IsAnswerOn o.kind (calls_of o.ops) reason r) c.deref.ensures.value c.in_ok-answer.ensures.on in
+    let other = subst (λ (os : List ObjectCalls). r ≡ OtherObject → All (λ o. o.object ≢ reason.object) os) c.deref.ensures.value c.in_ok-answer.ensures.other_object in
+    let answer = answer_is es objects reason r c.in_ok-objects.ensures.kinds c.in_ok-objects.ensures.calls c.in_ok-objects.ensures.named on other in
     record {
-      each = length_more _ _ _ _ c.in_ok-push.ensures.items c.loop-reason.invariant.each;
-      refutations = one_more (IsLinearizable (kind_at es) (events (denoted es)) → ⊥) _ _ _ c.in_ok-push.ensures.items (λ p. none_among es objects c.in_ok-objects.ensures.kinds c.in_ok-objects.ensures.calls c.linearizable_has_orders.ensures c.events.ensures.history (subst (λ (os : List ObjectCalls). Any (λ o. IsNoneValid o.kind (calls_of o.ops)) os) c.deref.ensures.value (c.in_ok-answer.ensures p))) c.loop-reason.invariant.refutations;
+      each = subst (AllZip (IsAnswer es) (take (c.loop-reason.reason-index + 1) c.args.reasons.now)) (sym c.in_ok-push.ensures.items) (zip_more (IsAnswer es) c.args.reasons.now c.loop-reason.answers.items c.loop-reason.reason-index reason r c.loop-reason-test.true c.reason-item.is c.loop-reason.invariant.each answer);
+      refutations = one_more (IsLinearizable (kind_at es) (events (denoted es)) → ⊥) _ _ _ c.in_ok-push.ensures.items (λ p. none_among es objects c.in_ok-objects.ensures.kinds c.in_ok-objects.ensures.calls c.linearizable_has_orders.ensures c.events.ensures.history (refuted_among objects reason r on p)) c.loop-reason.invariant.refutations;
     }
 
 pub returns-clause-impossible : goal.returns-clause-impossible
