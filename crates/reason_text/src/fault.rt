@@ -1,0 +1,33 @@
+//! What is wrong with the forms of a text of reasons.
+
+ghost use Rattle.std.specs.Prelude.{◌≡◌};
+
+/// What is wrong with a form.
+#[derive(Clone, Copy, Debug, PartialEq, Eq)]
+pub enum ReasonFaultKind {
+    /// N1: it is no reason.
+    NotAReason,
+    /// N2: the allocator refused memory.
+    NoMemory,
+}
+
+impl ReasonFaultKind {
+    ghost use Rattle.reason_text.specs.Faults.{number_of};
+
+    /// The number after the letter N.
+    pub fn number(self) -> u8
+        ensures { result ≡ number_of self }
+    {
+        match self {
+            ReasonFaultKind::NotAReason => 1,
+            ReasonFaultKind::NoMemory => 2,
+        }
+    }
+}
+
+/// A fault, and the number of its form, from 0.
+#[derive(Clone, Copy, Debug, PartialEq, Eq)]
+pub struct ReasonFault {
+    pub kind: ReasonFaultKind,
+    pub form: usize,
+}

@@ -1,0 +1,12 @@
+//! Reasons as text: one map for each reason, as
+//! `{:object 0, :cuts [{:until 120} {:keep [1 2], :numbers [4 7]}]}`.
+#![tactic(auto)]
+
+mod cut;
+mod evidence;
+mod fault;
+mod reader;
+mod sets;
+
+pub use fault::{ReasonFault, ReasonFaultKind};
+pub use reader::read_reasons;
