@@ -4,10 +4,10 @@ use Rattle.std.specs.Prelude.{ℤ, option_and_then}
 use Rattle.std.specs.Ordering.{int_cmp}
 use Rattle.std.specs.BTreeSet.{insert_key}
 use Rattle.std.proofs.lemmas.List.{drop_more}
-use Rattle.edn.specs.Truncation.{integer_in}
-use Rattle.edn.specs.Datum.{items_of}
-use Rattle.edn.specs.View.{view, views}
-use Rattle.edn.specs.declared.form.Form.{Form}
+use Rattle.edn_reader.specs.Truncation.{integer_in}
+use Rattle.edn_reader.specs.Datum.{items_of}
+use Rattle.edn_reader.specs.View.{view, views}
+use Rattle.edn_reader.specs.declared.form.Form.{Form}
 use Rattle.reason_text.specs.Denotes.{integers_with}
 
 pub one_more : (fs : List Form) (i : ℕ) (f : Form) (keys new : List ℤ) (z : ℤ) (o : Option (List ℤ)) → i < length fs

@@ -2,9 +2,9 @@
 use Rattle.std.proofs.Common.{◌≡◌, ◌≢◌, ℕ, ◌+◌, ◌<◌, ◌≤◌, List, [], ◌∷◌, ◌++◌, length, take, drop, get_or}
 use Rattle.std.proofs.Common.{map, Option, Some, None, refl, ap, sym, ◌∙◌, arith}
 use Rattle.std.proofs.lemmas.List.{drop_more, take_more, take-append-drop, length-take-le, length-map, map-append}
-use Rattle.edn.specs.Datum.{Datum}
-use Rattle.edn.specs.View.{view, views}
-use Rattle.edn.specs.declared.form.Form.{Form}
+use Rattle.edn_reader.specs.Datum.{Datum}
+use Rattle.edn_reader.specs.View.{view, views}
+use Rattle.edn_reader.specs.declared.form.Form.{Form}
 use Rattle.edn_fields.specs.FirstFaults.{AreFaultless}
 use Rattle.refutation.specs.declared.reason.Reason.{Reason}
 use Rattle.reason_text.specs.Denotes.{reason_in, seen, Denotes}

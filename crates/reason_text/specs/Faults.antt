@@ -1,6 +1,6 @@
 -- What can be wrong with the forms of a text of reasons, and which fault of it is the first.
 use Rattle.std.specs.Prelude.{◌≡◌, ℕ, List, ◌∷◌, ◌++◌, length, None}
-use Rattle.edn.specs.Datum.{Datum}
+use Rattle.edn_reader.specs.Datum.{Datum}
 use Rattle.edn_fields.specs.FirstFaults.{AreFaultless, IsFirstFaultBy}
 use Rattle.reason_text.specs.Denotes.{reason_in}
 use Rattle.reason_text.specs.declared.fault.ReasonFaultKind.{ReasonFaultKind}

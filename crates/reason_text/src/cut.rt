@@ -1,8 +1,8 @@
 //! One cut, from a form.
 
 ghost use Rattle.std.specs.Prelude.{◌≡◌, [], map, Option, None, IfOk, option_map};
-ghost use Rattle.edn.specs.Datum.{entries_of, items_of};
-ghost use Rattle.edn.specs.View.{view, views, pair_views};
+ghost use Rattle.edn_reader.specs.Datum.{entries_of, items_of};
+ghost use Rattle.edn_reader.specs.View.{view, views, pair_views};
 ghost use Rattle.reason_text.specs.Denotes as spec;
 
 use crate::sets::{number, numbers, values};
@@ -84,7 +84,7 @@ fn cut_of(alloc: Global, entries: &[(Name, Form)]) -> Result<Option<Cut>, AllocE
 }
 
 /// The cut that a form is.
-#[tactic(auto, using(edn::proofs::Pairs::map_view))]
+#[tactic(auto, using(edn_reader::proofs::Pairs::map_view))]
 fn cut_in(alloc: Global, form: &Form) -> Result<Option<Cut>, AllocError>
     ensures { IfOk result (λ o. option_map spec.seen_cut o ≡ spec.cut_in (view form.now)) }
 {
@@ -110,7 +110,7 @@ fn cuts_of(alloc: Global, forms: &[Form]) -> Result<Option<Vec<Cut>>, AllocError
 }
 
 /// The cuts of a reason; none where the map does not name them.
-#[tactic(auto, using(edn::proofs::Pairs::vector_view))]
+#[tactic(auto, using(edn_reader::proofs::Pairs::vector_view))]
 pub(crate) fn cuts(alloc: Global, form: Option<&Form>) -> Result<Option<Vec<Cut>>, AllocError>
     ensures { IfOk result (λ o. option_map (λ v. map spec.seen_cut v.items) o
         ≡ spec.cuts_in (option_map (λ f. view f.now) form.entry)) }

@@ -1,8 +1,8 @@
 //! The evidence of a reason, from a form.
 
 ghost use Rattle.std.specs.Prelude.{◌≡◌, Option, option_map};
-ghost use Rattle.edn.specs.Datum.{entries_of};
-ghost use Rattle.edn.specs.View.{view, pair_views};
+ghost use Rattle.edn_reader.specs.Datum.{entries_of};
+ghost use Rattle.edn_reader.specs.View.{view, pair_views};
 ghost use Rattle.reason_text.specs.Denotes as spec;
 
 use crate::cut::int_at;
@@ -46,7 +46,7 @@ fn evidence_of(entries: &[(Name, Form)]) -> Option<Evidence>
 }
 
 /// The evidence of a reason: a count, or where the map names none a search.
-#[tactic(auto, using(edn::proofs::Pairs::map_view))]
+#[tactic(auto, using(edn_reader::proofs::Pairs::map_view))]
 pub(crate) fn evidence(form: Option<&Form>) -> Option<Evidence>
     ensures { result ≡ spec.evidence_in (option_map (λ f. view f.now) form.entry) }
 {

@@ -1,7 +1,7 @@
 //! From forms to reasons.
 
 ghost use Rattle.std.specs.Prelude.{◌≡◌, ◌≢◌, [], List, Some, Option, option_map, IfOk, IfErr};
-ghost use Rattle.edn.specs.View.{view, views};
+ghost use Rattle.edn_reader.specs.View.{view, views};
 ghost use Rattle.refutation.specs.declared.reason.Reason.{Reason};
 ghost use Rattle.reason_text.specs.Denotes as spec;
 ghost use Rattle.reason_text.specs.Denotes.{Denotes};
@@ -16,7 +16,7 @@ use refutation::Reason;
 use std::alloc::{AllocError, Global};
 
 /// The reason that a form is.
-#[tactic(auto, using(edn::proofs::Pairs::map_view))]
+#[tactic(auto, using(edn_reader::proofs::Pairs::map_view))]
 fn reason_in(alloc: Global, form: &Form) -> Result<Option<Reason>, AllocError>
     ensures { IfOk result (λ o. option_map spec.seen o ≡ spec.reason_in (view form.now)) }
 {

@@ -1,8 +1,8 @@
 //! Sets of integers and of numbers of maps, from vectors.
 
 ghost use Rattle.std.specs.Prelude.{◌≡◌, [], Option, Some, None, IfOk, option_map};
-ghost use Rattle.edn.specs.Datum.{items_of};
-ghost use Rattle.edn.specs.View.{view, views};
+ghost use Rattle.edn_reader.specs.Datum.{items_of};
+ghost use Rattle.edn_reader.specs.View.{view, views};
 ghost use Rattle.reason_text.specs.Denotes as spec;
 
 use edn::Form;
@@ -51,7 +51,7 @@ fn numbers_of(alloc: Global, forms: &[Form]) -> Result<Option<BTreeSet<u32>>, Al
 }
 
 /// The values that are kept, where the form says which.
-#[tactic(auto, using(edn::proofs::Pairs::vector_view))]
+#[tactic(auto, using(edn_reader::proofs::Pairs::vector_view))]
 pub(crate) fn values(alloc: Global, form: Option<&Form>) -> Result<Option<Values>, AllocError>
     ensures { IfOk result (λ o. option_map spec.seen_values o
         ≡ spec.values_in (option_map (λ f. view f.now) form.entry)) }
@@ -69,7 +69,7 @@ pub(crate) fn values(alloc: Global, form: Option<&Form>) -> Result<Option<Values
 }
 
 /// The numbers that are kept; none where the map does not name them.
-#[tactic(auto, using(edn::proofs::Pairs::vector_view))]
+#[tactic(auto, using(edn_reader::proofs::Pairs::vector_view))]
 pub(crate) fn numbers(
     alloc: Global,
     form: Option<&Form>,

@@ -1,6 +1,6 @@
 use Rattle.std.proofs.Common.{◌≡◌, [], drop, map}
-use Rattle.edn.specs.Datum.{items_of}
-use Rattle.edn.specs.View.{views}
+use Rattle.edn_reader.specs.Datum.{items_of}
+use Rattle.edn_reader.specs.View.{views}
 use Rattle.reason_text.specs.Denotes.{seen_cut, cuts_with}
 use Rattle.reason_text.proofs.cut.cuts_of.Given as goal
 

@@ -1,5 +1,5 @@
 use Rattle.std.proofs.Common.{take}
-use Rattle.edn.specs.View.{views}
+use Rattle.edn_reader.specs.View.{views}
 use Rattle.reason_text.specs.Denotes.{Denotes}
 use Rattle.reason_text.proofs.reader.read_reasons.Given as goal
 
