@@ -1,6 +1,6 @@
 //! Answers to reasons, as a table.
 
-use crate::histories::{PENDING_TAKING, TWO_HOLD};
+use crate::histories::{FOUND_TWICE, PENDING_TAKING, TWO_HOLD};
 use crate::parts::only_object;
 use history::read_history_text;
 use projection::{Count, Counted, Cut, Values};
@@ -103,6 +103,35 @@ fn open_projection(rt: HostRuntime) -> Result<(), Fail> {
     };
     let given = answer(rt.alloc(), PENDING_TAKING, &reason, 100)?;
     assert!(rt; given == ("no part", 0), "{given:?}");
+    Ok(())
+}
+
+/// A count over a key of a map, as over a register.
+#[test]
+fn entry_counts(rt: HostRuntime) -> Result<(), Fail> {
+    let mut values = BTreeSet::new(rt.alloc());
+    values.insert(1)?;
+    let mut numbers = BTreeSet::new(rt.alloc());
+    for number in [2, 4] {
+        numbers.insert(number)?;
+    }
+    let mut cuts = Vec::new(rt.alloc());
+    cuts.push(Cut::Entry {
+        key: 7,
+        values: Values::Only(values),
+        other: 0,
+        numbers,
+    })?;
+    let reason = Reason {
+        object: 0,
+        cuts,
+        evidence: Evidence::Counting(Count {
+            counted: Counted::Value(1),
+            from: 0,
+        }),
+    };
+    let given = answer(rt.alloc(), FOUND_TWICE, &reason, 0)?;
+    assert!(rt; given == ("impossible", 3), "{given:?}");
     Ok(())
 }
 
