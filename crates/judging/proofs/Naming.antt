@@ -10,7 +10,7 @@ use Rattle.certificate.specs.declared.Certificate.{Certificate}
 use Rattle.checker.specs.declared.refusal.Refusal.{Refusal}
 use Rattle.checker.specs.Refusals.{AreValid}
 use Rattle.locality.specs.Locality.{HasValidOrder}
-use Rattle.report.proofs.Named.{later_named}
+use Rattle.verdicts.proofs.Named.{later_named}
 
 one_named : (e : Event) (later : List Event) (c : ProcessCall) → (In c (calls_in (denoted later)) → IsNamed later c.object)
     → (a : Action) → e.action ≡ a → (failed : Bool) → In c (calls_in (denoted_by e.number e.process e.object a failed ++ denoted later)) → IsNamed (e ∷ later) c.object

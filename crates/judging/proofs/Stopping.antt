@@ -1,4 +1,4 @@
--- Where both texts denote and are short, what stops the reading of either is want of memory.
+-- Where both texts denote and are short, what stops the reading of either is an allocation failure.
 use Rattle.std.proofs.Common.{◌≡◌, ◌∙◌, List, ℕ, Result, Ok, Err, IfErr, sym}
 use Rattle.events.specs.declared.event.Event.{Event}
 use Rattle.certificate.specs.declared.Certificate.{Certificate}
