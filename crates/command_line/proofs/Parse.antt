@@ -24,7 +24,8 @@ use Rattle.clap.specs.Simple.{App, HasMatchesOf, subcommand_rows_of, built, ente
 use Rattle.clap.specs.Walk.{Row, Text, Walk, settled, finished, first_of, nothing_held, rows_after, rows_of, walk, walked}
 use Rattle.clap.proofs.OnLiterals.{clap_on_literals}
 use Rattle.order_search.specs.declared.trials.TryFirst.TheVariants.{LeastNumber}
-use Rattle.command_line.specs.Words.{AreNoOptions, AreRunOptions, AreSteps, IsFirst, AskFor, AskOnFile, AskToCheck, Finds, HasCheck, HasJudge, HasNoCheck, HasNoJudge, HasNoRun, HasNoSearch, HasSearch, IsCheckFound, IsCommand, IsFault, IsFileFound, IsFor, IsNumber, IsPlain, IsPlainCheck, IsPlainRun, IsPlainSearch, IsPlainSimulate, IsPlainFind, IsPlainJudge, Lacks, LacksFor, command, default_steps, max_workers, values}
+use Rattle.command_line.specs.Limits.{max_workers, default_steps}
+use Rattle.command_line.specs.Words.{AreNoOptions, AreRunOptions, AreSteps, IsFirst, AskFor, AskOnFile, AskToCheck, Finds, HasCheck, HasJudge, HasNoCheck, HasNoJudge, HasNoRun, HasNoSearch, HasSearch, IsCheckFound, IsCommand, IsFault, IsFileFound, IsFor, IsNumber, IsPlain, IsPlainCheck, IsPlainRun, IsPlainSearch, IsPlainSimulate, IsPlainFind, IsPlainJudge, Lacks, LacksFor, command, values}
 use Rattle.command_line.proofs.Walks.{IsName, Stops, after, ends0, enters, enters_judge, enters_run, enters_search, history_is, judged, level_parts, low, names, not_nil, plain_word, running, sought, state0, state2, stops, top, top_words}
 use Rattle.command_line.proofs.OneFile.{enters_find, enters_simulate, file_taken, file_walked, judged_takes, looked, looked_help, looked_takes, played, played_help, played_takes, sought_takes, stops_find, stops_simulate, takes_find, takes_judge, takes_search, takes_simulate}
 

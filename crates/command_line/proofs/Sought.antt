@@ -6,7 +6,8 @@ use Rattle.clap.specs.declared.parser.matches.Found.{Found}
 use Rattle.clap.proofs.WalkLemmas.{first_value-rows}
 use Rattle.order_search.specs.declared.trials.TryFirst.{TryFirst}
 use Rattle.command_line.specs.declared.asking.RunOptions.{RunOptions}
-use Rattle.command_line.specs.Words.{max_workers, AreRunOptions, AreSteps, HasCheck, HasJudge, HasNoCheck, HasNoJudge, HasNoRun, HasNoSearch, HasSearch, IsFirst, IsNumber}
+use Rattle.command_line.specs.Limits.{max_workers}
+use Rattle.command_line.specs.Words.{AreRunOptions, AreSteps, HasCheck, HasJudge, HasNoCheck, HasNoJudge, HasNoRun, HasNoSearch, HasSearch, IsFirst, IsNumber}
 
 absent : {X : Type 0} {o p : Option X} {x : X} → o ≡ None → o ≡ p → p ≡ Some x → ⊥
 absent e f g = cc

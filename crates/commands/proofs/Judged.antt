@@ -1,6 +1,6 @@
 -- A judgement of a history by certificates that are found.
 use Rattle.std.proofs.Common.{◌≡◌, ◌≢◌, ◌∙◌, ◌<◌, ℕ, Bool, true, false, List, map, All, AllPairs, Any, Contains, sym}
-use Rattle.std.specs.Prelude.{◌↔◌, IfOk, IfErr, Result, Ok, Err, if◌then◌else◌}
+use Rattle.std.specs.Prelude.{◌↔◌, if◌then◌else◌}
 use Rattle.std.specs.List.{list_all}
 use Rattle.model.specs.Linearizable.{IsLinearizable}
 use Rattle.model.specs.Orders.{events}
@@ -9,13 +9,13 @@ use Rattle.events.specs.Events.{IsNamed, kind_at, denoted}
 use Rattle.search.specs.declared.found.Search.{Search}
 use Rattle.search.specs.declared.found.SearchOutcome.TheVariants.{Impossible}
 use Rattle.deciding.specs.Decisions.{IsDecisionOn}
-use Rattle.report.specs.declared.verdict.Verdict.{Verdict}
-use Rattle.report.specs.declared.verdict.Verdict.TheVariants as verdict
-use Rattle.judging.specs.Texts.{IsLinearizableText}
-use Rattle.commands.specs.declared.output.Output.{Output}
-use Rattle.commands.specs.Outputs.{status_in}
-use Rattle.commands.specs.Searches.{is_found, search_status, IsNotLinearizableText, IsUnsearched}
-use Rattle.commands.specs.Judged.{notes_text, AreOpen, IsOpenText, IsVerdictOnText}
+use Rattle.verdicts.specs.declared.verdict.Verdict.{Verdict}
+use Rattle.verdicts.specs.declared.verdict.Verdict.TheVariants as verdict
+use Rattle.certificate.specs.declared.Certificate.{Certificate}
+use Rattle.checker.specs.Refusals.{AreValid}
+use Rattle.judging.specs.Verdicts.{IsYesUnlessMemory, JudgesBy, OnYes}
+use Rattle.commands.specs.Searches.{is_found, search_status, IsUnsearched}
+use Rattle.commands.specs.Judged.{notes_text, AreOpen, IsVerdictOn, IsVerdictOnText}
 use Rattle.commands.specs.Statuses.{no_memory_status, no_status, yes_status}
 use Rattle.commands.proofs.AllFound.{no_of}
 use Rattle.commands.proofs.Answering.{one_impossible}
@@ -41,21 +41,14 @@ unsearched h (verdict.No r) u = absurd u
 unsearched h (verdict.Malformed f) u = u
 unsearched h verdict.NoMemory u = tt
 
-open_no_yes : (any all : Bool) → all ≡ false → (if any then no_status else if all then yes_status else no_memory_status) ≢ yes_status
+pub open_no_yes : (any all : Bool) → all ≡ false → (if any then no_status else if all then yes_status else no_memory_status) ≢ yes_status
 open_no_yes true all e = λ q. absurd cc
 open_no_yes false true e = λ q. absurd cc
 open_no_yes false false e = λ q. absurd cc
 
-pub judged_yes : (h : List ℕ) (limit : ℕ) (made : Result Output Verdict) → IfOk made (λ o. IsOpenText h limit o.status o.text.items) → IfErr made (IsVerdictOnText h) → status_in made ≡ yes_status → IsLinearizableText h
-judged_yes h limit (Ok o) m s e = absurd (open_no_yes _ _ m.3.some_open (sym m.3.status_is ∙ e))
-judged_yes h limit (Err (verdict.Yes counts)) m s e = record { client_events = s.1; history_text = s.2; linearizable = s.3.linearizable }
-judged_yes h limit (Err (verdict.No r)) m s e = absurd s
-judged_yes h limit (Err (verdict.Malformed f)) m s e = absurd cc
-judged_yes h limit (Err verdict.NoMemory) m s e = absurd cc
-
-pub judged_no : (h : List ℕ) (limit : ℕ) (made : Result Output Verdict) → IfOk made (λ o. IsOpenText h limit o.status o.text.items) → IfErr made (IsVerdictOnText h) → status_in made ≡ no_status → IsNotLinearizableText h
-judged_no h limit (Ok o) m s e = record { client_events = m.1; history_text = m.2; not_linearizable = m.3.refuted e }
-judged_no h limit (Err (verdict.Yes counts)) m s e = absurd cc
-judged_no h limit (Err (verdict.No r)) m s e = absurd s
-judged_no h limit (Err (verdict.Malformed f)) m s e = absurd cc
-judged_no h limit (Err verdict.NoMemory) m s e = absurd cc
+-- the verdict on certificates that are valid
+pub on_valid : (es : List Event) (cs : List Certificate) → AreValid es cs → (v : Verdict) → OnYes v (IsLinearizable (kind_at es) (events (denoted es))) → JudgesBy es cs v → IsYesUnlessMemory v → IsVerdictOn es v
+on_valid es cs valid (verdict.Yes s) linearizable judges accepts = record { certificates = cs; valid = valid; linearizable = linearizable; counts = judges.1 }
+on_valid es cs valid (verdict.No r) linearizable judges accepts = accepts
+on_valid es cs valid (verdict.Malformed f) linearizable judges accepts = accepts
+on_valid es cs valid verdict.NoMemory linearizable judges accepts = tt

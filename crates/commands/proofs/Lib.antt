@@ -1,4 +1,5 @@
 pub mod Outputs
+pub mod Leaving
 pub mod AllFound
 pub mod Reports
 pub mod Answering
@@ -6,3 +7,4 @@ pub mod Accepted
 pub mod Simulations
 pub mod Findings
 pub mod Judged
+pub mod Meanings

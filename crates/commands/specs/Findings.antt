@@ -12,7 +12,7 @@ use Rattle.finder.specs.declared.finding.FindOutcome.{FindOutcome}
 use Rattle.finder.specs.declared.finding.FindOutcome.TheVariants.{Order, Open}
 use Rattle.finder.specs.Finds.{IsFoundOn}
 use Rattle.judging.specs.Texts.{DenotesHistory}
-use Rattle.commands.specs.Searches.{IsUnsearched}
+use Rattle.commands.specs.Searches.{AreCertificatesFor, IsUnsearched}
 use Rattle.commands.specs.Outputs.{IsOutput}
 use Rattle.commands.specs.Statuses.{yes_status, no_memory_status}
 
@@ -50,5 +50,11 @@ abbrev pub AreFoundIn : List ℕ → ℕ → List ℕ → Type 0
 AreFoundIn h status text =
     IsShort h × (es : List Event) × DenotesHistory h es × AreFound es status text
 
+-- what is put out of a find: what was found, or why nothing was looked for
 abbrev pub IsFindOutput : List ℕ → ℕ → List ℕ → Type 0
 IsFindOutput h status text = IsOutput (AreFoundIn h) (IsUnsearched h) status text
+
+-- What a find comes to: a yes comes with valid certificates.
+pub record IsFind (h : List ℕ) (status : ℕ) (out : List ℕ) : Type 0 where
+  pub output : IsFindOutput h status out
+  pub certified : status ≡ yes_status → AreCertificatesFor h out

@@ -12,14 +12,16 @@ use Rattle.checker.specs.Refusals.{AreValid}
 use Rattle.search.specs.declared.found.Search.{Search}
 use Rattle.search.specs.declared.found.SearchOutcome.{SearchOutcome}
 use Rattle.deciding.specs.Decisions.{IsDecisionOn}
-use Rattle.report.specs.declared.verdict.Summary.{Summary}
-use Rattle.report.specs.declared.verdict.Verdict.{Verdict}
-use Rattle.report.specs.declared.verdict.Verdict.TheVariants as verdict
+use Rattle.verdicts.specs.declared.verdict.Summary.{Summary}
+use Rattle.verdicts.specs.declared.verdict.Verdict.{Verdict}
+use Rattle.verdicts.specs.declared.verdict.Verdict.TheVariants as verdict
 use Rattle.judging.specs.declared.texts.TextFailure.TheVariants.{Faulty}
-use Rattle.judging.specs.Texts.{AreCountsOf, DenotesHistory, IsHistoryFault}
+use Rattle.verdicts.specs.Counts.{AreCountsOf}
+use Rattle.judging.specs.Texts.{DenotesHistory, IsHistoryFault, IsLinearizableText}
 use Rattle.commands.specs.Searches.{answer_line, is_found, search_status}
+use Rattle.commands.specs.Searches.{IsNotLinearizableText}
 use Rattle.commands.specs.Outputs.{IsOutput}
-use Rattle.commands.specs.Statuses.{no_status}
+use Rattle.commands.specs.Statuses.{no_status, yes_status}
 
 -- the line on an object that has no certificate, and nothing on one that has
 abbrev pub note_line : ℕ → ℕ → SearchOutcome → List ℕ
@@ -71,5 +73,13 @@ abbrev pub IsOpenText : List ℕ → ℕ → ℕ → List ℕ → Type 0
 IsOpenText h limit status text =
     IsShort h × (es : List Event) × DenotesHistory h es × AreOpen es limit status text
 
+-- what is put out of a judgement: which objects have no certificate, or a verdict
 abbrev pub IsJudgeOutput : List ℕ → ℕ → ℕ → List ℕ → Type 0
 IsJudgeOutput h limit status text = IsOutput (IsOpenText h limit) (IsVerdictOnText h) status text
+
+-- What a judgement comes to: where it is a yes the history is linearizable, and where it is a no it
+-- is not.
+pub record IsJudgement (h : List ℕ) (limit status : ℕ) (out : List ℕ) : Type 0 where
+  pub output : IsJudgeOutput h limit status out
+  pub linearizable : status ≡ yes_status → IsLinearizableText h
+  pub refuted : status ≡ no_status → IsNotLinearizableText h

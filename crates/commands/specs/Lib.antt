@@ -1,7 +1,9 @@
 pub mod Statuses
 pub mod Outputs
+pub mod Checked
 pub mod Runs
 pub mod Searches
 pub mod Findings
 pub mod Judged
 pub mod Simulated
+pub mod Performed

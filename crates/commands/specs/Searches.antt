@@ -16,8 +16,8 @@ use Rattle.search.specs.declared.found.SearchOutcome.TheVariants as found
 use Rattle.search.specs.declared.found.SearchOutcome.TheVariants.{Impossible, OutOfSteps, TooLarge}
 use Rattle.search.specs.declared.found.SearchOutcome.TheVariants.{NoMemory}
 use Rattle.search.specs.Answers.{IsAnswerOn}
-use Rattle.report.specs.declared.verdict.Verdict.{Verdict}
-use Rattle.report.specs.declared.verdict.Verdict.TheVariants as verdict
+use Rattle.verdicts.specs.declared.verdict.Verdict.{Verdict}
+use Rattle.verdicts.specs.declared.verdict.Verdict.TheVariants as verdict
 use Rattle.judging.specs.declared.texts.TextFailure.TheVariants.{Faulty}
 use Rattle.judging.specs.Texts.{DenotesHistory, IsHistoryFault}
 use Rattle.commands.specs.Outputs.{IsOutput}
@@ -81,6 +81,7 @@ IsUnsearched h (verdict.No r) = ⊥
 IsUnsearched h (verdict.Malformed f) = IsHistoryFault h (Faulty f)
 IsUnsearched h verdict.NoMemory = ⊤
 
+-- what is put out of a search: its answers, or why there are none
 abbrev pub IsSearchOutput : List ℕ → ℕ → ℕ → List ℕ → Type 0
 IsSearchOutput h limit status text = IsOutput (IsSearched h limit) (IsUnsearched h) status text
 
@@ -97,3 +98,10 @@ pub record IsNotLinearizableText (h : List ℕ) : Type 0 where
   pub client_events : List Event
   pub history_text : DenotesHistory h client_events
   pub not_linearizable : IsLinearizable (kind_at client_events) (events (denoted client_events)) → ⊥
+
+-- What a search comes to: a yes comes with valid certificates, and where it is a no the history is
+-- not linearizable.
+pub record IsSearch (h : List ℕ) (limit status : ℕ) (out : List ℕ) : Type 0 where
+  pub output : IsSearchOutput h limit status out
+  pub certified : status ≡ yes_status → AreCertificatesFor h out
+  pub refuted : status ≡ no_status → IsNotLinearizableText h

@@ -1,8 +1,8 @@
 -- Exit statuses.
 use Rattle.std.specs.Prelude.{ℕ}
 use Rattle.checker.specs.declared.refusal.Refusal.TheVariants as refusal
-use Rattle.report.specs.declared.verdict.Verdict.{Verdict}
-use Rattle.report.specs.declared.verdict.Verdict.TheVariants.{Yes, No, Malformed, NoMemory}
+use Rattle.verdicts.specs.declared.verdict.Verdict.{Verdict}
+use Rattle.verdicts.specs.declared.verdict.Verdict.TheVariants.{Yes, No, Malformed, NoMemory}
 use Rattle.command_line.specs.declared.asking.LineFault.{LineFault}
 use Rattle.command_line.specs.declared.asking.LineFault.TheVariants as line_fault
 use Rattle.command_line.specs.declared.asking.LineFault.TheVariants.{Help, Refused}
@@ -37,7 +37,8 @@ status_of_fault (Help text) = yes_status
 status_of_fault (Refused text) = usage_status
 status_of_fault line_fault.NoMemory = no_memory_status
 
--- The status of a verdict. A refusal for want of memory is never answered: `judge` says `NoMemory`.
+-- The status of a verdict. `judge` never answers a No with the refusal `NoMemory`, but the verdict
+-- `NoMemory`.
 abbrev pub status_of : Verdict → ℕ
 status_of (Yes s) = yes_status
 status_of (No refusal.NoMemory) = no_memory_status

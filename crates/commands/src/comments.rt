@@ -3,7 +3,7 @@
 ghost use Rattle.std.specs.Prelude.{◌≡◌, ◌++◌, false, true, codes, OnOk, IfOk};
 ghost use Rattle.std.specs.Io.KnownBytes.{Appends};
 ghost use Rattle.certificate.specs.Lines.{line_of, lines_of};
-ghost use Rattle.commands.specs.Runs.{commented};
+ghost use Rattle.commands.specs.Runs.{comment_lines};
 
 use certificate::{Certificate, write_certificates};
 use edn::{Failed, Out, Sink, write_bytes};
@@ -40,7 +40,7 @@ fn write_comment<S: Sink>(certificate: &Certificate, sink: &mut S) -> Result<(),
 fn write_comments<S: Sink>(certificates: &[Certificate], sink: &mut S) -> Result<(), Failed>
     requires { S.broken sink.old ≡ false }
     ensures ok { OnOk result (Appends (S.sent sink.old) (S.sent sink.new)
-        (commented certificates.now)) }
+        (comment_lines certificates.now)) }
     ensures usable { OnOk result (S.broken sink.new ≡ false) }
 {
     for certificate in certificates {
@@ -54,7 +54,7 @@ pub(crate) fn comments_text(
     alloc: Global,
     certificates: &[Certificate],
 ) -> Result<Vec<u8>, AllocError>
-    ensures { IfOk result (λ v. v.items ≡ commented certificates.now) }
+    ensures { IfOk result (λ v. v.items ≡ comment_lines certificates.now) }
 {
     let mut sink = Out::new(Vec::new(alloc));
     match write_comments(certificates, &mut sink) {

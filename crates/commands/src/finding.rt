@@ -1,17 +1,15 @@
 //! Certificates of a history that the finder finds.
 
-ghost use Rattle.std.specs.Prelude.{◌≡◌, ◌≢◌, ◌++◌, ℕ, List, false, true, codes, decimal, OnOk, IfOk, IfErr};
-ghost use Rattle.std.specs.Io.KnownBytes.{Appends};
+ghost use Rattle.std.specs.Prelude.{◌≡◌, ◌++◌, false, codes, decimal, OnOk, IfOk, IfErr};
 ghost use Rattle.std.specs.List.{list_all};
-ghost use Rattle.edn.specs.Sent.{WritesPrefix};
-ghost use Rattle.commands.specs.Findings.{finding_line, findings_text, find_status, has_order, AreFound, AreFoundIn, IsFindOutput};
+ghost use Rattle.commands.specs.Findings.{finding_line, findings_text, find_status, has_order, AreFound, AreFoundIn, IsFind};
 ghost use Rattle.commands.specs.Searches.{IsUnsearched};
-ghost use Rattle.commands.specs.Statuses.{failed_status};
+ghost use Rattle.commands.specs.Outputs.{Leaves};
 
 use crate::comments::certificates_text;
 use crate::output::{Output, put_out};
 use crate::searching::push_note;
-use crate::statuses::NO_MEMORY;
+use crate::statuses::{NO_MEMORY, YES};
 use crate::texts::history_of;
 use edn::Sink;
 use finder::{FindOutcome, find_all};
@@ -67,7 +65,11 @@ fn are_all_found(answers: &[(u32, FindOutcome)]) -> bool
 fn status_for(answers: &[(u32, FindOutcome)]) -> u8
     ensures { result ≡ find_status answers.now }
 {
-    if are_all_found(answers) { 0 } else { NO_MEMORY }
+    if are_all_found(answers) {
+        YES
+    } else {
+        NO_MEMORY
+    }
 }
 
 /// Finds certificates, and says what was found.
@@ -94,16 +96,10 @@ fn find_text(alloc: Global, text: &[u8]) -> Result<Output, Verdict>
 }
 
 /// Finds certificates of the history in the text, puts them out, and gives the exit status.
-pub(crate) fn report_find<S: Sink>(alloc: Global, text: &[u8], sink: &mut S) -> u8
+pub fn report_find<S: Sink>(alloc: Global, text: &[u8], sink: &mut S) -> u8
     requires working { S.broken sink.old ≡ false }
-    ensures written { result ≢ failed_status →
-        (out : List ℕ) × IsFindOutput text.now result out
-        × Appends (S.sent sink.old) (S.sent sink.new) out }
-    ensures usable { result ≢ failed_status → S.broken sink.new ≡ false }
-    ensures failed { result ≡ failed_status → S.broken sink.new ≡ true }
-    ensures front { result ≡ failed_status →
-        (status : ℕ) × (out : List ℕ) × IsFindOutput text.now status out
-        × WritesPrefix (S.sent sink.old) (S.sent sink.new) out }
+    ensures leaves { Leaves (IsFind text.now)
+        (S.sent sink.old) result (S.sent sink.new) (S.broken sink.new) }
 {
     put_out(find_text(alloc, text), sink)
 }

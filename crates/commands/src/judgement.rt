@@ -1,26 +1,22 @@
 //! The judgement of a history without certificates: they are found, and it is judged by them.
 
-ghost use Rattle.std.specs.Prelude.{◌≡◌, ◌≢◌, ◌++◌, ℕ, List, false, true, OnOk, IfOk, IfErr};
-ghost use Rattle.std.specs.Io.KnownBytes.{Appends};
+ghost use Rattle.std.specs.Prelude.{◌≡◌, ◌++◌, false, OnOk, IfOk, IfErr};
 ghost use Rattle.certificate.specs.Denotes.{AreDistinct};
 ghost use Rattle.checker.specs.Refusals.{AreValid};
 ghost use Rattle.search.specs.Answers.{certificates_in};
-ghost use Rattle.edn.specs.Sent.{WritesPrefix};
-ghost use Rattle.judging.specs.Texts.{IsLinearizableText};
-ghost use Rattle.commands.specs.Judged.{note_line, notes_text, AreOpen, IsJudgeOutput, IsOpenText, IsVerdictOn, IsVerdictOnText};
-ghost use Rattle.commands.specs.Searches.{search_status, IsNotLinearizableText};
-ghost use Rattle.commands.specs.Statuses.{failed_status, no_status, yes_status};
+ghost use Rattle.commands.specs.Judged.{note_line, notes_text, AreOpen, IsJudgement, IsOpenText, IsVerdictOn, IsVerdictOnText};
+ghost use Rattle.commands.specs.Outputs.{Leaves};
+ghost use Rattle.commands.specs.Searches.{search_status};
 
 use crate::output::{Output, put_out};
 use crate::searching::{are_all_found, push_answer, status_for};
 use crate::texts::history_of;
 use certificate::Certificate;
-use checker::Refusal;
 use deciding::{Search, SearchOutcome, decide_all};
 use edn::Sink;
 use history::History;
-use judging::judge_history;
-use report::{Verdict, summary};
+use judging::verdict_on;
+use report::Verdict;
 use std::alloc::{AllocError, Global};
 use std::thread::Threads;
 
@@ -80,27 +76,6 @@ fn certificates_of(
     Ok(certificates)
 }
 
-/// The verdict on valid certificates.
-fn verdict_by<R: Threads + Sync>(
-    rt: &R,
-    alloc: Global,
-    history: &History,
-    certificates: &[Certificate],
-) -> Verdict
-    requires distinct { AreDistinct certificates.now }
-    requires valid { AreValid history.now certificates.now }
-    ensures { IsVerdictOn history.now result }
-{
-    match judge_history(rt, alloc, history, certificates, 1) {
-        Ok(()) => match summary(alloc, history) {
-            Ok(summary) => Verdict::Yes(summary),
-            Err(_) => Verdict::NoMemory,
-        },
-        Err(Refusal::NoMemory) => Verdict::NoMemory,
-        Err(refusal) => Verdict::No(refusal),
-    }
-}
-
 /// The verdict on the certificates that were found, one for each object.
 fn verdict_on_found<R: Threads + Sync>(
     rt: &R,
@@ -113,7 +88,7 @@ fn verdict_on_found<R: Threads + Sync>(
     ensures { IsVerdictOn history.now result }
 {
     match certificates_of(alloc, answers) {
-        Ok(certificates) => verdict_by(rt, alloc, history, &certificates),
+        Ok(certificates) => verdict_on(rt, alloc, history, &certificates, 1),
         Err(AllocError) => Verdict::NoMemory,
     }
 }
@@ -157,8 +132,9 @@ fn judge_text<R: Threads + Sync>(
 }
 
 /// Finds certificates of the history in the text, judges it by them, puts out the verdict, or what
-/// is said of objects without a certificate, and gives the exit status.
-pub(crate) fn report_judgement<R: Threads + Sync, S: Sink>(
+/// is said of objects without a certificate, and gives the exit status. A search takes at most
+/// `steps` steps for each object.
+pub fn report_judgement<R: Threads + Sync, S: Sink>(
     rt: &R,
     alloc: Global,
     text: &[u8],
@@ -166,16 +142,8 @@ pub(crate) fn report_judgement<R: Threads + Sync, S: Sink>(
     sink: &mut S,
 ) -> u8
     requires working { S.broken sink.old ≡ false }
-    ensures written { result ≢ failed_status →
-        (out : List ℕ) × IsJudgeOutput text.now steps result out
-        × Appends (S.sent sink.old) (S.sent sink.new) out }
-    ensures usable { result ≢ failed_status → S.broken sink.new ≡ false }
-    ensures failed { result ≡ failed_status → S.broken sink.new ≡ true }
-    ensures front { result ≡ failed_status →
-        (status : ℕ) × (out : List ℕ) × IsJudgeOutput text.now steps status out
-        × WritesPrefix (S.sent sink.old) (S.sent sink.new) out }
-    ensures linearizable { result ≡ yes_status → IsLinearizableText text.now }
-    ensures refuted { result ≡ no_status → IsNotLinearizableText text.now }
+    ensures leaves { Leaves (IsJudgement text.now steps)
+        (S.sent sink.old) result (S.sent sink.new) (S.broken sink.new) }
 {
     put_out(judge_text(rt, alloc, text, steps), sink)
 }

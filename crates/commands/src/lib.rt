@@ -13,8 +13,13 @@ mod simulating;
 mod statuses;
 mod texts;
 
-pub use checking::check_sources;
+pub use checking::{check_sources, report_check};
 pub use command_line::{Line, LineFault, RunOptions, line};
+pub use finding::report_find;
+pub use judgement::report_judgement;
 pub use program::perform;
-pub use sources::{In, NamedFile, READ_LIMIT, Text};
-pub use statuses::{FAILED, NO_MEMORY, USAGE, status_of_fault};
+pub use running::report_run;
+pub use searching::report_search;
+pub use simulating::report_simulation;
+pub use sources::{In, NamedFile, ReadFault, Text, read_text};
+pub use statuses::{FAILED, MALFORMED, NO, NO_MEMORY, USAGE, YES, status_of_fault};

@@ -1,14 +1,12 @@
 //! What is put out, and with which exit status.
 
-ghost use Rattle.std.specs.Prelude.{◌≡◌, ◌≢◌, false, true, IfOk};
-ghost use Rattle.std.specs.Io.KnownBytes.{Appends};
-ghost use Rattle.edn.specs.Sent.{WritesPrefix};
+ghost use Rattle.std.specs.Prelude.{◌≡◌, ◌≢◌, ◌++◌, false, true, IfOk};
 ghost use Rattle.report.specs.Lines.{verdict_text};
-ghost use Rattle.commands.specs.Outputs.{status_in, text_in};
+ghost use Rattle.commands.specs.Outputs.{IsExactly, IsOutOfMemory, Leaves, status_in, text_in};
 ghost use Rattle.commands.specs.Statuses as spec;
 ghost use Rattle.commands.specs.Statuses.{failed_status};
 
-use crate::statuses::{FAILED, status_of};
+use crate::statuses::{FAILED, NO_MEMORY, status_of};
 use edn::{Failed, Sink, write_bytes};
 use report::{Verdict, write_verdict};
 
@@ -23,12 +21,8 @@ pub(crate) struct Output {
 pub(crate) fn send<S: Sink>(lines: &[u8], status: u8, sink: &mut S) -> u8
     requires working { S.broken sink.old ≡ false }
     requires other { status ≢ failed_status }
-    ensures written { result ≢ failed_status →
-        (result ≡ status) × Appends (S.sent sink.old) (S.sent sink.new) lines.now }
-    ensures usable { result ≢ failed_status → S.broken sink.new ≡ false }
-    ensures failed { result ≡ failed_status → S.broken sink.new ≡ true }
-    ensures front { result ≡ failed_status
-        → WritesPrefix (S.sent sink.old) (S.sent sink.new) lines.now }
+    ensures leaves { Leaves (IsExactly status lines.now)
+        (S.sent sink.old) result (S.sent sink.new) (S.broken sink.new) }
 {
     match write_bytes(lines, sink) {
         Ok(()) => status,
@@ -36,20 +30,38 @@ pub(crate) fn send<S: Sink>(lines: &[u8], status: u8, sink: &mut S) -> u8
     }
 }
 
+/// Says that memory was refused.
+pub(crate) fn send_out_of_memory<S: Sink>(sink: &mut S) -> u8
+    requires working { S.broken sink.old ≡ false }
+    ensures leaves { Leaves IsOutOfMemory
+        (S.sent sink.old) result (S.sent sink.new) (S.broken sink.new) }
+{
+    send(b"out of memory\n", NO_MEMORY, sink)
+}
+
 /// Writes the lines of the verdict, as comments or as they are, and answers its exit status.
 pub(crate) fn send_verdict<S: Sink>(verdict: &Verdict, commented: bool, sink: &mut S) -> u8
     requires { S.broken sink.old ≡ false }
-    ensures written { result ≢ failed_status →
-        (result ≡ spec.status_of verdict.now)
-        × Appends (S.sent sink.old) (S.sent sink.new) (verdict_text commented verdict.now) }
-    ensures usable { result ≢ failed_status → S.broken sink.new ≡ false }
-    ensures failed { result ≡ failed_status → S.broken sink.new ≡ true }
-    ensures front { result ≡ failed_status →
-        WritesPrefix (S.sent sink.old) (S.sent sink.new) (verdict_text commented verdict.now) }
+    ensures leaves { Leaves
+        (IsExactly (spec.status_of verdict.now) (verdict_text commented verdict.now))
+        (S.sent sink.old) result (S.sent sink.new) (S.broken sink.new) }
 {
     match write_verdict(verdict, commented, sink) {
         Ok(()) => status_of(verdict),
         Err(_) => FAILED,
+    }
+}
+
+/// Writes the text and then the lines of the verdict as comments, and answers its exit status.
+pub(crate) fn send_both<S: Sink>(text: &[u8], verdict: &Verdict, sink: &mut S) -> u8
+    requires { S.broken sink.old ≡ false }
+    ensures leaves { Leaves
+        (IsExactly (spec.status_of verdict.now) (text.now ++ verdict_text true verdict.now))
+        (S.sent sink.old) result (S.sent sink.new) (S.broken sink.new) }
+{
+    match write_bytes(text, sink) {
+        Ok(()) => send_verdict(verdict, true, sink),
+        Err(Failed) => FAILED,
     }
 }
 
@@ -58,12 +70,8 @@ pub(crate) fn send_verdict<S: Sink>(verdict: &Verdict, commented: bool, sink: &m
 pub(crate) fn put_out<S: Sink>(made: Result<Output, Verdict>, sink: &mut S) -> u8
     requires working { S.broken sink.old ≡ false }
     requires other { IfOk made (λ o. o.status ≢ failed_status) }
-    ensures written { result ≢ failed_status →
-        (result ≡ status_in made) × Appends (S.sent sink.old) (S.sent sink.new) (text_in made) }
-    ensures usable { result ≢ failed_status → S.broken sink.new ≡ false }
-    ensures failed { result ≡ failed_status → S.broken sink.new ≡ true }
-    ensures front { result ≡ failed_status
-        → WritesPrefix (S.sent sink.old) (S.sent sink.new) (text_in made) }
+    ensures leaves { Leaves (IsExactly (status_in made) (text_in made))
+        (S.sent sink.old) result (S.sent sink.new) (S.broken sink.new) }
 {
     match made {
         Ok(output) => send(&output.text, output.status, sink),

@@ -1,15 +1,13 @@
 //! A search for certificates of a history.
 
-ghost use Rattle.std.specs.Prelude.{◌≡◌, ◌≢◌, ◌++◌, ℕ, List, false, true, codes, decimal, OnOk, IfOk, IfErr};
-ghost use Rattle.std.specs.Io.KnownBytes.{Appends};
+ghost use Rattle.std.specs.Prelude.{◌≡◌, ◌++◌, false, codes, decimal, OnOk, IfOk, IfErr};
 ghost use Rattle.std.specs.List.{list_all, list_any};
-ghost use Rattle.edn.specs.Sent.{WritesPrefix};
-ghost use Rattle.commands.specs.Searches.{answer_line, answers_text, search_status, is_impossible, is_found, AreSearched, IsSearched, IsUnsearched, IsSearchOutput};
-ghost use Rattle.commands.specs.Statuses.{failed_status};
+ghost use Rattle.commands.specs.Searches.{answer_line, answers_text, search_status, is_impossible, is_found, AreSearched, IsSearch, IsSearched, IsUnsearched};
+ghost use Rattle.commands.specs.Outputs.{Leaves};
 
 use crate::comments::certificates_text;
 use crate::output::{Output, put_out};
-use crate::statuses::NO_MEMORY;
+use crate::statuses::{NO, NO_MEMORY, YES};
 use crate::texts::history_of;
 use edn::Sink;
 use history::History;
@@ -120,9 +118,9 @@ pub(crate) fn status_for(answers: &[(u32, Search)]) -> u8
     ensures { result ≡ search_status answers.now }
 {
     if is_one_impossible(answers) {
-        1
+        NO
     } else if are_all_found(answers) {
-        0
+        YES
     } else {
         NO_MEMORY
     }
@@ -156,8 +154,9 @@ fn search_text(alloc: Global, text: &[u8], steps: u32, first: TryFirst) -> Resul
     }
 }
 
-/// Searches for certificates of the history in the text, puts them out, and gives the exit status.
-pub(crate) fn report_search<S: Sink>(
+/// Searches for certificates of the history in the text, with at most `steps` steps for each
+/// object, puts them out, and gives the exit status.
+pub fn report_search<S: Sink>(
     alloc: Global,
     text: &[u8],
     steps: u32,
@@ -165,14 +164,8 @@ pub(crate) fn report_search<S: Sink>(
     sink: &mut S,
 ) -> u8
     requires working { S.broken sink.old ≡ false }
-    ensures written { result ≢ failed_status →
-        (out : List ℕ) × IsSearchOutput text.now steps result out
-        × Appends (S.sent sink.old) (S.sent sink.new) out }
-    ensures usable { result ≢ failed_status → S.broken sink.new ≡ false }
-    ensures failed { result ≡ failed_status → S.broken sink.new ≡ true }
-    ensures front { result ≡ failed_status →
-        (status : ℕ) × (out : List ℕ) × IsSearchOutput text.now steps status out
-        × WritesPrefix (S.sent sink.old) (S.sent sink.new) out }
+    ensures leaves { Leaves (IsSearch text.now steps)
+        (S.sent sink.old) result (S.sent sink.new) (S.broken sink.new) }
 {
     put_out(search_text(alloc, text, steps, first), sink)
 }

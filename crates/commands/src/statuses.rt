@@ -7,6 +7,15 @@ use checker::Refusal;
 use command_line::LineFault;
 use report::Verdict;
 
+/// The exit status where the history is linearizable, or each object has a certificate.
+pub const YES: u8 = 0;
+
+/// The exit status where the certificates are refused, or an object has no valid order.
+pub const NO: u8 = 1;
+
+/// The exit status where a text is malformed, or a client of a schedule has not ended.
+pub const MALFORMED: u8 = 2;
+
 /// The exit status where memory was refused, or a thread could not be started.
 pub const NO_MEMORY: u8 = 3;
 
@@ -22,7 +31,7 @@ pub fn status_of_fault(fault: &LineFault) -> u8
     ensures { result ≡ spec.status_of_fault fault.now }
 {
     match fault {
-        LineFault::Help(_) => 0,
+        LineFault::Help(_) => YES,
         LineFault::Refused(_) => USAGE,
         LineFault::NoMemory => NO_MEMORY,
     }
@@ -33,9 +42,9 @@ pub(crate) fn status_of(verdict: &Verdict) -> u8
     ensures { result ≡ spec.status_of verdict.now }
 {
     match verdict {
-        Verdict::Yes(_) => 0,
+        Verdict::Yes(_) => YES,
         Verdict::No(Refusal::NoMemory) | Verdict::NoMemory => NO_MEMORY,
-        Verdict::No(_) => 1,
-        Verdict::Malformed(_) => 2,
+        Verdict::No(_) => NO,
+        Verdict::Malformed(_) => MALFORMED,
     }
 }

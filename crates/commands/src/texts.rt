@@ -6,7 +6,7 @@ ghost use Rattle.judging.specs.Texts.{DenotesHistory};
 ghost use Rattle.commands.specs.Searches.{IsUnsearched};
 
 use history::History;
-use judging::{TextFailure, history_in};
+use judging::{history_in, verdict_on_failure};
 use report::Verdict;
 use std::alloc::Global;
 
@@ -18,7 +18,6 @@ pub(crate) fn history_of(alloc: Global, text: &[u8]) -> Result<History, Verdict>
 {
     match history_in(alloc, text) {
         Ok(history) => Ok(history),
-        Err(TextFailure::Faulty(fault)) => Err(Verdict::Malformed(fault)),
-        Err(TextFailure::NoMemory) => Err(Verdict::NoMemory),
+        Err(stop) => Err(verdict_on_failure(stop)),
     }
 }

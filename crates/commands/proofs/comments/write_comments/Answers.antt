@@ -1,5 +1,5 @@
 use Rattle.edn.proofs.Fronts.{further}
-use Rattle.commands.specs.Runs.{commented}
+use Rattle.commands.specs.Runs.{comment_lines}
 use Rattle.commands.proofs.Reports.{comments_left}
 use Rattle.commands.proofs.comments.write_comments.Goals as goal
 
@@ -8,5 +8,5 @@ loop-certificate-preserved g c =
     let l = c.loop-certificate in
     let xs = c.args.certificates.now in
     let left = comments_left xs l.certificate-index c.certificate-item.result c.loop-certificate-test.true c.certificate-item.is in
-    let f = further _ _ _ (commented xs) l.invariant.done _ _ _ l.invariant.parts left l.invariant.sent c.in_ok-write_comment.ensures.ok in
+    let f = further _ _ _ (comment_lines xs) l.invariant.done _ _ _ l.invariant.parts left l.invariant.sent c.in_ok-write_comment.ensures.ok in
     record { usable = c.in_ok-write_comment.ensures.usable; done = f.0; parts = f.1; sent = f.2 }

@@ -1,16 +1,16 @@
-use Rattle.std.specs.Io.KnownBytes.{Appends}
 use Rattle.std.proofs.lemmas.Result.{IfOk-weaker}
-use Rattle.edn.specs.Sent.{WritesPrefix}
 use Rattle.commands.specs.Searches.{IsSearched, IsUnsearched}
-use Rattle.commands.proofs.Outputs.{front, written}
 use Rattle.commands.proofs.Answering.{never_failed}
+use Rattle.commands.proofs.Leaving.{leaves_as}
+use Rattle.commands.proofs.Meanings.{is_search}
+use Rattle.commands.proofs.Outputs.{made_output}
 use Rattle.commands.proofs.searching.report_search.Goals as goal
 
 pub put_out-requires-clause-other : goal.put_out-requires-clause-other
 put_out-requires-clause-other g c = IfOk-weaker c.search_text.result _ _ (λ o h. never_failed h.3.answers h.3.status_is) c.search_text.ensures.searched
 
-pub returns-clause-written : goal.returns-clause-written
-returns-clause-written g c e = written (IsSearched c.args.text.now c.args.steps) (IsUnsearched c.args.text.now) c.search_text.result c.search_text.ensures.searched c.search_text.ensures.unsearched (Appends (g.S.Sink.sent c.args.sink.now) (g.S.Sink.sent c.put_out.new.sink)) c.put_out.result (c.put_out.ensures.written e)
-
-pub returns-clause-front : goal.returns-clause-front
-returns-clause-front g c e = front (IsSearched c.args.text.now c.args.steps) (IsUnsearched c.args.text.now) c.search_text.result c.search_text.ensures.searched c.search_text.ensures.unsearched (WritesPrefix (g.S.Sink.sent c.args.sink.now) (g.S.Sink.sent c.put_out.new.sink)) (c.put_out.ensures.front e)
+pub returns-clause-leaves : goal.returns-clause-leaves
+returns-clause-leaves g c =
+    let h = c.args.text.now in
+    let made = c.search_text.ensures in
+    leaves_as c.put_out.ensures.leaves (λ own out is. is_search h c.args.steps own out (made_output (IsSearched h c.args.steps) (IsUnsearched h) c.search_text.result made.searched made.unsearched own out is))
