@@ -9,7 +9,7 @@ use Rattle.verdicts.specs.declared.verdict.Verdict.TheVariants.{Yes, No, Malform
 use Rattle.judging.specs.Verdicts.{IsYesUnlessMemory}
 use Rattle.clients.specs.Made.{Ran}
 use Rattle.command_line.specs.declared.asking.RunOptions.{RunOptions}
-use Rattle.commands.specs.Statuses.{no_status, status_of, yes_status}
+use Rattle.outputs.specs.Statuses.{no_status, status_of, yes_status}
 use Rattle.commands.specs.Runs.{IsAcceptedOutput, IsAcceptedRun, IsRecordOutput, IsReported, IsRunOutput, IsSound, Says, comment_lines, journals_of, logs_of, work_of}
 use Rattle.commands.proofs.Reports.{sound_as_it_is}
 

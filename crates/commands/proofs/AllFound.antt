@@ -6,7 +6,7 @@ use Rattle.std.proofs.lemmas.List.{append-nil}
 use Rattle.model.proofs.Lists.{In, all_from_in}
 use Rattle.certificate.specs.declared.Certificate.{Certificate}
 use Rattle.certificate.specs.Lines.{line_of, lines_of}
-use Rattle.commands.specs.Statuses.{yes_status, no_status, no_memory_status, failed_status}
+use Rattle.outputs.specs.Statuses.{yes_status, no_status, no_memory_status, failed_status}
 
 -- ---- by the status
 

@@ -14,7 +14,7 @@ use Rattle.search.specs.declared.found.SearchOutcome.{SearchOutcome}
 use Rattle.search.specs.declared.found.SearchOutcome.TheVariants as found
 use Rattle.search.specs.declared.found.SearchOutcome.TheVariants.{Impossible, OutOfSteps, TooLarge, NoMemory}
 use Rattle.search.specs.Answers.{IsAnswerOn, IsFound, certificate_in, certificates_in}
-use Rattle.commands.specs.Statuses.{failed_status}
+use Rattle.outputs.specs.Statuses.{failed_status}
 use Rattle.commands.specs.Searches.{answer_line, answers_text, is_impossible, is_found, search_status, AreSearched}
 use Rattle.commands.proofs.AllFound.{each_found, found_text, no_of, not_failed, yes_of}
 

@@ -10,7 +10,7 @@ use Rattle.checker.specs.Refusals.{AreValid}
 use Rattle.finder.specs.declared.finding.FindOutcome.{FindOutcome}
 use Rattle.finder.specs.declared.finding.FindOutcome.TheVariants.{Order, Open}
 use Rattle.finder.specs.Finds.{IsFoundOn, IsFound, certificate_in, certificates_in}
-use Rattle.commands.specs.Statuses.{failed_status}
+use Rattle.outputs.specs.Statuses.{failed_status}
 use Rattle.commands.specs.Findings.{finding_line, findings_text, has_order, find_status, AreFound}
 use Rattle.commands.proofs.AllFound.{each_found, found_text, not_failed, yes_of}
 

@@ -16,7 +16,7 @@ use Rattle.checker.specs.Refusals.{AreValid}
 use Rattle.judging.specs.Verdicts.{IsYesUnlessMemory, JudgesBy, OnYes}
 use Rattle.commands.specs.Searches.{is_found, search_status, IsUnsearched}
 use Rattle.commands.specs.Judged.{notes_text, AreOpen, IsVerdictOn, IsVerdictOnText}
-use Rattle.commands.specs.Statuses.{no_memory_status, no_status, yes_status}
+use Rattle.outputs.specs.Statuses.{no_memory_status, no_status, yes_status}
 use Rattle.commands.proofs.AllFound.{no_of}
 use Rattle.commands.proofs.Answering.{one_impossible}
 

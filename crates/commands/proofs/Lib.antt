@@ -1,5 +1,3 @@
-pub mod Outputs
-pub mod Leaving
 pub mod AllFound
 pub mod Reports
 pub mod Answering

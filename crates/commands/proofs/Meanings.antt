@@ -1,48 +1,18 @@
 -- What the status of an output shows.
-use Rattle.std.proofs.Common.{◌≡◌, ◌≢◌, ◌∙◌, ℕ, Bool, true, false, List, Option, Some, None, inl, inr, sym}
-use Rattle.checker.specs.declared.refusal.Refusal.{Refusal}
-use Rattle.checker.specs.declared.refusal.Refusal.TheVariants as refusal
+use Rattle.std.proofs.Common.{◌≡◌, ◌≢◌, ◌∙◌, ℕ, List, inl, inr, sym}
 use Rattle.verdicts.specs.declared.verdict.Verdict.{Verdict}
 use Rattle.verdicts.specs.declared.verdict.Verdict.TheVariants.{Yes, No, Malformed, NoMemory}
 use Rattle.judging.specs.Texts.{IsLinearizableText}
-use Rattle.judging.specs.Verdicts.{Holds, OnYes}
-use Rattle.commands.specs.declared.checking.Texts.{Texts}
-use Rattle.commands.specs.Checked.{IsCheck, IsUnreadOutput}
+use Rattle.outputs.specs.Statuses.{no_status, status_of, yes_status}
+use Rattle.command_line.specs.declared.asking.RunOptions.{RunOptions}
 use Rattle.commands.specs.Findings.{IsFind, IsFindOutput}
 use Rattle.commands.specs.Judged.{IsJudgement, IsJudgeOutput, IsVerdictOnText}
-use Rattle.commands.specs.Outputs.{IsVerdictOutput, Leaves}
 use Rattle.commands.specs.Runs.{IsRun, IsRunOutput}
-use Rattle.command_line.specs.declared.asking.RunOptions.{RunOptions}
 use Rattle.commands.specs.Searches.{IsNotLinearizableText, IsSearch, IsSearchOutput, IsUnsearched}
 use Rattle.commands.specs.Simulated.{IsSimulation, IsSimulateOutput}
-use Rattle.commands.specs.Statuses.{no_status, status_of, yes_status}
 use Rattle.commands.proofs.Accepted.{run_accepted, run_not_no}
 use Rattle.commands.proofs.Judged.{open_no_yes}
 use Rattle.commands.proofs.Simulations as simulation
-
--- ---- a verdict
-
-refusal_is_no_yes : (r : Refusal) → status_of (No r) ≢ yes_status
-refusal_is_no_yes (refusal.NoCertificate x) e = absurd cc
-refusal_is_no_yes (refusal.StrangeObject x) e = absurd cc
-refusal_is_no_yes (refusal.BadOrder x f) e = absurd cc
-refusal_is_no_yes refusal.NoMemory e = absurd cc
-
-pub yes_shows : (P : Type 0) (v : Verdict) → OnYes v P → status_of v ≡ yes_status → P
-yes_shows P (Yes s) p e = p
-yes_shows P (No r) p e = absurd (refusal_is_no_yes r e)
-yes_shows P (Malformed f) p e = absurd cc
-yes_shows P NoMemory p e = absurd cc
-
--- ---- a check
-
-pub is_check : (h c : List ℕ) (status : ℕ) (out : List ℕ) → IsVerdictOutput (Holds h c) status out → IsCheck h c status out
-is_check h c status out k = record { output = k; linearizable = λ e. yes_shows (IsLinearizableText h) k.0 k.1.linearizable (sym k.2 ∙ e) }
-
--- no yes comes where memory for the texts was refused
-pub unread_is_no_yes : {before after : Option (List ℕ)} {status : ℕ} {broken : Bool} (m : Option Texts) → m ≡ None → Leaves (IsUnreadOutput m) before status after broken → status ≢ yes_status
-unread_is_no_yes None n h e = let k = h.written (λ f. let t = sym e ∙ f in absurd cc) in let t = sym k.1.0 ∙ e in absurd cc
-unread_is_no_yes (Some t) n h e = absurd cc
 
 -- ---- a search, a find
 

@@ -3,7 +3,7 @@ use Rattle.std.proofs.Common.{◌≡◌, ◌≢◌, ◌∙◌, ℕ, List, inl, i
 use Rattle.simulation.specs.Plays.{kinds_of}
 use Rattle.simulation.specs.declared.simulating.SimulationFault.{SimulationFault}
 use Rattle.simulation.specs.declared.simulating.SimulationFault.TheVariants.{Text, Form, NotEnded, NoMemory}
-use Rattle.commands.specs.Statuses.{no_status, yes_status}
+use Rattle.outputs.specs.Statuses.{no_status, yes_status}
 use Rattle.commands.specs.Runs.{journals_of, logs_of}
 use Rattle.commands.specs.Simulated.{IsAcceptedSimulation, IsFaultOutput, IsSimulateOutput, fault_status, refused_line}
 use Rattle.commands.proofs.Accepted.{record_accepted, record_not_no}

@@ -13,8 +13,8 @@ use Rattle.finder.specs.declared.finding.FindOutcome.TheVariants.{Order, Open}
 use Rattle.finder.specs.Finds.{IsFoundOn}
 use Rattle.judging.specs.Texts.{DenotesHistory}
 use Rattle.commands.specs.Searches.{AreCertificatesFor, IsUnsearched}
-use Rattle.commands.specs.Outputs.{IsOutput}
-use Rattle.commands.specs.Statuses.{yes_status, no_memory_status}
+use Rattle.outputs.specs.Outputs.{IsOutput}
+use Rattle.outputs.specs.Statuses.{yes_status, no_memory_status}
 
 -- the line of what was found for an object: its certificate, or that it is open
 abbrev pub finding_line : ℕ → FindOutcome → List ℕ

@@ -20,8 +20,8 @@ use Rattle.verdicts.specs.Counts.{AreCountsOf}
 use Rattle.judging.specs.Texts.{DenotesHistory, IsHistoryFault, IsLinearizableText}
 use Rattle.commands.specs.Searches.{answer_line, is_found, search_status}
 use Rattle.commands.specs.Searches.{IsNotLinearizableText}
-use Rattle.commands.specs.Outputs.{IsOutput}
-use Rattle.commands.specs.Statuses.{no_status, yes_status}
+use Rattle.outputs.specs.Outputs.{IsOutput}
+use Rattle.outputs.specs.Statuses.{no_status, yes_status}
 
 -- the line on an object that has no certificate, and nothing on one that has
 abbrev pub note_line : ℕ → ℕ → SearchOutcome → List ℕ

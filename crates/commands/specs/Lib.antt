@@ -1,6 +1,4 @@
 pub mod Statuses
-pub mod Outputs
-pub mod Checked
 pub mod Runs
 pub mod Searches
 pub mod Findings

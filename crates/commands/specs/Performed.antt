@@ -3,7 +3,7 @@ use Rattle.std.specs.Prelude.{ℕ, List}
 use Rattle.command_line.specs.declared.asking.Line.{Line}
 use Rattle.command_line.specs.declared.asking.Line.TheVariants.{Check, Search, Find, Judge, Run}
 use Rattle.command_line.specs.declared.asking.Line.TheVariants.{Simulate}
-use Rattle.commands.specs.Checked.{IsCheck}
+use Rattle.outputs.specs.Checked.{IsCheck}
 use Rattle.commands.specs.Findings.{IsFind}
 use Rattle.commands.specs.Judged.{IsJudgement}
 use Rattle.commands.specs.Runs.{IsRun}

@@ -24,8 +24,8 @@ use Rattle.verdicts.specs.declared.verdict.Verdict.TheVariants.{Yes, No, Malform
 use Rattle.verdicts.specs.Counts.{AreCountsOf}
 use Rattle.judging.specs.Verdicts.{IsYesUnlessMemory}
 use Rattle.command_line.specs.declared.asking.RunOptions.{RunOptions}
-use Rattle.commands.specs.Outputs.{IsOutOfMemory}
-use Rattle.commands.specs.Statuses.{no_memory_status, no_status, status_of, yes_status}
+use Rattle.outputs.specs.Outputs.{IsOutOfMemory}
+use Rattle.outputs.specs.Statuses.{no_memory_status, no_status, status_of, yes_status}
 
 -- the lines of certificates, each as a comment
 abbrev pub comment_lines : List Certificate → List ℕ

@@ -20,8 +20,8 @@ use Rattle.verdicts.specs.declared.verdict.Verdict.{Verdict}
 use Rattle.verdicts.specs.declared.verdict.Verdict.TheVariants as verdict
 use Rattle.judging.specs.declared.texts.TextFailure.TheVariants.{Faulty}
 use Rattle.judging.specs.Texts.{DenotesHistory, IsHistoryFault}
-use Rattle.commands.specs.Outputs.{IsOutput}
-use Rattle.commands.specs.Statuses.{yes_status, no_status, no_memory_status}
+use Rattle.outputs.specs.Outputs.{IsOutput}
+use Rattle.outputs.specs.Statuses.{yes_status, no_status, no_memory_status}
 
 -- the line of an answer on an object: its certificate, or why it has none
 abbrev pub answer_line : ℕ → ℕ → SearchOutcome → List ℕ

@@ -9,8 +9,8 @@ use Rattle.simulation.specs.Simulations.{IsSimulated, IsSimulationFault}
 use Rattle.simulation.specs.declared.simulating.SimulationFault.{SimulationFault}
 use Rattle.simulation.specs.declared.simulating.SimulationFault.TheVariants.{Text, Form, NotEnded}
 use Rattle.simulation.specs.declared.simulating.SimulationFault.TheVariants.{NoMemory}
-use Rattle.commands.specs.Statuses.{malformed_status, no_memory_status, no_status, yes_status}
-use Rattle.commands.specs.Outputs.{IsOutOfMemory}
+use Rattle.outputs.specs.Statuses.{malformed_status, no_memory_status, no_status, yes_status}
+use Rattle.outputs.specs.Outputs.{IsOutOfMemory}
 use Rattle.commands.specs.Runs.{IsAcceptedOutput, IsRecordOutput, journals_of, logs_of}
 
 -- how many steps were not possible at their turn

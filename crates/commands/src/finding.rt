@@ -4,16 +4,15 @@ ghost use Rattle.std.specs.Prelude.{◌≡◌, ◌++◌, false, codes, decimal, 
 ghost use Rattle.std.specs.List.{list_all};
 ghost use Rattle.commands.specs.Findings.{finding_line, findings_text, find_status, has_order, AreFound, AreFoundIn, IsFind};
 ghost use Rattle.commands.specs.Searches.{IsUnsearched};
-ghost use Rattle.commands.specs.Outputs.{Leaves};
+ghost use Rattle.outputs.specs.Outputs.{Leaves};
 
 use crate::comments::certificates_text;
-use crate::output::{Output, put_out};
 use crate::searching::push_note;
-use crate::statuses::{NO_MEMORY, YES};
 use crate::texts::history_of;
 use edn::Sink;
 use finder::{FindOutcome, find_all};
 use history::History;
+use outputs::{NO_MEMORY, Output, YES, put_out};
 use report::Verdict;
 use std::alloc::{AllocError, Global};
 

@@ -1,10 +1,9 @@
 //! What the program does.
 
 ghost use Rattle.std.specs.Prelude.{◌≡◌, false};
-ghost use Rattle.commands.specs.Outputs.{Leaves};
+ghost use Rattle.outputs.specs.Outputs.{Leaves};
 ghost use Rattle.commands.specs.Performed.{IsPerformed};
 
-use crate::checking::report_check;
 use crate::finding::report_find;
 use crate::judgement::report_judgement;
 use crate::running::report_run;
@@ -12,6 +11,7 @@ use crate::searching::report_search;
 use crate::simulating::report_simulation;
 use command_line::Line;
 use edn::Sink;
+use outputs::report_check;
 use std::alloc::Global;
 use std::sync::Wait;
 use std::thread::Threads;

@@ -3,15 +3,14 @@
 ghost use Rattle.std.specs.Prelude.{◌≡◌, ◌++◌, false, codes, decimal, OnOk, IfOk, IfErr};
 ghost use Rattle.std.specs.List.{list_all, list_any};
 ghost use Rattle.commands.specs.Searches.{answer_line, answers_text, search_status, is_impossible, is_found, AreSearched, IsSearch, IsSearched, IsUnsearched};
-ghost use Rattle.commands.specs.Outputs.{Leaves};
+ghost use Rattle.outputs.specs.Outputs.{Leaves};
 
 use crate::comments::certificates_text;
-use crate::output::{Output, put_out};
-use crate::statuses::{NO, NO_MEMORY, YES};
 use crate::texts::history_of;
 use edn::Sink;
 use history::History;
 use itoa::Buffer;
+use outputs::{NO, NO_MEMORY, Output, YES, put_out};
 use report::Verdict;
 use search::{Search, SearchOutcome, TryFirst, search_all_by};
 use std::alloc::{AllocError, Global};

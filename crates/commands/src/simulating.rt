@@ -3,14 +3,13 @@
 ghost use Rattle.std.specs.Prelude.{◌≡◌, ◌++◌, false, codes, decimal, IfOk};
 ghost use Rattle.commands.specs.Runs.{IsRecordOutput, journals_of, logs_of};
 ghost use Rattle.commands.specs.Simulated as spec;
-ghost use Rattle.commands.specs.Outputs.{Leaves};
+ghost use Rattle.outputs.specs.Outputs.{Leaves};
 ghost use Rattle.commands.specs.Simulated.{IsFaultOutput, IsSimulation};
 
-use crate::output::{send, send_out_of_memory};
 use crate::running::report_record;
 use crate::searching::push_decimal;
-use crate::statuses::{MALFORMED, NO_MEMORY};
 use edn::Sink;
+use outputs::{MALFORMED, NO_MEMORY, send, send_out_of_memory};
 use simulation::{Played, SimulationFault, simulate};
 use std::alloc::{AllocError, Global};
 

@@ -1,26 +1,10 @@
-//! Exit statuses.
+//! The exit status of words that ask for nothing.
 
 ghost use Rattle.std.specs.Prelude.{◌≡◌};
 ghost use Rattle.commands.specs.Statuses as spec;
 
-use checker::Refusal;
 use command_line::LineFault;
-use report::Verdict;
-
-/// The exit status where the history is linearizable, or each object has a certificate.
-pub const YES: u8 = 0;
-
-/// The exit status where the certificates are refused, or an object has no valid order.
-pub const NO: u8 = 1;
-
-/// The exit status where a text is malformed, or a client of a schedule has not ended.
-pub const MALFORMED: u8 = 2;
-
-/// The exit status where memory was refused, or a thread could not be started.
-pub const NO_MEMORY: u8 = 3;
-
-/// The exit status where the output failed or a file could not be read.
-pub const FAILED: u8 = 4;
+use outputs::{NO_MEMORY, YES};
 
 /// The exit status where the command line is refused.
 pub const USAGE: u8 = 64;
@@ -34,17 +18,5 @@ pub fn status_of_fault(fault: &LineFault) -> u8
         LineFault::Help(_) => YES,
         LineFault::Refused(_) => USAGE,
         LineFault::NoMemory => NO_MEMORY,
-    }
-}
-
-/// The exit status of a verdict.
-pub(crate) fn status_of(verdict: &Verdict) -> u8
-    ensures { result ≡ spec.status_of verdict.now }
-{
-    match verdict {
-        Verdict::Yes(_) => YES,
-        Verdict::No(Refusal::NoMemory) | Verdict::NoMemory => NO_MEMORY,
-        Verdict::No(_) => NO,
-        Verdict::Malformed(_) => MALFORMED,
     }
 }

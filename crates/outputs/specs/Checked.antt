@@ -4,9 +4,9 @@ use Rattle.verdicts.specs.declared.verdict.Verdict.{Verdict}
 use Rattle.judging.specs.Texts.{IsLinearizableText}
 use Rattle.judging.specs.Verdicts.{Holds}
 use Rattle.sources.specs.Checks.{IsVerdictOnRead}
-use Rattle.commands.specs.declared.checking.Texts.{Texts}
-use Rattle.commands.specs.Outputs.{IsOutOfMemory, IsVerdictOutput}
-use Rattle.commands.specs.Statuses.{yes_status}
+use Rattle.outputs.specs.declared.checking.Texts.{Texts}
+use Rattle.outputs.specs.Outputs.{IsOutOfMemory, IsVerdictOutput}
+use Rattle.outputs.specs.Statuses.{yes_status}
 
 -- The lines of a verdict that holds of these texts. Where it is a yes the history is linearizable.
 pub record IsCheck (h c : List ℕ) (status : ℕ) (out : List ℕ) : Type 0 where

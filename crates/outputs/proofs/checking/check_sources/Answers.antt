@@ -1,7 +1,7 @@
 use Rattle.std.proofs.Common.{inl, inr, refl}
 use Rattle.std.proofs.lemmas.Result.{IfOk-weaker}
-use Rattle.commands.proofs.Leaving.{leaves_as}
-use Rattle.commands.proofs.checking.check_sources.Goals as goal
+use Rattle.outputs.proofs.Leaving.{leaves_as}
+use Rattle.outputs.proofs.checking.check_sources.Goals as goal
 
 pub returns-clause-linearizable : goal.returns-clause-linearizable
 returns-clause-linearizable g c = c.check_both.ensures.linearizable refl

@@ -2,9 +2,9 @@
 
 ghost use Rattle.std.specs.Prelude.{◌≡◌, ◌≢◌, ◌++◌, false, true, IfOk};
 ghost use Rattle.report.specs.Lines.{verdict_text};
-ghost use Rattle.commands.specs.Outputs.{IsExactly, IsOutOfMemory, Leaves, status_in, text_in};
-ghost use Rattle.commands.specs.Statuses as spec;
-ghost use Rattle.commands.specs.Statuses.{failed_status};
+ghost use Rattle.outputs.specs.Outputs.{IsExactly, IsOutOfMemory, Leaves, status_in, text_in};
+ghost use Rattle.outputs.specs.Statuses as spec;
+ghost use Rattle.outputs.specs.Statuses.{failed_status};
 
 use crate::statuses::{FAILED, NO_MEMORY, status_of};
 use edn::{Failed, Sink, write_bytes};
@@ -12,13 +12,13 @@ use report::{Verdict, write_verdict};
 
 /// What is put out, and the exit status.
 #[derive(Drop)]
-pub(crate) struct Output {
-    pub(crate) status: u8,
-    pub(crate) text: Vec<u8>,
+pub struct Output {
+    pub status: u8,
+    pub text: Vec<u8>,
 }
 
 /// Writes the lines, and answers their exit status.
-pub(crate) fn send<S: Sink>(lines: &[u8], status: u8, sink: &mut S) -> u8
+pub fn send<S: Sink>(lines: &[u8], status: u8, sink: &mut S) -> u8
     requires working { S.broken sink.old ≡ false }
     requires other { status ≢ failed_status }
     ensures leaves { Leaves (IsExactly status lines.now)
@@ -31,7 +31,7 @@ pub(crate) fn send<S: Sink>(lines: &[u8], status: u8, sink: &mut S) -> u8
 }
 
 /// Says that memory was refused.
-pub(crate) fn send_out_of_memory<S: Sink>(sink: &mut S) -> u8
+pub fn send_out_of_memory<S: Sink>(sink: &mut S) -> u8
     requires working { S.broken sink.old ≡ false }
     ensures leaves { Leaves IsOutOfMemory
         (S.sent sink.old) result (S.sent sink.new) (S.broken sink.new) }
@@ -40,7 +40,7 @@ pub(crate) fn send_out_of_memory<S: Sink>(sink: &mut S) -> u8
 }
 
 /// Writes the lines of the verdict, as comments or as they are, and answers its exit status.
-pub(crate) fn send_verdict<S: Sink>(verdict: &Verdict, commented: bool, sink: &mut S) -> u8
+pub fn send_verdict<S: Sink>(verdict: &Verdict, commented: bool, sink: &mut S) -> u8
     requires { S.broken sink.old ≡ false }
     ensures leaves { Leaves
         (IsExactly (spec.status_of verdict.now) (verdict_text commented verdict.now))
@@ -53,7 +53,7 @@ pub(crate) fn send_verdict<S: Sink>(verdict: &Verdict, commented: bool, sink: &m
 }
 
 /// Writes the text and then the lines of the verdict as comments, and answers its exit status.
-pub(crate) fn send_both<S: Sink>(text: &[u8], verdict: &Verdict, sink: &mut S) -> u8
+pub fn send_both<S: Sink>(text: &[u8], verdict: &Verdict, sink: &mut S) -> u8
     requires { S.broken sink.old ≡ false }
     ensures leaves { Leaves
         (IsExactly (spec.status_of verdict.now) (text.now ++ verdict_text true verdict.now))
@@ -67,7 +67,7 @@ pub(crate) fn send_both<S: Sink>(text: &[u8], verdict: &Verdict, sink: &mut S) -
 
 /// Writes what was made, or the verdict that says why there is nothing, and answers the exit
 /// status.
-pub(crate) fn put_out<S: Sink>(made: Result<Output, Verdict>, sink: &mut S) -> u8
+pub fn put_out<S: Sink>(made: Result<Output, Verdict>, sink: &mut S) -> u8
     requires working { S.broken sink.old ≡ false }
     requires other { IfOk made (λ o. o.status ≢ failed_status) }
     ensures leaves { Leaves (IsExactly (status_in made) (text_in made))

@@ -5,9 +5,9 @@ ghost use Rattle.judging.specs.Verdicts.{Holds};
 ghost use Rattle.sources.specs.Checks.{IsLinearizableRead};
 ghost use Rattle.sources.specs.Reads.{WasRefused};
 ghost use Rattle.sources.specs.declared.check.Text.TheVariants as unread;
-ghost use Rattle.commands.specs.Checked.{IsCheck, IsCheckOfRead, IsUnreadOutput};
-ghost use Rattle.commands.specs.Outputs.{IsOutOfMemory, IsVerdictOutput, Leaves};
-ghost use Rattle.commands.specs.Statuses.{yes_status};
+ghost use Rattle.outputs.specs.Checked.{IsCheck, IsCheckOfRead, IsUnreadOutput};
+ghost use Rattle.outputs.specs.Outputs.{IsOutOfMemory, IsVerdictOutput, Leaves};
+ghost use Rattle.outputs.specs.Statuses.{yes_status};
 
 use crate::output::send_out_of_memory;
 use crate::statuses::{FAILED, status_of};
@@ -33,7 +33,7 @@ fn report_texts<R: Threads + Sync, S: Sink>(
 ) -> u8
     requires working { S.broken sink.old ≡ false }
     ensures leaves { Leaves
-        (IsVerdictOutput (Holds texts.history.now texts.certificates.now))
+        (IsVerdictOutput (Holds texts.entry.history.now texts.entry.certificates.now))
         (S.sent sink.old) result (S.sent sink.new) (S.broken sink.new) }
 {
     match judge_and_write(rt, alloc, texts.history, texts.certificates, workers, sink) {
@@ -51,7 +51,7 @@ fn report_unread<R: Threads + Sync, S: Sink>(
     sink: &mut S,
 ) -> u8
     requires working { S.broken sink.old ≡ false }
-    ensures leaves { Leaves (IsUnreadOutput in_memory)
+    ensures leaves { Leaves (IsUnreadOutput in_memory.entry)
         (S.sent sink.old) result (S.sent sink.new) (S.broken sink.new) }
 {
     match in_memory {
@@ -75,12 +75,12 @@ fn check_both<R: Threads + Sync, H: Source, C: Source, S: Sink>(
     requires history { H.broken history.old ≡ false }
     requires certificates { C.broken certificates.old ≡ false }
     requires sink { S.broken sink.old ≡ false }
-    ensures linearizable { in_memory ≡ None → IfOk result (λ status. status ≡ yes_status →
+    ensures linearizable { in_memory.entry ≡ None → IfOk result (λ status. status ≡ yes_status →
         IsLinearizableRead (H.remaining history.old) (H.remaining history.new)) }
     ensures leaves { IfOk result (λ status. Leaves
         (IsCheckOfRead (H.remaining history.old) (H.remaining history.new)
         (C.remaining certificates.old) (C.remaining certificates.new)
-        (IsUnreadOutput in_memory))
+        (IsUnreadOutput in_memory.entry))
         (S.sent sink.old) status (S.sent sink.new) (S.broken sink.new)) }
     ensures unread_history { IfErr result (λ text. text ≡ unread.History →
         (H.broken history.new ≡ true) × (certificates.new ≡ certificates.old)) }

@@ -2,8 +2,8 @@
 use Rattle.std.proofs.Common.{◌≡◌, ℕ, List, inl, inr, refl, subst, sym}
 use Rattle.std.specs.Prelude.{IfOk, IfErr, Result, Ok, Err}
 use Rattle.verdicts.specs.declared.verdict.Verdict.{Verdict}
-use Rattle.commands.specs.declared.output.Output.{Output}
-use Rattle.commands.specs.Outputs.{IsExactly, IsOutput, status_in, text_in}
+use Rattle.outputs.specs.declared.output.Output.{Output}
+use Rattle.outputs.specs.Outputs.{IsExactly, IsOutput, status_in, text_in}
 
 module _ (IsMade : ℕ → List ℕ → Type 0) (IsSaid : Verdict → Type 0) where
   output_is : (made : Result Output Verdict) → IfOk made (λ o. IsMade o.status o.text.items) → IfErr made IsSaid → IsOutput IsMade IsSaid (status_in made) (text_in made)

@@ -5,8 +5,8 @@ use Rattle.std.specs.Io.KnownBytes.{Appends}
 use Rattle.edn.specs.Sent.{WritesPrefix}
 use Rattle.report.specs.Lines.{verdict_text}
 use Rattle.verdicts.specs.declared.verdict.Verdict.{Verdict}
-use Rattle.commands.specs.declared.output.Output.{Output}
-use Rattle.commands.specs.Statuses.{failed_status, no_memory_status, status_of}
+use Rattle.outputs.specs.declared.output.Output.{Output}
+use Rattle.outputs.specs.Statuses.{failed_status, no_memory_status, status_of}
 
 -- What a command leaves. Its output is an exit status and lines of which `IsOutput` holds. What the
 -- sink was sent is given as it was before and after, and whether the sink is then broken.

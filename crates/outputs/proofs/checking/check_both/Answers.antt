@@ -1,9 +1,9 @@
 use Rattle.std.proofs.Common.{◌≡◌, ◌≢◌, ◌∙◌, rules, inl, inr, sym}
 use Rattle.sources.specs.declared.check.ToolFault.TheVariants as fault
 use Rattle.sources.specs.Checks.{IsVerdictOnRead}
-use Rattle.commands.proofs.Leaving.{leaves_as, wrote_front_of, wrote_verdict}
-use Rattle.commands.proofs.Meanings.{unread_is_no_yes, yes_shows}
-use Rattle.commands.proofs.checking.check_both.Goals as goal
+use Rattle.outputs.proofs.Leaving.{leaves_as, wrote_front_of, wrote_verdict}
+use Rattle.outputs.proofs.Meanings.{unread_is_no_yes, yes_shows}
+use Rattle.outputs.proofs.checking.check_both.Goals as goal
 
 pub returns-in-Ok-clause-linearizable : goal.returns-in-Ok-clause-linearizable
 returns-in-Ok-clause-linearizable g c none e = yes_shows _ c.in-Ok.verdict c.in-Ok.ensures.linearizable (sym c.status_of.ensures ∙ e)

@@ -9,8 +9,8 @@ use Rattle.checker.specs.declared.refusal.Refusal.TheVariants as refusal
 use Rattle.verdicts.specs.declared.verdict.Verdict.{Verdict}
 use Rattle.verdicts.specs.declared.verdict.Verdict.TheVariants.{Yes, No, Malformed, NoMemory}
 use Rattle.report.specs.Lines.{verdict_text}
-use Rattle.commands.specs.Outputs.{IsExactly, IsVerdictOutput, Leaves}
-use Rattle.commands.specs.Statuses.{failed_status, status_of}
+use Rattle.outputs.specs.Outputs.{IsExactly, IsVerdictOutput, Leaves}
+use Rattle.outputs.specs.Statuses.{failed_status, status_of}
 
 -- an output of one relation is an output of another
 pub leaves_as : {P Q : ℕ → List ℕ → Type 0} {before after : Option (List ℕ)} {status : ℕ} {broken : Bool} → Leaves P before status after broken → ((own : ℕ) (out : List ℕ) → P own out → Q own out) → Leaves Q before status after broken
