@@ -10,7 +10,8 @@ use Rattle.judging.specs.Verdicts.{IsYesUnlessMemory}
 use Rattle.clients.specs.Made.{Ran}
 use Rattle.command_line.specs.declared.asking.RunOptions.{RunOptions}
 use Rattle.outputs.specs.Statuses.{no_status, status_of, yes_status}
-use Rattle.commands.specs.Runs.{IsAcceptedOutput, IsAcceptedRun, IsRecordOutput, IsReported, IsRunOutput, IsSound, Says, comment_lines, journals_of, logs_of, work_of}
+use Rattle.commands.specs.Comments.{comment_lines}
+use Rattle.commands.specs.Runs.{IsAcceptedOutput, IsAcceptedRun, IsRecordOutput, IsReported, IsRunOutput, IsSound, Says, journals_of, logs_of, work_of}
 use Rattle.commands.proofs.Reports.{sound_as_it_is}
 
 module _ (kinds : List Kind) (quota : ℕ) (journals : ℕ → List AnyEvent) (logs : ℕ → List AnyEntry) (between : List ℕ) (sound : IsSoundRecord kinds quota journals logs) where

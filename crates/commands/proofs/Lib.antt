@@ -1,3 +1,5 @@
+pub mod Comments
+pub mod Stopping
 pub mod AllFound
 pub mod Reports
 pub mod Answering

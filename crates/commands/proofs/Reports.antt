@@ -1,13 +1,11 @@
 -- What is put out of a record.
 use Rattle.std.proofs.Common.{◌≡◌, ◌∙◌, ℕ, List, ◌∷◌, ◌++◌, ◌<◌, ◌+◌, length, drop, get_or, refl, ap, sym, subst, codes}
-use Rattle.std.proofs.lemmas.List.{drop_more}
 use Rattle.model.specs.declared.AnyOp.{AnyOp}
 use Rattle.model.specs.declared.AnyReply.{AnyReply}
 use Rattle.desk_model.specs.World.{AnyEntry, AnyEvent}
 use Rattle.desk_model.specs.Records.{IsSoundRecord}
 use Rattle.desk_model.proofs.Entries.{events_as_they_are, entries_as_they_are}
 use Rattle.certificate.specs.declared.Certificate.{Certificate}
-use Rattle.certificate.specs.Lines.{line_of}
 use Rattle.recorder.specs.Records.{Recorded, journal_at, log_at}
 use Rattle.events.specs.declared.event.Event.{Event}
 use Rattle.recorder.specs.Histories.{AreEventsOf}
@@ -15,14 +13,7 @@ use Rattle.transcript.specs.Accounts.{AreCertificatesOf}
 use Rattle.verdicts.specs.declared.verdict.Verdict.{Verdict}
 use Rattle.verdicts.specs.declared.verdict.Verdict.TheVariants.{Yes, No, Malformed, NoMemory}
 use Rattle.judging.specs.Verdicts.{JudgesBy}
-use Rattle.commands.specs.Runs.{comment_lines, IsSound, Says, journals_of, logs_of}
-
--- ---- lines one after the other
-
-pub comments_left : (cs : List Certificate) (i : ℕ) (c : Certificate) → i < length cs → c ≡ get_or cs i c → comment_lines (drop i cs) ≡ (codes "; " ++ line_of c) ++ comment_lines (drop (i + 1) cs)
-comments_left cs i c lt e =
-    let here : drop i cs ≡ c ∷ drop (i + 1) cs = drop_more cs i c lt ∙ ap (λ (y : Certificate). y ∷ drop (i + 1) cs) (sym e) in
-    rw here refl
+use Rattle.commands.specs.Runs.{IsSound, Says, journals_of, logs_of}
 
 -- ---- journals and logs of operations of all kinds are what they stand for
 

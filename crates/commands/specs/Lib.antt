@@ -1,3 +1,4 @@
+pub mod Comments
 pub mod Statuses
 pub mod Runs
 pub mod Searches

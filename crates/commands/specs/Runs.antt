@@ -1,5 +1,5 @@
 -- What a run puts out, and its exit status.
-use Rattle.std.specs.Prelude.{◌≡◌, ◌≢◌, ◌<◌, ◌⊎◌, ⊤, ℕ, List, [], ◌∷◌, true, ◌++◌, codes, map}
+use Rattle.std.specs.Prelude.{◌≡◌, ◌≢◌, ◌<◌, ◌⊎◌, ⊤, ℕ, List, [], true, ◌++◌, codes, map}
 use Rattle.std.specs.List.{range_with_len}
 use Rattle.model.specs.declared.Kind.{Kind}
 use Rattle.seq_objects.specs.Kinds.{kinds_of}
@@ -15,7 +15,6 @@ use Rattle.recorder.specs.Histories.{AreEventsOf, journals_in, logs_in}
 use Rattle.recorder.specs.Records.{Recorded}
 use Rattle.verdicts.specs.declared.verdict.Summary.{Summary}
 use Rattle.certificate.specs.declared.Certificate.{Certificate}
-use Rattle.certificate.specs.Lines.{line_of}
 use Rattle.transcript.specs.Written.{IsHistoryText}
 use Rattle.transcript.specs.Accounts.{AreCertificatesOf, IsAccepted, IsRefused}
 use Rattle.report.specs.Lines.{verdict_text}
@@ -24,13 +23,9 @@ use Rattle.verdicts.specs.declared.verdict.Verdict.TheVariants.{Yes, No, Malform
 use Rattle.verdicts.specs.Counts.{AreCountsOf}
 use Rattle.judging.specs.Verdicts.{IsYesUnlessMemory}
 use Rattle.command_line.specs.declared.asking.RunOptions.{RunOptions}
+use Rattle.commands.specs.Comments.{comment_lines}
 use Rattle.outputs.specs.Outputs.{IsOutOfMemory}
 use Rattle.outputs.specs.Statuses.{no_memory_status, no_status, status_of, yes_status}
-
--- the lines of certificates, each as a comment
-abbrev pub comment_lines : List Certificate → List ℕ
-comment_lines [] = []
-comment_lines (c ∷ cs) = (codes "; " ++ line_of c) ++ comment_lines cs
 
 -- a record's journals and logs, as they are
 abbrev pub journals_of : Recorded AnyOp AnyReply → ℕ → List AnyEvent

@@ -3,7 +3,7 @@
 ghost use Rattle.std.specs.Prelude.{◌≡◌, ◌++◌, false, true, codes, OnOk, IfOk};
 ghost use Rattle.std.specs.Io.KnownBytes.{Appends};
 ghost use Rattle.certificate.specs.Lines.{line_of, lines_of};
-ghost use Rattle.commands.specs.Runs.{comment_lines};
+ghost use Rattle.commands.specs.Comments.{comment_lines};
 
 use certificate::{Certificate, write_certificates};
 use edn::{Failed, Out, Sink, write_bytes};

@@ -1,6 +1,6 @@
 use Rattle.edn.proofs.Fronts.{further}
-use Rattle.commands.specs.Runs.{comment_lines}
-use Rattle.commands.proofs.Reports.{comments_left}
+use Rattle.commands.specs.Comments.{comment_lines}
+use Rattle.commands.proofs.Comments.{comments_left}
 use Rattle.commands.proofs.comments.write_comments.Goals as goal
 
 pub loop-certificate-preserved : goal.loop-certificate-preserved

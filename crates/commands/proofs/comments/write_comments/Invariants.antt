@@ -1,6 +1,6 @@
 use Rattle.std.proofs.Common.{◌≡◌, ℕ, List, ◌++◌, drop, false}
 use Rattle.std.specs.Io.KnownBytes.{Appends}
-use Rattle.commands.specs.Runs.{comment_lines}
+use Rattle.commands.specs.Comments.{comment_lines}
 use Rattle.commands.proofs.comments.write_comments.Given as goal
 
 abbrev pub invariant-loop-certificate : goal.invariant-loop-certificate
