@@ -10,7 +10,7 @@ use Rattle.judging.specs.Verdicts.{IsYesUnlessMemory}
 use Rattle.clients.specs.Made.{Ran}
 use Rattle.command_line.specs.declared.asking.RunOptions.{RunOptions}
 use Rattle.outputs.specs.Statuses.{no_status, status_of, yes_status}
-use Rattle.commands.specs.Comments.{comment_lines}
+use Rattle.history_commands.specs.Comments.{comment_lines}
 use Rattle.commands.specs.Runs.{IsAcceptedOutput, IsAcceptedRun, IsRecordOutput, IsReported, IsRunOutput, IsSound, Says, journals_of, logs_of, work_of}
 use Rattle.commands.proofs.Reports.{sound_as_it_is}
 

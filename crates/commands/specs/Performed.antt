@@ -4,10 +4,10 @@ use Rattle.command_line.specs.declared.asking.Line.{Line}
 use Rattle.command_line.specs.declared.asking.Line.TheVariants.{Check, Search, Find, Judge, Run}
 use Rattle.command_line.specs.declared.asking.Line.TheVariants.{Simulate}
 use Rattle.outputs.specs.Checked.{IsCheck}
-use Rattle.commands.specs.Findings.{IsFind}
-use Rattle.commands.specs.Judged.{IsJudgement}
+use Rattle.history_commands.specs.Findings.{IsFind}
+use Rattle.history_commands.specs.Judged.{IsJudgement}
 use Rattle.commands.specs.Runs.{IsRun}
-use Rattle.commands.specs.Searches.{IsSearch}
+use Rattle.history_commands.specs.Searches.{IsSearch}
 use Rattle.commands.specs.Simulated.{IsSimulation}
 
 -- The status and the lines are an output of the command that the line asks for, on the texts of its

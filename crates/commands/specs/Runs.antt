@@ -23,7 +23,7 @@ use Rattle.verdicts.specs.declared.verdict.Verdict.TheVariants.{Yes, No, Malform
 use Rattle.verdicts.specs.Counts.{AreCountsOf}
 use Rattle.judging.specs.Verdicts.{IsYesUnlessMemory}
 use Rattle.command_line.specs.declared.asking.RunOptions.{RunOptions}
-use Rattle.commands.specs.Comments.{comment_lines}
+use Rattle.history_commands.specs.Comments.{comment_lines}
 use Rattle.outputs.specs.Outputs.{IsOutOfMemory}
 use Rattle.outputs.specs.Statuses.{no_memory_status, no_status, status_of, yes_status}
 

@@ -4,13 +4,11 @@ ghost use Rattle.std.specs.Prelude.{◌≡◌, false};
 ghost use Rattle.outputs.specs.Outputs.{Leaves};
 ghost use Rattle.commands.specs.Performed.{IsPerformed};
 
-use crate::finding::report_find;
-use crate::judgement::report_judgement;
 use crate::running::report_run;
-use crate::searching::report_search;
 use crate::simulating::report_simulation;
 use command_line::Line;
 use edn::Sink;
+use history_commands::{report_find, report_judgement, report_search};
 use outputs::report_check;
 use std::alloc::Global;
 use std::sync::Wait;

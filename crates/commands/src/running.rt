@@ -11,13 +11,13 @@ ghost use Rattle.outputs.specs.Outputs.{Leaves};
 ghost use Rattle.commands.specs.Runs.{IsRecordOutput, IsRun, IsTextOf, Says, journals_of, logs_of, work_of};
 ghost use Rattle.clients.specs.Made.{Ran};
 
-use crate::comments::comments_text;
 use certificate::Certificate;
 use checker::check_all;
 use clients::{RunFault, run_workers};
 use command_line::RunOptions;
 use edn::{Out, Sink};
 use history::History;
+use history_commands::comments_text;
 use outputs::{NO_MEMORY, send, send_both, send_out_of_memory};
 use recorder::Record;
 use report::{Verdict, verdict_on_check};

@@ -7,8 +7,8 @@ ghost use Rattle.outputs.specs.Outputs.{Leaves};
 ghost use Rattle.commands.specs.Simulated.{IsFaultOutput, IsSimulation};
 
 use crate::running::report_record;
-use crate::searching::push_decimal;
 use edn::Sink;
+use history_commands::push_decimal;
 use outputs::{MALFORMED, NO_MEMORY, send, send_out_of_memory};
 use simulation::{Played, SimulationFault, simulate};
 use std::alloc::{AllocError, Global};
