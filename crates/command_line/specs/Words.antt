@@ -403,8 +403,8 @@ Lacks m f =
     LacksFor (codes "search") HasNoSearch m f ⊎ LacksFor (codes "run") HasNoRun m f
     ⊎ LacksFor (codes "check") HasNoCheck m f ⊎ LacksFor (codes "judge") HasNoJudge m f
 
--- The fault is an allocation failure, or clap refuses the words with an error of a kind for which it
--- is, or it finds a search, a run, a check or a judgement without its values.
+-- The fault is an allocation failure, or clap refuses the words with an error of a kind for which
+-- it is, or it finds a search, a run, a check or a judgement without its values.
 abbrev pub IsFault : List Text → LineFault → Type 0
 IsFault words f =
     (f ≡ NoMemory) ⊎ ((k : ErrorKind) × IsAmong k (fault_of command words) × IsFor k f)

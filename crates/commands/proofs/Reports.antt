@@ -1,5 +1,5 @@
 -- What is put out of a record.
-use Rattle.std.proofs.Common.{◌≡◌, ◌∙◌, ℕ, List, ◌∷◌, ◌++◌, ◌<◌, ◌+◌, length, drop, get_or, refl, ap, sym, subst, codes}
+use Rattle.std.proofs.Common.{◌≡◌, ℕ, List, sym, subst}
 use Rattle.model.specs.declared.AnyOp.{AnyOp}
 use Rattle.model.specs.declared.AnyReply.{AnyReply}
 use Rattle.desk_model.specs.World.{AnyEntry, AnyEvent}
@@ -25,8 +25,10 @@ sound_as_it_is r kinds quota s =
 
 -- ---- the verdict on the certificates of a record
 
-pub says_of : (journals : ℕ → List AnyEvent) (logs : ℕ → List AnyEntry) (es : List Event) (cs : List Certificate) → AreEventsOf journals es → AreCertificatesOf journals logs cs → (v : Verdict) → JudgesBy es cs v → Says journals logs v
-says_of journals logs es cs are_events are_certificates (Yes s) k = (record { events = es; certificates = cs; are_events = are_events; are_certificates = are_certificates; valid = k.0 }, (es, are_events, k.1))
+pub says_of : (journals : ℕ → List AnyEvent) (logs : ℕ → List AnyEntry) (es : List Event) (cs : List Certificate)
+    → AreEventsOf journals es → AreCertificatesOf journals logs cs → (v : Verdict) → JudgesBy es cs v → Says journals logs v
+says_of journals logs es cs are_events are_certificates (Yes s) k =
+    (record { events = es; certificates = cs; are_events = are_events; are_certificates = are_certificates; valid = k.0 }, (es, are_events, k.1))
 says_of journals logs es cs are_events are_certificates (No r) k = record { events = es; certificates = cs; are_events = are_events; are_certificates = are_certificates; first = k.0 }
 says_of journals logs es cs are_events are_certificates (Malformed f) k = k
 says_of journals logs es cs are_events are_certificates NoMemory k = tt

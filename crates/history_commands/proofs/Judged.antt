@@ -47,7 +47,8 @@ open_no_yes false true e = λ q. absurd cc
 open_no_yes false false e = λ q. absurd cc
 
 -- the verdict on certificates that are valid
-pub on_valid : (es : List Event) (cs : List Certificate) → AreValid es cs → (v : Verdict) → OnYes v (IsLinearizable (kind_at es) (events (denoted es))) → JudgesBy es cs v → IsYesUnlessMemory v → IsVerdictOn es v
+pub on_valid : (es : List Event) (cs : List Certificate) → AreValid es cs → (v : Verdict)
+    → OnYes v (IsLinearizable (kind_at es) (events (denoted es))) → JudgesBy es cs v → IsYesUnlessMemory v → IsVerdictOn es v
 on_valid es cs valid (verdict.Yes s) linearizable judges accepts = record { certificates = cs; valid = valid; linearizable = linearizable; counts = judges.1 }
 on_valid es cs valid (verdict.No r) linearizable judges accepts = accepts
 on_valid es cs valid (verdict.Malformed f) linearizable judges accepts = accepts

@@ -6,7 +6,7 @@ use Rattle.judging.specs.Texts.{IsLinearizableText}
 use Rattle.outputs.specs.Statuses.{no_status, status_of, yes_status}
 use Rattle.history_commands.specs.Findings.{IsFind, IsFindOutput}
 use Rattle.history_commands.specs.Judged.{IsJudgement, IsJudgeOutput, IsVerdictOnText}
-use Rattle.history_commands.specs.Searches.{IsNotLinearizableText, IsSearch, IsSearchOutput, IsUnsearched}
+use Rattle.history_commands.specs.Searches.{IsSearch, IsSearchOutput, IsUnsearched}
 use Rattle.history_commands.proofs.Judged.{open_no_yes}
 
 -- ---- a search, a find

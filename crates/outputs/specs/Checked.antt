@@ -1,6 +1,5 @@
 -- What a check puts out, and its exit status.
 use Rattle.std.specs.Prelude.{◌≡◌, ◌⊎◌, ℕ, List, Option, Some, None}
-use Rattle.verdicts.specs.declared.verdict.Verdict.{Verdict}
 use Rattle.judging.specs.Texts.{IsLinearizableText}
 use Rattle.judging.specs.Verdicts.{Holds}
 use Rattle.sources.specs.Checks.{IsVerdictOnRead}

@@ -1,5 +1,5 @@
-//! What a command puts out, with which exit status, and what it leaves; and the check of a history by
-//! certificates.
+//! What a command puts out, with which exit status, and what it leaves. And the check of a history
+//! by certificates.
 #![tactic(auto)]
 
 mod checking;

@@ -14,4 +14,5 @@ pub returns : goal.returns
 returns g c =
     let h = c.args.text.now in
     let made = c.find_text.ensures in
-    record { leaves = leaves_as c.put_out.ensures.leaves (λ own out is. is_find h own out (made_output (AreFoundIn h) (IsUnsearched h) c.find_text.result made.found made.unread own out is)) }
+    record { leaves = leaves_as c.put_out.ensures.leaves (λ own out is.
+        is_find h own out (made_output (AreFoundIn h) (IsUnsearched h) c.find_text.result made.found made.unread own out is)) }

@@ -13,4 +13,5 @@ pub returns : goal.returns
 returns g c =
     let h = c.args.text.now in
     let made = c.judge_text.ensures in
-    record { leaves = leaves_as c.put_out.ensures.leaves (λ own out is. is_judgement h c.args.steps own out (made_output (IsOpenText h c.args.steps) (IsVerdictOnText h) c.judge_text.result made.notes made.judged own out is)) }
+    record { leaves = leaves_as c.put_out.ensures.leaves (λ own out is.
+        is_judgement h c.args.steps own out (made_output (IsOpenText h c.args.steps) (IsVerdictOnText h) c.judge_text.result made.notes made.judged own out is)) }

@@ -13,4 +13,5 @@ pub returns : goal.returns
 returns g c =
     let h = c.args.text.now in
     let made = c.search_text.ensures in
-    record { leaves = leaves_as c.put_out.ensures.leaves (λ own out is. is_search h c.args.steps own out (made_output (IsSearched h c.args.steps) (IsUnsearched h) c.search_text.result made.searched made.unsearched own out is)) }
+    record { leaves = leaves_as c.put_out.ensures.leaves (λ own out is.
+        is_search h c.args.steps own out (made_output (IsSearched h c.args.steps) (IsUnsearched h) c.search_text.result made.searched made.unsearched own out is)) }

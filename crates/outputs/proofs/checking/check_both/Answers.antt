@@ -11,7 +11,8 @@ returns-in-Ok-clause-linearizable g c none e = yes_shows _ c.in-Ok.verdict c.in-
 pub returns-in-Ok-clause-leaves : goal.returns-in-Ok-clause-leaves
 returns-in-Ok-clause-leaves g c =
     let j = c.in-Ok.ensures.judged in
-    let said = IsVerdictOnRead (g.H.Source.remaining c.args.history.now) (g.H.Source.remaining c.check_over.new.history) (g.C.Source.remaining c.args.certificates.now) (g.C.Source.remaining c.check_over.new.certificates) in
+    let said = IsVerdictOnRead (g.H.Source.remaining c.args.history.now) (g.H.Source.remaining c.check_over.new.history)
+        (g.C.Source.remaining c.args.certificates.now) (g.C.Source.remaining c.check_over.new.certificates) in
     leaves_as (wrote_verdict said c.in-Ok.verdict c.status_of.ensures j.0 j.1 c.in-Ok.ensures.usable) (λ own out k. inl k)
 
 pub returns-in-Err-Write-clause-linearizable : goal.returns-in-Err-Write-clause-linearizable
@@ -21,7 +22,8 @@ pub returns-in-Err-Write-clause-leaves : goal.returns-in-Err-Write-clause-leaves
 returns-in-Err-Write-clause-leaves g c =
     let write : c.in-Err-Write.field-0 ≡ fault.Write = search rules in
     let f = c.in-Err-Write.ensures.unwritten write in
-    let said = IsVerdictOnRead (g.H.Source.remaining c.args.history.now) (g.H.Source.remaining c.check_over.new.history) (g.C.Source.remaining c.args.certificates.now) (g.C.Source.remaining c.check_over.new.certificates) in
+    let said = IsVerdictOnRead (g.H.Source.remaining c.args.history.now) (g.H.Source.remaining c.check_over.new.history)
+        (g.C.Source.remaining c.args.certificates.now) (g.C.Source.remaining c.check_over.new.certificates) in
     leaves_as (wrote_front_of said f.1.0 f.1.1 f.1.2 f.0) (λ own out k. inl k)
 
 pub returns-in-Err-NoMemory-clause-linearizable : goal.returns-in-Err-NoMemory-clause-linearizable

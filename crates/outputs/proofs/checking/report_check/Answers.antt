@@ -1,5 +1,4 @@
-use Rattle.std.proofs.Common.{◌≡◌, rules, inl, inr}
-use Rattle.sources.specs.declared.check.Text.TheVariants as unread
+use Rattle.std.proofs.Common.{inl, inr}
 use Rattle.sources.proofs.InMemory.{holds_in_memory}
 use Rattle.outputs.proofs.Leaving.{leaves_as}
 use Rattle.outputs.proofs.Meanings.{is_check}

@@ -10,7 +10,8 @@ returns-in-Ok g c =
     let v = c.args.verdict.now in
     let lines = verdict_text c.args.commented v in
     let e = c.in-Ok.ensures.sent.0 in
-    record { leaves = subst (λ n. Leaves (IsExactly (status_of v) lines) (g.S.Sink.sent c.args.sink.now) n (g.S.Sink.sent c.write_verdict.new.sink) (g.S.Sink.broken c.write_verdict.new.sink)) (sym c.status_of.ensures)
+    record { leaves = subst (λ n. Leaves (IsExactly (status_of v) lines) (g.S.Sink.sent c.args.sink.now) n
+    (g.S.Sink.sent c.write_verdict.new.sink) (g.S.Sink.broken c.write_verdict.new.sink)) (sym c.status_of.ensures)
     (wrote_all (status_of v) lines (verdict_is_written v) e.0 e.1) }
 
 pub returns-in-Err : goal.returns-in-Err
