@@ -1,4 +1,4 @@
--- The words behind the name of a command on one file: the name of the file.
+-- The words after the name of a command on one file: the name of the file.
 use Rattle.std.proofs.Common.{◌≡◌, ◌∙◌, Bool, true, false, List, [], ◌∷◌, Some, None, sym, ap, ap₂, subst, codes, refl}
 use Rattle.clap.specs.Faults.{check_fault, defaults_fault, fault_of, level_fault, settle_fault, step_fault, turn_fault, walk_fault}
 use Rattle.clap.specs.Kinds.{or_else, Kinds}
@@ -7,9 +7,10 @@ use Rattle.clap.specs.Simple.{Shape, built, entered, subcommand_of}
 use Rattle.clap.specs.Walk.{Held, Text, Walk, arg_by_index, settled, finished, first_of, has_long, has_short, nothing_held, rows_after, to_positional, value, walked}
 use Rattle.clap.proofs.OnLiterals.{clap_on_literals}
 use Rattle.command_line.specs.Words.{AskOnFile, IsFileFound, IsPlain, command, find_command, simulate_command}
-use Rattle.command_line.proofs.Walks.{Anything, Enters, OnlyHelp, Stops, after, any_name, at, cut, file_is, held, help, judged, leaf, left, level_parts, names, not_nil, one_found, one_word, plain_word, sought, stopped_walk, top}
+use Rattle.command_line.proofs.Walks.{Anything, Enters, OnlyHelp, Stops, after, any_name, at, cut, file_is, held, help, judged, leaf, left}
+use Rattle.command_line.proofs.Walks.{level_parts, names, not_nil, one_found, one_word, plain_word, sought, stopped_walk, top}
 
--- what is wrong behind the words, where this is held
+-- what is wrong after the words, where this is held
 abbrev rest_fault : Shape → Held → Kinds
 rest_fault s h = or_else (settle_fault s.rules s.args_override_self h) (or_else (defaults_fault (settled s.rules h).rows s.rules) (check_fault s (finished s.rules h) false))
 
@@ -47,7 +48,7 @@ module _ (s : Shape) (id : Text) (takes : TakesFile s id) where
     abbrev Ends0 : List Text → Held → Type 0
     Ends0 ws h = Last h → (x : Text) × (ws ≡ x ∷ []) × (h ≡ held [] (file_is id x))
 
-    -- behind the name of the file no word stands but a `--`
+    -- after the name of the file no word stands but a `--`
     ends1 : (x : Text) (t : Bool) (ws : List Text) → walk_fault s [] (at [] (file_is id x) 2 t) ws ≡ [] → Ends1 x (left t ws) (after s (at [] (file_is id x) 2 t) ws)
     ends1 x true [] e = (refl, refl)
     ends1 x true (v ∷ vs) e = absurd (takes.full x (cut s (at [] (file_is id x) 2 true) v vs e).0)
@@ -64,13 +65,18 @@ module _ (s : Shape) (id : Text) (takes : TakesFile s id) where
         subst (λ w. Ends0 (v ∷ vs) (after s w vs)) (sym (takes.goes_marked v)) (λ l. (v, ap (λ ws. v ∷ ws) r.0, r.1)) last
     ends0 false [] e last = absurd (takes.wanted last)
     ends0 false (v ∷ vs) e last =
-        one_word s Anything only [] None 1 v vs (at [] (file_is id v) 2 false) Ends0 (any_name (long_of v)) (takes.goes v) e (ends0 true vs) (λ f g l. let r = ends1 v false vs g in (v, ap (λ ws. v ∷ ws) r.0, r.1)) last
+        one_word s Anything only [] None 1 v vs (at [] (file_is id v) 2 false) Ends0 (any_name (long_of v)) (takes.goes v) e (ends0 true vs)
+        (λ f g l. let r = ends1 v false vs g in (v, ap (λ ws. v ∷ ws) r.0, r.1)) last
 
-    pub file_taken : (name program : Text) (rest : List Text) → Enters name s → level_fault s [] nothing_held rest false [] ≡ [] → (x : Text) × AskOnFile name (program ∷ name ∷ rest) x × IsFileFound name id (subcommand_of command (program ∷ name ∷ rest)) x
+    pub file_taken : (name program : Text) (rest : List Text) → Enters name s → level_fault s [] nothing_held rest false [] ≡ [] → (x : Text)
+        × AskOnFile name (program ∷ name ∷ rest) x × IsFileFound name id (subcommand_of command (program ∷ name ∷ rest)) x
     file_taken name program rest enters e =
         let parts = level_parts s [] rest false [] e in
-        let ends = ends0 false rest parts.0 parts.2 in
-        (ends.0, record { program = program; rest = rest; said = refl; file_is = ends.1 }, record { rows = rows_after s.rules [] rest; entered = enters rest; file_first = ap (λ h. first_of id (finished s.rules h)) ends.2 ∙ takes.first ends.0 })
+        let ends = ends0 false rest parts.0 parts.2 in (
+          ends.0,
+          record { program = program; rest = rest; said = refl; file_is = ends.1 },
+          record { rows = rows_after s.rules [] rest; entered = enters rest; file_first = ap (λ h. first_of id (finished s.rules h)) ends.2 ∙ takes.first ends.0 },
+        )
 
 -- ---- the commands on one file
 

@@ -24,9 +24,16 @@ use Rattle.clap.specs.Simple.{App, HasMatchesOf, subcommand_rows_of, built, ente
 use Rattle.clap.specs.Walk.{Row, Text, Walk, settled, finished, first_of, nothing_held, rows_after, rows_of, walk, walked}
 use Rattle.clap.proofs.OnLiterals.{clap_on_literals}
 use Rattle.order_search.specs.declared.trials.TryFirst.TheVariants.{LeastNumber}
-use Rattle.command_line.specs.Words.{AreNoOptions, AreRunOptions, AreSteps, IsFirst, AskFor, AskOnFile, AskToCheck, Finds, HasCheck, HasJudge, HasNoCheck, HasNoJudge, HasNoRun, HasNoSearch, HasSearch, IsCheckFound, IsCommand, IsFault, IsFileFound, IsFor, IsNumber, IsPlain, IsPlainCheck, IsPlainRun, IsPlainSearch, IsPlainSimulate, IsPlainFind, IsPlainJudge, Lacks, LacksFor, command, default_steps, max_workers, values}
-use Rattle.command_line.proofs.Walks.{IsName, Stops, after, ends0, enters, enters_judge, enters_run, enters_search, history_is, judged, level_parts, low, names, not_nil, plain_word, running, sought, state0, state2, stops, top, top_words}
-use Rattle.command_line.proofs.OneFile.{enters_find, enters_simulate, file_taken, file_walked, judged_takes, looked, looked_help, looked_takes, played, played_help, played_takes, sought_takes, stops_find, stops_simulate, takes_find, takes_judge, takes_search, takes_simulate}
+use Rattle.command_line.specs.Limits.{max_workers, default_steps}
+use Rattle.command_line.specs.Words.{AreNoOptions, AreRunOptions, AreSteps, IsFirst, AskFor, AskOnFile, AskToCheck, Finds, HasCheck, HasJudge}
+use Rattle.command_line.specs.Words.{HasNoCheck, HasNoJudge, HasNoRun, HasNoSearch, HasSearch, IsCheckFound, IsCommand, IsFault, IsFileFound, IsFor}
+use Rattle.command_line.specs.Words.{IsNumber, IsPlain, IsPlainCheck, IsPlainRun, IsPlainSearch, IsPlainSimulate, IsPlainFind, IsPlainJudge, Lacks}
+use Rattle.command_line.specs.Words.{LacksFor, command, values}
+use Rattle.command_line.proofs.Walks.{IsName, Stops, after, ends0, enters, enters_judge, enters_run, enters_search, history_is, judged, level_parts}
+use Rattle.command_line.proofs.Walks.{low, names, not_nil, plain_word, running, sought, state0, state2, stops, top, top_words}
+use Rattle.command_line.proofs.OneFile.{enters_find, enters_simulate, file_taken, file_walked, judged_takes, looked, looked_help, looked_takes}
+use Rattle.command_line.proofs.OneFile.{played, played_help, played_takes, sought_takes, stops_find, stops_simulate, takes_find, takes_judge}
+use Rattle.command_line.proofs.OneFile.{takes_search, takes_simulate}
 
 -- words that are spelled otherwise are not the same
 apart : (v w : Text) → bytes_eq v w ≡ false → v ≡ w → ⊥
@@ -94,7 +101,7 @@ below_fault w rest program e =
     let stop = (walk top.rules names nothing_held (w ∷ rest)).stopped in
     (level_parts top names (w ∷ rest) (is_some (entered (built command) stop)) (entered_fault (built command) stop) e).1
 
--- what is wrong with the words behind the name of a command
+-- what is wrong with the words after the name of a command
 behind : (name : Text) → Stops name → (program : Text) (rest : List Text) → fault_of command (program ∷ name ∷ rest) ≡ [] → entered_fault (built command) (Some (name, rest)) ≡ []
 behind name stop program rest e = subst (λ o. entered_fault (built command) o ≡ []) (stop rest) (below_fault name rest program e)
 
@@ -141,7 +148,8 @@ taken (program ∷ w ∷ rest) e =
       entered = inside.1;
       check = λ is. subst (λ x. TakenCheck (program ∷ x ∷ rest)) (sym is) (check_taken program rest (subst (λ x. fault_of command (program ∷ x ∷ rest) ≡ []) is e));
       find = λ is. subst (λ x. TakenFile (codes "find") (codes "HISTORY") (program ∷ x ∷ rest)) (sym is) (find_taken program rest (subst (λ x. fault_of command (program ∷ x ∷ rest) ≡ []) is e));
-      simulate = λ is. subst (λ x. TakenFile (codes "simulate") (codes "SCHEDULE") (program ∷ x ∷ rest)) (sym is) (simulate_taken program rest (subst (λ x. fault_of command (program ∷ x ∷ rest) ≡ []) is e));
+      simulate = λ is. subst (λ x. TakenFile (codes "simulate") (codes "SCHEDULE") (program ∷ x ∷ rest)) (sym is)
+          (simulate_taken program rest (subst (λ x. fault_of command (program ∷ x ∷ rest) ≡ []) is e));
     }
 
 -- ---- words that are taken
@@ -161,9 +169,15 @@ low_takes h c ph pc =
 low_values : (h c : Text) → IsPlain h → IsPlain c → HasCheck (rows_after low.rules [] (h ∷ c ∷ [])) h c 1
 unfolding clap_on_literals
 low_values h c ph pc =
-    let next : walked low.rules [] (walked low.rules [] (state0 false) h) c ≡ state2 h c false = ap (λ v. walked low.rules [] v c) (plain_word low [] None 1 h ph).1 ∙ (plain_word low [] (history_is h) 2 c pc).1 in
+    let next : walked low.rules [] (walked low.rules [] (state0 false) h) c ≡ state2 h c false =
+    ap (λ v. walked low.rules [] v c) (plain_word low [] None 1 h ph).1 ∙ (plain_word low [] (history_is h) 2 c pc).1 in
     let last : rows_after low.rules [] (h ∷ c ∷ []) ≡ finished low.rules (state2 h c false).held = ap (λ (v : Walk). finished low.rules v.held) next in
-    record { history_first = ap (first_of (codes "HISTORY")) last; certs_first = ap (first_of (codes "CERTS")) last; workers_first = subst (λ o. IsNumber 1 max_workers 1 o 1) (sym (ap (first_of (codes "workers")) last)) refl }
+    record {
+      history_first = ap (first_of (codes "HISTORY")) last;
+      certs_first = ap (first_of (codes "CERTS")) last;
+      workers_first =
+          subst (λ o. IsNumber 1 max_workers 1 o 1) (sym (ap (first_of (codes "workers")) last)) refl;
+    }
 
 takes : (program h c : Text) → IsPlain h → IsPlain c → fault_of command (program ∷ codes "check" ∷ h ∷ c ∷ []) ≡ []
 unfolding clap_on_literals
@@ -186,7 +200,12 @@ sought_values : (h : Text) → IsPlain h → HasSearch (rows_after sought.rules 
 unfolding clap_on_literals
 sought_values h p =
     let last = ap (λ (v : Walk). finished sought.rules v.held) (file_walked sought (codes "HISTORY") sought_takes h p) in
-    record { history_first = ap (first_of (codes "HISTORY")) last; steps_first = subst (λ o. AreSteps o default_steps) (sym (ap (first_of (codes "steps")) last)) refl; first_first = subst (λ o. IsFirst o LeastNumber) (sym (ap (first_of (codes "first")) last)) refl }
+    record {
+      history_first = ap (first_of (codes "HISTORY")) last;
+      steps_first =
+          subst (λ o. AreSteps o default_steps) (sym (ap (first_of (codes "steps")) last)) refl;
+      first_first = subst (λ o. IsFirst o LeastNumber) (sym (ap (first_of (codes "first")) last)) refl;
+    }
 
 judged_values : (h : Text) → IsPlain h → HasJudge (rows_after judged.rules [] (h ∷ [])) h default_steps
 unfolding clap_on_literals
@@ -230,7 +249,7 @@ refused a words e f is h k = elim (subst (λ a. is_simple_and_free a ≡ true �
   | inr among ↦ inr (inl (kind_of e, among, k))
 ]
 
--- words that clap takes, and finds to be no command without its values, are refused for want of memory alone
+-- words that clap takes, and finds to be no command without its values, are refused for an allocation failure alone
 only_memory_of : (words : List Text) (f : LineFault) → fault_of command words ≡ [] → (Lacks (subcommand_of command words) f → ⊥) → IsFault words f → f ≡ NoMemory
 only_memory_of words f none found (inl e) = e
 only_memory_of words f none found (inr (inl k)) = absurd (subst (IsAmong k.0) none k.1)
@@ -263,8 +282,9 @@ lacking words (Help t) l = inr (inr (l (λ e. cc)))
 lacking words (Refused t) l = inr (inr (l (λ e. cc)))
 lacking words NoMemory l = inl refl
 
--- words that clap takes for a command that has its values are refused for want of memory alone
-only_memory_at : (own words : List Text) (name : Text) (rows : List Row) (f : LineFault) → words ≡ own → fault_of command own ≡ [] → subcommand_of command own ≡ Some (name, rows) → HasValues name rows → IsFault words f → f ≡ NoMemory
+-- words that clap takes for a command that has its values are refused for an allocation failure alone
+only_memory_at : (own words : List Text) (name : Text) (rows : List Row) (f : LineFault) → words ≡ own → fault_of command own ≡ []
+    → subcommand_of command own ≡ Some (name, rows) → HasValues name rows → IsFault words f → f ≡ NoMemory
 only_memory_at own words name rows f said none is has =
     subst (λ ws. IsFault ws f → f ≡ NoMemory) (sym said) (only_memory_of own f none (lacks_nothing (subcommand_of command own) name rows f is has))
 
@@ -314,18 +334,22 @@ only_memory_judge words f p =
     only_memory_at (p.program ∷ codes "judge" ∷ p.history ∷ []) words (codes "judge") _ f p.said (takes_judge p.program p.history p.history_plain) (enters_judge (p.history ∷ [])) has
 
 -- a command on one file alone has its values
-has_file : (name : Text) (rows : List Row) → bytes_eq name (codes "search") ≡ false → bytes_eq name (codes "run") ≡ false → bytes_eq name (codes "check") ≡ false → bytes_eq name (codes "judge") ≡ false → HasValues name rows
-has_file name rows no_search no_run no_check no_judge = record { search = other name (codes "search") _ no_search; run = other name (codes "run") _ no_run; check = other name (codes "check") _ no_check; judge = other name (codes "judge") _ no_judge }
+has_file : (name : Text) (rows : List Row) → bytes_eq name (codes "search") ≡ false → bytes_eq name (codes "run") ≡ false
+    → bytes_eq name (codes "check") ≡ false → bytes_eq name (codes "judge") ≡ false → HasValues name rows
+has_file name rows no_search no_run no_check no_judge =
+    record { search = other name (codes "search") _ no_search; run = other name (codes "run") _ no_run; check = other name (codes "check") _ no_check; judge = other name (codes "judge") _ no_judge }
 
 pub only_memory_simulate : (words : List Text) (f : LineFault) → IsPlainSimulate words → IsFault words f → f ≡ NoMemory
 unfolding clap_on_literals
 only_memory_simulate words f p =
-    only_memory_at (p.program ∷ codes "simulate" ∷ p.schedule ∷ []) words (codes "simulate") _ f p.said (takes_simulate p.program p.schedule p.schedule_plain) (enters_simulate (p.schedule ∷ [])) (has_file (codes "simulate") _ refl refl refl refl)
+    only_memory_at (p.program ∷ codes "simulate" ∷ p.schedule ∷ []) words (codes "simulate") _ f p.said
+    (takes_simulate p.program p.schedule p.schedule_plain) (enters_simulate (p.schedule ∷ [])) (has_file (codes "simulate") _ refl refl refl refl)
 
 pub only_memory_find : (words : List Text) (f : LineFault) → IsPlainFind words → IsFault words f → f ≡ NoMemory
 unfolding clap_on_literals
 only_memory_find words f p =
-    only_memory_at (p.program ∷ codes "find" ∷ p.history ∷ []) words (codes "find") _ f p.said (takes_find p.program p.history p.history_plain) (enters_find (p.history ∷ [])) (has_file (codes "find") _ refl refl refl refl)
+    only_memory_at (p.program ∷ codes "find" ∷ p.history ∷ []) words (codes "find") _ f p.said (takes_find p.program p.history p.history_plain)
+    (enters_find (p.history ∷ [])) (has_file (codes "find") _ refl refl refl refl)
 
 -- ---- what is found
 

@@ -6,7 +6,8 @@ use Rattle.clap.specs.declared.parser.matches.Found.{Found}
 use Rattle.clap.proofs.WalkLemmas.{first_value-rows}
 use Rattle.order_search.specs.declared.trials.TryFirst.{TryFirst}
 use Rattle.command_line.specs.declared.asking.RunOptions.{RunOptions}
-use Rattle.command_line.specs.Words.{max_workers, AreRunOptions, AreSteps, HasCheck, HasJudge, HasNoCheck, HasNoJudge, HasNoRun, HasNoSearch, HasSearch, IsFirst, IsNumber}
+use Rattle.command_line.specs.Limits.{max_workers}
+use Rattle.command_line.specs.Words.{AreRunOptions, AreSteps, HasCheck, HasJudge, HasNoCheck, HasNoJudge, HasNoRun, HasNoSearch, HasSearch, IsFirst, IsNumber}
 
 absent : {X : Type 0} {o p : Option X} {x : X} → o ≡ None → o ≡ p → p ≡ Some x → ⊥
 absent e f g = cc
@@ -21,7 +22,8 @@ module _ (inner : Found) where
   pub no_workers : ((n : ℕ) → IsNumber 1 max_workers 1 (first_value inner (codes "workers")) n → ⊥) → HasNoCheck (rows_of inner)
   no_workers none h c n v = none n (subst (λ o. IsNumber 1 max_workers 1 o n) (sym (first_value-rows inner (codes "workers"))) v.workers_first)
 
-  pub has_check : (h c : Text) (n : ℕ) → first_value inner (codes "HISTORY") ≡ Some h → first_value inner (codes "CERTS") ≡ Some c → IsNumber 1 max_workers 1 (first_value inner (codes "workers")) n → HasCheck (rows_of inner) h c n
+  pub has_check : (h c : Text) (n : ℕ) → first_value inner (codes "HISTORY") ≡ Some h → first_value inner (codes "CERTS") ≡ Some c
+      → IsNumber 1 max_workers 1 (first_value inner (codes "workers")) n → HasCheck (rows_of inner) h c n
   has_check h c n e f w = record {
     history_first = sym (first_value-rows inner (codes "HISTORY")) ∙ e;
     certs_first = sym (first_value-rows inner (codes "CERTS")) ∙ f;

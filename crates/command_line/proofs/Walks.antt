@@ -1,4 +1,4 @@
--- How clap walks over the words of the command, and over those behind its name.
+-- How clap walks over the words of the command, and over those after its name.
 use Rattle.std.proofs.Common.{◌≡◌, ◌⊎◌, ◌∙◌, ◌++◌, ℕ, Bool, true, false, List, [], ◌∷◌, length, Option, Some, None, refl, sym, ap, subst, inl, inr, codes}
 use Rattle.std.specs.Prelude.{⊤, fold, IfSome, slice_get, find, is_some, if◌then◌else◌, ◌==◌, ◌≢◌}
 use Rattle.std.specs.Option.{option_map_or}
@@ -6,12 +6,15 @@ use Rattle.std.specs.Str.{bytes_eq, chars}
 use Rattle.std.proofs.lemmas.Slice.Eq.{bytes_eq-Decides}
 use Rattle.std.proofs.lemmas.Bool.{ne_eqb}
 use Rattle.std.proofs.lemmas.List.{append-nil, append_assoc}
-use Rattle.clap.specs.Faults.{bundle_fault, bundle_step_fault, check_fault, defaults_fault, flag_word_fault, flags_fault, level_fault, long_fault, react_fault, short_fault, settle_fault, step_fault, turn_fault, use_fault, walk_fault, word_fault}
+use Rattle.clap.specs.Faults.{bundle_fault, bundle_step_fault, check_fault, defaults_fault, flag_word_fault, flags_fault, level_fault, long_fault}
+use Rattle.clap.specs.Faults.{react_fault, short_fault, settle_fault, step_fault, turn_fault, use_fault, walk_fault, word_fault}
 use Rattle.clap.specs.Kinds.{Kinds, or_else}
 use Rattle.clap.specs.declared.error.kind.ErrorKind.{ErrorKind}
 use Rattle.clap.specs.Lexer.{long_of, short_of}
 use Rattle.clap.specs.Simple.{App, Shape, built, built_leaf, entered, filled, help_rule, inherited, marked_built, names_of, with_index, with_leaf_noted}
-use Rattle.clap.specs.Walk.{Held, Names, Outcome, Row, Rule, Step, Text, Walk, arg_by_index, arg_by_long, arg_by_short, bundle, bundle_met, bundle_step, after_flag, after_step, reacted, settled, finished, has_long, has_short, idle, long_or_other, nothing_held, plain, rows_after, short_or_plain, subcommand_met, to_positional, value, walk, walk_from, walked, word_met}
+use Rattle.clap.specs.Walk.{Held, Names, Outcome, Row, Rule, Step, Text, Walk, arg_by_index, arg_by_long, arg_by_short, bundle, bundle_met}
+use Rattle.clap.specs.Walk.{bundle_step, after_flag, after_step, reacted, settled, finished, has_long, has_short, idle, long_or_other, nothing_held}
+use Rattle.clap.specs.Walk.{plain, rows_after, short_or_plain, subcommand_met, to_positional, value, walk, walk_from, walked, word_met}
 use Rattle.clap.proofs.OnLiterals.{clap_on_literals}
 use Rattle.clap.specs.declared.parser.matches.ValueSource.TheVariants.{CommandLine}
 use Rattle.clap.specs.declared.builder.value_parser.Reading.TheVariants.{AsWritten}
@@ -44,7 +47,7 @@ judged = leaf judge_command
 abbrev pub help : Rule
 help = with_index 1 (filled help_rule)
 
--- the only flag is help, but for long ones that have other names than these
+-- the only flag is help, except for long ones that have other names than these
 pub record OnlyHelp (c : List Rule) (Named : Text → Type 0) : Type 0 where
   pub long : (name : Text) → Named name → (arg_by_long c name ≡ None) ⊎ (arg_by_long c name ≡ Some help)
   pub short : (x : ℕ) → (arg_by_short c x ≡ None) ⊎ (arg_by_short c x ≡ Some help)
@@ -132,7 +135,8 @@ short_passes c only again rows pending word None e = refl
 short_passes c only again rows pending word (Some flags) e =
     ap (λ (b : Held × Outcome). after_flag c idle word b.0 b.1) (bundle_plain c only again rows pending flags e)
 
-flag_passes : (c : List Rule) {Named : Text → Type 0} → OnlyHelp c Named → (again : Bool) (rows : List Row) (pending : Option (Text × List Text)) (word : Text) (o : Option (Text × Option Text)) → IfSome o (λ p. Named p.0)
+flag_passes : (c : List Rule) {Named : Text → Type 0} → OnlyHelp c Named
+    → (again : Bool) (rows : List Row) (pending : Option (Text × List Text)) (word : Text) (o : Option (Text × Option Text)) → IfSome o (λ p. Named p.0)
     → flag_word_fault c again o word (held rows pending) ≡ []
     → long_or_other c idle word o (held rows pending) ≡ (held rows pending, value)
 flag_passes c only again rows pending word (Some p) named e = absurd (long_faulty c again (held rows pending) p.1 _ (only.long p.0 named) e)
@@ -181,12 +185,14 @@ IsName w = (codes "check" ≡ w) ⊎ (codes "search" ≡ w) ⊎ (codes "run" ≡
 
 pub top_words : (w : Text) (rest : List Text) → walk_fault top names (walk_from nothing_held) (w ∷ rest) ≡ [] → TopCheck w rest ≡ [] → IsName w
 unfolding clap_on_literals
-top_words w rest e last = go (bytes_eq (codes "judge") w) refl (bytes_eq (codes "check") w) refl (bytes_eq (codes "search") w) refl (bytes_eq (codes "find") w) refl (bytes_eq (codes "run") w) refl (bytes_eq (codes "simulate") w) refl (bytes_eq (codes "help") w) refl (bytes_eq w (codes "--")) refl
+top_words w rest e last = go (bytes_eq (codes "judge") w) refl (bytes_eq (codes "check") w) refl (bytes_eq (codes "search") w) refl
+    (bytes_eq (codes "find") w) refl (bytes_eq (codes "run") w) refl (bytes_eq (codes "simulate") w) refl (bytes_eq (codes "help") w) refl (bytes_eq w (codes "--")) refl
   where
     first : turn_fault top names (at [] None 1 false) w ≡ []
     first = (both_nil (turn_fault top names (at [] None 1 false) w) (walk_fault top names (walked top.rules names (at [] None 1 false) w) rest) e).0
 
-    go : (j : Bool) → bytes_eq (codes "judge") w ≡ j → (a : Bool) → bytes_eq (codes "check") w ≡ a → (f : Bool) → bytes_eq (codes "search") w ≡ f → (g : Bool) → bytes_eq (codes "find") w ≡ g → (n : Bool) → bytes_eq (codes "run") w ≡ n → (s : Bool) → bytes_eq (codes "simulate") w ≡ s → (b : Bool) → bytes_eq (codes "help") w ≡ b
+    go : (j : Bool) → bytes_eq (codes "judge") w ≡ j → (a : Bool) → bytes_eq (codes "check") w ≡ a → (f : Bool) → bytes_eq (codes "search") w ≡ f
+        → (g : Bool) → bytes_eq (codes "find") w ≡ g → (n : Bool) → bytes_eq (codes "run") w ≡ n → (s : Bool) → bytes_eq (codes "simulate") w ≡ s → (b : Bool) → bytes_eq (codes "help") w ≡ b
         → (d : Bool) → bytes_eq w (codes "--") ≡ d → IsName w
     go true u a p f m g l n o s t b q d r = inr (inr (inr (inr (inr ((bytes_eq-Decides (codes "judge") w).0 u)))))
     go false u true p f m g l n o s t b q d r = inl ((bytes_eq-Decides (codes "check") w).0 p)
@@ -306,21 +312,25 @@ unfolding clap_on_literals
 ends2 x y true [] n e = (refl, refl)
 ends2 x y true (v ∷ vs) n e = absurd (not_nil (cut low (state2 x y true) v vs e).0)
 ends2 x y false [] n e = (refl, refl)
-ends2 x y false (v ∷ vs) n e = one_word low Other low_help (history_row x ∷ []) (file_is (codes "CERTS") y) 3 v vs (state2 x y false) (Ends2 x y) n.0 refl e (ends2 x y true vs n.1) (λ f g. absurd (not_nil f))
+ends2 x y false (v ∷ vs) n e = one_word low Other low_help (history_row x ∷ []) (file_is (codes "CERTS") y) 3 v vs (state2 x y false) (Ends2 x y) n.0
+    refl e (ends2 x y true vs n.1) (λ f g. absurd (not_nil f))
 
 ends1 : (x : Text) (t : Bool) (ws : List Text) → AreNoOptions ws → walk_fault low [] (state1 x t) ws ≡ [] → Ends1 x (left t ws) (after low (state1 x t) ws)
 unfolding clap_on_literals
 ends1 x true [] n e last = absurd (not_nil last)
 ends1 x true (v ∷ vs) n e last = let r = ends2 x v true vs n.1 (cut low (state1 x true) v vs e).1 in (v, ap (λ ws. v ∷ ws) r.0, r.1)
 ends1 x false [] n e last = absurd (not_nil last)
-ends1 x false (v ∷ vs) n e last = one_word low Other low_help [] (history_is x) 2 v vs (state2 x v false) (Ends1 x) n.0 refl e (ends1 x true vs n.1) (λ f g l. let r = ends2 x v false vs n.1 g in (v, ap (λ ws. v ∷ ws) r.0, r.1)) last
+ends1 x false (v ∷ vs) n e last =
+    one_word low Other low_help [] (history_is x) 2 v vs (state2 x v false) (Ends1 x) n.0 refl e (ends1 x true vs n.1)
+    (λ f g l. let r = ends2 x v false vs n.1 g in (v, ap (λ ws. v ∷ ws) r.0, r.1)) last
 
 pub ends0 : (t : Bool) (ws : List Text) → AreNoOptions ws → walk_fault low [] (state0 t) ws ≡ [] → Ends0 (left t ws) (after low (state0 t) ws)
 unfolding clap_on_literals
 ends0 true [] n e last = absurd (not_nil last)
 ends0 true (v ∷ vs) n e last = let r = ends1 v true vs n.1 (cut low (state0 true) v vs e).1 last in (v, r.0, ap (λ ws. v ∷ ws) r.1, r.2)
 ends0 false [] n e last = absurd (not_nil last)
-ends0 false (v ∷ vs) n e last = one_word low Other low_help [] None 1 v vs (state1 v false) Ends0 n.0 refl e (ends0 true vs n.1) (λ f g l. let r = ends1 v false vs n.1 g l in (v, r.0, ap (λ ws. v ∷ ws) r.1, r.2)) last
+ends0 false (v ∷ vs) n e last =
+    one_word low Other low_help [] None 1 v vs (state1 v false) Ends0 n.0 refl e (ends0 true vs n.1) (λ f g l. let r = ends1 v false vs n.1 g l in (v, r.0, ap (λ ws. v ∷ ws) r.1, r.2)) last
 
 -- ---- words that are plain
 

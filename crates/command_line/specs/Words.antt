@@ -20,38 +20,14 @@ use Rattle.seq_objects.specs.declared.kinds.Kinds.{Kinds}
 use Rattle.seq_objects.specs.declared.kinds.Kinds.TheVariants.{One}
 use Rattle.model.specs.declared.Kind.TheVariants.{Queue}
 use Rattle.seq_objects.specs.Kinds.{kinds_named}
+use Rattle.command_line.specs.Limits.{default_calls, default_clients, default_steps, max_calls}
+use Rattle.command_line.specs.Limits.{max_clients, max_objects, max_seed, max_steps, max_workers}
 use Rattle.command_line.specs.declared.asking.RunOptions.{RunOptions}
 use Rattle.command_line.specs.declared.asking.Line.{Line}
 use Rattle.command_line.specs.declared.asking.Line.TheVariants.{Check, Search, Find, Judge, Run}
 use Rattle.command_line.specs.declared.asking.Line.TheVariants.{Simulate}
 use Rattle.command_line.specs.declared.asking.LineFault.{LineFault}
 use Rattle.command_line.specs.declared.asking.LineFault.TheVariants.{Help, Refused, NoMemory}
-
--- the most workers that a check may be asked to have
-abbrev pub max_workers : ℕ
-max_workers = 16
-
--- the most steps that a search may be asked to take
-abbrev pub max_steps : ℕ
-max_steps = 1000000000
-
--- the steps of a search where the words name no number of them
-abbrev pub default_steps : ℕ
-default_steps = 1000000
-
--- the most objects, clients and calls of each client that a run may be asked to have, and its
--- greatest seed
-abbrev pub max_objects : ℕ
-max_objects = 16
-
-abbrev pub max_clients : ℕ
-max_clients = 32
-
-abbrev pub max_calls : ℕ
-max_calls = 10000
-
-abbrev pub max_seed : ℕ
-max_seed = 18446744073709551615
 
 -- ---- the command, as clap is told of it
 
@@ -92,7 +68,7 @@ seed_rule =
     record (new_rule (codes "seed"))
     { long = Some (codes "seed"); parser = Some (vp.Unsigned 0 max_seed) }
 
--- a run of so many clients at so many objects of some kinds
+-- a run with a number of clients and of objects of some kinds
 abbrev pub run_on : App
 run_on =
     with_rule (with_rule (with_rule (new_app (codes "run")) kind_rule)
@@ -119,7 +95,7 @@ command = with_subcommand (with_subcommand judging_commands run.top) simulate_co
 
 -- ---- the words of a command
 
--- the words but for the first `--`, behind which a word may begin with a hyphen
+-- the words except the first `--`, after which a word may begin with a hyphen
 abbrev pub values : List Text → List Text
 values [] = []
 values (w ∷ ws) = if bytes_eq w (codes "--") then ws else w ∷ values ws
@@ -162,7 +138,7 @@ pub record IsCheckFound (m : Option (Text × List Row)) (history certs : Text) (
     pub entered : m ≡ Some (codes "check", rows)
     pub values : HasCheck rows history certs workers
 
--- no word is `--workers`, alone or with a number behind `=`
+-- no word is `--workers`, alone or with a number after `=`
 abbrev pub AreNoOptions : List Text → Type 0
 AreNoOptions [] = ⊤
 AreNoOptions (w ∷ ws) = IfSome (long_of w) (λ p. p.0 ≢ codes "workers") × AreNoOptions ws
@@ -186,8 +162,8 @@ IsKinds (Some t) kinds = kinds_named t ≡ Some kinds
 pub record AreRunOptions (value : Text → Option Text) (o : RunOptions) : Type 0 where
   pub kinds : IsKinds (value (codes "kind")) o.kinds
   pub objects : IsNumber 1 max_objects 1 (value (codes "objects")) o.objects
-  pub clients : IsNumber 1 max_clients 2 (value (codes "clients")) o.clients
-  pub calls : IsNumber 0 max_calls 100 (value (codes "calls")) o.calls
+  pub clients : IsNumber 1 max_clients default_clients (value (codes "clients")) o.clients
+  pub calls : IsNumber 0 max_calls default_calls (value (codes "calls")) o.calls
   pub seed : IsNumber 0 max_seed 0 (value (codes "seed")) o.seed
 
 -- The parse has found `run`, with these options.
@@ -285,57 +261,6 @@ pub record IsPlainSimulate (words : List Text) : Type 0 where
   pub said : words ≡ program ∷ codes "simulate" ∷ schedule ∷ []
   pub schedule_plain : IsPlain schedule
 
-abbrev pub IsCheck : Line → Type 0
-IsCheck (Check history certs workers) = ⊤
-IsCheck (Search history steps first) = ⊥
-IsCheck (Find history) = ⊥
-IsCheck (Judge history steps) = ⊥
-IsCheck (Run options) = ⊥
-IsCheck (Simulate schedule) = ⊥
-
-abbrev pub IsSimulate : Line → Type 0
-IsSimulate (Check history certs workers) = ⊥
-IsSimulate (Search history steps first) = ⊥
-IsSimulate (Find history) = ⊥
-IsSimulate (Judge history steps) = ⊥
-IsSimulate (Run options) = ⊥
-IsSimulate (Simulate schedule) = ⊤
-
-abbrev pub IsFind : Line → Type 0
-IsFind (Check history certs workers) = ⊥
-IsFind (Search history steps first) = ⊥
-IsFind (Find history) = ⊤
-IsFind (Judge history steps) = ⊥
-IsFind (Run options) = ⊥
-IsFind (Simulate schedule) = ⊥
-
--- where a search is asked for, with so many steps
-abbrev pub IfSearch : Line → (ℕ → Type 0) → Type 0
-IfSearch (Check history certs workers) P = ⊤
-IfSearch (Search history steps first) P = P steps
-IfSearch (Find history) P = ⊤
-IfSearch (Judge history steps) P = ⊤
-IfSearch (Run options) P = ⊤
-IfSearch (Simulate schedule) P = ⊤
-
--- where a judgement is asked for, with so many steps
-abbrev pub IfJudge : Line → (ℕ → Type 0) → Type 0
-IfJudge (Check history certs workers) P = ⊤
-IfJudge (Search history steps first) P = ⊤
-IfJudge (Find history) P = ⊤
-IfJudge (Judge history steps) P = P steps
-IfJudge (Run options) P = ⊤
-IfJudge (Simulate schedule) P = ⊤
-
--- where a run is asked for, with these options
-abbrev pub IfRun : Line → (RunOptions → Type 0) → Type 0
-IfRun (Check history certs workers) P = ⊤
-IfRun (Search history steps first) P = ⊤
-IfRun (Find history) P = ⊤
-IfRun (Judge history steps) P = ⊤
-IfRun (Run options) P = P options
-IfRun (Simulate schedule) P = ⊤
-
 -- ---- what a parse finds
 
 -- the parse has found the command of this name, with this value of its argument
@@ -351,15 +276,23 @@ IsScheduleFound m schedule = IsFileFound (codes "simulate") (codes "SCHEDULE") m
 abbrev pub IsHistoryFound : Option (Text × List Row) → Text → Type 0
 IsHistoryFound m history = IsFileFound (codes "find") (codes "HISTORY") m history
 
+-- the parse has found the command of this name
+abbrev pub IsEntered : Text → Option (Text × List Row) → Type 0
+IsEntered name m = (rows : List Row) × (m ≡ Some (name, rows))
+
+-- the parse has found a schedule to be simulated
+abbrev pub IsSimulateEntered : Option (Text × List Row) → Type 0
+IsSimulateEntered m = (schedule : Text) × IsScheduleFound m schedule
+
+-- the parse has found a history of which certificates are to be found
+abbrev pub IsFindEntered : Option (Text × List Row) → Type 0
+IsFindEntered m = (history : Text) × IsHistoryFound m history
+
 -- the parse has found a command
 abbrev pub IsCommand : Option (Text × List Row) → Type 0
 IsCommand m =
-    ((rows : List Row) × (m ≡ Some (codes "check", rows)))
-    ⊎ ((rows : List Row) × (m ≡ Some (codes "search", rows)))
-    ⊎ ((rows : List Row) × (m ≡ Some (codes "run", rows)))
-    ⊎ ((schedule : Text) × IsScheduleFound m schedule)
-    ⊎ ((history : Text) × IsHistoryFound m history)
-    ⊎ ((rows : List Row) × (m ≡ Some (codes "judge", rows)))
+    IsEntered (codes "check") m ⊎ IsEntered (codes "search") m ⊎ IsEntered (codes "run") m
+    ⊎ IsSimulateEntered m ⊎ IsFindEntered m ⊎ IsEntered (codes "judge") m
 
 abbrev pub FindsCheck : List Row → Line → Type 0
 FindsCheck rows (Check history certs workers) =
@@ -470,8 +403,8 @@ Lacks m f =
     LacksFor (codes "search") HasNoSearch m f ⊎ LacksFor (codes "run") HasNoRun m f
     ⊎ LacksFor (codes "check") HasNoCheck m f ⊎ LacksFor (codes "judge") HasNoJudge m f
 
--- The fault is want of memory, or clap refuses the words with an error of a kind for which it is,
--- or it finds a search, a run, a check or a judgement without its values.
+-- The fault is an allocation failure, or clap refuses the words with an error of a kind for which
+-- it is, or it finds a search, a run, a check or a judgement without its values.
 abbrev pub IsFault : List Text → LineFault → Type 0
 IsFault words f =
     (f ≡ NoMemory) ⊎ ((k : ErrorKind) × IsAmong k (fault_of command words) × IsFor k f)

@@ -1,6 +1,7 @@
 //! What a command line asks for.
 
 ghost use Rattle.std.specs.Prelude.{◌≡◌, ◌<◌, ◌≤◌};
+ghost use Rattle.command_line.specs.Limits.{max_calls, max_clients, max_objects};
 ghost use Rattle.command_line.specs.declared.asking.LineFault.TheVariants.{NoMemory};
 
 use order_search::TryFirst;
@@ -20,23 +21,23 @@ pub struct RunOptions {
     pub calls: u32,
     /// What the calls are drawn from.
     pub seed: u64,
-    ghost some_objects: { (0 < objects) × (objects ≤ 16) },
-    ghost some_clients: { (0 < clients) × (clients ≤ 32) },
-    ghost few_calls: { calls ≤ 10000 },
+    ghost some_objects: { (0 < objects) × (objects ≤ max_objects) },
+    ghost some_clients: { (0 < clients) × (clients ≤ max_clients) },
+    ghost few_calls: { calls ≤ max_calls },
 }
 
 /// What the words ask for.
 #[derive(Debug, PartialEq, Eq, Drop)]
 pub enum Line {
-    /// To judge the history in one file by the certificates in another, with so many workers, from
-    /// 1 to 16.
+    /// To judge the history in one file by the certificates in another, with this number of
+    /// workers, from 1 to 16.
     Check {
         history: String,
         certs: String,
         workers: u32,
     },
-    /// To search for certificates of the history in a file, with at most so many steps for each
-    /// object.
+    /// To search for certificates of the history in a file, with at most this number of steps for
+    /// each object.
     Search {
         history: String,
         steps: u32,
@@ -46,8 +47,8 @@ pub enum Line {
     Find {
         history: String,
     },
-    /// To find certificates of the history in a file, with a search of at most so many steps for
-    /// each object where that finds none, and to judge it by them.
+    /// To find certificates of the history in a file, with a search of at most this number of
+    /// steps for each object where that finds none, and to judge it by them.
     Judge {
         history: String,
         steps: u32,

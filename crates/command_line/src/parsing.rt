@@ -1,8 +1,10 @@
 //! The command line.
 
-ghost use Rattle.std.specs.Prelude.{◌≡◌, ◌≢◌, ◌≤◌, ℕ, List, [], Some, IsSome, IfOk, IfErr, IfSome, IfNone, false, map, codes};
+ghost use Rattle.std.specs.Prelude.{◌≡◌, ◌≢◌, ◌≤◌, ℕ, List, [], Some, IsSome, IfOk, IfErr, IfSome};
+ghost use Rattle.std.specs.Prelude.{IfNone, false, map, codes};
 ghost use Rattle.clap.specs.Faults.{fault_of};
-ghost use Rattle.clap.specs.Words.{app_of, first_value, found_of, kind_of, rows_of, rule_of, subcommand_rows_of};
+ghost use Rattle.clap.specs.Words.{app_of, first_value, found_of, kind_of, rows_of, rule_of};
+ghost use Rattle.clap.specs.Words.{subcommand_rows_of};
 ghost use Rattle.clap.specs.declared.builder.command.Command.TheViews.{out-Command as fields_of};
 ghost use Rattle.clap.specs.Walk.{first_of};
 ghost use Rattle.std.specs.String.{string_bytes};
@@ -26,6 +28,22 @@ const DEFAULT_STEPS: u64 = 1_000_000;
 
 /// The most steps of a search.
 const MAX_STEPS: u64 = 1_000_000_000;
+
+/// The most workers of a check.
+const MAX_WORKERS: u64 = 16;
+
+/// The most objects of a run.
+const MAX_OBJECTS: u64 = 16;
+
+/// The most clients of a run, and their number where the words name none.
+const MAX_CLIENTS: u64 = 32;
+
+const DEFAULT_CLIENTS: u64 = 2;
+
+/// The most calls of each client of a run, and their number where the words name none.
+const MAX_CALLS: u64 = 10_000;
+
+const DEFAULT_CALLS: u64 = 100;
 
 /// Said of a search that lacks a value. Of its file and its steps clap never lets it come to this.
 const NO_SEARCH: &str = "error: a search has no file, or no number of steps\n";
@@ -64,7 +82,7 @@ fn steps_option<'a>(alloc: Global, help: &'a str) -> Arg<'a>
     ensures rule { rule_of result ≡ spec.steps_rule }
     ensures local { result.global ≡ false }
 {
-    number_option(alloc, "steps", help, 0, 1_000_000_000)
+    number_option(alloc, "steps", help, 0, MAX_STEPS as i64)
 }
 
 /// An argument that is the name of a file.
@@ -118,7 +136,7 @@ fn check_command<'a>(alloc: Global) -> Result<Command<'a>, AllocError>
         "workers",
         "how many threads share the check, 1 to 16, else 1",
         1,
-        16,
+        MAX_WORKERS as i64,
     );
     history_command(alloc, "check", "judges a history by its certificates")?
         .arg(certs)?
@@ -149,8 +167,20 @@ fn run_on<'a>(alloc: Global) -> Result<Command<'a>, AllocError>
     let kind = Arg::new(alloc, "kind").long("kind").help(
         "the kind of all objects: queue, stack, heap, register, map or mutex; or mixed, which is the first five in turn; else queue",
     );
-    let objects = number_option(alloc, "objects", "how many objects, 1 to 16, else 1", 1, 16);
-    let clients = number_option(alloc, "clients", "how many clients, 1 to 32, else 2", 1, 32);
+    let objects = number_option(
+        alloc,
+        "objects",
+        "how many objects, 1 to 16, else 1",
+        1,
+        MAX_OBJECTS as i64,
+    );
+    let clients = number_option(
+        alloc,
+        "clients",
+        "how many clients, 1 to 32, else 2",
+        1,
+        MAX_CLIENTS as i64,
+    );
     Command::new(alloc, "run")
         .about("runs clients on objects and judges what they did")
         .arg(kind)?
@@ -167,7 +197,7 @@ fn run_command<'a>(alloc: Global) -> Result<Command<'a>, AllocError>
         "calls",
         "how many calls each client makes, 0 to 10000, else 100",
         0,
-        10_000,
+        MAX_CALLS as i64,
     );
     let seed = Arg::new(alloc, "seed")
         .long("seed")
@@ -327,7 +357,7 @@ fn check_found(alloc: Global, matches: &ArgMatches<'_>) -> Result<Line, LineFaul
     let Some(certs) = matches.get_str("CERTS") else {
         return Err(refusal(alloc, NO_CHECK));
     };
-    let Some(workers) = number_in(matches, "workers", 1, 16, 1) else {
+    let Some(workers) = number_in(matches, "workers", 1, MAX_WORKERS, 1) else {
         return Err(refusal(alloc, NO_CHECK));
     };
     let history = String::from_str(alloc, history)?;
@@ -408,9 +438,9 @@ fn options_in(matches: &ArgMatches<'_>) -> Option<RunOptions>
         spec.AreRunOptions (first_value (found_of matches.now)) o → ⊥) }
 {
     let kinds = kinds_in(matches)?;
-    let objects = number_in(matches, "objects", 1, 16, 1)?;
-    let clients = number_in(matches, "clients", 1, 32, 2)?;
-    let calls = number_in(matches, "calls", 0, 10_000, 100)?;
+    let objects = number_in(matches, "objects", 1, MAX_OBJECTS, 1)?;
+    let clients = number_in(matches, "clients", 1, MAX_CLIENTS, DEFAULT_CLIENTS)?;
+    let calls = number_in(matches, "calls", 0, MAX_CALLS, DEFAULT_CALLS)?;
     let seed = number_in(matches, "seed", 0, u64::MAX, 0)?;
     Some(RunOptions {
         kinds,

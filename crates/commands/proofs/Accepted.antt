@@ -1,16 +1,17 @@
--- What is put out of a sound record is a yes, but for want of memory.
+-- What is put out of a sound record is a yes, except where memory is refused.
 use Rattle.std.proofs.Common.{◌≡◌, ◌≢◌, ◌∙◌, ℕ, List, [], ◌++◌, true, inl, inr, refl, sym, ap, append_assoc}
 use Rattle.model.specs.declared.Kind.{Kind}
 use Rattle.desk_model.specs.World.{AnyEntry, AnyEvent}
 use Rattle.desk_model.specs.Records.{IsSoundRecord}
 use Rattle.report.specs.Lines.{verdict_text}
-use Rattle.report.specs.declared.verdict.Verdict.{Verdict}
-use Rattle.report.specs.declared.verdict.Verdict.TheVariants.{Yes, No, Malformed, NoMemory}
+use Rattle.verdicts.specs.declared.verdict.Verdict.{Verdict}
+use Rattle.verdicts.specs.declared.verdict.Verdict.TheVariants.{Yes, No, Malformed, NoMemory}
 use Rattle.judging.specs.Verdicts.{IsYesUnlessMemory}
 use Rattle.clients.specs.Made.{Ran}
 use Rattle.command_line.specs.declared.asking.RunOptions.{RunOptions}
-use Rattle.commands.specs.Statuses.{no_status, status_of, yes_status}
-use Rattle.commands.specs.Runs.{IsAcceptedOutput, IsAcceptedRun, IsRecordOutput, IsReported, IsRunOutput, IsSound, Says, commented, journals_of, logs_of, work_of}
+use Rattle.outputs.specs.Statuses.{no_status, status_of, yes_status}
+use Rattle.history_commands.specs.Comments.{comment_lines}
+use Rattle.commands.specs.Runs.{IsAcceptedOutput, IsAcceptedRun, IsRecordOutput, IsReported, IsRunOutput, IsSound, Says, journals_of, logs_of, work_of}
 use Rattle.commands.proofs.Reports.{sound_as_it_is}
 
 module _ (kinds : List Kind) (quota : ℕ) (journals : ℕ → List AnyEvent) (logs : ℕ → List AnyEntry) (between : List ℕ) (sound : IsSoundRecord kinds quota journals logs) where
@@ -20,7 +21,8 @@ module _ (kinds : List Kind) (quota : ℕ) (journals : ℕ → List AnyEvent) (l
   not_no (Malformed f) k e = k
   not_no NoMemory k e = absurd cc
 
-  accepted_as : (status : ℕ) (out : List ℕ) (h : IsReported journals logs between status out) → (v : Verdict) → h.verdict ≡ v → IsYesUnlessMemory v → status_of v ≡ yes_status → Says journals logs v → IsAcceptedOutput journals logs between out
+  accepted_as : (status : ℕ) (out : List ℕ) (h : IsReported journals logs between status out) → (v : Verdict) → h.verdict ≡ v → IsYesUnlessMemory v
+      → status_of v ≡ yes_status → Says journals logs v → IsAcceptedOutput journals logs between out
   accepted_as status out h (Yes counts) is k e says = record {
     accepted = says.0;
     history = h.is_text.history;
@@ -30,9 +32,9 @@ module _ (kinds : List Kind) (quota : ℕ) (journals : ℕ → List AnyEvent) (l
     counts = counts;
     are_counts = says.1;
     out_is =
-        h.text_is ∙ (ap (λ xs. xs ++ verdict_text true h.verdict) h.is_text.text_is ∙ (ap (λ w. (h.is_text.history ++ (between ++ commented h.is_text.certificates)) ++ verdict_text true w) is
-        ∙ (append_assoc h.is_text.history (between ++ commented h.is_text.certificates) (verdict_text true (Yes counts))
-        ∙ ap (λ xs. h.is_text.history ++ xs) (append_assoc between (commented h.is_text.certificates) (verdict_text true (Yes counts))))));
+        h.text_is ∙ (ap (λ xs. xs ++ verdict_text true h.verdict) h.is_text.text_is ∙ (ap (λ w. (h.is_text.history ++ (between ++ comment_lines h.is_text.certificates)) ++ verdict_text true w) is
+        ∙ (append_assoc h.is_text.history (between ++ comment_lines h.is_text.certificates) (verdict_text true (Yes counts))
+        ∙ ap (λ xs. h.is_text.history ++ xs) (append_assoc between (comment_lines h.is_text.certificates) (verdict_text true (Yes counts))))));
   }
   accepted_as status out h (No n) is k e says = absurd k
   accepted_as status out h (Malformed f) is k e says = absurd k
@@ -50,7 +52,7 @@ module _ (kinds : List Kind) (quota : ℕ) (journals : ℕ → List AnyEvent) (l
 
 module _ (o : RunOptions) where
   sound_run : (r : _) → Ran (work_of o) r → IsSound r
-  sound_run r ran = sound_as_it_is r (work_of o).kinds 10000 ran.sound
+  sound_run r ran = sound_as_it_is r (work_of o).kinds _ ran.sound
 
   pub run_accepted : (status : ℕ) (out : List ℕ) → IsRunOutput o status out → status ≡ yes_status → IsAcceptedRun o out
   run_accepted status out (inl h) e =

@@ -1,22 +1,19 @@
 -- What is put out of a record.
-use Rattle.std.proofs.Common.{◌≡◌, ◌∙◌, ℕ, List, ◌∷◌, ◌++◌, ◌<◌, ◌+◌, length, drop, get_or, refl, ap, sym, subst, codes}
-use Rattle.std.proofs.lemmas.List.{drop_more}
+use Rattle.std.proofs.Common.{◌≡◌, ℕ, List, sym, subst}
 use Rattle.model.specs.declared.AnyOp.{AnyOp}
 use Rattle.model.specs.declared.AnyReply.{AnyReply}
 use Rattle.desk_model.specs.World.{AnyEntry, AnyEvent}
 use Rattle.desk_model.specs.Records.{IsSoundRecord}
 use Rattle.desk_model.proofs.Entries.{events_as_they_are, entries_as_they_are}
 use Rattle.certificate.specs.declared.Certificate.{Certificate}
-use Rattle.certificate.specs.Lines.{line_of}
 use Rattle.recorder.specs.Records.{Recorded, journal_at, log_at}
-use Rattle.commands.specs.Runs.{commented, IsSound, journals_of, logs_of}
-
--- ---- lines one after the other
-
-pub comments_left : (cs : List Certificate) (i : ℕ) (c : Certificate) → i < length cs → c ≡ get_or cs i c → commented (drop i cs) ≡ (codes "; " ++ line_of c) ++ commented (drop (i + 1) cs)
-comments_left cs i c lt e =
-    let here : drop i cs ≡ c ∷ drop (i + 1) cs = drop_more cs i c lt ∙ ap (λ (y : Certificate). y ∷ drop (i + 1) cs) (sym e) in
-    rw here refl
+use Rattle.events.specs.declared.event.Event.{Event}
+use Rattle.recorder.specs.Histories.{AreEventsOf}
+use Rattle.transcript.specs.Accounts.{AreCertificatesOf}
+use Rattle.verdicts.specs.declared.verdict.Verdict.{Verdict}
+use Rattle.verdicts.specs.declared.verdict.Verdict.TheVariants.{Yes, No, Malformed, NoMemory}
+use Rattle.judging.specs.Verdicts.{JudgesBy}
+use Rattle.commands.specs.Runs.{IsSound, Says, journals_of, logs_of}
 
 -- ---- journals and logs of operations of all kinds are what they stand for
 
@@ -25,3 +22,13 @@ sound_as_it_is r kinds quota s =
     let journals : journal_at r ≡ journals_of r = λ i c. sym (events_as_they_are (journal_at r c)) i in
     let logs : log_at r ≡ logs_of r = λ i x. sym (entries_as_they_are (log_at r x)) i in
     (kinds, quota, subst (λ (js : ℕ → List AnyEvent). IsSoundRecord kinds quota js (logs_of r)) journals (subst (λ (ls : ℕ → List AnyEntry). IsSoundRecord kinds quota (journal_at r) ls) logs s))
+
+-- ---- the verdict on the certificates of a record
+
+pub says_of : (journals : ℕ → List AnyEvent) (logs : ℕ → List AnyEntry) (es : List Event) (cs : List Certificate)
+    → AreEventsOf journals es → AreCertificatesOf journals logs cs → (v : Verdict) → JudgesBy es cs v → Says journals logs v
+says_of journals logs es cs are_events are_certificates (Yes s) k =
+    (record { events = es; certificates = cs; are_events = are_events; are_certificates = are_certificates; valid = k.0 }, (es, are_events, k.1))
+says_of journals logs es cs are_events are_certificates (No r) k = record { events = es; certificates = cs; are_events = are_events; are_certificates = are_certificates; first = k.0 }
+says_of journals logs es cs are_events are_certificates (Malformed f) k = k
+says_of journals logs es cs are_events are_certificates NoMemory k = tt

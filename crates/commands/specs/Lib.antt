@@ -1,7 +1,4 @@
 pub mod Statuses
-pub mod Outputs
 pub mod Runs
-pub mod Searches
-pub mod Findings
-pub mod Judged
 pub mod Simulated
+pub mod Performed

@@ -1,5 +1,5 @@
 -- What a run puts out, and its exit status.
-use Rattle.std.specs.Prelude.{◌≡◌, ◌<◌, ◌⊎◌, ⊤, ℕ, List, [], ◌∷◌, true, ◌++◌, codes, map}
+use Rattle.std.specs.Prelude.{◌≡◌, ◌≢◌, ◌<◌, ◌⊎◌, ⊤, ℕ, List, [], true, ◌++◌, codes, map}
 use Rattle.std.specs.List.{range_with_len}
 use Rattle.model.specs.declared.Kind.{Kind}
 use Rattle.seq_objects.specs.Kinds.{kinds_of}
@@ -13,23 +13,19 @@ use Rattle.model.specs.declared.AnyOp.{AnyOp}
 use Rattle.model.specs.declared.AnyReply.{AnyReply}
 use Rattle.recorder.specs.Histories.{AreEventsOf, journals_in, logs_in}
 use Rattle.recorder.specs.Records.{Recorded}
-use Rattle.report.specs.declared.verdict.Summary.{Summary}
+use Rattle.verdicts.specs.declared.verdict.Summary.{Summary}
 use Rattle.certificate.specs.declared.Certificate.{Certificate}
-use Rattle.certificate.specs.Lines.{line_of}
 use Rattle.transcript.specs.Written.{IsHistoryText}
 use Rattle.transcript.specs.Accounts.{AreCertificatesOf, IsAccepted, IsRefused}
 use Rattle.report.specs.Lines.{verdict_text}
-use Rattle.report.specs.declared.verdict.Verdict.{Verdict}
-use Rattle.report.specs.declared.verdict.Verdict.TheVariants.{Yes, No, Malformed, NoMemory}
-use Rattle.judging.specs.Texts.{AreCountsOf}
+use Rattle.verdicts.specs.declared.verdict.Verdict.{Verdict}
+use Rattle.verdicts.specs.declared.verdict.Verdict.TheVariants.{Yes, No, Malformed, NoMemory}
+use Rattle.verdicts.specs.Counts.{AreCountsOf}
 use Rattle.judging.specs.Verdicts.{IsYesUnlessMemory}
 use Rattle.command_line.specs.declared.asking.RunOptions.{RunOptions}
-use Rattle.commands.specs.Statuses.{no_memory_status, status_of}
-
--- the lines of certificates, each as a comment
-abbrev pub commented : List Certificate → List ℕ
-commented [] = []
-commented (c ∷ cs) = (codes "; " ++ line_of c) ++ commented cs
+use Rattle.history_commands.specs.Comments.{comment_lines}
+use Rattle.outputs.specs.Outputs.{IsOutOfMemory}
+use Rattle.outputs.specs.Statuses.{no_memory_status, no_status, status_of, yes_status}
 
 -- a record's journals and logs, as they are
 abbrev pub journals_of : Recorded AnyOp AnyReply → ℕ → List AnyEvent
@@ -62,10 +58,10 @@ pub record IsTextOf (journals : ℕ → List AnyEvent) (logs : ℕ → List AnyE
   pub certificates : List Certificate
   pub is_history : IsHistoryText journals history
   pub are_certificates : AreCertificatesOf journals logs certificates
-  pub text_is : text ≡ history ++ (between ++ commented certificates)
+  pub text_is : text ≡ history ++ (between ++ comment_lines certificates)
 
--- The same, and the verdict on the record as comments. That of a sound record is yes, but for want
--- of memory.
+-- The same, and the verdict on the record as comments. That of a sound record is yes, except where
+-- memory is refused.
 pub record IsReported (journals : ℕ → List AnyEvent) (logs : ℕ → List AnyEntry) (between : List ℕ)
     (status : ℕ) (text : List ℕ) : Type 0 where
   pub own : List ℕ
@@ -76,10 +72,6 @@ pub record IsReported (journals : ℕ → List AnyEvent) (logs : ℕ → List An
       → IsYesUnlessMemory verdict
   pub status_is : status ≡ status_of verdict
   pub text_is : text ≡ own ++ verdict_text true verdict
-
--- one line says that memory was refused
-abbrev pub IsOutOfMemory : ℕ → List ℕ → Type 0
-IsOutOfMemory status text = (status ≡ no_memory_status) × (text ≡ codes "out of memory\n")
 
 -- There is nothing to judge, and one line says why. A client alone wants no thread.
 abbrev pub IsGivenUp : ℕ → ℕ → List ℕ → Type 0
@@ -104,7 +96,7 @@ pub record IsAcceptedOutput (journals : ℕ → List AnyEvent) (logs : ℕ → L
   pub counts : Summary
   pub are_counts : HaveCounts journals counts
   pub out_is : out
-      ≡ history ++ (between ++ (commented certificates ++ verdict_text true (Yes counts)))
+      ≡ history ++ (between ++ (comment_lines certificates ++ verdict_text true (Yes counts)))
 
 -- the objects of a run with these options, and the calls of its clients, as they are drawn
 abbrev pub work_of : RunOptions → Work
@@ -127,3 +119,10 @@ pub record IsAcceptedRun (o : RunOptions) (out : List ℕ) : Type 0 where
   pub recorded : Recorded AnyOp AnyReply
   pub ran : Ran (work_of o) recorded
   pub lines : IsAcceptedOutput (journals_of recorded) (logs_of recorded) [] out
+
+-- What a run comes to: a yes comes with the record of such a run, the certificates of which are
+-- accepted, and it is never a no.
+pub record IsRun (o : RunOptions) (status : ℕ) (out : List ℕ) : Type 0 where
+  pub output : IsRunOutput o status out
+  pub accepted : status ≡ yes_status → IsAcceptedRun o out
+  pub never_no : status ≢ no_status

@@ -1,5 +1,5 @@
 -- What the command that plays a schedule puts out, and its exit status.
-use Rattle.std.specs.Prelude.{◌≡◌, ◌⊎◌, ℕ, List, ◌++◌, codes, decimal}
+use Rattle.std.specs.Prelude.{◌≡◌, ◌≢◌, ◌⊎◌, ℕ, List, ◌++◌, codes, decimal}
 use Rattle.model.specs.declared.AnyOp.{AnyOp}
 use Rattle.model.specs.declared.AnyReply.{AnyReply}
 use Rattle.edn_reader.specs.Faults as edn
@@ -9,9 +9,9 @@ use Rattle.simulation.specs.Simulations.{IsSimulated, IsSimulationFault}
 use Rattle.simulation.specs.declared.simulating.SimulationFault.{SimulationFault}
 use Rattle.simulation.specs.declared.simulating.SimulationFault.TheVariants.{Text, Form, NotEnded}
 use Rattle.simulation.specs.declared.simulating.SimulationFault.TheVariants.{NoMemory}
-use Rattle.commands.specs.Statuses.{malformed_status, no_memory_status}
-use Rattle.commands.specs.Runs.{IsAcceptedOutput, IsOutOfMemory, IsRecordOutput, journals_of}
-use Rattle.commands.specs.Runs.{logs_of}
+use Rattle.outputs.specs.Statuses.{malformed_status, no_memory_status, no_status, yes_status}
+use Rattle.outputs.specs.Outputs.{IsOutOfMemory}
+use Rattle.commands.specs.Runs.{IsAcceptedOutput, IsRecordOutput, journals_of, logs_of}
 
 -- how many steps were not possible at their turn
 abbrev pub refused_line : ℕ → List ℕ
@@ -54,3 +54,10 @@ pub record IsAcceptedSimulation (text out : List ℕ) : Type 0 where
   pub recorded : Recorded AnyOp AnyReply
   pub simulated : IsSimulated text refused recorded
   pub lines : IsAcceptedOutput (journals_of recorded) (logs_of recorded) (refused_line refused) out
+
+-- What the play of a schedule comes to: a yes comes with a record, the certificates of which are
+-- accepted, and it is never a no.
+pub record IsSimulation (text : List ℕ) (status : ℕ) (out : List ℕ) : Type 0 where
+  pub output : IsSimulateOutput text status out
+  pub accepted : status ≡ yes_status → IsAcceptedSimulation text out
+  pub never_no : status ≢ no_status

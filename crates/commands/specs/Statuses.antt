@@ -1,31 +1,8 @@
--- Exit statuses.
+-- The exit status of words that ask for nothing.
 use Rattle.std.specs.Prelude.{ℕ}
-use Rattle.checker.specs.declared.refusal.Refusal.TheVariants as refusal
-use Rattle.report.specs.declared.verdict.Verdict.{Verdict}
-use Rattle.report.specs.declared.verdict.Verdict.TheVariants.{Yes, No, Malformed, NoMemory}
 use Rattle.command_line.specs.declared.asking.LineFault.{LineFault}
-use Rattle.command_line.specs.declared.asking.LineFault.TheVariants as line_fault
-use Rattle.command_line.specs.declared.asking.LineFault.TheVariants.{Help, Refused}
-
--- where the history is linearizable
-abbrev pub yes_status : ℕ
-yes_status = 0
-
--- where the certificates are refused
-abbrev pub no_status : ℕ
-no_status = 1
-
--- where a text is malformed
-abbrev pub malformed_status : ℕ
-malformed_status = 2
-
--- where memory was refused, or a thread could not be started
-abbrev pub no_memory_status : ℕ
-no_memory_status = 3
-
--- where the output failed, or a file could not be read
-abbrev pub failed_status : ℕ
-failed_status = 4
+use Rattle.command_line.specs.declared.asking.LineFault.TheVariants.{Help, Refused, NoMemory}
+use Rattle.outputs.specs.Statuses.{no_memory_status, yes_status}
 
 -- where the command line is refused
 abbrev pub usage_status : ℕ
@@ -35,12 +12,4 @@ usage_status = 64
 abbrev pub status_of_fault : LineFault → ℕ
 status_of_fault (Help text) = yes_status
 status_of_fault (Refused text) = usage_status
-status_of_fault line_fault.NoMemory = no_memory_status
-
--- The status of a verdict. A refusal for want of memory is never answered: `judge` says `NoMemory`.
-abbrev pub status_of : Verdict → ℕ
-status_of (Yes s) = yes_status
-status_of (No refusal.NoMemory) = no_memory_status
-status_of (No r) = no_status
-status_of (Malformed f) = malformed_status
-status_of NoMemory = no_memory_status
+status_of_fault NoMemory = no_memory_status

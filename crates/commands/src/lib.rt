@@ -1,20 +1,16 @@
 //! The program's logic: it does what a command line asks for.
 #![tactic(auto)]
 
-mod checking;
-mod comments;
-mod finding;
-mod judgement;
-mod output;
 mod program;
 mod running;
-mod searching;
 mod simulating;
 mod statuses;
-mod texts;
 
-pub use checking::check_sources;
 pub use command_line::{Line, LineFault, RunOptions, line};
+pub use history_commands::{report_find, report_judgement, report_search};
+pub use outputs::{FAILED, MALFORMED, NO, NO_MEMORY, YES, check_sources, report_check};
 pub use program::perform;
-pub use sources::{In, NamedFile, READ_LIMIT, Text};
-pub use statuses::{FAILED, NO_MEMORY, USAGE, status_of_fault};
+pub use running::report_run;
+pub use simulating::report_simulation;
+pub use sources::{In, NamedFile, ReadFault, Text, read_text};
+pub use statuses::{USAGE, status_of_fault};

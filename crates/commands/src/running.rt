@@ -1,35 +1,42 @@
 //! A run: clients make calls on objects, and what they did is judged.
 
-ghost use Rattle.std.specs.Prelude.{◌≡◌, ◌≢◌, ◌<◌, ◌++◌, ℕ, List, false, true, IfOk, IfErr};
-ghost use Rattle.std.specs.Io.KnownBytes.{Appends};
+ghost use Rattle.std.specs.Prelude.{◌≡◌, ◌<◌, ℕ, List, false, IfOk, IfErr};
 ghost use Rattle.model.specs.declared.Kind.{Kind};
 ghost use Rattle.desk_model.specs.Records.{IsSoundRecord};
-ghost use Rattle.byte_streams.specs.Sent.{WritesPrefix};
-ghost use Rattle.judging.specs.Verdicts.{IsYesUnlessMemory};
-ghost use Rattle.commands.specs.Runs.{HaveCounts, IsAcceptedRun, IsRecordOutput, IsRunOutput, IsTextOf, Says, journals_of, logs_of, work_of};
-ghost use Rattle.report.specs.Lines.{verdict_text};
-ghost use Rattle.commands.specs.Statuses as spec;
-ghost use Rattle.commands.specs.Statuses.{failed_status, no_status, yes_status};
+ghost use Rattle.certificate.specs.Denotes.{AreDistinct};
+ghost use Rattle.checker.specs.Refusals.{AreValid};
+ghost use Rattle.judging.specs.Verdicts.{IsYesUnlessMemory, JudgesBy};
+ghost use Rattle.transcript.specs.Accounts.{AreCertificatesOf};
+ghost use Rattle.outputs.specs.Outputs.{Leaves};
+ghost use Rattle.commands.specs.Runs.{IsRecordOutput, IsRun, IsTextOf, Says, journals_of, logs_of};
+ghost use Rattle.commands.specs.Runs.{work_of};
 ghost use Rattle.clients.specs.Made.{Ran};
 
-use crate::comments::comments_text;
-use crate::output::{send, send_verdict};
-use crate::statuses::{FAILED, NO_MEMORY};
-use checker::Refusal;
+use certificate::Certificate;
+use checker::check_all;
 use clients::{RunFault, run_workers};
 use command_line::RunOptions;
-use edn::{Out, Sink, write_bytes};
+use edn::{Out, Sink};
+use history::History;
+use history_commands::comments_text;
+use outputs::{NO_MEMORY, send, send_both, send_out_of_memory};
 use recorder::Record;
-use report::{Summary, Verdict, summary};
+use report::{Verdict, verdict_on_check};
 use seq_objects::{AnyObject, Open};
 use std::alloc::{AllocError, Global};
 use std::sync::Wait;
 use std::thread::Threads;
-use transcript::{certificates, check_record, history, write_history};
+use transcript::{certificates, history, sound_record_is_accepted, write_history};
 use workload::workload;
 
 /// The lines of the record's history, then this text, and its certificates as comments.
-fn text_of(alloc: Global, record: &Record<AnyObject>, between: &[u8]) -> Result<Vec<u8>, AllocError>
+fn text_of(
+    alloc: Global,
+    record: &Record<AnyObject>,
+    between: &[u8],
+    certificates: &[Certificate],
+) -> Result<Vec<u8>, AllocError>
+    requires { AreCertificatesOf (journals_of record.now) (logs_of record.now) certificates.now }
     ensures { IfOk result (λ text.
         IsTextOf (journals_of record.now) (logs_of record.now) between.now text.items) }
 {
@@ -39,52 +46,42 @@ fn text_of(alloc: Global, record: &Record<AnyObject>, between: &[u8]) -> Result<
     }
     let mut text = sink.into_inner();
     text.extend_from_slice(between)?;
-    let certificates = certificates(alloc, record)?;
-    let comments = comments_text(alloc, &certificates)?;
+    let comments = comments_text(alloc, certificates)?;
     text.extend_from_slice(&comments)?;
     Ok(text)
 }
 
-/// The counts of the record's history.
-fn counts_of(alloc: Global, record: &Record<AnyObject>) -> Result<Summary, AllocError>
-    ensures { IfOk result (HaveCounts (journals_of record.now)) }
+/// The verdict of the check of a history by certificates.
+fn verdict_by(alloc: Global, history: &History, certificates: &[Certificate]) -> Verdict
+    requires { AreDistinct certificates.now }
+    ensures judges { JudgesBy history.now certificates.now result }
+    ensures accepts { AreValid history.now certificates.now → IsYesUnlessMemory result }
 {
-    let history = history(alloc, record)?;
-    summary(alloc, &history)
+    let checked = check_all(alloc, history, certificates);
+    verdict_on_check(alloc, history, checked)
 }
 
-/// The verdict of the check on the record in memory.
-fn verdict_on(alloc: Global, record: &Record<AnyObject>) -> Verdict
-    ensures says { Says (journals_of record.now) (logs_of record.now) result }
+/// The text of the record, and the verdict of the check on it in memory. Its history and its
+/// certificates are gathered once for the check and the counts.
+fn account_of(
+    alloc: Global,
+    record: &Record<AnyObject>,
+    between: &[u8],
+) -> Result<(Vec<u8>, Verdict), AllocError>
+    ensures text { IfOk result (λ r.
+        IsTextOf (journals_of record.now) (logs_of record.now) between.now r.0.items) }
+    ensures says { IfOk result (λ r. Says (journals_of record.now) (logs_of record.now) r.1) }
     ensures accepted { (kinds : List Kind) (quota : ℕ) →
         IsSoundRecord kinds quota (journals_of record.now) (logs_of record.now) →
-        IsYesUnlessMemory result }
+        IfOk result (λ r. IsYesUnlessMemory r.1) }
 {
-    match check_record(alloc, record) {
-        Ok(()) => match counts_of(alloc, record) {
-            Ok(counts) => Verdict::Yes(counts),
-            Err(AllocError) => Verdict::NoMemory,
-        },
-        Err(Refusal::NoMemory) => Verdict::NoMemory,
-        Err(refusal) => Verdict::No(refusal),
-    }
-}
-
-/// Writes the text, and then the verdict.
-fn send_both<S: Sink>(text: &[u8], verdict: &Verdict, sink: &mut S) -> u8
-    requires { S.broken sink.old ≡ false }
-    ensures written { result ≢ failed_status →
-        (result ≡ spec.status_of verdict.now)
-        × Appends (S.sent sink.old) (S.sent sink.new) (text.now ++ verdict_text true verdict.now) }
-    ensures usable { result ≢ failed_status → S.broken sink.new ≡ false }
-    ensures failed { result ≡ failed_status → S.broken sink.new ≡ true }
-    ensures front { result ≡ failed_status →
-        WritesPrefix (S.sent sink.old) (S.sent sink.new) (text.now ++ verdict_text true verdict.now) }
-{
-    if write_bytes(text, sink).is_err() {
-        return FAILED;
-    }
-    send_verdict(verdict, true, sink)
+    // This does nothing: it says that the certificates of a sound record are valid.
+    sound_record_is_accepted();
+    let history = history(alloc, record)?;
+    let certificates = certificates(alloc, record)?;
+    let text = text_of(alloc, record, between, &certificates)?;
+    let verdict = verdict_by(alloc, &history, &certificates);
+    Ok((text, verdict))
 }
 
 /// Puts out the history of the record, this text, its certificates and the verdict on it, and gives
@@ -96,22 +93,14 @@ pub(crate) fn report_record<S: Sink>(
     sink: &mut S,
 ) -> u8
     requires working { S.broken sink.old ≡ false }
-    ensures written { result ≢ failed_status →
-        (text : List ℕ) × IsRecordOutput (journals_of record.now)
-        (logs_of record.now) between.now result text
-        × Appends (S.sent sink.old) (S.sent sink.new) text }
-    ensures usable { result ≢ failed_status → S.broken sink.new ≡ false }
-    ensures failed { result ≡ failed_status → S.broken sink.new ≡ true }
-    ensures front { result ≡ failed_status →
-        (status : ℕ) × (text : List ℕ)
-        × IsRecordOutput (journals_of record.now) (logs_of record.now) between.now status text
-        × WritesPrefix (S.sent sink.old) (S.sent sink.new) text }
+    ensures leaves { Leaves
+        (IsRecordOutput (journals_of record.now) (logs_of record.now) between.now)
+        (S.sent sink.old) result (S.sent sink.new) (S.broken sink.new) }
 {
-    let Ok(text) = text_of(alloc, record, between) else {
-        return send(b"out of memory\n", NO_MEMORY, sink);
-    };
-    let verdict = verdict_on(alloc, record);
-    send_both(&text, &verdict, sink)
+    match account_of(alloc, record, between) {
+        Ok((text, verdict)) => send_both(&text, &verdict, sink),
+        Err(AllocError) => send_out_of_memory(sink),
+    }
 }
 
 /// What the clients did, each in a thread of its own.
@@ -135,30 +124,20 @@ fn record_of<R: Threads + Wait + Sync>(
     run_workers(rt, alloc, &workload, &Open)
 }
 
-/// Runs the clients, and puts out what they did and the verdict on it.
-pub(crate) fn run<R: Threads + Wait + Sync, S: Sink>(
+/// Runs the clients, puts out what they did and the verdict on it, and gives the exit status.
+pub fn report_run<R: Threads + Wait + Sync, S: Sink>(
     rt: &R,
     alloc: Global,
     options: RunOptions,
     sink: &mut S,
 ) -> u8
     requires working { S.broken sink.old ≡ false }
-    ensures written { result ≢ failed_status →
-        (text : List ℕ) × IsRunOutput options result text
-        × Appends (S.sent sink.old) (S.sent sink.new) text }
-    ensures usable { result ≢ failed_status → S.broken sink.new ≡ false }
-    ensures failed { result ≡ failed_status → S.broken sink.new ≡ true }
-    ensures front { result ≡ failed_status →
-        (status : ℕ) × (text : List ℕ) × IsRunOutput options status text
-        × WritesPrefix (S.sent sink.old) (S.sent sink.new) text }
-    ensures accepted { result ≡ yes_status →
-        (out : List ℕ) × IsAcceptedRun options out
-        × Appends (S.sent sink.old) (S.sent sink.new) out }
-    ensures never_no { result ≢ no_status }
+    ensures leaves { Leaves (IsRun options)
+        (S.sent sink.old) result (S.sent sink.new) (S.broken sink.new) }
 {
     match record_of(rt, alloc, options) {
         Ok(record) => report_record(alloc, &record, b"", sink),
-        Err(RunFault::NoMemory) => send(b"out of memory\n", NO_MEMORY, sink),
+        Err(RunFault::NoMemory) => send_out_of_memory(sink),
         Err(RunFault::NoThread) => send(b"no thread\n", NO_MEMORY, sink),
     }
 }

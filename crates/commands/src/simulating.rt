@@ -1,23 +1,17 @@
 //! The command that plays a schedule.
 
-ghost use Rattle.std.specs.Prelude.{◌≡◌, ◌≢◌, ◌++◌, ℕ, List, false, true, codes, decimal, IfOk};
-ghost use Rattle.std.specs.Io.KnownBytes.{Appends};
-ghost use Rattle.byte_streams.specs.Sent.{WritesPrefix};
+ghost use Rattle.std.specs.Prelude.{◌≡◌, ◌++◌, false, codes, decimal, IfOk};
 ghost use Rattle.commands.specs.Runs.{IsRecordOutput, journals_of, logs_of};
 ghost use Rattle.commands.specs.Simulated as spec;
-ghost use Rattle.commands.specs.Simulated.{IsAcceptedSimulation, IsFaultOutput, IsSimulateOutput};
-ghost use Rattle.commands.specs.Statuses.{failed_status, no_status, yes_status};
+ghost use Rattle.outputs.specs.Outputs.{Leaves};
+ghost use Rattle.commands.specs.Simulated.{IsFaultOutput, IsSimulation};
 
-use crate::output::send;
 use crate::running::report_record;
-use crate::searching::push_decimal;
-use crate::statuses::NO_MEMORY;
 use edn::Sink;
+use history_commands::push_decimal;
+use outputs::{MALFORMED, NO_MEMORY, send, send_out_of_memory};
 use simulation::{Played, SimulationFault, simulate};
 use std::alloc::{AllocError, Global};
-
-/// The exit status where the schedule is malformed, or a client has not ended.
-const MALFORMED: u8 = 2;
 
 /// A text with one number in it.
 fn text_with_number(
@@ -93,57 +87,34 @@ fn fault_status(fault: SimulationFault) -> u8
 /// Says why there is no record.
 fn report_fault<S: Sink>(alloc: Global, fault: SimulationFault, sink: &mut S) -> u8
     requires working { S.broken sink.old ≡ false }
-    ensures written { result ≢ failed_status →
-        (out : List ℕ) × IsFaultOutput fault result out
-        × Appends (S.sent sink.old) (S.sent sink.new) out }
-    ensures usable { result ≢ failed_status → S.broken sink.new ≡ false }
-    ensures failed { result ≡ failed_status → S.broken sink.new ≡ true }
-    ensures front { result ≡ failed_status →
-        (status : ℕ) × (out : List ℕ) × IsFaultOutput fault status out
-        × WritesPrefix (S.sent sink.old) (S.sent sink.new) out }
+    ensures leaves { Leaves (IsFaultOutput fault)
+        (S.sent sink.old) result (S.sent sink.new) (S.broken sink.new) }
 {
     match fault_line(alloc, fault) {
         Ok(line) => send(&line, fault_status(fault), sink),
-        Err(AllocError) => send(b"out of memory\n", NO_MEMORY, sink),
+        Err(AllocError) => send_out_of_memory(sink),
     }
 }
 
 /// Puts out the record, and says how many steps were refused.
 fn report_played<S: Sink>(alloc: Global, played: &Played, sink: &mut S) -> u8
     requires working { S.broken sink.old ≡ false }
-    ensures written { result ≢ failed_status →
-        (out : List ℕ) × IsRecordOutput (journals_of played.now.record) (logs_of played.now.record)
-        (spec.refused_line played.now.refused) result out
-        × Appends (S.sent sink.old) (S.sent sink.new) out }
-    ensures usable { result ≢ failed_status → S.broken sink.new ≡ false }
-    ensures failed { result ≡ failed_status → S.broken sink.new ≡ true }
-    ensures front { result ≡ failed_status →
-        (status : ℕ) × (out : List ℕ)
-        × IsRecordOutput (journals_of played.now.record) (logs_of played.now.record)
-        (spec.refused_line played.now.refused) status out
-        × WritesPrefix (S.sent sink.old) (S.sent sink.new) out }
+    ensures leaves { Leaves
+        (IsRecordOutput (journals_of played.now.record) (logs_of played.now.record)
+        (spec.refused_line played.now.refused))
+        (S.sent sink.old) result (S.sent sink.new) (S.broken sink.new) }
 {
     match text_with_number(alloc, b"; refused steps: ", played.refused as u64, b"\n") {
         Ok(line) => report_record(alloc, &played.record, &line, sink),
-        Err(AllocError) => send(b"out of memory\n", NO_MEMORY, sink),
+        Err(AllocError) => send_out_of_memory(sink),
     }
 }
 
 /// Plays the schedule in the text, puts out what comes of it, and gives the exit status.
-pub(crate) fn report_simulation<S: Sink>(alloc: Global, text: &[u8], sink: &mut S) -> u8
+pub fn report_simulation<S: Sink>(alloc: Global, text: &[u8], sink: &mut S) -> u8
     requires working { S.broken sink.old ≡ false }
-    ensures written { result ≢ failed_status →
-        (out : List ℕ) × IsSimulateOutput text.now result out
-        × Appends (S.sent sink.old) (S.sent sink.new) out }
-    ensures usable { result ≢ failed_status → S.broken sink.new ≡ false }
-    ensures failed { result ≡ failed_status → S.broken sink.new ≡ true }
-    ensures front { result ≡ failed_status →
-        (status : ℕ) × (out : List ℕ) × IsSimulateOutput text.now status out
-        × WritesPrefix (S.sent sink.old) (S.sent sink.new) out }
-    ensures simulated { result ≡ yes_status →
-        (out : List ℕ) × IsAcceptedSimulation text.now out
-        × Appends (S.sent sink.old) (S.sent sink.new) out }
-    ensures never_no { result ≢ no_status }
+    ensures leaves { Leaves (IsSimulation text.now)
+        (S.sent sink.old) result (S.sent sink.new) (S.broken sink.new) }
 {
     match simulate(alloc, text) {
         Ok(played) => report_played(alloc, &played, sink),

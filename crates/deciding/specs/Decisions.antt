@@ -10,7 +10,7 @@ use Rattle.search.specs.declared.found.SearchOutcome.TheVariants.{Impossible, Ou
 use Rattle.search.specs.declared.found.SearchOutcome.TheVariants.{NoMemory}
 use Rattle.search.specs.Answers.{IfFound, IsFor}
 
--- What may be decided of the calls of an object, with a search of so many steps at most. Many calls
+-- What may be decided of the calls of an object, with a search of at most `limit` steps. Many calls
 -- are too large for a search alone, so that is answered only where there are too many, and not each
 -- time.
 pub record IsDecision (object : ℕ) (kind : Kind) (calls : List Call) (limit : ℕ) (s : Search) : Type
@@ -19,7 +19,7 @@ pub record IsDecision (object : ℕ) (kind : Kind) (calls : List Call) (limit : 
   pub found : IfFound s.found (IsFor object kind calls)
   -- impossible is answered only where no order is valid
   pub impossible : s.found ≡ Impossible → IsNoneValid kind calls
-  -- at most so many operations were tried, and just so many where that was not enough
+  -- at most `limit` operations were tried, and exactly `limit` where that was not enough
   pub steps : s.steps ≤ limit
   pub out_of_steps : s.found ≡ OutOfSteps → s.steps ≡ limit
   pub too_large : s.found ≡ TooLarge → max_operations < length calls

@@ -12,7 +12,7 @@ use search::{Search, SearchOutcome, search};
 use std::alloc::Global;
 
 /// Looks for a certificate of an object: the finder first, which takes none of the steps, and where
-/// it finds none, or is refused memory, a search of at most so many steps.
+/// it finds none, or is refused memory, a search of at most `limit` steps.
 ///
 /// That a limit is enough is not promised.
 pub fn decide(alloc: Global, history: &ObjectHistory, limit: u64) -> Search

@@ -2,13 +2,13 @@
 #![tactic(auto)]
 
 use commands::{
-    FAILED, In, Line, LineFault, NO_MEMORY, NamedFile, READ_LIMIT, Text, USAGE, check_sources,
-    line, perform, status_of_fault,
+    FAILED, In, Line, LineFault, NO_MEMORY, NamedFile, ReadFault, Text, USAGE, check_sources, line,
+    perform, read_text, status_of_fault,
 };
 use edn::Out;
 use std::fs::OpenFile;
 use std::io;
-use std::io::{IsTerminal, Read};
+use std::io::IsTerminal;
 use std::process::ExitCode;
 use std::rt::{Env, Files};
 use std::sync::Wait;
@@ -16,24 +16,16 @@ use std::sync::atomic::{AtomicBool, Ordering};
 use std::thread::{Threads, join, sleep};
 use std::time::{Clock, Duration};
 
+/// How often it is looked whether the command is done, and how many milliseconds after each other:
+/// for a second in all.
+const LOOKS: u32 = 200;
+
+const MILLISECONDS_BETWEEN_LOOKS: u64 = 5;
+
 /// What a command uses of the host.
 trait Host: Files + AllocGlobal + Print + Eprint + Clock + Threads + Wait + Sync {}
 
 impl<R: Files + AllocGlobal + Print + Eprint + Clock + Threads + Wait + Sync> Host for R {}
-
-/// The bytes of a file, to its end or to the limit.
-fn bytes_of<R: Files + Alloc>(rt: &R, name: &str) -> io::Result<Vec<u8, R::A>> {
-    let file = std::fs::open(rt, name)?;
-    let mut bytes = Vec::new(rt.alloc());
-    // Room for the whole file at once. Where that is refused, or the length is not known, it grows
-    // as it is read.
-    if let Ok(about) = file.metadata() {
-        let length = about.len().min(READ_LIMIT as u64) as usize;
-        let _ = bytes.reserve(length);
-    }
-    file.take(READ_LIMIT as u64).read_to_end(&mut bytes)?;
-    Ok(bytes)
-}
 
 /// Says that memory was refused before the command began.
 fn no_memory<R: Print>(rt: &R) -> io::Result<u8> {
@@ -77,9 +69,11 @@ fn run_check<R: Host>(rt: &R, history: &str, certs: &str, workers: u32) -> io::R
 
 /// Reads the one file of a command, and does it.
 fn run_on_file<R: Host>(rt: &R, line: &Line, name: &str) -> io::Result<u8> {
-    match bytes_of(rt, name) {
+    let mut file = In::new(NamedFile::new(rt, name));
+    match read_text(rt.alloc(), &mut file) {
         Ok(bytes) => Ok(do_line(rt, line, &bytes, b"")),
-        Err(error) => report_unreadable(rt, name, error.kind() == io::ErrorKind::OutOfMemory),
+        Err(ReadFault::Failed) => report_unreadable(rt, name, file.lacks_memory()),
+        Err(ReadFault::NoMemory) => no_memory(rt),
     }
 }
 
@@ -131,15 +125,15 @@ fn run<R: Host + Env>(rt: &R) -> io::Result<u8> {
     }
 }
 
-/// Says after a second that the command is under way, unless it is done before. It looks each 5
-/// milliseconds whether it is done, since the command ends only when this returns: no command takes
-/// more than a step longer for being watched.
+/// Says after a second that the command is under way, unless it is done before. It looks every few
+/// milliseconds whether it is done, since the command ends only when this returns: being watched
+/// makes no command more than one such pause longer.
 fn watch<R: Eprint + Clock>(rt: &R, is_done: &AtomicBool) {
-    for _ in 0..200 {
+    for _ in 0..LOOKS {
         if is_done.load(Ordering::SeqCst) {
             return;
         }
-        sleep(rt, Duration::from_millis(5));
+        sleep(rt, Duration::from_millis(MILLISECONDS_BETWEEN_LOOKS));
     }
     let _ = rt.eprintln("fcbench: under way");
 }

@@ -10,7 +10,7 @@ use Rattle.certificate.specs.declared.Certificate.{Certificate}
 use Rattle.checker.specs.declared.refusal.Refusal.{Refusal}
 use Rattle.checker.specs.Refusals.{AreValid}
 use Rattle.locality.specs.Locality.{HasValidOrder}
-use Rattle.report.proofs.Named.{later_named}
+use Rattle.verdicts.proofs.Named.{later_named}
 
 one_named : (e : Event) (later : List Event) (c : ProcessCall) → (In c (calls_in (denoted later)) → IsNamed later c.object)
     → (a : Action) → e.action ≡ a → (failed : Bool) → In c (calls_in (denoted_by e.number e.process e.object a failed ++ denoted later)) → IsNamed (e ∷ later) c.object
@@ -28,7 +28,8 @@ call_named [] c i = absurd i
 call_named (e ∷ later) c i = one_named e later c (call_named later c) e.action refl (fails (next_event e.process later)) i
 
 pub orders : (es : List Event) (certificates : List Certificate) → AreValid es certificates → All (λ call. HasValidOrder (kind_at es) (denoted es) call.object) (calls_in (denoted es))
-orders es certificates v = all_from_in (λ (c : ProcessCall). HasValidOrder (kind_at es) (denoted es) c.object) (calls_in (denoted es)) (λ c i. let own = v.each c.object (call_named es c i) in (own.0.certificate.order.items, own.1))
+orders es certificates v = all_from_in (λ (c : ProcessCall). HasValidOrder (kind_at es) (denoted es) c.object) (calls_in (denoted es))
+    (λ c i. let own = v.each c.object (call_named es c i) in (own.0.certificate.order.items, own.1))
 
 pub where_ok : {P Q : Type 0} (r : Result (Unit {0}) Refusal) → OnOk r P → (P → Q) → OnOk r Q
 where_ok (Ok u) h f = f h

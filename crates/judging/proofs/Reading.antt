@@ -10,8 +10,8 @@ use Rattle.history.specs.Texts.{IsTextFault}
 use Rattle.history.specs.declared.fault.HistoryFault.{HistoryFault}
 use Rattle.history.specs.declared.fault.TextFault.TheVariants.{Text, Maps}
 use Rattle.history.proofs.Reading.{fault_refutes}
-use Rattle.report.specs.declared.verdict.Fault.{Fault}
-use Rattle.report.specs.declared.verdict.Fault.TheVariants.{HistoryText, HistoryMaps, CertificateText, CertificateForms}
+use Rattle.verdicts.specs.declared.verdict.Fault.{Fault}
+use Rattle.verdicts.specs.declared.verdict.Fault.TheVariants.{HistoryText, HistoryMaps, CertificateText, CertificateForms}
 use Rattle.judging.specs.declared.texts.TextFailure.{TextFailure}
 use Rattle.judging.specs.declared.texts.TextFailure.TheVariants as stop
 use Rattle.judging.specs.declared.texts.TextFailure.TheVariants.{Faulty}
@@ -32,7 +32,7 @@ pub stopped_maps : (h : List ℕ) (f : HistoryFault) (s : TextFailure) → IsTex
 stopped_maps h f (Faulty g) (short, ds, spells, found) k = subst (λ (x : Fault). IsHistoryFault h (Faulty x)) (sym k.0) (short, ds, spells, found.0 k.1)
 stopped_maps h f stop.NoMemory (short, ds, spells, found) k = let a = found.1 k in (short, inr (ds, spells, f.map, a.0, a.1))
 
--- a text that denotes a history stops it for want of memory alone
+-- a text that denotes a history stops it by an allocation failure alone
 pub stops_for_memory : (h : List ℕ) (s : TextFailure) (es : List Event) → IsHistoryFault h s → DenotesHistory h es → IsShort h → s ≡ stop.NoMemory
 stops_for_memory h stop.NoMemory es f d short = refl
 stops_for_memory h (Faulty (HistoryText e)) es f d short =

@@ -1,8 +1,6 @@
 -- What a history's text and a certificates' text denote, and what is wrong with a text that denotes
 -- nothing.
-use Rattle.std.specs.Prelude.{◌≡◌, ◌≢◌, ℕ, ◌⊎◌, List, length, map, Result, IfOk, IfErr}
-use Rattle.report.specs.declared.verdict.Summary.{Summary}
-use Rattle.report.specs.Counts.{operations_in, objects_in, kinds_in, uses, count_of}
+use Rattle.std.specs.Prelude.{◌≡◌, ◌≢◌, ℕ, ◌⊎◌, List, map, Result, IfOk, IfErr}
 use Rattle.edn_reader.specs.Datum.{Datum}
 use Rattle.edn_reader.specs.Sound.{IsShort, IsSoundAt, IsUnreadable}
 use Rattle.edn_reader.specs.Spells.{Spells}
@@ -22,14 +20,14 @@ use Rattle.events.specs.Events.{kind_at, denoted}
 use Rattle.checker.specs.Refusals.{AreValid, IsFirstRefusal}
 use Rattle.checker.specs.declared.refusal.Refusal.{Refusal}
 use Rattle.checker.specs.declared.refusal.Refusal.TheVariants as refusal
-use Rattle.report.specs.declared.verdict.Fault.{Fault}
-use Rattle.report.specs.declared.verdict.Verdict.{Verdict}
-use Rattle.report.specs.declared.verdict.Verdict.TheVariants as verdict
-use Rattle.report.specs.declared.verdict.Verdict.TheVariants.{Malformed}
+use Rattle.verdicts.specs.declared.verdict.Fault.{Fault}
+use Rattle.verdicts.specs.declared.verdict.Verdict.{Verdict}
+use Rattle.verdicts.specs.declared.verdict.Verdict.TheVariants as verdict
+use Rattle.verdicts.specs.declared.verdict.Verdict.TheVariants.{Malformed}
 use Rattle.judging.specs.declared.texts.TextFailure.{TextFailure}
 use Rattle.judging.specs.declared.texts.TextFailure.TheVariants.{Faulty, NoMemory}
-use Rattle.report.specs.declared.verdict.Fault.TheVariants.{HistoryText, HistoryMaps}
-use Rattle.report.specs.declared.verdict.Fault.TheVariants.{CertificateText, CertificateForms}
+use Rattle.verdicts.specs.declared.verdict.Fault.TheVariants.{HistoryText, HistoryMaps}
+use Rattle.verdicts.specs.declared.verdict.Fault.TheVariants.{CertificateText, CertificateForms}
 
 -- The text spells forms that denote these client events. It denotes one list of them at most
 -- (`one_history`).
@@ -43,6 +41,14 @@ pub record DenotesCertificates (text : List ℕ) (cs : List Certificate) : Type 
   pub forms : List Datum
   pub spelled : Spells forms text
   pub denoted : certificate_meaning.Denotes forms cs
+
+-- The text is not too long, and denotes a history.
+abbrev pub HasHistory : List ℕ → Type 0
+HasHistory h = IsShort h × ((es : List Event) × DenotesHistory h es)
+
+-- The text is not too long, and denotes certificates.
+abbrev pub HasCertificates : List ℕ → Type 0
+HasCertificates c = IsShort c × ((cs : List Certificate) × DenotesCertificates c cs)
 
 -- The texts denote these client events and certificates, and nothing that says something else.
 -- Neither is too long to be read.
@@ -62,10 +68,15 @@ WantsMemory (HistoryMaps f) = f.kind ≡ history_kind.NoMemory
 WantsMemory (CertificateText e) = e.kind ≡ edn_kind.NoMemory
 WantsMemory (CertificateForms f) = f.kind ≡ certificate_kind.NoMemory
 
--- Reading stops for want of memory where that is the fault, and nowhere else.
+-- Reading stops by an allocation failure where that is the fault, and nowhere else.
 abbrev pub IsFailureOf : Fault → TextFailure → Type 0
 IsFailureOf fault (Faulty f) = (f ≡ fault) × ¬ (WantsMemory fault)
 IsFailureOf fault NoMemory = WantsMemory fault
+
+-- The text is not too long, and spells forms of which this is the first fault.
+abbrev pub SpellsWithFault : {F : Type 0} → (List Datum → F → Type 0) → List ℕ → F → Type 0
+SpellsWithFault IsFirst text fault =
+    IsShort text × (ds : List Datum) × Spells ds text × IsFirst ds fault
 
 -- Nothing is wrong with the text of certificates as far as it was looked at: up to a token and with
 -- it, or, where it spells forms, up to one of them and with it.
@@ -78,8 +89,7 @@ AreCertificatesSound c =
 -- what stops the reading of a history's text, or of a certificates' text
 abbrev pub IsHistoryFault : List ℕ → TextFailure → Type 0
 IsHistoryFault h (Faulty (HistoryText e)) = IsUnreadable h e
-IsHistoryFault h (Faulty (HistoryMaps f)) =
-    IsShort h × (ds : List Datum) × Spells ds h × history_fault.IsFirstFault ds f
+IsHistoryFault h (Faulty (HistoryMaps f)) = SpellsWithFault history_fault.IsFirstFault h f
 IsHistoryFault h (Faulty (CertificateText e)) = ⊥
 IsHistoryFault h (Faulty (CertificateForms f)) = ⊥
 IsHistoryFault h NoMemory = IsHistorySound h
@@ -89,11 +99,11 @@ IsCertificatesFault c (Faulty (HistoryText e)) = ⊥
 IsCertificatesFault c (Faulty (HistoryMaps f)) = ⊥
 IsCertificatesFault c (Faulty (CertificateText e)) = IsUnreadable c e
 IsCertificatesFault c (Faulty (CertificateForms f)) =
-    IsShort c × (ds : List Datum) × Spells ds c × certificate_fault.IsFirstFault ds f
+    SpellsWithFault certificate_fault.IsFirstFault c f
 IsCertificatesFault c NoMemory = AreCertificatesSound c
 
 -- What reading the text of a history comes to: the client events that it denotes and no others, or
--- what stops it, which is want of memory where it denotes some and is not too long.
+-- what stops it, which is an allocation failure where it denotes some and is not too long.
 pub record IsHistoryRead (h : List ℕ) (r : Result (List Event) TextFailure) : Type 0 where
   pub denotes : IfOk r (DenotesHistory h)
   pub only : IfOk r (λ es. (fs : List Event) → DenotesHistory h fs → fs ≡ es)
@@ -117,22 +127,17 @@ pub record AreCertificatesRead {V : Type 0} (items : V → List Certificate) (c 
 -- long, spells nothing, or spells forms of which this is the first fault.
 abbrev pub IsFirstFault : List ℕ → List ℕ → Fault → Type 0
 IsFirstFault h c (HistoryText e) = IsUnreadable h e
-IsFirstFault h c (HistoryMaps f) =
-    IsShort h × (ds : List Datum) × Spells ds h × history_fault.IsFirstFault ds f
-IsFirstFault h c (CertificateText e) =
-    IsShort h × ((es : List Event) × DenotesHistory h es) × IsUnreadable c e
+IsFirstFault h c (HistoryMaps f) = SpellsWithFault history_fault.IsFirstFault h f
+IsFirstFault h c (CertificateText e) = HasHistory h × IsUnreadable c e
 IsFirstFault h c (CertificateForms f) =
-    IsShort h × ((es : List Event) × DenotesHistory h es) × IsShort c × (ds : List Datum)
-    × Spells ds c × certificate_fault.IsFirstFault ds f
+    HasHistory h × SpellsWithFault certificate_fault.IsFirstFault c f
 
 -- Nothing is wrong with the texts as far as they were looked at, the history first: with the
 -- history's, or, where it denotes a history, with the certificates'; or both denote.
 abbrev pub AreSoundSoFar : List ℕ → List ℕ → Type 0
 AreSoundSoFar h c =
     IsHistorySound h
-    ⊎ (IsShort h × ((es : List Event) × DenotesHistory h es)
-    × (AreCertificatesSound c
-    ⊎ (IsShort c × ((cs : List Certificate) × DenotesCertificates c cs))))
+    ⊎ (HasHistory h × (AreCertificatesSound c ⊎ HasCertificates c))
 
 -- The texts denote a history, and certificates that are valid: one for each object that the history
 -- names, none besides. Neither is too long to be read.
@@ -167,9 +172,3 @@ pub record IsFirstRefusalText (h c : List ℕ) (r : Refusal) : Type 0 where
 abbrev pub verdict_of : TextFailure → Verdict
 verdict_of (Faulty f) = Malformed f
 verdict_of NoMemory = verdict.NoMemory
-
--- the counts are those of these client events
-pub record AreCountsOf (es : List Event) (s : Summary) : Type 0 where
-  pub operations : s.operations ≡ length (operations_in es)
-  pub objects : s.objects ≡ length (objects_in (uses es))
-  pub kinds : s.kinds.items ≡ map (count_of es) (kinds_in (uses es))

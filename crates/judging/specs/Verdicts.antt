@@ -1,14 +1,27 @@
 -- What a verdict says.
-use Rattle.std.specs.Prelude.{⊤, ℕ, List}
-use Rattle.report.specs.declared.verdict.Verdict.{Verdict}
+use Rattle.std.specs.Prelude.{◌≢◌, ⊤, ℕ, List}
+use Rattle.events.specs.declared.event.Event.{Event}
+use Rattle.certificate.specs.declared.Certificate.{Certificate}
+use Rattle.checker.specs.Refusals.{AreValid, IsFirstRefusal}
+use Rattle.checker.specs.declared.refusal.Refusal.TheVariants as refusal
+use Rattle.verdicts.specs.Counts.{AreCountsOf}
+use Rattle.verdicts.specs.declared.verdict.Verdict.{Verdict}
 use Rattle.judging.specs.Texts.{IsLinearizableText, AreValidTexts, IsFirstRefusalText, IsFirstFault}
-use Rattle.judging.specs.Texts.{AreCountsOf, AreSoundSoFar}
-use Rattle.report.specs.declared.verdict.Verdict.TheVariants.{Yes, No, Malformed, NoMemory}
+use Rattle.judging.specs.Texts.{AreSoundSoFar}
+use Rattle.verdicts.specs.declared.verdict.Verdict.TheVariants.{Yes, No, Malformed, NoMemory}
+
+-- What a verdict says of the certificates of a history. Yes: they are valid, and the counts are
+-- those of the history. No: this is their first refusal. `NoMemory` says nothing.
+abbrev pub JudgesBy : List Event → List Certificate → Verdict → Type 0
+JudgesBy es cs (Yes s) = AreValid es cs × AreCountsOf es s
+JudgesBy es cs (No r) = IsFirstRefusal es cs r × (r ≢ refusal.NoMemory)
+JudgesBy es cs (Malformed f) = ⊥
+JudgesBy es cs NoMemory = ⊤
 
 -- What a verdict says of the text of a history and that of certificates. Yes: they denote a history
 -- and valid certificates, and the counts are those of that history. No: they denote a history and
 -- certificates, of which this is the first refusal. Malformed: this is the fault of the first text
--- that has one. Want of memory: nothing was wrong yet.
+-- that has one. NoMemory: nothing was wrong yet.
 abbrev pub Judges : List ℕ → List ℕ → Verdict → Type 0
 Judges h c (Yes s) = (texts : AreValidTexts h c) × AreCountsOf texts.client_events s
 Judges h c (No r) = IsFirstRefusalText h c r

@@ -7,7 +7,7 @@ ghost use Rattle.events.specs.Events.{kind_at, denoted};
 ghost use Rattle.certificate.specs.Denotes.{AreDistinct};
 ghost use Rattle.checker.specs.Refusals.{AreValid, IsFirstRefusal};
 ghost use Rattle.judging.specs.Texts.{AreValidTexts, IsLinearizableText, verdict_of};
-ghost use Rattle.judging.specs.Verdicts.{Judges, OnYes, IsYesUnlessMemory};
+ghost use Rattle.judging.specs.Verdicts.{Judges, JudgesBy, OnYes, IsYesUnlessMemory};
 
 use crate::texts::{TextFailure, texts_in};
 use certificate::Certificate;
@@ -15,10 +15,10 @@ use checker::Refusal;
 use history::History;
 use locality::named_objects;
 use parallel::check_parallel;
-use report::{Verdict, summary};
 use seq_objects::Open;
 use std::alloc::Global;
 use std::thread::Threads;
+use verdicts::{Verdict, verdict_on_check};
 
 /// Checks the certificates of a history. Where they are valid the history is linearizable.
 ///
@@ -49,6 +49,27 @@ pub fn judge_history<R: Threads + Sync>(
     check_parallel(rt, alloc, history, certificates, workers, &Open)
 }
 
+/// The verdict on the certificates of a history: yes with the counts of the history exactly where
+/// `judge_history` accepts them, and else no with the first refusal. `NoMemory` says nothing. The
+/// work is shared by `workers` threads, at least 1 and at most 16.
+pub fn verdict_on<R: Threads + Sync>(
+    rt: &R,
+    alloc: Global,
+    history: &History,
+    certificates: &[Certificate],
+    workers: u32,
+) -> Verdict
+    // no object has two certificates
+    requires { AreDistinct certificates.now }
+    ensures linearizable { OnYes result (IsLinearizable (kind_at history.now)
+        (events (denoted history.now))) }
+    ensures judges { JudgesBy history.now certificates.now result }
+    ensures accepts { AreValid history.now certificates.now → IsYesUnlessMemory result }
+{
+    let checked = judge_history(rt, alloc, history, certificates, workers);
+    verdict_on_check(alloc, history, checked)
+}
+
 /// Judges a history, as a text of Jepsen operation maps, by a text of certificates, an order of
 /// operations for each object.
 ///
@@ -72,24 +93,17 @@ pub fn judge<R: Threads + Sync>(
     ensures linearizable { OnYes result (IsLinearizableText history.now) }
     ensures judges { Judges history.now certificates.now result }
     // With `judges`: Yes is answered exactly where both texts denote and the certificates are
-    // valid, but for want of memory.
+    // valid, except where memory is refused.
     ensures accepts { AreValidTexts history.now certificates.now → IsYesUnlessMemory result }
 {
-    let (client_events, orders) = match texts_in(rt, alloc, history, certificates, workers) {
-        Ok(texts) => texts,
-        Err(stop) => return verdict_on_failure(stop),
-    };
-    match judge_history(rt, alloc, &client_events, &orders, workers) {
-        Ok(()) => match summary(alloc, &client_events) {
-            Ok(summary) => Verdict::Yes(summary),
-            Err(_) => Verdict::NoMemory,
-        },
-        Err(Refusal::NoMemory) => Verdict::NoMemory,
-        Err(refusal) => Verdict::No(refusal),
+    match texts_in(rt, alloc, history, certificates, workers) {
+        Ok((client_events, orders)) => verdict_on(rt, alloc, &client_events, &orders, workers),
+        Err(stop) => verdict_on_failure(stop),
     }
 }
 
-fn verdict_on_failure(stop: TextFailure) -> Verdict
+/// The verdict where a text could not be read: its fault, or `NoMemory`.
+pub fn verdict_on_failure(stop: TextFailure) -> Verdict
     ensures { result ≡ verdict_of stop }
 {
     match stop {

@@ -5,7 +5,7 @@ mod decision;
 mod laws;
 mod texts;
 
-pub use decision::{judge, judge_history};
+pub use decision::{judge, judge_history, verdict_on, verdict_on_failure};
 pub use laws::{one_history, one_list_of_orders};
-pub use report::{Fault, KindCount, Summary, Verdict};
 pub use texts::{TextFailure, history_in};
+pub use verdicts::{Fault, KindCount, Summary, Verdict};

@@ -5,16 +5,19 @@ ghost use Rattle.events.specs.declared.event.Event.{Event};
 ghost use Rattle.certificate.specs.declared.Certificate.{Certificate};
 ghost use Rattle.certificate.specs.Denotes.{AreDistinct, reading_of};
 ghost use Rattle.edn_reader.specs.Sound.{IsShort};
-ghost use Rattle.judging.specs.Texts.{DenotesHistory, DenotesCertificates, DenoteOnly, AreValidTexts, WantsMemory, IsFailureOf, IsHistoryFault, IsCertificatesFault, IsHistoryRead, AreCertificatesRead, verdict_of};
+ghost use Rattle.judging.specs.Texts.{DenotesHistory, DenotesCertificates, DenoteOnly};
+ghost use Rattle.judging.specs.Texts.{AreValidTexts, WantsMemory, IsFailureOf, IsHistoryFault};
+ghost use Rattle.judging.specs.Texts.{IsCertificatesFault, IsHistoryRead, AreCertificatesRead};
+ghost use Rattle.judging.specs.Texts.{verdict_of};
 ghost use Rattle.judging.specs.Verdicts.{Judges};
 
 use crate::laws::one_history;
 use certificate::{CertFaultKind, CertTextFault, Certificate, read_certificates_text};
 use edn::FaultKind;
 use history::{History, HistoryFaultKind, TextFault, read_history_text};
-use report::Fault;
 use std::alloc::Global;
 use std::thread::{Threads, join};
+use verdicts::Fault;
 
 /// What stops the reading of a text: a fault of it, or that memory was refused.
 #[derive(Clone, Copy, Debug, PartialEq, Eq)]
@@ -84,7 +87,7 @@ pub(crate) fn certificates_in(alloc: Global, text: &[u8]) -> Result<Vec<Certific
 }
 
 /// What both texts denote, or what stops the reading of the first that is stopped. One worker reads
-/// the certificates behind the history, and only where that denotes; more read them side by side.
+/// the certificates after the history, and only where that denotes; more read them side by side.
 pub(crate) fn texts_in<R: Threads + Sync>(
     rt: &R,
     alloc: Global,

@@ -36,7 +36,9 @@ call_then until c = cond (nat_lt c.number until) (Some (call_before until c)) No
 piece_call : (until : ℕ) (o : Invocation) → bind (piece_before until o) call_of ≡ bind (call_of o) (call_then until)
 piece_call until o = go o.«end»
   where
-    returned : (at : ℕ) (r : AnyReply) (b t : Bool) → bind (cond b (Some (record { number = o.number; op = o.op; «end» = cond t (Returned at r) Pending })) None) call_of ≡ cond b (Some (record { number = o.number; op = o.op; returned = cond t (Some (record { at = at; reply = r })) None })) None
+    returned : (at : ℕ) (r : AnyReply) (b t : Bool)
+        → bind (cond b (Some (record { number = o.number; op = o.op; «end» = cond t (Returned at r) Pending })) None) call_of
+        ≡ cond b (Some (record { number = o.number; op = o.op; returned = cond t (Some (record { at = at; reply = r })) None })) None
     returned at r true true = refl
     returned at r true false = refl
     returned at r false t = refl

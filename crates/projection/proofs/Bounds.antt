@@ -1,5 +1,7 @@
 -- A content is taken away no more often than it was there before and was set.
-use Rattle.std.proofs.Common.{MatchBool, ◌≡◌, ◌≢◌, ◌⊎◌, inl, inr, ℕ, ℤ, pos, ◌<◌, ◌≤◌, ◌+◌, ◌-◌, ◌==◌, nat_lt, Bool, true, false, not, ◌&&◌, cond, List, [], ◌∷◌, length, Option, Some, None, All, AllPairs, Contains, IfSome, IsSome, is_some, filter, count_by, refl, ap, sym, ◌∙◌, subst, arith}
+use Rattle.std.proofs.Common.{MatchBool, ◌≡◌, ◌≢◌, ◌⊎◌, inl, inr, ℕ, ℤ, pos, ◌<◌, ◌≤◌, ◌+◌, ◌-◌, ◌==◌, nat_lt, Bool, true, false, not, ◌&&◌, cond}
+use Rattle.std.proofs.Common.{List, [], ◌∷◌, length, Option, Some, None, All, AllPairs, Contains, IfSome, IsSome, is_some, filter, count_by, refl, ap}
+use Rattle.std.proofs.Common.{sym, ◌∙◌, subst, arith}
 use Rattle.std.specs.Prelude.{is_none}
 use Rattle.std.proofs.lemmas.Int.{ints}
 use Rattle.std.proofs.lemmas.Bool.{eqb-true}
@@ -74,7 +76,8 @@ stays a = omega arith
 written : (a b : ℕ) → a + 0 ≤ b + a
 written a b = omega arith
 
-bound_at : (what : Counted) (c after : Content) (op : AnyOp) (r : AnyReply) (takes_it sets_it : Bool) (a b : ℕ) → takes what op (Some r) ≡ takes_it → sets what op (Some r) ≡ sets_it → there what after ≡ a → there what c ≡ b → a + one takes_it ≤ b + one sets_it → Bounded what op c after r
+bound_at : (what : Counted) (c after : Content) (op : AnyOp) (r : AnyReply) (takes_it sets_it : Bool) (a b : ℕ) → takes what op (Some r) ≡ takes_it
+    → sets what op (Some r) ≡ sets_it → there what after ≡ a → there what c ≡ b → a + one takes_it ≤ b + one sets_it → Bounded what op c after r
 bound_at what c after op r t s a b e f g h l = sums _ _ _ _ _ _ _ _ (ap one e) (ap one f) g h l
   where
     sums : (p q x y u v a b : ℕ) → p ≡ u → q ≡ v → x ≡ a → y ≡ b → a + u ≤ b + v → x + p ≤ y + q
@@ -124,9 +127,15 @@ entry_put k v q w m = elim (test_cases (int_eq q k)) [
   | inl e ↦
       let same = same_int q k e in
       let got = ap (λ z. map.get (map.insert m z w) k) same ∙ got_same m k w in
-      let taken = and_first (int_eq q k) (is_reply v (Some (reply.Value (map.get m q)))) (contains_value (map.get m k) v) e (reply_value v (map.get m q) ∙ ap (λ z. contains_value (map.get m z) v) same) in
-      bound_at (Entry k v) (table m) (table (map.insert m q w)) (Put q w) (reply.Value (map.get m q)) (contains_value (map.get m k) v) (int_eq w v) (one (int_eq w v)) (one (contains_value (map.get m k) v)) taken (and_first (int_eq q k) (int_eq w v) (int_eq w v) e refl) (ap (λ (z : Option ℤ). one (contains_value z v)) got) refl (turned _ _)
-  | inr e ↦ bound_at (Entry k v) (table m) (table (map.insert m q w)) (Put q w) (reply.Value (map.get m q)) false false (one (contains_value (map.get m k) v)) (one (contains_value (map.get m k) v)) (and_not (int_eq q k) (is_reply v (Some (reply.Value (map.get m q)))) e) (and_not (int_eq q k) (int_eq w v) e) (ap (λ (z : Option ℤ). one (contains_value z v)) (got_other m q k w e)) refl (stays (one (contains_value (map.get m k) v)))
+      let taken = and_first (int_eq q k) (is_reply v (Some (reply.Value (map.get m q)))) (contains_value (map.get m k) v) e
+      (reply_value v (map.get m q) ∙ ap (λ z. contains_value (map.get m z) v) same) in
+      bound_at (Entry k v) (table m) (table (map.insert m q w)) (Put q w) (reply.Value (map.get m q)) (contains_value (map.get m k) v) (int_eq w v)
+      (one (int_eq w v)) (one (contains_value (map.get m k) v)) taken (and_first (int_eq q k) (int_eq w v) (int_eq w v) e refl)
+      (ap (λ (z : Option ℤ). one (contains_value z v)) got) refl (turned _ _)
+  | inr e ↦ bound_at (Entry k v) (table m) (table (map.insert m q w)) (Put q w) (reply.Value (map.get m q)) false false
+      (one (contains_value (map.get m k) v)) (one (contains_value (map.get m k) v))
+      (and_not (int_eq q k) (is_reply v (Some (reply.Value (map.get m q)))) e) (and_not (int_eq q k) (int_eq w v) e)
+      (ap (λ (z : Option ℤ). one (contains_value z v)) (got_other m q k w e)) refl (stays (one (contains_value (map.get m k) v)))
 ]
   where
     turned : (p q : ℕ) → p + q ≤ q + p
@@ -137,9 +146,14 @@ entry_del k v q m = elim (test_cases (int_eq q k)) [
   | inl e ↦
       let same = same_int q k e in
       let got = ap (λ z. map.get (map.remove m z) k) same ∙ gone_same m k in
-      let taken = and_first (int_eq q k) (is_reply v (Some (reply.Value (map.get m q)))) (contains_value (map.get m k) v) e (reply_value v (map.get m q) ∙ ap (λ z. contains_value (map.get m z) v) same) in
-      bound_at (Entry k v) (table m) (table (map.remove m q)) (Del q) (reply.Value (map.get m q)) (contains_value (map.get m k) v) false 0 (one (contains_value (map.get m k) v)) taken refl (ap (λ (z : Option ℤ). one (contains_value z v)) got) refl (turned _)
-  | inr e ↦ bound_at (Entry k v) (table m) (table (map.remove m q)) (Del q) (reply.Value (map.get m q)) false false (one (contains_value (map.get m k) v)) (one (contains_value (map.get m k) v)) (and_not (int_eq q k) (is_reply v (Some (reply.Value (map.get m q)))) e) refl (ap (λ (z : Option ℤ). one (contains_value z v)) (gone_other m q k e)) refl (stays (one (contains_value (map.get m k) v)))
+      let taken = and_first (int_eq q k) (is_reply v (Some (reply.Value (map.get m q)))) (contains_value (map.get m k) v) e
+      (reply_value v (map.get m q) ∙ ap (λ z. contains_value (map.get m z) v) same) in
+      bound_at (Entry k v) (table m) (table (map.remove m q)) (Del q) (reply.Value (map.get m q)) (contains_value (map.get m k) v) false 0
+      (one (contains_value (map.get m k) v)) taken refl (ap (λ (z : Option ℤ). one (contains_value z v)) got) refl (turned _)
+  | inr e ↦ bound_at (Entry k v) (table m) (table (map.remove m q)) (Del q) (reply.Value (map.get m q)) false false
+      (one (contains_value (map.get m k) v)) (one (contains_value (map.get m k) v))
+      (and_not (int_eq q k) (is_reply v (Some (reply.Value (map.get m q)))) e) refl
+      (ap (λ (z : Option ℤ). one (contains_value z v)) (gone_other m q k e)) refl (stays (one (contains_value (map.get m k) v)))
 ]
   where
     turned : (p : ℕ) → 0 + p ≤ p + 0
@@ -150,8 +164,10 @@ none_put k q w m = elim (test_cases (int_eq q k)) [
   | inl e ↦
       let same = same_int q k e in
       let got = ap (λ z. map.get (map.insert m z w) k) same ∙ got_same m k w in
-      bound_at (NoEntry k) (table m) (table (map.insert m q w)) (Put q w) (reply.Value (map.get m q)) (is_none (map.get m k)) false 0 (one (is_none (map.get m k))) (taken (map.get m q) e ∙ ap (λ z. is_none (map.get m z)) same) refl (ap (λ (z : Option ℤ). one (is_none z)) got) refl (turned _)
-  | inr e ↦ bound_at (NoEntry k) (table m) (table (map.insert m q w)) (Put q w) (reply.Value (map.get m q)) false false (one (is_none (map.get m k))) (one (is_none (map.get m k))) (left (map.get m q) e) refl (ap (λ (z : Option ℤ). one (is_none z)) (got_other m q k w e)) refl (stays (one (is_none (map.get m k))))
+      bound_at (NoEntry k) (table m) (table (map.insert m q w)) (Put q w) (reply.Value (map.get m q)) (is_none (map.get m k)) false 0
+      (one (is_none (map.get m k))) (taken (map.get m q) e ∙ ap (λ z. is_none (map.get m z)) same) refl (ap (λ (z : Option ℤ). one (is_none z)) got) refl (turned _)
+  | inr e ↦ bound_at (NoEntry k) (table m) (table (map.insert m q w)) (Put q w) (reply.Value (map.get m q)) false false (one (is_none (map.get m k)))
+      (one (is_none (map.get m k))) (left (map.get m q) e) refl (ap (λ (z : Option ℤ). one (is_none z)) (got_other m q k w e)) refl (stays (one (is_none (map.get m k))))
 ]
   where
     turned : (p : ℕ) → 0 + p ≤ p + 0
@@ -170,8 +186,10 @@ none_del k q m = elim (test_cases (int_eq q k)) [
   | inl e ↦
       let same = same_int q k e in
       let got = ap (λ z. map.get (map.remove m z) k) same ∙ gone_same m k in
-      bound_at (NoEntry k) (table m) (table (map.remove m q)) (Del q) (reply.Value (map.get m q)) false (is_some (map.get m k)) 1 (one (is_none (map.get m k))) refl (taken (map.get m q) e ∙ ap (λ z. is_some (map.get m z)) same) (ap (λ (z : Option ℤ). one (is_none z)) got) refl (either (map.get m k))
-  | inr e ↦ bound_at (NoEntry k) (table m) (table (map.remove m q)) (Del q) (reply.Value (map.get m q)) false false (one (is_none (map.get m k))) (one (is_none (map.get m k))) refl (left (map.get m q) e) (ap (λ (z : Option ℤ). one (is_none z)) (gone_other m q k e)) refl (stays (one (is_none (map.get m k))))
+      bound_at (NoEntry k) (table m) (table (map.remove m q)) (Del q) (reply.Value (map.get m q)) false (is_some (map.get m k)) 1
+      (one (is_none (map.get m k))) refl (taken (map.get m q) e ∙ ap (λ z. is_some (map.get m z)) same) (ap (λ (z : Option ℤ). one (is_none z)) got) refl (either (map.get m k))
+  | inr e ↦ bound_at (NoEntry k) (table m) (table (map.remove m q)) (Del q) (reply.Value (map.get m q)) false false (one (is_none (map.get m k)))
+      (one (is_none (map.get m k))) refl (left (map.get m q) e) (ap (λ (z : Option ℤ). one (is_none z)) (gone_other m q k e)) refl (stays (one (is_none (map.get m k))))
 ]
   where
     either : (o : Option ℤ) → 1 + 0 ≤ one (is_none o) + one (is_some o)
@@ -202,7 +220,8 @@ bounded (Value v) (register x) (Write w) = written (one (int_eq w v)) (one (cont
 bounded (Value v) (register x) Read = stays (one (contains_value x v))
 bounded (Value v) (register x) (Cas a b) = go (contains_value x a) refl
   where
-    go : (t : Bool) → contains_value x a ≡ t → IfSome {T = Content × AnyReply} (cond t (Some (register (Some b), reply.Swapped a b)) (Some (register x, reply.NotSwapped))) (λ p. Bounded (Value v) (Cas a b) (register x) p.0 p.1)
+    go : (t : Bool) → contains_value x a ≡ t
+        → IfSome {T = Content × AnyReply} (cond t (Some (register (Some b), reply.Swapped a b)) (Some (register x, reply.NotSwapped))) (λ p. Bounded (Value v) (Cas a b) (register x) p.0 p.1)
     go true h = swapped v a b x h
     go false h = stays (one (contains_value x v))
 bounded (Entry k v) (table m) (Put q w) = entry_put k v q w m
@@ -273,7 +292,8 @@ one_le : (a b : Bool) → (a ≡ true → b ≡ true) → one a ≤ one b
 one_le true b f = let e = ap one (f refl) in omega arith
 one_le false b f = omega arith
 
-turn : (what : Counted) (e : Call) (c after : Content) (r : AnyReply) → next c e.op ≡ Some (after, r) → IfSome e.returned (λ t. t.reply ≡ r) → there what after + one (taken_by what e) ≤ there what c + one (set_by what e)
+turn : (what : Counted) (e : Call) (c after : Content) (r : AnyReply) → next c e.op ≡ Some (after, r) → IfSome e.returned (λ t. t.reply ≡ r)
+    → there what after + one (taken_by what e) ≤ there what c + one (set_by what e)
 turn what e c after r does agrees = go e.returned agrees
   where
     here : Bounded what e.op c after r
@@ -388,7 +408,9 @@ once Free (mutex b) e = one_at_most (not b)
 once what c e = omega arith
 
 -- No call that returned before the first taking that counts is done after it.
-from_later : (what : Counted) (from : ℕ) (es : List Call) (c : Content) → single c ≡ true → ((e : Call) → In e es → (r : Return) → e.returned ≡ Some r → e.number < r.at) → Pairs (λ x y. ReturnsBefore y x → ⊥) es → RepliesAlong c es → tally (taken_from what from) es ≤ 1 + tally (set_from what from) es
+from_later : (what : Counted) (from : ℕ) (es : List Call) (c : Content) → single c ≡ true
+    → ((e : Call) → In e es → (r : Return) → e.returned ≡ Some r → e.number < r.at) → Pairs (λ x y. ReturnsBefore y x → ⊥) es → RepliesAlong c es
+    → tally (taken_from what from) es ≤ 1 + tally (set_from what from) es
 from_later what from [] c s ends in_time h = omega arith
 from_later what from (e ∷ es) c s ends in_time h = elim (test_cases (taken_from what from e)) [
   | inr miss ↦
@@ -428,7 +450,9 @@ at_first what k = omega arith
 -- ---- the bound
 
 -- along the order
-along : (kind : Kind) (what : Counted) (from most : ℕ) (es : List Call) → most_before kind what from ≡ Some most → ((e : Call) → In e es → (r : Return) → e.returned ≡ Some r → e.number < r.at) → Pairs (λ x y. ReturnsBefore y x → ⊥) es → RepliesAlong (empty kind) es → tally (taken_from what from) es ≤ most + tally (set_from what from) es
+along : (kind : Kind) (what : Counted) (from most : ℕ) (es : List Call) → most_before kind what from ≡ Some most
+    → ((e : Call) → In e es → (r : Return) → e.returned ≡ Some r → e.number < r.at) → Pairs (λ x y. ReturnsBefore y x → ⊥) es
+    → RepliesAlong (empty kind) es → tally (taken_from what from) es ≤ most + tally (set_from what from) es
 along kind what from most es before ends in_time h = go (from == 0) refl before
   where
     later : (s : Bool) → is_single kind ≡ s → cond s (Some 1) None ≡ Some most → tally (taken_from what from) es ≤ most + tally (set_from what from) es
@@ -446,17 +470,24 @@ along kind what from most es before ends in_time h = go (from == 0) refl before
         omega arith
     go false q e = later (is_single kind) refl e
 
-pub count_bounded : (kind : Kind) (calls : List Call) (what : Counted) (from most : ℕ) (order : List ℤ) → AllPairs (λ a b. a.number < b.number) calls → All (λ e. (r : Return) → e.returned ≡ Some r → e.number < r.at) calls → most_before kind what from ≡ Some most → IsValidOrder kind calls order → taken_since what from calls ≤ most + set_since what from calls
+pub count_bounded : (kind : Kind) (calls : List Call) (what : Counted) (from most : ℕ) (order : List ℤ) → AllPairs (λ a b. a.number < b.number) calls
+    → All (λ e. (r : Return) → e.returned ≡ Some r → e.number < r.at) calls → most_before kind what from ≡ Some most → IsValidOrder kind calls order
+    → taken_since what from calls ≤ most + set_since what from calls
 count_bounded kind calls what from most order rising ends before v =
     let number : Call → ℤ = λ e. pos e.number in
     let known : (e : Call) → In e v.entries → In e calls = λ e i. in_from_contains calls e (all_at (Contains calls) v.entries v.known e i) in
-    let apart = pairs_weaker (λ x y. number x ≢ number y) (λ x y. x ≢ y) v.entries (λ x y i j ne e. ne (ap number e)) (pairs_from_map (λ x y. x ≢ y) number v.entries (subst (Pairs (λ x y. x ≢ y)) v.numbers (pairs_from_all (λ x y. x ≢ y) order v.once))) in
-    let distinct = pairs_weaker (λ a b. a.number < b.number) (λ x y. x ≢ y) calls (λ x y i j l e. risen x.number y.number l (ap (λ (z : Call). z.number) e)) (pairs_from_all (λ a b. a.number < b.number) calls rising) in
+    let apart = pairs_weaker (λ x y. number x ≢ number y) (λ x y. x ≢ y) v.entries (λ x y i j ne e. ne (ap number e))
+    (pairs_from_map (λ x y. x ≢ y) number v.entries (subst (Pairs (λ x y. x ≢ y)) v.numbers (pairs_from_all (λ x y. x ≢ y) order v.once))) in
+    let distinct = pairs_weaker (λ a b. a.number < b.number) (λ x y. x ≢ y) calls
+    (λ x y i j l e. risen x.number y.number l (ap (λ (z : Call). z.number) e)) (pairs_from_all (λ a b. a.number < b.number) calls rising) in
     let more_sets = count_among (set_from what from) v.entries calls apart (λ e i p. known e i) in
-    let more_takes = count_among (taken_from what from) calls v.entries distinct (λ e i p. in_from_contains v.entries e (all_at (λ e. IsSome e.returned → Contains v.entries e) calls v.whole e i (returned e.op e.returned (both (taken_by what e) (not (nat_lt e.number from)) p).0))) in
+    let more_takes = count_among (taken_from what from) calls v.entries distinct
+    (λ e i p. in_from_contains v.entries e
+    (all_at (λ e. IsSome e.returned → Contains v.entries e) calls v.whole e i (returned e.op e.returned (both (taken_by what e) (not (nat_lt e.number from)) p).0))) in
     let all_sets = count_tally (set_from what from) calls in
     let all_takes = count_tally (taken_from what from) calls in
-    let here = along kind what from most v.entries before (λ e i. all_at (λ e. (r : Return) → e.returned ≡ Some r → e.number < r.at) calls ends e (known e i)) (pairs_from_all (λ x y. ReturnsBefore y x → ⊥) v.entries v.in_order) v.replies in
+    let here = along kind what from most v.entries before
+    (λ e i. all_at (λ e. (r : Return) → e.returned ≡ Some r → e.number < r.at) calls ends e (known e i)) (pairs_from_all (λ x y. ReturnsBefore y x → ⊥) v.entries v.in_order) v.replies in
     sums _ _ _ _ _ _ here more_sets more_takes all_sets all_takes
   where
     risen : (a b : ℕ) → a < b → a ≡ b → ⊥
@@ -508,18 +539,24 @@ gone_count what from ops = count_calls (λ o. is_gone what from o.number o.op o.
 
 -- an object's history of which a content is overdrawn has no valid order
 overdrawn_shows : (h : ObjectCalls) (count : Count) → IsObjectHistory h → IsOverdrawn h.kind count (calls_of h.ops) → IsNoneValid h.kind (calls_of h.ops)
-overdrawn_shows h count is o order v = over _ _ o.more (count_bounded h.kind (calls_of h.ops) count.counted count.from o.most order (rising_calls h.ops is.rising) (calls_end h.object h.kind h.ops is) o.before v)
+overdrawn_shows h count is o order v =
+    over _ _ o.more (count_bounded h.kind (calls_of h.ops) count.counted count.from o.most order (rising_calls h.ops is.rising) (calls_end h.object h.kind h.ops is) o.before v)
   where
     over : (a b : ℕ) → a < b → b ≤ a → ⊥
     over a b l m = absurd (omega arith)
 
-overdrawn_from : (kind : Kind) (count : Count) (calls : List Call) (most set taken left : ℕ) → Some most ≡ most_before kind count.counted count.from → set ≡ set_since count.counted count.from calls → taken ≡ taken_since count.counted count.from calls → left ≡ taken - set → nat_lt most left ≡ true → IsOverdrawn kind count calls
-overdrawn_from kind count calls most set taken left before e f g lt = record { most = most; before = sym before; more = more set taken (set_since count.counted count.from calls) (taken_since count.counted count.from calls) e f g lt }
+overdrawn_from : (kind : Kind) (count : Count) (calls : List Call) (most set taken left : ℕ) → Some most ≡ most_before kind count.counted count.from
+    → set ≡ set_since count.counted count.from calls → taken ≡ taken_since count.counted count.from calls → left ≡ taken - set → nat_lt most left ≡ true → IsOverdrawn kind count calls
+overdrawn_from kind count calls most set taken left before e f g lt =
+    record { most = most; before = sym before; more = more set taken (set_since count.counted count.from calls) (taken_since count.counted count.from calls) e f g lt }
   where
     more : (set taken s t : ℕ) → set ≡ s → taken ≡ t → left ≡ taken - set → nat_lt most left ≡ true → most + s < t
     more set taken s t e f g lt = grind (arith, nat_tests)
 
-pub decided : (h : ObjectCalls) (count : Count) (most set taken left : ℕ) → Some most ≡ most_before h.kind count.counted count.from → set ≡ count_by (λ o. is_set count.counted count.from o.op o.«end») h.ops → taken ≡ count_by (λ o. is_gone count.counted count.from o.number o.op o.«end») h.ops → left ≡ taken - set → MatchBool (nat_lt most left) (IsOverdrawn h.kind count (calls_of h.ops)) (IsOverdrawn h.kind count (calls_of h.ops) → ⊥)
+pub decided : (h : ObjectCalls) (count : Count) (most set taken left : ℕ) → Some most ≡ most_before h.kind count.counted count.from
+    → set ≡ count_by (λ o. is_set count.counted count.from o.op o.«end») h.ops
+    → taken ≡ count_by (λ o. is_gone count.counted count.from o.number o.op o.«end») h.ops → left ≡ taken - set
+    → MatchBool (nat_lt most left) (IsOverdrawn h.kind count (calls_of h.ops)) (IsOverdrawn h.kind count (calls_of h.ops) → ⊥)
 decided h count most set taken left before e f g = go (nat_lt most left) refl
   where
     fewer : (s t m : ℕ) → set ≡ s → taken ≡ t → m ≡ most → nat_lt most left ≡ false → m + s < t → ⊥
@@ -527,7 +564,12 @@ decided h count most set taken left before e f g = go (nat_lt most left) refl
 
     go : (b : Bool) → nat_lt most left ≡ b → MatchBool b (IsOverdrawn h.kind count (calls_of h.ops)) (IsOverdrawn h.kind count (calls_of h.ops) → ⊥)
     go true q = overdrawn_from h.kind count (calls_of h.ops) most set taken left before (e ∙ set_count count.counted count.from h.ops) (f ∙ gone_count count.counted count.from h.ops) g q
-    go false q = λ o. fewer (set_since count.counted count.from (calls_of h.ops)) (taken_since count.counted count.from (calls_of h.ops)) o.most (e ∙ set_count count.counted count.from h.ops) (f ∙ gone_count count.counted count.from h.ops) (same_Some o.most most (sym o.before ∙ sym before)) q o.more
+    go false q = λ o. fewer (set_since count.counted count.from (calls_of h.ops)) (taken_since count.counted count.from (calls_of h.ops)) o.most
+        (e ∙ set_count count.counted count.from h.ops) (f ∙ gone_count count.counted count.from h.ops) (same_Some o.most most (sym o.before ∙ sym before)) q o.more
 
-pub shown : (h : ObjectCalls) (count : Count) (most set taken left : ℕ) → IsObjectHistory h → Some most ≡ most_before h.kind count.counted count.from → set ≡ count_by (λ o. is_set count.counted count.from o.op o.«end») h.ops → taken ≡ count_by (λ o. is_gone count.counted count.from o.number o.op o.«end») h.ops → left ≡ taken - set → nat_lt most left ≡ true → IsNoneValid h.kind (calls_of h.ops)
-shown h count most set taken left is before e f g q = overdrawn_shows h count is (overdrawn_from h.kind count (calls_of h.ops) most set taken left before (e ∙ set_count count.counted count.from h.ops) (f ∙ gone_count count.counted count.from h.ops) g q)
+pub shown : (h : ObjectCalls) (count : Count) (most set taken left : ℕ) → IsObjectHistory h → Some most ≡ most_before h.kind count.counted count.from
+    → set ≡ count_by (λ o. is_set count.counted count.from o.op o.«end») h.ops
+    → taken ≡ count_by (λ o. is_gone count.counted count.from o.number o.op o.«end») h.ops → left ≡ taken - set → nat_lt most left ≡ true → IsNoneValid h.kind (calls_of h.ops)
+shown h count most set taken left is before e f g q =
+    overdrawn_shows h count is (overdrawn_from h.kind count (calls_of h.ops) most set taken left before (e ∙ set_count count.counted count.from h.ops)
+    (f ∙ gone_count count.counted count.from h.ops) g q)

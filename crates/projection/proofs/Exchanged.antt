@@ -1,5 +1,6 @@
 -- A part of a valid order in which the pending takings of kept values are those that were invoked first.
-use Rattle.std.proofs.Common.{◌≡◌, ◌≢◌, ◌⊎◌, inl, inr, zero, suc, ℕ, ℤ, ◌<◌, ◌≤◌, ◌+◌, nat_lt, Bool, true, false, not, ◌&&◌, List, [], ◌∷◌, length, Option, Some, None, IfSome, IsSome, is_some, refl, ap, sym, ◌∙◌, subst, arith}
+use Rattle.std.proofs.Common.{◌≡◌, ◌≢◌, ◌⊎◌, inl, inr, zero, suc, ℕ, ℤ, ◌<◌, ◌≤◌, ◌+◌, nat_lt, Bool, true, false, not, ◌&&◌, List, [], ◌∷◌, length}
+use Rattle.std.proofs.Common.{Option, Some, None, IfSome, IsSome, is_some, refl, ap, sym, ◌∙◌, subst, arith}
 use Rattle.std.proofs.lemmas.Bool.Decides.{nat_tests}
 use Rattle.model.specs.declared.Kind.{Kind}
 use Rattle.model.specs.declared.AnyOp.{AnyOp}
@@ -110,7 +111,8 @@ apart_calls : (xs : List Call) → Pairs (λ x y. x.number ≢ y.number) xs → 
 apart_calls xs h = pairs_weaker (λ x y. x.number ≢ y.number) (λ x y. x ≢ y) xs (λ x y i j ne e. ne (ap (λ (z : Call). z.number) e)) h
 
 -- the last of i + 1 pending takings was invoked no earlier than the one before which i were
-one_late : (calls xs : List Call) (i : ℕ) (p : Nth calls i) → length xs ≡ i + 1 → Pairs (λ x y. x.number ≢ y.number) xs → ((x : Call) → In x xs → is_open x ≡ true) → ((x : Call) → In x xs → In x calls) → (x : Call) × In x xs × (p.call.number ≤ x.number)
+one_late : (calls xs : List Call) (i : ℕ) (p : Nth calls i) → length xs ≡ i + 1 → Pairs (λ x y. x.number ≢ y.number) xs
+    → ((x : Call) → In x xs → is_open x ≡ true) → ((x : Call) → In x xs → In x calls) → (x : Call) × In x xs × (p.call.number ≤ x.number)
 one_late calls xs i p many apart pending known = elim (late p.call.number xs) [
   | inl w ↦ w
   | inr all ↦
@@ -124,7 +126,8 @@ one_late calls xs i p many apart pending known = elim (late p.call.number xs) [
     sums a b l e f g h = absurd (omega arith)
 
 -- some pending taking stands at each place that i + 1 of them show
-place : (calls xs : List Call) (i : ℕ) → Pairs (λ a b. a.number < b.number) calls → length xs ≡ i + 1 → Pairs (λ x y. x.number ≢ y.number) xs → ((x : Call) → In x xs → is_open x ≡ true) → ((x : Call) → In x xs → In x calls) → Nth calls i
+place : (calls xs : List Call) (i : ℕ) → Pairs (λ a b. a.number < b.number) calls → length xs ≡ i + 1 → Pairs (λ x y. x.number ≢ y.number) xs
+    → ((x : Call) → In x xs → is_open x ≡ true) → ((x : Call) → In x xs → In x calls) → Nth calls i
 place calls xs i rising many apart pending known =
     let passes = all_pass is_open xs pending in
     let fewer = count_among is_open xs calls (apart_calls xs apart) (λ x j q. known x j) in
@@ -215,7 +218,8 @@ pub record Exchanged (calls : List Call) (kept : ℕ → Bool) (i : ℕ) (d : Co
   pub whole : (x : Call) → In x es → kept x.number ≡ true → IsSome x.returned → In x entries
 
 -- a call is left out
-leave : (calls : List Call) (kept : ℕ → Bool) (i : ℕ) (d : Content) (e : Call) (es : List Call) → (kept e.number ≡ false) ⊎ (is_some e.returned ≡ false) → Exchanged calls kept i d es → Exchanged calls kept i d (e ∷ es)
+leave : (calls : List Call) (kept : ℕ → Bool) (i : ℕ) (d : Content) (e : Call) (es : List Call) → (kept e.number ≡ false)
+    ⊎ (is_some e.returned ≡ false) → Exchanged calls kept i d es → Exchanged calls kept i d (e ∷ es)
 leave calls kept i d e es out m = record {
   entries = m.entries;
   replies = m.replies;
@@ -233,7 +237,10 @@ leave calls kept i d e es out m = record {
 }
 
 -- a call that is no pending taking is done
-keep_own : (calls : List Call) (kept : ℕ → Bool) (i : ℕ) (d behind : Content) (e : Call) (es : List Call) (reply : AnyReply) → Pairs (λ a b. a.number < b.number) calls → is_open e ≡ false → kept e.number ≡ true → In e calls → ((y : Call) → In y es → e.number ≢ y.number) → ((y : Call) → In y es → ReturnsBefore y e → ⊥) → next d e.op ≡ Some (behind, reply) → IfSome e.returned (λ r. r.reply ≡ reply) → Exchanged calls kept i behind es → Exchanged calls kept i d (e ∷ es)
+keep_own : (calls : List Call) (kept : ℕ → Bool) (i : ℕ) (d behind : Content) (e : Call) (es : List Call) (reply : AnyReply)
+    → Pairs (λ a b. a.number < b.number) calls → is_open e ≡ false → kept e.number ≡ true → In e calls → ((y : Call) → In y es → e.number ≢ y.number)
+    → ((y : Call) → In y es → ReturnsBefore y e → ⊥) → next d e.op ≡ Some (behind, reply) → IfSome e.returned (λ r. r.reply ≡ reply)
+    → Exchanged calls kept i behind es → Exchanged calls kept i d (e ∷ es)
 keep_own calls kept i d behind e es reply rising closed k here apart time does agrees m = record {
   entries = e ∷ m.entries;
   replies = (behind, reply, does, agrees, m.replies);
@@ -254,7 +261,9 @@ keep_own calls kept i d behind e es reply rising closed k here apart time does a
 }
 
 -- in place of a pending taking one is done that was invoked no later than some such one so far
-keep_other : (calls : List Call) (kept : ℕ → Bool) (i : ℕ) (d behind : Content) (e x : Call) (es : List Call) (reply : AnyReply) (p : Nth calls i) → Pairs (λ a b. a.number < b.number) calls → is_open e ≡ true → kept p.call.number ≡ true → p.call.number ≤ x.number → ((y : Call) → In y es → ReturnsBefore y x → ⊥) → next d p.call.op ≡ Some (behind, reply) → Exchanged calls kept (i + 1) behind es → Exchanged calls kept i d (e ∷ es)
+keep_other : (calls : List Call) (kept : ℕ → Bool) (i : ℕ) (d behind : Content) (e x : Call) (es : List Call) (reply : AnyReply) (p : Nth calls i)
+    → Pairs (λ a b. a.number < b.number) calls → is_open e ≡ true → kept p.call.number ≡ true → p.call.number ≤ x.number
+    → ((y : Call) → In y es → ReturnsBefore y x → ⊥) → next d p.call.op ≡ Some (behind, reply) → Exchanged calls kept (i + 1) behind es → Exchanged calls kept i d (e ∷ es)
 keep_other calls kept i d behind e x es reply p rising pending k le time does m = record {
   entries = p.call ∷ m.entries;
   replies = (behind, reply, does, agrees p.call.returned (open_returned p.call p.pending), m.replies);
@@ -296,7 +305,8 @@ keep_other calls kept i d behind e x es reply p rising pending k le time does m 
     more : (a b : ℕ) → b ≡ a → b ≡ i → i + 1 ≤ a → ⊥
     more a b q r l = absurd (omega arith)
 
-pub walk : (calls : List Call) (kind : Kind) (all : Bool) (keeps : ℤ → Bool) (kept : ℕ → Bool) → IsSetting calls kind all keeps kept → (es : List Call) (i : ℕ) (xs : List Call) (c d : Content) → IsShadow keeps c d → RepliesAlong c es → IsTurn calls keeps i xs es c → Exchanged calls kept i d es
+pub walk : (calls : List Call) (kind : Kind) (all : Bool) (keeps : ℤ → Bool) (kept : ℕ → Bool) → IsSetting calls kind all keeps kept
+    → (es : List Call) (i : ℕ) (xs : List Call) (c d : Content) → IsShadow keeps c d → RepliesAlong c es → IsTurn calls keeps i xs es c → Exchanged calls kept i d es
 walk calls kind all keeps kept s [] i xs c d r h t = record {
   entries = [];
   replies = tt;
@@ -309,7 +319,8 @@ walk calls kind all keeps kept s [] i xs c d r h t = record {
 walk calls kind all keeps kept s (e ∷ es) i xs c d r h t = go (λ j ys b q u. walk calls kind all keeps kept s es j ys h.0 b q h.4 u) (is_open e) (takes_out keeps e.op (Some h.1)) refl refl
   where
     steps : (k b : Bool) → fits all keeps k e.op (shown b h.1) ≡ true → TookNone keeps e.op b k h.1 → Stepped (IsShadow keeps) e.op k b h.1 d h.0
-    steps k b = subst (λ z. IfSome z (λ p. fits all keeps k e.op (shown b p.1) ≡ true → TookNone keeps e.op b k p.1 → Stepped (IsShadow keeps) e.op k b p.1 d p.0)) h.2 (step_at all keeps s.every c d e.op r k b)
+    steps k b = subst (λ z. IfSome z (λ p. fits all keeps k e.op (shown b p.1) ≡ true → TookNone keeps e.op b k p.1
+        → Stepped (IsShadow keeps) e.op k b p.1 d p.0)) h.2 (step_at all keeps s.every c d e.op r k b)
 
     -- no pending taking took a kept value here
     same : (one (takes_out keeps e.op (reply_of e.returned)) ≡ one (takes_out keeps e.op (Some h.1))) → IsTurn calls keeps i xs es h.0
@@ -330,7 +341,9 @@ walk calls kind all keeps kept s (e ∷ es) i xs c d r h t = go (λ j ys b q u. 
         sums after took size put told gone more a b f g l = omega arith
 
     -- a pending taking took a kept value, and one more may be done
-    fewer : is_some e.returned ≡ false → (j : ℕ) (ys : List Call) → length ys ≡ j → ((x : Call) → In x ys → is_open x ≡ true) → ((x : Call) → In x ys → In x calls) → Pairs (λ x y. x.number ≢ y.number) ys → ((x y : Call) → In x ys → In y es → x.number ≢ y.number) → ((x y : Call) → In x ys → In y es → ReturnsBefore y x → ⊥) → j ≤ i + one (takes_out keeps e.op (Some h.1)) → IsTurn calls keeps j ys es h.0
+    fewer : is_some e.returned ≡ false → (j : ℕ) (ys : List Call) → length ys ≡ j → ((x : Call) → In x ys → is_open x ≡ true)
+        → ((x : Call) → In x ys → In x calls) → Pairs (λ x y. x.number ≢ y.number) ys → ((x y : Call) → In x ys → In y es → x.number ≢ y.number)
+        → ((x y : Call) → In x ys → In y es → ReturnsBefore y x → ⊥) → j ≤ i + one (takes_out keeps e.op (Some h.1)) → IsTurn calls keeps j ys es h.0
     fewer none j ys many pending known apart cross_apart cross_time le = record {
       many = many;
       pending = pending;
@@ -362,8 +375,11 @@ walk calls kind all keeps kept s (e ∷ es) i xs c d r h t = go (λ j ys b q u. 
     fitting : fits all keeps (kept e.number) e.op (shown (is_some e.returned) h.1) ≡ true
     fitting = sym (ap (fits all keeps (kept e.number) e.op) (reply_shown e.returned h.1 h.3)) ∙ s.each e (t.later_known e (inl refl))
 
-    exchange : ((j : ℕ) (ys : List Call) (b : Content) → IsShadow keeps h.0 b → IsTurn calls keeps j ys es h.0 → Exchanged calls kept j b es) → is_open e ≡ true → takes_out keeps e.op (Some h.1) ≡ true → (behind : Content) → next d e.op ≡ Some (behind, h.1) → IsShadow keeps h.0 behind → Exchanged calls kept i d (e ∷ es)
-    exchange again o took behind does q = keep_other calls kept i d behind e last.0 es h.1 p s.rising o kept_one last.2 (λ y j. time y last.0 last.1 j) (ap (λ (z : AnyOp). next d z) same_op ∙ does) (again (i + 1) (e ∷ xs) behind q turned)
+    exchange : ((j : ℕ) (ys : List Call) (b : Content) → IsShadow keeps h.0 b → IsTurn calls keeps j ys es h.0 → Exchanged calls kept j b es)
+        → is_open e ≡ true → takes_out keeps e.op (Some h.1) ≡ true → (behind : Content) → next d e.op ≡ Some (behind, h.1) → IsShadow keeps h.0 behind → Exchanged calls kept i d (e ∷ es)
+    exchange again o took behind does q =
+        keep_other calls kept i d behind e last.0 es h.1 p s.rising o kept_one last.2 (λ y j. time y last.0 last.1 j)
+        (ap (λ (z : AnyOp). next d z) same_op ∙ does) (again (i + 1) (e ∷ xs) behind q turned)
       where
         long : length (e ∷ xs) ≡ i + 1
         long = let m = t.many in omega arith
@@ -404,16 +420,19 @@ walk calls kind all keeps kept s (e ∷ es) i xs c d r h t = go (λ j ys b q u. 
             sums : (put took ranked size more gone : ℕ) → put ≤ took + ranked → ranked ≡ i → size + more + (i + 1) + took ≤ put + gone → gone ≤ size + more → ⊥
             sums put took ranked size more gone a b f g = absurd (omega arith)
 
-    go : ((j : ℕ) (ys : List Call) (b : Content) → IsShadow keeps h.0 b → IsTurn calls keeps j ys es h.0 → Exchanged calls kept j b es) → (o took : Bool) → is_open e ≡ o → takes_out keeps e.op (Some h.1) ≡ took → Exchanged calls kept i d (e ∷ es)
+    go : ((j : ℕ) (ys : List Call) (b : Content) → IsShadow keeps h.0 b → IsTurn calls keeps j ys es h.0 → Exchanged calls kept j b es)
+        → (o took : Bool) → is_open e ≡ o → takes_out keeps e.op (Some h.1) ≡ took → Exchanged calls kept i d (e ∷ es)
     go again false took o w = elim (steps (kept e.number) (is_some e.returned) fitting (own_none o)) [
       | inl skip ↦ leave calls kept i d e es skip.0 (again i xs d skip.1 (same (own_told o)))
       | inr take ↦ keep_own calls kept i d take.1 e es h.1 s.rising o take.0 (t.later_known e (inl refl)) t.later_apart.0 t.in_time.0 take.2 h.3 (again i xs take.1 take.3 (same (own_told o)))
     ]
     go again true true o w = elim (steps true false (fits_open all keeps true e.op (open_taking e o)) (λ b k. absurd (unlike (sym k)))) [
-      | inl skip ↦ leave calls kept i d e es (inr (open_returned e o)) (again i xs d skip.1 (fewer (open_returned e o) i xs t.many t.pending t.known t.apart (λ x y a b. t.cross_apart x y a (inr b)) (λ x y a b. t.cross_time x y a (inr b)) (omega arith)))
+      | inl skip ↦ leave calls kept i d e es (inr (open_returned e o))
+          (again i xs d skip.1 (fewer (open_returned e o) i xs t.many t.pending t.known t.apart (λ x y a b. t.cross_apart x y a (inr b)) (λ x y a b. t.cross_time x y a (inr b)) (omega arith)))
       | inr take ↦ exchange again o w take.1 take.2 take.3
     ]
     go again true false o w = elim (steps false false (fits_open all keeps false e.op (open_taking e o)) (λ b k. w)) [
-      | inl skip ↦ leave calls kept i d e es (inr (open_returned e o)) (again i xs d skip.1 (fewer (open_returned e o) i xs t.many t.pending t.known t.apart (λ x y a b. t.cross_apart x y a (inr b)) (λ x y a b. t.cross_time x y a (inr b)) (omega arith)))
+      | inl skip ↦ leave calls kept i d e es (inr (open_returned e o))
+          (again i xs d skip.1 (fewer (open_returned e o) i xs t.many t.pending t.known t.apart (λ x y a b. t.cross_apart x y a (inr b)) (λ x y a b. t.cross_time x y a (inr b)) (omega arith)))
       | inr take ↦ absurd (unlike take.0)
     ]

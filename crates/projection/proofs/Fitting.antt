@@ -21,12 +21,14 @@ pub closed_simulates : (all : Bool) (keeps : ℤ → Bool) (kept : ℕ → Bool)
 closed_simulates all keeps kept every = record {
   step = λ e c d after reply s does may.
       let here = step_at all keeps every c d e.op s (kept e.number) (is_some e.returned) in
-      let there = subst (λ z. IfSome z (λ p. fits all keeps (kept e.number) e.op (shown (is_some e.returned) p.1) ≡ true → TookNone keeps e.op (is_some e.returned) (kept e.number) p.1 → Stepped (IsShadow keeps) e.op (kept e.number) (is_some e.returned) p.1 d p.0)) does here in
+      let there = subst (λ z. IfSome z (λ p. fits all keeps (kept e.number) e.op (shown (is_some e.returned) p.1) ≡ true
+      → TookNone keeps e.op (is_some e.returned) (kept e.number) p.1 → Stepped (IsShadow keeps) e.op (kept e.number) (is_some e.returned) p.1 d p.0)) does here in
       there may.fits_part may.took_none;
 }
 
 -- where each call is kept
-pub all_step : (all : Bool) (keeps : ℤ → Bool) (es : List Call) (c : Content) → ((e : Call) → In e es → fits all keeps true e.op (reply_of e.returned) ≡ true) → RepliesAlong c es → Replied (MayStep all keeps (λ n. true)) c es
+pub all_step : (all : Bool) (keeps : ℤ → Bool) (es : List Call) (c : Content)
+    → ((e : Call) → In e es → fits all keeps true e.op (reply_of e.returned) ≡ true) → RepliesAlong c es → Replied (MayStep all keeps (λ n. true)) c es
 all_step all keeps [] c f h = tt
 all_step all keeps (e ∷ es) c f h =
     let fitting = sym (ap (fits all keeps true e.op) (reply_shown e.returned h.1 h.3)) ∙ f e (inl refl) in

@@ -1,5 +1,6 @@
 -- The operations that are kept.
-use Rattle.std.proofs.Common.{◌≡◌, inl, inr, zero, suc, ℕ, ℤ, ◌<◌, ◌≤◌, ◌+◌, ◌-◌, ◌==◌, nat_lt, Bool, true, false, ◌&&◌, ◌||◌, cond, List, [], ◌∷◌, Option, Some, None, AllPairs, count_by, filter, length, get_or, drop, refl, ap, sym, ◌∙◌, subst, arith}
+use Rattle.std.proofs.Common.{◌≡◌, inl, inr, zero, suc, ℕ, ℤ, ◌<◌, ◌≤◌, ◌+◌, ◌-◌, ◌==◌, nat_lt, Bool, true, false, ◌&&◌, ◌||◌, cond, List, [], ◌∷◌}
+use Rattle.std.proofs.Common.{Option, Some, None, AllPairs, count_by, filter, length, get_or, drop, refl, ap, sym, ◌∙◌, subst, arith}
 use Rattle.std.specs.List.{filter_map, cons_option, list_all}
 use Rattle.std.proofs.lemmas.Option.{same_Some}
 use Rattle.std.proofs.Math.Seq.{drop-cons}
@@ -52,10 +53,12 @@ piece_call kept o = piece (kept o.number) ∙ sym (part o.«end»)
     part Failed = nothing (kept o.number)
 
 pub kept_history : (kept : ℕ → Bool) (h : ObjectCalls) → IsObjectHistory h → IsObjectHistory (record { object = h.object; kind = h.kind; ops = filter (λ o. kept o.number) h.ops })
-kept_history kept h is = subst (λ (ops : List Invocation). IsObjectHistory (record { object = h.object; kind = h.kind; ops = ops })) (as_filter (λ o. kept o.number) h.ops) (pieces_history h.object h.kind h.ops (own (λ z. kept z.number)) (λ o p i e. piece_is kept o p e) is)
+kept_history kept h is = subst (λ (ops : List Invocation). IsObjectHistory (record { object = h.object; kind = h.kind; ops = ops }))
+    (as_filter (λ o. kept o.number) h.ops) (pieces_history h.object h.kind h.ops (own (λ z. kept z.number)) (λ o p i e. piece_is kept o p e) is)
 
 pub kept_calls_of : (kept : ℕ → Bool) (ops : List Invocation) → calls_of (filter (λ o. kept o.number) ops) ≡ kept_calls kept (calls_of ops)
-kept_calls_of kept ops = ap calls_of (sym (as_filter (λ o. kept o.number) ops)) ∙ pieces_calls (own (λ z. kept z.number)) (own (λ z. kept z.number)) ops (piece_call kept) ∙ as_filter (λ e. kept e.number) (calls_of ops)
+kept_calls_of kept ops = ap calls_of (sym (as_filter (λ o. kept o.number) ops))
+    ∙ pieces_calls (own (λ z. kept z.number)) (own (λ z. kept z.number)) ops (piece_call kept) ∙ as_filter (λ e. kept e.number) (calls_of ops)
 
 -- ---- how many
 
@@ -63,7 +66,8 @@ puts_of : (keeps : ℤ → Bool) (ops : List Invocation) → tally (λ o. is_put
 puts_of keeps [] = refl
 puts_of keeps (o ∷ ops) = go o.«end» (puts_of keeps ops)
   where
-    go : (e : End) → tally (λ o. is_put keeps o.op o.«end») ops ≡ tally (λ e. puts_in keeps e.op) (calls_of ops) → cond (is_put keeps o.op e) 1 0 + tally (λ o. is_put keeps o.op o.«end») ops ≡ tally (λ e. puts_in keeps e.op) (cons_option (call_with o.number o.op e) (calls_of ops))
+    go : (e : End) → tally (λ o. is_put keeps o.op o.«end») ops ≡ tally (λ e. puts_in keeps e.op) (calls_of ops)
+        → cond (is_put keeps o.op e) 1 0 + tally (λ o. is_put keeps o.op o.«end») ops ≡ tally (λ e. puts_in keeps e.op) (cons_option (call_with o.number o.op e) (calls_of ops))
     go (Returned at r) h = ap (λ (n : ℕ). cond (puts_in keeps o.op) 1 0 + n) h
     go Pending h = ap (λ (n : ℕ). cond (puts_in keeps o.op) 1 0 + n) h
     go Failed h = omega arith
@@ -76,7 +80,9 @@ taken_of keeps (o ∷ ops) = go o.«end» (taken_of keeps ops)
     nothing true = refl
     nothing false = refl
 
-    go : (e : End) → tally (λ o. is_taken keeps o.op o.«end») ops ≡ tally (λ e. takes_out keeps e.op (reply_of e.returned)) (calls_of ops) → cond (is_taken keeps o.op e) 1 0 + tally (λ o. is_taken keeps o.op o.«end») ops ≡ tally (λ e. takes_out keeps e.op (reply_of e.returned)) (cons_option (call_with o.number o.op e) (calls_of ops))
+    go : (e : End) → tally (λ o. is_taken keeps o.op o.«end») ops ≡ tally (λ e. takes_out keeps e.op (reply_of e.returned)) (calls_of ops)
+        → cond (is_taken keeps o.op e) 1 0 + tally (λ o. is_taken keeps o.op o.«end») ops ≡ tally (λ e. takes_out keeps e.op (reply_of e.returned))
+        (cons_option (call_with o.number o.op e) (calls_of ops))
     go (Returned at r) h = ap (λ (n : ℕ). cond (takes_out keeps o.op (Some r)) 1 0 + n) h
     go Pending h = let n = nothing (is_taking o.op) in omega arith
     go Failed h = omega arith
@@ -110,7 +116,9 @@ open_of n (o ∷ ops) = go o.«end» (open_of n ops)
     sums : (a b x y : ℕ) → a ≡ b → x ≡ y → a + x ≡ b + y
     sums a b x y e f = omega arith
 
-    go : (e : End) → open_before n ops ≡ tally (λ e. is_pending_taking e.op e.returned && nat_lt e.number n) (calls_of ops) → cond (is_open_taking o.op e && nat_lt o.number n) 1 0 + open_before n ops ≡ tally (λ e. is_pending_taking e.op e.returned && nat_lt e.number n) (cons_option (call_with o.number o.op e) (calls_of ops))
+    go : (e : End) → open_before n ops ≡ tally (λ e. is_pending_taking e.op e.returned && nat_lt e.number n) (calls_of ops)
+        → cond (is_open_taking o.op e && nat_lt o.number n) 1 0 + open_before n ops
+        ≡ tally (λ e. is_pending_taking e.op e.returned && nat_lt e.number n) (cons_option (call_with o.number o.op e) (calls_of ops))
     go (Returned at r) h = sums _ _ _ _ (ap one (over (is_taking o.op) (nat_lt o.number n))) h
     go Pending h = sums _ _ _ _ (ap one (pending (is_taking o.op) (nat_lt o.number n))) h
     go Failed h = omega arith
@@ -165,11 +173,13 @@ missing kept m o ops l q n = go (is_open o) (m == 0) (kept o.number) q (not_zero
     go true false false e f g = refl
 
 -- a pending taking among the first ones is left out
-pub one_missing : (kept : ℕ → Bool) (most left i : ℕ) (ops : List Invocation) (d : Invocation) → i < length ops → keeps_first kept most ops ≡ keeps_first kept left (drop i ops) → is_open (get_or ops i d) ≡ true → zero < left → kept (get_or ops i d).number ≡ false → false ≡ keeps_first kept most ops
+pub one_missing : (kept : ℕ → Bool) (most left i : ℕ) (ops : List Invocation) (d : Invocation) → i < length ops
+    → keeps_first kept most ops ≡ keeps_first kept left (drop i ops) → is_open (get_or ops i d) ≡ true → zero < left → kept (get_or ops i d).number ≡ false → false ≡ keeps_first kept most ops
 one_missing kept most left i ops d lt e o less n = sym (e ∙ ap (keeps_first kept left) (drop-cons ops i d lt) ∙ missing kept left (get_or ops i d) (drop (suc i) ops) less o n)
 
--- what is left out comes behind this many
-pub first_kept : (kept : ℕ → Bool) (most : ℕ) (ops : List Invocation) → Pairs (λ a b. a.number < b.number) ops → keeps_first kept most ops ≡ true → (x : Invocation) → In x ops → is_open x ≡ true → kept x.number ≡ false → most ≤ open_before x.number ops
+-- what is left out comes after this many
+pub first_kept : (kept : ℕ → Bool) (most : ℕ) (ops : List Invocation) → Pairs (λ a b. a.number < b.number) ops → keeps_first kept most ops ≡ true
+    → (x : Invocation) → In x ops → is_open x ≡ true → kept x.number ≡ false → most ≤ open_before x.number ops
 first_kept kept most [] h k x i o n = absurd i
 first_kept kept most (y ∷ ops) h k x i o n = go (λ m e j. first_kept kept m ops h.1 e x j o n) (is_open y) refl k
   where
@@ -185,7 +195,8 @@ first_kept kept most (y ∷ ops) h k x i o n = go (λ m e j. first_kept kept m o
     none : most ≡ zero → most ≤ open_before x.number (y ∷ ops)
     none e = omega arith
 
-    go : ((m : ℕ) → keeps_first kept m ops ≡ true → In x ops → m ≤ open_before x.number ops) → (b : Bool) → is_open y ≡ b → cond b ((most == 0 || kept y.number) && keeps_first kept (most - 1) ops) (keeps_first kept most ops) ≡ true → most ≤ open_before x.number (y ∷ ops)
+    go : ((m : ℕ) → keeps_first kept m ops ≡ true → In x ops → m ≤ open_before x.number ops) → (b : Bool) → is_open y ≡ b
+        → cond b ((most == 0 || kept y.number) && keeps_first kept (most - 1) ops) (keeps_first kept most ops) ≡ true → most ≤ open_before x.number (y ∷ ops)
     go again true q e = elim i [
       | inl w ↦ none (is_zero most (left_out (most == 0) (kept y.number) (keeps_first kept (most - 1) ops) e (ap (λ (u : Invocation). kept u.number) (sym w) ∙ n)))
       | inr j ↦
@@ -201,7 +212,8 @@ first_kept kept most (y ∷ ops) h k x i o n = go (λ m e j. first_kept kept m o
           omega arith
     ]
 
-pub kept_first : (kept : ℕ → Bool) (most : ℕ) (ops : List Invocation) → Pairs (λ a b. a.number < b.number) ops → ((x : Invocation) → In x ops → is_open x ≡ true → kept x.number ≡ false → most ≤ open_before x.number ops) → keeps_first kept most ops ≡ true
+pub kept_first : (kept : ℕ → Bool) (most : ℕ) (ops : List Invocation) → Pairs (λ a b. a.number < b.number) ops
+    → ((x : Invocation) → In x ops → is_open x ≡ true → kept x.number ≡ false → most ≤ open_before x.number ops) → keeps_first kept most ops ≡ true
 kept_first kept most [] h f = refl
 kept_first kept most (y ∷ ops) h f = go (λ m g. kept_first kept m ops h.1 g) (is_open y) refl
   where
@@ -220,7 +232,8 @@ kept_first kept most (y ∷ ops) h f = go (λ m g. kept_first kept m ops h.1 g) 
         let m = open_none y.number (y ∷ ops) (λ x i. elim i [ inl w ↦ subst (λ (u : Invocation). y.number ≤ u.number) (sym w) (omega arith) | inr j ↦ let le = h.0 x j in omega arith ]) in
         ap (λ z. z || kept y.number) (zero_is most (omega arith))
 
-    go : ((m : ℕ) → ((x : Invocation) → In x ops → is_open x ≡ true → kept x.number ≡ false → m ≤ open_before x.number ops) → keeps_first kept m ops ≡ true) → (b : Bool) → is_open y ≡ b → cond b ((most == 0 || kept y.number) && keeps_first kept (most - 1) ops) (keeps_first kept most ops) ≡ true
+    go : ((m : ℕ) → ((x : Invocation) → In x ops → is_open x ≡ true → kept x.number ≡ false → m ≤ open_before x.number ops)
+        → keeps_first kept m ops ≡ true) → (b : Bool) → is_open y ≡ b → cond b ((most == 0 || kept y.number) && keeps_first kept (most - 1) ops) (keeps_first kept most ops) ≡ true
     go again true q = both (most == 0 || kept y.number) (keeps_first kept (most - 1) ops) (here q (kept y.number) refl) (again (most - 1) (λ x i o n.
         let l = f x (inr i) o n in
         let m = open_more y x ops true q (h.0 x i) in
@@ -244,14 +257,21 @@ each_from_all {X} p (y ∷ ys) h x i = elim i [ inl e ↦ ap p e ∙ (both (p y)
     both true b e = (refl, e)
     both false b e = absurd (cc e)
 
-pub closed_calls : (vs : Values) (kept : ℕ → Bool) (ops : List Invocation) → AllPairs (λ a b. a.number < b.number) ops → keeps_first kept (count_by (λ o. is_put (keeps_value vs) o.op o.«end») ops - count_by (λ o. is_taken (keeps_value vs) o.op o.«end») ops) ops ≡ true → list_all (λ o. fits_end (keeps_all vs) (keeps_value vs) (kept o.number) o.op o.«end») ops ≡ true → IsClosed (keeps_all vs) (keeps_value vs) kept (calls_of ops)
+pub closed_calls : (vs : Values) (kept : ℕ → Bool) (ops : List Invocation) → AllPairs (λ a b. a.number < b.number) ops
+    → keeps_first kept (count_by (λ o. is_put (keeps_value vs) o.op o.«end») ops - count_by (λ o. is_taken (keeps_value vs) o.op o.«end») ops) ops
+    ≡ true → list_all (λ o. fits_end (keeps_all vs) (keeps_value vs) (kept o.number) o.op o.«end») ops ≡ true → IsClosed (keeps_all vs) (keeps_value vs) kept (calls_of ops)
 closed_calls vs kept ops rising first h = record {
   every = all_keeps vs;
-  each = all_calls (λ number op returned. fits (keeps_all vs) (keeps_value vs) (kept number) op (reply_of returned) ≡ true) ops (λ o i c e. go o.number o.op o.«end» c e (each_from_all (λ o. fits_end (keeps_all vs) (keeps_value vs) (kept o.number) o.op o.«end») ops h o i));
-  pending = all_calls (λ number op returned. is_pending_taking op returned ≡ true → kept number ≡ false → put_count (keeps_value vs) (calls_of ops) ≤ taken_count (keeps_value vs) (calls_of ops) + pending_before number (calls_of ops)) ops (λ o i c e t n. sums _ _ _ _ _ _ (put_counts (keeps_value vs) ops) (taken_counts (keeps_value vs) ops) (pending_counts o.number ops) (first_kept kept _ ops (pairs_from_all (λ a b. a.number < b.number) ops rising) first o i (was o.number o.op o.«end» c e t) n));
+  each = all_calls (λ number op returned. fits (keeps_all vs) (keeps_value vs) (kept number) op (reply_of returned) ≡ true) ops
+      (λ o i c e. go o.number o.op o.«end» c e (each_from_all (λ o. fits_end (keeps_all vs) (keeps_value vs) (kept o.number) o.op o.«end») ops h o i));
+  pending = all_calls (λ number op returned. is_pending_taking op returned ≡ true → kept number ≡ false
+      → put_count (keeps_value vs) (calls_of ops) ≤ taken_count (keeps_value vs) (calls_of ops) + pending_before number (calls_of ops)) ops
+      (λ o i c e t n. sums _ _ _ _ _ _ (put_counts (keeps_value vs) ops) (taken_counts (keeps_value vs) ops) (pending_counts o.number ops)
+      (first_kept kept _ ops (pairs_from_all (λ a b. a.number < b.number) ops rising) first o i (was o.number o.op o.«end» c e t) n));
 }
   where
-    go : (number : ℕ) (op : AnyOp) (e : End) (c : Call) → call_with number op e ≡ Some c → fits_end (keeps_all vs) (keeps_value vs) (kept number) op e ≡ true → fits (keeps_all vs) (keeps_value vs) (kept number) op (reply_of (return_of e)) ≡ true
+    go : (number : ℕ) (op : AnyOp) (e : End) (c : Call) → call_with number op e ≡ Some c
+        → fits_end (keeps_all vs) (keeps_value vs) (kept number) op e ≡ true → fits (keeps_all vs) (keeps_value vs) (kept number) op (reply_of (return_of e)) ≡ true
     go number op (Returned at r) c e f = f
     go number op Pending c e f = f
     go number op Failed c e f = absurd (cc e)
@@ -276,7 +296,8 @@ all_from_each : {X : Type 0} (p : X → Bool) (xs : List X) → ((x : X) → In 
 all_from_each p [] f = refl
 all_from_each p (x ∷ xs) f = ap (λ b. b && list_all p xs) (f x (inl refl)) ∙ all_from_each p xs (λ y i. f y (inr i))
 
-pub closed_fits : (vs : Values) (kept : ℕ → Bool) (ops : List Invocation) → IsClosed (keeps_all vs) (keeps_value vs) kept (calls_of ops) → list_all (λ o. fits_end (keeps_all vs) (keeps_value vs) (kept o.number) o.op o.«end») ops ≡ true
+pub closed_fits : (vs : Values) (kept : ℕ → Bool) (ops : List Invocation) → IsClosed (keeps_all vs) (keeps_value vs) kept (calls_of ops)
+    → list_all (λ o. fits_end (keeps_all vs) (keeps_value vs) (kept o.number) o.op o.«end») ops ≡ true
 closed_fits vs kept ops h = all_from_each (λ o. fits_end (keeps_all vs) (keeps_value vs) (kept o.number) o.op o.«end») ops (λ o i. go o i o.«end» refl)
   where
     at : (o : Invocation) → In o ops → (c : Call) → call_of o ≡ Some c → fits (keeps_all vs) (keeps_value vs) (kept c.number) c.op (reply_of c.returned) ≡ true
@@ -287,7 +308,9 @@ closed_fits vs kept ops h = all_from_each (λ o. fits_end (keeps_all vs) (keeps_
     go o i Pending q = at o i (record { number = o.number; op = o.op; returned = None }) (ap (call_with o.number o.op) q)
     go o i Failed q = refl
 
-pub closed_first : (vs : Values) (kept : ℕ → Bool) (ops : List Invocation) → AllPairs (λ a b. a.number < b.number) ops → IsClosed (keeps_all vs) (keeps_value vs) kept (calls_of ops) → keeps_first kept (count_by (λ o. is_put (keeps_value vs) o.op o.«end») ops - count_by (λ o. is_taken (keeps_value vs) o.op o.«end») ops) ops ≡ true
+pub closed_first : (vs : Values) (kept : ℕ → Bool) (ops : List Invocation) → AllPairs (λ a b. a.number < b.number) ops
+    → IsClosed (keeps_all vs) (keeps_value vs) kept (calls_of ops)
+    → keeps_first kept (count_by (λ o. is_put (keeps_value vs) o.op o.«end») ops - count_by (λ o. is_taken (keeps_value vs) o.op o.«end») ops) ops ≡ true
 closed_first vs kept ops rising h = kept_first kept _ ops (pairs_from_all (λ a b. a.number < b.number) ops rising) (λ o i t n. go o i o.«end» refl t n)
   where
     sums : (p q r s m n : ℕ) → p ≡ q → r ≡ s → m ≡ n → q ≤ s + n → p - r ≤ m
@@ -301,10 +324,13 @@ closed_first vs kept ops rising h = kept_first kept _ ops (pairs_from_all (λ a 
     go o i Failed q t n = absurd (unlike t)
     go o i Pending q t n =
         let c : Call = record { number = o.number; op = o.op; returned = None } in
-        let l = all_at (λ e. is_pending_taking e.op e.returned ≡ true → kept e.number ≡ false → put_count (keeps_value vs) (calls_of ops) ≤ taken_count (keeps_value vs) (calls_of ops) + pending_before e.number (calls_of ops)) (calls_of ops) h.pending c (in_filter_map_from call_of o c ops i (ap (call_with o.number o.op) q)) in
+        let l = all_at (λ e. is_pending_taking e.op e.returned ≡ true → kept e.number ≡ false
+        → put_count (keeps_value vs) (calls_of ops) ≤ taken_count (keeps_value vs) (calls_of ops) + pending_before e.number (calls_of ops))
+        (calls_of ops) h.pending c (in_filter_map_from call_of o c ops i (ap (call_with o.number o.op) q)) in
         sums _ _ _ _ _ _ (put_counts (keeps_value vs) ops) (taken_counts (keeps_value vs) ops) (pending_counts o.number ops) (l (ap (λ z. z && true) t) n)
 
-pub kept_shows : (vs : Values) (kept : ℕ → Bool) (h : ObjectCalls) → IsObjectHistory h → IsClosed (keeps_all vs) (keeps_value vs) kept (calls_of h.ops) → IsPart h (record { object = h.object; kind = h.kind; ops = filter (λ o. kept o.number) h.ops })
+pub kept_shows : (vs : Values) (kept : ℕ → Bool) (h : ObjectCalls) → IsObjectHistory h
+    → IsClosed (keeps_all vs) (keeps_value vs) kept (calls_of h.ops) → IsPart h (record { object = h.object; kind = h.kind; ops = filter (λ o. kept o.number) h.ops })
 kept_shows vs kept h is closed = record {
   object = refl;
   shows = λ none order v.

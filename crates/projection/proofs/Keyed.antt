@@ -58,20 +58,23 @@ abbrev DoneTo : (ℤ → Bool) → Option (AnyOp × AnyReply) → Option ℤ →
 DoneTo keeps None y x = IsEntryShadow keeps x y
 DoneTo keeps (Some f) y x = (z : Option ℤ) × (next (register y) f.0 ≡ Some (register z, f.1)) × IsEntryShadow keeps x z
 
-done_to : (key : ℤ) (keeps : ℤ → Bool) (o : Option (AnyOp × AnyReply)) (y x : Option ℤ) (m : map.FinMap int_cmp ℤ) → map.get m key ≡ x → DoneTo keeps o y x → DoneOf (IsEntry key keeps) o (register y) (table m)
+done_to : (key : ℤ) (keeps : ℤ → Bool) (o : Option (AnyOp × AnyReply)) (y x : Option ℤ) (m : map.FinMap int_cmp ℤ) → map.get m key ≡ x
+    → DoneTo keeps o y x → DoneOf (IsEntry key keeps) o (register y) (table m)
 done_to key keeps None y x m e s = subst (λ (z : Option ℤ). IsEntryShadow keeps z y) (sym e) s
 done_to key keeps (Some f) y x m e s = (register s.0, s.1, subst (λ (z : Option ℤ). IsEntryShadow keeps z s.0) (sym e) s.2)
 
 free : (keeps : ℤ → Bool) (v : ℤ) (y : Option ℤ) → keeps v ≡ false → IsEntryShadow keeps (Some v) y
 free keeps v y f = λ k. absurd (unlike (sym f ∙ k))
 
-swaps : (keeps : ℤ → Bool) (other a b : ℤ) (y x : Option ℤ) (p : Bool) → IsEntryShadow keeps (Some a) y → (p ≡ true → IsEntryShadow keeps x (Some b)) → (p ≡ false → (z : Option ℤ) → IsEntryShadow keeps x z) → (kept : Bool) → DoneTo keeps (swap_done p (keeps a) kept other a b (Swapped a b)) y x
+swaps : (keeps : ℤ → Bool) (other a b : ℤ) (y x : Option ℤ) (p : Bool) → IsEntryShadow keeps (Some a) y → (p ≡ true → IsEntryShadow keeps x (Some b))
+    → (p ≡ false → (z : Option ℤ) → IsEntryShadow keeps x z) → (kept : Bool) → DoneTo keeps (swap_done p (keeps a) kept other a b (Swapped a b)) y x
 swaps keeps other a b y x p s new old kept = go p (keeps a) kept refl new old
   where
     does : (w : ℤ) → keeps a ≡ true → next (register y) (Cas a w) ≡ Some (register (Some w), Swapped a w)
     does w k = ap (λ (z : Option ℤ). next (register z) (Cas a w)) (s k) ∙ ap (λ t. cond t (Some (register (Some w), Swapped a w)) (Some (register (Some a), NotSwapped))) (own_int a)
 
-    go : (p q kept : Bool) → keeps a ≡ q → (p ≡ true → IsEntryShadow keeps x (Some b)) → (p ≡ false → (z : Option ℤ) → IsEntryShadow keeps x z) → DoneTo keeps (swap_done p q kept other a b (Swapped a b)) y x
+    go : (p q kept : Bool) → keeps a ≡ q → (p ≡ true → IsEntryShadow keeps x (Some b)) → (p ≡ false → (z : Option ℤ) → IsEntryShadow keeps x z)
+        → DoneTo keeps (swap_done p q kept other a b (Swapped a b)) y x
     go true true kept f new old = (Some b, does b f, new refl)
     go true false kept f new old = (Some b, refl, new refl)
     go false true true f new old = (Some other, does other f, old refl (Some other))
@@ -108,14 +111,16 @@ dels keeps other (Some a) y s kept = swaps keeps other a other y None false s (�
 abbrev EntrySteps : ℤ → (ℤ → Bool) → ℤ → AnyOp → Content → Content → AnyReply → Type 0
 EntrySteps key keeps other op d after reply = Steps (IsEntry key keeps) (entry_done key keeps other) (entry_open key keeps) op d after reply
 
-put_step : (key : ℤ) (keeps : ℤ → Bool) (other : ℤ) (m : map.FinMap int_cmp ℤ) (y : Option ℤ) (k v : ℤ) → IsEntryShadow keeps (map.get m key) y → EntrySteps key keeps other (Put k v) (register y) (table (map.insert m k v)) (Value (map.get m k))
+put_step : (key : ℤ) (keeps : ℤ → Bool) (other : ℤ) (m : map.FinMap int_cmp ℤ) (y : Option ℤ) (k v : ℤ) → IsEntryShadow keeps (map.get m key) y
+    → EntrySteps key keeps other (Put k v) (register y) (table (map.insert m k v)) (Value (map.get m k))
 put_step key keeps other m y k v s = record { returned = done (int_eq key k) refl; unfinished = open_put (int_eq key k) (keeps v) refl refl }
   where
     here : (b : Bool) → int_eq key k ≡ b → map.get (map.insert m k v) key ≡ cond b (Some v) (map.get m key)
     here b e = map.get-insert int_cmp_total m k v key ∙ ap (λ (z : Bool). cond z (Some v) (map.get m key)) e
 
     done : (b : Bool) → int_eq key k ≡ b → (kept : Bool) → DoneOf (IsEntry key keeps) (cond b (put_done keeps other kept v (map.get m k)) None) (register y) (table (map.insert m k v))
-    done true e kept = done_to key keeps (put_done keeps other kept v (map.get m k)) y (Some v) (map.insert m k v) (here true e) (puts keeps other v (map.get m k) y (subst (λ (z : ℤ). IsEntryShadow keeps (map.get m z) y) (same_int key k e) s) kept)
+    done true e kept = done_to key keeps (put_done keeps other kept v (map.get m k)) y (Some v) (map.insert m k v) (here true e)
+        (puts keeps other v (map.get m k) y (subst (λ (z : ℤ). IsEntryShadow keeps (map.get m z) y) (same_int key k e) s) kept)
     done false e kept = subst (λ (z : Option ℤ). IsEntryShadow keeps z y) (sym (here false e)) s
 
     open_put : (b p : Bool) → int_eq key k ≡ b → keeps v ≡ p → OpenOf (IsEntry key keeps) (cond (b && p) (Some (Write v)) None) (register y) (table (map.insert m k v))
@@ -123,21 +128,25 @@ put_step key keeps other m y k v s = record { returned = done (int_eq key k) ref
     open_put true false e f = subst (λ (z : Option ℤ). IsEntryShadow keeps z y) (sym (here true e)) (free keeps v y f)
     open_put false p e f = subst (λ (z : Option ℤ). IsEntryShadow keeps z y) (sym (here false e)) s
 
-get_step : (key : ℤ) (keeps : ℤ → Bool) (other : ℤ) (m : map.FinMap int_cmp ℤ) (y : Option ℤ) (k : ℤ) → IsEntryShadow keeps (map.get m key) y → EntrySteps key keeps other (Get k) (register y) (table m) (Value (map.get m k))
+get_step : (key : ℤ) (keeps : ℤ → Bool) (other : ℤ) (m : map.FinMap int_cmp ℤ) (y : Option ℤ) (k : ℤ) → IsEntryShadow keeps (map.get m key) y
+    → EntrySteps key keeps other (Get k) (register y) (table m) (Value (map.get m k))
 get_step key keeps other m y k s = record { returned = done (int_eq key k) refl; unfinished = s }
   where
     done : (b : Bool) → int_eq key k ≡ b → (kept : Bool) → DoneOf (IsEntry key keeps) (cond b (get_done keeps other kept (map.get m k)) None) (register y) (table m)
-    done true e kept = done_to key keeps (get_done keeps other kept (map.get m k)) y (map.get m k) m (ap (map.get m) (same_int key k e)) (gets keeps other (map.get m k) y (subst (λ (z : ℤ). IsEntryShadow keeps (map.get m z) y) (same_int key k e) s) kept)
+    done true e kept = done_to key keeps (get_done keeps other kept (map.get m k)) y (map.get m k) m (ap (map.get m) (same_int key k e))
+        (gets keeps other (map.get m k) y (subst (λ (z : ℤ). IsEntryShadow keeps (map.get m z) y) (same_int key k e) s) kept)
     done false e kept = s
 
-del_step : (key : ℤ) (keeps : ℤ → Bool) (other : ℤ) (m : map.FinMap int_cmp ℤ) (y : Option ℤ) (k : ℤ) → IsEntryShadow keeps (map.get m key) y → EntrySteps key keeps other (Del k) (register y) (table (map.remove m k)) (Value (map.get m k))
+del_step : (key : ℤ) (keeps : ℤ → Bool) (other : ℤ) (m : map.FinMap int_cmp ℤ) (y : Option ℤ) (k : ℤ) → IsEntryShadow keeps (map.get m key) y
+    → EntrySteps key keeps other (Del k) (register y) (table (map.remove m k)) (Value (map.get m k))
 del_step key keeps other m y k s = record { returned = done (int_eq key k) refl; unfinished = left_out (int_eq key k) refl }
   where
     here : (b : Bool) → int_eq key k ≡ b → map.get (map.remove m k) key ≡ cond b None (map.get m key)
     here b e = map.get-remove int_cmp_total m k key ∙ ap (λ (z : Bool). cond z None (map.get m key)) e
 
     done : (b : Bool) → int_eq key k ≡ b → (kept : Bool) → DoneOf (IsEntry key keeps) (cond b (del_done keeps other kept (map.get m k)) None) (register y) (table (map.remove m k))
-    done true e kept = done_to key keeps (del_done keeps other kept (map.get m k)) y None (map.remove m k) (here true e) (dels keeps other (map.get m k) y (subst (λ (z : ℤ). IsEntryShadow keeps (map.get m z) y) (same_int key k e) s) kept)
+    done true e kept = done_to key keeps (del_done keeps other kept (map.get m k)) y None (map.remove m k) (here true e)
+        (dels keeps other (map.get m k) y (subst (λ (z : ℤ). IsEntryShadow keeps (map.get m z) y) (same_int key k e) s) kept)
     done false e kept = subst (λ (z : Option ℤ). IsEntryShadow keeps z y) (sym (here false e)) s
 
     left_out : (b : Bool) → int_eq key k ≡ b → IsEntryShadow keeps (map.get (map.remove m k) key) y
@@ -218,16 +227,25 @@ open_like key keeps (Put k v) = go (int_eq key k && keeps v)
     go false = tt
 open_like key keeps op = tt
 
-pub entry_valid : (own : Kind) (calls : List Call) (key : ℤ) (keeps : ℤ → Bool) (other : ℤ) (kept : ℕ → Bool) (order : List ℤ) → IsValidOrder own calls order → (part : List ℤ) × IsValidOrder kind.Register (entry_calls key keeps other kept calls) part
-entry_valid own calls key keeps other kept order v = mapped_valid (IsEntry key keeps) (entry_call key keeps other kept) calls own kind.Register (recast_maps (IsEntry key keeps) (entry_done key keeps other) (entry_open key keeps) kept (record { step = steps key keeps other })) (begins key keeps own) order v
+pub entry_valid : (own : Kind) (calls : List Call) (key : ℤ) (keeps : ℤ → Bool) (other : ℤ) (kept : ℕ → Bool) (order : List ℤ)
+    → IsValidOrder own calls order → (part : List ℤ) × IsValidOrder kind.Register (entry_calls key keeps other kept calls) part
+entry_valid own calls key keeps other kept order v =
+    mapped_valid (IsEntry key keeps) (entry_call key keeps other kept) calls own kind.Register
+    (recast_maps (IsEntry key keeps) (entry_done key keeps other) (entry_open key keeps) kept (record { step = steps key keeps other })) (begins key keeps own) order v
 
-pub entry_history : (key : ℤ) (keeps : ℤ → Bool) (other : ℤ) (kept : ℕ → Bool) (h : ObjectCalls) → IsObjectHistory h → IsObjectHistory (record { object = h.object; kind = kind.Register; ops = filter_map (entry_piece key keeps other kept) h.ops })
-entry_history key keeps other kept h is = pieces_into h.object h.kind kind.Register h.ops (entry_piece key keeps other kept) (λ o p i e. recast_piece (entry_done key keeps other) (entry_open key keeps) (λ op. kind.Register) (record { returned = done_like key keeps other; unfinished = open_like key keeps }) (kept o.number) o p e) is
+pub entry_history : (key : ℤ) (keeps : ℤ → Bool) (other : ℤ) (kept : ℕ → Bool) (h : ObjectCalls) → IsObjectHistory h
+    → IsObjectHistory (record { object = h.object; kind = kind.Register; ops = filter_map (entry_piece key keeps other kept) h.ops })
+entry_history key keeps other kept h is =
+    pieces_into h.object h.kind kind.Register h.ops (entry_piece key keeps other kept)
+    (λ o p i e. recast_piece (entry_done key keeps other) (entry_open key keeps) (λ op. kind.Register)
+    (record { returned = done_like key keeps other; unfinished = open_like key keeps }) (kept o.number) o p e) is
 
-pub entry_calls_of : (key : ℤ) (keeps : ℤ → Bool) (other : ℤ) (kept : ℕ → Bool) (ops : List Invocation) → calls_of (filter_map (entry_piece key keeps other kept) ops) ≡ entry_calls key keeps other kept (calls_of ops)
+pub entry_calls_of : (key : ℤ) (keeps : ℤ → Bool) (other : ℤ) (kept : ℕ → Bool) (ops : List Invocation)
+    → calls_of (filter_map (entry_piece key keeps other kept) ops) ≡ entry_calls key keeps other kept (calls_of ops)
 entry_calls_of key keeps other kept ops = pieces_calls (entry_piece key keeps other kept) (entry_call key keeps other kept) ops (recast_call (entry_done key keeps other) (entry_open key keeps) kept)
 
-pub entry_shows : (key : ℤ) (keeps : ℤ → Bool) (other : ℤ) (kept : ℕ → Bool) (h : ObjectCalls) → IsPart h (record { object = h.object; kind = kind.Register; ops = filter_map (entry_piece key keeps other kept) h.ops })
+pub entry_shows : (key : ℤ) (keeps : ℤ → Bool) (other : ℤ) (kept : ℕ → Bool) (h : ObjectCalls)
+    → IsPart h (record { object = h.object; kind = kind.Register; ops = filter_map (entry_piece key keeps other kept) h.ops })
 entry_shows key keeps other kept h = record {
   object = refl;
   shows = λ none order v.

@@ -62,7 +62,8 @@ on_key_each : (ops : List Invocation) (key : Option ℤ) → All (λ e. key_of e
 on_key_each ops key h = all_from_in (IsOnKey key) ops (λ o i. go o i o.«end» refl)
   where
     at : (o : Invocation) → In o ops → (r : Option Return) → call_of o ≡ Some (record { number = o.number; op = o.op; returned = r }) → key_of o.op ≡ key
-    at o i r e = all_at (λ e. key_of e.op ≡ key) (calls_of ops) h (record { number = o.number; op = o.op; returned = r }) (in_filter_map_from call_of o (record { number = o.number; op = o.op; returned = r }) ops i e)
+    at o i r e = all_at (λ e. key_of e.op ≡ key) (calls_of ops) h (record { number = o.number; op = o.op; returned = r })
+        (in_filter_map_from call_of o (record { number = o.number; op = o.op; returned = r }) ops i e)
 
     go : (o : Invocation) → In o ops → (e : End) → o.«end» ≡ e → IsOnKey key o
     go o i (Returned t r) q = inr (at o i (Some (record { at = t; reply = r })) (ap (call_with o.number o.op) q))
@@ -82,7 +83,8 @@ start_piece ops from at first s =
       one_key = on_key_each ops (key_of o.0.op) (subst (λ (op : AnyOp). All (λ e. key_of e.op ≡ key_of op) (calls_of ops)) k.1 s.one_key);
     }
 
-pub start_from : (ops : List Invocation) (o : Invocation) (at : ℕ) (reply : AnyReply) (first : Option (AnyOp × AnyReply)) → Contains ops o → o.«end» ≡ Returned at reply → leaves o.op reply ≡ Some first → All (IsOnKey (key_of o.op)) ops → IsStart (calls_of ops) o.number at first
+pub start_from : (ops : List Invocation) (o : Invocation) (at : ℕ) (reply : AnyReply) (first : Option (AnyOp × AnyReply)) → Contains ops o
+    → o.«end» ≡ Returned at reply → leaves o.op reply ≡ Some first → All (IsOnKey (key_of o.op)) ops → IsStart (calls_of ops) o.number at first
 start_from ops o at reply first stands ended told on =
     let c : Call = record { number = o.number; op = o.op; returned = Some (record { at = at; reply = reply }) } in
     record {
@@ -92,7 +94,8 @@ start_from ops o at reply first stands ended told on =
       reply = reply;
       returned = refl;
       told = told;
-      one_key = all_calls (λ number op returned. key_of op ≡ key_of o.op) ops (λ w i c e. elim (all_at (IsOnKey (key_of o.op)) ops on w i) [ inl f ↦ absurd (gone w.number w.op w.«end» c f e) | inr k ↦ k ]);
+      one_key = all_calls (λ number op returned. key_of op ≡ key_of o.op) ops
+          (λ w i c e. elim (all_at (IsOnKey (key_of o.op)) ops on w i) [ inl f ↦ absurd (gone w.number w.op w.«end» c f e) | inr k ↦ k ]);
     }
   where
     gone : (number : ℕ) (op : AnyOp) (e : End) (c : Call) → has_failed e ≡ true → call_with number op e ≡ Some c → ⊥
@@ -138,14 +141,16 @@ later_is first at o = whole (nat_lt at o.number)
     whole true = record { number = refl; kind = refl; returned = λ when reply e. (reply, e) }
     whole false = ended o.«end» refl
 
-piece_is : (h : ObjectCalls) (from at : ℕ) (first : Option (AnyOp × AnyReply)) (reply : AnyReply) → IsObjectHistory h → IsStartPiece h.ops from at first reply → (o p : Invocation) → In o h.ops → piece_from from at first o ≡ Some p → IsPiece o p
+piece_is : (h : ObjectCalls) (from at : ℕ) (first : Option (AnyOp × AnyReply)) (reply : AnyReply) → IsObjectHistory h
+    → IsStartPiece h.ops from at first reply → (o p : Invocation) → In o h.ops → piece_from from at first o ≡ Some p → IsPiece o p
 piece_is h from at first said is s o p i e = failed (has_failed o.«end») e
   where
     begins : (f : Option (AnyOp × AnyReply)) → first ≡ f → o.number ≡ from → option_map (returned_piece from at) f ≡ Some p → IsPiece o p
     begins None q n e = absurd (cc e)
     begins (Some x) q n e =
         let own = one_number (λ (z : Invocation). z.number) o s.operation h.ops (pairs_from_all (λ a b. a.number < b.number) h.ops is.rising) i s.known (n ∙ sym s.number) in
-        let k = subst (λ (z : Option (Option (AnyOp × AnyReply))). IfSome z (λ f. IfSome f (λ p. kind_of p.0 ≡ kind_of s.operation.op))) (s.told ∙ ap (λ (z : Option (AnyOp × AnyReply)). Some z) q) (leaves_kind s.operation.op said) in
+        let k = subst (λ (z : Option (Option (AnyOp × AnyReply))). IfSome z (λ f. IfSome f (λ p. kind_of p.0 ≡ kind_of s.operation.op)))
+        (s.told ∙ ap (λ (z : Option (AnyOp × AnyReply)). Some z) q) (leaves_kind s.operation.op said) in
         let piece : IsPiece o (returned_piece from at x) = record {
           number = sym n;
           kind = k ∙ ap (λ (z : Invocation). kind_of z.op) (sym own);
@@ -181,7 +186,8 @@ piece_call from at first o = go (has_failed o.«end») refl
     begins None = refl
     begins (Some x) = refl
 
-    with_value : (number at : ℕ) (op : AnyOp) (v : Option ℤ) → call_of (option_map_or (write_piece number at) v (pending_piece number op)) ≡ Some (option_map_or (write_call number at) v (pending_call number op))
+    with_value : (number at : ℕ) (op : AnyOp) (v : Option ℤ)
+        → call_of (option_map_or (write_piece number at) v (pending_piece number op)) ≡ Some (option_map_or (write_call number at) v (pending_call number op))
     with_value number at op None = refl
     with_value number at op (Some v) = refl
 
@@ -195,7 +201,8 @@ piece_call from at first o = go (has_failed o.«end») refl
     overlaps Pending = refl
     overlaps Failed = refl
 
-    late : (b : Bool) → has_failed o.«end» ≡ false → call_of (cond b o (overlapping_piece first o.number o.op o.«end»)) ≡ Some (cond b (as_call o) (overlapping first o.number o.op (return_of o.«end»)))
+    late : (b : Bool) → has_failed o.«end» ≡ false
+        → call_of (cond b o (overlapping_piece first o.number o.op o.«end»)) ≡ Some (cond b (as_call o) (overlapping first o.number o.op (return_of o.«end»)))
     late true q = did o.«end» q
     late false q = overlaps o.«end»
 
@@ -208,7 +215,9 @@ piece_call from at first o = go (has_failed o.«end») refl
     kept true q = refl
     kept false q = late (nat_lt at o.number) q
 
-    own : (b : Bool) → has_failed o.«end» ≡ false → bind (cond b (option_map (returned_piece from at) first) (cond (is_over from o.«end») None (Some (piece_later first at o)))) call_of ≡ cond b (option_map (returned_call from at) first) (cond (ended_before from (return_of o.«end»)) None (Some (call_later first at (as_call o))))
+    own : (b : Bool) → has_failed o.«end» ≡ false
+        → bind (cond b (option_map (returned_piece from at) first) (cond (is_over from o.«end») None (Some (piece_later first at o)))) call_of
+        ≡ cond b (option_map (returned_call from at) first) (cond (ended_before from (return_of o.«end»)) None (Some (call_later first at (as_call o))))
     own true q = begins first
     own false q = kept (is_over from o.«end») q ∙ ap (λ b. cond b None (Some (call_later first at (as_call o)))) (over o.«end»)
 
@@ -217,17 +226,21 @@ piece_call from at first o = go (has_failed o.«end») refl
     failed Pending q = absurd (cc q)
     failed Failed q = refl
 
-    go : (b : Bool) → has_failed o.«end» ≡ b → bind (cond b None (cond (o.number == from) (option_map (returned_piece from at) first) (cond (is_over from o.«end») None (Some (piece_later first at o))))) call_of ≡ bind (call_of o) (call_from from at first)
+    go : (b : Bool) → has_failed o.«end» ≡ b
+        → bind (cond b None (cond (o.number == from) (option_map (returned_piece from at) first)
+        (cond (is_over from o.«end») None (Some (piece_later first at o))))) call_of ≡ bind (call_of o) (call_from from at first)
     go true q = ap (λ (z : Option Call). bind z (call_from from at first)) (sym (failed o.«end» q))
     go false q = own (o.number == from) q ∙ ap (λ (z : Option Call). bind z (call_from from at first)) (sym (did o.«end» q))
 
-pub from_history : (h : ObjectCalls) (from at : ℕ) (first : Option (AnyOp × AnyReply)) → IsObjectHistory h → IsStart (calls_of h.ops) from at first → IsObjectHistory (record { object = h.object; kind = h.kind; ops = filter_map (piece_from from at first) h.ops })
+pub from_history : (h : ObjectCalls) (from at : ℕ) (first : Option (AnyOp × AnyReply)) → IsObjectHistory h → IsStart (calls_of h.ops) from at first
+    → IsObjectHistory (record { object = h.object; kind = h.kind; ops = filter_map (piece_from from at first) h.ops })
 from_history h from at first is s = pieces_history h.object h.kind h.ops (piece_from from at first) (piece_is h from at first s.reply is (start_piece h.ops from at first s)) is
 
 pub from_calls : (from at : ℕ) (first : Option (AnyOp × AnyReply)) (ops : List Invocation) → calls_of (filter_map (piece_from from at first) ops) ≡ calls_from from at first (calls_of ops)
 from_calls from at first ops = pieces_calls (piece_from from at first) (call_from from at first) ops (piece_call from at first)
 
-pub from_shows : (h : ObjectCalls) (from at : ℕ) (first : Option (AnyOp × AnyReply)) → IsObjectHistory h → IsStart (calls_of h.ops) from at first → IsPart h (record { object = h.object; kind = h.kind; ops = filter_map (piece_from from at first) h.ops })
+pub from_shows : (h : ObjectCalls) (from at : ℕ) (first : Option (AnyOp × AnyReply)) → IsObjectHistory h → IsStart (calls_of h.ops) from at first
+    → IsPart h (record { object = h.object; kind = h.kind; ops = filter_map (piece_from from at first) h.ops })
 from_shows h from at first is s = record {
   object = refl;
   shows = λ none order v.

@@ -13,7 +13,8 @@ use Rattle.projection.proofs.Overlaps.{IsTimed, in_time}
 -- The step in the part, where the whole comes to `after`: a call that is left out, or is pending, may be none.
 abbrev pub StepOf : (Content → Content → Type 0) → Option Call → Content → Content → Type 0
 StepOf R None d after = R after d
-StepOf R (Some f) d after = ((f.returned ≡ None) × R after d) ⊎ ((behind : Content) × (reply : AnyReply) × (next d f.op ≡ Some (behind, reply)) × IfSome f.returned (λ r. r.reply ≡ reply) × R after behind)
+StepOf R (Some f) d after = ((f.returned ≡ None) × R after d)
+    ⊎ ((behind : Content) × (reply : AnyReply) × (next d f.op ≡ Some (behind, reply)) × IfSome f.returned (λ r. r.reply ≡ reply) × R after behind)
 
 pub record Maps (R : Content → Content → Type 0) (cut : Call → Option Call) : Type 0 where
   pub own : (y x : Call) → cut y ≡ Some x → IsTimed x y
@@ -54,7 +55,8 @@ picked R cut m (e ∷ es) c d r h = go (λ b s. picked R cut m es h.0 b s h.4) (
     ]
 
 -- what becomes of the calls has a valid order where they have one, maybe as calls of another kind
-pub mapped_valid : (R : Content → Content → Type 0) (cut : Call → Option Call) (calls : List Call) (kind into : Kind) → Maps R cut → R (empty kind) (empty into) → (order : List ℤ) → IsValidOrder kind calls order → (part : List ℤ) × IsValidOrder into (filter_map cut calls) part
+pub mapped_valid : (R : Content → Content → Type 0) (cut : Call → Option Call) (calls : List Call) (kind into : Kind) → Maps R cut
+    → R (empty kind) (empty into) → (order : List ℤ) → IsValidOrder kind calls order → (part : List ℤ) × IsValidOrder into (filter_map cut calls) part
 mapped_valid R cut calls kind into m start order v =
     let number : Call → ℤ = λ e. pos e.number in
     let known : (e : Call) → In e v.entries → In e calls = λ e i. in_from_contains calls e (all_at (Contains calls) v.entries v.known e i) in
@@ -70,12 +72,18 @@ mapped_valid R cut calls kind into m start order v =
         known = all_from_in (Contains (filter_map cut calls)) entries (λ x i.
             let y = in_filter_map cut x v.entries (in_pick p.flags all x i) in
             contains_from_in (filter_map cut calls) x (in_filter_map_from cut y.0 x calls (known y.0 y.1) y.2));
-        once = all_from_pairs (λ x y. x ≢ y) (map number entries) (pairs_map (λ x y. x ≢ y) number entries (pairs_pick (λ x y. number x ≢ number y) p.flags all (pairs_filter_map (λ x y. number x ≢ number y) (λ x y. number x ≢ number y) cut v.entries (λ x y a b i j ne f g q. ne (ap pos (sym (m.own x a f).number) ∙ q ∙ ap pos (m.own y b g).number)) apart)));
+        once = all_from_pairs (λ x y. x ≢ y) (map number entries)
+            (pairs_map (λ x y. x ≢ y) number entries
+            (pairs_pick (λ x y. number x ≢ number y) p.flags all
+            (pairs_filter_map (λ x y. number x ≢ number y) (λ x y. number x ≢ number y) cut v.entries
+            (λ x y a b i j ne f g q. ne (ap pos (sym (m.own x a f).number) ∙ q ∙ ap pos (m.own y b g).number)) apart)));
         whole = all_from_in (λ x. IsSome x.returned → Contains entries x) (filter_map cut calls) (λ x i so.
             let y = in_filter_map cut x calls i in
             let here = in_from_contains v.entries y.0 (all_at (λ e. IsSome e.returned → Contains v.entries e) calls v.whole y.0 y.1 (was x.returned y.0.returned (m.own y.0 x y.2).returned so)) in
             contains_from_in entries x (p.whole x (in_filter_map_from cut y.0 x v.entries here y.2) so));
-        in_order = all_from_pairs (λ x y. ReturnsBefore y x → ⊥) entries (pairs_pick (λ x y. ReturnsBefore y x → ⊥) p.flags all (pairs_filter_map (λ x y. ReturnsBefore y x → ⊥) (λ x y. ReturnsBefore y x → ⊥) cut v.entries (λ x y a b i j h f g. in_time a b x y (m.own x a f) (m.own y b g) h) in_order));
+        in_order = all_from_pairs (λ x y. ReturnsBefore y x → ⊥) entries
+            (pairs_pick (λ x y. ReturnsBefore y x → ⊥) p.flags all
+            (pairs_filter_map (λ x y. ReturnsBefore y x → ⊥) (λ x y. ReturnsBefore y x → ⊥) cut v.entries (λ x y a b i j h f g. in_time a b x y (m.own x a f) (m.own y b g) h) in_order));
         replies = p.replies;
       },
     )

@@ -13,7 +13,9 @@ use Rattle.projection.specs.Cuts.{IsSuffix, Names, NamesPart, kind_cut, part_kin
 use Rattle.projection.proofs.Later.{one_suffix}
 
 -- a suffix that was cut out is the one that the cut names
-pub from_one : (cut : Cut) (number : ℕ) (calls : List Call) (cut_out : Result (Option ObjectCalls) AllocError) → cut ≡ From number → Pairs (λ x y. x.number < y.number) calls → IfOk cut_out (λ o. IfSome o (λ p. IsSuffix number calls (calls_of p.ops))) → IfOk cut_out (λ o. IfSome o (λ p. (part : List Call) → Names cut calls part → part ≡ calls_of p.ops))
+pub from_one : (cut : Cut) (number : ℕ) (calls : List Call) (cut_out : Result (Option ObjectCalls) AllocError) → cut ≡ From number
+    → Pairs (λ x y. x.number < y.number) calls → IfOk cut_out (λ o. IfSome o (λ p. IsSuffix number calls (calls_of p.ops)))
+    → IfOk cut_out (λ o. IfSome o (λ p. (part : List Call) → Names cut calls part → part ≡ calls_of p.ops))
 from_one cut number calls (Ok None) e rising h = tt
 from_one cut number calls (Ok (Some p)) e rising h = λ part named. one_suffix number calls part (calls_of p.ops) rising (subst (λ (z : Cut). Names z calls part) e named) h
 from_one cut number calls (Err x) e rising h = tt
@@ -29,7 +31,8 @@ not_cut cuts whole = record { names = λ part h. h; only = λ part h. h }
 left : (cuts : List Cut) (i : ℕ) (d : Cut) → i < length cuts → drop i cuts ≡ get_or cuts i d ∷ drop (i + 1) cuts
 left cuts i d lt = let e : suc i ≡ i + 1 = omega arith in drop-cons cuts i d lt ∙ ap (λ (n : ℕ). get_or cuts i d ∷ drop n cuts) e
 
-pub cut_further : (cuts : List Cut) (i : ℕ) (d : Cut) (whole now next : List Call) → i < length cuts → IsCutSoFar cuts i whole now → Names (get_or cuts i d) now next → ((part : List Call) → Names (get_or cuts i d) now part → part ≡ next) → IsCutSoFar cuts (i + 1) whole next
+pub cut_further : (cuts : List Cut) (i : ℕ) (d : Cut) (whole now next : List Call) → i < length cuts → IsCutSoFar cuts i whole now
+    → Names (get_or cuts i d) now next → ((part : List Call) → Names (get_or cuts i d) now part → part ≡ next) → IsCutSoFar cuts (i + 1) whole next
 cut_further cuts i d whole now next lt h named one = record {
   names = λ part k. h.names part (subst (λ (cs : List Cut). NamesPart cs now part) (sym split) (next, named, k));
   only = λ part k.
@@ -40,7 +43,8 @@ cut_further cuts i d whole now next lt h named one = record {
     split : drop i cuts ≡ get_or cuts i d ∷ drop (i + 1) cuts
     split = left cuts i d lt
 
-pub none_left : (cuts : List Cut) (i : ℕ) (d : Cut) (whole now : List Call) → i < length cuts → IsCutSoFar cuts i whole now → ((part : List Call) → Names (get_or cuts i d) now part → ⊥) → (part : List Call) → NamesPart cuts whole part → ⊥
+pub none_left : (cuts : List Cut) (i : ℕ) (d : Cut) (whole now : List Call) → i < length cuts → IsCutSoFar cuts i whole now
+    → ((part : List Call) → Names (get_or cuts i d) now part → ⊥) → (part : List Call) → NamesPart cuts whole part → ⊥
 none_left cuts i d whole now lt h none part k = let r = subst (λ (cs : List Cut). NamesPart cs now part) (left cuts i d lt) (h.only part k) in none r.0 r.1
 
 pub all_cut : (cuts : List Cut) (whole now : List Call) → IsCutSoFar cuts (length cuts) whole now → NamesPart cuts whole now
@@ -50,7 +54,8 @@ all_cut cuts whole now h = h.names now (subst (λ (cs : List Cut). NamesPart cs 
 abbrev pub IsKindSoFar : List Cut → ℕ → Kind → Kind → Type 0
 IsKindSoFar cuts i whole now = part_kind cuts whole ≡ part_kind (drop i cuts) now
 
-pub kind_further : (cuts : List Cut) (i : ℕ) (d : Cut) (whole now next : Kind) → i < length cuts → IsKindSoFar cuts i whole now → next ≡ kind_cut (get_or cuts i d) now → IsKindSoFar cuts (i + 1) whole next
+pub kind_further : (cuts : List Cut) (i : ℕ) (d : Cut) (whole now next : Kind) → i < length cuts → IsKindSoFar cuts i whole now
+    → next ≡ kind_cut (get_or cuts i d) now → IsKindSoFar cuts (i + 1) whole next
 kind_further cuts i d whole now next lt h e = h ∙ ap (λ (cs : List Cut). part_kind cs now) (left cuts i d lt) ∙ ap (part_kind (drop (i + 1) cuts)) (sym e)
 
 pub kind_cut_all : (cuts : List Cut) (whole now : Kind) → IsKindSoFar cuts (length cuts) whole now → now ≡ part_kind cuts whole

@@ -38,7 +38,8 @@ wrote (register c) (Write w) = λ v e. ap (λ (z : ℤ). next (register c) (Writ
 wrote (register c) Read = λ v e. absurd (cc e)
 wrote (register c) (Cas a b) = go (contains_value c a)
   where
-    go : (t : Bool) → IfSome {T = Content × AnyReply} (cond t (Some (register (Some b), Swapped a b)) (Some (register c, NotSwapped))) (λ p. (v : ℤ) → written (Cas a b) p.1 ≡ Some v → next (register c) (Write v) ≡ Some (p.0, Value (Some v)))
+    go : (t : Bool) → IfSome {T = Content × AnyReply} (cond t (Some (register (Some b), Swapped a b)) (Some (register c, NotSwapped)))
+        (λ p. (v : ℤ) → written (Cas a b) p.1 ≡ Some v → next (register c) (Write v) ≡ Some (p.0, Value (Some v)))
     go true = λ v e. ap (λ (z : ℤ). next (register c) (Write z)) (sym (same_Some b v e)) ∙ ap (λ (z : ℤ). Some (register (Some b), Value (Some z))) (same_Some b v e)
     go false = λ v e. absurd (cc e)
 wrote (queue vs) (Enqueue v) = λ w e. absurd (cc e)
@@ -65,10 +66,16 @@ Done c after e = (reply : AnyReply) × (next c e.op ≡ Some (after, reply)) × 
 step_later : (first : Option (AnyOp × AnyReply)) (at : ℕ) (e : Call) (c after : Content) → Done c after e → Done c after (call_later first at e)
 step_later first at e c after h = whole (nat_lt at e.number)
   where
-    with_value : (f : Option (AnyOp × AnyReply)) (r : Return) → r.reply ≡ h.0 → (o : Option ℤ) → written_before f e.op r.reply ≡ o → Done c after (option_map_or (write_call e.number r.at) o (pending_call e.number e.op))
+    with_value : (f : Option (AnyOp × AnyReply)) (r : Return) → r.reply ≡ h.0 → (o : Option ℤ) → written_before f e.op r.reply ≡ o
+        → Done c after (option_map_or (write_call e.number r.at) o (pending_call e.number e.op))
     with_value None r a (Some v) q = absurd (cc q)
     with_value f r a None q = (h.0, h.1, tt)
-    with_value (Some p) r a (Some v) q = (Value (Some v), subst (λ (z : Option (Content × AnyReply)). IfSome z (λ p. (v : ℤ) → written e.op p.1 ≡ Some v → next c (Write v) ≡ Some (p.0, Value (Some v)))) h.1 (wrote c e.op) v (ap (written e.op) (sym a) ∙ q), refl)
+    with_value (Some p) r a (Some v) q = (
+      Value (Some v),
+      subst (λ (z : Option (Content × AnyReply)). IfSome z
+          (λ p. (v : ℤ) → written e.op p.1 ≡ Some v → next c (Write v) ≡ Some (p.0, Value (Some v)))) h.1 (wrote c e.op) v (ap (written e.op) (sym a) ∙ q),
+      refl,
+    )
 
     returned : (o : Option Return) → IfSome o (λ r. r.reply ≡ h.0) → Done c after (overlapping first e.number e.op o)
     returned None a = (h.0, h.1, tt)
@@ -154,13 +161,15 @@ front_facts from at first y x e = over (ended_before from y.returned) refl e
     began None r v q n = absurd (cc q)
     began (Some p) r v q n = absurd (cc n)
 
-    with_value : (r : Return) → y.returned ≡ Some r → ended_before from y.returned ≡ false → nat_lt at y.number ≡ false → (o : Option ℤ) → written_before first y.op r.reply ≡ o → option_map (write_call y.number r.at) o ≡ Some x → IsFront from at first y x
+    with_value : (r : Return) → y.returned ≡ Some r → ended_before from y.returned ≡ false → nat_lt at y.number ≡ false → (o : Option ℤ)
+        → written_before first y.op r.reply ≡ o → option_map (write_call y.number r.at) o ≡ Some x → IsFront from at first y x
     with_value r q n l None w e = absurd (cc e)
     with_value r q n l (Some v) w e =
         let here = same_Some (write_call y.number r.at v) x e in
         record {
           not_over = n;
-          is_later = ap (λ b. cond b y (overlapping first y.number y.op y.returned)) l ∙ ap (overlapping first y.number y.op) q ∙ ap (λ (o : Option ℤ). option_map_or (write_call y.number r.at) o (pending_call y.number y.op)) w ∙ here;
+          is_later = ap (λ b. cond b y (overlapping first y.number y.op y.returned)) l ∙ ap (overlapping first y.number y.op) q
+              ∙ ap (λ (o : Option ℤ). option_map_or (write_call y.number r.at) o (pending_call y.number y.op)) w ∙ here;
           began = began first r v w;
           kind = (before_facts first y.op r.reply v w).1;
           when = r.at;
@@ -193,7 +202,8 @@ late_facts from at first y so = whole (nat_lt at y.number) refl so
     some_of None s = absurd (cc s)
     some_of (Some r) s = (r, refl)
 
-    with_value : (r : Return) → y.returned ≡ Some r → nat_lt at y.number ≡ false → (o : Option ℤ) → written_before first y.op r.reply ≡ o → IsSome (option_map_or (write_call y.number r.at) o (pending_call y.number y.op)).returned → Late from at first y
+    with_value : (r : Return) → y.returned ≡ Some r → nat_lt at y.number ≡ false → (o : Option ℤ) → written_before first y.op r.reply ≡ o
+        → IsSome (option_map_or (write_call y.number r.at) o (pending_call y.number y.op)).returned → Late from at first y
     with_value r q l None w so = absurd (cc so)
     with_value r q l (Some v) w so = record {
       return = r;
@@ -202,7 +212,8 @@ late_facts from at first y so = whole (nat_lt at y.number) refl so
           ap (λ b. cond b None (cond (nat_lt at y.number) None (front_written first y.number y.op y.returned))) n
           ∙ ap (λ b. cond b None (front_written first y.number y.op y.returned)) l
           ∙ ap (front_written first y.number y.op) q ∙ ap (option_map (write_call y.number r.at)) w
-          ∙ ap (λ (z : Call). Some z) (sym (ap (λ b. cond b y (overlapping first y.number y.op y.returned)) l ∙ ap (overlapping first y.number y.op) q ∙ ap (λ (o : Option ℤ). option_map_or (write_call y.number r.at) o (pending_call y.number y.op)) w)));
+          ∙ ap (λ (z : Call). Some z) (sym (ap (λ b. cond b y (overlapping first y.number y.op y.returned)) l ∙ ap (overlapping first y.number y.op) q
+          ∙ ap (λ (o : Option ℤ). option_map_or (write_call y.number r.at) o (pending_call y.number y.op)) w)));
     }
 
     returned : (o : Option Return) → y.returned ≡ o → nat_lt at y.number ≡ false → IsSome (overlapping first y.number y.op o).returned → Late from at first y
@@ -234,14 +245,17 @@ abbrev pub IsWrite : Call → Type 0
 IsWrite x = (number at : ℕ) × (v : ℤ) × (x ≡ write_call number at v)
 
 -- writes, and then one more, whatever the register contained
-writes_before : (ws : List Call) (c : Option ℤ) (from at : ℕ) (v : ℤ) (es : List Call) → ((x : Call) → In x ws → IsWrite x) → RepliesAlong (register (Some v)) es → RepliesAlong (register c) (ws ++ returned_call from at (Write v, Value (Some v)) ∷ es)
+writes_before : (ws : List Call) (c : Option ℤ) (from at : ℕ) (v : ℤ) (es : List Call) → ((x : Call) → In x ws → IsWrite x)
+    → RepliesAlong (register (Some v)) es → RepliesAlong (register c) (ws ++ returned_call from at (Write v, Value (Some v)) ∷ es)
 writes_before [] c from at v es f h = (register (Some v), Value (Some v), refl, refl, h)
 writes_before (x ∷ xs) c from at v es f h =
     let w = f x (inl refl) in
     subst (λ (z : Call). RepliesAlong (register c) (z ∷ xs ++ returned_call from at (Write v, Value (Some v)) ∷ es)) (sym w.3)
     (register (Some w.2), Value (Some w.2), refl, refl, writes_before xs (Some w.2) from at v es (λ y i. f y (inr i)) h)
 
-pub front_replies : (kind : Kind) (front : List Call) (from at : ℕ) (p : AnyOp × AnyReply) (d : Content) (es : List Call) → next (empty kind) p.0 ≡ Some (d, p.1) → ((x : Call) → In x front → IsWrite x × (kind ≡ Register)) → (kind ≡ Register → (v : ℤ) × (p ≡ (Write v, Value (Some v)))) → RepliesAlong d es → RepliesAlong (empty kind) (front ++ returned_call from at p ∷ es)
+pub front_replies : (kind : Kind) (front : List Call) (from at : ℕ) (p : AnyOp × AnyReply) (d : Content) (es : List Call)
+    → next (empty kind) p.0 ≡ Some (d, p.1) → ((x : Call) → In x front → IsWrite x × (kind ≡ Register))
+    → (kind ≡ Register → (v : ℤ) × (p ≡ (Write v, Value (Some v)))) → RepliesAlong d es → RepliesAlong (empty kind) (front ++ returned_call from at p ∷ es)
 front_replies kind [] from at p d es does f g h = (d, p.1, does, refl, h)
 front_replies kind (x ∷ xs) from at p d es does f g h =
     let k = (f x (inl refl)).1 in

@@ -29,7 +29,8 @@ pub filter_map-filter : {X Y : Type 0} (p : X → Bool) (f : X → Y) (xs : List
 filter_map-filter p f [] = refl
 filter_map-filter {X} {Y} p f (x ∷ xs) = go (p x) (filter_map-filter p f xs)
   where
-    go : (b : Bool) → filter_map (λ x. cond (p x) (Some (f x)) None) xs ≡ map f (filter p xs) → cons_option (cond b (Some (f x)) None) (filter_map (λ x. cond (p x) (Some (f x)) None) xs) ≡ map f (cond b (x ∷ filter p xs) (filter p xs))
+    go : (b : Bool) → filter_map (λ x. cond (p x) (Some (f x)) None) xs ≡ map f (filter p xs)
+        → cons_option (cond b (Some (f x)) None) (filter_map (λ x. cond (p x) (Some (f x)) None) xs) ≡ map f (cond b (x ∷ filter p xs) (filter p xs))
     go true h = ap (λ (ys : List Y). f x ∷ ys) h
     go false h = h
 
@@ -50,34 +51,45 @@ pub record IsPieceOf (into : Kind) (o p : Invocation) : Type 0 where
   pub kind : kind_of p.op ≡ into
   pub returned : (at : ℕ) (reply : AnyReply) → p.«end» ≡ Returned at reply → (own : AnyReply) × (o.«end» ≡ Returned at own)
 
-pub pieces_into : (object : ℕ) (kind into : Kind) (ops : List Invocation) (piece : Invocation → Option Invocation) → ((o p : Invocation) → In o ops → piece o ≡ Some p → IsPieceOf into o p) → IsObjectHistory (record { object = object; kind = kind; ops = ops }) → IsObjectHistory (record { object = object; kind = into; ops = filter_map piece ops })
+pub pieces_into : (object : ℕ) (kind into : Kind) (ops : List Invocation) (piece : Invocation → Option Invocation)
+    → ((o p : Invocation) → In o ops → piece o ≡ Some p → IsPieceOf into o p) → IsObjectHistory (record { object = object; kind = kind; ops = ops })
+    → IsObjectHistory (record { object = object; kind = into; ops = filter_map piece ops })
 pieces_into object kind into ops piece is h = record {
-  rising = all_from_pairs (λ a b. a.number < b.number) (filter_map piece ops) (pairs_filter_map (λ a b. a.number < b.number) (λ a b. a.number < b.number) piece ops (λ x y a b i j l e f. less x.number y.number a.number b.number l (is x a i e).number (is y b j f).number) (pairs_from_all (λ a b. a.number < b.number) ops h.rising));
+  rising = all_from_pairs (λ a b. a.number < b.number) (filter_map piece ops)
+      (pairs_filter_map (λ a b. a.number < b.number) (λ a b. a.number < b.number) piece ops
+      (λ x y a b i j l e f. less x.number y.number a.number b.number l (is x a i e).number (is y b j f).number) (pairs_from_all (λ a b. a.number < b.number) ops h.rising));
   of_kind = all_from_in (λ o. kind_of o.op ≡ into) (filter_map piece ops) (λ p i. let o = in_filter_map piece p ops i in (is o.0 p o.1 o.2).kind);
   ends = all_from_in (λ o. EndsAfter o.number (filter_map piece ops) o.«end») (filter_map piece ops) (λ p i.
       let o = in_filter_map piece p ops i in
       let own = is o.0 p o.1 o.2 in
       go p.number p.«end» (λ at reply e.
       let t = own.returned at reply e in
-      let u = subst (EndsAfter o.0.number ops) t.1 (all_at (λ o. EndsAfter o.number ops o.«end») ops h.ends o.0 o.1) in
-      (subst (λ n. n < at) (sym own.number) u.0, all_from_in (λ o. o.number ≡ at → ⊥) (filter_map piece ops) (λ q j e. let w = in_filter_map piece q ops j in all_at (λ o. o.number ≡ at → ⊥) ops u.1 w.0 w.1 (sym (is w.0 q w.1 w.2).number ∙ e)))));
+      let u = subst (EndsAfter o.0.number ops) t.1 (all_at (λ o. EndsAfter o.number ops o.«end») ops h.ends o.0 o.1) in (
+        subst (λ n. n < at) (sym own.number) u.0,
+        all_from_in (λ o. o.number ≡ at → ⊥) (filter_map piece ops) (λ q j e. let w = in_filter_map piece q ops j in
+            all_at (λ o. o.number ≡ at → ⊥) ops u.1 w.0 w.1 (sym (is w.0 q w.1 w.2).number ∙ e)),
+      )));
 }
   where
     less : (a b c d : ℕ) → a < b → c ≡ a → d ≡ b → c < d
     less a b c d l e f = omega arith
 
-    go : (number : ℕ) (e : End) → ((at : ℕ) (reply : AnyReply) → e ≡ Returned at reply → (number < at) × All (λ o. o.number ≡ at → ⊥) (filter_map piece ops)) → EndsAfter number (filter_map piece ops) e
+    go : (number : ℕ) (e : End) → ((at : ℕ) (reply : AnyReply) → e ≡ Returned at reply → (number < at)
+        × All (λ o. o.number ≡ at → ⊥) (filter_map piece ops)) → EndsAfter number (filter_map piece ops) e
     go number (Returned at reply) f = f at reply refl
     go number Pending f = tt
     go number Failed f = tt
 
-pub pieces_history : (object : ℕ) (kind : Kind) (ops : List Invocation) (piece : Invocation → Option Invocation) → ((o p : Invocation) → In o ops → piece o ≡ Some p → IsPiece o p) → IsObjectHistory (record { object = object; kind = kind; ops = ops }) → IsObjectHistory (record { object = object; kind = kind; ops = filter_map piece ops })
+pub pieces_history : (object : ℕ) (kind : Kind) (ops : List Invocation) (piece : Invocation → Option Invocation)
+    → ((o p : Invocation) → In o ops → piece o ≡ Some p → IsPiece o p) → IsObjectHistory (record { object = object; kind = kind; ops = ops })
+    → IsObjectHistory (record { object = object; kind = kind; ops = filter_map piece ops })
 pieces_history object kind ops piece is h =
     pieces_into object kind kind ops piece (λ o p i e.
     let q = is o p i e in
     record { number = q.number; kind = q.kind ∙ all_at (λ o. kind_of o.op ≡ kind) ops h.of_kind o i; returned = q.returned }) h
 
-pub pieces_calls : (piece : Invocation → Option Invocation) (part : Call → Option Call) (ops : List Invocation) → ((o : Invocation) → bind (piece o) call_of ≡ bind (call_of o) part) → calls_of (filter_map piece ops) ≡ filter_map part (calls_of ops)
+pub pieces_calls : (piece : Invocation → Option Invocation) (part : Call → Option Call) (ops : List Invocation)
+    → ((o : Invocation) → bind (piece o) call_of ≡ bind (call_of o) part) → calls_of (filter_map piece ops) ≡ filter_map part (calls_of ops)
 pieces_calls piece part [] f = refl
 pieces_calls piece part (o ∷ ops) f =
     filter_map-cons call_of (piece o) (filter_map piece ops)
@@ -96,12 +108,15 @@ call_cases o c e = go o.«end» e
     go Failed e = absurd (cc e)
 
 pub rising_calls : (ops : List Invocation) → AllPairs (λ a b. a.number < b.number) ops → AllPairs (λ a b. a.number < b.number) (calls_of ops)
-rising_calls ops h = all_from_pairs (λ a b. a.number < b.number) (calls_of ops) (pairs_filter_map (λ a b. a.number < b.number) (λ a b. a.number < b.number) call_of ops (λ x y a b i j l e f. less x.number y.number a.number b.number l (call_cases x a e).0 (call_cases y b f).0) (pairs_from_all (λ a b. a.number < b.number) ops h))
+rising_calls ops h = all_from_pairs (λ a b. a.number < b.number) (calls_of ops)
+    (pairs_filter_map (λ a b. a.number < b.number) (λ a b. a.number < b.number) call_of ops
+    (λ x y a b i j l e f. less x.number y.number a.number b.number l (call_cases x a e).0 (call_cases y b f).0) (pairs_from_all (λ a b. a.number < b.number) ops h))
   where
     less : (a b c d : ℕ) → a < b → c ≡ a → d ≡ b → c < d
     less a b c d l e f = omega arith
 
-pub calls_end : (object : ℕ) (kind : Kind) (ops : List Invocation) → IsObjectHistory (record { object = object; kind = kind; ops = ops }) → All (λ e. (r : Return) → e.returned ≡ Some r → e.number < r.at) (calls_of ops)
+pub calls_end : (object : ℕ) (kind : Kind) (ops : List Invocation) → IsObjectHistory (record { object = object; kind = kind; ops = ops })
+    → All (λ e. (r : Return) → e.returned ≡ Some r → e.number < r.at) (calls_of ops)
 calls_end object kind ops h = all_from_in (λ e. (r : Return) → e.returned ≡ Some r → e.number < r.at) (calls_of ops) (λ c i r q.
     let o = in_filter_map call_of c ops i in
     let k = call_cases o.0 c o.2 in
@@ -113,13 +128,15 @@ calls_end object kind ops h = all_from_in (λ e. (r : Return) → e.returned ≡
     go number Failed r h q = absurd (cc q)
 
 -- what holds of each operation holds of each call
-pub all_calls : (P : ℕ → AnyOp → Option Return → Type 0) (ops : List Invocation) → ((o : Invocation) → In o ops → (c : Call) → call_of o ≡ Some c → P o.number o.op (return_of o.«end»)) → All (λ e. P e.number e.op e.returned) (calls_of ops)
+pub all_calls : (P : ℕ → AnyOp → Option Return → Type 0) (ops : List Invocation)
+    → ((o : Invocation) → In o ops → (c : Call) → call_of o ≡ Some c → P o.number o.op (return_of o.«end»)) → All (λ e. P e.number e.op e.returned) (calls_of ops)
 all_calls P ops f = all_from_in (λ e. P e.number e.op e.returned) (calls_of ops) (λ c i.
     let o = in_filter_map call_of c ops i in
     let k = call_cases o.0 c o.2 in
     subst (λ n. P n c.op c.returned) (sym k.0) (subst (λ op. P o.0.number op c.returned) (sym k.1) (subst (P o.0.number o.0.op) (sym k.2) (f o.0 o.1 c o.2))))
 
-pub same_history : {a b : ℕ} {k l : Kind} {xs ys : List Invocation} → a ≡ b → k ≡ l → xs ≡ ys → ◌≡◌ {A = ObjectCalls} (record { object = a; kind = k; ops = xs }) (record { object = b; kind = l; ops = ys })
+pub same_history : {a b : ℕ} {k l : Kind} {xs ys : List Invocation} → a ≡ b → k ≡ l → xs ≡ ys
+    → ◌≡◌ {A = ObjectCalls} (record { object = a; kind = k; ops = xs }) (record { object = b; kind = l; ops = ys })
 same_history e f g = λ i. record { object = e i; kind = f i; ops = g i }
 
 -- a part of a part is a part

@@ -63,7 +63,8 @@ recast_timed done pending y x e = go y.returned refl e
     go None q e = unfinished (pending y.op) e
     go (Some r) q e = finished r q (done y.op r.reply) e
 
-pub recast_maps : (R : Content → Content → Type 0) (done : Done) (pending : Open) (kept : ℕ → Bool) → IsRecast R done pending → Maps R (λ e. recast (done (kept e.number)) pending e.number e.op e.returned)
+pub recast_maps : (R : Content → Content → Type 0) (done : Done) (pending : Open) (kept : ℕ → Bool) → IsRecast R done pending
+    → Maps R (λ e. recast (done (kept e.number)) pending e.number e.op e.returned)
 recast_maps R done pending kept is = record {
   own = λ y x e. recast_timed (done (kept y.number)) pending y x e;
   step = λ e c d after reply s does agrees. go e after d (subst (λ z. IfSome z (λ p. Steps R done pending e.op d p.0 p.1)) does (is.step c d e.op s)) e.returned agrees;
@@ -77,9 +78,11 @@ recast_maps R done pending kept is = record {
     unfinished number d after None s = s
     unfinished number d after (Some op) s = elim s [ inl skip ↦ inl (refl, skip) | inr take ↦ inr (take.0, take.1, take.2, tt, take.3) ]
 
-    go : (e : Call) (after d : Content) {reply : AnyReply} → Steps R done pending e.op d after reply → (o : Option Return) → IfSome o (λ r. r.reply ≡ reply) → StepOf R (recast (done (kept e.number)) pending e.number e.op o) d after
+    go : (e : Call) (after d : Content) {reply : AnyReply} → Steps R done pending e.op d after reply → (o : Option Return)
+        → IfSome o (λ r. r.reply ≡ reply) → StepOf R (recast (done (kept e.number)) pending e.number e.op o) d after
     go e after d s None a = unfinished e.number d after (pending e.op) s.unfinished
-    go e after d s (Some r) a = finished e.number r.at d after (done (kept e.number) e.op r.reply) (subst (λ (z : AnyReply). DoneOf R (done (kept e.number) e.op z) d after) (sym a) (s.returned (kept e.number)))
+    go e after d s (Some r) a = finished e.number r.at d after (done (kept e.number) e.op r.reply)
+        (subst (λ (z : AnyReply). DoneOf R (done (kept e.number) e.op z) d after) (sym a) (s.returned (kept e.number)))
 
 -- ---- operations
 
@@ -88,12 +91,15 @@ pub record IsInto (done : Done) (pending : Open) (into : AnyOp → Kind) : Type 
   pub returned : (kept : Bool) (op : AnyOp) (reply : AnyReply) → IfSome (done kept op reply) (λ f. kind_of f.0 ≡ into op)
   pub unfinished : (op : AnyOp) → IfSome (pending op) (λ f. kind_of f ≡ into op)
 
-pub recast_piece : (done : Done) (pending : Open) (into : AnyOp → Kind) → IsInto done pending into → (kept : Bool) (o p : Invocation) → recast_end (done kept) pending o.number o.op o.«end» ≡ Some p → IsPieceOf (into o.op) o p
+pub recast_piece : (done : Done) (pending : Open) (into : AnyOp → Kind) → IsInto done pending into → (kept : Bool) (o p : Invocation)
+    → recast_end (done kept) pending o.number o.op o.«end» ≡ Some p → IsPieceOf (into o.op) o p
 recast_piece done pending into is kept o p e = go o.«end» refl e
   where
-    finished : (at : ℕ) (r : AnyReply) → o.«end» ≡ Returned at r → (f : Option (AnyOp × AnyReply)) → IfSome f (λ f. kind_of f.0 ≡ into o.op) → option_map (returned_piece o.number at) f ≡ Some p → IsPieceOf (into o.op) o p
+    finished : (at : ℕ) (r : AnyReply) → o.«end» ≡ Returned at r → (f : Option (AnyOp × AnyReply)) → IfSome f (λ f. kind_of f.0 ≡ into o.op)
+        → option_map (returned_piece o.number at) f ≡ Some p → IsPieceOf (into o.op) o p
     finished at r q None l e = absurd (cc e)
-    finished at r q (Some f) l e = subst (IsPieceOf (into o.op) o) (same_Some (returned_piece o.number at f) p e) (record { number = refl; kind = l; returned = λ when reply w. (r, q ∙ ap (λ (z : ℕ). Returned z r) (same_at at f.1 when reply w)) })
+    finished at r q (Some f) l e = subst (IsPieceOf (into o.op) o) (same_Some (returned_piece o.number at f) p e)
+        (record { number = refl; kind = l; returned = λ when reply w. (r, q ∙ ap (λ (z : ℕ). Returned z r) (same_at at f.1 when reply w)) })
       where
         same_at : (a : ℕ) (r : AnyReply) (b : ℕ) (t : AnyReply) → Returned a r ≡ Returned b t → a ≡ b
         same_at a r b t e = cc
@@ -107,7 +113,8 @@ recast_piece done pending into is kept o p e = go o.«end» refl e
     go Pending q e = unfinished (pending o.op) (is.unfinished o.op) e
     go Failed q e = absurd (cc e)
 
-pub recast_call : (done : Done) (pending : Open) (kept : ℕ → Bool) (o : Invocation) → bind (recast_end (done (kept o.number)) pending o.number o.op o.«end») call_of ≡ bind (call_of o) (λ e. recast (done (kept e.number)) pending e.number e.op e.returned)
+pub recast_call : (done : Done) (pending : Open) (kept : ℕ → Bool) (o : Invocation)
+    → bind (recast_end (done (kept o.number)) pending o.number o.op o.«end») call_of ≡ bind (call_of o) (λ e. recast (done (kept e.number)) pending e.number e.op e.returned)
 recast_call done pending kept o = go o.«end»
   where
     finished : (at : ℕ) (f : Option (AnyOp × AnyReply)) → bind (option_map (returned_piece o.number at) f) call_of ≡ option_map (returned_call o.number at) f

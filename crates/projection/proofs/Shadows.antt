@@ -104,7 +104,8 @@ steps keeps other (register x) (register y) (Write v) s = writes keeps other v y
 steps keeps other (register x) (register y) Read s = reads keeps other x y s
 steps keeps other (register x) (register y) (Cas a b) s = go (contains_value x a) refl
   where
-    go : (t : Bool) → contains_value x a ≡ t → IfSome {T = Content × AnyReply} (cond t (Some (register (Some b), Swapped a b)) (Some (register x, NotSwapped))) (λ p. CellSteps keeps other (Cas a b) (register y) p.0 p.1)
+    go : (t : Bool) → contains_value x a ≡ t
+        → IfSome {T = Content × AnyReply} (cond t (Some (register (Some b), Swapped a b)) (Some (register x, NotSwapped))) (λ p. CellSteps keeps other (Cas a b) (register y) p.0 p.1)
     go true h = swaps keeps other x y a b s h
     go false h = refused keeps other x y a b s
 steps keeps other (queue vs) d (Enqueue v) s = record { returned = λ kept. tt; unfinished = tt }
@@ -172,11 +173,18 @@ open_like keeps (Cas a b) = go (keeps b) (keeps a)
     go false q = tt
 open_like keeps op = tt
 
-pub cell_valid : (kind : Kind) (calls : List Call) (keeps : ℤ → Bool) (other : ℤ) (kept : ℕ → Bool) (order : List ℤ) → IsValidOrder kind calls order → (part : List ℤ) × IsValidOrder kind (cell_calls keeps other kept calls) part
-cell_valid kind calls keeps other kept order v = mapped_valid (IsCell keeps) (cell_call keeps other kept) calls kind kind (recast_maps (IsCell keeps) (cell_done keeps other) (cell_open keeps) kept (record { step = steps keeps other })) (begins keeps kind) order v
+pub cell_valid : (kind : Kind) (calls : List Call) (keeps : ℤ → Bool) (other : ℤ) (kept : ℕ → Bool) (order : List ℤ) → IsValidOrder kind calls order
+    → (part : List ℤ) × IsValidOrder kind (cell_calls keeps other kept calls) part
+cell_valid kind calls keeps other kept order v =
+    mapped_valid (IsCell keeps) (cell_call keeps other kept) calls kind kind
+    (recast_maps (IsCell keeps) (cell_done keeps other) (cell_open keeps) kept (record { step = steps keeps other })) (begins keeps kind) order v
 
-pub cell_history : (keeps : ℤ → Bool) (other : ℤ) (kept : ℕ → Bool) (h : ObjectCalls) → IsObjectHistory h → IsObjectHistory (record { object = h.object; kind = h.kind; ops = filter_map (cell_piece keeps other kept) h.ops })
-cell_history keeps other kept h is = pieces_into h.object h.kind h.kind h.ops (cell_piece keeps other kept) (λ o p i e. subst (λ (k : Kind). IsPieceOf k o p) (all_at (λ (o : Invocation). kind_of o.op ≡ h.kind) h.ops is.of_kind o i) (recast_piece (cell_done keeps other) (cell_open keeps) kind_of (record { returned = done_like keeps other; unfinished = open_like keeps }) (kept o.number) o p e)) is
+pub cell_history : (keeps : ℤ → Bool) (other : ℤ) (kept : ℕ → Bool) (h : ObjectCalls) → IsObjectHistory h
+    → IsObjectHistory (record { object = h.object; kind = h.kind; ops = filter_map (cell_piece keeps other kept) h.ops })
+cell_history keeps other kept h is =
+    pieces_into h.object h.kind h.kind h.ops (cell_piece keeps other kept)
+    (λ o p i e. subst (λ (k : Kind). IsPieceOf k o p) (all_at (λ (o : Invocation). kind_of o.op ≡ h.kind) h.ops is.of_kind o i)
+    (recast_piece (cell_done keeps other) (cell_open keeps) kind_of (record { returned = done_like keeps other; unfinished = open_like keeps }) (kept o.number) o p e)) is
 
 pub cell_calls_of : (keeps : ℤ → Bool) (other : ℤ) (kept : ℕ → Bool) (ops : List Invocation) → calls_of (filter_map (cell_piece keeps other kept) ops) ≡ cell_calls keeps other kept (calls_of ops)
 cell_calls_of keeps other kept ops = pieces_calls (cell_piece keeps other kept) (cell_call keeps other kept) ops (recast_call (cell_done keeps other) (cell_open keeps) kept)

@@ -5,7 +5,8 @@ use Rattle.std.specs.Prelude.{if◌then◌else◌}
 use Rattle.std.specs.Ordering.{nat_cmp, int_cmp}
 use Rattle.std.specs.BTreeSet.{insert_key}
 use Rattle.edn_reader.specs.Truncation.{integer_in}
-use Rattle.edn_reader.specs.Datum.{Datum, atom, keyword, vector, dictionary, Items, no_items, item, Entries}
+use Rattle.edn_reader.specs.Datum.{Datum, atom, keyword, vector, dictionary, Items, no_items, item}
+use Rattle.edn_reader.specs.Datum.{Entries}
 use Rattle.edn_fields.specs.Fields.{same_bytes, value_at, natural_in, object_in}
 use Rattle.projection.specs.declared.keeping.Values.{Values}
 use Rattle.projection.specs.declared.keeping.Values.TheVariants.{All, Only}

@@ -20,7 +20,8 @@ use Rattle.refutation.specs.declared.refuting.Refutation.TheVariants.{Impossible
 use Rattle.refutation.specs.Refutations.{is_impossible, IfPart, IfNotShown, IsDoubt, IsNamedPart, IsAnswerOn, IsAnswer}
 
 pub none_among : (es : List Event) (objects : List ObjectCalls) → All (λ o. o.kind ≡ kind_at es o.object) objects → All (λ o. calls_of o.ops ≡ calls_on o.object (denoted es)) objects
-    → ((kinds : ℕ → Kind) (h : List Numbered) → IsHistory h → IsLinearizable kinds (events h) → (x : ℕ) → HasValidOrder kinds h x) → IsHistory (denoted es) → Any (λ o. IsNoneValid o.kind (calls_of o.ops)) objects → IsLinearizable (kind_at es) (events (denoted es)) → ⊥
+    → ((kinds : ℕ → Kind) (h : List Numbered) → IsHistory h → IsLinearizable kinds (events h) → (x : ℕ) → HasValidOrder kinds h x)
+    → IsHistory (denoted es) → Any (λ o. IsNoneValid o.kind (calls_of o.ops)) objects → IsLinearizable (kind_at es) (events (denoted es)) → ⊥
 none_among es objects kinds calls orders h some lin =
     let o : ObjectCalls = some.1 in
     let i = in_from_contains objects o (some.0, some.2, some.3) in
@@ -45,7 +46,8 @@ zip_push R [] (w ∷ ys) x y h r = absurd h
 zip_push R (z ∷ xs) [] x y h r = absurd h
 zip_push R (z ∷ xs) (w ∷ ys) x y h r = (h.0, zip_push R xs ys x y h.1 r)
 
-pub zip_more : {X Y : Type 0} (R : X → Y → Type 0) (xs : List X) (ys : List Y) (i : ℕ) (x : X) (y : Y) → i < length xs → x ≡ get_or xs i x → AllZip R (take i xs) ys → R x y → AllZip R (take (i + 1) xs) (ys ++ y ∷ [])
+pub zip_more : {X Y : Type 0} (R : X → Y → Type 0) (xs : List X) (ys : List Y) (i : ℕ) (x : X) (y : Y) → i < length xs → x ≡ get_or xs i x
+    → AllZip R (take i xs) ys → R x y → AllZip R (take (i + 1) xs) (ys ++ y ∷ [])
 zip_more R xs ys i x y lt is h r = subst (λ l. AllZip R l (ys ++ y ∷ [])) (ap (λ z. take i xs ++ z ∷ []) is ∙ sym (take_more xs i x lt)) (zip_push R (take i xs) ys x y h r)
 
 pub refutes : (Not : Type 0) (answers : List Refutation) → AreRefutations Not answers → Any (λ r. is_impossible r ≡ true) answers → Not
@@ -54,7 +56,12 @@ refutes Not answers all some = all some.1 (in_from_contains answers some.1 (some
 -- ---- answers on one of several objects
 
 -- the answer on an object among others that has the reason's number
-pub answered : (objects : List ObjectCalls) (i : ℕ) (o : ObjectCalls) (reason : Reason) (answer : Result Refutation AllocError) → i < length objects → o ≡ get_or objects i o → o.object ≡ reason.object → IfOk answer (λ r. is_impossible r ≡ true → IsNoneValid o.kind (calls_of o.ops)) → IfOk answer (λ r. IfPart r (IsNamedPart reason.cuts.items o.object o.kind (calls_of o.ops))) → IfOk answer (λ r. IfNotShown r (IsDoubt reason.evidence)) → IfOk answer (λ r. r ≡ NoPart → (part : List Call) → NamesPart reason.cuts.items (calls_of o.ops) part → ⊥) → IfOk answer (λ r. r ≢ OtherObject → (p : ObjectCalls) × Contains objects p × (p.object ≡ reason.object) × IsAnswerOn p.kind (calls_of p.ops) reason r)
+pub answered : (objects : List ObjectCalls) (i : ℕ) (o : ObjectCalls) (reason : Reason) (answer : Result Refutation AllocError) → i < length objects
+    → o ≡ get_or objects i o → o.object ≡ reason.object → IfOk answer (λ r. is_impossible r ≡ true → IsNoneValid o.kind (calls_of o.ops))
+    → IfOk answer (λ r. IfPart r (IsNamedPart reason.cuts.items o.object o.kind (calls_of o.ops)))
+    → IfOk answer (λ r. IfNotShown r (IsDoubt reason.evidence))
+    → IfOk answer (λ r. r ≡ NoPart → (part : List Call) → NamesPart reason.cuts.items (calls_of o.ops) part → ⊥)
+    → IfOk answer (λ r. r ≢ OtherObject → (p : ObjectCalls) × Contains objects p × (p.object ≡ reason.object) × IsAnswerOn p.kind (calls_of p.ops) reason r)
 answered objects i o reason (Ok r) lt is e none part doubt refused = λ own. (
   o,
   (i, lt, sym is),
@@ -69,12 +76,16 @@ answered objects i o reason (Ok r) lt is e none part doubt refused = λ own. (
 answered objects i o reason (Err x) lt is e none part doubt refused = tt
 
 -- it is not that the reason is of another object
-pub own_number : (objects : List ObjectCalls) (o : ObjectCalls) (x : ℕ) (answer : Result Refutation AllocError) → o.object ≡ x → IfOk answer (λ r. r ≡ OtherObject → x ≢ o.object) → IfOk answer (λ r. r ≡ OtherObject → All (λ p. p.object ≢ x) objects)
+pub own_number : (objects : List ObjectCalls) (o : ObjectCalls) (x : ℕ) (answer : Result Refutation AllocError) → o.object ≡ x
+    → IfOk answer (λ r. r ≡ OtherObject → x ≢ o.object) → IfOk answer (λ r. r ≡ OtherObject → All (λ p. p.object ≢ x) objects)
 own_number objects o x (Ok r) e h = λ q. absurd (h q (sym e))
 own_number objects o x (Err z) e h = tt
 
 -- the answer on the objects of a history
-pub answer_is : (es : List Event) (objects : List ObjectCalls) (reason : Reason) (r : Refutation) → All (λ o. o.kind ≡ kind_at es o.object) objects → All (λ o. calls_of o.ops ≡ calls_on o.object (denoted es)) objects → ((x : ℕ) → Contains (map (λ o. o.object) objects) x ↔ IsNamed es x) → (r ≢ OtherObject → (o : ObjectCalls) × Contains objects o × (o.object ≡ reason.object) × IsAnswerOn o.kind (calls_of o.ops) reason r) → (r ≡ OtherObject → All (λ o. o.object ≢ reason.object) objects) → IsAnswer es reason r
+pub answer_is : (es : List Event) (objects : List ObjectCalls) (reason : Reason) (r : Refutation) → All (λ o. o.kind ≡ kind_at es o.object) objects
+    → All (λ o. calls_of o.ops ≡ calls_on o.object (denoted es)) objects → ((x : ℕ) → Contains (map (λ o. o.object) objects) x ↔ IsNamed es x)
+    → (r ≢ OtherObject → (o : ObjectCalls) × Contains objects o × (o.object ≡ reason.object) × IsAnswerOn o.kind (calls_of o.ops) reason r)
+    → (r ≡ OtherObject → All (λ o. o.object ≢ reason.object) objects) → IsAnswer es reason r
 answer_is es objects reason r kinds calls named on other = go r refl
   where
     own : (q : r ≢ OtherObject) → IsAnswerOn (kind_at es reason.object) (calls_on reason.object (denoted es)) reason r
@@ -90,7 +101,8 @@ answer_is es objects reason r kinds calls named on other = go r refl
     known q =
         let a = on q in
         let o : ObjectCalls = a.0 in
-        (named reason.object).0 (contains_from_in (map (λ o. o.object) objects) reason.object (subst (λ x. In x (map (λ o. o.object) objects)) a.2 (in_map_from (λ (o : ObjectCalls). o.object) o objects (in_from_contains objects o a.1))))
+        (named reason.object).0 (contains_from_in (map (λ o. o.object) objects) reason.object
+        (subst (λ x. In x (map (λ o. o.object) objects)) a.2 (in_map_from (λ (o : ObjectCalls). o.object) o objects (in_from_contains objects o a.1))))
 
     unknown : r ≡ OtherObject → IsNamed es reason.object → ⊥
     unknown q n =
@@ -105,7 +117,8 @@ answer_is es objects reason r kinds calls named on other = go r refl
     go (NotShown part doubt) e = whole (λ q. absurd (cc (e, q)))
     go NoPart e = whole (λ q. absurd (cc (e, q)))
     go OtherObject e = record {
-      on = subst (IsAnswerOn (kind_at es reason.object) (calls_on reason.object (denoted es)) reason) (sym e) (record { impossible = λ q. absurd (unlike q); part = tt; not_shown = tt; no_part = λ q. absurd (cc q) });
+      on = subst (IsAnswerOn (kind_at es reason.object) (calls_on reason.object (denoted es)) reason) (sym e)
+          (record { impossible = λ q. absurd (unlike q); part = tt; not_shown = tt; no_part = λ q. absurd (cc q) });
       other_object = unknown;
       own_object = known;
     }
@@ -114,7 +127,9 @@ answer_is es objects reason r kinds calls named on other = go r refl
         unlike e = absurd (cc e)
 
 -- no order is valid of the object that was answered
-pub refuted_among : (objects : List ObjectCalls) (reason : Reason) (r : Refutation) → (r ≢ OtherObject → (o : ObjectCalls) × Contains objects o × (o.object ≡ reason.object) × IsAnswerOn o.kind (calls_of o.ops) reason r) → is_impossible r ≡ true → Any (λ o. IsNoneValid o.kind (calls_of o.ops)) objects
+pub refuted_among : (objects : List ObjectCalls) (reason : Reason) (r : Refutation)
+    → (r ≢ OtherObject → (o : ObjectCalls) × Contains objects o × (o.object ≡ reason.object) × IsAnswerOn o.kind (calls_of o.ops) reason r)
+    → is_impossible r ≡ true → Any (λ o. IsNoneValid o.kind (calls_of o.ops)) objects
 refuted_among objects reason r on so =
     let a = on (λ q. unlike (sym (ap is_impossible q) ∙ so)) in
     (a.1.0, a.0, a.1.1, a.1.2, a.3.impossible so)

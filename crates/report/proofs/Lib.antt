@@ -1,4 +1,1 @@
 pub mod LinesLeft
-pub mod Uses
-pub mod Named
-pub mod KindsCounted

@@ -4,7 +4,7 @@ use Rattle.std.proofs.lemmas.List.{drop_more}
 use Rattle.report.specs.Lines.{comment_text, kind_line, kind_lines}
 use Rattle.report.specs.Pieces.{piece_text, pieces_text}
 use Rattle.report.specs.declared.pieces.Piece.{Piece}
-use Rattle.report.specs.declared.verdict.KindCount.{KindCount}
+use Rattle.verdicts.specs.declared.verdict.KindCount.{KindCount}
 
 pub pieces_left : (ps : List Piece) (i : ℕ) (d : Piece) → i < length ps → pieces_text (drop i ps) ≡ piece_text (get_or ps i d) ++ pieces_text (drop (i + 1) ps)
 pieces_left ps i d lt = ap pieces_text (drop_more ps i d lt)

@@ -1,4 +1,2 @@
-pub mod Counts
-pub mod Invoked
 pub mod Lines
 pub mod Pieces

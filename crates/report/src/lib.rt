@@ -1,12 +1,9 @@
-//! What a judge of histories says, in lines of text.
+//! The lines of a verdict.
 #![tactic(auto)]
 
-mod counting;
 mod lines;
 mod pieces;
-mod verdict;
 mod writing;
 
-pub use counting::summary;
-pub use verdict::{Fault, KindCount, Summary, Verdict};
+pub use verdicts::{Fault, KindCount, Summary, Verdict, summary, verdict_on_check};
 pub use writing::write_verdict;

@@ -6,11 +6,11 @@ ghost use Rattle.report.specs.Lines as text;
 ghost use Rattle.report.specs.Pieces.{pieces_text};
 
 use crate::pieces::Piece;
-use crate::verdict::{Fault, KindCount, Summary};
 use checker::{OrderFault, Refusal};
 use seq_objects::{AnyReply, Value, kind_name, value_of_reply};
+use verdicts::{Fault, KindCount, Summary};
 
-/// The pieces of a line. Behind the one that has the line feed stand empty ones.
+/// The pieces of a line. After the one that has the line feed stand empty ones.
 pub(crate) type Line = [Piece; 9];
 
 const EMPTY: Piece = Piece::Text(b"");
@@ -127,7 +127,7 @@ fn too_late_line(object: u32, op: i64, by: u32) -> Line
     ]
 }
 
-/// A line of two numbers, each behind a text, and of a text behind both.
+/// A line of two numbers, each after a text, and of a text after both.
 fn numbers_line(
     before: &'static [u8],
     first: usize,

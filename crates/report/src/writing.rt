@@ -7,8 +7,8 @@ ghost use Rattle.report.specs.Lines.{comment_text};
 
 use crate::lines::{fault_line, kind_line, no_memory_line, refusal_line, total_line};
 use crate::pieces::write_line;
-use crate::verdict::{KindCount, Summary, Verdict};
 use edn::{Failed, Sink, WriteFault};
+use verdicts::{KindCount, Summary, Verdict};
 
 fn write_kinds<S: Sink>(kinds: &[KindCount], commented: bool, sink: &mut S) -> Result<(), Failed>
     requires { S.broken sink.old ≡ false }
@@ -44,7 +44,7 @@ fn write_lines<S: Sink>(verdict: &Verdict, commented: bool, sink: &mut S) -> Res
     write_line(commented, &line, sink)
 }
 
-/// Writes the lines of a verdict, each behind `; ` where they are comments, without taking memory.
+/// Writes the lines of a verdict, each after `; ` where they are comments, without taking memory.
 /// `Device` is the only error.
 pub fn write_verdict<S: Sink>(
     verdict: &Verdict,

@@ -16,14 +16,14 @@ one_more_consumed (Some os) None new xs ys h k = absurd h
 one_more_consumed (Some os) (Some ms) None xs ys h k = absurd k
 one_more_consumed (Some os) (Some ms) (Some ns) xs ys h k = h ∙ (ap (λ z. xs ++ z) k ∙ sym (append_assoc xs ys ns))
 
--- what was read so far; the buffer has room for so many bytes
+-- what was read so far; the buffer has room for this many bytes
 pub record IsReading (limit : ℕ) (old now : Option (List ℕ)) (bytes : List ℕ) (room : ℕ) (broken : Bool) : Type 0 where
   pub consumed : Consumes old now bytes
   pub within : length bytes ≤ limit
   pub some : 0 < room
   pub usable : broken ≡ false
 
--- what stands in the buffer are the bytes that were put there
+-- what is in the buffer are the bytes that were put there
 stands_there : (buf behind stored : List ℕ) (len : ℕ) → length buf ≡ len → stored ≡ take len (buf ++ behind) → stored ≡ buf
 stands_there buf behind stored len l s = s ∙ (ap (λ n. take n (buf ++ behind)) (sym l) ∙ take-append_seam buf behind)
 
@@ -53,7 +53,8 @@ came_to_end limit old now new bytes buf n room given len was h is below cut long
     }
 
 -- the limit is reached
-pub came_to_limit : (limit : ℕ) (old now : Option (List ℕ)) (bytes : List ℕ) (n room : ℕ) (was : Bool) → IsReading limit old now bytes room was → n ≡ length bytes → limit ≤ n → WasRead limit old now bytes
+pub came_to_limit : (limit : ℕ) (old now : Option (List ℕ)) (bytes : List ℕ) (n room : ℕ) (was : Bool) → IsReading limit old now bytes room was
+    → n ≡ length bytes → limit ≤ n → WasRead limit old now bytes
 came_to_limit limit old now bytes n room was h is full = record { consumed = h.consumed; within = h.within; whole = λ l. absurd (omega arith) }
 
 pub begins : (limit : ℕ) (o : Option (List ℕ)) (bytes : List ℕ) (room : ℕ) (broken : Bool) → bytes ≡ [] → 0 < room → broken ≡ false → IsReading limit o o bytes room broken

@@ -1,21 +1,18 @@
 -- What is read of a text in memory is the text, or both are too long to be judged.
-use Rattle.std.proofs.Common.{◌≡◌, ◌∙◌, ◌<◌, ◌≤◌, ◌+◌, ◌⊎◌, ◌++◌, false, ℕ, List, length, Option, Some, None, ap, sym, subst, inl, inr, arith}
+use Rattle.std.proofs.Common.{◌≡◌, ◌∙◌, ◌<◌, ◌≤◌, ◌+◌, ◌⊎◌, ◌++◌, ℕ, List, length, Option, Some, None, ap, sym, subst, inl, inr, arith}
 use Rattle.std.proofs.lemmas.Bool.{cases_lt}
 use Rattle.std.proofs.lemmas.List.{append-nil, length-append}
 use Rattle.edn_reader.specs.Datum.{max_length}
 use Rattle.byte_streams.specs.Given.{WasRead}
-use Rattle.byte_streams.specs.Sent.{WritesPrefix}
 use Rattle.edn_reader.specs.Sound.{IsShort, IsUnreadable}
 use Rattle.edn_reader.specs.declared.fault.EdnFault.{EdnFault}
-use Rattle.std.specs.Io.KnownBytes.{Appends}
-use Rattle.report.specs.Lines.{verdict_text}
-use Rattle.report.specs.declared.verdict.Fault.TheVariants.{HistoryText, HistoryMaps, CertificateText, CertificateForms}
-use Rattle.report.specs.declared.verdict.Verdict.{Verdict}
-use Rattle.report.specs.declared.verdict.Verdict.TheVariants.{Yes, No, Malformed, NoMemory}
+use Rattle.verdicts.specs.declared.verdict.Fault.TheVariants.{HistoryText, HistoryMaps, CertificateText, CertificateForms}
+use Rattle.verdicts.specs.declared.verdict.Verdict.{Verdict}
+use Rattle.verdicts.specs.declared.verdict.Verdict.TheVariants.{Yes, No, Malformed, NoMemory}
 use Rattle.judging.specs.Texts.{IsLinearizableText}
 use Rattle.judging.specs.Verdicts.{Holds, Judges, OnYes}
 use Rattle.sources.specs.Reads.{read_limit}
-use Rattle.sources.specs.Checks.{IsCutOff, IsJudged}
+use Rattle.sources.specs.Checks.{IsVerdictOnRead}
 
 -- two texts are one, or both are too long
 abbrev Alike : List ℕ → List ℕ → Type 0
@@ -48,11 +45,11 @@ module _ (h b c : List ℕ) (long : max_length < length b) (whole : max_length <
   judges_history (No r) j = not_short b long j.history_short
   judges_history (Malformed (HistoryText e)) j = unreadable h b e long whole j
   judges_history (Malformed (HistoryMaps f)) j = not_short b long j.0
-  judges_history (Malformed (CertificateText e)) j = not_short b long j.0
-  judges_history (Malformed (CertificateForms f)) j = not_short b long j.0
+  judges_history (Malformed (CertificateText e)) j = not_short b long j.0.0
+  judges_history (Malformed (CertificateForms f)) j = not_short b long j.0.0
   judges_history NoMemory j = elim j [
     | inl sound ↦ not_short b long sound.0
-    | inr sound ↦ not_short b long sound.0
+    | inr sound ↦ not_short b long sound.0.0
   ]
 
   yes_history : (v : Verdict) → Judges b c v → OnYes v (IsLinearizableText h)
@@ -76,12 +73,12 @@ module _ (h c b : List ℕ) (long : max_length < length b) (whole : max_length <
   judges_certificates (No r) j = not_short b long j.certificates_short
   judges_certificates (Malformed (HistoryText e)) j = j
   judges_certificates (Malformed (HistoryMaps f)) j = j
-  judges_certificates (Malformed (CertificateText e)) j = (j.0, j.1, unreadable c b e long whole j.2)
-  judges_certificates (Malformed (CertificateForms f)) j = not_short b long j.2
+  judges_certificates (Malformed (CertificateText e)) j = (j.0, unreadable c b e long whole j.1)
+  judges_certificates (Malformed (CertificateForms f)) j = not_short b long j.1.0
   judges_certificates NoMemory j = elim j [
     | inl sound ↦ inl sound
-    | inr (short, denoted, inl sound) ↦ not_short b long sound.0
-    | inr (short, denoted, inr sound) ↦ not_short b long sound.0
+    | inr (denoted, inl sound) ↦ not_short b long sound.0
+    | inr (denoted, inr sound) ↦ not_short b long sound.0
   ]
 
   holds_certificates : (v : Verdict) → Holds h b v → Holds h c v
@@ -104,14 +101,9 @@ holds h c first second v a b k =
       | inr long ↦ holds_certificates h c second long.0 long.1 v one
     ]
 
-module _ (h c first second : List ℕ) (history_left certificates_left sent_before sent : Option (List ℕ)) (is_first : first ≡ h) (is_second : second ≡ c) where
-  both : (v : Verdict) (a b : List ℕ) → WasRead read_limit (Some first) history_left a → WasRead read_limit (Some second) certificates_left b → Holds a b v → Holds h c v
-  both v a b read_a read_b k =
-      holds h c a b v (was_read h a history_left (subst (λ x. WasRead read_limit (Some x) history_left a) is_first read_a))
-      (was_read c b certificates_left (subst (λ x. WasRead read_limit (Some x) certificates_left b) is_second read_b)) k
-
-  pub judged_in_memory : (v : Verdict) → IsJudged (Some first) history_left (Some second) certificates_left sent_before sent v → Holds h c v × Appends sent_before sent (verdict_text false v)
-  judged_in_memory v j = (both v j.first j.second j.first_read j.second_read j.holds, j.written)
-
-  pub cut_off_in_memory : IsCutOff (Some first) history_left (Some second) certificates_left sent_before sent → (v : Verdict) × Holds h c v × WritesPrefix sent_before sent (verdict_text false v)
-  cut_off_in_memory j = (j.verdict, both j.verdict j.first j.second j.first_read j.second_read j.holds, j.front)
+-- what holds of the bytes that were read of texts in memory holds of the texts
+pub holds_in_memory : (h c first second : List ℕ) (history_left certificates_left : Option (List ℕ)) (v : Verdict) → first ≡ h → second ≡ c
+    → IsVerdictOnRead (Some first) history_left (Some second) certificates_left v → Holds h c v
+holds_in_memory h c first second history_left certificates_left v is_first is_second j =
+    holds h c j.first j.second v (was_read h j.first history_left (subst (λ x. WasRead read_limit (Some x) history_left j.first) is_first j.first_read))
+    (was_read c j.second certificates_left (subst (λ x. WasRead read_limit (Some x) certificates_left j.second) is_second j.second_read)) j.holds

@@ -3,31 +3,38 @@ use Rattle.std.specs.Prelude.{ℕ, List, Option, false}
 use Rattle.std.specs.Io.KnownBytes.{Appends}
 use Rattle.byte_streams.specs.Given.{WasRead}
 use Rattle.byte_streams.specs.Sent.{WritesPrefix}
+use Rattle.judging.specs.Texts.{IsLinearizableText}
 use Rattle.judging.specs.Verdicts.{Holds}
 use Rattle.report.specs.Lines.{verdict_text}
-use Rattle.report.specs.declared.verdict.Verdict.{Verdict}
+use Rattle.verdicts.specs.declared.verdict.Verdict.{Verdict}
 use Rattle.sources.specs.Reads.{read_limit}
 
--- Both texts were read, the verdict holds of them, and its lines were written. What the sources
--- have left, and what the sink was sent, stand as they were before and after.
-pub record IsJudged
-    (history history_left certificates certificates_left sent_before sent : Option (List ℕ))
+-- Both texts were read, and the verdict holds of them. What the sources have left is given as it
+-- was before and after.
+pub record IsVerdictOnRead (history history_left certificates certificates_left : Option (List ℕ))
     (v : Verdict) : Type 0 where
   pub first : List ℕ
   pub second : List ℕ
   pub first_read : WasRead read_limit history history_left first
   pub second_read : WasRead read_limit certificates certificates_left second
   pub holds : Holds first second v
-  pub written : Appends sent_before sent (verdict_text false v)
 
--- Both texts were read, and a beginning of the lines of a verdict that holds of them was written.
-pub record IsCutOff
-    (history history_left certificates certificates_left sent_before sent : Option (List ℕ)) : Type
-    0 where
-  pub first : List ℕ
-  pub second : List ℕ
-  pub first_read : WasRead read_limit history history_left first
-  pub second_read : WasRead read_limit certificates certificates_left second
-  pub verdict : Verdict
-  pub holds : Holds first second verdict
-  pub front : WritesPrefix sent_before sent (verdict_text false verdict)
+-- The same, and the lines of the verdict were written. What the sink was sent is given as it was
+-- before and after.
+abbrev pub IsJudged : Option (List ℕ) → Option (List ℕ) → Option (List ℕ) → Option (List ℕ)
+    → Option (List ℕ) → Option (List ℕ) → Verdict → Type 0
+IsJudged history history_left certificates certificates_left sent_before sent v =
+    IsVerdictOnRead history history_left certificates certificates_left v
+    × Appends sent_before sent (verdict_text false v)
+
+-- The same, and a beginning of the lines of the verdict was written.
+abbrev pub IsCutOff : Option (List ℕ) → Option (List ℕ) → Option (List ℕ) → Option (List ℕ)
+    → Option (List ℕ) → Option (List ℕ) → Type 0
+IsCutOff history history_left certificates certificates_left sent_before sent =
+    (v : Verdict) × IsVerdictOnRead history history_left certificates certificates_left v
+    × WritesPrefix sent_before sent (verdict_text false v)
+
+-- The text of a history was read, and the history that it denotes is linearizable.
+abbrev pub IsLinearizableRead : Option (List ℕ) → Option (List ℕ) → Type 0
+IsLinearizableRead history history_left =
+    (text : List ℕ) × WasRead read_limit history history_left text × IsLinearizableText text

@@ -3,13 +3,13 @@
 ghost use Rattle.std.specs.Prelude.{◌≡◌, ◌≢◌, false, true, IfOk, IfErr, OnErr};
 ghost use Rattle.std.specs.Io.KnownBytes.{Appends};
 ghost use Rattle.byte_streams.specs.Sent.{WritesPrefix};
-ghost use Rattle.judging.specs.Verdicts.{Holds};
+ghost use Rattle.judging.specs.Texts.{IsLinearizableText};
+ghost use Rattle.judging.specs.Verdicts.{Holds, OnYes};
 ghost use Rattle.report.specs.Lines.{verdict_text};
-ghost use Rattle.report.specs.declared.verdict.Verdict.{Verdict as ReportVerdict};
-ghost use Rattle.sources.specs.Checks.{IsJudged, IsCutOff};
+ghost use Rattle.verdicts.specs.declared.verdict.Verdict.{Verdict as ReportVerdict};
+ghost use Rattle.sources.specs.Checks.{IsCutOff, IsJudged, IsLinearizableRead};
 ghost use Rattle.sources.specs.Reads.{WasRefused};
 
-use crate::bytes::Bytes;
 use crate::reading::{ReadFault, read_text};
 use edn::{Failed, Sink, Source};
 use judging::judge;
@@ -50,8 +50,9 @@ fn fault_of_reading(text: Text, fault: ReadFault) -> ToolFault
     }
 }
 
-/// Judges the texts, and writes the lines of the verdict.
-fn judge_and_write<R: Threads + Sync, W: Sink>(
+/// Judges two texts in memory, and writes the lines of the verdict. It copies no text, so only the
+/// sink can fail.
+pub fn judge_and_write<R: Threads + Sync, W: Sink>(
     rt: &R,
     alloc: Global,
     history: &[u8],
@@ -60,6 +61,7 @@ fn judge_and_write<R: Threads + Sync, W: Sink>(
     sink: &mut W,
 ) -> Result<Verdict, Failed>
     requires { W.broken sink.old ≡ false }
+    ensures linearizable { IfOk result (λ v. OnYes v (IsLinearizableText history.now)) }
     ensures judged { IfOk result (λ v. Holds history.now certificates.now v
         × Appends (W.sent sink.old) (W.sent sink.new) (verdict_text false v)) }
     ensures usable { IfOk result (λ _. W.broken sink.new ≡ false) }
@@ -91,6 +93,8 @@ pub fn check_over<R: Threads + Sync, H: Source, C: Source, W: Sink>(
     requires history { H.broken history.old ≡ false }
     requires certificates { C.broken certificates.old ≡ false }
     requires sink { W.broken sink.old ≡ false }
+    ensures linearizable { IfOk result (λ v. OnYes v
+        (IsLinearizableRead (H.remaining history.old) (H.remaining history.new))) }
     ensures judged { IfOk result
         (IsJudged (H.remaining history.old) (H.remaining history.new) (C.remaining certificates.old)
         (C.remaining certificates.new) (W.sent sink.old) (W.sent sink.new)) }
@@ -125,35 +129,5 @@ pub fn check_over<R: Threads + Sync, H: Source, C: Source, W: Sink>(
     match judge_and_write(rt, alloc, &first, &second, workers, sink) {
         Ok(verdict) => Ok(verdict),
         Err(Failed) => Err(ToolFault::Write),
-    }
-}
-
-/// Judges two texts in memory, and writes the lines of the verdict, as `check_over` does. Where
-/// memory for a copy of the texts is refused they are judged where they lie, so only the sink can
-/// fail.
-pub fn check_bytes<R: Threads + Sync, W: Sink>(
-    rt: &R,
-    alloc: Global,
-    history: &[u8],
-    certificates: &[u8],
-    workers: u32,
-    sink: &mut W,
-) -> Result<Verdict, Failed>
-    requires { W.broken sink.old ≡ false }
-    ensures judged { IfOk result (λ v. Holds history.now certificates.now v
-        × Appends (W.sent sink.old) (W.sent sink.new) (verdict_text false v)) }
-    ensures usable { IfOk result (λ _. W.broken sink.new ≡ false) }
-    ensures failed { OnErr result (W.broken sink.new ≡ true) }
-    ensures front { OnErr result ((v : ReportVerdict) × Holds history.now certificates.now v
-        × WritesPrefix (W.sent sink.old) (W.sent sink.new) (verdict_text false v)) }
-{
-    let (mut first, mut second) = (Bytes::new(history), Bytes::new(certificates));
-    match check_over(rt, alloc, &mut first, &mut second, workers, sink) {
-        Ok(verdict) => Ok(verdict),
-        Err(ToolFault::Write) => Err(Failed),
-        // bytes in memory never fail
-        Err(ToolFault::Read(_) | ToolFault::NoMemory) => {
-            judge_and_write(rt, alloc, history, certificates, workers, sink)
-        }
     }
 }

@@ -10,6 +10,9 @@ use std::alloc::{AllocError, Global};
 /// One byte more than the longest text that is judged.
 pub const READ_LIMIT: usize = MAX_LENGTH + 1;
 
+/// How many bytes a source is asked for at a time.
+const PIECE_LENGTH: usize = 65_536;
+
 /// Why a text was not read.
 #[derive(Clone, Copy, Debug, PartialEq, Eq)]
 pub enum ReadFault {
@@ -51,7 +54,7 @@ pub fn read_text<S: Source>(alloc: Global, source: &mut S) -> Result<Vec<u8>, Re
         WasRefused S.remaining S.refuses source.old source.new) }
 {
     let mut bytes = Vec::new(alloc);
-    let mut buffer = vec![in alloc; 0; 65_536]?;
+    let mut buffer = vec![in alloc; 0; PIECE_LENGTH]?;
     while bytes.len() < READ_LIMIT {
         // no more than is left to the limit
         buffer.truncate(READ_LIMIT - bytes.len());

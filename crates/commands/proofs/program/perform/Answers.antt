@@ -1,7 +1,19 @@
 use Rattle.commands.proofs.program.perform.Goals as goal
 
-pub returns-in-Search-clause-search_front : goal.returns-in-Search-clause-search_front
-returns-in-Search-clause-search_front g c = rw c.in-Search.is c.report_search.ensures.front
+pub returns-in-Check : goal.returns-in-Check
+returns-in-Check g c = record { performs = rw c.in-Check.is c.report_check.ensures.leaves }
 
-pub returns-in-Judge-clause-judge_front : goal.returns-in-Judge-clause-judge_front
-returns-in-Judge-clause-judge_front g c = rw c.in-Judge.is c.report_judgement.ensures.front
+pub returns-in-Search : goal.returns-in-Search
+returns-in-Search g c = record { performs = rw c.in-Search.is c.report_search.ensures.leaves }
+
+pub returns-in-Judge : goal.returns-in-Judge
+returns-in-Judge g c = record { performs = rw c.in-Judge.is c.report_judgement.ensures.leaves }
+
+pub returns-in-Find : goal.returns-in-Find
+returns-in-Find g c = record { performs = rw c.in-Find.is c.report_find.ensures.leaves }
+
+pub returns-in-Run : goal.returns-in-Run
+returns-in-Run g c = record { performs = rw c.in-Run.is c.report_run.ensures.leaves }
+
+pub returns-in-Simulate : goal.returns-in-Simulate
+returns-in-Simulate g c = record { performs = rw c.in-Simulate.is c.report_simulation.ensures.leaves }

@@ -6,7 +6,9 @@ use Rattle.deciding.proofs.Decided.{IsDecided}
 use Rattle.deciding.proofs.all.decide_all.Goals as goal
 
 pub loop-object-init : goal.loop-object-init
-loop-object-init c = no_answers _ _ _ _ (are_objects _ _ _ c.deref-object-items.ensures.value c.in_ok-objects.ensures.rising c.in_ok-objects.ensures.named c.in_ok-objects.ensures.kinds c.in_ok-objects.ensures.calls) c.new-answers.ensures.items
+loop-object-init c = no_answers _ _ _ _
+    (are_objects _ _ _ c.deref-object-items.ensures.value c.in_ok-objects.ensures.rising c.in_ok-objects.ensures.named c.in_ok-objects.ensures.kinds
+    c.in_ok-objects.ensures.calls) c.new-answers.ensures.items
 
 pub loop-object-preserved : goal.loop-object-preserved
 loop-object-preserved c =

@@ -29,4 +29,5 @@ returns-clause-calls c =
     let h = c.args.history.now in
     let piece = cell_piece (keeps_value c.args.values.now) c.args.other (keeps_number c.args.numbers.now) in
     let own = ap (λ (z : ℤ). filter_map (cell_piece (keeps_value c.args.values.now) z (keeps_number c.args.numbers.now)) c.ops.result.now) (to_z-of_z w64 c.args.other c.ranges.other) in
-    ap (λ (z : ObjectCalls). calls_of z.ops) c.new.ensures ∙ ap calls_of (c.in_ok-ops.ensures ∙ own ∙ ap (filter_map piece) c.ops.ensures.ops) ∙ cell_calls_of (keeps_value c.args.values.now) c.args.other (keeps_number c.args.numbers.now) h.ops
+    ap (λ (z : ObjectCalls). calls_of z.ops) c.new.ensures ∙ ap calls_of (c.in_ok-ops.ensures ∙ own ∙ ap (filter_map piece) c.ops.ensures.ops)
+    ∙ cell_calls_of (keeps_value c.args.values.now) c.args.other (keeps_number c.args.numbers.now) h.ops

@@ -28,6 +28,8 @@ loop-cut-preserved c =
     let is : cut ≡ get_or c.args.cuts.now c.loop-cut.cut-index cut = c.cut-item.is in
     record {
       part = part_of_part h c.loop-cut.part c.in-Some.next c.loop-cut.invariant.part part;
-      kind = kind_further c.args.cuts.now c.loop-cut.cut-index cut h.kind c.loop-cut.part.kind c.in-Some.next.kind c.loop-cut-test.true c.loop-cut.invariant.kind (kind ∙ ap (λ (z : Cut). kind_cut z c.loop-cut.part.kind) is);
-      names = cut_further c.args.cuts.now c.loop-cut.cut-index cut (calls_of h.ops) now (calls_of c.in-Some.next.ops) c.loop-cut-test.true c.loop-cut.invariant.names (subst (λ (z : Cut). Names z now (calls_of c.in-Some.next.ops)) is named) (λ p k. one p (subst (λ (z : Cut). Names z now p) (sym is) k));
+      kind = kind_further c.args.cuts.now c.loop-cut.cut-index cut h.kind c.loop-cut.part.kind c.in-Some.next.kind c.loop-cut-test.true
+          c.loop-cut.invariant.kind (kind ∙ ap (λ (z : Cut). kind_cut z c.loop-cut.part.kind) is);
+      names = cut_further c.args.cuts.now c.loop-cut.cut-index cut (calls_of h.ops) now (calls_of c.in-Some.next.ops) c.loop-cut-test.true
+          c.loop-cut.invariant.names (subst (λ (z : Cut). Names z now (calls_of c.in-Some.next.ops)) is named) (λ p k. one p (subst (λ (z : Cut). Names z now p) (sym is) k));
     }

@@ -24,12 +24,14 @@ returns-clause-part c =
     (kept_shows c.args.values.now kept h c.ops-operations.ensures.kept closed)
 
 pub returns-clause-closed : goal.returns-clause-closed
-returns-clause-closed c = subst (λ (os : List Invocation). IsClosedPart c.args.values.now c.args.numbers.now (calls_of os)) c.ops-operations.ensures.ops (c.is_closed.ensures.yes c.if-not-is_closed.false)
+returns-clause-closed c = subst (λ (os : List Invocation). IsClosedPart c.args.values.now c.args.numbers.now (calls_of os))
+    c.ops-operations.ensures.ops (c.is_closed.ensures.yes c.if-not-is_closed.false)
 
 pub returns-clause-calls : goal.returns-clause-calls
 returns-clause-calls c =
     let h = c.args.history.now in
-    ap (λ (z : ObjectCalls). calls_of z.ops) c.new.ensures ∙ ap calls_of (c.in_ok-ops.ensures ∙ ap (filter (λ o. keeps_number c.args.numbers.now o.number)) c.ops-operations.ensures.ops) ∙ kept_calls_of (keeps_number c.args.numbers.now) h.ops
+    ap (λ (z : ObjectCalls). calls_of z.ops) c.new.ensures
+    ∙ ap calls_of (c.in_ok-ops.ensures ∙ ap (filter (λ o. keeps_number c.args.numbers.now o.number)) c.ops-operations.ensures.ops) ∙ kept_calls_of (keeps_number c.args.numbers.now) h.ops
 
 pub returns-then-not-is_closed-clause-refused : goal.returns-then-not-is_closed-clause-refused
 returns-then-not-is_closed-clause-refused c e part =

@@ -34,8 +34,10 @@ returns-clause-calls c =
       at = s.at;
       first = s.first;
       start = start;
-      named = ap (λ (z : ObjectCalls). calls_of z.ops) c.new.ensures ∙ ap calls_of (c.in_ok-ops.ensures ∙ ap (filter_map (piece_from c.args.number s.at s.first)) c.ops-operations.ensures.ops) ∙ from_calls c.args.number s.at s.first h.ops;
+      named = ap (λ (z : ObjectCalls). calls_of z.ops) c.new.ensures
+          ∙ ap calls_of (c.in_ok-ops.ensures ∙ ap (filter_map (piece_from c.args.number s.at s.first)) c.ops-operations.ensures.ops) ∙ from_calls c.args.number s.at s.first h.ops;
     }
 
 pub returns-in_default-clause-refused : goal.returns-in_default-clause-refused
-returns-in_default-clause-refused c e part named = c.in_default.ensures.none refl named.at named.first (subst (λ (os : List Invocation). IsStart (calls_of os) c.args.number named.at named.first) (sym c.ops-operations.ensures.ops) named.start)
+returns-in_default-clause-refused c e part named =
+    c.in_default.ensures.none refl named.at named.first (subst (λ (os : List Invocation). IsStart (calls_of os) c.args.number named.at named.first) (sym c.ops-operations.ensures.ops) named.start)

@@ -13,8 +13,10 @@ returns-clause-none c e at first s =
     let o = c.in_ok-operation.operation in
     let here = c.in_ok-operation.ensures.some in
     let w = start_piece ops c.args.number at first s in
-    let own : o ≡ w.operation = one_number (λ (z : Invocation). z.number) o w.operation ops (pairs_from_all (λ a b. a.number < b.number) ops c.requires) (in_from_contains ops o here.0) w.known (here.1 ∙ sym w.number) in
-    c.start_by.ensures.none e at s.reply first (ap (λ (z : Invocation). z.«end») own ∙ w.ended) (ap (λ (z : Invocation). leaves z.op s.reply) own ∙ w.told) (subst (λ (z : Invocation). All (IsOnKey (key_of z.op)) ops) (sym own) w.one_key)
+    let own : o ≡ w.operation = one_number (λ (z : Invocation). z.number) o w.operation ops
+    (pairs_from_all (λ a b. a.number < b.number) ops c.requires) (in_from_contains ops o here.0) w.known (here.1 ∙ sym w.number) in
+    c.start_by.ensures.none e at s.reply first (ap (λ (z : Invocation). z.«end») own ∙ w.ended)
+    (ap (λ (z : Invocation). leaves z.op s.reply) own ∙ w.told) (subst (λ (z : Invocation). All (IsOnKey (key_of z.op)) ops) (sym own) w.one_key)
 
 pub returns-in_err-operation-clause-none : goal.returns-in_err-operation-clause-none
 returns-in_err-operation-clause-none c e at first s =

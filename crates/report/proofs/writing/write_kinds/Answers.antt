@@ -16,5 +16,6 @@ loop-kind-preserved g c =
     let l = c.loop-kind in
     let h = c.in_ok-write_line.ensures.sent.0 in
     let ks = c.args.kinds.now in
-    let f = further _ _ _ (kind_lines c.args.commented ks) l.invariant.done _ _ _ l.invariant.parts (kinds_left c.args.commented ks l.kind-index _ c.loop-kind-test.true) l.invariant.sent (rw c.kind_line.ensures at h.0) in
+    let f = further _ _ _ (kind_lines c.args.commented ks) l.invariant.done _ _ _ l.invariant.parts
+    (kinds_left c.args.commented ks l.kind-index _ c.loop-kind-test.true) l.invariant.sent (rw c.kind_line.ensures at h.0) in
     record { usable = h.1; done = f.0; parts = f.1; sent = f.2 }

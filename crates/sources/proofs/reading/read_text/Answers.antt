@@ -22,11 +22,15 @@ loop-buffer-preserved g c =
     let l = c.loop-buffer in
     let seen = c.len-in-loop-buffer.ensures ∙ l.bytes.ok.0 in
     let below = subst (λ n. n < read_limit) (c.len.ensures ∙ sym c.len-in-loop-buffer.ensures) c.loop-buffer-test.true in
-    one_more_piece read_limit (g.S.Source.remaining c.args.source.now) (g.S.Source.remaining l.source) (g.S.Source.remaining c.get.new.self) l.bytes.items c.extend_from_slice.new.self.items c.get.new.buf
-    (drop (length c.get.new.buf) c.truncate.new.self.items) c.deref.result.now c.len-in-loop-buffer.result l.buffer.len c.in_ok-given.given c.truncate.new.self.len (g.S.Source.broken l.source) (g.S.Source.broken c.get.new.self)
-    l.invariant seen below c.truncate.ensures.len (c.get.auto.buf ∙ c.deref_mut.ensures.len) c.in_ok-given.ensures.within c.in_ok-given.ensures.gives c.deref.ensures.value c.in_ok-extend_from_slice.ensures.items c.in_ok-given.ensures.usable
+    one_more_piece read_limit (g.S.Source.remaining c.args.source.now) (g.S.Source.remaining l.source) (g.S.Source.remaining c.get.new.self)
+    l.bytes.items c.extend_from_slice.new.self.items c.get.new.buf
+    (drop (length c.get.new.buf) c.truncate.new.self.items) c.deref.result.now c.len-in-loop-buffer.result l.buffer.len c.in_ok-given.given
+    c.truncate.new.self.len (g.S.Source.broken l.source) (g.S.Source.broken c.get.new.self)
+    l.invariant seen below c.truncate.ensures.len (c.get.auto.buf ∙ c.deref_mut.ensures.len) c.in_ok-given.ensures.within c.in_ok-given.ensures.gives
+    c.deref.ensures.value c.in_ok-extend_from_slice.ensures.items c.in_ok-given.ensures.usable
 
 pub returns-clause-read : goal.returns-clause-read
 returns-clause-read g c =
     let l = c.loop-buffer in
-    came_to_limit read_limit (g.S.Source.remaining c.args.source.now) (g.S.Source.remaining l.source) l.bytes.items c.len.result l.buffer.len (g.S.Source.broken l.source) l.invariant (c.len.ensures ∙ l.bytes.ok.0) c.loop-buffer-test.false
+    came_to_limit read_limit (g.S.Source.remaining c.args.source.now) (g.S.Source.remaining l.source) l.bytes.items c.len.result l.buffer.len
+    (g.S.Source.broken l.source) l.invariant (c.len.ensures ∙ l.bytes.ok.0) c.loop-buffer-test.false

@@ -1,0 +1,4 @@
+pub mod Comments
+pub mod Searches
+pub mod Findings
+pub mod Judged
