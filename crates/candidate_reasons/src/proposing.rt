@@ -43,6 +43,14 @@ const LIGHT: usize = 8;
 /// The most calls that are kept for a part to begin at.
 const MOST_STARTS: usize = 64;
 
+/// A part in which a plan is made smaller, its cuts, and the call at which it begins.
+#[derive(Drop)]
+struct Base {
+    part: ObjectHistory,
+    cuts: Vec<Cut>,
+    from: Option<u32>,
+}
+
 /// A proposal, and the number of operations of its part.
 #[derive(Drop)]
 struct Sized {
@@ -162,16 +170,22 @@ fn size_of(
     })
 }
 
-/// The reason of a plan that holds in a part: by the plan's cuts alone where they serve for the
-/// whole, and else by those after the part's.
+/// The reason of a plan that holds in a part which begins at a call: by the plan's cuts alone where
+/// they serve for the whole, and else by those after the part's.
 fn confirmed(
     alloc: Global,
     history: &ObjectHistory,
-    base: &ObjectHistory,
-    mut cuts: Vec<Cut>,
+    base: Base,
     plan: &mut Plan,
     limit: u64,
 ) -> Result<Option<(Reason, usize)>, AllocError> {
+    let Base {
+        part,
+        mut cuts,
+        from,
+    } = base;
+    let own = plan.from;
+    plan.from = own.or(from);
     if let Some(from) = plan.from {
         plan.elements.push(Element::Operation(from))?;
     }
@@ -179,7 +193,8 @@ fn confirmed(
     if let Some(size) = size_of(alloc, history, &reason, limit)? {
         return Ok(Some((reason, size)));
     }
-    plan.push_cuts(alloc, base, &mut cuts)?;
+    plan.from = own;
+    plan.push_cuts(alloc, &part, &mut cuts)?;
     let reason = Reason {
         object: history.object(),
         cuts,
@@ -189,6 +204,19 @@ fn confirmed(
     Ok(size.map(|size| (reason, size)))
 }
 
+/// The part in which a candidate's plan is made smaller, if there is one. Where it begins at a call
+/// the plan does so no more.
+fn base_of(
+    alloc: Global,
+    history: &ObjectHistory,
+    candidate: &mut Candidate,
+) -> Result<Option<Base>, AllocError> {
+    let cuts = base_cuts(alloc, history, candidate)?;
+    let from = candidate.plan.from.take();
+    let part = part_by(alloc, history, &cuts)?;
+    Ok(part.map(|part| Base { part, cuts, from }))
+}
+
 /// What a candidate comes to.
 fn tried(
     alloc: Global,
@@ -196,16 +224,15 @@ fn tried(
     mut candidate: Candidate,
     limit: u64,
 ) -> Result<Option<Sized>, AllocError> {
-    let cuts = base_cuts(alloc, history, &candidate)?;
-    let Some(base) = part_by(alloc, history, &cuts)? else {
+    let Some(base) = base_of(alloc, history, &mut candidate)? else {
         return Ok(None);
     };
-    let mut judge = Judge::new(alloc, &base, limit);
+    let mut judge = Judge::new(alloc, &base.part, limit);
     if !judge.shrink(&mut candidate.plan)? {
         return Ok(None);
     }
     let plan = &mut candidate.plan;
-    let Some((reason, size)) = confirmed(alloc, history, &base, cuts, plan, limit)? else {
+    let Some((reason, size)) = confirmed(alloc, history, base, plan, limit)? else {
         return Ok(None);
     };
     let Candidate { pattern, key, .. } = candidate;
