@@ -37,14 +37,14 @@ pub enum Pattern {
         first: i64,
         second: i64,
     },
-    /// The first value is put in before the second one. A queue gives the second, and never the
-    /// first.
+    /// The first value is put in before the second one. A queue gives the second, and the first is
+    /// not taken by any call that is invoked by then.
     LeftBehind {
         first: i64,
         second: i64,
     },
-    /// The second value is put on the first one in a stack, which gives the first, and never the
-    /// second.
+    /// The second value is put on the first one in a stack, which gives the first, and the second
+    /// is not taken by any call that is invoked by then.
     LeftAbove {
         first: i64,
         second: i64,
