@@ -1,0 +1,178 @@
+//! What each call of a register or map asks of one cell, and what it leaves there. A register is
+//! one cell, and a map has one for each key. A cell contains a value or nothing, and is empty at
+//! first.
+
+use crate::calls::TimedCall;
+use seq_objects::{AnyOp, AnyReply};
+use std::alloc::{AllocError, Global};
+use std::collections::BTreeMap;
+
+/// The number of the content of an empty cell.
+pub(crate) const NOTHING: usize = 0;
+
+/// What a call asks of what the cell contains before it.
+#[derive(Clone, Copy)]
+pub(crate) enum Need<C> {
+    Any,
+    Is(C),
+    IsNot(C),
+}
+
+/// What a call asks and leaves, in values.
+#[derive(Clone, Copy)]
+struct Effect {
+    key: Option<i64>,
+    need: Need<Option<i64>>,
+    sets: Option<Option<i64>>,
+}
+
+/// What a call of a register or map does; nothing where it looks at the cell and has not returned.
+fn effect_of(call: &TimedCall) -> Option<Effect> {
+    let (key, need, sets) = match (call.op, call.reply) {
+        (AnyOp::Write(new), _) => (None, Need::Any, Some(Some(new))),
+        (AnyOp::Read, Some(AnyReply::Value(held))) => (None, Need::Is(held), None),
+        (AnyOp::Cas(expected, _), Some(AnyReply::NotSwapped)) => {
+            (None, Need::IsNot(Some(expected)), None)
+        }
+        (AnyOp::Cas(expected, new), _) => (None, Need::Is(Some(expected)), Some(Some(new))),
+        (AnyOp::Put(key, new), Some(AnyReply::Value(held))) => {
+            (Some(key), Need::Is(held), Some(Some(new)))
+        }
+        (AnyOp::Put(key, new), _) => (Some(key), Need::Any, Some(Some(new))),
+        (AnyOp::Get(key), Some(AnyReply::Value(held))) => (Some(key), Need::Is(held), None),
+        (AnyOp::Del(key), Some(AnyReply::Value(held))) => (Some(key), Need::Is(held), Some(None)),
+        (AnyOp::Del(key), _) => (Some(key), Need::Any, Some(None)),
+        _ => return None,
+    };
+    Some(Effect { key, need, sets })
+}
+
+/// A call on one cell. Contents are told by their numbers in the cell. What sets the content that
+/// it asks for sets nothing.
+#[derive(Clone, Copy)]
+pub(crate) struct Access {
+    pub(crate) call: TimedCall,
+    pub(crate) need: Need<usize>,
+    pub(crate) sets: Option<usize>,
+}
+
+impl Access {
+    /// What the cell contains after it, if that is known.
+    pub(crate) fn shows(&self) -> Option<usize> {
+        match (self.sets, self.need) {
+            (Some(content), _) => Some(content),
+            (None, Need::Is(content)) => Some(content),
+            _ => None,
+        }
+    }
+}
+
+/// The calls on one cell in the order of their invocations, and the contents by their numbers.
+#[derive(Drop)]
+pub(crate) struct CellCalls {
+    /// The key of a map; nothing at a register.
+    pub(crate) key: Option<i64>,
+    pub(crate) accesses: Vec<Access>,
+    pub(crate) contents: Vec<Option<i64>>,
+}
+
+/// The numbers of a cell's contents.
+#[derive(Drop)]
+struct Numbers {
+    known: BTreeMap<i64, usize>,
+    contents: Vec<Option<i64>>,
+}
+
+impl Numbers {
+    fn number(&mut self, content: Option<i64>) -> Result<usize, AllocError> {
+        let Some(value) = content else {
+            return Ok(NOTHING);
+        };
+        let next = self.contents.len();
+        let number = *self.known.entry(value)?.or_insert(next);
+        if number == next {
+            self.contents.push(content)?;
+        }
+        Ok(number)
+    }
+
+    fn need(&mut self, need: Need<Option<i64>>) -> Result<Need<usize>, AllocError> {
+        Ok(match need {
+            Need::Any => Need::Any,
+            Need::Is(content) => Need::Is(self.number(content)?),
+            Need::IsNot(content) => Need::IsNot(self.number(content)?),
+        })
+    }
+
+    /// The access that has this effect; nothing where the call need not have happened.
+    fn access(&mut self, call: &TimedCall, effect: &Effect) -> Result<Option<Access>, AllocError> {
+        let need = self.need(effect.need)?;
+        let sets = match effect.sets {
+            Some(content) => Some(self.number(content)?),
+            None => None,
+        };
+        let sets = match (need, sets) {
+            (Need::Is(held), Some(content)) if held == content => None,
+            _ => sets,
+        };
+        if sets.is_none() && call.is_pending() {
+            return Ok(None);
+        }
+        let call = *call;
+        Ok(Some(Access { call, need, sets }))
+    }
+}
+
+/// The calls on one cell, of those that are side by side in a list by cells.
+fn cell_calls(
+    alloc: Global,
+    key: Option<i64>,
+    effects: &[(Effect, TimedCall)],
+) -> Result<CellCalls, AllocError> {
+    let mut numbers = Numbers {
+        known: BTreeMap::new(alloc),
+        contents: vec![in alloc; None; 1]?,
+    };
+    let mut accesses = Vec::new(alloc);
+    for (effect, call) in effects {
+        if let Some(access) = numbers.access(call, effect)? {
+            accesses.push(access)?;
+        }
+    }
+    let contents = numbers.contents;
+    Ok(CellCalls {
+        key,
+        accesses,
+        contents,
+    })
+}
+
+/// What the calls do, by cells, and in the order of their invocations for each.
+fn effects_of(alloc: Global, calls: &[TimedCall]) -> Result<Vec<(Effect, TimedCall)>, AllocError> {
+    let mut effects = Vec::new(alloc);
+    for call in calls {
+        if let Some(effect) = effect_of(call) {
+            effects.push((effect, *call))?;
+        }
+    }
+    effects.sort_unstable_by_key(|(effect, call)| (effect.key, call.begin));
+    Ok(effects)
+}
+
+/// The calls of each cell.
+pub(crate) fn cells_of(alloc: Global, calls: &[TimedCall]) -> Result<Vec<CellCalls>, AllocError> {
+    let effects = effects_of(alloc, calls)?;
+    let mut rest = effects.as_slice();
+    let mut cells = Vec::new(alloc);
+    for _ in 0..effects.len() {
+        let Some((first, _)) = rest.first() else {
+            break;
+        };
+        let key = first.key;
+        let here = rest.partition_point(|(effect, _)| effect.key <= key);
+        let (own, others) = rest.split_at(here.min(rest.len()));
+        cells.push(cell_calls(alloc, key, own)?)?;
+        rest = others;
+    }
+    Ok(cells)
+}

@@ -1,0 +1,280 @@
+//! Times in which a value surely is in a queue, stack or heap, and calls that find nothing though
+//! at each moment of theirs some value surely is in.
+
+use crate::calls::{PENDING, TimedCall};
+use crate::candidates::{Candidate, of_container, plan_until};
+use crate::patterns::Pattern;
+use crate::runs::{Run, Runs};
+use crate::trees::{Mark, NONE};
+use std::alloc::{AllocError, Global};
+
+/// The most candidates of one pattern.
+const MOST: usize = 4;
+
+/// The most values that are chained in all.
+const MOST_LINKS: usize = 4_000_000;
+
+/// From one moment to another a value of a run surely is in.
+#[derive(Clone, Copy)]
+pub(crate) struct Interval {
+    pub(crate) from: u32,
+    pub(crate) to: u32,
+    pub(crate) run: usize,
+}
+
+/// What happens to a run at a moment.
+#[derive(Clone, Copy)]
+enum Step {
+    PutBegins,
+    PutEnds,
+    TakingBegins,
+    TakingEnds,
+}
+
+/// How many puts and takings of a run have begun and ended.
+#[derive(Clone, Copy)]
+struct Counts {
+    begun: usize,
+    put: usize,
+    leaving: usize,
+    gone: usize,
+}
+
+impl Counts {
+    fn note(&mut self, step: Step) {
+        match step {
+            Step::PutBegins => self.begun = self.begun.saturating_add(1),
+            Step::PutEnds => self.put = self.put.saturating_add(1),
+            Step::TakingBegins => self.leaving = self.leaving.saturating_add(1),
+            Step::TakingEnds => self.gone = self.gone.saturating_add(1),
+        }
+    }
+
+    /// How many surely are in, if some are. Where as many takings as puts have begun nothing is
+    /// known.
+    fn surely_in(&self) -> usize {
+        if self.leaving >= self.begun {
+            return 0;
+        }
+        self.put.max(self.gone).saturating_sub(self.leaving)
+    }
+}
+
+fn add_steps(
+    steps: &mut Vec<(u32, Step)>,
+    calls: &[TimedCall],
+    begins: Step,
+    ends: Step,
+) -> Result<(), AllocError> {
+    for call in calls {
+        steps.push((call.begin, begins))?;
+        if call.end != PENDING {
+            steps.push((call.end, ends))?;
+        }
+    }
+    Ok(())
+}
+
+/// What happens to a run, in the order of time.
+fn steps_of(alloc: Global, run: &Run) -> Result<Vec<(u32, Step)>, AllocError> {
+    let mut steps = Vec::new(alloc);
+    add_steps(&mut steps, &run.puts, Step::PutBegins, Step::PutEnds)?;
+    add_steps(
+        &mut steps,
+        &run.takings,
+        Step::TakingBegins,
+        Step::TakingEnds,
+    )?;
+    steps.sort_unstable_by_key(|(at, _)| *at);
+    Ok(steps)
+}
+
+/// The moment up to which this many values of a run surely are in, of which nothing is known before
+/// this moment: pending takings can take those that no other call takes.
+fn known_until(runs: &Runs, run: &Run, many: usize, until: u32) -> u32 {
+    if many.saturating_add(run.takings.len()) > run.puts.len() {
+        return until;
+    }
+    let last = many.saturating_sub(1);
+    runs.pending
+        .get(last)
+        .map_or(until, |call| call.begin.min(until))
+}
+
+/// Adds an interval, to the last one where it goes on.
+fn add_interval(
+    intervals: &mut Vec<Interval>,
+    first: usize,
+    interval: Interval,
+) -> Result<(), AllocError> {
+    let goes_on = intervals.len() > first;
+    if let Some(last) = intervals.last_mut() {
+        if goes_on && last.to == interval.from {
+            last.to = interval.to;
+            return Ok(());
+        }
+    }
+    intervals.push(interval)?;
+    Ok(())
+}
+
+/// Adds the intervals of one run.
+fn add_run(
+    alloc: Global,
+    runs: &Runs,
+    place: usize,
+    run: &Run,
+    intervals: &mut Vec<Interval>,
+) -> Result<(), AllocError> {
+    let steps = steps_of(alloc, run)?;
+    let mut counts = Counts {
+        begun: 0,
+        put: 0,
+        leaving: 0,
+        gone: 0,
+    };
+    let first = intervals.len();
+    for (k, (from, step)) in steps.iter().enumerate() {
+        counts.note(*step);
+        let many = counts.surely_in();
+        if many == 0 {
+            continue;
+        }
+        let next = k.saturating_add(1);
+        let until = steps.get(next).map_or(runs.end, |step| step.0);
+        let to = known_until(runs, run, many, until);
+        let from = *from;
+        if from < to {
+            let run = place;
+            add_interval(intervals, first, Interval { from, to, run })?;
+        }
+    }
+    Ok(())
+}
+
+/// The times in which values surely are in, by runs.
+pub(crate) fn intervals_of(alloc: Global, runs: &Runs) -> Result<Vec<Interval>, AllocError> {
+    let mut intervals = Vec::new(alloc);
+    for (place, run) in runs.runs.iter().enumerate() {
+        add_run(alloc, runs, place, run, &mut intervals)?;
+    }
+    Ok(intervals)
+}
+
+/// For each moment the greatest end of an interval that has begun by then, with its run.
+fn reach_of(alloc: Global, intervals: &[Interval], end: u32) -> Result<Vec<Mark>, AllocError> {
+    let mut reach = vec![in alloc; NONE; (end as usize).saturating_add(1)]?;
+    for interval in intervals {
+        let mark = Mark {
+            at: interval.to,
+            place: interval.run,
+        };
+        if let Some(at) = reach.get_mut(interval.from as usize) {
+            *at = at.greater(mark);
+        }
+    }
+    let mut greatest = NONE;
+    for mark in reach.iter_mut() {
+        greatest = greatest.greater(*mark);
+        *mark = greatest;
+    }
+    Ok(reach)
+}
+
+/// The runs of which at each moment of the call a value surely is in, each as long as can be; none
+/// where there is a moment of which that is not known.
+fn chain_over(
+    alloc: Global,
+    reach: &[Mark],
+    call: &TimedCall,
+    links: &mut usize,
+) -> Result<Option<Vec<usize>>, AllocError> {
+    let mut chain = Vec::new(alloc);
+    let mut at = call.begin;
+    for _ in 0..reach.len() {
+        if at >= call.end {
+            return Ok(Some(chain));
+        }
+        let mark = reach.get(at as usize).copied().unwrap_or(NONE);
+        if mark.at <= at {
+            return Ok(None);
+        }
+        chain.push(mark.place)?;
+        *links = links.saturating_add(1);
+        at = mark.at;
+    }
+    Ok(None)
+}
+
+/// The values of runs.
+pub(crate) fn values_of(
+    alloc: Global,
+    runs: &Runs,
+    chain: &[usize],
+) -> Result<Vec<i64>, AllocError> {
+    let mut values = Vec::new(alloc);
+    for place in chain {
+        if let Some(run) = runs.runs.get(*place) {
+            values.push(run.value)?;
+        }
+    }
+    values.sort_unstable();
+    Ok(values)
+}
+
+/// How many calls the runs have.
+pub(crate) fn weight_of(runs: &Runs, chain: &[usize]) -> usize {
+    let mut weight: usize = 0;
+    for place in chain {
+        let size = runs.runs.get(*place).map_or(0, |run| run.size());
+        weight = weight.saturating_add(size);
+    }
+    weight
+}
+
+/// Something that was found, by its weight and its place.
+pub(crate) type Ranked<T> = (usize, usize, T);
+
+/// The calls that find nothing under values that surely are in, the fewest values first.
+fn covered(alloc: Global, runs: &Runs, reach: &[Mark]) -> Result<Vec<(usize, usize)>, AllocError> {
+    let mut found = Vec::new(alloc);
+    let mut links = 0;
+    for (place, call) in runs.empties.iter().enumerate() {
+        if links > MOST_LINKS {
+            break;
+        }
+        if let Some(chain) = chain_over(alloc, reach, call, &mut links)? {
+            found.push((weight_of(runs, &chain), place))?;
+        }
+    }
+    found.sort_unstable();
+    Ok(found)
+}
+
+/// The calls that find nothing while at each moment some value surely is in.
+pub(crate) fn add_empties(
+    alloc: Global,
+    runs: &Runs,
+    intervals: &[Interval],
+    candidates: &mut Vec<Candidate>,
+) -> Result<(), AllocError> {
+    if runs.empties.is_empty() {
+        return Ok(());
+    }
+    let reach = reach_of(alloc, intervals, runs.end)?;
+    let mut links = 0;
+    for (weight, place) in covered(alloc, runs, &reach)?.iter().take(MOST) {
+        let Some(call) = runs.empties.get(*place).copied() else {
+            continue;
+        };
+        let Some(chain) = chain_over(alloc, &reach, &call, &mut links)? else {
+            continue;
+        };
+        let values = values_of(alloc, runs, &chain)?;
+        let plan = plan_until(alloc, &values, &[call], call.until())?;
+        let number = call.number;
+        let pattern = Pattern::SurelyNotEmpty { number };
+        candidates.push(of_container(pattern, plan, weight.saturating_add(1)))?;
+    }
+    Ok(())
+}

@@ -1,0 +1,68 @@
+//! Mutexes: in a window of time one is acquired, or released, more often than it can have been
+//! free, or held.
+
+use crate::calls::{TimedCall, Timeline};
+use crate::candidates::{Candidate, of_container};
+use crate::patterns::Pattern;
+use crate::plans::Plan;
+use crate::windows::{shortest_window, takers_in};
+use projection::{Count, Counted};
+use refutation::Evidence;
+use seq_objects::AnyOp;
+use std::alloc::{AllocError, Global};
+
+/// The acquires, or else the releases.
+fn calls_of(
+    alloc: Global,
+    timeline: &Timeline,
+    acquires: bool,
+) -> Result<Vec<TimedCall>, AllocError> {
+    timeline
+        .calls
+        .iter()
+        .filter(|call| matches!(call.op, AnyOp::Acquire) == acquires)
+        .copied()
+        .collect(alloc)
+}
+
+/// The candidate of a window in which the takers take the content away too often.
+fn window_candidate(
+    alloc: Global,
+    takers: &[TimedCall],
+    setters: &[TimedCall],
+    counted: Counted,
+) -> Result<Option<Candidate>, AllocError> {
+    let is_there_at_first = matches!(counted, Counted::Free);
+    let Some(window) = shortest_window(alloc, takers, setters, is_there_at_first)? else {
+        return Ok(None);
+    };
+    let inside = takers_in(alloc, takers, window)?;
+    let mut plan = Plan::of(Vec::new(alloc));
+    plan.until = inside.iter().map(|taker| taker.until()).max();
+    if window.from > 0 {
+        plan.from = inside
+            .iter()
+            .min_by_key(|taker| taker.begin)
+            .map(|taker| taker.number);
+    }
+    plan.evidence = Evidence::Counting(Count { counted, from: 0 });
+    let weight = inside.len().saturating_mul(2);
+    Ok(Some(of_container(Pattern::CountExceeded(counted), plan, weight)))
+}
+
+/// The windows in which a mutex is acquired, or released, too often.
+pub(crate) fn add_mutex(
+    alloc: Global,
+    timeline: &Timeline,
+    candidates: &mut Vec<Candidate>,
+) -> Result<(), AllocError> {
+    let acquires = calls_of(alloc, timeline, true)?;
+    let releases = calls_of(alloc, timeline, false)?;
+    if let Some(found) = window_candidate(alloc, &acquires, &releases, Counted::Free)? {
+        candidates.push(found)?;
+    }
+    if let Some(found) = window_candidate(alloc, &releases, &acquires, Counted::Held)? {
+        candidates.push(found)?;
+    }
+    Ok(())
+}

@@ -1,0 +1,210 @@
+//! Two values of a queue or stack in the wrong order, each put in once.
+
+use crate::calls::PENDING;
+use crate::candidates::{Candidate, of_container, plan_until};
+use crate::patterns::Pattern;
+use crate::runs::Runs;
+use crate::trees::{Greatest, Mark, NONE};
+use std::alloc::{AllocError, Global};
+
+/// The most candidates of one pattern.
+const MOST: usize = 8;
+
+/// A value that is put in once, and taken at most once.
+#[derive(Clone, Copy)]
+struct Pair {
+    value: i64,
+    put_begin: u32,
+    put_end: u32,
+    /// The begin of its taking, or of the first that can be.
+    leaves: u32,
+    /// The end of its taking, or `PENDING`.
+    gone: u32,
+    /// The first number of the history after its taking.
+    until: u32,
+}
+
+/// The values that are put in once, and taken at most once.
+fn pairs_of(alloc: Global, runs: &Runs) -> Result<Vec<Pair>, AllocError> {
+    let first_pending = runs.first_pending();
+    let mut pairs = Vec::new(alloc);
+    for run in &runs.runs {
+        let (Some(put), 1, taken) = (run.puts.first(), run.puts.len(), run.takings.len()) else {
+            continue;
+        };
+        if taken > 1 {
+            continue;
+        }
+        let taking = run.takings.first();
+        pairs.push(Pair {
+            value: run.value,
+            put_begin: put.begin,
+            put_end: put.end,
+            leaves: taking.map_or(first_pending, |taking| taking.begin),
+            gone: taking.map_or(PENDING, |taking| taking.end),
+            until: taking.map_or(PENDING, |taking| taking.until()),
+        })?;
+    }
+    Ok(pairs)
+}
+
+/// The places of the pairs whose time, if they have one, is told, in its rising order.
+fn by_time<F: Fn(&Pair) -> Option<u32>>(
+    alloc: Global,
+    pairs: &[Pair],
+    time: F,
+) -> Result<Vec<(u32, usize)>, AllocError>
+    requires { F.IsAlwaysCallable time }
+{
+    let mut places = Vec::new(alloc);
+    for (place, pair) in pairs.iter().enumerate() {
+        if let Some(at) = time(pair) {
+            places.push((at, place))?;
+        }
+    }
+    places.sort_unstable();
+    Ok(places)
+}
+
+fn returned(at: u32) -> Option<u32> {
+    if at == PENDING { None } else { Some(at) }
+}
+
+/// The candidate of two values, of which the second is taken too early in a queue.
+fn queue_candidate(alloc: Global, first: &Pair, second: &Pair) -> Result<Candidate, AllocError> {
+    let values = [first.value, second.value];
+    let plan = plan_until(alloc, &values, &[], second.until)?;
+    let [first_value, second_value] = values;
+    let pattern = if first.gone == PENDING {
+        Pattern::LeftBehind {
+            first: first_value,
+            second: second_value,
+        }
+    } else {
+        Pattern::WrongOrder {
+            first: first_value,
+            second: second_value,
+        }
+    };
+    Ok(of_container(pattern, plan, 4))
+}
+
+/// The candidate of two values, of which the first is taken too early from a stack.
+fn stack_candidate(alloc: Global, first: &Pair, second: &Pair) -> Result<Candidate, AllocError> {
+    let values = [first.value, second.value];
+    let plan = plan_until(alloc, &values, &[], first.until)?;
+    let [first_value, second_value] = values;
+    let pattern = if second.gone == PENDING {
+        Pattern::LeftAbove {
+            first: first_value,
+            second: second_value,
+        }
+    } else {
+        Pattern::WrongOrder {
+            first: first_value,
+            second: second_value,
+        }
+    };
+    Ok(of_container(pattern, plan, 4))
+}
+
+/// Raises the mark to the one among these pairs that leaves last, of those whose put has returned
+/// by this moment.
+fn raise(pairs: &[Pair], ended: &[(u32, usize)], next: &mut usize, by: u32, latest: &mut Mark) {
+    for k in *next..ended.len() {
+        let Some((end, place)) = ended.get(k).copied() else {
+            break;
+        };
+        if end > by {
+            break;
+        }
+        let at = pairs.get(place).map_or(0, |pair| pair.leaves);
+        *latest = latest.greater(Mark { at, place });
+        *next = k.saturating_add(1);
+    }
+}
+
+/// Two values of a queue, of which the second is put in after the first and taken before it.
+pub(crate) fn add_queue_pairs(
+    alloc: Global,
+    runs: &Runs,
+    candidates: &mut Vec<Candidate>,
+) -> Result<(), AllocError> {
+    let pairs = pairs_of(alloc, runs)?;
+    let ended = by_time(alloc, &pairs, |pair| returned(pair.put_end))?;
+    let mut next = 0;
+    let mut latest = NONE;
+    let mut found: usize = 0;
+    for (begin, place) in &by_time(alloc, &pairs, |pair| Some(pair.put_begin))? {
+        let Some(second) = pairs.get(*place) else {
+            continue;
+        };
+        raise(&pairs, &ended, &mut next, *begin, &mut latest);
+        let Some(first) = pairs.get(latest.place) else {
+            continue;
+        };
+        if second.gone > latest.at || first.value == second.value {
+            continue;
+        }
+        candidates.push(queue_candidate(alloc, first, second)?)?;
+        found = found.saturating_add(1);
+        if found >= MOST {
+            break;
+        }
+    }
+    Ok(())
+}
+
+/// Adds to the tree, by the begins of their puts, the values whose put has returned by this moment.
+fn lay(pairs: &[Pair], ended: &[(u32, usize)], next: &mut usize, by: u32, laid: &mut Greatest) {
+    for k in *next..ended.len() {
+        let Some((end, place)) = ended.get(k).copied() else {
+            break;
+        };
+        if end > by {
+            break;
+        }
+        if let Some(pair) = pairs.get(place) {
+            let at = pair.leaves;
+            laid.raise(pair.put_begin as usize, Mark { at, place });
+        }
+        *next = k.saturating_add(1);
+    }
+}
+
+/// Two values of a stack, of which the second is put on the first, and the first is taken before
+/// the second.
+pub(crate) fn add_stack_pairs(
+    alloc: Global,
+    runs: &Runs,
+    candidates: &mut Vec<Candidate>,
+) -> Result<(), AllocError> {
+    let pairs = pairs_of(alloc, runs)?;
+    let ended = by_time(alloc, &pairs, |pair| returned(pair.put_end))?;
+    let leaving = by_time(alloc, &pairs, |pair| {
+        returned(pair.gone).map(|_| pair.leaves)
+    })?;
+    let end = runs.end as usize;
+    let mut laid = Greatest::new(alloc, end)?;
+    let mut next = 0;
+    let mut found: usize = 0;
+    for (leaves, place) in &leaving {
+        let Some(first) = pairs.get(*place) else {
+            continue;
+        };
+        lay(&pairs, &ended, &mut next, *leaves, &mut laid);
+        let latest = laid.greatest(first.put_end as usize, end);
+        let Some(second) = pairs.get(latest.place) else {
+            continue;
+        };
+        if latest.at < first.gone || first.value == second.value {
+            continue;
+        }
+        candidates.push(stack_candidate(alloc, first, second)?)?;
+        found = found.saturating_add(1);
+        if found >= MOST {
+            break;
+        }
+    }
+    Ok(())
+}

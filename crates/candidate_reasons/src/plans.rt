@@ -1,0 +1,303 @@
+//! Plans of reasons: what of an object's operations a reason is to keep. The cuts follow from the
+//! plan and the operations.
+
+use events::{End, Invocation, ObjectHistory};
+use projection::{Cut, Values};
+use refutation::{Evidence, Reason};
+use seq_objects::{AnyOp, AnyReply, Kind};
+use std::alloc::{AllocError, Global};
+use std::collections::BTreeSet;
+
+/// What a plan keeps: a value, at a map a key, or an operation that can be kept or left out, by its
+/// number.
+#[derive(Clone, Copy)]
+pub(crate) enum Element {
+    Value(i64),
+    Operation(u32),
+}
+
+/// What is kept, from a call on, until a number. Where `all_values` is set the elements are
+/// operations alone.
+#[derive(Drop)]
+pub(crate) struct Plan {
+    pub(crate) from: Option<u32>,
+    pub(crate) until: Option<u32>,
+    pub(crate) all_values: bool,
+    pub(crate) elements: Vec<Element>,
+    pub(crate) evidence: Evidence,
+}
+
+/// How an operation is to the part of a plan.
+#[derive(Clone, Copy)]
+pub(crate) enum Role {
+    Kept,
+    Optional,
+    LeftOut,
+}
+
+/// The values of a plan, and whether none is left for a pending taking.
+#[derive(Drop)]
+struct Choice {
+    values: Values,
+    settled: bool,
+}
+
+fn has(values: &Values, value: i64) -> bool {
+    match values {
+        Values::All => true,
+        Values::Only(values) => values.contains(&value),
+    }
+}
+
+fn kept_where(kept: bool) -> Role {
+    if kept { Role::Kept } else { Role::LeftOut }
+}
+
+/// What a taking is to the part; no reply: it is pending.
+fn taking_role(choice: &Choice, reply: Option<AnyReply>) -> Role {
+    match reply {
+        Some(AnyReply::Value(Some(value))) => kept_where(has(&choice.values, value)),
+        Some(_) => Role::Optional,
+        None => kept_where(!choice.settled),
+    }
+}
+
+/// What an operation on a map's key is to the part.
+fn entry_role(values: &Values, key: i64, op: AnyOp, reply: Option<AnyReply>) -> Role {
+    if !has(values, key) {
+        return Role::LeftOut;
+    }
+    match (op, reply) {
+        (AnyOp::Get(_), None) => Role::LeftOut,
+        (AnyOp::Get(_), Some(_)) => Role::Optional,
+        (AnyOp::Del(_), Some(AnyReply::Value(None))) => Role::Optional,
+        _ => Role::Kept,
+    }
+}
+
+/// What an operation of a register is to a part that keeps all values.
+fn register_role(op: AnyOp, reply: Option<AnyReply>) -> Role {
+    match (op, reply) {
+        (AnyOp::Read, None) => Role::LeftOut,
+        (AnyOp::Read, Some(_)) => Role::Optional,
+        (AnyOp::Cas(..), Some(AnyReply::NotSwapped)) => Role::Optional,
+        _ => Role::Kept,
+    }
+}
+
+/// What an operation of a register is to a part that keeps some values: a cell takes what it must.
+fn cell_role(reply: Option<AnyReply>) -> Role {
+    match reply {
+        Some(_) => Role::Optional,
+        None => Role::LeftOut,
+    }
+}
+
+fn reply_role(choice: &Choice, op: AnyOp, reply: Option<AnyReply>) -> Role {
+    match op {
+        AnyOp::Enqueue(value) => kept_where(has(&choice.values, value)),
+        AnyOp::Push(value) => kept_where(has(&choice.values, value)),
+        AnyOp::Insert(value) => kept_where(has(&choice.values, value)),
+        AnyOp::Dequeue | AnyOp::Pop | AnyOp::ExtractMin => taking_role(choice, reply),
+        AnyOp::Put(key, _) => entry_role(&choice.values, key, op, reply),
+        AnyOp::Get(key) => entry_role(&choice.values, key, op, reply),
+        AnyOp::Del(key) => entry_role(&choice.values, key, op, reply),
+        AnyOp::Write(_) | AnyOp::Read | AnyOp::Cas(..) => match choice.values {
+            Values::All => register_role(op, reply),
+            Values::Only(_) => cell_role(reply),
+        },
+        AnyOp::Acquire | AnyOp::Release => Role::Kept,
+    }
+}
+
+fn role_of(choice: &Choice, operation: &Invocation) -> Role {
+    match operation.end {
+        End::Returned { reply, .. } => reply_role(choice, operation.op, Some(reply)),
+        End::Pending => reply_role(choice, operation.op, None),
+        End::Failed => Role::LeftOut,
+    }
+}
+
+/// Whether an operation that did not fail puts in one of the values.
+fn puts(values: &Values, operation: &Invocation) -> bool {
+    match operation.end {
+        End::Failed => false,
+        _ => match operation.op {
+            AnyOp::Enqueue(value) => has(values, value),
+            AnyOp::Push(value) => has(values, value),
+            AnyOp::Insert(value) => has(values, value),
+            _ => false,
+        },
+    }
+}
+
+/// Whether an operation of a queue, stack or heap returned one of the values.
+fn takes(values: &Values, operation: &Invocation) -> bool {
+    match operation.op {
+        AnyOp::Dequeue | AnyOp::Pop | AnyOp::ExtractMin => match operation.end {
+            End::Returned { reply, .. } => match reply {
+                AnyReply::Value(Some(value)) => has(values, value),
+                _ => false,
+            },
+            _ => false,
+        },
+        _ => false,
+    }
+}
+
+/// Whether as many of the values were taken out as can have been put in.
+fn is_settled(values: &Values, operations: &[Invocation]) -> bool {
+    let put = operations.iter().filter(|o| puts(values, o)).count();
+    let taken = operations.iter().filter(|o| takes(values, o)).count();
+    put <= taken
+}
+
+impl Plan {
+    /// The plan that keeps everything that these elements name, and decides by a search.
+    pub(crate) fn of(elements: Vec<Element>) -> Plan {
+        Plan {
+            from: None,
+            until: None,
+            all_values: false,
+            elements,
+            evidence: Evidence::Search,
+        }
+    }
+
+    fn values(&self, alloc: Global) -> Result<Values, AllocError> {
+        if self.all_values {
+            return Ok(Values::All);
+        }
+        let mut values = BTreeSet::new(alloc);
+        for element in &self.elements {
+            if let Element::Value(value) = element {
+                values.insert(*value)?;
+            }
+        }
+        Ok(Values::Only(values))
+    }
+
+    fn optional(&self, alloc: Global) -> Result<BTreeSet<u32>, AllocError> {
+        let mut numbers = BTreeSet::new(alloc);
+        for element in &self.elements {
+            if let Element::Operation(number) = element {
+                numbers.insert(*number)?;
+            }
+        }
+        Ok(numbers)
+    }
+
+    fn choice(&self, alloc: Global, operations: &[Invocation]) -> Result<Choice, AllocError> {
+        let values = self.values(alloc)?;
+        let settled = is_settled(&values, operations);
+        Ok(Choice { values, settled })
+    }
+
+    /// Whether the operation can be seen between the beginning and the end of the plan.
+    fn touches(&self, operation: &Invocation) -> bool {
+        let over = match (self.from, operation.end) {
+            (Some(from), End::Returned { at, .. }) => at < from,
+            _ => false,
+        };
+        !over && self.until.is_none_or(|until| operation.number < until)
+    }
+
+    /// The cut that keeps the plan's values and operations.
+    fn keeping(&self, alloc: Global, history: &ObjectHistory) -> Result<Cut, AllocError> {
+        let operations = history.ops();
+        let choice = self.choice(alloc, operations)?;
+        let optional = self.optional(alloc)?;
+        let is_register = history.kind() == Kind::Register;
+        let mut numbers = BTreeSet::new(alloc);
+        for operation in operations {
+            let kept = match role_of(&choice, operation) {
+                Role::Kept => !is_register || self.touches(operation),
+                Role::Optional => optional.contains(&operation.number),
+                Role::LeftOut => false,
+            };
+            if kept {
+                numbers.insert(operation.number)?;
+            }
+        }
+        let values = choice.values;
+        if is_register && !self.all_values {
+            let other = other_than(&values);
+            return Ok(Cut::Cell {
+                values,
+                other,
+                numbers,
+            });
+        }
+        Ok(Cut::Keep { values, numbers })
+    }
+
+    /// The cuts of the window.
+    fn push_window(&self, cuts: &mut Vec<Cut>) -> Result<(), AllocError> {
+        if let Some(from) = self.from {
+            cuts.push(Cut::From(from))?;
+        }
+        if let Some(until) = self.until {
+            cuts.push(Cut::Until(until))?;
+        }
+        Ok(())
+    }
+
+    /// The cut that keeps the values and operations of a queue, stack, heap or map.
+    pub(crate) fn push_keeping(
+        &self,
+        alloc: Global,
+        history: &ObjectHistory,
+        cuts: &mut Vec<Cut>,
+    ) -> Result<(), AllocError> {
+        cuts.push(self.keeping(alloc, history)?)?;
+        Ok(())
+    }
+
+    /// The cuts that make the part, of this history.
+    pub(crate) fn push_cuts(
+        &self,
+        alloc: Global,
+        history: &ObjectHistory,
+        cuts: &mut Vec<Cut>,
+    ) -> Result<(), AllocError> {
+        match history.kind() {
+            Kind::Queue | Kind::Stack | Kind::Heap | Kind::Map => {
+                self.push_keeping(alloc, history, cuts)?;
+                self.push_window(cuts)
+            }
+            Kind::Register => {
+                self.push_window(cuts)?;
+                self.push_keeping(alloc, history, cuts)
+            }
+            Kind::Mutex => self.push_window(cuts),
+        }
+    }
+
+    /// The reason that the plan makes of this history.
+    pub(crate) fn reason(
+        &self,
+        alloc: Global,
+        history: &ObjectHistory,
+    ) -> Result<Reason, AllocError> {
+        let mut cuts = Vec::new(alloc);
+        self.push_cuts(alloc, history, &mut cuts)?;
+        Ok(Reason {
+            object: history.object(),
+            cuts,
+            evidence: self.evidence,
+        })
+    }
+}
+
+/// The least number from 0 on that is none of the values.
+fn other_than(values: &Values) -> i64 {
+    let mut other = 0;
+    if let Values::Only(values) = values {
+        for value in values {
+            if *value == other {
+                other = other.saturating_add(1);
+            }
+        }
+    }
+    other
+}

@@ -1,0 +1,288 @@
+//! The search for reasons: the patterns, the smallest first, and each made smaller.
+
+use crate::calls::{Timeline, timeline_of};
+use crate::candidates::Candidate;
+use crate::cells::add_cells;
+use crate::extracts::add_extracts;
+use crate::intervals::{add_empties, intervals_of};
+use crate::mutex::add_mutex;
+use crate::pairs::{add_queue_pairs, add_stack_pairs};
+use crate::patterns::Pattern;
+use crate::plans::{Element, Plan};
+use crate::runs::runs_in;
+use crate::shrinking::{Judge, tells};
+use crate::singles::add_singles;
+use crate::wholes::add_wholes;
+use events::{End, ObjectHistory};
+use projection::{Cut, part_by};
+use refutation::{Reason, Refutation, refute};
+use seq_objects::Kind;
+use std::alloc::{AllocError, Global};
+
+/// A reason that no order is valid, which need not be true, with the pattern that led to it, and at
+/// a map the key that the pattern is about.
+#[derive(Drop)]
+pub struct Proposal {
+    pub reason: Reason,
+    pub pattern: Pattern,
+    pub key: Option<i64>,
+}
+
+/// The most candidates that are tried.
+const MOST: usize = 24;
+
+/// A part of this many operations is small enough.
+const FEW: usize = 3;
+
+/// As many proposals are compared.
+const ENOUGH: usize = 6;
+
+/// A candidate of this weight is small as it is.
+const LIGHT: usize = 8;
+
+/// The most calls that are kept for a part to begin at.
+const MOST_STARTS: usize = 64;
+
+/// A part in which a plan is made smaller, its cuts, and the call at which it begins.
+#[derive(Drop)]
+struct Base {
+    part: ObjectHistory,
+    cuts: Vec<Cut>,
+    from: Option<u32>,
+}
+
+/// A proposal, and the number of operations of its part.
+#[derive(Drop)]
+struct Sized {
+    proposal: Proposal,
+    size: usize,
+}
+
+/// The candidates of a queue, stack or heap.
+fn add_container(
+    alloc: Global,
+    kind: Kind,
+    timeline: &Timeline,
+    candidates: &mut Vec<Candidate>,
+) -> Result<(), AllocError> {
+    let runs = runs_in(alloc, timeline)?;
+    let intervals = intervals_of(alloc, &runs)?;
+    add_singles(alloc, &runs, candidates)?;
+    add_empties(alloc, &runs, &intervals, candidates)?;
+    match kind {
+        Kind::Queue => add_queue_pairs(alloc, &runs, candidates),
+        Kind::Stack => add_stack_pairs(alloc, &runs, candidates),
+        Kind::Heap => add_extracts(alloc, &runs, &intervals, candidates),
+        _ => Ok(()),
+    }
+}
+
+/// The candidates by patterns, the lightest first.
+fn candidates_of(
+    alloc: Global,
+    kind: Kind,
+    timeline: &Timeline,
+) -> Result<Vec<Candidate>, AllocError> {
+    let mut candidates = Vec::new(alloc);
+    match kind {
+        Kind::Queue | Kind::Stack | Kind::Heap => {
+            add_container(alloc, kind, timeline, &mut candidates)?
+        }
+        Kind::Register | Kind::Map => add_cells(alloc, timeline, &mut candidates)?,
+        Kind::Mutex => add_mutex(alloc, timeline, &mut candidates)?,
+    }
+    candidates.sort_by_key(|candidate| candidate.weight)?;
+    Ok(candidates)
+}
+
+/// The candidates that keep everything.
+fn wholes_of(alloc: Global, kind: Kind, timeline: &Timeline) -> Result<Vec<Candidate>, AllocError> {
+    let mut candidates = Vec::new(alloc);
+    add_wholes(alloc, kind, timeline, &mut candidates)?;
+    Ok(candidates)
+}
+
+/// The last calls that find nothing and return before this number, at which a part may begin.
+fn starts_of(
+    alloc: Global,
+    history: &ObjectHistory,
+    until: u32,
+) -> Result<Vec<Element>, AllocError> {
+    let mut starts = Vec::new(alloc);
+    for operation in history.ops().iter().rev() {
+        if starts.len() >= MOST_STARTS {
+            break;
+        }
+        if let End::Returned { at, reply } = operation.end {
+            if at < until && tells(operation.op, reply) {
+                starts.push(Element::Operation(operation.number))?;
+            }
+        }
+    }
+    Ok(starts)
+}
+
+/// The cut of the part of a queue, stack or heap in which a plan is made smaller. Where it is not
+/// small the calls stay at which it may begin.
+fn push_base(
+    alloc: Global,
+    history: &ObjectHistory,
+    candidate: &Candidate,
+    cuts: &mut Vec<Cut>,
+) -> Result<(), AllocError> {
+    let plan = &candidate.plan;
+    if candidate.weight <= LIGHT {
+        return plan.push_keeping(alloc, history, cuts);
+    }
+    let mut elements = starts_of(alloc, history, plan.until.unwrap_or(u32::MAX))?;
+    elements.extend_from_slice(&plan.elements)?;
+    Plan::of(elements).push_keeping(alloc, history, cuts)
+}
+
+/// The cuts of the part in which a plan is made smaller.
+fn base_cuts(
+    alloc: Global,
+    history: &ObjectHistory,
+    candidate: &Candidate,
+) -> Result<Vec<Cut>, AllocError> {
+    let mut cuts = Vec::new(alloc);
+    match history.kind() {
+        Kind::Queue | Kind::Stack | Kind::Heap => {
+            push_base(alloc, history, candidate, &mut cuts)?
+        }
+        Kind::Register | Kind::Map | Kind::Mutex => {
+            candidate.plan.push_cuts(alloc, history, &mut cuts)?
+        }
+    }
+    Ok(cuts)
+}
+
+/// The number of operations of the part, where the reason is true.
+fn size_of(
+    alloc: Global,
+    history: &ObjectHistory,
+    reason: &Reason,
+    limit: u64,
+) -> Result<Option<usize>, AllocError> {
+    Ok(match refute(alloc, history, reason, limit)? {
+        Refutation::Impossible(part) => Some(part.ops().len()),
+        _ => None,
+    })
+}
+
+/// The reason of a plan that holds in a part which begins at a call: by the plan's cuts alone where
+/// they serve for the whole, and else by those after the part's.
+fn confirmed(
+    alloc: Global,
+    history: &ObjectHistory,
+    base: Base,
+    plan: &mut Plan,
+    limit: u64,
+) -> Result<Option<(Reason, usize)>, AllocError> {
+    let Base {
+        part,
+        mut cuts,
+        from,
+    } = base;
+    let own = plan.from;
+    plan.from = own.or(from);
+    if let Some(from) = plan.from {
+        plan.elements.push(Element::Operation(from))?;
+    }
+    let reason = plan.reason(alloc, history)?;
+    if let Some(size) = size_of(alloc, history, &reason, limit)? {
+        return Ok(Some((reason, size)));
+    }
+    plan.from = own;
+    plan.push_cuts(alloc, &part, &mut cuts)?;
+    let reason = Reason {
+        object: history.object(),
+        cuts,
+        evidence: plan.evidence,
+    };
+    let size = size_of(alloc, history, &reason, limit)?;
+    Ok(size.map(|size| (reason, size)))
+}
+
+/// The part in which a candidate's plan is made smaller, if there is one. Where it begins at a call
+/// the plan does so no more.
+fn base_of(
+    alloc: Global,
+    history: &ObjectHistory,
+    candidate: &mut Candidate,
+) -> Result<Option<Base>, AllocError> {
+    let cuts = base_cuts(alloc, history, candidate)?;
+    let from = candidate.plan.from.take();
+    let part = part_by(alloc, history, &cuts)?;
+    Ok(part.map(|part| Base { part, cuts, from }))
+}
+
+/// What a candidate comes to.
+fn tried(
+    alloc: Global,
+    history: &ObjectHistory,
+    mut candidate: Candidate,
+    limit: u64,
+) -> Result<Option<Sized>, AllocError> {
+    let Some(base) = base_of(alloc, history, &mut candidate)? else {
+        return Ok(None);
+    };
+    let mut judge = Judge::new(alloc, &base.part, limit);
+    if !judge.shrink(&mut candidate.plan)? {
+        return Ok(None);
+    }
+    let plan = &mut candidate.plan;
+    let Some((reason, size)) = confirmed(alloc, history, base, plan, limit)? else {
+        return Ok(None);
+    };
+    let Candidate { pattern, key, .. } = candidate;
+    let proposal = Proposal {
+        reason,
+        pattern,
+        key,
+    };
+    Ok(Some(Sized { proposal, size }))
+}
+
+/// The smallest reason that the candidates come to, if one does.
+fn best_of(
+    alloc: Global,
+    history: &ObjectHistory,
+    candidates: Vec<Candidate>,
+    limit: u64,
+) -> Result<Option<Proposal>, AllocError> {
+    let mut best: Option<Sized> = None;
+    let mut found: usize = 0;
+    for candidate in candidates.into_iter().take(MOST) {
+        if let Some(sized) = tried(alloc, history, candidate, limit)? {
+            found = found.saturating_add(1);
+            if best.as_ref().is_none_or(|least| sized.size < least.size) {
+                best = Some(sized);
+            }
+        }
+        if found >= ENOUGH || best.as_ref().is_some_and(|least| least.size <= FEW) {
+            break;
+        }
+    }
+    Ok(best.map(|sized| sized.proposal))
+}
+
+/// A small reason why no order of the object's operations is valid, if one is found. Nothing is
+/// promised of it: `reason_finder` checks it. The search for an order of one part tries at most
+/// `limit` operations.
+///
+/// An error: the allocator refused memory.
+pub fn propose(
+    alloc: Global,
+    history: &ObjectHistory,
+    limit: u64,
+) -> Result<Option<Proposal>, AllocError> {
+    let kind = history.kind();
+    let timeline = timeline_of(alloc, history.ops())?;
+    let candidates = candidates_of(alloc, kind, &timeline)?;
+    if let Some(proposal) = best_of(alloc, history, candidates, limit)? {
+        return Ok(Some(proposal));
+    }
+    let candidates = wholes_of(alloc, kind, &timeline)?;
+    best_of(alloc, history, candidates, limit)
+}

@@ -1,0 +1,162 @@
+//! Swaps of a register that are refused while the value that they expect surely is there.
+
+use crate::accesses::{Access, CellCalls, Need};
+use crate::candidates::Candidate;
+use crate::cells::{MOST, Scene, of_cell};
+use crate::patterns::Pattern;
+use crate::plans::{Element, Plan};
+use std::alloc::{AllocError, Global};
+
+/// A call that shows a content, and the one that begins last among those that show the same and
+/// return no later.
+#[derive(Clone, Copy)]
+struct Shown {
+    content: usize,
+    end: u32,
+    begin: u32,
+    place: usize,
+}
+
+/// The calls that show a content, by it, and then by their ends.
+fn all_shown(alloc: Global, cell: &CellCalls) -> Result<Vec<Shown>, AllocError> {
+    let mut all = Vec::new(alloc);
+    for (place, access) in cell.accesses.iter().enumerate() {
+        if let (Some(content), false) = (access.shows(), access.call.is_pending()) {
+            all.push(Shown {
+                content,
+                end: access.call.end,
+                begin: access.call.begin,
+                place,
+            })?;
+        }
+    }
+    all.sort_unstable_by_key(|shown| (shown.content, shown.end));
+    let mut last: Option<Shown> = None;
+    for shown in all.iter_mut() {
+        if let Some(before) = last {
+            if before.content == shown.content && before.begin > shown.begin {
+                shown.begin = before.begin;
+                shown.place = before.place;
+            }
+        }
+        last = Some(*shown);
+    }
+    Ok(all)
+}
+
+/// When the calls are over that set contents and begin by a moment: all, and those that set another
+/// content than the one that is over last.
+#[derive(Clone, Copy)]
+struct Over {
+    begin: u32,
+    content: usize,
+    end: u32,
+    end_of_others: u32,
+}
+
+/// The calls that set contents, by their begins.
+fn all_overs(alloc: Global, cell: &CellCalls) -> Result<Vec<Over>, AllocError> {
+    let mut all = Vec::new(alloc);
+    let mut now = Over {
+        begin: 0,
+        content: 0,
+        end: 0,
+        end_of_others: 0,
+    };
+    for access in &cell.accesses {
+        let Some(content) = access.sets else {
+            continue;
+        };
+        now.begin = access.call.begin;
+        let end = access.call.end;
+        if content == now.content {
+            now.end = now.end.max(end);
+        } else if end > now.end {
+            now.end_of_others = now.end;
+            now.end = end;
+            now.content = content;
+        } else {
+            now.end_of_others = now.end_of_others.max(end);
+        }
+        all.push(now)?;
+    }
+    Ok(all)
+}
+
+/// When the calls are over that set another content than this and begin before this moment.
+fn others_over(overs: &[Over], content: usize, moment: u32) -> u32 {
+    let next = overs.partition_point(|over| over.begin < moment);
+    match next.checked_sub(1).and_then(|last| overs.get(last)) {
+        Some(over) if over.content == content => over.end_of_others,
+        Some(over) => over.end,
+        None => 0,
+    }
+}
+
+/// The call that shows this content, returns before this moment, and begins last.
+fn last_shown(shown: &[Shown], content: usize, moment: u32) -> Option<Shown> {
+    let next = shown.partition_point(|shown| (shown.content, shown.end) < (content, moment));
+    let last = shown.get(next.checked_sub(1)?)?;
+    if last.content == content {
+        Some(*last)
+    } else {
+        None
+    }
+}
+
+/// What is wrong with a refused swap, if something is.
+fn refused(
+    alloc: Global,
+    scene: &Scene,
+    shown: &[Shown],
+    overs: &[Over],
+    access: &Access,
+) -> Result<Option<Candidate>, AllocError> {
+    let Need::IsNot(content) = access.need else {
+        return Ok(None);
+    };
+    let Some(last) = last_shown(shown, content, access.call.begin) else {
+        return Ok(None);
+    };
+    let (Some(value), Some(call)) = (scene.value(content), scene.call_at(last.place)) else {
+        return Ok(None);
+    };
+    if others_over(overs, content, access.call.end) >= last.begin {
+        return Ok(None);
+    }
+    let number = access.call.number;
+    let mut elements = Vec::new(alloc);
+    elements.push(Element::Operation(call.number))?;
+    elements.push(Element::Operation(number))?;
+    let mut plan = Plan::of(elements);
+    plan.all_values = true;
+    plan.from = Some(call.number);
+    plan.until = Some(access.call.until());
+    let pattern = Pattern::RefusedUnderItsValue { value, number };
+    Ok(Some(of_cell(scene.cell, pattern, plan, 2)))
+}
+
+/// The swaps that are refused while the value that they expect surely is there.
+pub(crate) fn add_refusals(
+    alloc: Global,
+    scene: &Scene,
+    candidates: &mut Vec<Candidate>,
+) -> Result<(), AllocError> {
+    let is_refused = |access: &Access| matches!(access.need, Need::IsNot(_));
+    if !scene.cell.accesses.iter().any(is_refused) {
+        return Ok(());
+    }
+    let shown = all_shown(alloc, scene.cell)?;
+    let overs = all_overs(alloc, scene.cell)?;
+    let mut found: usize = 0;
+    for access in &scene.cell.accesses {
+        if let Some(candidate) = refused(alloc, scene, &shown, &overs, access)? {
+            candidates.push(candidate)?;
+            found = found.saturating_add(1);
+        }
+        if found >= MOST {
+            break;
+        }
+    }
+    Ok(())
+}

@@ -1,0 +1,173 @@
+//! What calls of a cell set and show, by time.
+
+use crate::accesses::CellCalls;
+use std::alloc::{AllocError, Global};
+
+/// A call that sets a content: when it begins, and when all calls that set the same and begin no
+/// later are over.
+#[derive(Clone, Copy)]
+pub(crate) struct Setter {
+    pub(crate) content: usize,
+    pub(crate) begin: u32,
+    pub(crate) over: u32,
+}
+
+/// The calls that set, by content, and then by their begins.
+#[derive(Drop)]
+pub(crate) struct Setters {
+    setters: Vec<Setter>,
+}
+
+impl Setters {
+    pub(crate) fn of(alloc: Global, cell: &CellCalls) -> Result<Setters, AllocError> {
+        let mut setters = Vec::new(alloc);
+        for access in &cell.accesses {
+            if let Some(content) = access.sets {
+                setters.push(Setter {
+                    content,
+                    begin: access.call.begin,
+                    over: access.call.end,
+                })?;
+            }
+        }
+        setters.sort_unstable_by_key(|setter| (setter.content, setter.begin));
+        let mut last: Option<Setter> = None;
+        for setter in setters.iter_mut() {
+            if let Some(before) = last {
+                if before.content == setter.content {
+                    setter.over = setter.over.max(before.over);
+                }
+            }
+            last = Some(*setter);
+        }
+        Ok(Setters { setters })
+    }
+
+    /// The last one that sets this content and begins before this moment.
+    pub(crate) fn last_before(&self, content: usize, moment: u32) -> Option<Setter> {
+        let next = self.setters.partition_point(|setter| (setter.content, setter.begin)
+            < (content, moment));
+        let last = self.setters.get(next.checked_sub(1)?)?;
+        if last.content == content {
+            Some(*last)
+        } else {
+            None
+        }
+    }
+
+    /// The one that sets this content when as many as told have begun before it.
+    pub(crate) fn nth(&self, content: usize, before: usize) -> Option<Setter> {
+        let first = self
+            .setters
+            .partition_point(|setter| setter.content < content);
+        let setter = self.setters.get(first.checked_add(before)?)?;
+        if setter.content == content {
+            Some(*setter)
+        } else {
+            None
+        }
+    }
+
+    /// How many set this content.
+    pub(crate) fn count(&self, content: usize) -> usize {
+        let first = self
+            .setters
+            .partition_point(|setter| setter.content < content);
+        let next = self
+            .setters
+            .partition_point(|setter| setter.content <= content);
+        next.saturating_sub(first)
+    }
+}
+
+/// A call that shows what the cell contains after it, by its place in the cell.
+#[derive(Clone, Copy)]
+pub(crate) struct Sight {
+    pub(crate) begin: u32,
+    pub(crate) content: usize,
+    pub(crate) place: usize,
+}
+
+/// Of the calls that return by a moment the one that begins last, and the one that begins last of
+/// those that show another content.
+#[derive(Clone, Copy)]
+struct Latest {
+    end: u32,
+    first: Option<Sight>,
+    second: Option<Sight>,
+}
+
+fn is_later(sight: Sight, than: Option<Sight>) -> bool {
+    than.is_none_or(|than| sight.begin > than.begin)
+}
+
+impl Latest {
+    fn note(&mut self, sight: Sight) {
+        let is_same = self
+            .first
+            .is_some_and(|first| first.content == sight.content);
+        if is_later(sight, self.first) {
+            if !is_same {
+                self.second = self.first;
+            }
+            self.first = Some(sight);
+        } else if !is_same && is_later(sight, self.second) {
+            self.second = Some(sight);
+        }
+    }
+}
+
+/// The calls that show what the cell contains, by their ends.
+#[derive(Drop)]
+pub(crate) struct Sights {
+    latest: Vec<Latest>,
+}
+
+impl Sights {
+    pub(crate) fn of(alloc: Global, cell: &CellCalls) -> Result<Sights, AllocError> {
+        let mut ended = Vec::new(alloc);
+        for (place, access) in cell.accesses.iter().enumerate() {
+            if let (Some(content), false) = (access.shows(), access.call.is_pending()) {
+                let begin = access.call.begin;
+                let sight = Sight {
+                    begin,
+                    content,
+                    place,
+                };
+                ended.push((access.call.end, sight))?;
+            }
+        }
+        ended.sort_unstable_by_key(|(end, _)| *end);
+        let mut latest = Vec::new(alloc);
+        let mut now = Latest {
+            end: 0,
+            first: None,
+            second: None,
+        };
+        for (end, sight) in &ended {
+            now.end = *end;
+            now.note(*sight);
+            latest.push(now)?;
+        }
+        Ok(Sights { latest })
+    }
+
+    fn before(&self, moment: u32) -> Option<Latest> {
+        let next = self.latest.partition_point(|latest| latest.end < moment);
+        self.latest.get(next.checked_sub(1)?).copied()
+    }
+
+    /// Of the calls that return before this moment the one that begins last.
+    pub(crate) fn last_before(&self, moment: u32) -> Option<Sight> {
+        self.before(moment)?.first
+    }
+
+    /// The same, of those that show another content than this.
+    pub(crate) fn last_other(&self, content: usize, moment: u32) -> Option<Sight> {
+        let latest = self.before(moment)?;
+        match latest.first {
+            Some(first) if first.content != content => Some(first),
+            _ => latest.second,
+        }
+    }
+}

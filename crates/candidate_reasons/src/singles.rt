@@ -1,0 +1,89 @@
+//! Patterns of one value in a queue, stack or heap: it is taken more often, or earlier, than it is
+//! put in.
+
+use crate::calls::TimedCall;
+use crate::candidates::{Candidate, of_container, plan_until};
+use crate::patterns::Pattern;
+use crate::runs::{Run, Runs};
+use projection::{Count, Counted};
+use refutation::Evidence;
+use std::alloc::{AllocError, Global};
+
+/// The most candidates of this kind.
+const MOST: usize = 8;
+
+/// The ends of calls, in rising order.
+fn by_end(alloc: Global, calls: &[TimedCall]) -> Result<Vec<TimedCall>, AllocError> {
+    let mut ended: Vec<TimedCall> = calls.iter().copied().collect(alloc)?;
+    ended.sort_unstable_by_key(|call| call.end);
+    Ok(ended)
+}
+
+/// The first taking, in the order of their ends, that returns when fewer puts have begun than
+/// takings have ended, and how many had ended before it.
+fn excess(alloc: Global, run: &Run) -> Result<Option<(usize, TimedCall)>, AllocError> {
+    for (before, taking) in by_end(alloc, &run.takings)?.iter().enumerate() {
+        let put = run.puts.get(before);
+        if put.is_none_or(|put| put.begin > taking.end) {
+            return Ok(Some((before, *taking)));
+        }
+    }
+    Ok(None)
+}
+
+/// How often a value is put in by other runs than this one.
+fn others(runs: &[Run], value: i64, at: usize) -> usize {
+    let from = runs.partition_point(|run| run.value < value);
+    let to = runs.partition_point(|run| run.value <= value);
+    let mut calls: usize = 0;
+    for place in from..to {
+        if place != at {
+            calls = calls.saturating_add(runs.get(place).map_or(0, |run| run.puts.len()));
+        }
+    }
+    calls
+}
+
+/// What is wrong with a value that is put in as often as told in all, when as many takings of it as
+/// told have returned, one more than puts have begun.
+fn pattern_of(value: i64, puts: usize, taken: usize) -> Pattern {
+    match (puts, taken) {
+        (0, _) => Pattern::NeverSet(value),
+        (_, 1) => Pattern::TooEarly(value),
+        (1, 2) => Pattern::TakenTwice(value),
+        _ => Pattern::TakenTooOften {
+            value,
+            taken,
+            set: taken.saturating_sub(1),
+        },
+    }
+}
+
+/// The values that are taken more often than they are put in. A count shows it.
+pub(crate) fn add_singles(
+    alloc: Global,
+    runs: &Runs,
+    candidates: &mut Vec<Candidate>,
+) -> Result<(), AllocError> {
+    let mut found: usize = 0;
+    for (place, run) in runs.runs.iter().enumerate() {
+        let Some((before, taking)) = excess(alloc, run)? else {
+            continue;
+        };
+        let elsewhere = others(&runs.runs, run.value, place);
+        let puts = elsewhere.saturating_add(run.puts.len());
+        let taken = elsewhere.saturating_add(before).saturating_add(1);
+        let pattern = pattern_of(run.value, puts, taken);
+        let mut plan = plan_until(alloc, &[run.value], &[], taking.until())?;
+        plan.evidence = Evidence::Counting(Count {
+            counted: Counted::Value(run.value),
+            from: 0,
+        });
+        candidates.push(of_container(pattern, plan, puts.saturating_add(taken)))?;
+        found = found.saturating_add(1);
+        if found >= MOST {
+            break;
+        }
+    }
+    Ok(())
+}

@@ -1,0 +1,191 @@
+//! Contents of a cell that are taken away more often than they are set.
+
+use crate::accesses::{Access, CellCalls, NOTHING, Need};
+use crate::calls::TimedCall;
+use crate::candidates::Candidate;
+use crate::cells::{MOST, MOST_NAMED, Scene, cell_plan, of_cell};
+use crate::patterns::Pattern;
+use crate::windows::{shortest_window, takers_in};
+use projection::{Count, Counted};
+use refutation::Evidence;
+use std::alloc::{AllocError, Global};
+
+/// What of a cell is counted; nothing for a register that contains nothing, which no call counts.
+fn counted(cell: &CellCalls, content: usize) -> Option<Counted> {
+    let value = cell.contents.get(content).copied()?;
+    match (cell.key, value) {
+        (None, Some(value)) => Some(Counted::Value(value)),
+        (None, None) => None,
+        (Some(key), Some(value)) => Some(Counted::Entry { key, value }),
+        (Some(key), None) => Some(Counted::NoEntry(key)),
+    }
+}
+
+/// The content that a call takes away, by its reply.
+fn taken_by(access: &Access) -> Option<usize> {
+    match (access.need, access.sets) {
+        (Need::Is(content), Some(_)) if !access.call.is_pending() => Some(content),
+        _ => None,
+    }
+}
+
+/// The calls that take a content away, or set one, side by side by contents.
+fn by_content<F: Fn(&Access) -> Option<usize>>(
+    alloc: Global,
+    cell: &CellCalls,
+    content_of: F,
+) -> Result<Vec<(usize, TimedCall)>, AllocError>
+    requires { F.IsAlwaysCallable content_of }
+{
+    let mut calls = Vec::new(alloc);
+    for access in &cell.accesses {
+        if let Some(content) = content_of(access) {
+            calls.push((content, access.call))?;
+        }
+    }
+    calls.sort_unstable_by_key(|(content, call)| (*content, call.end));
+    Ok(calls)
+}
+
+/// The calls of one content.
+fn calls_on(
+    alloc: Global,
+    calls: &[(usize, TimedCall)],
+    content: usize,
+) -> Result<Vec<TimedCall>, AllocError> {
+    let from = calls.partition_point(|(other, _)| *other < content);
+    let mut own = Vec::new(alloc);
+    for place in from..calls.len() {
+        match calls.get(place) {
+            Some((other, call)) if *other == content => own.push(*call)?,
+            _ => break,
+        }
+    }
+    Ok(own)
+}
+
+/// How many of the takers, which come by their ends, have returned when fewer setters have begun;
+/// nothing where there is no such moment.
+fn excess(scene: &Scene, content: usize, takers: &[TimedCall]) -> Option<usize> {
+    let at_first: usize = if content == NOTHING { 1 } else { 0 };
+    for (before, taker) in takers.iter().enumerate() {
+        let Some(needed) = before.checked_sub(at_first) else {
+            continue;
+        };
+        let setter = scene.setters.nth(content, needed);
+        if setter.is_none_or(|setter| setter.begin > taker.end) {
+            return Some(before.saturating_add(1));
+        }
+    }
+    None
+}
+
+/// The candidate of a content that these calls take away, one more than have set it.
+fn excess_candidate(
+    alloc: Global,
+    scene: &Scene,
+    content: usize,
+    takers: &[TimedCall],
+    counted: Counted,
+) -> Result<Candidate, AllocError> {
+    let mut plan = cell_plan(alloc, scene.cell, &[content], takers)?;
+    plan.until = takers.last().map(|taker| taker.until());
+    plan.evidence = Evidence::Counting(Count { counted, from: 0 });
+    let taken = takers.len();
+    let set = taken.saturating_sub(1);
+    let pattern = match scene.value(content) {
+        Some(value) if taken == 2 && scene.setters.count(content) == 1 => {
+            Pattern::TakenTwice(value)
+        }
+        Some(value) => Pattern::TakenTooOften { value, taken, set },
+        None => Pattern::CountExceeded(counted),
+    };
+    Ok(of_cell(scene.cell, pattern, plan, taken.saturating_mul(2)))
+}
+
+/// The contents that are taken away more often, from the beginning on, than they are set.
+pub(crate) fn add_excesses(
+    alloc: Global,
+    scene: &Scene,
+    candidates: &mut Vec<Candidate>,
+) -> Result<(), AllocError> {
+    let takers = by_content(alloc, scene.cell, |access| taken_by(access))?;
+    let mut found: usize = 0;
+    for content in 0..scene.cell.contents.len() {
+        let Some(counted) = counted(scene.cell, content) else {
+            continue;
+        };
+        let own = calls_on(alloc, &takers, content)?;
+        let Some(many) = excess(scene, content, &own) else {
+            continue;
+        };
+        if many > MOST_NAMED || many == 1 && content != NOTHING {
+            continue;
+        }
+        let first = own.get(..many).unwrap_or(&own);
+        candidates.push(excess_candidate(alloc, scene, content, first, counted)?)?;
+        found = found.saturating_add(1);
+        if found >= MOST {
+            break;
+        }
+    }
+    Ok(())
+}
+
+/// The candidate of a content that is taken away in a window more often than it can have been
+/// there.
+fn window_candidate(
+    alloc: Global,
+    scene: &Scene,
+    content: usize,
+    takers: &[TimedCall],
+    setters: &[TimedCall],
+    counted: Counted,
+) -> Result<Option<Candidate>, AllocError> {
+    let Some(window) = shortest_window(alloc, takers, setters, content == NOTHING)? else {
+        return Ok(None);
+    };
+    let inside = takers_in(alloc, takers, window)?;
+    let mut plan = cell_plan(alloc, scene.cell, &[content], &inside)?;
+    plan.until = inside.last().map(|taker| taker.until());
+    if window.from > 0 {
+        plan.from = inside
+            .iter()
+            .min_by_key(|taker| taker.begin)
+            .map(|taker| taker.number);
+    }
+    plan.evidence = Evidence::Counting(Count { counted, from: 0 });
+    let weight = inside.len().saturating_mul(2);
+    let pattern = Pattern::CountExceeded(counted);
+    Ok(Some(of_cell(scene.cell, pattern, plan, weight)))
+}
+
+/// The contents that are set more than once and in a window taken away more often than they can
+/// have been there.
+pub(crate) fn add_windows(
+    alloc: Global,
+    scene: &Scene,
+    candidates: &mut Vec<Candidate>,
+) -> Result<(), AllocError> {
+    let takers = by_content(alloc, scene.cell, |access| taken_by(access))?;
+    let setters = by_content(alloc, scene.cell, |access| access.sets)?;
+    let mut found: usize = 0;
+    for content in 0..scene.cell.contents.len() {
+        let Some(counted) = counted(scene.cell, content) else {
+            continue;
+        };
+        let own = calls_on(alloc, &takers, content)?;
+        let set = calls_on(alloc, &setters, content)?;
+        if own.len() < 2 {
+            continue;
+        }
+        if let Some(candidate) = window_candidate(alloc, scene, content, &own, &set, counted)? {
+            candidates.push(candidate)?;
+            found = found.saturating_add(1);
+        }
+        if found >= MOST {
+            break;
+        }
+    }
+    Ok(())
+}

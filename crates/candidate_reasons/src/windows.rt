@@ -1,0 +1,156 @@
+//! Windows of time in which a content is taken away more often than it can have been there.
+
+use crate::calls::{PENDING, TimedCall};
+use crate::trees::Most;
+use std::alloc::{AllocError, Global};
+
+/// What happens at a moment.
+#[derive(Clone, Copy)]
+enum Step {
+    SetterBegins,
+    SetterEnds,
+    TakerEnds,
+}
+
+/// A step, and the begin of its call.
+#[derive(Clone, Copy)]
+struct Change {
+    at: u32,
+    step: Step,
+    begin: u32,
+}
+
+/// A window in which more takers begin and end than setters touch it, by the moments at which it
+/// begins and ends. One from moment 0 on is a window from the first beginning.
+#[derive(Clone, Copy)]
+pub(crate) struct Window {
+    pub(crate) from: u32,
+    pub(crate) to: u32,
+}
+
+fn changes_of(
+    alloc: Global,
+    takers: &[TimedCall],
+    setters: &[TimedCall],
+) -> Result<Vec<Change>, AllocError> {
+    let mut changes = Vec::new(alloc);
+    for call in takers {
+        if call.end != PENDING {
+            changes.push(Change {
+                at: call.end,
+                step: Step::TakerEnds,
+                begin: call.begin,
+            })?;
+        }
+    }
+    for call in setters {
+        changes.push(Change {
+            at: call.begin,
+            step: Step::SetterBegins,
+            begin: call.begin,
+        })?;
+        if call.end != PENDING {
+            changes.push(Change {
+                at: call.end,
+                step: Step::SetterEnds,
+                begin: call.begin,
+            })?;
+        }
+    }
+    changes.sort_unstable_by_key(|change| change.at);
+    Ok(changes)
+}
+
+/// The begins of takers, at which a window may begin, in rising order; moment 0 before them.
+fn starts_of(alloc: Global, takers: &[TimedCall]) -> Result<Vec<u32>, AllocError> {
+    let mut starts = Vec::new(alloc);
+    starts.push(0)?;
+    for call in takers {
+        starts.push(call.begin)?;
+    }
+    starts.sort_unstable();
+    Ok(starts)
+}
+
+/// The counts of takers less setters in the windows that begin at each start.
+#[derive(Drop)]
+struct Balance {
+    starts: Vec<u32>,
+    counts: Most,
+}
+
+impl Balance {
+    fn new(
+        alloc: Global,
+        takers: &[TimedCall],
+        is_there_at_first: bool,
+    ) -> Result<Balance, AllocError> {
+        let starts = starts_of(alloc, takers)?;
+        let mut counts = Most::new(alloc, starts.len())?;
+        if !is_there_at_first {
+            counts.add(0, 1, 1);
+        }
+        Ok(Balance { starts, counts })
+    }
+
+    fn note(&mut self, change: &Change) {
+        let count = self.starts.len();
+        match change.step {
+            Step::TakerEnds => {
+                let to = self.starts.partition_point(|start| *start <= change.begin);
+                self.counts.add(0, to, 1);
+            }
+            Step::SetterBegins => self.counts.add(0, count, -1),
+            Step::SetterEnds => {
+                let from = self.starts.partition_point(|start| *start <= change.at);
+                self.counts.add(from, count, 1);
+            }
+        }
+    }
+
+    /// The last start of a window in which the content is taken away once more than it can have
+    /// been there.
+    fn exceeded(&self) -> Option<u32> {
+        let place = self.counts.last_at_least(2)?;
+        self.starts.get(place).copied()
+    }
+}
+
+/// The shortest window in which a content, which there can be once, is taken away more often than
+/// it can have been there.
+pub(crate) fn shortest_window(
+    alloc: Global,
+    takers: &[TimedCall],
+    setters: &[TimedCall],
+    is_there_at_first: bool,
+) -> Result<Option<Window>, AllocError> {
+    let mut balance = Balance::new(alloc, takers, is_there_at_first)?;
+    let mut best: Option<Window> = None;
+    for change in &changes_of(alloc, takers, setters)? {
+        balance.note(change);
+        if !matches!(change.step, Step::TakerEnds) {
+            continue;
+        }
+        let Some(from) = balance.exceeded() else {
+            continue;
+        };
+        let to = change.at;
+        if best.is_none_or(|best| to.saturating_sub(from) < best.to.saturating_sub(best.from)) {
+            best = Some(Window { from, to });
+        }
+    }
+    Ok(best)
+}
+
+/// The takers that begin and end in the window.
+pub(crate) fn takers_in(
+    alloc: Global,
+    takers: &[TimedCall],
+    window: Window,
+) -> Result<Vec<TimedCall>, AllocError> {
+    takers
+        .iter()
+        .filter(|call| call.begin >= window.from && call.end <= window.to)
+        .copied()
+        .collect(alloc)
+}

@@ -1,0 +1,39 @@
+-- What a finder of reasons hands out.
+use Rattle.std.specs.Prelude.{◌≡◌, ℕ, List, Option, IfSome}
+use Rattle.model.specs.declared.Kind.{Kind}
+use Rattle.model.specs.Orders.{Call, calls_on}
+use Rattle.events.specs.declared.event.Event.{Event}
+use Rattle.events.specs.Events.{kind_at, denoted}
+use Rattle.events.specs.Operations.{ObjectCalls, calls_of}
+use Rattle.order_search.specs.Outcomes.{IsNoneValid}
+use Rattle.projection.specs.Cuts.{NamesPart, part_kind}
+use Rattle.projection.specs.Counts.{IsOverdrawn}
+use Rattle.refutation.specs.declared.reason.Evidence.{Evidence}
+use Rattle.refutation.specs.declared.reason.Evidence.TheVariants.{Search, Counting}
+use Rattle.reason_finder.specs.declared.finding.FoundReason.{FoundReason}
+
+-- What the evidence shows of a part: a search, that no order of it is valid; a count, that a content
+-- was taken away more often than it can have been there.
+abbrev pub IsShownBy : Evidence → ObjectCalls → Type 0
+IsShownBy Search part = IsNoneValid part.kind (calls_of part.ops)
+IsShownBy (Counting count) part = IsOverdrawn part.kind count (calls_of part.ops)
+
+-- What was found is a reason for the object with this number, kind and calls.
+pub record IsReasonFor (number : ℕ) (kind : Kind) (calls : List Call) (f : FoundReason)
+    : Type 0 where
+  -- no order of the calls is valid
+  pub impossible : IsNoneValid kind calls
+  -- the reason names the object
+  pub named : f.reason.object ≡ number
+  -- the part is of the same object, of the kind that the cuts make of its own, and is the one that
+  -- they name
+  pub object : f.part.object ≡ number
+  pub kind_of_part : f.part.kind ≡ part_kind f.reason.cuts.items kind
+  pub part : NamesPart f.reason.cuts.items calls (calls_of f.part.ops)
+  -- the evidence shows that the part has no valid order
+  pub shown : IsShownBy f.reason.evidence f.part
+
+-- where a reason was found for the object with this number, it is one, in the history that the
+-- events denote
+abbrev pub IsReasonOn : List Event → ℕ → Option FoundReason → Type 0
+IsReasonOn es x o = IfSome o (IsReasonFor x (kind_at es x) (calls_on x (denoted es)))
