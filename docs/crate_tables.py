@@ -19,7 +19,7 @@ def groups():
     found, heading = [], None
     with open(f"{ROOT}/crates.txt") as file:
         for line in map(str.strip, file):
-            if line.startswith("# ") and ":" in line and not line.startswith("# Each line"):
+            if line.startswith("# ") and not line.startswith("# Each line"):
                 found.append((line[2:], []))
             elif line and not line.startswith("#"):
                 name, _, used = line.partition(":")
