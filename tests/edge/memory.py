@@ -113,9 +113,8 @@ def is_out_of_memory(command, whole, ran):
     if command == "search":
         return object_is_out_of_memory(whole, ran)
     if command == "judge":
-        # It tells only the objects that have no certificate. Where no memory is left to look for a reason it searches.
-        lines = rb"(; object [01]: (out of memory|out of steps after 1000)\n)+"
-        return ran.status == NO_MEMORY and re.fullmatch(lines, ran.out) is not None
+        # It tells only the objects that have no certificate.
+        return ran.status == NO_MEMORY and re.fullmatch(rb"(; object [01]: out of memory\n)+", ran.out) is not None
     if command in ("run", "simulate") and ran.status == NO_MEMORY:
         return ran.out.endswith(b"; " + OUT) or command == "run" and ran.out == b"no thread\n"
     return False
