@@ -8,16 +8,11 @@ ghost use Rattle.search.specs.Answers.{IfFound, IsFor};
 
 use events::ObjectHistory;
 use finder::find;
-use reason_finder::find_reason;
 use search::{Search, SearchOutcome, search};
 use std::alloc::Global;
 
-/// How many operations the search for an order of one part of a reason may try.
-const STEPS_OF_A_PART: u64 = 10_000;
-
-/// Looks for a certificate of an object: the finder first; where it finds none, or is refused
-/// memory, the finder of reasons, which may find that there is none; and else a search of at most
-/// `limit` steps. The finders take none of these steps.
+/// Looks for a certificate of an object: the finder first, which takes none of the steps, and where
+/// it finds none, or is refused memory, a search of at most `limit` steps.
 ///
 /// That a limit is enough is not promised.
 pub fn decide(alloc: Global, history: &ObjectHistory, limit: u64) -> Search
@@ -37,12 +32,6 @@ pub fn decide(alloc: Global, history: &ObjectHistory, limit: u64) -> Search
     if let Ok(finder::FindOutcome::Order(certificate)) = find(alloc, history) {
         return Search {
             found: SearchOutcome::Found(certificate),
-            steps: 0,
-        };
-    }
-    if let Ok(Some(_)) = find_reason(alloc, history, STEPS_OF_A_PART) {
-        return Search {
-            found: SearchOutcome::Impossible,
             steps: 0,
         };
     }
