@@ -38,7 +38,7 @@ def page(text):
     rows = {name: words for name, words, _ in (found.groups() for found in map(ROW.match, text.split("\n")) if found)}
     listed = groups()
     own = [name for _, crates in listed for name, _ in crates]
-    missing = [name for name in own if name not in rows]
+    missing = [name for name in own if not rows.get(name, '').strip()]
     for heading, crates in listed:
         made = "\n".join(f"| `{name}` | {rows.get(name, '')} |{stands_on(used, own)}|" for name, used in crates)
         table = re.compile(rf"(### {re.escape(heading)}\n\n\| crate [^\n]*\n\|---[^\n]*\n)(?:\|[^\n]*\n)*")
