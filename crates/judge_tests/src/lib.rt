@@ -12,10 +12,10 @@ mod histories;
 #[cfg(test)]
 mod judgements;
 #[cfg(test)]
+mod lines_of_verdicts;
+#[cfg(test)]
 mod orders;
 #[cfg(test)]
 mod reading;
-#[cfg(test)]
-mod verdicts;
 #[cfg(test)]
 mod workers;
