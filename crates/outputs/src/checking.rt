@@ -117,7 +117,7 @@ pub fn check_sources<R: Threads + Sync, H: Source, C: Source, S: Sink>(
     ensures linearizable { IfOk result (λ status. status ≡ yes_status →
         IsLinearizableRead (H.remaining history.old) (H.remaining history.new)) }
     // The lines of a verdict that holds of the bytes that were read are written, and the status is
-    // its own; or memory was refused before they were judged.
+    // its own; or one line says that memory was refused.
     ensures leaves { IfOk result (λ status. Leaves
         (IsCheckOfRead (H.remaining history.old) (H.remaining history.new)
         (C.remaining certificates.old) (C.remaining certificates.new) IsOutOfMemory)
