@@ -1,6 +1,6 @@
 //! Workers that share the objects of a history.
 
-ghost use Rattle.std.specs.Prelude.{◌≡◌, ◌<◌, OnOk, IfErr, AllPairs};
+ghost use Rattle.std.specs.Prelude.{◌≡◌, ◌<◌, OnOk, IfErr, AllPairs, ◌+◌};
 ghost use Rattle.certificate.specs.Denotes.{AreDistinct};
 ghost use Rattle.checker.specs.Refusals.{AreValid, IsCheckAnswer, IsFirstRefusal};
 ghost use Rattle.checker.specs.Checking.{AreAllPlaces};
