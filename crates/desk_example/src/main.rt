@@ -2,7 +2,7 @@
 //! second by `call`, which does the same.
 #![tactic(auto)]
 
-ghost use Rattle.std.specs.Prelude.{◌≡◌, IfOk};
+ghost use Rattle.std.specs.Prelude.{◌≡◌, ◌<◌, length, IfOk};
 
 use combiner::{Combined, call, combine};
 use publication::{Client, Desk};
@@ -34,7 +34,8 @@ fn combine_until_served(
     desk: &Desk<AnyObject>,
     client: Client<AnyObject>,
 ) -> std::io::Result<Client<AnyObject>>
-    requires { (client.desk ≡ desk.now.id) }
+    requires desk { client.desk ≡ desk.now.id }
+    requires object { 0 < length desk.now.id.kinds }
     ensures { IfOk result (λ c. c.desk ≡ client.desk) }
 {
     let (client, first) = combine(desk, client, 0);
@@ -51,8 +52,9 @@ fn main(rt: HostRuntime) -> std::io::Result<()> {
     let (desk, mut zero, one) = desk_for_two(rt.alloc())?;
     // A call posts a request on object 0, and combines until a pass has served it: its own, or that
     // of another client in another thread. Then it takes the answer.
-    if desk.post(&mut zero, 0, AnyOp::Enqueue(7)).is_err() {
-        return println!(rt; "the call was not posted");
+    match desk.post(&mut zero, 0, AnyOp::Enqueue(7)) {
+        Ok(_) => {}
+        Err(_) => return println!(rt; "the call was not posted"),
     }
     let mut zero = combine_until_served(&rt, &desk, zero)?;
     println!(rt; "{:?}", desk.poll(&mut zero))?;
