@@ -1,12 +1,12 @@
 //! A run: clients make calls on objects, and what they did is judged.
 
-ghost use Rattle.std.specs.Prelude.{◌≡◌, ◌<◌, ℕ, List, false, IfOk, IfErr};
+ghost use Rattle.std.specs.Prelude.{◌≡◌, ◌<◌, ◌++◌, ℕ, List, false, IfOk, IfErr};
 ghost use Rattle.model.specs.declared.Kind.{Kind};
 ghost use Rattle.desk_model.specs.Records.{IsSoundRecord};
 ghost use Rattle.certificate.specs.Denotes.{AreDistinct};
 ghost use Rattle.checker.specs.Refusals.{AreValid};
 ghost use Rattle.judging.specs.Verdicts.{IsYesUnlessMemory, JudgesBy};
-ghost use Rattle.transcript.specs.Accounts.{AreCertificatesOf};
+ghost use Rattle.transcript.specs.Written.{IsHistoryText};
 ghost use Rattle.outputs.specs.Outputs.{Leaves};
 ghost use Rattle.commands.specs.Runs.{IsRecordOutput, IsRun, IsTextOf, Says, journals_of, logs_of};
 ghost use Rattle.commands.specs.Runs.{work_of};
@@ -29,16 +29,16 @@ use std::thread::Threads;
 use transcript::{certificates, history, sound_record_is_accepted, write_history};
 use workload::workload;
 
-/// The lines of the record's history, then this text, and its certificates as comments.
+/// The lines of the record's history, then these two texts.
 fn text_of(
     alloc: Global,
     record: &Record<AnyObject>,
     between: &[u8],
-    certificates: &[Certificate],
+    comments: &[u8],
 ) -> Result<Vec<u8>, AllocError>
-    requires { AreCertificatesOf (journals_of record.now) (logs_of record.now) certificates.now }
-    ensures { IfOk result (λ text.
-        IsTextOf (journals_of record.now) (logs_of record.now) between.now text.items) }
+    ensures { IfOk result (λ text. (history : List ℕ)
+        × IsHistoryText (journals_of record.now) history
+        × (text.items ≡ history ++ (between.now ++ comments.now))) }
 {
     let mut sink = Out::new(Vec::new(alloc));
     if write_history(alloc, record, &mut sink).is_err() {
@@ -46,8 +46,7 @@ fn text_of(
     }
     let mut text = sink.into_inner();
     text.extend_from_slice(between)?;
-    let comments = comments_text(alloc, certificates)?;
-    text.extend_from_slice(&comments)?;
+    text.extend_from_slice(comments)?;
     Ok(text)
 }
 
@@ -79,7 +78,8 @@ fn account_of(
     sound_record_is_accepted();
     let history = history(alloc, record)?;
     let certificates = certificates(alloc, record)?;
-    let text = text_of(alloc, record, between, &certificates)?;
+    let comments = comments_text(alloc, &certificates)?;
+    let text = text_of(alloc, record, between, &comments)?;
     let verdict = verdict_by(alloc, &history, &certificates);
     Ok((text, verdict))
 }
