@@ -6,7 +6,6 @@ ghost use Rattle.desk_model.specs.Records.{IsSoundRecord};
 ghost use Rattle.certificate.specs.Denotes.{AreDistinct};
 ghost use Rattle.checker.specs.Refusals.{AreValid};
 ghost use Rattle.judging.specs.Verdicts.{IsYesUnlessMemory, JudgesBy};
-ghost use Rattle.transcript.specs.Written.{IsHistoryText};
 ghost use Rattle.outputs.specs.Outputs.{Leaves};
 ghost use Rattle.commands.specs.Runs.{IsRecordOutput, IsRun, IsTextOf, Says, journals_of, logs_of};
 ghost use Rattle.commands.specs.Runs.{work_of};
@@ -29,16 +28,10 @@ use std::thread::Threads;
 use transcript::{certificates, history, sound_record_is_accepted, write_history};
 use workload::workload;
 
-/// The lines of the record's history, then these two texts.
-fn text_of(
-    alloc: Global,
-    record: &Record<AnyObject>,
-    between: &[u8],
-    comments: &[u8],
-) -> Result<Vec<u8>, AllocError>
-    ensures { IfOk result (λ text. (history : List ℕ)
-        × IsHistoryText (journals_of record.now) history
-        × (text.items ≡ history ++ (between.now ++ comments.now))) }
+/// The lines of the record's history, then this text, and its certificates as comments.
+fn text_of(alloc: Global, record: &Record<AnyObject>, between: &[u8]) -> Result<Vec<u8>, AllocError>
+    ensures { IfOk result (λ text.
+        IsTextOf (journals_of record.now) (logs_of record.now) between.now text.items) }
 {
     let mut sink = Out::new(Vec::new(alloc));
     if write_history(alloc, record, &mut sink).is_err() {
@@ -46,7 +39,9 @@ fn text_of(
     }
     let mut text = sink.into_inner();
     text.extend_from_slice(between)?;
-    text.extend_from_slice(comments)?;
+    let certificates = certificates(alloc, record)?;
+    let comments = comments_text(alloc, &certificates)?;
+    text.extend_from_slice(&comments)?;
     Ok(text)
 }
 
@@ -78,8 +73,7 @@ fn account_of(
     sound_record_is_accepted();
     let history = history(alloc, record)?;
     let certificates = certificates(alloc, record)?;
-    let comments = comments_text(alloc, &certificates)?;
-    let text = text_of(alloc, record, between, &comments)?;
+    let text = text_of(alloc, record, between)?;
     let verdict = verdict_by(alloc, &history, &certificates);
     Ok((text, verdict))
 }
