@@ -48,7 +48,9 @@ static void say_counts(void) {
     }
 }
 
-/* The program ends by this call alone. */
+/* A program ends by this call, or returns from main. */
+__attribute__((destructor)) static void end(void) { say_counts(); }
+
 void _exit(int status) {
     say_counts();
     syscall(SYS_exit_group, status);
