@@ -5,3 +5,4 @@ pub use Rattle.events.specs.Events
 pub use Rattle.events.specs.Operations
 pub use Rattle.order_search.specs.Outcomes
 pub use Rattle.search.specs.Answers
+pub use Rattle.reason_finder.specs.Reasons

@@ -1,38 +1,35 @@
 //! The decisions on all objects of a history.
 
-ghost use Rattle.std.specs.Prelude.{◌≡◌, ◌<◌, ◌↔◌, ℕ, IfOk, All, AllPairs, Any, Contains, map};
+ghost use Rattle.std.specs.Prelude.{◌≡◌, ◌<◌, ◌↔◌, ℕ, true, IfOk, All, AllPairs, Any, Contains, map};
 ghost use Rattle.model.specs.Linearizable.{IsLinearizable};
 ghost use Rattle.model.specs.Orders.{events};
 ghost use Rattle.events.specs.Events.{IsNamed, kind_at, denoted};
 ghost use Rattle.certificate.specs.Denotes.{AreDistinct};
 ghost use Rattle.checker.specs.Refusals.{AreValid};
-ghost use Rattle.search.specs.declared.found.SearchOutcome.{SearchOutcome};
-ghost use Rattle.search.specs.Answers.{IsFound, certificates_in};
-ghost use Rattle.deciding.specs.Decisions.{IsDecisionOn};
+ghost use Rattle.deciding.specs.Decisions.{IsDecisionOn, IsFound, certificates_in, is_impossible};
 
+use crate::decision::Decision;
 use crate::object::decide;
 use events::{History, split};
 use locality::linearizable_has_orders;
-use search::Search;
 use std::alloc::{AllocError, Global};
 
-/// Decides on each object of a history, each within the limit, and answers in rising number of the
-/// objects.
+/// Decides on each object of a history, with a search of at most `limit` steps for each, and answers
+/// in rising number of the objects.
 ///
-/// An error stands only where the split, or the list of answers, was refused memory.
+/// An error: memory was refused for the split, for the list of answers, or for a reason.
 pub fn decide_all(
     alloc: Global,
     history: &History,
     limit: u64,
-) -> Result<Vec<(u32, Search)>, AllocError>
+) -> Result<Vec<(u32, Decision)>, AllocError>
     ensures rising { IfOk result (λ v. AllPairs (λ a b. a.0 < b.0) v.items) }
     // the objects that some invocation names, and no others
     ensures named { IfOk result (λ v. (x : ℕ)
         → Contains (map (λ a. a.0) v.items) x ↔ IsNamed history.now x) }
-    ensures decisions { IfOk result (λ v. All
-        (λ a. IsDecisionOn history.now limit a.0 a.1) v.items) }
+    ensures decisions { IfOk result (λ v. All (λ a. IsDecisionOn history.now a.0 a.1) v.items) }
     // Where one is impossible the history is not linearizable.
-    ensures impossible { IfOk result (λ v. Any (λ a. a.1.found ≡ SearchOutcome.Impossible) v.items
+    ensures impossible { IfOk result (λ v. Any (λ a. is_impossible a.1 ≡ true) v.items
         → IsLinearizable (kind_at history.now) (events (denoted history.now)) → ⊥) }
     // Where all are found `check_all` accepts the certificates.
     ensures distinct { IfOk result (λ v. AreDistinct (certificates_in v.items)) }
@@ -46,7 +43,7 @@ pub fn decide_all(
     let objects = split(alloc, history)?;
     let mut answers = Vec::new(alloc);
     for object in &objects {
-        let answer = decide(alloc, object, limit);
+        let answer = decide(alloc, object, limit)?;
         answers.push((object.object(), answer))?;
     }
     Ok(answers)

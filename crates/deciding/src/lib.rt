@@ -1,10 +1,12 @@
-//! A decision on each object of a history: a certificate that the finder finds, and where it finds
-//! none the answer of the bounded search.
+//! A decision on each object of a history: a certificate that the finder finds; where it finds none,
+//! a reason why there is none; and where there is neither, the answer of the bounded search.
 #![tactic(auto)]
 
 mod all;
+mod decision;
 mod object;
 
 pub use all::decide_all;
+pub use decision::Decision;
 pub use object::decide;
-pub use search::{Search, SearchOutcome};
+pub use reason_finder::FoundReason;

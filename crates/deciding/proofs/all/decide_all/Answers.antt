@@ -1,8 +1,7 @@
 use Rattle.checker.proofs.Certificates.{are_objects}
 use Rattle.checker.proofs.Collected.{no_answers, one_more_answer, on_all, distinct, valid}
-use Rattle.search.specs.Answers.{certificate_in}
-use Rattle.search.proofs.Certificates.{certifies, not_linearizable}
-use Rattle.deciding.proofs.Decided.{IsDecided}
+use Rattle.deciding.specs.Decisions.{certificate_in}
+use Rattle.deciding.proofs.Decided.{IsDecided, certifies, not_linearizable}
 use Rattle.deciding.proofs.all.decide_all.Goals as goal
 
 pub loop-object-init : goal.loop-object-init
@@ -12,19 +11,18 @@ loop-object-init c = no_answers _ _ _ _
 
 pub loop-object-preserved : goal.loop-object-preserved
 loop-object-preserved c =
-    let e = c.decide-answer.ensures in
-    one_more_answer _ (IsDecided c.args.limit) _ _ _ _ _ _ c.decide-answer.result c.loop-object-test.true c.object-item.is c.object.ensures c.in_ok-push.ensures.items
-    (record { found = e.found; impossible = e.impossible; steps = e.steps; out_of_steps = e.out_of_steps; too_large = e.too_large; memory = e.memory }) c.loop-object.invariant
+    let e = c.in_ok-answer.ensures in
+    one_more_answer _ IsDecided _ _ _ _ _ _ c.in_ok-answer.answer c.loop-object-test.true c.object-item.is c.object.ensures c.in_ok-push.ensures.items
+    (record { order = e.order; impossible = e.impossible; too_large = e.too_large; memory = e.memory }) c.loop-object.invariant
 
 pub returns : goal.returns
 returns c =
-    let all = on_all _ (IsDecided c.args.limit) _ _ _ c.loop-object-test.false c.loop-object.invariant in
-    let own = certifies (IsDecided c.args.limit) (λ x kind calls s h. h.found) in
+    let all = on_all _ IsDecided _ _ _ c.loop-object-test.false c.loop-object.invariant in
     record {
       rising = all.rising;
       named = all.named;
       decisions = all.each;
-      impossible = not_linearizable _ (IsDecided c.args.limit) _ (λ x kind calls s h. h.impossible) c.linearizable_has_orders.ensures c.events.ensures.history all;
-      distinct = distinct (λ s. certificate_in s.found) _ (IsDecided c.args.limit) _ own all;
-      valid = valid (λ s. certificate_in s.found) _ (IsDecided c.args.limit) _ own all;
+      impossible = not_linearizable _ _ c.linearizable_has_orders.ensures c.events.ensures.history all;
+      distinct = distinct certificate_in _ IsDecided _ certifies all;
+      valid = valid certificate_in _ IsDecided _ certifies all;
     }
