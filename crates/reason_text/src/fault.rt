@@ -2,6 +2,8 @@
 
 ghost use Rattle.std.specs.Prelude.{◌≡◌};
 
+use edn::EdnFault;
+
 /// What is wrong with a form.
 #[derive(Clone, Copy, Debug, PartialEq, Eq)]
 pub enum ReasonFaultKind {
@@ -30,4 +32,13 @@ impl ReasonFaultKind {
 pub struct ReasonFault {
     pub kind: ReasonFaultKind,
     pub form: usize,
+}
+
+/// Why a text denotes no reasons.
+#[derive(Clone, Copy, Debug, PartialEq, Eq)]
+pub enum ReasonTextFault {
+    /// The text spells no forms, or memory was refused for one of its tokens.
+    Text(EdnFault),
+    /// The forms denote no reasons, or memory was refused for one of them.
+    Forms(ReasonFault),
 }

@@ -7,6 +7,8 @@ mod evidence;
 mod fault;
 mod reader;
 mod sets;
+mod text_reader;
 
-pub use fault::{ReasonFault, ReasonFaultKind};
+pub use fault::{ReasonFault, ReasonFaultKind, ReasonTextFault};
 pub use reader::read_reasons;
+pub use text_reader::read_reasons_text;
