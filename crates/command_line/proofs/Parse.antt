@@ -13,7 +13,7 @@ use Rattle.seq_objects.specs.declared.kinds.Kinds.TheVariants.{One}
 use Rattle.model.specs.declared.Kind.TheVariants.{Queue}
 use Rattle.command_line.specs.declared.asking.RunOptions.{RunOptions}
 use Rattle.command_line.specs.declared.asking.Line.{Line}
-use Rattle.command_line.specs.declared.asking.Line.TheVariants.{Check, Search, Find, Judge, Run, Simulate}
+use Rattle.command_line.specs.declared.asking.Line.TheVariants.{Check, Search, Find, Judge, Refute, Run, Simulate}
 use Rattle.clap.specs.Kinds.{HasKind, IsAmong, or_else}
 use Rattle.clap.specs.Values.{kind_of}
 use Rattle.clap.specs.declared.error.Error.{Error}
@@ -26,11 +26,11 @@ use Rattle.clap.proofs.OnLiterals.{clap_on_literals}
 use Rattle.order_search.specs.declared.trials.TryFirst.TheVariants.{LeastNumber}
 use Rattle.command_line.specs.Limits.{max_workers, default_steps}
 use Rattle.command_line.specs.Words.{AreNoOptions, AreRunOptions, AreSteps, IsFirst, AskFor, AskOnFile, AskToCheck, Finds, HasCheck, HasJudge}
-use Rattle.command_line.specs.Words.{HasNoCheck, HasNoJudge, HasNoRun, HasNoSearch, HasSearch, IsCheckFound, IsCommand, IsFault, IsFileFound, IsFor}
-use Rattle.command_line.specs.Words.{IsNumber, IsPlain, IsPlainCheck, IsPlainRun, IsPlainSearch, IsPlainSimulate, IsPlainFind, IsPlainJudge, Lacks}
+use Rattle.command_line.specs.Words.{HasNoCheck, HasNoJudge, HasNoRefute, HasNoRun, HasNoSearch, HasRefute, HasSearch, IsCheckFound, IsCommand, IsFault, IsFileFound, IsFor}
+use Rattle.command_line.specs.Words.{IsNumber, IsPlain, IsPlainCheck, IsPlainRun, IsPlainSearch, IsPlainSimulate, IsPlainFind, IsPlainJudge, IsPlainRefute, Lacks}
 use Rattle.command_line.specs.Words.{LacksFor, command, values}
-use Rattle.command_line.proofs.Walks.{IsName, Stops, after, ends0, enters, enters_judge, enters_run, enters_search, history_is, judged, level_parts}
-use Rattle.command_line.proofs.Walks.{low, names, not_nil, plain_word, running, sought, state0, state2, stops, top, top_words}
+use Rattle.command_line.proofs.Walks.{IsName, Stops, after, ends0, enters, enters_judge, enters_refute, enters_run, enters_search, history_is, judged, level_parts}
+use Rattle.command_line.proofs.Walks.{low, names, not_nil, plain_word, reasoned, reasons_state, running, sought, state0, state2, stops, top, top_words}
 use Rattle.command_line.proofs.OneFile.{enters_find, enters_simulate, file_taken, file_walked, judged_takes, looked, looked_help, looked_takes}
 use Rattle.command_line.proofs.OneFile.{played, played_help, played_takes, sought_takes, stops_find, stops_simulate, takes_find, takes_judge}
 use Rattle.command_line.proofs.OneFile.{takes_search, takes_simulate}
@@ -125,7 +125,8 @@ name_entered program w rest known = elim known [
   | inr (inr (inl is)) ↦ subst At is (_, enters_run rest)
   | inr (inr (inr (inl is))) ↦ subst At is (_, enters_simulate rest)
   | inr (inr (inr (inr (inl is)))) ↦ subst At is (_, enters_find rest)
-  | inr (inr (inr (inr (inr is)))) ↦ subst At is (_, enters_judge rest)
+  | inr (inr (inr (inr (inr (inl is))))) ↦ subst At is (_, enters_judge rest)
+  | inr (inr (inr (inr (inr (inr is))))) ↦ subst At is (_, enters_refute rest)
 ]
   where
     At : Text → Type 0
@@ -178,6 +179,34 @@ low_values h c ph pc =
       workers_first =
           subst (λ o. IsNumber 1 max_workers 1 o 1) (sym (ap (first_of (codes "workers")) last)) refl;
     }
+
+-- the same of a refutation
+reasoned_takes : (h r : Text) → IsPlain h → IsPlain r → level_fault reasoned [] nothing_held (h ∷ r ∷ []) false [] ≡ []
+unfolding clap_on_literals
+reasoned_takes h r ph pr =
+    let first = plain_word reasoned [] None 1 h ph in
+    let second = plain_word reasoned [] (history_is h) 2 r pr in
+    let next : walked reasoned.rules [] (walked reasoned.rules [] (state0 false) h) r ≡ reasons_state h r = ap (λ v. walked reasoned.rules [] v r) first.1 ∙ second.1 in
+    let turns : turn_fault reasoned [] (walked reasoned.rules [] (state0 false) h) r ≡ [] = ap (λ v. turn_fault reasoned [] v r) first.1 ∙ second.0 in
+    let walks : walk_fault reasoned [] (state0 false) (h ∷ r ∷ []) ≡ [] = ap₂ (λ a b. or_else a (or_else b [])) first.0 turns in
+    ap₂ (λ f (v : Walk). or_else f (or_else (settle_fault reasoned.rules reasoned.args_override_self v.held) (or_else (defaults_fault (settled reasoned.rules v.held).rows reasoned.rules)
+    (check_fault reasoned (finished reasoned.rules v.held) false)))) walks next
+
+reasoned_values : (h r : Text) → IsPlain h → IsPlain r → HasRefute (rows_after reasoned.rules [] (h ∷ r ∷ [])) h r default_steps
+unfolding clap_on_literals
+reasoned_values h r ph pr =
+    let next : walked reasoned.rules [] (walked reasoned.rules [] (state0 false) h) r ≡ reasons_state h r =
+    ap (λ v. walked reasoned.rules [] v r) (plain_word reasoned [] None 1 h ph).1 ∙ (plain_word reasoned [] (history_is h) 2 r pr).1 in
+    let last : rows_after reasoned.rules [] (h ∷ r ∷ []) ≡ finished reasoned.rules (reasons_state h r).held = ap (λ (v : Walk). finished reasoned.rules v.held) next in
+    record {
+      history_first = ap (first_of (codes "HISTORY")) last;
+      reasons_first = ap (first_of (codes "REASONS")) last;
+      steps_first = subst (λ o. AreSteps o default_steps) (sym (ap (first_of (codes "steps")) last)) refl;
+    }
+
+takes_refute : (program h r : Text) → IsPlain h → IsPlain r → fault_of command (program ∷ codes "refute" ∷ h ∷ r ∷ []) ≡ []
+unfolding clap_on_literals
+takes_refute program h r ph pr = ap (λ below. level_fault top names nothing_held (codes "refute" ∷ h ∷ r ∷ []) true below) (reasoned_takes h r ph pr)
 
 takes : (program h c : Text) → IsPlain h → IsPlain c → fault_of command (program ∷ codes "check" ∷ h ∷ c ∷ []) ≡ []
 unfolding clap_on_literals
@@ -261,6 +290,7 @@ pub record HasValues (w : Text) (rows : List Row) : Type 0 where
   pub run : w ≡ codes "run" → HasNoRun rows → ⊥
   pub check : w ≡ codes "check" → HasNoCheck rows → ⊥
   pub judge : w ≡ codes "judge" → HasNoJudge rows → ⊥
+  pub refute : w ≡ codes "refute" → HasNoRefute rows → ⊥
 
 lacks_not : (name : Text) (P : List Row → Type 0) (m : Option (Text × List Row)) (w : Text) (r : List Row) (f : LineFault) → m ≡ Some (w, r) → (w ≡ name → P r → ⊥) → LacksFor name P m f → ⊥
 lacks_not name P m w r f e has l =
@@ -270,7 +300,8 @@ lacks_nothing : (m : Option (Text × List Row)) (w : Text) (r : List Row) (f : L
 lacks_nothing m w r f e has (inl l) = lacks_not (codes "search") HasNoSearch m w r f e has.search l
 lacks_nothing m w r f e has (inr (inl l)) = lacks_not (codes "run") HasNoRun m w r f e has.run l
 lacks_nothing m w r f e has (inr (inr (inl l))) = lacks_not (codes "check") HasNoCheck m w r f e has.check l
-lacks_nothing m w r f e has (inr (inr (inr l))) = lacks_not (codes "judge") HasNoJudge m w r f e has.judge l
+lacks_nothing m w r f e has (inr (inr (inr (inl l)))) = lacks_not (codes "judge") HasNoJudge m w r f e has.judge l
+lacks_nothing m w r f e has (inr (inr (inr (inr l)))) = lacks_not (codes "refute") HasNoRefute m w r f e has.refute l
 
 -- another name than that of a command that can lack its values
 other : (v w : Text) (P : Type 0) → bytes_eq v w ≡ false → v ≡ w → P → ⊥
@@ -297,6 +328,7 @@ only_memory words f p =
       run = other (codes "check") (codes "run") _ refl;
       check = λ is none. none p.history p.certs 1 (low_values p.history p.certs p.history_plain p.certs_plain);
       judge = other (codes "check") (codes "judge") _ refl;
+      refute = other (codes "check") (codes "refute") _ refl;
     } in
     only_memory_at (p.program ∷ codes "check" ∷ rest) words (codes "check") _ f p.said (takes p.program p.history p.certs p.history_plain p.certs_plain) (enters rest) has
 
@@ -308,6 +340,7 @@ only_memory_run words f p =
       run = λ is none. none plain_run run_values;
       check = other (codes "run") (codes "check") _ refl;
       judge = other (codes "run") (codes "judge") _ refl;
+      refute = other (codes "run") (codes "refute") _ refl;
     } in
     only_memory_at (p.program ∷ codes "run" ∷ []) words (codes "run") _ f p.said (takes_run p.program) (enters_run []) has
 
@@ -319,6 +352,7 @@ only_memory_search words f p =
       run = other (codes "search") (codes "run") _ refl;
       check = other (codes "search") (codes "check") _ refl;
       judge = other (codes "search") (codes "judge") _ refl;
+      refute = other (codes "search") (codes "refute") _ refl;
     } in
     only_memory_at (p.program ∷ codes "search" ∷ p.history ∷ []) words (codes "search") _ f p.said (takes_search p.program p.history p.history_plain) (enters_search (p.history ∷ [])) has
 
@@ -330,26 +364,46 @@ only_memory_judge words f p =
       run = other (codes "judge") (codes "run") _ refl;
       check = other (codes "judge") (codes "check") _ refl;
       judge = λ is none. none p.history default_steps (judged_values p.history p.history_plain);
+      refute = other (codes "judge") (codes "refute") _ refl;
     } in
     only_memory_at (p.program ∷ codes "judge" ∷ p.history ∷ []) words (codes "judge") _ f p.said (takes_judge p.program p.history p.history_plain) (enters_judge (p.history ∷ [])) has
 
+pub only_memory_refute : (words : List Text) (f : LineFault) → IsPlainRefute words → IsFault words f → f ≡ NoMemory
+unfolding clap_on_literals
+only_memory_refute words f p =
+    let rest = p.history ∷ p.reasons ∷ [] in
+    let has : HasValues (codes "refute") (rows_after reasoned.rules [] rest) = record {
+      search = other (codes "refute") (codes "search") _ refl;
+      run = other (codes "refute") (codes "run") _ refl;
+      check = other (codes "refute") (codes "check") _ refl;
+      judge = other (codes "refute") (codes "judge") _ refl;
+      refute = λ is none. none p.history p.reasons default_steps (reasoned_values p.history p.reasons p.history_plain p.reasons_plain);
+    } in
+    only_memory_at (p.program ∷ codes "refute" ∷ rest) words (codes "refute") _ f p.said
+    (takes_refute p.program p.history p.reasons p.history_plain p.reasons_plain) (enters_refute rest) has
+
 -- a command on one file alone has its values
 has_file : (name : Text) (rows : List Row) → bytes_eq name (codes "search") ≡ false → bytes_eq name (codes "run") ≡ false
-    → bytes_eq name (codes "check") ≡ false → bytes_eq name (codes "judge") ≡ false → HasValues name rows
-has_file name rows no_search no_run no_check no_judge =
-    record { search = other name (codes "search") _ no_search; run = other name (codes "run") _ no_run; check = other name (codes "check") _ no_check; judge = other name (codes "judge") _ no_judge }
+    → bytes_eq name (codes "check") ≡ false → bytes_eq name (codes "judge") ≡ false → bytes_eq name (codes "refute") ≡ false → HasValues name rows
+has_file name rows no_search no_run no_check no_judge no_refute = record {
+  search = other name (codes "search") _ no_search;
+  run = other name (codes "run") _ no_run;
+  check = other name (codes "check") _ no_check;
+  judge = other name (codes "judge") _ no_judge;
+  refute = other name (codes "refute") _ no_refute;
+}
 
 pub only_memory_simulate : (words : List Text) (f : LineFault) → IsPlainSimulate words → IsFault words f → f ≡ NoMemory
 unfolding clap_on_literals
 only_memory_simulate words f p =
     only_memory_at (p.program ∷ codes "simulate" ∷ p.schedule ∷ []) words (codes "simulate") _ f p.said
-    (takes_simulate p.program p.schedule p.schedule_plain) (enters_simulate (p.schedule ∷ [])) (has_file (codes "simulate") _ refl refl refl refl)
+    (takes_simulate p.program p.schedule p.schedule_plain) (enters_simulate (p.schedule ∷ [])) (has_file (codes "simulate") _ refl refl refl refl refl)
 
 pub only_memory_find : (words : List Text) (f : LineFault) → IsPlainFind words → IsFault words f → f ≡ NoMemory
 unfolding clap_on_literals
 only_memory_find words f p =
     only_memory_at (p.program ∷ codes "find" ∷ p.history ∷ []) words (codes "find") _ f p.said (takes_find p.program p.history p.history_plain)
-    (enters_find (p.history ∷ [])) (has_file (codes "find") _ refl refl refl refl)
+    (enters_find (p.history ∷ [])) (has_file (codes "find") _ refl refl refl refl refl)
 
 -- ---- what is found
 
@@ -387,6 +441,7 @@ asked words t (Check history certs workers) g = asked_check words (t.check (take
 asked words t (Search history steps first) g = g
 asked words t (Find history) g = asked_file (codes "find") (codes "HISTORY") words (t.find (taken_name words t (codes "find") g.rows g.entered)) (string_bytes history) g
 asked words t (Judge history steps) g = g
+asked words t (Refute history reasons steps) g = g
 asked words t (Run options) g = g
 asked words t (Simulate schedule) g = asked_file (codes "simulate") (codes "SCHEDULE") words (t.simulate (taken_name words t (codes "simulate") g.rows g.entered)) (string_bytes schedule) g
 
@@ -397,7 +452,8 @@ is_command words t = elim t.known [
   | inr (inr (inl is)) ↦ inr (inr (inl (t.rows, at_name is)))
   | inr (inr (inr (inl is))) ↦ let f = t.simulate (sym is) in inr (inr (inr (inl (f.0, f.2))))
   | inr (inr (inr (inr (inl is)))) ↦ let f = t.find (sym is) in inr (inr (inr (inr (inl (f.0, f.2)))))
-  | inr (inr (inr (inr (inr is)))) ↦ inr (inr (inr (inr (inr (t.rows, at_name is)))))
+  | inr (inr (inr (inr (inr (inl is))))) ↦ inr (inr (inr (inr (inr (inl (t.rows, at_name is))))))
+  | inr (inr (inr (inr (inr (inr is))))) ↦ inr (inr (inr (inr (inr (inr (t.rows, at_name is))))))
 ]
   where
     at_name : {name : Text} → name ≡ t.name → subcommand_of command words ≡ Some (name, t.rows)

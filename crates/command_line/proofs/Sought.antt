@@ -7,7 +7,7 @@ use Rattle.clap.proofs.WalkLemmas.{first_value-rows}
 use Rattle.order_search.specs.declared.trials.TryFirst.{TryFirst}
 use Rattle.command_line.specs.declared.asking.RunOptions.{RunOptions}
 use Rattle.command_line.specs.Limits.{max_workers}
-use Rattle.command_line.specs.Words.{AreRunOptions, AreSteps, HasCheck, HasJudge, HasNoCheck, HasNoJudge, HasNoRun, HasNoSearch, HasSearch, IsFirst, IsNumber}
+use Rattle.command_line.specs.Words.{AreRunOptions, AreSteps, HasCheck, HasJudge, HasNoCheck, HasNoJudge, HasNoRefute, HasNoRun, HasNoSearch, HasRefute, HasSearch, IsFirst, IsNumber}
 
 absent : {X : Type 0} {o p : Option X} {x : X} → o ≡ None → o ≡ p → p ≡ Some x → ⊥
 absent e f g = cc
@@ -40,6 +40,19 @@ module _ (inner : Found) where
   has_judge h n e s = record {
     history_first = sym (first_value-rows inner (codes "HISTORY")) ∙ e;
     steps_first = subst (λ o. AreSteps o n) (first_value-rows inner (codes "steps")) s;
+  }
+
+  pub no_judge : HasNoJudge (rows_of inner) → HasNoRefute (rows_of inner)
+  no_judge none h r n v = none h n (record { history_first = v.history_first; steps_first = v.steps_first })
+
+  pub no_reasons : first_value inner (codes "REASONS") ≡ None → HasNoRefute (rows_of inner)
+  no_reasons e h r n v = absent e (first_value-rows inner (codes "REASONS")) v.reasons_first
+
+  pub has_refute : (h r : Text) (n : ℕ) → HasJudge (rows_of inner) h n → first_value inner (codes "REASONS") ≡ Some r → HasRefute (rows_of inner) h r n
+  has_refute h r n j e = record {
+    history_first = j.history_first;
+    reasons_first = sym (first_value-rows inner (codes "REASONS")) ∙ e;
+    steps_first = j.steps_first;
   }
 
   pub no_order : ((first : TryFirst) → IsFirst (first_value inner (codes "first")) first → ⊥) → HasNoSearch (rows_of inner)

@@ -25,7 +25,7 @@ use Rattle.command_line.specs.Limits.{max_clients, max_objects, max_seed, max_st
 use Rattle.command_line.specs.declared.asking.RunOptions.{RunOptions}
 use Rattle.command_line.specs.declared.asking.Line.{Line}
 use Rattle.command_line.specs.declared.asking.Line.TheVariants.{Check, Search, Find, Judge, Run}
-use Rattle.command_line.specs.declared.asking.Line.TheVariants.{Simulate}
+use Rattle.command_line.specs.declared.asking.Line.TheVariants.{Refute, Simulate}
 use Rattle.command_line.specs.declared.asking.LineFault.{LineFault}
 use Rattle.command_line.specs.declared.asking.LineFault.TheVariants.{Help, Refused, NoMemory}
 
@@ -60,6 +60,10 @@ search_command = with_rule (with_rule (on_history (codes "search")) steps_rule) 
 abbrev pub judge_command : App
 judge_command = with_rule (on_history (codes "judge")) steps_rule
 
+abbrev pub refute_command : App
+refute_command =
+    with_rule (with_rule (on_history (codes "refute")) (required (codes "REASONS"))) steps_rule
+
 abbrev pub kind_rule : Rule
 kind_rule = record (new_rule (codes "kind")) { long = Some (codes "kind") }
 
@@ -86,9 +90,9 @@ find_command = on_history (codes "find")
 
 abbrev pub judging_commands : App
 judging_commands =
-    with_subcommand (with_subcommand (with_subcommand (with_subcommand
+    with_subcommand (with_subcommand (with_subcommand (with_subcommand (with_subcommand
     (on_top (λ s. record s { subcommand_required = true }) (new_app (codes "fcbench")))
-    judge_command.top) check.top) search_command.top) find_command.top
+    judge_command.top) check.top) search_command.top) find_command.top) refute_command.top
 
 abbrev pub command : App
 command = with_subcommand (with_subcommand judging_commands run.top) simulate_command.top
@@ -203,6 +207,19 @@ pub record IsJudgeFound (m : Option (Text × List Row)) (history : Text) (steps 
   pub entered : m ≡ Some (codes "judge", rows)
   pub values : HasJudge rows history steps
 
+-- these are the values of a refutation
+pub record HasRefute (rows : List Row) (history reasons : Text) (steps : ℕ) : Type 0 where
+  pub history_first : first_of (codes "HISTORY") rows ≡ Some history
+  pub reasons_first : first_of (codes "REASONS") rows ≡ Some reasons
+  pub steps_first : AreSteps (first_of (codes "steps") rows) steps
+
+-- The parse has found `refute`, with these values.
+pub record IsRefuteFound (m : Option (Text × List Row)) (history reasons : Text) (steps : ℕ)
+    : Type 0 where
+  pub rows : List Row
+  pub entered : m ≡ Some (codes "refute", rows)
+  pub values : HasRefute rows history reasons steps
+
 abbrev pub AskFor : List Text → Line → Type 0
 AskFor words (Check history certs workers) =
     AskToCheck words (string_bytes history) (string_bytes certs) workers
@@ -211,6 +228,8 @@ AskFor words (Search history steps first) =
 AskFor words (Find history) = AskToFind words (string_bytes history)
 AskFor words (Judge history steps) =
     IsJudgeFound (subcommand_of command words) (string_bytes history) steps
+AskFor words (Refute history reasons steps) =
+    IsRefuteFound (subcommand_of command words) (string_bytes history) (string_bytes reasons) steps
 AskFor words (Run options) = IsRunFound (subcommand_of command words) options
 AskFor words (Simulate schedule) = AskToSimulate words (string_bytes schedule)
 
@@ -248,6 +267,15 @@ pub record IsPlainJudge (words : List Text) : Type 0 where
   pub history : Text
   pub said : words ≡ program ∷ codes "judge" ∷ history ∷ []
   pub history_plain : IsPlain history
+
+-- the program's name, `refute` and the names of two files
+pub record IsPlainRefute (words : List Text) : Type 0 where
+  pub program : Text
+  pub history : Text
+  pub reasons : Text
+  pub said : words ≡ program ∷ codes "refute" ∷ history ∷ reasons ∷ []
+  pub history_plain : IsPlain history
+  pub reasons_plain : IsPlain reasons
 
 -- the program's name and `run`
 pub record IsPlainRun (words : List Text) : Type 0 where
@@ -293,6 +321,7 @@ abbrev pub IsCommand : Option (Text × List Row) → Type 0
 IsCommand m =
     IsEntered (codes "check") m ⊎ IsEntered (codes "search") m ⊎ IsEntered (codes "run") m
     ⊎ IsSimulateEntered m ⊎ IsFindEntered m ⊎ IsEntered (codes "judge") m
+    ⊎ IsEntered (codes "refute") m
 
 abbrev pub FindsCheck : List Row → Line → Type 0
 FindsCheck rows (Check history certs workers) =
@@ -300,6 +329,7 @@ FindsCheck rows (Check history certs workers) =
 FindsCheck rows (Search history steps first) = ⊥
 FindsCheck rows (Find history) = ⊥
 FindsCheck rows (Judge history steps) = ⊥
+FindsCheck rows (Refute history reasons steps) = ⊥
 FindsCheck rows (Run options) = ⊥
 FindsCheck rows (Simulate schedule) = ⊥
 
@@ -308,6 +338,7 @@ FindsSearch rows (Check history certs workers) = ⊥
 FindsSearch rows (Search history steps first) = HasSearch rows (string_bytes history) steps first
 FindsSearch rows (Find history) = ⊥
 FindsSearch rows (Judge history steps) = ⊥
+FindsSearch rows (Refute history reasons steps) = ⊥
 FindsSearch rows (Run options) = ⊥
 FindsSearch rows (Simulate schedule) = ⊥
 
@@ -316,14 +347,26 @@ FindsJudge rows (Check history certs workers) = ⊥
 FindsJudge rows (Search history steps first) = ⊥
 FindsJudge rows (Find history) = ⊥
 FindsJudge rows (Judge history steps) = HasJudge rows (string_bytes history) steps
+FindsJudge rows (Refute history reasons steps) = ⊥
 FindsJudge rows (Run options) = ⊥
 FindsJudge rows (Simulate schedule) = ⊥
+
+abbrev pub FindsRefute : List Row → Line → Type 0
+FindsRefute rows (Check history certs workers) = ⊥
+FindsRefute rows (Search history steps first) = ⊥
+FindsRefute rows (Find history) = ⊥
+FindsRefute rows (Judge history steps) = ⊥
+FindsRefute rows (Refute history reasons steps) =
+    HasRefute rows (string_bytes history) (string_bytes reasons) steps
+FindsRefute rows (Run options) = ⊥
+FindsRefute rows (Simulate schedule) = ⊥
 
 abbrev pub FindsRun : List Row → Line → Type 0
 FindsRun rows (Check history certs workers) = ⊥
 FindsRun rows (Search history steps first) = ⊥
 FindsRun rows (Find history) = ⊥
 FindsRun rows (Judge history steps) = ⊥
+FindsRun rows (Refute history reasons steps) = ⊥
 FindsRun rows (Run options) = AreRunOptions (λ id. first_of id rows) options
 FindsRun rows (Simulate schedule) = ⊥
 
@@ -332,6 +375,7 @@ FindsSchedule rows (Check history certs workers) = ⊥
 FindsSchedule rows (Search history steps first) = ⊥
 FindsSchedule rows (Find history) = ⊥
 FindsSchedule rows (Judge history steps) = ⊥
+FindsSchedule rows (Refute history reasons steps) = ⊥
 FindsSchedule rows (Run options) = ⊥
 FindsSchedule rows (Simulate schedule) =
     first_of (codes "SCHEDULE") rows ≡ Some (string_bytes schedule)
@@ -341,6 +385,7 @@ FindsHistory rows (Check history certs workers) = ⊥
 FindsHistory rows (Search history steps first) = ⊥
 FindsHistory rows (Find history) = first_of (codes "HISTORY") rows ≡ Some (string_bytes history)
 FindsHistory rows (Judge history steps) = ⊥
+FindsHistory rows (Refute history reasons steps) = ⊥
 FindsHistory rows (Run options) = ⊥
 FindsHistory rows (Simulate schedule) = ⊥
 
@@ -350,6 +395,8 @@ Finds m (Check history certs workers) =
 Finds m (Search history steps first) = IsSearchFound m (string_bytes history) steps first
 Finds m (Find history) = IsHistoryFound m (string_bytes history)
 Finds m (Judge history steps) = IsJudgeFound m (string_bytes history) steps
+Finds m (Refute history reasons steps) =
+    IsRefuteFound m (string_bytes history) (string_bytes reasons) steps
 Finds m (Run options) = IsRunFound m options
 Finds m (Simulate schedule) = IsScheduleFound m (string_bytes schedule)
 
@@ -378,6 +425,11 @@ HasNoSearch rows =
 abbrev pub HasNoJudge : List Row → Type 0
 HasNoJudge rows = (history : Text) (steps : ℕ) → HasJudge rows history steps → ⊥
 
+-- the rows of a refutation name not both files, or no number of steps that a search may take
+abbrev pub HasNoRefute : List Row → Type 0
+HasNoRefute rows =
+    (history reasons : Text) (steps : ℕ) → HasRefute rows history reasons steps → ⊥
+
 -- the rows of a run name no kinds, or some number outside its bounds
 abbrev pub HasNoRun : List Row → Type 0
 HasNoRun rows = (o : RunOptions) → AreRunOptions (λ id. first_of id rows) o → ⊥
@@ -397,14 +449,15 @@ pub record LacksFor (name : Text) (HasNone : List Row → Type 0) (m : Option (T
   pub none : HasNone rows
   pub refused : IsRefused f
 
--- the parse has found a search, a run, a check or a judgement without its values
+-- the parse has found a search, a run, a check, a judgement or a refutation without its values
 abbrev pub Lacks : Option (Text × List Row) → LineFault → Type 0
 Lacks m f =
     LacksFor (codes "search") HasNoSearch m f ⊎ LacksFor (codes "run") HasNoRun m f
     ⊎ LacksFor (codes "check") HasNoCheck m f ⊎ LacksFor (codes "judge") HasNoJudge m f
+    ⊎ LacksFor (codes "refute") HasNoRefute m f
 
 -- The fault is an allocation failure, or clap refuses the words with an error of a kind for which
--- it is, or it finds a search, a run, a check or a judgement without its values.
+-- it is, or it finds a search, a run, a check, a judgement or a refutation without its values.
 abbrev pub IsFault : List Text → LineFault → Type 0
 IsFault words f =
     (f ≡ NoMemory) ⊎ ((k : ErrorKind) × IsAmong k (fault_of command words) × IsFor k f)

@@ -53,6 +53,13 @@ pub enum Line {
         history: String,
         steps: u32,
     },
+    /// To check the reasons in another file why the history in a file is not linearizable, each
+    /// with a search of at most this number of steps.
+    Refute {
+        history: String,
+        reasons: String,
+        steps: u32,
+    },
     /// To run clients, and to judge what they did.
     Run(RunOptions),
     /// To play the schedule in a file, and to judge what its clients did.

@@ -63,6 +63,11 @@ const NO_RUN: &str = "error: a run has a number outside its bounds\n";
 const NO_JUDGEMENT: &str =
     "error: a judgement has no file, or no number of steps from 0 to 1000000000\n";
 
+/// Said of a refutation that lacks a value. Of its files and its steps clap never lets it come to
+/// this.
+const NO_REFUTATION: &str =
+    "error: a refutation has not two files, or no number of steps from 0 to 1000000000\n";
+
 /// Said of a check that lacks a value. Of its files clap never lets it come to this.
 const NO_CHECK: &str = "error: a check has not two files, or no number of workers from 1 to 16\n";
 
@@ -119,6 +124,28 @@ fn judge_command<'a>(alloc: Global) -> Result<Command<'a>, AllocError>
         "judge",
         "finds certificates of a history and judges it by them",
     )?
+    .arg(steps)
+}
+
+fn refute_command<'a>(alloc: Global) -> Result<Command<'a>, AllocError>
+    ensures shape { IfOk result (λ c. app_of c ≡ spec.refute_command) }
+    ensures globals { IfOk result (λ c. (fields_of c).has_globals ≡ false) }
+{
+    let reasons = file_argument(
+        alloc,
+        "REASONS",
+        "a file of reasons, each a small part of the history that has no valid order",
+    );
+    let steps = steps_option(
+        alloc,
+        "the most steps for each reason, 0 to 1000000000, else 1000000",
+    );
+    history_command(
+        alloc,
+        "refute",
+        "checks reasons why a history is not linearizable",
+    )?
+    .arg(reasons)?
     .arg(steps)
 }
 
@@ -236,13 +263,15 @@ fn judging_commands<'a>(alloc: Global) -> Result<Command<'a>, AllocError>
     let check = check_command(alloc)?;
     let search = search_command(alloc)?;
     let find = find_command(alloc)?;
+    let refute = refute_command(alloc)?;
     Command::new(alloc, "fcbench")
         .about("judges histories of concurrent objects")
         .subcommand_required(true)
         .subcommand(judge)?
         .subcommand(check)?
         .subcommand(search)?
-        .subcommand(find)
+        .subcommand(find)?
+        .subcommand(refute)
 }
 
 fn command<'a>(alloc: Global) -> Result<Command<'a>, AllocError>
@@ -418,6 +447,24 @@ fn judge_found(alloc: Global, matches: &ArgMatches<'_>) -> Result<Line, LineFaul
     Ok(Line::Judge { history, steps })
 }
 
+/// The refutation whose matches these are.
+fn refute_found(alloc: Global, matches: &ArgMatches<'_>) -> Result<Line, LineFault>
+    ensures found { IfOk result (spec.FindsRefute (rows_of (found_of matches.now))) }
+    ensures lacks { IfErr result (λ f. f ≢ LineFault.NoMemory →
+        spec.IsRefused f × spec.HasNoRefute (rows_of (found_of matches.now))) }
+{
+    let (history, steps) = history_and_steps(alloc, matches, NO_REFUTATION)?;
+    let Some(reasons) = matches.get_str("REASONS") else {
+        return Err(refusal(alloc, NO_REFUTATION));
+    };
+    let reasons = String::from_str(alloc, reasons)?;
+    Ok(Line::Refute {
+        history,
+        reasons,
+        steps,
+    })
+}
+
 /// The kinds that a run is to have.
 fn kinds_in(matches: &ArgMatches<'_>) -> Option<Kinds>
     ensures some { IfSome result (spec.IsKinds
@@ -494,6 +541,9 @@ fn line_of(alloc: Global, matches: &ArgMatches<'_>) -> Result<Line, LineFault>
     if let Some(judge) = matches.subcommand_matches("judge") {
         return judge_found(alloc, judge);
     }
+    if let Some(refute) = matches.subcommand_matches("refute") {
+        return refute_found(alloc, refute);
+    }
     match matches.subcommand_matches("run") {
         Some(run) => run_found(alloc, run),
         None => unreachable!(),
@@ -512,6 +562,8 @@ pub fn line<S: AsStr>(alloc: Global, words: &[S]) -> Result<Line, LineFault>
     ensures finds { spec.IsPlainFind (map S.text words.now) →
         IfErr result (λ e. e ≡ LineFault.NoMemory) }
     ensures judges { spec.IsPlainJudge (map S.text words.now) →
+        IfErr result (λ e. e ≡ LineFault.NoMemory) }
+    ensures refutes { spec.IsPlainRefute (map S.text words.now) →
         IfErr result (λ e. e ≡ LineFault.NoMemory) }
     ensures runs { spec.IsPlainRun (map S.text words.now) →
         IfErr result (λ e. e ≡ LineFault.NoMemory) }
