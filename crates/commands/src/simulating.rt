@@ -1,6 +1,6 @@
 //! The command that plays a schedule.
 
-ghost use Rattle.std.specs.Prelude.{◌≡◌, ◌++◌, false, codes, decimal, IfOk};
+ghost use Rattle.std.specs.Prelude.{◌≡◌, false, IfOk};
 ghost use Rattle.commands.specs.Runs.{IsRecordOutput, journals_of, logs_of};
 ghost use Rattle.commands.specs.Simulated as spec;
 ghost use Rattle.outputs.specs.Outputs.{Leaves};
@@ -8,43 +8,10 @@ ghost use Rattle.commands.specs.Simulated.{IsFaultOutput, IsSimulation};
 
 use crate::running::report_record;
 use edn::Sink;
-use history_commands::push_decimal;
+use history_commands::{line_with_place, text_with_number};
 use outputs::{MALFORMED, NO_MEMORY, send, send_out_of_memory};
 use simulation::{Played, SimulationFault, simulate};
 use std::alloc::{AllocError, Global};
-
-/// A text with one number in it.
-fn text_with_number(
-    alloc: Global,
-    before: &[u8],
-    n: u64,
-    after: &[u8],
-) -> Result<Vec<u8>, AllocError>
-    ensures { IfOk result (λ v. v.items ≡ before.now ++ (decimal n ++ after.now)) }
-{
-    let mut text = Vec::new(alloc);
-    text.extend_from_slice(before)?;
-    push_decimal(&mut text, n)?;
-    text.extend_from_slice(after)?;
-    Ok(text)
-}
-
-/// The line of a fault with its number and its place.
-fn line_with_place(
-    alloc: Global,
-    before: &[u8],
-    number: u8,
-    at: &[u8],
-    place: usize,
-) -> Result<Vec<u8>, AllocError>
-    ensures { IfOk result (λ v.
-        v.items ≡ before.now ++ (decimal number ++ (at.now ++ (decimal place ++ codes "\n")))) }
-{
-    let mut text = text_with_number(alloc, before, u64::from(number), at)?;
-    push_decimal(&mut text, place as u64)?;
-    text.extend_from_slice(b"\n")?;
-    Ok(text)
-}
 
 /// The line that says why there is no record.
 fn fault_line(alloc: Global, fault: SimulationFault) -> Result<Vec<u8>, AllocError>

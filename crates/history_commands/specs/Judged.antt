@@ -1,48 +1,90 @@
 -- What is put out where a history is judged without certificates, and the exit status.
-use Rattle.std.specs.Prelude.{◌≡◌, ◌<◌, ◌↔◌, ℕ, false, ⊤, List, [], ◌∷◌, ◌++◌, map, All, AllPairs}
-use Rattle.std.specs.Prelude.{Contains, if◌then◌else◌}
-use Rattle.std.specs.List.{list_all}
+use Rattle.std.specs.Prelude.{◌≡◌, ◌<◌, ◌↔◌, ℕ, Bool, true, false, ⊤, List, [], ◌∷◌, ◌++◌, codes}
+use Rattle.std.specs.Prelude.{decimal, map, All, AllPairs, Contains, if◌then◌else◌}
+use Rattle.std.specs.List.{list_all, list_any}
 use Rattle.edn_reader.specs.Sound.{IsShort}
 use Rattle.model.specs.Linearizable.{IsLinearizable}
-use Rattle.model.specs.Orders.{events}
+use Rattle.model.specs.Orders.{calls_on, events}
 use Rattle.events.specs.declared.event.Event.{Event}
 use Rattle.events.specs.Events.{IsNamed, kind_at, denoted}
 use Rattle.certificate.specs.declared.Certificate.{Certificate}
 use Rattle.checker.specs.Refusals.{AreValid}
-use Rattle.search.specs.declared.found.Search.{Search}
-use Rattle.search.specs.declared.found.SearchOutcome.{SearchOutcome}
-use Rattle.deciding.specs.Decisions.{IsDecisionOn}
+use Rattle.reason_text.specs.Lines.{line_of}
+use Rattle.reason_report.specs.Lines.{operations_text, sentence_line}
+use Rattle.reason_finder.specs.declared.finding.FoundReason.{FoundReason}
+use Rattle.reason_finder.specs.Reasons.{IsReasonFor}
+use Rattle.deciding.specs.declared.decision.Decision.{Decision}
+use Rattle.deciding.specs.declared.decision.Decision.TheVariants.{Order, Impossible, OutOfSteps}
+use Rattle.deciding.specs.declared.decision.Decision.TheVariants.{TooLarge, NoMemory}
+use Rattle.deciding.specs.Decisions.{IsDecisionOn, is_impossible}
 use Rattle.verdicts.specs.declared.verdict.Summary.{Summary}
 use Rattle.verdicts.specs.declared.verdict.Verdict.{Verdict}
 use Rattle.verdicts.specs.declared.verdict.Verdict.TheVariants as verdict
 use Rattle.judging.specs.declared.texts.TextFailure.TheVariants.{Faulty}
 use Rattle.verdicts.specs.Counts.{AreCountsOf}
 use Rattle.judging.specs.Texts.{DenotesHistory, IsHistoryFault, IsLinearizableText}
-use Rattle.history_commands.specs.Searches.{answer_line, is_found, search_status}
 use Rattle.history_commands.specs.Searches.{IsNotLinearizableText}
 use Rattle.outputs.specs.Outputs.{IsOutput}
-use Rattle.outputs.specs.Statuses.{no_status, yes_status}
+use Rattle.outputs.specs.Statuses.{no_memory_status, no_status, yes_status}
 
--- the line on an object that has no certificate, and nothing on one that has
-abbrev pub note_line : ℕ → ℕ → SearchOutcome → List ℕ
-note_line x n f = if is_found f then [] else answer_line x n f
+-- The lines on an object of which no order is valid: that it is so, the sentence of the finder of
+-- reasons, the operations of the part of which no order is valid, and the reason that names it.
+abbrev pub impossible_lines : List Event → ℕ → FoundReason → List ℕ
+impossible_lines es x f =
+    ((codes "; object " ++ decimal x) ++ codes ": impossible\n")
+    ++ (sentence_line f.part.kind f.pattern f.key
+    ++ (operations_text true es f.part.ops ++ (codes "; " ++ line_of f.reason)))
 
-abbrev pub notes_text : List (ℕ × Search) → List ℕ
-notes_text [] = []
-notes_text (a ∷ rest) = note_line a.0 a.1.steps a.1.found ++ notes_text rest
+-- the lines on an object that has no certificate, and nothing on one that has
+abbrev pub note_lines : List Event → ℕ → ℕ → Decision → List ℕ
+note_lines es limit x (Order c) = []
+note_lines es limit x (Impossible f) = impossible_lines es x f
+note_lines es limit x OutOfSteps =
+    (codes "; object " ++ decimal x)
+    ++ (codes ": out of steps after " ++ (decimal limit ++ codes "\n"))
+note_lines es limit x TooLarge = (codes "; object " ++ decimal x) ++ codes ": too large\n"
+note_lines es limit x NoMemory = (codes "; object " ++ decimal x) ++ codes ": out of memory\n"
+
+abbrev pub notes_text : List Event → ℕ → List (ℕ × Decision) → List ℕ
+notes_text es limit [] = []
+notes_text es limit (a ∷ rest) = note_lines es limit a.0 a.1 ++ notes_text es limit rest
+
+abbrev pub is_order : Decision → Bool
+is_order (Order c) = true
+is_order (Impossible f) = false
+is_order OutOfSteps = false
+is_order TooLarge = false
+is_order NoMemory = false
+
+-- no, where some object is impossible; yes, where each has a certificate
+abbrev pub judge_status : List (ℕ × Decision) → ℕ
+judge_status answers =
+    if list_any (λ a. is_impossible a.1) answers then no_status
+    else if list_all (λ a. is_order a.1) answers then yes_status else no_memory_status
+
+-- No order of the calls of an object is valid, for this reason, and the lines that say so are in
+-- the text.
+pub record IsExplained (es : List Event) (text : List ℕ) : Type 0 where
+  pub object : ℕ
+  pub found : FoundReason
+  pub holds : IsReasonFor object (kind_at es object) (calls_on object (denoted es)) found
+  pub before : List ℕ
+  pub after : List ℕ
+  pub lines : text ≡ before ++ (impossible_lines es object found ++ after)
 
 -- Some object of the history has no certificate: the decisions on all objects, in rising number,
 -- and what they show.
 pub record AreOpen (es : List Event) (limit status : ℕ) (text : List ℕ) : Type 0 where
-  pub answers : List (ℕ × Search)
+  pub answers : List (ℕ × Decision)
   pub rising : AllPairs (λ a b. a.0 < b.0) answers
   pub named : (x : ℕ) → Contains (map (λ a. a.0) answers) x ↔ IsNamed es x
-  pub each : All (λ a. IsDecisionOn es limit a.0 a.1) answers
-  pub some_open : list_all (λ a. is_found a.1.found) answers ≡ false
-  pub status_is : status ≡ search_status answers
-  pub text_is : text ≡ notes_text answers
-  -- where it is a no the history is not linearizable
+  pub each : All (λ a. IsDecisionOn es a.0 a.1) answers
+  pub some_open : list_all (λ a. is_order a.1) answers ≡ false
+  pub status_is : status ≡ judge_status answers
+  pub text_is : text ≡ notes_text es limit answers
+  -- where it is a no the history is not linearizable, and the text says why
   pub refuted : status ≡ no_status → IsLinearizable (kind_at es) (events (denoted es)) → ⊥
+  pub explained : status ≡ no_status → IsExplained es text
 
 -- Some certificates are valid for the history, which has these counts.
 pub record IsCertified (es : List Event) (s : Summary) : Type 0 where
@@ -77,9 +119,14 @@ IsOpenText h limit status text =
 abbrev pub IsJudgeOutput : List ℕ → ℕ → ℕ → List ℕ → Type 0
 IsJudgeOutput h limit status text = IsOutput (IsOpenText h limit) (IsVerdictOnText h) status text
 
--- What a judgement comes to: where it is a yes the history is linearizable, and where it is a no it
--- is not.
+-- the lines say for which reason an object of the history that the text denotes has no valid order
+abbrev pub IsExplainedText : List ℕ → List ℕ → Type 0
+IsExplainedText h out = (es : List Event) × DenotesHistory h es × IsExplained es out
+
+-- What a judgement comes to: where it is a yes the history is linearizable. Where it is a no it is
+-- not, and the lines say for which reason.
 pub record IsJudgement (h : List ℕ) (limit status : ℕ) (out : List ℕ) : Type 0 where
   pub output : IsJudgeOutput h limit status out
   pub linearizable : status ≡ yes_status → IsLinearizableText h
   pub refuted : status ≡ no_status → IsNotLinearizableText h
+  pub explained : status ≡ no_status → IsExplainedText h out

@@ -2,3 +2,4 @@ pub mod Comments
 pub mod Searches
 pub mod Findings
 pub mod Judged
+pub mod Refuted

@@ -1,76 +1,151 @@
-//! The judgement of a history without certificates: they are found, and it is judged by them.
+//! The judgement of a history without certificates: they are found, and it is judged by them. Of an
+//! object that has none it is said why.
 
-ghost use Rattle.std.specs.Prelude.{◌≡◌, ◌++◌, false, OnOk, IfOk, IfErr};
+ghost use Rattle.std.specs.Prelude.{◌≡◌, ◌++◌, false, IfOk, IfErr, OnOk};
+ghost use Rattle.std.specs.List.{list_all, list_any};
 ghost use Rattle.certificate.specs.Denotes.{AreDistinct};
 ghost use Rattle.checker.specs.Refusals.{AreValid};
-ghost use Rattle.search.specs.Answers.{certificates_in};
-ghost use Rattle.history_commands.specs.Judged.{note_line, notes_text, AreOpen, IsJudgement};
+ghost use Rattle.deciding.specs.Decisions.{certificates_in, is_impossible};
+ghost use Rattle.history_commands.specs.Judged.{impossible_lines, is_order, judge_status};
+ghost use Rattle.history_commands.specs.Judged.{note_lines, notes_text, AreOpen, IsJudgement};
 ghost use Rattle.history_commands.specs.Judged.{IsOpenText, IsVerdictOn, IsVerdictOnText};
 ghost use Rattle.outputs.specs.Outputs.{Leaves};
-ghost use Rattle.history_commands.specs.Searches.{search_status};
 
-use crate::searching::{are_all_found, push_answer, status_for};
+use crate::searching::{push_note, push_steps};
 use crate::texts::history_of;
 use certificate::Certificate;
-use deciding::{Search, SearchOutcome, decide_all};
+use deciding::{Decision, FoundReason, decide_all};
 use edn::Sink;
 use history::History;
 use judging::verdict_on;
-use outputs::{Output, put_out};
+use outputs::{NO, NO_MEMORY, Output, YES, put_out};
+use reason_report::{push_operations, push_reason, push_sentence};
 use report::Verdict;
 use std::alloc::{AllocError, Global};
 use std::thread::Threads;
 
-/// The line that says why an object has no certificate, where it has none.
+/// The lines on an object of which no order is valid: that it is so, what the finder of reasons has
+/// seen, the operations of the part of which no order is valid, and the reason that names this part.
+fn push_impossible(
+    alloc: Global,
+    text: &mut Vec<u8>,
+    history: &History,
+    object: u32,
+    found: &FoundReason,
+) -> Result<(), AllocError>
+    ensures { OnOk result (text.new.items ≡ text.old.items
+        ++ impossible_lines history.now object found.now) }
+{
+    push_note(text, object, b": impossible\n")?;
+    push_sentence(text, found.part.kind(), found.pattern, found.key)?;
+    push_operations(text, true, history, &found.part)?;
+    push_reason(alloc, text, true, &found.reason)
+}
+
+/// The lines that say why an object has no certificate, where it has none.
 fn push_note_on(
     alloc: Global,
     text: &mut Vec<u8>,
+    history: &History,
+    steps: u32,
     object: u32,
-    answer: &Search,
+    decision: &Decision,
 ) -> Result<(), AllocError>
     ensures { OnOk result (text.new.items ≡ text.old.items
-        ++ note_line object answer.now.steps answer.now.found) }
+        ++ note_lines history.now steps object decision.now) }
 {
-    match answer.found {
-        SearchOutcome::Found(_) => Ok(()),
-        _ => push_answer(alloc, text, object, answer),
+    match decision {
+        Decision::Order(_) => Ok(()),
+        Decision::Impossible(found) => push_impossible(alloc, text, history, object, found),
+        Decision::OutOfSteps => push_steps(text, object, u64::from(steps)),
+        Decision::TooLarge => push_note(text, object, b": too large\n"),
+        Decision::NoMemory => push_note(text, object, b": out of memory\n"),
     }
 }
 
 /// The lines on all objects that have no certificate.
-fn notes_of(alloc: Global, answers: &[(u32, Search)]) -> Result<Vec<u8>, AllocError>
-    ensures { IfOk result (λ text. text.items ≡ notes_text answers.now) }
+fn notes_of(
+    alloc: Global,
+    history: &History,
+    steps: u32,
+    answers: &[(u32, Decision)],
+) -> Result<Vec<u8>, AllocError>
+    ensures { IfOk result (λ text. text.items ≡ notes_text history.now steps answers.now) }
 {
     let mut text = Vec::new(alloc);
     let mut rest = answers;
-    'answers: while let [(object, answer), later @ ..] = rest {
-        push_note_on(alloc, &mut text, *object, answer)?;
+    'answers: while let [(object, decision), later @ ..] = rest {
+        push_note_on(alloc, &mut text, history, steps, *object, decision)?;
         rest = later;
     }
     Ok(text)
 }
 
+fn is_impossible(answer: &(u32, Decision)) -> bool
+    ensures { result ≡ is_impossible answer.now.1 }
+{
+    matches!(answer.1, Decision::Impossible(_))
+}
+
+fn is_order(answer: &(u32, Decision)) -> bool
+    ensures { result ≡ is_order answer.now.1 }
+{
+    matches!(answer.1, Decision::Order(_))
+}
+
+/// Whether some object is impossible.
+fn is_one_impossible(answers: &[(u32, Decision)]) -> bool
+    ensures { result ≡ list_any (λ a. is_impossible a.1) answers.now }
+{
+    answers.iter().any(|answer| is_impossible(answer))
+}
+
+/// Whether each object has a certificate.
+fn are_all_orders(answers: &[(u32, Decision)]) -> bool
+    ensures { result ≡ list_all (λ a. is_order a.1) answers.now }
+{
+    answers.iter().all(|answer| is_order(answer))
+}
+
+/// 1 where some object is impossible, 0 where a certificate was found for each, else 3.
+fn status_for(answers: &[(u32, Decision)]) -> u8
+    ensures { result ≡ judge_status answers.now }
+{
+    if is_one_impossible(answers) {
+        NO
+    } else if are_all_orders(answers) {
+        YES
+    } else {
+        NO_MEMORY
+    }
+}
+
 /// What is said of objects of which some have no certificate.
-fn output_of(alloc: Global, answers: &[(u32, Search)]) -> Result<Output, AllocError>
-    ensures status { IfOk result (λ s. s.status ≡ search_status answers.now) }
-    ensures text { IfOk result (λ s. s.text.items ≡ notes_text answers.now) }
+fn output_of(
+    alloc: Global,
+    history: &History,
+    steps: u32,
+    answers: &[(u32, Decision)],
+) -> Result<Output, AllocError>
+    ensures status { IfOk result (λ s. s.status ≡ judge_status answers.now) }
+    ensures text { IfOk result (λ s. s.text.items ≡ notes_text history.now steps answers.now) }
 {
     Ok(Output {
         status: status_for(answers),
-        text: notes_of(alloc, answers)?,
+        text: notes_of(alloc, history, steps, answers)?,
     })
 }
 
 /// The certificates that were found.
 fn certificates_of(
     alloc: Global,
-    answers: Vec<(u32, Search)>,
+    answers: Vec<(u32, Decision)>,
 ) -> Result<Vec<Certificate>, AllocError>
     ensures { IfOk result (λ cs. cs.items ≡ certificates_in answers.items) }
 {
     let mut certificates = Vec::new(alloc);
-    for (_, answer) in answers {
-        if let SearchOutcome::Found(certificate) = answer.found {
+    for (_, decision) in answers {
+        if let Decision::Order(certificate) = decision {
             certificates.push(certificate)?;
         }
     }
@@ -82,7 +157,7 @@ fn verdict_on_found<R: Threads + Sync>(
     rt: &R,
     alloc: Global,
     history: &History,
-    answers: Vec<(u32, Search)>,
+    answers: Vec<(u32, Decision)>,
 ) -> Verdict
     requires distinct { AreDistinct (certificates_in answers.items) }
     requires valid { AreValid history.now (certificates_in answers.items) }
@@ -108,10 +183,10 @@ fn judge_events<R: Threads + Sync>(
     let Ok(answers) = decide_all(alloc, history, u64::from(steps)) else {
         return Err(Verdict::NoMemory);
     };
-    if are_all_found(&answers) {
+    if are_all_orders(&answers) {
         return Err(verdict_on_found(rt, alloc, history, answers));
     }
-    match output_of(alloc, &answers) {
+    match output_of(alloc, history, steps, &answers) {
         Ok(output) => Ok(output),
         Err(AllocError) => Err(Verdict::NoMemory),
     }
@@ -132,9 +207,9 @@ fn judge_text<R: Threads + Sync>(
     judge_events(rt, alloc, &history, steps)
 }
 
-/// Finds certificates of the history in the text, judges it by them, puts out the verdict, or what
-/// is said of objects without a certificate, and gives the exit status. A search takes at most
-/// `steps` steps for each object.
+/// Finds certificates of the history in the text, judges it by them, puts out the verdict, or why
+/// some objects have no certificate, and gives the exit status. A search takes at most `steps`
+/// steps for each object.
 pub fn report_judgement<R: Threads + Sync, S: Sink>(
     rt: &R,
     alloc: Global,

@@ -8,22 +8,14 @@ ghost use Rattle.history_commands.specs.Searches.{IsSearched, IsUnsearched};
 ghost use Rattle.outputs.specs.Outputs.{Leaves};
 
 use crate::comments::certificates_text;
+use crate::lines::push_decimal;
 use crate::texts::history_of;
 use edn::Sink;
 use history::History;
-use itoa::Buffer;
 use outputs::{NO, NO_MEMORY, Output, YES, put_out};
 use report::Verdict;
 use search::{Search, SearchOutcome, TryFirst, search_all_by};
 use std::alloc::{AllocError, Global};
-
-/// Appends a number in decimal.
-pub fn push_decimal(text: &mut Vec<u8>, n: u64) -> Result<(), AllocError>
-    ensures { OnOk result (text.new.items ≡ text.old.items ++ decimal n) }
-{
-    let mut buffer = Buffer::new();
-    text.extend_from_slice(buffer.format(n).as_bytes())
-}
 
 fn push_object(text: &mut Vec<u8>, object: u32) -> Result<(), AllocError>
     ensures { OnOk result (text.new.items ≡ text.old.items
@@ -43,7 +35,7 @@ pub(crate) fn push_note(text: &mut Vec<u8>, object: u32, note: &[u8]) -> Result<
 }
 
 /// The line that says after how many steps a search was given up.
-fn push_steps(text: &mut Vec<u8>, object: u32, steps: u64) -> Result<(), AllocError>
+pub(crate) fn push_steps(text: &mut Vec<u8>, object: u32, steps: u64) -> Result<(), AllocError>
     ensures { OnOk result (text.new.items ≡ text.old.items
         ++ ((codes "; object " ++ decimal object)
         ++ (codes ": out of steps after " ++ (decimal steps ++ codes "\n")))) }
@@ -55,7 +47,7 @@ fn push_steps(text: &mut Vec<u8>, object: u32, steps: u64) -> Result<(), AllocEr
 }
 
 /// The line of one answer.
-pub(crate) fn push_answer(
+fn push_answer(
     alloc: Global,
     text: &mut Vec<u8>,
     object: u32,
@@ -109,14 +101,14 @@ fn is_one_impossible(answers: &[(u32, Search)]) -> bool
 }
 
 /// Whether each object has a certificate.
-pub(crate) fn are_all_found(answers: &[(u32, Search)]) -> bool
+fn are_all_found(answers: &[(u32, Search)]) -> bool
     ensures { result ≡ list_all (λ a. is_found a.1.found) answers.now }
 {
     answers.iter().all(|answer| is_found(answer))
 }
 
 /// 1 where some object is impossible, 0 where a certificate was found for each, else 3.
-pub(crate) fn status_for(answers: &[(u32, Search)]) -> u8
+fn status_for(answers: &[(u32, Search)]) -> u8
     ensures { result ≡ search_status answers.now }
 {
     if is_one_impossible(answers) {

@@ -1,0 +1,305 @@
+//! The check of reasons, from anybody, why a history is not linearizable.
+
+ghost use Rattle.std.specs.Prelude.{◌≡◌, ◌⊎◌, ◌++◌, false, true, length, map, Any, Contains, OnOk};
+ghost use Rattle.std.specs.Prelude.{IfOk, IfErr, is_some};
+ghost use Rattle.std.specs.List.{AllZip};
+ghost use Rattle.model.specs.Orders.{calls_on};
+ghost use Rattle.events.specs.Events.{denoted};
+ghost use Rattle.events.specs.Operations.{call_of, calls_of};
+ghost use Rattle.refutation.specs.Refutations.{is_impossible, IsAnswer};
+ghost use Rattle.history_commands.specs.Refuted as spec;
+ghost use Rattle.history_commands.specs.Refuted.{doubt_text, refutation_lines, refutations_text};
+ghost use Rattle.history_commands.specs.Refuted.{refute_status, AreAnswered, AreAnsweredIn};
+ghost use Rattle.history_commands.specs.Refuted.{IsOfText, IsReasonsFault, IsRefute, IsRefuteText};
+ghost use Rattle.history_commands.specs.Searches.{IsUnsearched};
+ghost use Rattle.outputs.specs.Outputs.{Leaves};
+ghost use Rattle.outputs.specs.Statuses.{malformed_status};
+
+use crate::lines::{line_with_place, push_decimal};
+use crate::texts::history_of;
+use edn::{FaultKind, Sink};
+use events::{End, Invocation, ObjectHistory, split};
+use history::History;
+use outputs::{MALFORMED, NO, NO_MEMORY, Output, put_out};
+use reason_report::push_operations;
+use reason_text::{ReasonFaultKind, ReasonTextFault, read_reasons_text};
+use refutation::{Doubt, Reason, Refutation, refute_all};
+use report::Verdict;
+use std::alloc::{AllocError, Global};
+
+/// The line of a fault of the text of reasons.
+fn fault_line(alloc: Global, fault: ReasonTextFault) -> Result<Vec<u8>, AllocError>
+    ensures { IfOk result (λ v. v.items ≡ spec.reasons_fault_line fault) }
+{
+    match fault {
+        ReasonTextFault::Text(e) => line_with_place(
+            alloc,
+            b"malformed reasons: E",
+            e.kind.number(),
+            b" at byte ",
+            e.place,
+        ),
+        ReasonTextFault::Forms(f) => line_with_place(
+            alloc,
+            b"malformed reasons: N",
+            f.kind.number(),
+            b" at form ",
+            f.form,
+        ),
+    }
+}
+
+/// Whether memory was refused.
+fn lacks_memory(fault: ReasonTextFault) -> bool
+    ensures { result ≡ false → IsOfText fault }
+{
+    match fault {
+        ReasonTextFault::Text(e) => matches!(e.kind, FaultKind::NoMemory),
+        ReasonTextFault::Forms(f) => matches!(f.kind, ReasonFaultKind::NoMemory),
+    }
+}
+
+/// What is put out of a text that denotes no reasons.
+fn refuse(alloc: Global, fault: ReasonTextFault) -> Result<Output, Verdict>
+    ensures status { IfOk result (λ s. s.status ≡ malformed_status) }
+    ensures text { IfOk result (λ s. s.text.items ≡ spec.reasons_fault_line fault) }
+    ensures of_text { IfOk result (λ _. IsOfText fault) }
+    ensures memory { IfErr result (λ v. v ≡ Verdict.NoMemory) }
+{
+    if lacks_memory(fault) {
+        return Err(Verdict::NoMemory);
+    }
+    match fault_line(alloc, fault) {
+        Ok(text) => Ok(Output {
+            status: MALFORMED,
+            text,
+        }),
+        Err(AllocError) => Err(Verdict::NoMemory),
+    }
+}
+
+/// Whether an operation may have happened.
+fn may_have_happened(operation: &Invocation) -> bool
+    ensures { result ≡ is_some (call_of operation.now) }
+{
+    !matches!(operation.end, End::Failed)
+}
+
+/// How many operations of an object did not fail.
+#[tactic(auto, using(order_search::proofs::Calls::count-calls))]
+fn call_count(history: &ObjectHistory) -> usize
+    ensures { result ≡ length (calls_of history.now.ops) }
+{
+    history.ops().iter().filter(|o| may_have_happened(o)).count()
+}
+
+/// How many operations of the object with this number did not fail.
+fn call_count_of(objects: &[ObjectHistory], number: u32) -> usize
+    ensures { Contains (map (λ o. o.object) objects.now) number → Any (λ o. (o.object ≡ number)
+        × (result ≡ length (calls_of o.ops))) objects.now }
+{
+    for object in objects {
+        if object.object() == number {
+            return call_count(object);
+        }
+    }
+    0
+}
+
+/// The beginning of a line on the object of a reason.
+fn push_object(text: &mut Vec<u8>, reason: &Reason) -> Result<(), AllocError>
+    ensures { OnOk result (text.new.items ≡ text.old.items ++ spec.object_text reason.now) }
+{
+    text.extend_from_slice(b"object ")?;
+    push_decimal(text, u64::from(reason.object))
+}
+
+/// The lines of a part that shows that no order is valid of the object's calls, this many.
+fn push_shown(
+    text: &mut Vec<u8>,
+    history: &History,
+    whole: usize,
+    reason: &Reason,
+    part: &ObjectHistory,
+) -> Result<(), AllocError>
+    requires whole { whole ≡ length (calls_on reason.now.object (denoted history.now)) }
+    ensures { OnOk result (text.new.items ≡ text.old.items
+        ++ refutation_lines history.now 0 reason.now (Refutation.Impossible part.now)) }
+{
+    text.extend_from_slice(b"not linearizable: ")?;
+    push_object(text, reason)?;
+    text.extend_from_slice(b": ")?;
+    push_decimal(text, call_count(part) as u64)?;
+    text.extend_from_slice(b" of ")?;
+    push_decimal(text, whole as u64)?;
+    text.extend_from_slice(b" operations have no valid order\n")?;
+    push_operations(text, false, history, part)
+}
+
+/// Why it is not shown that no order is valid.
+fn push_doubt(text: &mut Vec<u8>, steps: u32, doubt: Doubt) -> Result<(), AllocError>
+    ensures { OnOk result (text.new.items ≡ text.old.items ++ doubt_text steps doubt) }
+{
+    match doubt {
+        Doubt::Possible => text.extend_from_slice(b": not shown: the part has a valid order\n"),
+        Doubt::NotOverdrawn => text.extend_from_slice(b": not shown: the count is not exceeded\n"),
+        Doubt::OutOfSteps => {
+            text.extend_from_slice(b": not shown: out of steps after ")?;
+            push_decimal(text, u64::from(steps))?;
+            text.extend_from_slice(b"\n")
+        }
+        Doubt::TooLarge => text.extend_from_slice(b": not shown: too large\n"),
+        Doubt::NoMemory => text.extend_from_slice(b": not shown: out of memory\n"),
+    }
+}
+
+/// The line on a reason that names no part of an object of the history.
+fn push_unfit(text: &mut Vec<u8>, reason: &Reason, why: &[u8]) -> Result<(), AllocError>
+    ensures { OnOk result (text.new.items ≡ text.old.items
+        ++ (spec.object_text reason.now ++ why.now)) }
+{
+    push_object(text, reason)?;
+    text.extend_from_slice(why)
+}
+
+/// The lines of the answer to a reason on an object of this many calls.
+fn push_answer(
+    text: &mut Vec<u8>,
+    history: &History,
+    whole: usize,
+    steps: u32,
+    reason: &Reason,
+    answer: &Refutation,
+) -> Result<(), AllocError>
+    requires whole { is_impossible answer.now ≡ true
+        → whole ≡ length (calls_on reason.now.object (denoted history.now)) }
+    ensures { OnOk result (text.new.items ≡ text.old.items
+        ++ refutation_lines history.now steps reason.now answer.now) }
+{
+    match answer {
+        Refutation::Impossible(part) => push_shown(text, history, whole, reason, part),
+        Refutation::NotShown { part: _, doubt } => {
+            push_object(text, reason)?;
+            push_doubt(text, steps, *doubt)
+        }
+        Refutation::NoPart => push_unfit(text, reason, b": not shown: the cuts name no part\n"),
+        Refutation::OtherObject => {
+            push_unfit(text, reason, b": not shown: it is not in the history\n")
+        }
+    }
+}
+
+/// The lines of all answers.
+fn text_of(
+    alloc: Global,
+    history: &History,
+    steps: u32,
+    reasons: &[Reason],
+    answers: &[Refutation],
+) -> Result<Vec<u8>, AllocError>
+    requires answers { AllZip (IsAnswer history.now) reasons.now answers.now }
+    ensures { IfOk result (λ t. t.items
+        ≡ refutations_text history.now steps reasons.now answers.now) }
+{
+    let objects = split(alloc, history)?;
+    let mut text = Vec::new(alloc);
+    let mut reasons_left = reasons;
+    let mut answers_left = answers;
+    'reasons: while let [reason, later_reasons @ ..] = reasons_left {
+        let [answer, later_answers @ ..] = answers_left else {
+            break 'reasons;
+        };
+        let whole = call_count_of(&objects, reason.object);
+        push_answer(&mut text, history, whole, steps, reason, answer)?;
+        reasons_left = later_reasons;
+        answers_left = later_answers;
+    }
+    Ok(text)
+}
+
+fn is_impossible(answer: &Refutation) -> bool
+    ensures { result ≡ is_impossible answer.now }
+{
+    matches!(answer, Refutation::Impossible(_))
+}
+
+/// 1 where a reason shows that the history is not linearizable, else 3.
+fn status_for(answers: &[Refutation]) -> u8
+    ensures { result ≡ refute_status answers.now }
+{
+    if answers.iter().any(|answer| is_impossible(answer)) {
+        NO
+    } else {
+        NO_MEMORY
+    }
+}
+
+/// Checks the reasons on the history, each with a search of at most `steps` steps.
+fn answer_reasons(
+    alloc: Global,
+    history: &History,
+    reasons: &[Reason],
+    steps: u32,
+) -> Result<Output, AllocError>
+    ensures { IfOk result (λ s.
+        AreAnswered history.now reasons.now steps s.status s.text.items) }
+{
+    let answers = refute_all(alloc, history, reasons, u64::from(steps))?;
+    Ok(Output {
+        status: status_for(&answers),
+        text: text_of(alloc, history, steps, reasons, &answers)?,
+    })
+}
+
+/// The same of the reasons that a text denotes, or what is put out where it denotes none.
+fn answer_text(
+    alloc: Global,
+    history: &History,
+    text: &[u8],
+    steps: u32,
+) -> Result<Output, Verdict>
+    ensures answered { IfOk result (λ s.
+        AreAnsweredIn history.now text.now steps s.status s.text.items
+        ⊎ IsReasonsFault text.now s.status s.text.items) }
+    ensures memory { IfErr result (λ v. v ≡ Verdict.NoMemory) }
+{
+    let reasons = match read_reasons_text(alloc, text) {
+        Ok(reasons) => reasons,
+        Err(fault) => return refuse(alloc, fault),
+    };
+    match answer_reasons(alloc, history, &reasons, steps) {
+        Ok(output) => Ok(output),
+        Err(AllocError) => Err(Verdict::NoMemory),
+    }
+}
+
+/// The same for the history that a text denotes, or why the reasons are not checked.
+fn refute_text(
+    alloc: Global,
+    history: &[u8],
+    reasons: &[u8],
+    steps: u32,
+) -> Result<Output, Verdict>
+    ensures answered { IfOk result (λ s.
+        IsRefuteText history.now reasons.now steps s.status s.text.items) }
+    ensures unread { IfErr result (IsUnsearched history.now) }
+{
+    let history = history_of(alloc, history)?;
+    answer_text(alloc, &history, reasons, steps)
+}
+
+/// Checks the reasons in one text on the history in another, each with a search of at most `steps`
+/// steps, puts out what they show, and gives the exit status.
+pub fn report_refutation<S: Sink>(
+    alloc: Global,
+    history: &[u8],
+    reasons: &[u8],
+    steps: u32,
+    sink: &mut S,
+) -> u8
+    requires working { S.broken sink.old ≡ false }
+    ensures leaves { Leaves (IsRefute history.now reasons.now steps)
+        (S.sent sink.old) result (S.sent sink.new) (S.broken sink.new) }
+{
+    put_out(refute_text(alloc, history, reasons, steps), sink)
+}
