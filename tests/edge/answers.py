@@ -145,7 +145,8 @@ def examples(program, report):
             program.write(name, file.read())
     for name in names:
         stem, _, kind = name.partition(".")
-        if kind == "history.edn":
+        if kind == "certificates.edn":
+            name = f"{stem}.history.edn"
             texts = name, f"{stem}.certificates.edn"
             answers(("check", *texts), f"{stem}.expected")
             answers(("check", "--workers", "4", *texts), f"{stem}.expected")
@@ -159,6 +160,8 @@ def examples(program, report):
             answers(("simulate", name), f"{stem}.expected")
         elif kind == "judged":
             answers(("judge", f"{stem}.history.edn"), name)
+        elif kind == "refuted":
+            answers(("refute", f"{stem}.history.edn", f"{stem}.reasons.edn"), name)
     report.holds("there are examples", len(names) > 60, names)
 
 

@@ -3,13 +3,16 @@ import os
 
 from . import rows
 from .answers import through_pipes
-from .rows import CERTIFICATES, HISTORY, SCHEDULE
+from .rows import CERTIFICATES, HISTORY, REASONS, SCHEDULE
 from .running import Program, Report
 
 LONGEST = 268_435_456
 AS_NOBODY = {"user": 65534, "group": 65534, "extra_groups": ()}
 # The commands of one file, with the words before its name.
 OF_ONE_FILE = (("search",), ("find",), ("judge",), ("simulate",))
+
+# What the second file of a command holds.
+SECOND_TEXTS = {"check": "certificates", "refute": "reasons"}
 
 
 def fault_of(command, fault):
@@ -20,13 +23,16 @@ def with_each_file(name):
     """The words of each command with this name in the place of each of its files."""
     yield "check", name, CERTIFICATES
     yield "check", HISTORY, name
+    yield "refute", name, REASONS
+    yield "refute", HISTORY, name
     yield from ((*it, name) for it in OF_ONE_FILE)
 
 
 def write_good(program):
-    """Writes the texts of a history that is linearizable, its certificates and a schedule."""
+    """Writes the texts of a history that is linearizable, its certificates, a reason and a schedule."""
     program.write(HISTORY, rows.OVERLAPPING)
     program.write(CERTIFICATES, rows.order(1, 0, 4))
+    program.write(REASONS, rows.TWO_OF_THREE)
     program.write(SCHEDULE, rows.SERVED_BY_ANOTHER)
 
 
@@ -36,7 +42,9 @@ def good_runs():
     yield ("check", HISTORY, CERTIFICATES), (history, certificates), rows.THREE_YES, 0
     yield ("search", HISTORY), (history,), rows.order(1, 0, 4), 0
     yield ("find", HISTORY), (history,), rows.order(1, 0, 4), 0
-    yield ("judge", HISTORY), ((HISTORY, rows.OUT_OF_ORDER),), "; object 0: impossible\n", 1
+    yield ("judge", HISTORY), (history,), rows.THREE_YES, 0
+    refuted = next(it for it in rows.REFUTATIONS if it.name == "refute: two of three values")
+    yield ("refute", HISTORY, REASONS), refuted.files(), refuted.out, 1
     yield ("simulate", SCHEDULE), ((SCHEDULE, rows.SERVED_BY_ANOTHER),), rows.SERVED_LINES, 0
 
 
@@ -107,7 +115,7 @@ def too_long(program, report):
         for command, *files in with_each_file(name):
             out = fault_of(command, "E10 at byte 0")
             if files[-1] == name and len(files) == 2:
-                out = "malformed certificates: E10 at byte 0\n"
+                out = f"malformed {SECOND_TEXTS[command]}: E10 at byte 0\n"
             report.answers(f"{command} {' '.join(files)}", program.run(command, *files), out, 2)
     # One byte fewer is read, and a zero byte is no token.
     with_zeros(program, "long.edn", LONGEST)

@@ -4,7 +4,7 @@ import os
 import re
 from dataclasses import dataclass
 
-from . import rows, workloads
+from . import reasons, rows, workloads
 from .answers import is_accepted
 from .running import EXAMPLES, Program
 
@@ -12,6 +12,8 @@ OUT = b"out of memory\n"
 NO_MEMORY = 3
 # Of texts of this length or more, only some allocations are refused.
 LONG = 2000
+# Of texts of this length or more, few are.
+MIDDLING = 10_000
 # Of one client, the same allocations are made each time.
 ONE_CLIENT = ("run", "--clients", "1", "--calls", "3")
 
@@ -47,14 +49,18 @@ def of_row(row, *more, stride=1):
 
 def examples():
     """Each command on each example. Most are like worked rows, so only some of their allocations are refused."""
-    for name in sorted(os.listdir(EXAMPLES)):
+    names = sorted(os.listdir(EXAMPLES))
+    for name in names:
         stem, _, kind = name.partition(".")
         if kind == "schedule.edn":
             yield of_example("simulate", name)
+        if kind == "reasons.edn":
+            yield of_example("refute", f"{stem}.history.edn", name)
         if kind == "history.edn":
-            yield of_example("check", name, f"{stem}.certificates.edn")
+            if f"{stem}.certificates.edn" in names:
+                yield of_example("check", name, f"{stem}.certificates.edn")
             # A search that never ends by itself would take all its steps at each refusal.
-            few = ("--steps", "1000") if stem == "never_enqueued" else ()
+            few = ("--steps", "1000") if f"{stem}.reasons.edn" in names else ()
             yield of_example("search", *few, name)
             yield of_example("find", name)
             yield of_example("judge", *few, name)
@@ -67,7 +73,9 @@ def of_example(*words):
         if name.endswith(".edn"):
             with open(f"{EXAMPLES}/{name}", "rb") as file:
                 files.append((name, file.read()))
-    return Case(f"example: {' '.join(words)}", words, tuple(files), stride=5)
+    # A recorded history is long, and has many like allocations.
+    stride = 5 if all(len(text) < MIDDLING for _, text in files) else 200
+    return Case(f"example: {' '.join(words)}", words, tuple(files), stride)
 
 
 def cases():
@@ -75,6 +83,8 @@ def cases():
     for it in rows.ROWS:
         if len(it.texts[0]) < LONG:
             yield of_row(it)
+    for name, history, *options in rows.NOT_LINEARIZABLE:
+        yield of_row(rows.judge(name, history, "", 1, *options), stride=3)
     yield of_row(next(it for it in rows.YES if it.texts[0] == rows.TWO_QUEUES), "--workers", "4")
     yield Case(" ".join(ONE_CLIENT), ONE_CLIENT)
     for kind in workloads.KINDS_OF_A_RUN:
@@ -113,11 +123,21 @@ def is_out_of_memory(command, whole, ran):
     if command == "search":
         return object_is_out_of_memory(whole, ran)
     if command == "judge":
-        # It tells only the objects that have no certificate.
-        return ran.status == NO_MEMORY and re.fullmatch(rb"(; object [01]: out of memory\n)+", ran.out) is not None
+        # It tells only the objects that have no certificate. Where no memory is left to look for a reason it searches.
+        lines = rb"(; object \d+: (out of memory|out of steps after \d+|too large)\n)+"
+        return ran.status == NO_MEMORY and re.fullmatch(lines, ran.out) is not None
+    if command == "refute":
+        return ran.status == NO_MEMORY and b": not shown: out of memory\n" in ran.out
     if command in ("run", "simulate") and ran.status == NO_MEMORY:
         return ran.out.endswith(b"; " + OUT) or command == "run" and ran.out == b"no thread\n"
     return False
+
+
+def is_other_reason(program, words, whole, ran):
+    """Whether a judgement says no as it does with ample memory, and for a reason that holds."""
+    with open(f"{program.room}/{words[-1]}") as file:
+        history = file.read()
+    return (whole.status, reasons.why_not_explained(program, history, ran)) == (1, None)
 
 
 def is_other_run(program, words, whole, ran):
@@ -144,7 +164,8 @@ def refuse(it):
     is_out = is_out_of_memory(command, whole, ran)
     is_same = (ran.status, ran.out, ran.err) == (whole.status, whole.out, whole.err)
     is_quiet = ran.err == b"" or ran.err == whole.err
-    is_well = is_quiet and (is_same or is_out or is_other_run(it.program, it.words, whole, ran))
+    is_other = is_other_reason if command == "judge" else is_other_run
+    is_well = is_quiet and (is_same or is_out or is_other(it.program, it.words, whole, ran))
     return is_out, ran.out, None if is_well else ran
 
 

@@ -6,7 +6,7 @@ from dataclasses import dataclass
 
 from .texts import certificate, fail, info, invoke, lines, ok, one_process, order
 
-HISTORY, CERTIFICATES, SCHEDULE = "history.edn", "certificates.edn", "schedule.edn"
+HISTORY, CERTIFICATES, SCHEDULE, REASONS = "history.edn", "certificates.edn", "schedule.edn", "reasons.edn"
 
 
 @dataclass(frozen=True)
@@ -22,7 +22,8 @@ class Row:
     def files(self):
         """The names of the files with their texts."""
         first = SCHEDULE if self.words[0] == "simulate" else HISTORY
-        return tuple(zip((first, CERTIFICATES), self.texts))
+        second = REASONS if self.words[0] == "refute" else CERTIFICATES
+        return tuple(zip((first, second), self.texts))
 
 
 def check(name, history, certificates, out, status):
@@ -39,6 +40,10 @@ def find(name, history, out, status):
 
 def judge(name, history, out, status, *options):
     return Row(f"judge: {name}", ("judge", *options, HISTORY), (history,), out, status)
+
+
+def refute(name, history, reasons, out, status, *options):
+    return Row(f"refute: {name}", ("refute", *options, HISTORY, REASONS), (history, reasons), out, status)
 
 
 def simulate(name, schedule, out, status):
@@ -123,6 +128,16 @@ BAG_WITH_EQUALS = one_process(
     ("extract-min", None, 2),
     ("extract-min", None, 3),
     ("extract-min", None, None),
+)
+
+# The second write comes first: else the cas would find 2.
+FAILED_CAS = lines(
+    invoke(0, "write", 1),
+    invoke(1, "write", 2),
+    ok(0, "write", 1),
+    ok(1, "write", 2),
+    invoke(0, "cas", (2, 9)),
+    ok(0, "cas", False),
 )
 
 REGISTER = one_process(("cas", (1, 2), False), ("write", 1, 1), ("cas", (1, 2), (1, 2)), ("read", None, 2))
@@ -394,11 +409,131 @@ JUDGEMENTS = [
     judge("a register", REGISTER, yes(4, 1, "register: 1 objects, 4 operations"), 0),
     judge("a map", MAP, yes(5, 1, "map: 1 objects, 5 operations"), 0),
     judge("a mutex is passed on", MUTEX, yes(3, 1, "mutex: 1 objects, 3 operations"), 0),
-    judge("no order", OUT_OF_ORDER, "; object 0: impossible\n", 1),
-    judge("no order, and no step", OUT_OF_ORDER, "; object 0: out of steps after 0\n", 3, "--steps", "0"),
-    judge("a free mutex is released", RELEASE_OF_A_FREE_MUTEX, "; object 0: impossible\n", 1),
-    judge("equal enqueues", EQUAL_ENQUEUES, "; object 0: impossible\n", 1),
+    judge("an order that takes a search", FAILED_CAS, "; object 0: out of steps after 0\n", 3, "--steps", "0"),
+    judge("an order that a search finds", FAILED_CAS, yes(3, 1, "register: 1 objects, 3 operations"), 0),
     judge("a malformed history", AFTER_INFO, "malformed history: H8 at map 2\n", 2),
+]
+
+# Histories that are not linearizable, with the options of a judgement. A reason takes no steps.
+NOT_LINEARIZABLE = [
+    ("the later enqueue comes out first", OUT_OF_ORDER),
+    ("the later enqueue comes out first, and no step", OUT_OF_ORDER, "--steps", "0"),
+    ("equal enqueues", EQUAL_ENQUEUES),
+    ("a free mutex is released", RELEASE_OF_A_FREE_MUTEX),
+    ("a queue gives a value twice", one_process(("enqueue", 7, 7), ("dequeue", None, 7), ("dequeue", None, 7))),
+    ("a stack gives the lower value", one_process(("push", 1, 1), ("push", 2, 2), ("pop", None, 1))),
+    ("a heap gives the larger value", one_process(("insert", 1, 1), ("insert", 2, 2), ("extract-min", None, 2))),
+    ("a register gives an old value", one_process(("write", 1, 1), ("write", 2, 2), ("read", None, 1))),
+    ("a register refuses its value", one_process(("write", 1, 1), ("cas", (1, 2), False))),
+    ("a map loses a value", one_process(("put", (1, 10), None), ("put", (2, 20), None), ("get", 1, None))),
+    ("a map gives a value that was removed", one_process(("put", (1, 10), None), ("del", 1, 10), ("get", 1, 10))),
+    ("a mutex is acquired twice", one_process(("acquire", None, None), ("acquire", None, None))),
+    (
+        "the second of two objects",
+        lines(invoke(0, "enqueue", 1, 0), ok(0, "enqueue", 1, 0), invoke(0, "pop", None, 3), ok(0, "pop", 5, 3)),
+    ),
+]
+
+# A queue of three values, of which the second comes out first.
+THREE_VALUES = one_process(("enqueue", 1, 1), ("enqueue", 2, 2), ("enqueue", 3, 3), ("dequeue", None, 2))
+TWO_OF_THREE = "{:object 0, :cuts [{:keep [1 2], :numbers [0 2 6]}]}"
+
+
+def refutation(part, whole, *operations):
+    return lines(f"not linearizable: object 0: {part} of {whole} operations have no valid order", *operations)
+
+
+ENQUEUE_1 = "maps 0 and 1: process 0, :enqueue 1, :ok 1"
+ENQUEUE_2 = "maps 2 and 3: process 0, :enqueue 2, :ok 2"
+ENQUEUE_3 = "maps 4 and 5: process 0, :enqueue 3, :ok 3"
+DEQUEUE_2 = "maps 6 and 7: process 0, :dequeue nil, :ok 2"
+REFUTATIONS = [
+    refute("no reason", THREE_VALUES, "", "", 3),
+    refute("the whole", THREE_VALUES, "{:object 0}", refutation(4, 4, ENQUEUE_1, ENQUEUE_2, ENQUEUE_3, DEQUEUE_2), 1),
+    refute("two of three values", THREE_VALUES, TWO_OF_THREE, refutation(3, 4, ENQUEUE_1, ENQUEUE_2, DEQUEUE_2), 1),
+    refute(
+        "a prefix, in which a call is pending",
+        THREE_VALUES + lines(invoke(0, "dequeue"), ok(0, "dequeue", 1)),
+        "{:object 0, :cuts [{:keep [1 2], :numbers [0 2 6 8]} {:until 9}]}",
+        refutation(4, 5, ENQUEUE_1, ENQUEUE_2, DEQUEUE_2, "map 8: process 0, :dequeue nil, pending"),
+        1,
+    ),
+    refute(
+        "a count",
+        one_process(("enqueue", 7, 7), ("dequeue", None, 7), ("enqueue", 1, 1), ("dequeue", None, 7)),
+        "{:object 0, :cuts [{:keep [7], :numbers [0 2 6]}], :count {:value 7, :from 0}}",
+        refutation(
+            3,
+            4,
+            "maps 0 and 1: process 0, :enqueue 7, :ok 7",
+            "maps 2 and 3: process 0, :dequeue nil, :ok 7",
+            "maps 6 and 7: process 0, :dequeue nil, :ok 7",
+        ),
+        1,
+    ),
+    refute(
+        "a register of which some values are one other",
+        one_process(("write", 1, 1), ("write", 5, 5), ("read", None, 1)),
+        "{:object 0, :cuts [{:cell [1], :other 9, :numbers [2 4]}]}",
+        refutation(
+            3,
+            3,
+            "maps 0 and 1: process 0, :write 1, :ok 1",
+            "maps 2 and 3: process 0, :write 5, :ok 5, counted as :write 9, :ok 9",
+            "maps 4 and 5: process 0, :read nil, :ok 1",
+        ),
+        1,
+    ),
+    refute(
+        "a key of a map as a register",
+        one_process(("put", (3, 7), None), ("del", 3, 7), ("get", 3, 7)),
+        "{:object 0, :cuts [{:cell [7], :key 3, :other 9, :numbers [2 4]}]}",
+        refutation(
+            3,
+            3,
+            "maps 0 and 1: process 0, :put [3 7], :ok nil, counted as :write 7, :ok 7",
+            "maps 2 and 3: process 0, :del 3, :ok 7, counted as :cas [7 9], :ok [7 9]",
+            "maps 4 and 5: process 0, :get 3, :ok 7, counted as :read nil, :ok 7",
+        ),
+        1,
+    ),
+    refute(
+        "two reasons",
+        THREE_VALUES,
+        "{:object 7}" + TWO_OF_THREE,
+        "object 7: not shown: it is not in the history\n" + refutation(3, 4, ENQUEUE_1, ENQUEUE_2, DEQUEUE_2),
+        1,
+    ),
+    refute("an object that is not there", THREE_VALUES, "{:object 7}", "object 7: not shown: it is not in the history\n", 3),
+    refute(
+        "a part that is not closed",
+        THREE_VALUES,
+        "{:object 0, :cuts [{:keep [1 2], :numbers [0 6]}]}",
+        "object 0: not shown: the cuts name no part\n",
+        3,
+    ),
+    refute(
+        "a part that has an order",
+        THREE_VALUES,
+        "{:object 0, :cuts [{:keep [2], :numbers [2 6]}]}",
+        "object 0: not shown: the part has a valid order\n",
+        3,
+    ),
+    refute(
+        "a count that is not exceeded",
+        THREE_VALUES,
+        "{:object 0, :count {:value 2}}",
+        "object 0: not shown: the count is not exceeded\n",
+        3,
+    ),
+    refute("no step", THREE_VALUES, TWO_OF_THREE, "object 0: not shown: out of steps after 0\n", 3, "--steps", "0"),
+    refute("a history that is linearizable", OVERLAPPING, "{:object 0}", "object 0: not shown: the part has a valid order\n", 3),
+    refute("too many to search", TOO_MANY_TO_SEARCH, "{:object 0}", "object 0: not shown: too large\n", 3),
+    refute("a malformed history", AFTER_INFO, "{:object 0}", "malformed history: H8 at map 2\n", 2),
+    refute("reasons that spell no forms", THREE_VALUES, "{:object 0", "malformed reasons: E2 at byte 10\n", 2),
+    refute("a form that is no reason", THREE_VALUES, "{:object 0} 7", "malformed reasons: N1 at form 1\n", 2),
+    refute("a reason without an object", THREE_VALUES, "{:cuts []}", "malformed reasons: N1 at form 0\n", 2),
+    refute("both texts are malformed", "7", "7", "malformed history: H1 at map 0\n", 2),
 ]
 
 SIMULATIONS = [
@@ -421,6 +556,6 @@ SIMULATIONS = [
     simulate("a leading zero", " 007", "malformed schedule: E3 at byte 1\n", 2),
 ]
 
-ROWS = YES + NO + MALFORMED + SEARCHES + FINDINGS + JUDGEMENTS + SIMULATIONS
+ROWS = YES + NO + MALFORMED + SEARCHES + FINDINGS + JUDGEMENTS + REFUTATIONS + SIMULATIONS
 # Of these histories every object has a valid order.
 SEARCHED = [ENQUEUE_DEQUEUE, OVERLAPPING, TWO_QUEUES, PENDING, HEAP, REGISTER, MAP]

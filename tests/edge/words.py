@@ -1,6 +1,6 @@
 """Command lines: help, and words that are refused."""
 
-COMMANDS = ("check", "search", "find", "judge", "run", "simulate")
+COMMANDS = ("check", "search", "find", "judge", "refute", "run", "simulate")
 
 REFUSED = (
     (),
@@ -23,6 +23,11 @@ REFUSED = (
     ("find", "--steps", "5", "one.edn"),
     ("judge",),
     ("judge", "--steps", "1000000001", "one.edn"),
+    ("refute",),
+    ("refute", "one.edn"),
+    ("refute", "one.edn", "two.edn", "three.edn"),
+    ("refute", "--steps", "1000000001", "one.edn", "two.edn"),
+    ("refute", "--steps", "many", "one.edn", "two.edn"),
     ("run", "one.edn"),
     ("run", "--clients", "0"),
     ("run", "--clients", "33"),
@@ -45,7 +50,7 @@ def help_texts(program, report):
         report.holds(f"{words[0]} is help", is_well, ran)
         lacks = [it for it in COMMANDS if f"\n  {it} ".encode() not in ran.out]
         report.equal(f"{words[0]} names each command", [], lacks, ran.out)
-    options = {"check": ("--workers",), "search": ("--steps", "--first"), "judge": ("--steps",)}
+    options = {"check": ("--workers",), "search": ("--steps", "--first"), "judge": ("--steps",), "refute": ("--steps",)}
     options["run"] = ("--kind", "--objects", "--clients", "--calls", "--seed")
     for command in COMMANDS:
         ran = program.run(command, "--help")
