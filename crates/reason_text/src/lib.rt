@@ -3,10 +3,13 @@
 #![tactic(auto)]
 
 mod cut;
+mod cut_writer;
 mod evidence;
 mod fault;
 mod reader;
 mod sets;
+mod writer;
 
 pub use fault::{ReasonFault, ReasonFaultKind};
 pub use reader::read_reasons;
+pub use writer::write_reasons;
