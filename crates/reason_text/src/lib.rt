@@ -3,12 +3,15 @@
 #![tactic(auto)]
 
 mod cut;
+mod cut_writer;
 mod evidence;
 mod fault;
 mod reader;
 mod sets;
 mod text_reader;
+mod writer;
 
 pub use fault::{ReasonFault, ReasonFaultKind, ReasonTextFault};
 pub use reader::read_reasons;
 pub use text_reader::read_reasons_text;
+pub use writer::write_reasons;

@@ -1,0 +1,95 @@
+//! Reasons as text.
+
+ghost use Rattle.std.specs.Prelude.{◌≡◌, ◌++◌, false, true, codes, decimal, OnOk, IfErr};
+ghost use Rattle.byte_streams.specs.Sent.{Writes};
+ghost use Rattle.reason_text.specs.Lines as text;
+
+use crate::cut_writer::{write_cuts, write_integer_after, write_number_after};
+use edn::{Failed, Sink, WriteFault, write_bytes};
+use projection::{Count, Counted};
+use refutation::{Evidence, Reason};
+
+/// What is counted.
+fn write_counted<S: Sink>(counted: Counted, sink: &mut S) -> Result<(), Failed>
+    requires { S.broken sink.old ≡ false }
+    ensures sent { Writes result (S.sent sink.old) (S.sent sink.new) (S.broken sink.new)
+        (text.counted_text counted) }
+{
+    match counted {
+        Counted::Value(value) => write_integer_after(b":value ", value, sink),
+        Counted::Entry { key, value } => {
+            write_integer_after(b":key ", key, sink)?;
+            write_integer_after(b", :value ", value, sink)
+        }
+        Counted::NoEntry(key) => write_integer_after(b":key ", key, sink),
+        Counted::Held => write_bytes(b":held true", sink),
+        Counted::Free => write_bytes(b":free true", sink),
+    }
+}
+
+/// The pair `:from` of a count, and the closing bracket.
+fn write_start<S: Sink>(from: u32, sink: &mut S) -> Result<(), Failed>
+    requires { S.broken sink.old ≡ false }
+    ensures sent { Writes result (S.sent sink.old) (S.sent sink.new) (S.broken sink.new)
+        ((codes ", :from " ++ decimal from) ++ codes "}") }
+{
+    write_number_after(b", :from ", from, sink)?;
+    write_bytes(b"}", sink)
+}
+
+/// The pair `:count`.
+fn write_count<S: Sink>(count: Count, sink: &mut S) -> Result<(), Failed>
+    requires { S.broken sink.old ≡ false }
+    ensures sent { Writes result (S.sent sink.old) (S.sent sink.new) (S.broken sink.new)
+        (text.count_text count) }
+{
+    write_bytes(b", :count {", sink)?;
+    write_counted(count.counted, sink)?;
+    write_start(count.from, sink)
+}
+
+/// A count, or nothing for a search.
+fn write_evidence<S: Sink>(evidence: Evidence, sink: &mut S) -> Result<(), Failed>
+    requires { S.broken sink.old ≡ false }
+    ensures sent { Writes result (S.sent sink.old) (S.sent sink.new) (S.broken sink.new)
+        (text.evidence_text evidence) }
+{
+    match evidence {
+        Evidence::Search => Ok(()),
+        Evidence::Counting(count) => write_count(count, sink),
+    }
+}
+
+/// A reason without its closing bracket.
+fn write_open_reason<S: Sink>(reason: &Reason, sink: &mut S) -> Result<(), Failed>
+    requires { S.broken sink.old ≡ false }
+    ensures sent { Writes result (S.sent sink.old) (S.sent sink.new) (S.broken sink.new)
+        (text.open_reason_text reason.now) }
+{
+    write_number_after(b"{:object ", reason.object, sink)?;
+    write_cuts(&reason.cuts, sink)?;
+    write_evidence(reason.evidence, sink)
+}
+
+/// The line of a reason.
+fn write_line<S: Sink>(reason: &Reason, sink: &mut S) -> Result<(), Failed>
+    requires { S.broken sink.old ≡ false }
+    ensures sent { Writes result (S.sent sink.old) (S.sent sink.new) (S.broken sink.new)
+        (text.line_of reason.now) }
+{
+    write_open_reason(reason, sink)?;
+    write_bytes(b"}\n", sink)
+}
+
+/// Writes each reason as a line, without taking memory. `Device` is the only error.
+pub fn write_reasons<S: Sink>(reasons: &[Reason], sink: &mut S) -> Result<(), WriteFault>
+    requires working { S.broken sink.old ≡ false }
+    ensures sent { Writes result (S.sent sink.old) (S.sent sink.new) (S.broken sink.new)
+        (text.lines_of reasons.now) }
+    ensures device { IfErr result (λ e. e ≡ WriteFault.Device) }
+{
+    for reason in reasons {
+        write_line(reason, sink)?;
+    }
+    Ok(())
+}
