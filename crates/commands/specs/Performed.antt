@@ -2,10 +2,11 @@
 use Rattle.std.specs.Prelude.{ℕ, List}
 use Rattle.command_line.specs.declared.asking.Line.{Line}
 use Rattle.command_line.specs.declared.asking.Line.TheVariants.{Check, Search, Find, Judge, Run}
-use Rattle.command_line.specs.declared.asking.Line.TheVariants.{Simulate}
+use Rattle.command_line.specs.declared.asking.Line.TheVariants.{Refute, Simulate}
 use Rattle.outputs.specs.Checked.{IsCheck}
 use Rattle.history_commands.specs.Findings.{IsFind}
 use Rattle.history_commands.specs.Judged.{IsJudgement}
+use Rattle.history_commands.specs.Refuted.{IsRefute}
 use Rattle.commands.specs.Runs.{IsRun}
 use Rattle.history_commands.specs.Searches.{IsSearch}
 use Rattle.commands.specs.Simulated.{IsSimulation}
@@ -17,5 +18,7 @@ IsPerformed (Check history certs workers) first second status out = IsCheck firs
 IsPerformed (Search history steps order) first second status out = IsSearch first steps status out
 IsPerformed (Find history) first second status out = IsFind first status out
 IsPerformed (Judge history steps) first second status out = IsJudgement first steps status out
+IsPerformed (Refute history reasons steps) first second status out =
+    IsRefute first second steps status out
 IsPerformed (Run options) first second status out = IsRun options status out
 IsPerformed (Simulate schedule) first second status out = IsSimulation first status out

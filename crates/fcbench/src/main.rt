@@ -67,13 +67,33 @@ fn run_check<R: Host>(rt: &R, history: &str, certs: &str, workers: u32) -> io::R
     }
 }
 
-/// Reads the one file of a command, and does it.
-fn run_on_file<R: Host>(rt: &R, line: &Line, name: &str) -> io::Result<u8> {
+/// The bytes of a file, or else the exit status, after it was said why they could not be read.
+fn bytes_of<R: Host>(rt: &R, name: &str) -> io::Result<Result<Vec<u8>, u8>> {
     let mut file = In::new(NamedFile::new(rt, name));
     match read_text(rt.alloc(), &mut file) {
+        Ok(bytes) => Ok(Ok(bytes)),
+        Err(ReadFault::Failed) => Ok(Err(report_unreadable(rt, name, file.lacks_memory())?)),
+        Err(ReadFault::NoMemory) => Ok(Err(no_memory(rt)?)),
+    }
+}
+
+/// Reads the one file of a command, and does it.
+fn run_on_file<R: Host>(rt: &R, line: &Line, name: &str) -> io::Result<u8> {
+    match bytes_of(rt, name)? {
         Ok(bytes) => Ok(do_line(rt, line, &bytes, b"")),
-        Err(ReadFault::Failed) => report_unreadable(rt, name, file.lacks_memory()),
-        Err(ReadFault::NoMemory) => no_memory(rt),
+        Err(status) => Ok(status),
+    }
+}
+
+/// Reads the two files of a command, and does it.
+fn run_on_files<R: Host>(rt: &R, line: &Line, first: &str, second: &str) -> io::Result<u8> {
+    let first = match bytes_of(rt, first)? {
+        Ok(bytes) => bytes,
+        Err(status) => return Ok(status),
+    };
+    match bytes_of(rt, second)? {
+        Ok(second) => Ok(do_line(rt, line, &first, &second)),
+        Err(status) => Ok(status),
     }
 }
 
@@ -87,6 +107,9 @@ fn run_line<R: Host>(rt: &R, line: &Line) -> io::Result<u8> {
         Line::Search { history, .. } => run_on_file(rt, line, history),
         Line::Judge { history, .. } => run_on_file(rt, line, history),
         Line::Find { history } => run_on_file(rt, line, history),
+        Line::Refute {
+            history, reasons, ..
+        } => run_on_files(rt, line, history, reasons),
         Line::Run(_) => Ok(do_line(rt, line, b"", b"")),
         Line::Simulate { schedule } => run_on_file(rt, line, schedule),
     }

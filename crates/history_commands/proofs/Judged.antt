@@ -1,30 +1,73 @@
 -- A judgement of a history by certificates that are found.
-use Rattle.std.proofs.Common.{◌≡◌, ◌≢◌, ◌∙◌, ◌<◌, ℕ, Bool, true, false, List, map, All, AllPairs, Any, Contains, sym}
+use Rattle.std.proofs.Common.{◌≡◌, ◌≢◌, ◌∙◌, ◌<◌, ◌||◌, ℕ, suc, Bool, true, false, List, [], ◌∷◌, ◌++◌, map, All, AllPairs, Any, Contains, inl, inr, refl, ap, sym, subst, arith}
 use Rattle.std.specs.Prelude.{◌↔◌, if◌then◌else◌}
-use Rattle.std.specs.List.{list_all}
+use Rattle.std.specs.List.{list_all, list_any}
+use Rattle.std.proofs.lemmas.List.{append_assoc}
 use Rattle.model.specs.Linearizable.{IsLinearizable}
 use Rattle.model.specs.Orders.{events}
+use Rattle.model.proofs.Lists.{In, all_at}
 use Rattle.events.specs.declared.event.Event.{Event}
 use Rattle.events.specs.Events.{IsNamed, kind_at, denoted}
-use Rattle.search.specs.declared.found.Search.{Search}
-use Rattle.search.specs.declared.found.SearchOutcome.TheVariants.{Impossible}
-use Rattle.deciding.specs.Decisions.{IsDecisionOn}
+use Rattle.deciding.specs.declared.decision.Decision.{Decision}
+use Rattle.deciding.specs.declared.decision.Decision.TheVariants.{Order, Impossible, OutOfSteps, TooLarge, NoMemory}
+use Rattle.deciding.specs.Decisions.{IsDecisionOn, IsFound, is_impossible}
 use Rattle.verdicts.specs.declared.verdict.Verdict.{Verdict}
 use Rattle.verdicts.specs.declared.verdict.Verdict.TheVariants as verdict
 use Rattle.certificate.specs.declared.Certificate.{Certificate}
 use Rattle.checker.specs.Refusals.{AreValid}
 use Rattle.judging.specs.Verdicts.{IsYesUnlessMemory, JudgesBy, OnYes}
-use Rattle.history_commands.specs.Searches.{is_found, search_status, IsUnsearched}
-use Rattle.history_commands.specs.Judged.{notes_text, AreOpen, IsVerdictOn, IsVerdictOnText}
-use Rattle.outputs.specs.Statuses.{no_memory_status, no_status, yes_status}
-use Rattle.history_commands.proofs.AllFound.{no_of}
-use Rattle.history_commands.proofs.Answering.{one_impossible}
+use Rattle.history_commands.specs.Searches.{IsUnsearched}
+use Rattle.history_commands.specs.Judged.{impossible_lines, is_order, judge_status, note_lines, notes_text, AreOpen, IsExplained, IsVerdictOn, IsVerdictOnText}
+use Rattle.outputs.specs.Statuses.{failed_status, no_memory_status, no_status, yes_status}
+use Rattle.history_commands.proofs.AllFound.{no_of, not_failed}
+
+-- ---- one impossible
+
+pub one_impossible : (answers : List (ℕ × Decision)) → list_any (λ a. is_impossible a.1) answers ≡ true → Any (λ a. is_impossible a.1 ≡ true) answers
+one_impossible [] e = absurd cc
+one_impossible (a ∷ rest) e = go (is_impossible a.1) refl e (one_impossible rest)
+  where
+    later : Any (λ a. is_impossible a.1 ≡ true) rest → Any (λ a. is_impossible a.1 ≡ true) (a ∷ rest)
+    later r = (suc r.0, r.1, omega (arith, r.2), r.3, r.4)
+
+    go : (b : Bool) → is_impossible a.1 ≡ b → (b || list_any (λ a. is_impossible a.1) rest) ≡ true
+        → (list_any (λ a. is_impossible a.1) rest ≡ true → Any (λ a. is_impossible a.1 ≡ true) rest) → Any (λ a. is_impossible a.1 ≡ true) (a ∷ rest)
+    go true q t again = (0, a, omega arith, refl, q)
+    go false q t again = later (again t)
+
+pub never_failed : {status : ℕ} (answers : List (ℕ × Decision)) → status ≡ judge_status answers → status ≢ failed_status
+never_failed answers is e = not_failed (list_any (λ (a : ℕ × Decision). is_impossible a.1) answers) (list_all (λ (a : ℕ × Decision). is_order a.1) answers) (sym is ∙ e)
+
+-- ---- the lines that say why
+
+explains : (es : List Event) (limit : ℕ) (answers : List (ℕ × Decision)) → ((a : ℕ × Decision) → In a answers → IsDecisionOn es a.0 a.1)
+    → list_any (λ a. is_impossible a.1) answers ≡ true → IsExplained es (notes_text es limit answers)
+explains es limit [] each e = absurd cc
+explains es limit (a ∷ rest) each e = go a.1 (each a (inl refl)) e (explains es limit rest (λ b i. each b (inr i)))
+  where
+    later : (line : List ℕ) → IsExplained es (notes_text es limit rest) → IsExplained es (line ++ notes_text es limit rest)
+    later line k = record {
+      object = k.object;
+      found = k.found;
+      holds = k.holds;
+      before = line ++ k.before;
+      after = k.after;
+      lines = ap (λ text. line ++ text) k.lines ∙ sym (append_assoc line k.before (impossible_lines es k.object k.found ++ k.after));
+    }
+
+    go : (d : Decision) → IsDecisionOn es a.0 d → (is_impossible d || list_any (λ a. is_impossible a.1) rest) ≡ true
+        → (list_any (λ a. is_impossible a.1) rest ≡ true → IsExplained es (notes_text es limit rest)) → IsExplained es (note_lines es limit a.0 d ++ notes_text es limit rest)
+    go (Order c) h t again = again t
+    go (Impossible f) h t again = record { object = a.0; found = f; holds = h.impossible; before = []; after = notes_text es limit rest; lines = refl }
+    go OutOfSteps h t again = later (note_lines es limit a.0 OutOfSteps) (again t)
+    go TooLarge h t again = later (note_lines es limit a.0 TooLarge) (again t)
+    go NoMemory h t again = later (note_lines es limit a.0 NoMemory) (again t)
 
 -- where some object has no certificate
-pub are_open : (es : List Event) (limit status : ℕ) (text : List ℕ) (answers : List (ℕ × Search)) → AllPairs (λ a b. a.0 < b.0) answers
-    → ((x : ℕ) → Contains (map (λ a. a.0) answers) x ↔ IsNamed es x) → All (λ a. IsDecisionOn es limit a.0 a.1) answers
-    → (Any (λ a. a.1.found ≡ Impossible) answers → IsLinearizable (kind_at es) (events (denoted es)) → ⊥)
-    → list_all (λ a. is_found a.1.found) answers ≡ false → status ≡ search_status answers → text ≡ notes_text answers → AreOpen es limit status text
+pub are_open : (es : List Event) (limit status : ℕ) (text : List ℕ) (answers : List (ℕ × Decision)) → AllPairs (λ a b. a.0 < b.0) answers
+    → ((x : ℕ) → Contains (map (λ a. a.0) answers) x ↔ IsNamed es x) → All (λ a. IsDecisionOn es a.0 a.1) answers
+    → (Any (λ a. is_impossible a.1 ≡ true) answers → IsLinearizable (kind_at es) (events (denoted es)) → ⊥)
+    → list_all (λ a. is_order a.1) answers ≡ false → status ≡ judge_status answers → text ≡ notes_text es limit answers → AreOpen es limit status text
 are_open es limit status text answers rising named each impossible some s t = record {
   answers = answers;
   rising = rising;
@@ -34,6 +77,7 @@ are_open es limit status text answers rising named each impossible some s t = re
   status_is = s;
   text_is = t;
   refuted = λ e. impossible (one_impossible answers (no_of _ _ (sym s ∙ e)));
+  explained = λ e. subst (IsExplained es) (sym t) (explains es limit answers (λ a i. all_at (λ (a : ℕ × Decision). IsDecisionOn es a.0 a.1) answers each a i) (no_of _ _ (sym s ∙ e)));
 }
 
 -- what stops a search stops a judgement

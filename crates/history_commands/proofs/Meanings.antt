@@ -3,9 +3,10 @@ use Rattle.std.proofs.Common.{◌≡◌, ◌≢◌, ◌∙◌, ℕ, List, inl, i
 use Rattle.verdicts.specs.declared.verdict.Verdict.{Verdict}
 use Rattle.verdicts.specs.declared.verdict.Verdict.TheVariants.{Yes, No, Malformed, NoMemory}
 use Rattle.judging.specs.Texts.{IsLinearizableText}
-use Rattle.outputs.specs.Statuses.{no_status, status_of, yes_status}
+use Rattle.outputs.specs.Statuses.{malformed_status, no_status, status_of, yes_status}
 use Rattle.history_commands.specs.Findings.{IsFind, IsFindOutput}
 use Rattle.history_commands.specs.Judged.{IsJudgement, IsJudgeOutput, IsVerdictOnText}
+use Rattle.history_commands.specs.Refuted.{IsRefute, IsRefuteOutput}
 use Rattle.history_commands.specs.Searches.{IsSearch, IsSearchOutput, IsUnsearched}
 use Rattle.history_commands.proofs.Judged.{open_no_yes}
 
@@ -42,6 +43,9 @@ is_find h status out (inl m) = record {
 }
 is_find h status out (inr v) = record { output = inr v; certified = λ e. absurd (unsearched_no_yes h v.0 v.1 (sym v.2 ∙ e)) }
 
+malformed_not_no : malformed_status ≢ no_status
+malformed_not_no e = absurd cc
+
 -- ---- a judgement
 
 verdict_yes : (h : List ℕ) (v : Verdict) → IsVerdictOnText h v → status_of v ≡ yes_status → IsLinearizableText h
@@ -61,9 +65,24 @@ is_judgement h limit status out (inl m) = record {
   output = inl m;
   linearizable = λ e. absurd (open_no_yes _ _ m.3.some_open (sym m.3.status_is ∙ e));
   refuted = λ e. record { client_events = m.1; history_text = m.2; not_linearizable = m.3.refuted e };
+  explained = λ e. (m.1, m.2, m.3.explained e);
 }
 is_judgement h limit status out (inr v) = record {
   output = inr v;
   linearizable = λ e. verdict_yes h v.0 v.1 (sym v.2 ∙ e);
   refuted = λ e. absurd (verdict_not_no h v.0 v.1 (sym v.2 ∙ e));
+  explained = λ e. absurd (verdict_not_no h v.0 v.1 (sym v.2 ∙ e));
 }
+
+-- ---- a check of reasons
+
+pub is_refute : (h r : List ℕ) (limit status : ℕ) (out : List ℕ) → IsRefuteOutput h r limit status out → IsRefute h r limit status out
+is_refute h r limit status out (inl (short, es, denotes, inl answered)) = record {
+  output = inl (short, es, denotes, inl answered);
+  refuted = λ e. record { client_events = es; history_text = denotes; not_linearizable = answered.5.refuted e };
+}
+is_refute h r limit status out (inl (short, es, denotes, inr fault)) = record {
+  output = inl (short, es, denotes, inr fault);
+  refuted = λ e. absurd (malformed_not_no (sym fault.3 ∙ e));
+}
+is_refute h r limit status out (inr v) = record { output = inr v; refuted = λ e. absurd (unsearched_no_no h v.0 v.1 (sym v.2 ∙ e)) }

@@ -10,7 +10,8 @@ use Rattle.events.specs.Events.{IsNamed, kind_at, denoted}
 use Rattle.certificate.specs.declared.Certificate.{Certificate}
 use Rattle.checker.specs.Refusals.{AreValid}
 use Rattle.reason_text.specs.Lines.{line_of}
-use Rattle.reason_report.specs.Lines.{operations_text, sentence_line}
+use Rattle.reason_report.specs.Operations.{operations_text}
+use Rattle.reason_report.specs.Sentences.{sentence_line}
 use Rattle.reason_finder.specs.declared.finding.FoundReason.{FoundReason}
 use Rattle.reason_finder.specs.Reasons.{IsReasonFor}
 use Rattle.deciding.specs.declared.decision.Decision.{Decision}

@@ -20,7 +20,7 @@ use Rattle.refutation.specs.declared.refuting.Refutation.{Refutation}
 use Rattle.refutation.specs.declared.refuting.Refutation.TheVariants.{Impossible, NotShown, NoPart}
 use Rattle.refutation.specs.declared.refuting.Refutation.TheVariants.{OtherObject}
 use Rattle.refutation.specs.Refutations.{IsAnswer, is_impossible}
-use Rattle.reason_report.specs.Lines.{operations_text}
+use Rattle.reason_report.specs.Operations.{operations_text}
 use Rattle.reason_text.specs.Denotes.{Denotes}
 use Rattle.reason_text.specs.Faults.{number_of}
 use Rattle.reason_text.specs.Texts.{IsTextFault}

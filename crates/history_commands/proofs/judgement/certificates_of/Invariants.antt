@@ -1,5 +1,5 @@
 use Rattle.std.proofs.Common.{◌≡◌, ◌++◌}
-use Rattle.search.specs.Answers.{certificates_in}
+use Rattle.deciding.specs.Decisions.{certificates_in}
 use Rattle.history_commands.proofs.judgement.certificates_of.Given as goal
 
 abbrev pub invariant-loop-answer : goal.invariant-loop-answer

@@ -1,6 +1,6 @@
 use Rattle.std.proofs.lemmas.Result.{IfOk-weaker}
 use Rattle.history_commands.specs.Judged.{IsOpenText, IsVerdictOnText}
-use Rattle.history_commands.proofs.Answering.{never_failed}
+use Rattle.history_commands.proofs.Judged.{never_failed}
 use Rattle.outputs.proofs.Leaving.{leaves_as}
 use Rattle.history_commands.proofs.Meanings.{is_judgement}
 use Rattle.outputs.proofs.Outputs.{made_output}
