@@ -1,14 +1,16 @@
 //! Decisions on the objects of a history: found, impossible or out of steps.
 
-use crate::answers::{is_accepted, words_of};
-use deciding::{decide, decide_all};
-use events::split;
+use certificate::Certificate;
+use checker::check_object;
+use deciding::{Decision, decide, decide_all};
+use events::{ObjectHistory, split};
 use history::read_history_text;
 use std::alloc::Global;
 use std::test::Fail;
 
-/// A queue that takes out what was put in, one that takes out what never was, and a register that
-/// is read before and after a write.
+/// A queue that takes out what was put in, one that takes out what never was, a register that is
+/// read before and after a write, and one of whose two writes the second must come first, since a
+/// cas that expects its value fails.
 const HISTORY: &str = "
     {:process 0 :type :invoke :f :enqueue :value 5 :object 3}
     {:process 0 :type :ok :f :enqueue :value 5 :object 3}
@@ -21,7 +23,38 @@ const HISTORY: &str = "
     {:process 1 :type :ok :f :read :value nil :object 9}
     {:process 0 :type :ok :f :write :value 1 :object 9}
     {:process 1 :type :invoke :f :read :value nil :object 9}
-    {:process 1 :type :ok :f :read :value 1 :object 9}";
+    {:process 1 :type :ok :f :read :value 1 :object 9}
+    {:process 0 :type :invoke :f :write :value 1 :object 12}
+    {:process 1 :type :invoke :f :write :value 2 :object 12}
+    {:process 0 :type :ok :f :write :value 1 :object 12}
+    {:process 1 :type :ok :f :write :value 2 :object 12}
+    {:process 0 :type :invoke :f :cas :value [2 9] :object 12}
+    {:process 0 :type :ok :f :cas :value false :object 12}";
+
+/// The order that was found, or the operations of the part that has no order, or why it is open.
+fn words_of(alloc: Global, decision: &Decision) -> Result<String, Fail> {
+    Ok(match decision {
+        Decision::Order(certificate) => format!(in alloc; "{:?}", certificate.order)?,
+        Decision::Impossible(found) => {
+            let numbers: Vec<u32> = found.part.ops().iter().map(|o| o.number).collect(alloc)?;
+            format!(in alloc; "impossible by {numbers:?}")?
+        }
+        Decision::OutOfSteps => format!(in alloc; "out of steps")?,
+        Decision::TooLarge => format!(in alloc; "too large")?,
+        Decision::NoMemory => format!(in alloc; "no memory")?,
+    })
+}
+
+/// Whether what was found, if anything was, is accepted by the checker.
+fn is_accepted(alloc: Global, object: &ObjectHistory, decision: &Decision) -> bool {
+    let is_of_object = |certificate: &Certificate| certificate.object == object.object();
+    match decision {
+        Decision::Order(certificate) => {
+            is_of_object(certificate) && check_object(alloc, object, certificate).is_ok()
+        }
+        _ => true,
+    }
+}
 
 /// Compares the decisions on all objects of the history, and those on each alone, with what they
 /// must be.
@@ -35,28 +68,29 @@ fn decisions(alloc: Global, limit: u64, wanted: &[(u32, &str)]) -> Result<(), Fa
         return Err(Fail::new("another number of objects"));
     }
     for (k, (number, words)) in wanted.iter().enumerate() {
-        let (object, answer) = &all[k];
-        let alone = decide(alloc, &objects[k], limit);
+        let (object, decision) = &all[k];
+        let alone = decide(alloc, &objects[k], limit)?;
         if object != number
-            || words_of(alloc, answer)?.as_str() != *words
+            || words_of(alloc, decision)?.as_str() != *words
             || words_of(alloc, &alone)?.as_str() != *words
         {
             return Err(Fail::new("another decision"));
         }
-        if !is_accepted(alloc, &objects[k], answer) {
+        if !is_accepted(alloc, &objects[k], decision) {
             return Err(Fail::new("what was found is not valid"));
         }
     }
     Ok(())
 }
 
-/// What the finder finds takes no steps; what it does not find is searched.
+/// What the finder finds takes no steps, nor does a reason; what neither finds is searched.
 #[test]
 fn an_object_is_found_or_impossible(rt: HostRuntime) -> Result<(), Fail> {
     let wanted = [
-        (3, "[0, 2] after 0"),
-        (4, "impossible after 1"),
-        (9, "[7, 6, 10] after 0"),
+        (3, "[0, 2]"),
+        (4, "impossible by [4]"),
+        (9, "[7, 6, 10]"),
+        (12, "[13, 12, 16]"),
     ];
     decisions(rt.alloc(), 100, &wanted)
 }
@@ -64,9 +98,10 @@ fn an_object_is_found_or_impossible(rt: HostRuntime) -> Result<(), Fail> {
 #[test]
 fn an_object_that_is_not_found_may_take_too_many_steps(rt: HostRuntime) -> Result<(), Fail> {
     let wanted = [
-        (3, "[0, 2] after 0"),
-        (4, "out of steps after 0"),
-        (9, "[7, 6, 10] after 0"),
+        (3, "[0, 2]"),
+        (4, "impossible by [4]"),
+        (9, "[7, 6, 10]"),
+        (12, "out of steps"),
     ];
     decisions(rt.alloc(), 0, &wanted)
 }
