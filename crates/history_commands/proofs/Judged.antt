@@ -3,6 +3,7 @@ use Rattle.std.proofs.Common.{◌≡◌, ◌≢◌, ◌∙◌, ◌<◌, ◌||◌
 use Rattle.std.specs.Prelude.{◌↔◌, if◌then◌else◌}
 use Rattle.std.specs.List.{list_all, list_any}
 use Rattle.std.proofs.lemmas.List.{append_assoc}
+use Rattle.std.proofs.lemmas.List.Folds.{Any-from_list_any}
 use Rattle.model.specs.Linearizable.{IsLinearizable}
 use Rattle.model.specs.Orders.{events}
 use Rattle.model.proofs.Lists.{In, all_at}
@@ -20,20 +21,6 @@ use Rattle.history_commands.specs.Searches.{IsUnsearched}
 use Rattle.history_commands.specs.Judged.{impossible_lines, is_order, judge_status, note_lines, notes_text, AreOpen, IsExplained, IsVerdictOn, IsVerdictOnText}
 use Rattle.outputs.specs.Statuses.{failed_status, no_memory_status, no_status, yes_status}
 use Rattle.history_commands.proofs.AllFound.{no_of, not_failed}
-
--- ---- one impossible
-
-pub one_impossible : (answers : List (ℕ × Decision)) → list_any (λ a. is_impossible a.1) answers ≡ true → Any (λ a. is_impossible a.1 ≡ true) answers
-one_impossible [] e = absurd cc
-one_impossible (a ∷ rest) e = go (is_impossible a.1) refl e (one_impossible rest)
-  where
-    later : Any (λ a. is_impossible a.1 ≡ true) rest → Any (λ a. is_impossible a.1 ≡ true) (a ∷ rest)
-    later r = (suc r.0, r.1, omega (arith, r.2), r.3, r.4)
-
-    go : (b : Bool) → is_impossible a.1 ≡ b → (b || list_any (λ a. is_impossible a.1) rest) ≡ true
-        → (list_any (λ a. is_impossible a.1) rest ≡ true → Any (λ a. is_impossible a.1 ≡ true) rest) → Any (λ a. is_impossible a.1 ≡ true) (a ∷ rest)
-    go true q t again = (0, a, omega arith, refl, q)
-    go false q t again = later (again t)
 
 pub never_failed : {status : ℕ} (answers : List (ℕ × Decision)) → status ≡ judge_status answers → status ≢ failed_status
 never_failed answers is e = not_failed (list_any (λ (a : ℕ × Decision). is_impossible a.1) answers) (list_all (λ (a : ℕ × Decision). is_order a.1) answers) (sym is ∙ e)
@@ -76,7 +63,7 @@ are_open es limit status text answers rising named each impossible some s t = re
   some_open = some;
   status_is = s;
   text_is = t;
-  refuted = λ e. impossible (one_impossible answers (no_of _ _ (sym s ∙ e)));
+  refuted = λ e. impossible (Any-from_list_any (λ (a : ℕ × Decision). is_impossible a.1) answers (no_of _ _ (sym s ∙ e)));
   explained = λ e. subst (IsExplained es) (sym t) (explains es limit answers (λ a i. all_at (λ (a : ℕ × Decision). IsDecisionOn es a.0 a.1) answers each a i) (no_of _ _ (sym s ∙ e)));
 }
 

@@ -4,4 +4,5 @@ pub mod AllFound
 pub mod Answering
 pub mod Findings
 pub mod Judged
+pub mod Refuted
 pub mod Meanings

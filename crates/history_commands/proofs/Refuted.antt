@@ -1,0 +1,55 @@
+-- The answers to reasons on a history.
+use Rattle.std.proofs.Common.{◌≡◌, ◌≢◌, ◌∙◌, ◌<◌, ◌≤◌, ℕ, true, false, List, length, map, get_or, All, Any, Contains, refl, ap, sym, arith}
+use Rattle.std.specs.List.{AllZip, list_any}
+use Rattle.std.proofs.lemmas.List.Folds.{Any-from_list_any}
+use Rattle.model.specs.Linearizable.{IsLinearizable}
+use Rattle.model.specs.Orders.{calls_on, events}
+use Rattle.model.proofs.Lists.{all_at, contains_from_in, in_from_contains, in_map}
+use Rattle.events.specs.declared.event.Event.{Event}
+use Rattle.events.specs.Events.{IsNamed, kind_at, denoted}
+use Rattle.events.specs.Operations.{ObjectCalls, calls_of}
+use Rattle.refutation.specs.declared.reason.Reason.{Reason}
+use Rattle.refutation.specs.declared.refuting.Refutation.{Refutation}
+use Rattle.refutation.specs.declared.refuting.Refutation.TheVariants.{Impossible, NotShown, NoPart, OtherObject}
+use Rattle.refutation.specs.Refutations.{IsAnswer, is_impossible}
+use Rattle.history_commands.specs.Refuted.{refutations_text, refute_status, AreAnswered}
+use Rattle.outputs.specs.Statuses.{failed_status, no_memory_status, no_status}
+use Rattle.history_commands.proofs.AllFound.{no_of, not_failed}
+
+-- where one of the objects has this number, none can lack it
+pub none_lacks : (objects : List ObjectCalls) (x n : ℕ) → length objects ≤ n → ((k : ℕ) → k < n → (d : ObjectCalls) → (get_or objects k d).object ≢ x)
+    → Contains (map (λ o. o.object) objects) x → ⊥
+none_lacks objects x n le none c =
+    let r = in_map (λ (o : ObjectCalls). o.object) x objects (in_from_contains (map (λ (o : ObjectCalls). o.object) objects) x c) in
+    let o : ObjectCalls = r.0 in
+    let k = contains_from_in objects o r.1 in
+    none k.0 (omega (arith, k.1, le)) o (ap (λ (p : ObjectCalls). p.object) k.2 ∙ sym r.2)
+
+-- how many calls the object of this number has, by the objects of a history
+pub counted : (es : List Event) (objects : List ObjectCalls) (x n : ℕ) → All (λ o. calls_of o.ops ≡ calls_on o.object (denoted es)) objects
+    → Any (λ o. (o.object ≡ x) × (n ≡ length (calls_of o.ops))) objects → n ≡ length (calls_on x (denoted es))
+counted es objects x n calls some =
+    let o : ObjectCalls = some.1 in
+    let cs = all_at (λ (o : ObjectCalls). calls_of o.ops ≡ calls_on o.object (denoted es)) objects calls o (in_from_contains objects o (some.0, some.2, some.3)) in
+    some.5 ∙ ap length cs ∙ ap (λ y. length (calls_on y (denoted es))) some.4
+
+-- the object of a reason that shows that no order is valid is named
+pub named_by : (es : List Event) (reason : Reason) (answer : Refutation) → IsAnswer es reason answer → is_impossible answer ≡ true → IsNamed es reason.object
+named_by es reason (Impossible part) a e = a.own_object (λ q. absurd cc)
+named_by es reason (NotShown part why) a e = absurd cc
+named_by es reason NoPart a e = absurd cc
+named_by es reason OtherObject a e = absurd cc
+
+pub never_failed : {status : ℕ} (answers : List Refutation) → status ≡ refute_status answers → status ≢ failed_status
+never_failed answers is e = not_failed (list_any is_impossible answers) false (sym is ∙ e)
+
+pub answered : (es : List Event) (reasons : List Reason) (limit : ℕ) (answers : List Refutation) → AllZip (IsAnswer es) reasons answers
+    → (Any (λ r. is_impossible r ≡ true) answers → IsLinearizable (kind_at es) (events (denoted es)) → ⊥)
+    → AreAnswered es reasons limit (refute_status answers) (refutations_text es limit reasons answers)
+answered es reasons limit answers each impossible = record {
+  answers = answers;
+  each = each;
+  status_is = refl;
+  text_is = refl;
+  refuted = λ e. impossible (Any-from_list_any is_impossible answers (no_of (list_any is_impossible answers) false e));
+}

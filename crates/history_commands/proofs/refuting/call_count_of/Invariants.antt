@@ -1,0 +1,6 @@
+use Rattle.std.proofs.Common.{◌≢◌, ℕ, ◌<◌, get_or}
+use Rattle.events.specs.Operations.{ObjectCalls}
+use Rattle.history_commands.proofs.refuting.call_count_of.Given as goal
+
+abbrev pub invariant-loop-object : goal.invariant-loop-object
+invariant-loop-object l = (k : ℕ) → k < l.object-index → (d : ObjectCalls) → (get_or l.objects k d).object ≢ l.number
