@@ -4,8 +4,8 @@ use Rattle.clap.specs.Words.{first_value, found_of}
 use Rattle.command_line.proofs.Sought.{no_judge, no_reasons, has_refute}
 use Rattle.command_line.proofs.parsing.refute_found.Goals as goal
 
-pub returns-in_err-clause-lacks : goal.returns-in_err-clause-lacks
-returns-in_err-clause-lacks c other = let l = c.in_err.ensures.lacks other in (l.0, no_judge (found_of c.args.matches.now) l.1)
+pub returns-in_err-history-clause-lacks : goal.returns-in_err-history-clause-lacks
+returns-in_err-history-clause-lacks c other = let l = c.in_err-history.ensures.lacks other in (l.0, no_judge (found_of c.args.matches.now) l.1)
 
 pub returns-in_default-clause-lacks : goal.returns-in_default-clause-lacks
 returns-in_default-clause-lacks c other =
