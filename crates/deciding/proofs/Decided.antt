@@ -47,8 +47,8 @@ pub not_linearizable : (es : List Event) (answers : List (ℕ × Decision))
 not_linearizable es answers orders h all some lin =
     let a : ℕ × Decision = some.1 in
     let decided =
-        all_at (λ (a : ℕ × Decision). IsDecided a.0 (kind_at es a.0) (calls_on a.0 (denoted es)) a.1)
-        answers all.each a (in_from_contains answers a (some.0, some.2, some.3)) in
+    all_at (λ (a : ℕ × Decision). IsDecided a.0 (kind_at es a.0) (calls_on a.0 (denoted es)) a.1)
+    answers all.each a (in_from_contains answers a (some.0, some.2, some.3)) in
     let order = orders (kind_at es) (denoted es) h lin a.0 in
     none_valid a.0 (kind_at es a.0) (calls_on a.0 (denoted es)) a.1 decided.impossible some.4
     order.0 order.1

@@ -71,11 +71,7 @@ fn decide_by_search(
 /// steps, which may find either. The finders take none of these steps.
 ///
 /// That a limit is enough is not promised. An error: memory was refused for a reason.
-pub fn decide(
-    alloc: Global,
-    history: &ObjectHistory,
-    limit: u64,
-) -> Result<Decision, AllocError>
+pub fn decide(alloc: Global, history: &ObjectHistory, limit: u64) -> Result<Decision, AllocError>
     // The order of a certificate is valid.
     ensures order { IfOk result (λ d. IfOrder d
         (IsFor history.now.object history.now.kind (calls_of history.now.ops))) }

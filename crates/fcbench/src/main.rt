@@ -108,7 +108,9 @@ fn run_line<R: Host>(rt: &R, line: &Line) -> io::Result<u8> {
         Line::Judge { history, .. } => run_on_file(rt, line, history),
         Line::Find { history } => run_on_file(rt, line, history),
         Line::Refute {
-            history, reasons, ..
+            history,
+            reasons,
+            ..
         } => run_on_files(rt, line, history, reasons),
         Line::Run(_) => Ok(do_line(rt, line, b"", b"")),
         Line::Simulate { schedule } => run_on_file(rt, line, schedule),

@@ -90,7 +90,11 @@ fn may_have_happened(operation: &Invocation) -> bool
 fn call_count(history: &ObjectHistory) -> usize
     ensures { result ≡ length (calls_of history.now.ops) }
 {
-    history.ops().iter().filter(|o| may_have_happened(o)).count()
+    history
+        .ops()
+        .iter()
+        .filter(|o| may_have_happened(o))
+        .count()
 }
 
 /// How many operations of the object with this number did not fail.
@@ -252,12 +256,7 @@ fn answer_reasons(
 }
 
 /// The same of the reasons that a text denotes, or what is put out where it denotes none.
-fn answer_text(
-    alloc: Global,
-    history: &History,
-    text: &[u8],
-    steps: u32,
-) -> Result<Output, Verdict>
+fn answer_text(alloc: Global, history: &History, text: &[u8], steps: u32) -> Result<Output, Verdict>
     ensures answered { IfOk result (λ s.
         AreAnsweredIn history.now text.now steps s.status s.text.items
         ⊎ IsReasonsFault text.now s.status s.text.items) }
@@ -274,12 +273,7 @@ fn answer_text(
 }
 
 /// The same for the history that a text denotes, or why the reasons are not checked.
-fn refute_text(
-    alloc: Global,
-    history: &[u8],
-    reasons: &[u8],
-    steps: u32,
-) -> Result<Output, Verdict>
+fn refute_text(alloc: Global, history: &[u8], reasons: &[u8], steps: u32) -> Result<Output, Verdict>
     ensures answered { IfOk result (λ s.
         IsRefuteText history.now reasons.now steps s.status s.text.items) }
     ensures unread { IfErr result (IsUnsearched history.now) }
