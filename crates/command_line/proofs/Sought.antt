@@ -42,9 +42,6 @@ module _ (inner : Found) where
     steps_first = subst (λ o. AreSteps o n) (first_value-rows inner (codes "steps")) s;
   }
 
-  pub no_judge : HasNoJudge (rows_of inner) → HasNoRefute (rows_of inner)
-  no_judge none h r n v = none h n (record { history_first = v.history_first; steps_first = v.steps_first })
-
   pub no_reasons : first_value inner (codes "REASONS") ≡ None → HasNoRefute (rows_of inner)
   no_reasons e h r n v = absent e (first_value-rows inner (codes "REASONS")) v.reasons_first
 

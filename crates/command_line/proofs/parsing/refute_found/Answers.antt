@@ -1,11 +1,8 @@
 use Rattle.std.proofs.Common.{rules, ◌≡◌, None, Some, codes}
 use Rattle.std.specs.String.{string_bytes}
 use Rattle.clap.specs.Words.{first_value, found_of}
-use Rattle.command_line.proofs.Sought.{no_judge, no_reasons, has_refute}
+use Rattle.command_line.proofs.Sought.{no_reasons, has_refute}
 use Rattle.command_line.proofs.parsing.refute_found.Goals as goal
-
-pub returns-in_err-history-clause-lacks : goal.returns-in_err-history-clause-lacks
-returns-in_err-history-clause-lacks c other = let l = c.in_err-history.ensures.lacks other in (l.0, no_judge (found_of c.args.matches.now) l.1)
 
 pub returns-in_default-clause-lacks : goal.returns-in_default-clause-lacks
 returns-in_default-clause-lacks c other =
