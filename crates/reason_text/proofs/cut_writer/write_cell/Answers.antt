@@ -22,4 +22,4 @@ returns-clause-sent g c =
 pub returns-clause-typed : goal.returns-clause-typed
 returns-clause-typed g c =
     let more : OnOk c.write_other.result (IsInt64 c.args.other × AreNumberKeys c.args.numbers.now.keys) = search rules in
-    on_ok_with c.write_other.result (IsInt64 c.args.other × AreNumberKeys c.args.numbers.now.keys) (AreTypedValues c.args.values.now × IsInt64 c.args.other × AreNumberKeys c.args.numbers.now.keys) more (λ h. (c.in_ok-write_cell_values.ensures.typed, h))
+    on_ok_with c.write_other.result (IsInt64 c.args.other × AreNumberKeys c.args.numbers.now.keys) (AreTypedValues c.args.values.now × IsInt64 c.args.other × AreNumberKeys c.args.numbers.now.keys) more (λ h. (c.in_ok-write_cell_values.ensures.typed, h.0, h.1))

@@ -31,4 +31,4 @@ pub returns-clause-typed : goal.returns-clause-typed
 returns-clause-typed g c =
     let more : OnOk c.write_other.result (IsInt64 c.args.other × AreNumberKeys c.args.numbers.now.keys) = search rules in
     let small : IsInt64 c.args.key = search rules in
-    on_ok_with c.write_other.result (IsInt64 c.args.other × AreNumberKeys c.args.numbers.now.keys) (AreTypedValues c.args.values.now × IsInt64 c.args.key × IsInt64 c.args.other × AreNumberKeys c.args.numbers.now.keys) more (λ h. (c.in_ok-write_cell_values.ensures.typed, small, h))
+    on_ok_with c.write_other.result (IsInt64 c.args.other × AreNumberKeys c.args.numbers.now.keys) (AreTypedValues c.args.values.now × IsInt64 c.args.key × IsInt64 c.args.other × AreNumberKeys c.args.numbers.now.keys) more (λ h. (c.in_ok-write_cell_values.ensures.typed, small, h.0, h.1))

@@ -1,4 +1,4 @@
-use Rattle.std.proofs.Common.{◌≡◌, length, ap, sym, subst, rules}
+use Rattle.std.proofs.Common.{◌≡◌, [], length, ap, sym, subst, rules}
 use Rattle.edn_writer.proofs.Fronts.{sends_as}
 use Rattle.reason_text.specs.Lines.{numbers_text}
 use Rattle.reason_text.specs.Written.{AreNumberKeys}
@@ -8,7 +8,8 @@ use Rattle.reason_text.proofs.set_writer.write_numbers.Goals as goal
 pub returns-then-is_empty-clause-sent : goal.returns-then-is_empty-clause-sent
 returns-then-is_empty-clause-sent g c =
     let e : length c.args.numbers.now.keys ≡ 0 = search rules in
-    sends_as _ _ _ _ _ _ (ap numbers_text (no_keys c.args.numbers.now.keys e)) (search rules)
+    let none : numbers_text c.args.numbers.now.keys ≡ [] = ap numbers_text (no_keys c.args.numbers.now.keys e) in
+    rw none (search rules)
 
 pub returns-then-is_empty-clause-keys : goal.returns-then-is_empty-clause-keys
 returns-then-is_empty-clause-keys g c =
