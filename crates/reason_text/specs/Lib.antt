@@ -2,3 +2,4 @@ pub mod Denotes
 pub mod Faults
 pub mod Lines
 pub mod Texts
+pub mod Written
