@@ -1,0 +1,122 @@
+-- The lines of the operations of a part, and what the history's own events say of each. A part may
+-- count an operation as another one.
+use Rattle.std.specs.Prelude.{ℕ, Bool, List, [], ◌∷◌, ◌++◌, ◌==◌, Option, Some, None, find, codes}
+use Rattle.std.specs.Prelude.{decimal, if◌then◌else◌}
+use Rattle.model.specs.declared.AnyOp.{AnyOp}
+use Rattle.model.specs.declared.AnyReply.{AnyReply}
+use Rattle.seq_objects.specs.Functions.{name_of}
+use Rattle.seq_objects.specs.Values.{function_in, op_value, reply_value}
+use Rattle.events.specs.declared.event.Action.{Action}
+use Rattle.events.specs.declared.event.Action.TheVariants.{Invoke, Ok, Fail, Info}
+use Rattle.events.specs.declared.event.Event.{Event}
+use Rattle.events.specs.declared.operations.End.{End}
+use Rattle.events.specs.declared.operations.End.TheVariants.{Returned, Pending, Failed}
+use Rattle.events.specs.declared.operations.Invocation.{Invocation}
+use Rattle.events.specs.contracts.operations.InvocationPartialEq.TheImpl as derived
+use Rattle.reason_report.specs.Pieces.{comment_text, value_text}
+
+-- ---- what the history says
+
+-- the event with this number, if there is one
+abbrev pub event_at : List Event → ℕ → Option Event
+event_at es number = find (λ e. e.number == number) es
+
+-- the process of an event, and 0 where there is none
+abbrev pub process_in : Option Event → ℕ
+process_in None = 0
+process_in (Some e) = e.process
+
+-- the operation that is invoked, or else this one
+abbrev pub op_by : AnyOp → Action → AnyOp
+op_by other (Invoke op) = op
+op_by other (Ok r) = other
+op_by other Fail = other
+op_by other Info = other
+
+abbrev pub op_in : AnyOp → Option Event → AnyOp
+op_in other None = other
+op_in other (Some e) = op_by other e.action
+
+-- the reply that is given, or else this one
+abbrev pub reply_by : AnyReply → Action → AnyReply
+reply_by other (Invoke op) = other
+reply_by other (Ok r) = r
+reply_by other Fail = other
+reply_by other Info = other
+
+abbrev pub reply_in : AnyReply → Option Event → AnyReply
+reply_in other None = other
+reply_in other (Some e) = reply_by other e.action
+
+-- with the reply that the history has where a part has a return
+abbrev pub recorded_end : List Event → End → End
+recorded_end es (Returned at reply) = Returned at (reply_in reply (event_at es at))
+recorded_end es Pending = Pending
+recorded_end es Failed = Failed
+
+-- an operation of a part with the operation and the reply that the history has at its numbers
+abbrev pub recorded : List Event → Invocation → Invocation
+recorded es o = record {
+  number = o.number;
+  op = op_in o.op (event_at es o.number);
+  «end» = recorded_end es o.«end»;
+}
+
+-- ---- the text
+
+-- as maps 4 and 9, or map 12 where it did not return in the part
+abbrev pub place_text : ℕ → End → List ℕ
+place_text number (Returned at reply) =
+    codes "maps " ++ (decimal number ++ (codes " and " ++ decimal at))
+place_text number Pending = codes "map " ++ decimal number
+place_text number Failed = codes "map " ++ decimal number
+
+-- as :enqueue 7
+abbrev pub op_text : AnyOp → List ℕ
+op_text op = codes ":" ++ (name_of (function_in op) ++ (codes " " ++ value_text (op_value op)))
+
+-- as , :ok 7 where it returned
+abbrev pub reply_text : End → List ℕ
+reply_text (Returned at reply) = codes ", :ok " ++ value_text (reply_value reply)
+reply_text Pending = []
+reply_text Failed = []
+
+-- as :dequeue nil, :ok 7
+abbrev pub call_text : Invocation → List ℕ
+call_text o = op_text o.op ++ reply_text o.«end»
+
+-- whether they have the same number, operation and end: the derived test
+abbrev pub is_same : Invocation → Invocation → Bool
+is_same left right = derived.eq-value.it left right
+
+-- what the part counts an operation as, where that is not what the history says of it
+abbrev pub counted_text : Invocation → Invocation → List ℕ
+counted_text told counted =
+    if is_same told counted then [] else codes ", counted as " ++ call_text counted
+
+-- where it did not return in the part
+abbrev pub open_text : End → List ℕ
+open_text (Returned at reply) = []
+open_text Pending = codes ", pending"
+open_text Failed = codes ", failed"
+
+-- as maps 4 and 9: process 2,
+abbrev pub heading_text : List Event → Invocation → List ℕ
+heading_text es o =
+    place_text o.number o.«end»
+    ++ (codes ": process " ++ (decimal (process_in (event_at es o.number)) ++ codes ", "))
+
+-- as :dequeue nil, :ok 7
+abbrev pub said_text : Invocation → Invocation → List ℕ
+said_text told counted =
+    call_text told ++ (counted_text told counted ++ (open_text counted.«end» ++ codes "\n"))
+
+-- as maps 4 and 9: process 2, :dequeue nil, :ok 7
+abbrev pub operation_line : List Event → Invocation → List ℕ
+operation_line es o = heading_text es o ++ said_text (recorded es o) o
+
+-- a line for each operation, in their order
+abbrev pub operations_text : Bool → List Event → List Invocation → List ℕ
+operations_text commented es [] = []
+operations_text commented es (o ∷ ops) =
+    (comment_text commented ++ operation_line es o) ++ operations_text commented es ops

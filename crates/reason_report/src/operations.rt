@@ -1,0 +1,253 @@
+//! The lines of the operations of a part.
+
+ghost use Rattle.std.specs.Prelude.{◌≡◌, ◌++◌, codes, OnOk};
+ghost use Rattle.events.specs.Events.{IsProper};
+ghost use Rattle.reason_report.specs.Operations as spec;
+ghost use Rattle.reason_report.specs.Operations.{operation_line, operations_text};
+ghost use Rattle.reason_report.specs.Pieces.{comment_text};
+
+use crate::pieces::{Piece, push_comment, push_pieces};
+use events::{Action, End, Event, History, Invocation, ObjectHistory};
+use seq_objects::{AnyOp, AnyReply, function_of, value_of_op, value_of_reply};
+use std::alloc::AllocError;
+
+/// The event with this number, if there is one.
+fn event_at(events: &[Event], number: u32) -> Option<Event>
+    requires { IsProper events.now }
+    ensures { result ≡ spec.event_at events.now number }
+{
+    let Ok(place) = events.binary_search_by_key(&number, |event| event.number) else {
+        return None;
+    };
+    Some(events[place])
+}
+
+fn process_in(event: Option<Event>) -> u64
+    ensures { result ≡ spec.process_in event }
+{
+    match event {
+        Some(event) => event.process,
+        None => 0,
+    }
+}
+
+/// The operation that the event invokes, or else the other one.
+fn op_in(other: AnyOp, event: Option<Event>) -> AnyOp
+    ensures { result ≡ spec.op_in other event }
+{
+    match event {
+        None => other,
+        Some(event) => match event.action {
+            Action::Invoke(op) => op,
+            Action::Ok(_) | Action::Fail | Action::Info => other,
+        },
+    }
+}
+
+/// The reply that the event gives, or else the other one.
+fn reply_in(other: AnyReply, event: Option<Event>) -> AnyReply
+    ensures { result ≡ spec.reply_in other event }
+{
+    match event {
+        None => other,
+        Some(event) => match event.action {
+            Action::Ok(reply) => reply,
+            Action::Invoke(_) | Action::Fail | Action::Info => other,
+        },
+    }
+}
+
+fn recorded_end(events: &[Event], end: End) -> End
+    requires { IsProper events.now }
+    ensures { result ≡ spec.recorded_end events.now «end» }
+{
+    match end {
+        End::Returned { at, reply } => End::Returned {
+            at,
+            reply: reply_in(reply, event_at(events, at)),
+        },
+        End::Pending => End::Pending,
+        End::Failed => End::Failed,
+    }
+}
+
+/// The operation with what the history has at its numbers.
+fn recorded(events: &[Event], operation: &Invocation) -> Invocation
+    requires { IsProper events.now }
+    ensures { result ≡ spec.recorded events.now operation.now }
+{
+    Invocation {
+        number: operation.number,
+        op: op_in(operation.op, event_at(events, operation.number)),
+        end: recorded_end(events, operation.end),
+    }
+}
+
+fn push_place(text: &mut Vec<u8>, operation: &Invocation) -> Result<(), AllocError>
+    ensures { OnOk result (text.new.items ≡ text.old.items
+        ++ spec.place_text operation.now.number operation.now.«end») }
+{
+    let number = Piece::Natural(u64::from(operation.number));
+    match operation.end {
+        End::Returned { at, .. } => {
+            let at = Piece::Natural(u64::from(at));
+            push_pieces(
+                text,
+                &[Piece::Text(b"maps "), number, Piece::Text(b" and "), at],
+            )
+        }
+        End::Pending | End::Failed => push_pieces(text, &[Piece::Text(b"map "), number]),
+    }
+}
+
+fn push_op(text: &mut Vec<u8>, op: &AnyOp) -> Result<(), AllocError>
+    ensures { OnOk result (text.new.items ≡ text.old.items ++ spec.op_text op.now) }
+{
+    let name = Piece::Text(function_of(op).name().as_bytes());
+    let argument = Piece::Value(value_of_op(op));
+    push_pieces(
+        text,
+        &[Piece::Text(b":"), name, Piece::Text(b" "), argument],
+    )
+}
+
+fn push_reply(text: &mut Vec<u8>, end: End) -> Result<(), AllocError>
+    ensures { OnOk result (text.new.items ≡ text.old.items ++ spec.reply_text «end») }
+{
+    match end {
+        End::Returned { reply, .. } => {
+            let reply = Piece::Value(value_of_reply(&reply));
+            push_pieces(text, &[Piece::Text(b", :ok "), reply])
+        }
+        End::Pending | End::Failed => Ok(()),
+    }
+}
+
+fn push_call(text: &mut Vec<u8>, operation: &Invocation) -> Result<(), AllocError>
+    ensures { OnOk result (text.new.items ≡ text.old.items ++ spec.call_text operation.now) }
+{
+    push_op(text, &operation.op)?;
+    push_reply(text, operation.end)
+}
+
+fn is_same(left: &Invocation, right: &Invocation) -> bool
+    ensures { result ≡ spec.is_same left.now right.now }
+{
+    *left == *right
+}
+
+/// What the part counts the operation as, where that is not what the history says of it.
+fn push_counted(
+    text: &mut Vec<u8>,
+    told: &Invocation,
+    counted: &Invocation,
+) -> Result<(), AllocError>
+    ensures { OnOk result (text.new.items ≡ text.old.items
+        ++ spec.counted_text told.now counted.now) }
+{
+    if is_same(told, counted) {
+        return Ok(());
+    }
+    text.extend_from_slice(b", counted as ")?;
+    push_call(text, counted)
+}
+
+/// What is said of an operation that did not return in the part, and the end of the line.
+fn push_end(text: &mut Vec<u8>, end: End) -> Result<(), AllocError>
+    ensures { OnOk result (text.new.items ≡ text.old.items ++ (spec.open_text «end»
+        ++ codes "\n")) }
+{
+    let said: &[u8] = match end {
+        End::Returned { .. } => b"\n",
+        End::Pending => b", pending\n",
+        End::Failed => b", failed\n",
+    };
+    text.extend_from_slice(said)
+}
+
+/// The numbers of the operation, and its process.
+fn push_heading(
+    text: &mut Vec<u8>,
+    events: &[Event],
+    operation: &Invocation,
+) -> Result<(), AllocError>
+    requires { IsProper events.now }
+    ensures { OnOk result (text.new.items ≡ text.old.items
+        ++ spec.heading_text events.now operation.now) }
+{
+    let process = Piece::Natural(process_in(event_at(events, operation.number)));
+    push_place(text, operation)?;
+    push_pieces(
+        text,
+        &[Piece::Text(b": process "), process, Piece::Text(b", ")],
+    )
+}
+
+/// What the history says of the operation, and what the part does.
+fn push_said(text: &mut Vec<u8>, told: &Invocation, counted: &Invocation) -> Result<(), AllocError>
+    ensures { OnOk result (text.new.items ≡ text.old.items
+        ++ spec.said_text told.now counted.now) }
+{
+    push_call(text, told)?;
+    push_counted(text, told, counted)?;
+    push_end(text, counted.end)
+}
+
+fn push_recorded(
+    text: &mut Vec<u8>,
+    events: &[Event],
+    operation: &Invocation,
+) -> Result<(), AllocError>
+    requires { IsProper events.now }
+    ensures { OnOk result (text.new.items ≡ text.old.items
+        ++ spec.said_text (spec.recorded events.now operation.now) operation.now) }
+{
+    let told = recorded(events, operation);
+    push_said(text, &told, operation)
+}
+
+fn push_operation(
+    text: &mut Vec<u8>,
+    commented: bool,
+    events: &[Event],
+    operation: &Invocation,
+) -> Result<(), AllocError>
+    requires { IsProper events.now }
+    ensures { OnOk result (text.new.items ≡ text.old.items
+        ++ (comment_text commented ++ operation_line events.now operation.now)) }
+{
+    push_comment(text, commented)?;
+    push_heading(text, events, operation)?;
+    push_recorded(text, events, operation)
+}
+
+fn push_lines(
+    text: &mut Vec<u8>,
+    commented: bool,
+    events: &[Event],
+    operations: &[Invocation],
+) -> Result<(), AllocError>
+    requires { IsProper events.now }
+    ensures { OnOk result (text.new.items ≡ text.old.items
+        ++ operations_text commented events.now operations.now) }
+{
+    for operation in operations {
+        push_operation(text, commented, events, operation)?;
+    }
+    Ok(())
+}
+
+/// Appends a line for each operation of the part, after `; ` where they are comments: its numbers,
+/// and what the history says of it. Where the part counts it as another operation, or with another
+/// reply, that comes after it.
+pub fn push_operations(
+    text: &mut Vec<u8>,
+    commented: bool,
+    history: &History,
+    part: &ObjectHistory,
+) -> Result<(), AllocError>
+    ensures { OnOk result (text.new.items ≡ text.old.items
+        ++ operations_text commented history.now part.now.ops) }
+{
+    push_lines(text, commented, history.events(), part.ops())
+}
