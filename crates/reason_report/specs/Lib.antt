@@ -1,3 +1,3 @@
 pub mod Pieces
 pub mod Operations
--- pub mod Sentences
+pub mod Sentences

@@ -85,7 +85,7 @@ reply_text Failed = []
 abbrev pub call_text : Invocation → List ℕ
 call_text o = op_text o.op ++ reply_text o.«end»
 
--- the derived test
+-- whether they have the same number, operation and end: the derived test
 abbrev pub is_same : Invocation → Invocation → Bool
 is_same left right = derived.eq-value.it left right
 
@@ -100,15 +100,20 @@ open_text (Returned at reply) = []
 open_text Pending = codes ", pending"
 open_text Failed = codes ", failed"
 
+-- as maps 4 and 9: process 2,
+abbrev pub heading_text : List Event → Invocation → List ℕ
+heading_text es o =
+    place_text o.number o.«end»
+    ++ (codes ": process " ++ (decimal (process_in (event_at es o.number)) ++ codes ", "))
+
+-- as :dequeue nil, :ok 7
+abbrev pub said_text : Invocation → Invocation → List ℕ
+said_text told counted =
+    call_text told ++ (counted_text told counted ++ (open_text counted.«end» ++ codes "\n"))
+
 -- as maps 4 and 9: process 2, :dequeue nil, :ok 7
 abbrev pub operation_line : List Event → Invocation → List ℕ
-operation_line es o =
-    place_text o.number o.«end»
-    ++ (codes ": process "
-    ++ (decimal (process_in (event_at es o.number))
-    ++ (codes ", "
-    ++ (call_text (recorded es o)
-    ++ (counted_text (recorded es o) o ++ (open_text o.«end» ++ codes "\n"))))))
+operation_line es o = heading_text es o ++ said_text (recorded es o) o
 
 -- a line for each operation, in their order
 abbrev pub operations_text : Bool → List Event → List Invocation → List ℕ

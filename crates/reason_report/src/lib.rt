@@ -3,6 +3,12 @@
 #![tactic(auto)]
 
 mod operations;
+mod patterns;
 mod pieces;
+mod reasons;
+mod sentences;
+mod words;
 
 pub use operations::push_operations;
+pub use reasons::push_reason;
+pub use sentences::push_sentence;

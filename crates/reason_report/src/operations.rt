@@ -1,8 +1,9 @@
 //! The lines of the operations of a part.
 
-ghost use Rattle.std.specs.Prelude.{◌≡◌, ◌<◌, ◌++◌, codes, AllPairs, OnOk};
+ghost use Rattle.std.specs.Prelude.{◌≡◌, ◌++◌, codes, OnOk};
+ghost use Rattle.events.specs.Events.{IsProper};
 ghost use Rattle.reason_report.specs.Operations as spec;
-ghost use Rattle.reason_report.specs.Operations.{operations_text};
+ghost use Rattle.reason_report.specs.Operations.{operation_line, operations_text};
 ghost use Rattle.reason_report.specs.Pieces.{comment_text};
 
 use crate::pieces::{Piece, push_comment, push_pieces};
@@ -12,7 +13,7 @@ use std::alloc::AllocError;
 
 /// The event with this number, if there is one.
 fn event_at(events: &[Event], number: u32) -> Option<Event>
-    requires { AllPairs (λ a b. a.number < b.number) events.now }
+    requires { IsProper events.now }
     ensures { result ≡ spec.event_at events.now number }
 {
     let Ok(place) = events.binary_search_by_key(&number, |event| event.number) else {
@@ -57,7 +58,7 @@ fn reply_in(other: AnyReply, event: Option<Event>) -> AnyReply
 }
 
 fn recorded_end(events: &[Event], end: End) -> End
-    requires { AllPairs (λ a b. a.number < b.number) events.now }
+    requires { IsProper events.now }
     ensures { result ≡ spec.recorded_end events.now «end» }
 {
     match end {
@@ -72,7 +73,7 @@ fn recorded_end(events: &[Event], end: End) -> End
 
 /// The operation with what the history has at its numbers.
 fn recorded(events: &[Event], operation: &Invocation) -> Invocation
-    requires { AllPairs (λ a b. a.number < b.number) events.now }
+    requires { IsProper events.now }
     ensures { result ≡ spec.recorded events.now operation.now }
 {
     Invocation {
@@ -90,7 +91,10 @@ fn push_place(text: &mut Vec<u8>, operation: &Invocation) -> Result<(), AllocErr
     match operation.end {
         End::Returned { at, .. } => {
             let at = Piece::Natural(u64::from(at));
-            push_pieces(text, &[Piece::Text(b"maps "), number, Piece::Text(b" and "), at])
+            push_pieces(
+                text,
+                &[Piece::Text(b"maps "), number, Piece::Text(b" and "), at],
+            )
         }
         End::Pending | End::Failed => push_pieces(text, &[Piece::Text(b"map "), number]),
     }
@@ -101,7 +105,10 @@ fn push_op(text: &mut Vec<u8>, op: &AnyOp) -> Result<(), AllocError>
 {
     let name = Piece::Text(function_of(op).name().as_bytes());
     let argument = Piece::Value(value_of_op(op));
-    push_pieces(text, &[Piece::Text(b":"), name, Piece::Text(b" "), argument])
+    push_pieces(
+        text,
+        &[Piece::Text(b":"), name, Piece::Text(b" "), argument],
+    )
 }
 
 fn push_reply(text: &mut Vec<u8>, end: End) -> Result<(), AllocError>
@@ -123,6 +130,12 @@ fn push_call(text: &mut Vec<u8>, operation: &Invocation) -> Result<(), AllocErro
     push_reply(text, operation.end)
 }
 
+fn is_same(left: &Invocation, right: &Invocation) -> bool
+    ensures { result ≡ spec.is_same left.now right.now }
+{
+    *left == *right
+}
+
 /// What the part counts the operation as, where that is not what the history says of it.
 fn push_counted(
     text: &mut Vec<u8>,
@@ -132,7 +145,7 @@ fn push_counted(
     ensures { OnOk result (text.new.items ≡ text.old.items
         ++ spec.counted_text told.now counted.now) }
 {
-    if *told == *counted {
+    if is_same(told, counted) {
         return Ok(());
     }
     text.extend_from_slice(b", counted as ")?;
@@ -152,27 +165,81 @@ fn push_end(text: &mut Vec<u8>, end: End) -> Result<(), AllocError>
     text.extend_from_slice(said)
 }
 
-fn push_operation(
+/// The numbers of the operation, and its process.
+fn push_heading(
     text: &mut Vec<u8>,
     events: &[Event],
     operation: &Invocation,
 ) -> Result<(), AllocError>
-    requires { AllPairs (λ a b. a.number < b.number) events.now }
+    requires { IsProper events.now }
     ensures { OnOk result (text.new.items ≡ text.old.items
-        ++ spec.operation_line events.now operation.now) }
+        ++ spec.heading_text events.now operation.now) }
 {
-    let process = process_in(event_at(events, operation.number));
-    let told = recorded(events, operation);
+    let process = Piece::Natural(process_in(event_at(events, operation.number)));
     push_place(text, operation)?;
-    push_pieces(text, &[Piece::Text(b": process "), Piece::Natural(process), Piece::Text(b", ")])?;
-    push_call(text, &told)?;
-    push_counted(text, &told, operation)?;
-    push_end(text, operation.end)
+    push_pieces(
+        text,
+        &[Piece::Text(b": process "), process, Piece::Text(b", ")],
+    )
 }
 
-/// Appends a line for each operation of the part, after `; ` where they are comments: the numbers of
-/// its maps, and what the history says of it. Where the part counts it as another operation, or with
-/// another reply, that comes after it.
+/// What the history says of the operation, and what the part does.
+fn push_said(text: &mut Vec<u8>, told: &Invocation, counted: &Invocation) -> Result<(), AllocError>
+    ensures { OnOk result (text.new.items ≡ text.old.items
+        ++ spec.said_text told.now counted.now) }
+{
+    push_call(text, told)?;
+    push_counted(text, told, counted)?;
+    push_end(text, counted.end)
+}
+
+fn push_recorded(
+    text: &mut Vec<u8>,
+    events: &[Event],
+    operation: &Invocation,
+) -> Result<(), AllocError>
+    requires { IsProper events.now }
+    ensures { OnOk result (text.new.items ≡ text.old.items
+        ++ spec.said_text (spec.recorded events.now operation.now) operation.now) }
+{
+    let told = recorded(events, operation);
+    push_said(text, &told, operation)
+}
+
+fn push_operation(
+    text: &mut Vec<u8>,
+    commented: bool,
+    events: &[Event],
+    operation: &Invocation,
+) -> Result<(), AllocError>
+    requires { IsProper events.now }
+    ensures { OnOk result (text.new.items ≡ text.old.items
+        ++ (comment_text commented ++ operation_line events.now operation.now)) }
+{
+    push_comment(text, commented)?;
+    push_heading(text, events, operation)?;
+    push_recorded(text, events, operation)
+}
+
+fn push_lines(
+    text: &mut Vec<u8>,
+    commented: bool,
+    events: &[Event],
+    operations: &[Invocation],
+) -> Result<(), AllocError>
+    requires { IsProper events.now }
+    ensures { OnOk result (text.new.items ≡ text.old.items
+        ++ operations_text commented events.now operations.now) }
+{
+    for operation in operations {
+        push_operation(text, commented, events, operation)?;
+    }
+    Ok(())
+}
+
+/// Appends a line for each operation of the part, after `; ` where they are comments: its numbers,
+/// and what the history says of it. Where the part counts it as another operation, or with another
+/// reply, that comes after it.
 pub fn push_operations(
     text: &mut Vec<u8>,
     commented: bool,
@@ -182,10 +249,5 @@ pub fn push_operations(
     ensures { OnOk result (text.new.items ≡ text.old.items
         ++ operations_text commented history.now part.now.ops) }
 {
-    let events = history.events();
-    for operation in part.ops() {
-        push_comment(text, commented)?;
-        push_operation(text, events, operation)?;
-    }
-    Ok(())
+    push_lines(text, commented, history.events(), part.ops())
 }

@@ -1,0 +1,2 @@
+pub mod EventsFound
+pub mod PiecesLeft

@@ -1,0 +1,37 @@
+//! The line of a reason.
+
+ghost use Rattle.std.specs.Prelude.{◌≡◌, ◌++◌, OnOk, IfOk};
+ghost use Rattle.reason_text.specs.Lines as spec;
+ghost use Rattle.reason_report.specs.Pieces.{comment_text};
+
+use crate::pieces::push_comment;
+use edn::Out;
+use reason_text::write_reasons;
+use refutation::Reason;
+use std::alloc::{AllocError, Global};
+
+/// The line of the reason.
+fn line_of(alloc: Global, reason: &Reason) -> Result<Vec<u8>, AllocError>
+    ensures { IfOk result (λ v. v.items ≡ spec.line_of reason.now) }
+{
+    let mut sink = Out::new(Vec::new(alloc));
+    match write_reasons(std::slice::from_ref(reason), &mut sink) {
+        Ok(()) => Ok(sink.into_inner()),
+        Err(_) => Err(AllocError),
+    }
+}
+
+/// Appends the line of the reason, after `; ` where it is a comment.
+pub fn push_reason(
+    alloc: Global,
+    text: &mut Vec<u8>,
+    commented: bool,
+    reason: &Reason,
+) -> Result<(), AllocError>
+    ensures { OnOk result (text.new.items ≡ text.old.items
+        ++ (comment_text commented ++ spec.line_of reason.now)) }
+{
+    let line = line_of(alloc, reason)?;
+    push_comment(text, commented)?;
+    text.extend_from_slice(&line)
+}
