@@ -76,6 +76,13 @@ pub(crate) struct CellCalls {
     pub(crate) contents: Vec<Option<i64>>,
 }
 
+impl CellCalls {
+    /// The value of a content; none for nothing.
+    pub(crate) fn value(&self, content: usize) -> Option<i64> {
+        self.contents.get(content).copied().flatten()
+    }
+}
+
 /// The numbers of a cell's contents.
 #[derive(Drop)]
 struct Numbers {

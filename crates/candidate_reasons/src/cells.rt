@@ -6,7 +6,7 @@ use crate::candidates::Candidate;
 use crate::patterns::Pattern;
 use crate::plans::{Element, Plan};
 use crate::refusals::add_refusals;
-use crate::sights::{Setters, Sights};
+use crate::sights::{Setters, Sight, Sights};
 use crate::takers::{add_excesses, add_windows};
 use crate::zones::add_zones;
 use std::alloc::{AllocError, Global};
@@ -20,28 +20,36 @@ const MOST_IN_ALL: usize = 64;
 /// The most calls of a cell that a plan names.
 pub(crate) const MOST_NAMED: usize = 64;
 
-/// The plan that keeps these contents of a register, or the cell of a map, and these calls.
+/// The plan that keeps these values, or keys, and these calls.
+fn plan_of(alloc: Global, values: &[i64], calls: &[TimedCall]) -> Result<Plan, AllocError> {
+    let mut elements = Vec::new(alloc);
+    for value in values {
+        elements.push(Element::Value(*value))?;
+    }
+    for call in calls {
+        elements.push(Element::Operation(call.number))?;
+    }
+    Ok(Plan::of(elements))
+}
+
+/// The plan that keeps these contents of a cell, and these calls. A part of an entry does not tell
+/// no value from a value that is not kept: where a key is to be without a value it is kept whole.
 pub(crate) fn cell_plan(
     alloc: Global,
     cell: &CellCalls,
     contents: &[usize],
     calls: &[TimedCall],
 ) -> Result<Plan, AllocError> {
-    let mut elements = Vec::new(alloc);
-    match cell.key {
-        Some(key) => elements.push(Element::Value(key))?,
-        None => {
-            for content in contents {
-                if let Some(value) = cell.contents.get(*content).copied().flatten() {
-                    elements.push(Element::Value(value))?;
-                }
-            }
-        }
+    if let (Some(key), true) = (cell.key, contents.contains(&NOTHING)) {
+        return plan_of(alloc, &[key], calls);
     }
-    for call in calls {
-        elements.push(Element::Operation(call.number))?;
-    }
-    Ok(Plan::of(elements))
+    let values: Vec<i64> = contents
+        .iter()
+        .filter_map(|content| cell.value(*content))
+        .collect(alloc)?;
+    let mut plan = plan_of(alloc, &values, calls)?;
+    plan.key = cell.key;
+    Ok(plan)
 }
 
 /// The candidate of a cell's pattern.
@@ -62,23 +70,44 @@ pub(crate) struct Scene<'a> {
     pub(crate) sights: Sights,
 }
 
+/// A call that asks for a content that cannot be there.
+#[derive(Clone, Copy)]
+enum Wrong {
+    /// No call set the content before.
+    Unset,
+    /// After all calls were over that set the content another one was shown.
+    Stale(Sight),
+}
+
 impl<'a> Scene<'a> {
-    /// The value of a content; 0 for nothing.
+    /// The value of a content; none for nothing.
     pub(crate) fn value(&self, content: usize) -> Option<i64> {
-        self.cell.contents.get(content).copied().flatten()
+        self.cell.value(content)
     }
 
     pub(crate) fn call_at(&self, place: usize) -> Option<TimedCall> {
         self.cell.accesses.get(place).map(|access| access.call)
     }
 
-    /// The call from which a plan may begin that is to show what happens from this moment on.
-    pub(crate) fn start_before(&self, moment: u32) -> Option<u32> {
-        let sight = self.sights.last_before(moment)?;
-        Some(self.call_at(sight.place)?.number)
+    /// What is wrong with a call that asks for a content, if something is.
+    fn wrong_with(&self, access: &Access, content: usize) -> Option<Wrong> {
+        if access.call.is_pending() {
+            return None;
+        }
+        let last = self.setters.last_before(content, access.call.end);
+        if last.is_none() && content != NOTHING {
+            return Some(Wrong::Unset);
+        }
+        let over = last.map_or(0, |last| last.over);
+        let sight = self.sights.last_other(content, access.call.begin)?;
+        if over < access.call.begin && over <= sight.begin {
+            Some(Wrong::Stale(sight))
+        } else {
+            None
+        }
     }
 
-    /// What asks for a value that nothing set before.
+    /// What asks for a value that no call set before.
     fn unset(
         &self,
         alloc: Global,
@@ -95,61 +124,78 @@ impl<'a> Scene<'a> {
         };
         let mut plan = cell_plan(alloc, self.cell, &[content], &[access.call])?;
         plan.until = Some(access.call.until());
-        if self.cell.key.is_some() {
-            plan.from = self.start_before(access.call.begin);
-        }
         Ok(Some(of_cell(self.cell, pattern, plan, 1)))
     }
 
-    /// What asks for a content after another was shown, where all that set it were over by then.
+    /// What asks for the first of these contents after another was shown. The others are kept too.
     fn stale(
         &self,
         alloc: Global,
         access: &Access,
-        content: usize,
-        over: Option<u32>,
+        contents: &[usize],
+        sight: Sight,
     ) -> Result<Option<Candidate>, AllocError> {
-        let Some(sight) = self.sights.last_other(content, access.call.begin) else {
-            return Ok(None);
-        };
-        if over.is_some_and(|over| sight.begin < over) {
-            return Ok(None);
-        }
-        let Some(shown) = self.call_at(sight.place) else {
+        let (Some(shown), Some(content)) = (self.call_at(sight.place), contents.first()) else {
             return Ok(None);
         };
         let calls = [shown, access.call];
-        let mut plan = cell_plan(alloc, self.cell, &[content], &calls)?;
+        let mut plan = cell_plan(alloc, self.cell, contents, &calls)?;
         plan.from = Some(shown.number);
         plan.until = Some(access.call.until());
-        let pattern = Pattern::Stale(self.value(content));
+        let pattern = Pattern::Stale(self.value(*content));
         Ok(Some(of_cell(self.cell, pattern, plan, 2)))
     }
 
-    /// What is wrong with what a call asks for.
-    fn look(&self, alloc: Global, access: &Access) -> Result<Option<Candidate>, AllocError> {
-        let Need::Is(content) = access.need else {
+    /// A key of few calls that was shown without a value is kept whole, since its part then begins
+    /// empty.
+    fn emptied(
+        &self,
+        alloc: Global,
+        access: &Access,
+        content: usize,
+        wrong: Wrong,
+    ) -> Result<Option<Candidate>, AllocError> {
+        let Wrong::Stale(sight) = wrong else {
             return Ok(None);
         };
-        if access.call.is_pending() {
+        let is_small = self.cell.key.is_some() && self.cell.accesses.len() <= MOST_NAMED;
+        if sight.content != NOTHING || !is_small {
             return Ok(None);
         }
-        match self.setters.last_before(content, access.call.end) {
-            None if content != NOTHING => self.unset(alloc, access, content),
-            None => self.stale(alloc, access, content, None),
-            Some(last) if last.over < access.call.begin => {
-                self.stale(alloc, access, content, Some(last.over))
-            }
-            Some(_) => Ok(None),
+        self.stale(alloc, access, &[content, NOTHING], sight)
+    }
+
+    /// The candidates of a call that asks for a content that cannot be there. Whether it does.
+    fn add_wrong(
+        &self,
+        alloc: Global,
+        access: &Access,
+        candidates: &mut Vec<Candidate>,
+    ) -> Result<bool, AllocError> {
+        let Need::Is(content) = access.need else {
+            return Ok(false);
+        };
+        let Some(wrong) = self.wrong_with(access, content) else {
+            return Ok(false);
+        };
+        if let Some(candidate) = self.emptied(alloc, access, content, wrong)? {
+            candidates.push(candidate)?;
         }
+        let candidate = match wrong {
+            Wrong::Unset => self.unset(alloc, access, content)?,
+            Wrong::Stale(sight) => self.stale(alloc, access, &[content], sight)?,
+        };
+        if let Some(candidate) = candidate {
+            candidates.push(candidate)?;
+        }
+        Ok(true)
     }
 
     /// The calls that ask for a content that cannot be there.
     fn add_asking(&self, alloc: Global, candidates: &mut Vec<Candidate>) -> Result<(), AllocError> {
         let mut found: usize = 0;
         for access in &self.cell.accesses {
-            if let Some(candidate) = self.look(alloc, access)? {
-                candidates.push(candidate)?;
+            if self.add_wrong(alloc, access, candidates)? {
                 found = found.saturating_add(1);
             }
             if found >= MOST {

@@ -17,9 +17,11 @@ pub(crate) enum Element {
 }
 
 /// What is kept, from a call on, until a number. Where `all_values` is set the elements are
-/// operations alone.
+/// operations alone. Where there is a `key` it is that of a map, of which an entry is kept: the
+/// values are those under the key.
 #[derive(Drop)]
 pub(crate) struct Plan {
+    pub(crate) key: Option<i64>,
     pub(crate) from: Option<u32>,
     pub(crate) until: Option<u32>,
     pub(crate) all_values: bool,
@@ -156,6 +158,7 @@ impl Plan {
     /// The plan that keeps everything that these elements name, and decides by a search.
     pub(crate) fn of(elements: Vec<Element>) -> Plan {
         Plan {
+            key: None,
             from: None,
             until: None,
             all_values: false,
@@ -231,6 +234,19 @@ impl Plan {
         Ok(Cut::Keep { values, numbers })
     }
 
+    /// The cut that keeps the plan's values and operations under a key of a map.
+    fn entry(&self, alloc: Global, key: i64) -> Result<Cut, AllocError> {
+        let values = self.values(alloc)?;
+        let other = other_than(&values);
+        let numbers = self.optional(alloc)?;
+        Ok(Cut::Entry {
+            key,
+            values,
+            other,
+            numbers,
+        })
+    }
+
     /// The cuts of the window.
     fn push_window(&self, cuts: &mut Vec<Cut>) -> Result<(), AllocError> {
         if let Some(from) = self.from {
@@ -260,16 +276,20 @@ impl Plan {
         history: &ObjectHistory,
         cuts: &mut Vec<Cut>,
     ) -> Result<(), AllocError> {
-        match history.kind() {
-            Kind::Queue | Kind::Stack | Kind::Heap | Kind::Map => {
+        match (history.kind(), self.key) {
+            (Kind::Map, Some(key)) => {
+                cuts.push(self.entry(alloc, key)?)?;
+                self.push_window(cuts)
+            }
+            (Kind::Queue | Kind::Stack | Kind::Heap | Kind::Map, _) => {
                 self.push_keeping(alloc, history, cuts)?;
                 self.push_window(cuts)
             }
-            Kind::Register => {
+            (Kind::Register, _) => {
                 self.push_window(cuts)?;
                 self.push_keeping(alloc, history, cuts)
             }
-            Kind::Mutex => self.push_window(cuts),
+            (Kind::Mutex, _) => self.push_window(cuts),
         }
     }
 

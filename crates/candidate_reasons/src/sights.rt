@@ -157,12 +157,8 @@ impl Sights {
         self.latest.get(next.checked_sub(1)?).copied()
     }
 
-    /// Of the calls that return before this moment the one that begins last.
-    pub(crate) fn last_before(&self, moment: u32) -> Option<Sight> {
-        self.before(moment)?.first
-    }
-
-    /// The same, of those that show another content than this.
+    /// Of the calls that return before this moment and show another content than this the one that
+    /// begins last.
     pub(crate) fn last_other(&self, content: usize, moment: u32) -> Option<Sight> {
         let latest = self.before(moment)?;
         match latest.first {

@@ -21,6 +21,22 @@ fn counted(cell: &CellCalls, content: usize) -> Option<Counted> {
     }
 }
 
+/// What is counted in the part of a cell's plan, where an entry of a map is a register.
+fn in_part(counted: Counted) -> Counted {
+    match counted {
+        Counted::Entry { value, .. } => Counted::Value(value),
+        _ => counted,
+    }
+}
+
+/// The count, from the beginning on, in the part of a cell's plan.
+fn evidence_of(counted: Counted) -> Evidence {
+    Evidence::Counting(Count {
+        counted: in_part(counted),
+        from: 0,
+    })
+}
+
 /// The content that a call takes away, by its reply.
 fn taken_by(access: &Access) -> Option<usize> {
     match (access.need, access.sets) {
@@ -90,7 +106,7 @@ fn excess_candidate(
 ) -> Result<Candidate, AllocError> {
     let mut plan = cell_plan(alloc, scene.cell, &[content], takers)?;
     plan.until = takers.last().map(|taker| taker.until());
-    plan.evidence = Evidence::Counting(Count { counted, from: 0 });
+    plan.evidence = evidence_of(counted);
     let taken = takers.len();
     let set = taken.saturating_sub(1);
     let pattern = match scene.value(content) {
@@ -154,7 +170,7 @@ fn window_candidate(
             .min_by_key(|taker| taker.begin)
             .map(|taker| taker.number);
     }
-    plan.evidence = Evidence::Counting(Count { counted, from: 0 });
+    plan.evidence = evidence_of(counted);
     let weight = inside.len().saturating_mul(2);
     let pattern = Pattern::CountExceeded(counted);
     Ok(Some(of_cell(scene.cell, pattern, plan, weight)))

@@ -173,15 +173,6 @@ fn until_of(calls: &[TimedCall]) -> u32 {
     until
 }
 
-/// The first moment of these calls.
-fn begin_of(calls: &[TimedCall]) -> u32 {
-    let mut begin = u32::MAX;
-    for call in calls {
-        begin = call.begin.min(begin);
-    }
-    begin
-}
-
 /// The candidate of two contents that are each before the other.
 fn crossed(
     alloc: Global,
@@ -196,9 +187,6 @@ fn crossed(
     let calls = calls_of(alloc, scene, zones, contents)?;
     let mut plan = cell_plan(alloc, scene.cell, &contents, &calls)?;
     plan.until = Some(until_of(&calls));
-    if scene.cell.key.is_some() {
-        plan.from = scene.start_before(begin_of(&calls));
-    }
     let pattern = Pattern::EachBeforeTheOther(one, other);
     Ok(Some(of_cell(scene.cell, pattern, plan, 6)))
 }

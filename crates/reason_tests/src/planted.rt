@@ -97,7 +97,7 @@ fn cells(rt: HostRuntime) -> Result<(), Fail> {
             (texts::CROSSED, Pattern::EachBeforeTheOther(1, 2), 4),
             (texts::SWAPPED_TWICE, Pattern::TakenTwice(1), 3),
             (texts::REFUSED, refused, 2),
-            (texts::NEVER_STORED, Pattern::NeverSet(5), 2),
+            (texts::NEVER_STORED, Pattern::NeverSet(5), 1),
             (texts::REMOVED, Pattern::Stale(Some(1)), 1),
             (texts::REMOVED_TWICE, Pattern::TakenTwice(1), 3),
             (

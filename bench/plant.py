@@ -1,0 +1,283 @@
+"""Plants bugs into histories that gen.py makes.
+
+    plant.py DIR --kind K [--calls N] [--concurrency C] [--rounds R] [--values V] [--type T] [--seed S]
+
+For each round one history is made, and each type of bug is planted into a copy of it. Each copy is
+an object of its own. Writes DIR/history.edn, with one object after another, and DIR/planted.txt,
+with a line for each object: its number and the type of its bug. Values are put in, or set, once
+each; with --values they are drawn below V.
+
+A planted bug can be invisible: the history may be linearizable all the same.
+"""
+import argparse
+import copy
+import os
+import random
+import re
+from types import SimpleNamespace
+
+import gen
+
+LINE = re.compile(r"\{:process (\d+), :type :(\S+), :f :(\S+), :value (.*)\}")
+TAKES = {"dequeue", "pop", "extract-min", "read", "get", "del"}
+SETS = {"write", "put"}
+NOWHERE = 1_000_000_007
+
+
+class Call:
+    """A call: its places among the lines, and its words. One that has no end is pending."""
+
+    def __init__(self, process, f, arg, begin):
+        self.process, self.f, self.arg, self.begin = process, f, arg, begin
+        self.end = self.reply = None
+
+    def key(self):
+        """The key of a call of a map."""
+        words = self.arg.strip("[]").split()
+        return words[0] if self.f in ("put", "get", "del") else None
+
+    def new_value(self):
+        """The value that a write, a put or an insertion leaves."""
+        return self.arg.strip("[]").split()[-1]
+
+
+def read(path):
+    """The calls of a history without failed ones."""
+    calls, open_calls = [], {}
+    with open(path) as lines:
+        for place, line in enumerate(lines):
+            process, kind, f, value = LINE.match(line).groups()
+            if kind == "invoke":
+                call = Call(int(process), f, value, place)
+                calls.append(call)
+                open_calls[process] = call
+            else:
+                call = open_calls.pop(process)
+                call.end, call.reply = place, value
+    return calls
+
+
+class Planter:
+    """Plants one bug into calls. Each method says whether it could."""
+
+    def __init__(self, calls, rng):
+        self.calls, self.rng = calls, rng
+        takes = [c for c in calls if c.f in TAKES and c.end is not None and c.reply != "nil"]
+        self.takes = sorted(takes, key=lambda c: c.end)
+        self.at = rng.randrange(2, len(takes) - 2) if len(takes) >= 8 else None
+
+    def later(self):
+        """The takes that begin after the chosen one has returned."""
+        chosen = self.takes[self.at]
+        return [c for c in self.takes[self.at + 1:] if c.begin > chosen.end]
+
+    def answer(self, reply):
+        self.takes[self.at].reply = reply
+        return True
+
+    def swap(self, others, place):
+        """The chosen take and another one give each other's value."""
+        if place >= len(others):
+            return False
+        chosen, other = self.takes[self.at], others[place]
+        chosen.reply, other.reply = other.reply, chosen.reply
+        return True
+
+    def never_put(self):
+        return self.answer(NOWHERE)
+
+    def twice(self):
+        return self.answer(self.takes[self.at - 1 - self.rng.randrange(2)].reply)
+
+    def swap_near(self):
+        return self.swap(self.later(), self.rng.randrange(4))
+
+    def swap_far(self):
+        return self.swap(self.later(), 49 + self.rng.randrange(500))
+
+    def nothing(self):
+        return self.answer("nil")
+
+    def false_empty(self):
+        """The chosen take finds nothing, and the next one takes its value."""
+        later = self.later()
+        if not later:
+            return False
+        later[0].reply = self.takes[self.at].reply
+        return self.answer("nil")
+
+    def future(self):
+        """The chosen take gives a value that is put in later."""
+        put = {c.arg: c.begin for c in self.calls if c.f in ("enqueue", "push", "insert")}
+        end = self.takes[self.at].end
+        others = [c for c in self.later() if put.get(c.reply, 0) > end]
+        return self.swap(others, 0)
+
+    def settings(self):
+        """The calls that set a value where the chosen one reads."""
+        key = self.takes[self.at].key()
+        own = [c for c in self.calls if c.f in SETS and c.key() == key and c.end is not None]
+        return sorted(own, key=lambda c: c.end)
+
+    def stale(self, back):
+        chosen = self.takes[self.at]
+        before = [c for c in self.settings() if c.end < chosen.begin]
+        return len(before) >= back and self.answer(before[-back].new_value())
+
+    def stale_near(self):
+        return self.stale(2 + self.rng.randrange(2))
+
+    def stale_far(self):
+        return self.stale(20 + self.rng.randrange(200))
+
+    def future_value(self):
+        later = [c for c in self.settings() if c.begin > self.takes[self.at].end]
+        return bool(later) and self.answer(self.rng.choice(later[:5]).new_value())
+
+    def refused_swap(self):
+        """A swap that was refused."""
+        refused = [c for c in self.calls if c.f == "cas" and c.reply == "false"]
+        return self.rng.choice(refused) if refused else None
+
+    def cas_lies(self):
+        cas = self.refused_swap()
+        if cas:
+            cas.reply = cas.arg
+        return bool(cas)
+
+    def cas_refuses(self):
+        """A refused swap expects the value that was written or read last before it."""
+        cas = self.refused_swap()
+        if cas is None:
+            return False
+        seen = [c for c in self.calls if c.f in ("write", "read") and c.end is not None
+                and c.end < cas.begin and c.reply != "nil"]
+        if not seen:
+            return False
+        last = max(seen, key=lambda c: c.begin)
+        cas.arg = "[%s %s]" % (last.reply, cas.new_value())
+        return True
+
+    def put_gives(self, back):
+        """A put gives what a put some places before it gave."""
+        puts = [c for c in self.calls if c.f == "put" and c.reply not in (None, "nil")]
+        if len(puts) < 100:
+            return False
+        put = self.rng.choice(puts[50:])
+        before = [c.reply for c in puts if c.key() == put.key() and c.end < put.begin]
+        if len(before) < back:
+            return False
+        put.reply = before[-back]
+        return True
+
+    def put_lies(self):
+        return self.put_gives(1)
+
+    def lost_put(self):
+        return self.put_gives(2 + self.rng.randrange(5))
+
+    def two_hold(self):
+        """An acquire that waits returns before the release is invoked."""
+        releases = [c for c in self.calls if c.f == "release"]
+        for _ in range(50):
+            at = self.rng.choice(releases).begin
+            waits = [c for c in self.calls if c.f == "acquire" and c.end and c.begin < at < c.end]
+            if waits:
+                waits[0].end = at - 0.5
+                return True
+        return False
+
+    def renamed(self, f, name):
+        """One call of this function is another one."""
+        self.rng.choice([c for c in self.calls if c.f == f]).f = name
+        return True
+
+    def released_twice(self):
+        return self.renamed("acquire", "release")
+
+    def lost_release(self):
+        return self.renamed("release", "acquire")
+
+
+CONTAINER = {
+    "never put": Planter.never_put, "twice": Planter.twice, "swap near": Planter.swap_near,
+    "swap far": Planter.swap_far, "lost": Planter.nothing, "false empty": Planter.false_empty,
+    "future": Planter.future,
+}
+CELL = {
+    "never set": Planter.never_put, "stale near": Planter.stale_near, "stale far": Planter.stale_far,
+    "future": Planter.future_value, "false nil": Planter.nothing,
+}
+TYPES = {
+    "queue": CONTAINER, "stack": CONTAINER, "heap": CONTAINER,
+    "register": {**CELL, "cas lies": Planter.cas_lies, "cas refuses": Planter.cas_refuses},
+    "map": {**CELL, "put lies": Planter.put_lies, "lost put": Planter.lost_put},
+    "mutex": {
+        "two hold": Planter.two_hold, "released twice": Planter.released_twice,
+        "lost release": Planter.lost_release,
+    },
+}
+
+
+def base(o, seed):
+    """The calls of a history that gen.py makes."""
+    words = SimpleNamespace(
+        dir=o.dir, kind=o.kind, objects=1, processes=o.concurrency, concurrency=o.concurrency,
+        maps=None, calls=o.calls, fail=0.0, info=0.0, nemesis=0.0, values=o.values or 100,
+        keys=o.keys, unique=o.values is None, fill=0.5, time=False, index=False, broken=None, seed=seed)
+    gen.history(words)
+    return read(os.path.join(o.dir, "history.edn"))
+
+
+def lines_of(calls, number, processes):
+    """The lines of an object's calls."""
+    events = []
+    for call in calls:
+        process = call.process + number * processes
+        events.append((call.begin, "invoke", process, call.f, call.arg))
+        if call.end is not None:
+            events.append((call.end, "ok", process, call.f, call.reply))
+    events.sort(key=lambda e: e[0])
+    for _, kind, process, f, value in events:
+        yield "{:process %d, :type :%s, :f :%s, :value %s, :object %d}\n" % (process, kind, f, value, number)
+
+
+def plant(o):
+    rng = random.Random(o.seed)
+    types = {t: p for t, p in TYPES[o.kind].items() if o.type in (None, t)}
+    if not types:
+        raise SystemExit("plant.py: no type of bug of a %s: %s" % (o.kind, o.type))
+    objects, names = [], []
+    for turn in range(o.rounds):
+        calls = base(o, o.seed * 1000 + turn)
+        for name, bug in types.items():
+            own = copy.deepcopy(calls) if len(types) > 1 else calls
+            planter = Planter(own, rng)
+            if (planter.at is not None or o.kind == "mutex") and bug(planter):
+                objects.append(list(lines_of(own, len(objects), o.concurrency)))
+                names.append(name)
+    with open(os.path.join(o.dir, "history.edn"), "w") as history:
+        for lines in objects:
+            history.writelines(lines)
+    with open(os.path.join(o.dir, "planted.txt"), "w") as planted:
+        planted.writelines("%d %s\n" % pair for pair in enumerate(names))
+
+
+def main():
+    p = argparse.ArgumentParser(description=__doc__, formatter_class=argparse.RawDescriptionHelpFormatter)
+    p.add_argument("dir")
+    p.add_argument("--kind", choices=sorted(TYPES), default="queue")
+    p.add_argument("--calls", type=int, default=4096)
+    p.add_argument("--concurrency", type=int, default=16)
+    p.add_argument("--rounds", type=int, default=7)
+    p.add_argument("--values", type=int, help="values are below this; default: each is put in once")
+    p.add_argument("--keys", type=int, default=32, help="keys of a map are below this")
+    p.add_argument("--type", help="the only type of bug")
+    p.add_argument("--seed", type=int, default=0)
+    o = p.parse_args()
+    os.makedirs(o.dir, exist_ok=True)
+    plant(o)
+
+
+if __name__ == "__main__":
+    main()
