@@ -2,6 +2,7 @@
 
 mod findings;
 mod judgements;
+mod refutations;
 mod runs;
 mod searches;
 mod simulations;

@@ -6,7 +6,7 @@ use std::test::Fail;
 
 /// Words after the name of the program, and the line that they ask for. An option is anywhere
 /// before `--`, and its value may be after `=`.
-const ASKED: [(&[&str], &str); 26] = [
+const ASKED: [(&[&str], &str); 30] = [
     (
         &["check", "h.edn", "c.edn"],
         "Check { history: \"h.edn\", certs: \"c.edn\", workers: 1 }",
@@ -119,6 +119,22 @@ const ASKED: [(&[&str], &str); 26] = [
         &["judge", "--", "-e.edn"],
         "Judge { history: \"-e.edn\", steps: 1000000 }",
     ),
+    (
+        &["refute", "h.edn", "r.edn"],
+        "Refute { history: \"h.edn\", reasons: \"r.edn\", steps: 1000000 }",
+    ),
+    (
+        &["refute", "h.edn", "--steps", "7", "r.edn"],
+        "Refute { history: \"h.edn\", reasons: \"r.edn\", steps: 7 }",
+    ),
+    (
+        &["refute", "--steps=1000000000", "h.edn", "r.edn"],
+        "Refute { history: \"h.edn\", reasons: \"r.edn\", steps: 1000000000 }",
+    ),
+    (
+        &["refute", "--", "-h.edn", "r.edn"],
+        "Refute { history: \"-h.edn\", reasons: \"r.edn\", steps: 1000000 }",
+    ),
     (&["simulate", "s.edn"], "Simulate { schedule: \"s.edn\" }"),
     (
         &["simulate", "--", "-s.edn"],
@@ -127,7 +143,7 @@ const ASKED: [(&[&str], &str); 26] = [
 ];
 
 /// Words after the name of the program that are refused.
-const REFUSED: [&[&str]; 52] = [
+const REFUSED: [&[&str]; 58] = [
     &[],
     &["check", "h.edn"],
     &["judge"],
@@ -184,6 +200,12 @@ const REFUSED: [&[&str]; 52] = [
     &["judge", "h.edn", "--steps=7", "--steps=7"],
     &["judge", "h.edn", "--first", "return"],
     &["judge", "h.edn", "--workers", "2"],
+    &["refute"],
+    &["refute", "h.edn"],
+    &["refute", "h.edn", "r.edn", "c.edn"],
+    &["refute", "h.edn", "r.edn", "--steps", "1000000001"],
+    &["refute", "h.edn", "r.edn", "--first", "return"],
+    &["refute", "h.edn", "r.edn", "--workers", "2"],
     &["simulate"],
     &["simulate", "s.edn", "t.edn"],
     &["simulate", "-s.edn"],

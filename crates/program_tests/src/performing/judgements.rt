@@ -1,8 +1,10 @@
-//! The judgement of a history without certificates: lines and status.
+//! The judgement of a history without certificates: lines and status. What is said of an object that
+//! is impossible holds for `refute` too.
 
 use super::findings::ONE_IS_OPEN;
 use super::table::{HELD, ONE_BY_ONE, YES};
 use super::{check_failing_output, check_output, performed};
+use crate::lines::asked;
 use commands::Line;
 use std::alloc::Global;
 use std::test::Fail;
@@ -14,31 +16,33 @@ struct JudgeRow {
     status: u8,
 }
 
-const JUDGEMENTS: [JudgeRow; 7] = [
+/// A cas fails, since the register contains 1: the write of 2 came first.
+const FAILED_CAS: &str = "{:process 0, :type :invoke, :f :write, :value 1}\n\
+    {:process 1, :type :invoke, :f :write, :value 2}\n\
+    {:process 0, :type :ok, :f :write, :value 1}\n\
+    {:process 1, :type :ok, :f :write, :value 2}\n\
+    {:process 0, :type :invoke, :f :cas, :value [2 9]}\n\
+    {:process 0, :type :ok, :f :cas, :value false}";
+
+const JUDGEMENTS: [JudgeRow; 6] = [
     JudgeRow {
         history: HELD,
         steps: 0,
         output: "yes: 3 operations, 1 objects\nmutex: 1 objects, 3 operations\n",
         status: 0,
     },
+    // the second write comes first, which the finder does not try
     JudgeRow {
-        history: ONE_BY_ONE,
-        steps: 1_000,
-        output: "; object 0: impossible\n",
-        status: 1,
-    },
-    // what is found of the other object is not said
-    JudgeRow {
-        history: ONE_IS_OPEN,
-        steps: 1_000,
-        output: "; object 0: impossible\n",
-        status: 1,
-    },
-    JudgeRow {
-        history: ONE_IS_OPEN,
+        history: FAILED_CAS,
         steps: 0,
         output: "; object 0: out of steps after 0\n",
         status: 3,
+    },
+    JudgeRow {
+        history: FAILED_CAS,
+        steps: 100,
+        output: "yes: 3 operations, 1 objects\nregister: 1 objects, 3 operations\n",
+        status: 0,
     },
     JudgeRow {
         history: "{:process 0, :type :invoke",
@@ -68,11 +72,49 @@ fn judging(alloc: Global, steps: u32) -> Result<Line, Fail> {
     })
 }
 
+fn refuting(alloc: Global) -> Result<Line, Fail> {
+    asked(alloc, &["fcbench", "refute", "h.edn", "r.edn"])
+}
+
 #[test]
 fn a_history_alone_has_a_verdict_or_a_note_for_each_object(rt: HostRuntime) -> Result<(), Fail> {
     for row in &JUDGEMENTS {
         let line = judging(rt.alloc(), row.steps)?;
         check_output(&rt, &line, row.history, row.output, row.status);
+    }
+    Ok(())
+}
+
+/// The last line without `; `, where the lines begin with that of an impossible object 0.
+fn reason_in(output: &[u8]) -> Option<&[u8]> {
+    let first = b"; object 0: impossible\n";
+    let lines = output.strip_suffix(b"\n")?;
+    let at = lines.iter().rposition(|byte| *byte == b'\n')?;
+    if output.starts_with(first) {
+        return lines.get(at + 3..);
+    }
+    None
+}
+
+/// A reason takes no steps, and `refute` accepts it. Of another object that has a certificate
+/// nothing is said.
+#[test]
+fn an_impossible_object_comes_with_a_reason_that_holds(rt: HostRuntime) -> Result<(), Fail> {
+    let judge = judging(rt.alloc(), 0)?;
+    let refute = refuting(rt.alloc())?;
+    for history in [ONE_BY_ONE, ONE_IS_OPEN] {
+        let (output, status) = performed(&rt, &judge, history.as_bytes(), b"");
+        assert!(rt; status == 1);
+        let Some(reason) = reason_in(&output) else {
+            return Err(Fail::new("no reason is given"));
+        };
+        let (output, status) = performed(&rt, &refute, history.as_bytes(), reason);
+        assert!(rt;
+            status == 1
+                && output
+                    .as_slice()
+                    .starts_with(b"not linearizable: object 0: ")
+        );
     }
     Ok(())
 }
@@ -89,8 +131,8 @@ fn a_history_alone_is_answered_yes_as_with_certificates(rt: HostRuntime) -> Resu
     Ok(())
 }
 
-/// A register that is written 4,100 times and then read otherwise: no search is made of this many
-/// operations.
+/// A register that is written 4,100 times with one value, which is then read: the finder finds no
+/// order, since values repeat, and no search is made of this many operations.
 #[test]
 fn an_open_object_of_too_many_operations_is_not_searched(rt: HostRuntime) -> Result<(), Fail> {
     let mut history = Vec::new(rt.alloc());
@@ -99,7 +141,7 @@ fn an_open_object_of_too_many_operations_is_not_searched(rt: HostRuntime) -> Res
         history.extend_from_slice(b"{:process 0, :type :ok, :f :write, :value 1}")?;
     }
     history.extend_from_slice(b"{:process 0, :type :invoke, :f :read}")?;
-    history.extend_from_slice(b"{:process 0, :type :ok, :f :read, :value 2}")?;
+    history.extend_from_slice(b"{:process 0, :type :ok, :f :read, :value 1}")?;
     let line = judging(rt.alloc(), 1_000)?;
     let (output, status) = performed(&rt, &line, &history, b"");
     let want = b"; object 0: too large\n";
