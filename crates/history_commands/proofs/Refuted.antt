@@ -1,5 +1,6 @@
 -- The answers to reasons on a history.
 use Rattle.std.proofs.Common.{◌≡◌, ◌≢◌, ◌∙◌, ◌<◌, ◌≤◌, ℕ, true, false, List, length, map, get_or, All, Any, Contains, refl, ap, sym, arith}
+use Rattle.std.specs.Prelude.{count_by, is_some}
 use Rattle.std.specs.List.{AllZip, list_any}
 use Rattle.std.proofs.lemmas.List.Folds.{Any-from_list_any}
 use Rattle.model.specs.Linearizable.{IsLinearizable}
@@ -7,7 +8,9 @@ use Rattle.model.specs.Orders.{calls_on, events}
 use Rattle.model.proofs.Lists.{all_at, contains_from_in, in_from_contains, in_map}
 use Rattle.events.specs.declared.event.Event.{Event}
 use Rattle.events.specs.Events.{IsNamed, kind_at, denoted}
-use Rattle.events.specs.Operations.{ObjectCalls, calls_of}
+use Rattle.events.specs.Operations.{ObjectCalls, call_of, calls_of}
+use Rattle.events.specs.declared.operations.Invocation.{Invocation}
+use Rattle.order_search.proofs.Calls.{count-calls}
 use Rattle.refutation.specs.declared.reason.Reason.{Reason}
 use Rattle.refutation.specs.declared.refuting.Refutation.{Refutation}
 use Rattle.refutation.specs.declared.refuting.Refutation.TheVariants.{Impossible, NotShown, NoPart, OtherObject}
@@ -15,6 +18,10 @@ use Rattle.refutation.specs.Refutations.{IsAnswer, is_impossible}
 use Rattle.history_commands.specs.Refuted.{refutations_text, refute_status, AreAnswered}
 use Rattle.outputs.specs.Statuses.{failed_status, no_memory_status, no_status}
 use Rattle.history_commands.proofs.AllFound.{no_of, not_failed}
+
+-- how many operations did not fail
+pub call_counts : (ops : List Invocation) → count_by (λ o. is_some (call_of o)) ops ≡ length (calls_of ops)
+call_counts ops = count-calls ops
 
 -- where one of the objects has this number, none can lack it
 pub none_lacks : (objects : List ObjectCalls) (x n : ℕ) → length objects ≤ n → ((k : ℕ) → k < n → (d : ObjectCalls) → (get_or objects k d).object ≢ x)

@@ -86,7 +86,7 @@ fn may_have_happened(operation: &Invocation) -> bool
 }
 
 /// How many operations of an object did not fail.
-#[tactic(auto, using(order_search::proofs::Calls::count-calls))]
+#[tactic(auto, using(crate::proofs::Refuted::call_counts))]
 fn call_count(history: &ObjectHistory) -> usize
     ensures { result ≡ length (calls_of history.now.ops) }
 {
