@@ -38,7 +38,7 @@ pub counted : (es : List Event) (objects : List ObjectCalls) (x n : ℕ) → All
 counted es objects x n calls some =
     let o : ObjectCalls = some.1 in
     let cs = all_at (λ (o : ObjectCalls). calls_of o.ops ≡ calls_on o.object (denoted es)) objects calls o (in_from_contains objects o (some.0, some.2, some.3)) in
-    some.5 ∙ ap length cs ∙ ap (λ y. length (calls_on y (denoted es))) some.4
+    some.4.1 ∙ ap length cs ∙ ap (λ y. length (calls_on y (denoted es))) some.4.0
 
 -- the object of a reason that shows that no order is valid is named
 pub named_by : (es : List Event) (reason : Reason) (answer : Refutation) → IsAnswer es reason answer → is_impossible answer ≡ true → IsNamed es reason.object

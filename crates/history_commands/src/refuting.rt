@@ -2,7 +2,7 @@
 
 ghost use Rattle.std.specs.Prelude.{◌≡◌, ◌⊎◌, ◌++◌, false, true, length, map, Any, Contains, OnOk};
 ghost use Rattle.std.specs.Prelude.{IfOk, IfErr, is_some};
-ghost use Rattle.std.specs.List.{AllZip};
+ghost use Rattle.std.specs.List.{AllZip, list_any};
 ghost use Rattle.model.specs.Orders.{calls_on};
 ghost use Rattle.events.specs.Events.{denoted};
 ghost use Rattle.events.specs.Operations.{call_of, calls_of};
@@ -227,11 +227,18 @@ fn is_impossible(answer: &Refutation) -> bool
     matches!(answer, Refutation::Impossible(_))
 }
 
+/// Whether some reason shows that the history is not linearizable.
+fn is_one_impossible(answers: &[Refutation]) -> bool
+    ensures { result ≡ list_any (λ r. is_impossible r) answers.now }
+{
+    answers.iter().any(|answer| is_impossible(answer))
+}
+
 /// 1 where a reason shows that the history is not linearizable, else 3.
 fn status_for(answers: &[Refutation]) -> u8
     ensures { result ≡ refute_status answers.now }
 {
-    if answers.iter().any(|answer| is_impossible(answer)) {
+    if is_one_impossible(answers) {
         NO
     } else {
         NO_MEMORY
