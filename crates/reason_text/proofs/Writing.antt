@@ -16,7 +16,7 @@ use Rattle.edn_reader.specs.Text.{between, IsInt64, InProfile, ItemsInProfile, E
 use Rattle.edn_reader.specs.Text as edn
 use Rattle.edn_reader.specs.Laws.{EachSpelled}
 use Rattle.edn_reader.proofs.Joined.{text_spells_it, lines_spell_them}
-use Rattle.edn_fields.specs.Fields.{value_at}
+use Rattle.edn_fields.specs.Fields.{same_bytes, value_at}
 use Rattle.projection.specs.declared.keeping.Values.{Values}
 use Rattle.projection.specs.declared.keeping.Values.TheVariants.{All, Only}
 use Rattle.projection.specs.declared.cutting.Cut.{Cut}
@@ -197,19 +197,22 @@ cut_fits (Keep vs ns) = (lit< tt, (lacks_numbers (codes "keep") ns.keys (λ h. c
 cut_fits (Cell vs other ns) =
     (lit< tt, ((λ h. cc, lacks_numbers (codes "cell") ns.keys (λ h. cc)), values_fit vs, other_fits other ns.keys))
 cut_fits (Entry key vs other ns) =
-    (lit< tt, ((λ h. cc, λ h. cc, lacks_numbers (codes "cell") ns.keys (λ h. cc)), values_fit vs,
+    (lit< tt, ((λ h. cc, (λ h. cc, lacks_numbers (codes "cell") ns.keys (λ h. cc))), values_fit vs,
     ((λ h. cc, lacks_numbers (codes "key") ns.keys (λ h. cc)), tt, other_fits other ns.keys)))
 
 cuts_fit : (cs : List Cut) → ItemsFit 14 (items_of (cuts_data cs))
 cuts_fit [] = tt
 cuts_fit (c ∷ cs) = (cut_fits c, cuts_fit cs)
 
+apart : (k l : List ℕ) → same_bytes k l ≡ false → same_bytes k k ≡ true → k ≡ l → ⊥
+apart k l other own e = let t : true ≡ false = sym own ∙ (ap (same_bytes k) e ∙ other) in cc
+
 counted_fits : (c : Counted) (n : ℕ) → EntriesFit 14 (counted_entries c n)
 counted_fits (counted.Value v) n = ((λ h. cc, tt), tt, (tt, tt, tt))
-counted_fits (counted.Entry k v) n = ((λ h. cc, λ h. cc, tt), tt, ((λ h. cc, tt), tt, (tt, tt, tt)))
+counted_fits (counted.Entry k v) n = ((λ h. cc, (λ h. cc, tt)), tt, ((λ h. cc, tt), tt, (tt, tt, tt)))
 counted_fits (counted.NoEntry k) n = ((λ h. cc, tt), tt, (tt, tt, tt))
-counted_fits counted.Held n = ((λ h. cc, tt), tt, (tt, tt, tt))
-counted_fits counted.Free n = ((λ h. cc, tt), tt, (tt, tt, tt))
+counted_fits counted.Held n = ((apart (codes "held") (codes "from") refl refl, tt), tt, (tt, tt, tt))
+counted_fits counted.Free n = ((apart (codes "free") (codes "from") refl refl, tt), tt, (tt, tt, tt))
 
 lacks_count : (k : List ℕ) (e : Evidence) → (k ≡ codes "count" → ⊥) → Lacks k (evidence_entries e)
 lacks_count k Search other = tt
