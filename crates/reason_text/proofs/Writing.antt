@@ -1,5 +1,5 @@
 -- The lines that are written for reasons spell forms that denote them.
-use Rattle.std.proofs.Common.{◌≡◌, ℕ, ◌<◌, ◌≤◌, Bool, true, false, suc, List, [], ◌∷◌, ◌++◌, map}
+use Rattle.std.proofs.Common.{◌≡◌, ℕ, ◌≤◌, Bool, true, false, suc, List, [], ◌∷◌, ◌++◌, map}
 use Rattle.std.proofs.Common.{Option, Some, None, lit<, refl, ap, sym, ◌∙◌, subst, append_assoc}
 use Rattle.std.proofs.Common.{arith}
 use Rattle.std.specs.Prelude.{ℤ, pos, codes, decimal, if◌then◌else◌, option_map, option_and_then}
@@ -13,7 +13,7 @@ use Rattle.std.proofs.lemmas.Bool.{le-leb}
 use Rattle.std.proofs.lemmas.Cmp.{nat_cmp_total, int_cmp_total}
 use Rattle.edn_reader.specs.Bytes.{is_name}
 use Rattle.edn_reader.specs.Datum.{Datum, integer, keyword, boolean, atom, vector, dictionary}
-use Rattle.edn_reader.specs.Datum.{Items, Entries, no_entries, entry, items_of, Fits, ItemsFit}
+use Rattle.edn_reader.specs.Datum.{Entries, no_entries, entry, items_of, Fits, ItemsFit}
 use Rattle.edn_reader.specs.Datum.{EntriesFit, Lacks, max_open}
 use Rattle.edn_reader.specs.Spells.{Spells}
 use Rattle.edn_reader.specs.Text.{between, IsInt64, InProfile, ItemsInProfile, EntriesInProfile}
@@ -26,7 +26,6 @@ use Rattle.projection.specs.declared.keeping.Values.{Values}
 use Rattle.projection.specs.declared.keeping.Values.TheVariants.{All, Only}
 use Rattle.projection.specs.declared.cutting.Cut.{Cut}
 use Rattle.projection.specs.declared.cutting.Cut.TheVariants.{From, Until, Keep, Cell, Entry}
-use Rattle.projection.specs.declared.counting.Count.{Count}
 use Rattle.projection.specs.declared.counting.Counted.{Counted}
 use Rattle.projection.specs.declared.counting.Counted.TheVariants as counted
 use Rattle.refutation.specs.declared.reason.Evidence.{Evidence}
@@ -37,10 +36,10 @@ use Rattle.reason_text.specs.Denotes.{max_number, integers_with, numbers_with, v
 use Rattle.reason_text.specs.Denotes.{numbers_in, cut_in, cuts_with, evidence_in, reason_in}
 use Rattle.reason_text.specs.Denotes.{reason_with, CutSeen, seen_values, seen_cut, seen}
 use Rattle.reason_text.specs.Lines.{integers_text, naturals_text, values_text, numbers_text}
-use Rattle.reason_text.specs.Lines.{open_cut_text, cut_text, cuts_text, counted_text, count_text}
-use Rattle.reason_text.specs.Lines.{evidence_text, open_reason_text, line_of, lines_of, AreInRange}
+use Rattle.reason_text.specs.Lines.{cut_text, cuts_text, counted_text}
+use Rattle.reason_text.specs.Lines.{evidence_text, line_of, lines_of, AreInRange}
 use Rattle.reason_text.specs.Lines.{SpellsReasons}
-use Rattle.reason_text.specs.Written.{AreIntegerKeys, AreNumberKeys, AreTypedValues, IsTypedCut}
+use Rattle.reason_text.specs.Written.{AreNumberKeys, AreTypedValues, IsTypedCut}
 use Rattle.reason_text.specs.Written.{IsTypedCounted, IsTypedEvidence, IsTypedReason}
 use Rattle.reason_text.proofs.Rising.{put_next}
 

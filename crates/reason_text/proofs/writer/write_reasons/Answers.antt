@@ -1,4 +1,4 @@
-use Rattle.std.proofs.Common.{true, subst, rules, arith}
+use Rattle.std.proofs.Common.{subst, rules, arith}
 use Rattle.std.specs.List.{AllByRecursion}
 use Rattle.edn_writer.proofs.Fronts.{within, further, fails}
 use Rattle.reason_text.specs.Lines.{lines_of}
@@ -32,7 +32,8 @@ loop-reason-preserved g c =
       parts = f.1;
       sent = f.2;
       typed = all_taken_item IsTypedReason rs l.reason-index c.reason-item.result
-          c.loop-reason-test.true c.reason-item.is l.invariant.typed c.in_ok-write_line.ensures.typed;
+          c.loop-reason-test.true c.reason-item.is l.invariant.typed
+          c.in_ok-write_line.ensures.typed;
     }
 
 pub returns-clause-spelled : goal.returns-clause-spelled
