@@ -11,4 +11,5 @@ returns-in_err-write_bytes-clause-sent g c =
 
 pub returns-clause-sent : goal.returns-clause-sent
 returns-clause-sent g c =
-    sends_behind _ _ _ _ _ (codes "{:cell ") (values_text c.args.values.now) c.in_ok-write_bytes.ensures.sent.0.0 c.write_values.ensures.sent
+    sends_behind _ _ _ _ _ (codes "{:cell ") (values_text c.args.values.now)
+    c.in_ok-write_bytes.ensures.sent.0.0 c.write_values.ensures.sent

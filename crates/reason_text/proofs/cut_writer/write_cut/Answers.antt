@@ -11,4 +11,5 @@ returns-in_err-write_open_cut-clause-sent g c =
 
 pub returns-clause-sent : goal.returns-clause-sent
 returns-clause-sent g c =
-    sends_behind _ _ _ _ _ (open_cut_text c.args.cut.now) (codes "}") c.in_ok-write_open_cut.ensures.sent.0.0 c.write_bytes.ensures.sent
+    sends_behind _ _ _ _ _ (open_cut_text c.args.cut.now) (codes "}")
+    c.in_ok-write_open_cut.ensures.sent.0.0 c.write_bytes.ensures.sent

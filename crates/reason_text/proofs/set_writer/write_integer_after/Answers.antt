@@ -11,6 +11,8 @@ returns-in_err-write_bytes-clause-sent g c =
 
 pub returns-clause-sent : goal.returns-clause-sent
 returns-clause-sent g c =
-    let h : Writes c.write_integer.result (g.S.Sink.sent c.write_bytes.new.sink) (g.S.Sink.sent c.write_integer.new.sink)
+    let h : Writes c.write_integer.result (g.S.Sink.sent c.write_bytes.new.sink)
+    (g.S.Sink.sent c.write_integer.new.sink)
     (g.S.Sink.broken c.write_integer.new.sink) (signed_decimal c.args.n) = search rules in
-    sends_behind _ _ _ _ _ (c.args.before.now) (signed_decimal c.args.n) c.in_ok-write_bytes.ensures.sent.0.0 h
+    sends_behind _ _ _ _ _ (c.args.before.now) (signed_decimal c.args.n)
+    c.in_ok-write_bytes.ensures.sent.0.0 h

@@ -11,5 +11,6 @@ invariant-loop-n g l = record {
   done : List ℕ;
   parts : naturals_text true l.numbers.keys ≡ done ++ naturals_text l.first l.n-iterator;
   sent : Appends (g.S.Sink.sent l.initial.sink) (g.S.Sink.sent l.sink) done;
-  in_range : AllByRecursion (λ (n : ℕ). n ≤ max_number) l.n-iterator → AllByRecursion (λ (n : ℕ). n ≤ max_number) l.numbers.keys;
+  in_range : AllByRecursion (λ (n : ℕ). n ≤ max_number) l.n-iterator
+      → AllByRecursion (λ (n : ℕ). n ≤ max_number) l.numbers.keys;
 }

@@ -8,7 +8,8 @@ use Rattle.reason_text.proofs.set_writer.write_numbers.Goals as goal
 pub returns-then-is_empty-clause-sent : goal.returns-then-is_empty-clause-sent
 returns-then-is_empty-clause-sent g c =
     let e : length c.args.numbers.now.keys ≡ 0 = search rules in
-    let none : numbers_text c.args.numbers.now.keys ≡ [] = ap numbers_text (no_keys c.args.numbers.now.keys e) in
+    let none : numbers_text c.args.numbers.now.keys ≡ [] =
+    ap numbers_text (no_keys c.args.numbers.now.keys e) in
     rw none (search rules)
 
 pub returns-then-is_empty-clause-keys : goal.returns-then-is_empty-clause-keys

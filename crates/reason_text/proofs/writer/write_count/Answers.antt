@@ -13,10 +13,16 @@ returns-in_err-write_bytes-clause-sent g c =
 
 pub returns-in_err-write_counted-clause-sent : goal.returns-in_err-write_counted-clause-sent
 returns-in_err-write_counted-clause-sent g c =
-    let h : WritesPrefix (g.S.Sink.sent c.write_bytes.new.sink) (g.S.Sink.sent c.write_counted.new.sink) (counted_text c.args.count.counted) = search rules in
-    fails _ _ _ _ _ (search rules) (three_2 _ _ _ (codes ", :count {") (counted_text c.args.count.counted) _ c.in_ok-write_bytes.ensures.sent.0.0 h) c.in_err-write_counted.ensures.sent.1.1
+    let h : WritesPrefix (g.S.Sink.sent c.write_bytes.new.sink)
+    (g.S.Sink.sent c.write_counted.new.sink) (counted_text c.args.count.counted) = search rules in
+    fails _ _ _ _ _ (search rules) (three_2 _ _ _ (codes ", :count {")
+    (counted_text c.args.count.counted) _ c.in_ok-write_bytes.ensures.sent.0.0 h)
+    c.in_err-write_counted.ensures.sent.1.1
 
 pub returns-clause-sent : goal.returns-clause-sent
 returns-clause-sent g c =
-    let p1 : Appends (g.S.Sink.sent c.write_bytes.new.sink) (g.S.Sink.sent c.write_counted.new.sink) (counted_text c.args.count.counted) = search rules in
-    sends_third _ _ _ _ _ _ (codes ", :count {") (counted_text c.args.count.counted) ((codes ", :from " ++ decimal c.args.count.from) ++ codes "}") c.in_ok-write_bytes.ensures.sent.0.0 p1 c.write_start.ensures.sent
+    let p1 : Appends (g.S.Sink.sent c.write_bytes.new.sink) (g.S.Sink.sent c.write_counted.new.sink)
+    (counted_text c.args.count.counted) = search rules in
+    sends_third _ _ _ _ _ _ (codes ", :count {") (counted_text c.args.count.counted)
+    ((codes ", :from " ++ decimal c.args.count.from) ++ codes "}")
+    c.in_ok-write_bytes.ensures.sent.0.0 p1 c.write_start.ensures.sent
