@@ -83,6 +83,6 @@ is_refute h r limit status out (inl (short, es, denotes, inl answered)) = record
 }
 is_refute h r limit status out (inl (short, es, denotes, inr fault)) = record {
   output = inl (short, es, denotes, inr fault);
-  refuted = λ e. absurd (malformed_not_no (sym fault.3 ∙ e));
+  refuted = λ e. absurd (malformed_not_no (sym fault.3.0 ∙ e));
 }
 is_refute h r limit status out (inr v) = record { output = inr v; refuted = λ e. absurd (unsearched_no_no h v.0 v.1 (sym v.2 ∙ e)) }

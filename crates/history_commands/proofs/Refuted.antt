@@ -1,5 +1,5 @@
 -- The answers to reasons on a history.
-use Rattle.std.proofs.Common.{◌≡◌, ◌≢◌, ◌∙◌, ◌<◌, ◌≤◌, ℕ, true, false, List, length, map, get_or, All, Any, Contains, refl, ap, sym, arith}
+use Rattle.std.proofs.Common.{◌≡◌, ◌≢◌, ◌∙◌, ◌<◌, ◌≤◌, ℕ, true, false, List, length, map, get_or, All, Any, Contains, inl, inr, refl, ap, sym, arith}
 use Rattle.std.specs.Prelude.{count_by, is_some}
 use Rattle.std.specs.List.{AllZip, list_any}
 use Rattle.std.proofs.lemmas.List.Folds.{Any-from_list_any}
@@ -15,8 +15,8 @@ use Rattle.refutation.specs.declared.reason.Reason.{Reason}
 use Rattle.refutation.specs.declared.refuting.Refutation.{Refutation}
 use Rattle.refutation.specs.declared.refuting.Refutation.TheVariants.{Impossible, NotShown, NoPart, OtherObject}
 use Rattle.refutation.specs.Refutations.{IsAnswer, is_impossible}
-use Rattle.history_commands.specs.Refuted.{refutations_text, refute_status, AreAnswered}
-use Rattle.outputs.specs.Statuses.{failed_status, no_memory_status, no_status}
+use Rattle.history_commands.specs.Refuted.{refutation_lines, refutations_text, refute_status, AreAnswered, IsRefuteText}
+use Rattle.outputs.specs.Statuses.{failed_status, malformed_status}
 use Rattle.history_commands.proofs.AllFound.{no_of, not_failed}
 
 -- how many operations did not fail
@@ -40,6 +40,14 @@ counted es objects x n calls some =
     let cs = all_at (λ (o : ObjectCalls). calls_of o.ops ≡ calls_on o.object (denoted es)) objects calls o (in_from_contains objects o (some.0, some.2, some.3)) in
     some.4.1 ∙ ap length cs ∙ ap (λ y. length (calls_on y (denoted es))) some.4.0
 
+-- how many calls the object has is said only where no order is valid
+pub same_lines : (es : List Event) (n whole limit : ℕ) (reason : Reason) (answer : Refutation) → (is_impossible answer ≡ true → n ≡ whole)
+    → refutation_lines es n limit reason answer ≡ refutation_lines es whole limit reason answer
+same_lines es n whole limit reason (Impossible part) e = ap (λ m. refutation_lines es m limit reason (Impossible part)) (e refl)
+same_lines es n whole limit reason (NotShown part why) e = refl
+same_lines es n whole limit reason NoPart e = refl
+same_lines es n whole limit reason OtherObject e = refl
+
 -- the object of a reason that shows that no order is valid is named
 pub named_by : (es : List Event) (reason : Reason) (answer : Refutation) → IsAnswer es reason answer → is_impossible answer ≡ true → IsNamed es reason.object
 named_by es reason (Impossible part) a e = a.own_object (λ q. absurd cc)
@@ -60,3 +68,10 @@ answered es reasons limit answers each impossible = record {
   text_is = refl;
   refuted = λ e. impossible (Any-from_list_any is_impossible answers (no_of (list_any is_impossible answers) false e));
 }
+
+malformed_not_failed : malformed_status ≢ failed_status
+malformed_not_failed e = absurd cc
+
+pub text_not_failed : (h r : List ℕ) (limit status : ℕ) (text : List ℕ) → IsRefuteText h r limit status text → status ≢ failed_status
+text_not_failed h r limit status text (short, es, denotes, inl answered) = never_failed answered.5.answers answered.5.status_is
+text_not_failed h r limit status text (short, es, denotes, inr fault) = λ e. malformed_not_failed (sym fault.3.0 ∙ e)

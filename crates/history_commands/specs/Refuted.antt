@@ -60,11 +60,17 @@ IsReasonsFault r status text =
 abbrev pub object_text : Reason → List ℕ
 object_text reason = codes "object " ++ decimal reason.object
 
--- how many calls the part has of those of the reason's object
-abbrev pub of_operations : List Event → Reason → ObjectCalls → List ℕ
-of_operations es reason part =
-    decimal (length (calls_of part.ops))
-    ++ (codes " of " ++ decimal (length (calls_on reason.object (denoted es))))
+-- as 3 of 80: how many calls the part has, of this many
+abbrev pub counts_text : ℕ → ObjectCalls → List ℕ
+counts_text whole part =
+    decimal (length (calls_of part.ops)) ++ (codes " of " ++ decimal whole)
+
+-- the line of a part that has no valid order, of an object of this many calls
+abbrev pub shown_line : ℕ → Reason → ObjectCalls → List ℕ
+shown_line whole reason part =
+    codes "not linearizable: "
+    ++ (object_text reason
+    ++ (codes ": " ++ (counts_text whole part ++ codes " operations have no valid order\n")))
 
 -- why it is not shown that no order is valid
 abbrev pub doubt_text : ℕ → Doubt → List ℕ
@@ -75,23 +81,27 @@ doubt_text limit OutOfSteps =
 doubt_text limit doubt.TooLarge = codes ": not shown: too large\n"
 doubt_text limit doubt.NoMemory = codes ": not shown: out of memory\n"
 
--- the lines of an answer: where no order is valid, the operations of the part too
-abbrev pub refutation_lines : List Event → ℕ → Reason → Refutation → List ℕ
-refutation_lines es limit reason (Impossible part) =
-    (codes "not linearizable: " ++ object_text reason)
-    ++ (codes ": " ++ (of_operations es reason part
-    ++ (codes " operations have no valid order\n" ++ operations_text false es part.ops)))
-refutation_lines es limit reason (NotShown part why) = object_text reason ++ doubt_text limit why
-refutation_lines es limit reason NoPart =
+-- the lines of an answer on an object of this many calls: where no order is valid, with the
+-- operations of the part
+abbrev pub refutation_lines : List Event → ℕ → ℕ → Reason → Refutation → List ℕ
+refutation_lines es whole limit reason (Impossible part) =
+    shown_line whole reason part ++ operations_text false es part.ops
+refutation_lines es whole limit reason (NotShown part why) =
+    object_text reason ++ doubt_text limit why
+refutation_lines es whole limit reason NoPart =
     object_text reason ++ codes ": not shown: the cuts name no part\n"
-refutation_lines es limit reason OtherObject =
+refutation_lines es whole limit reason OtherObject =
     object_text reason ++ codes ": not shown: it is not in the history\n"
+
+-- how many calls the object of a reason has
+abbrev pub call_count_on : List Event → Reason → ℕ
+call_count_on es reason = length (calls_on reason.object (denoted es))
 
 abbrev pub refutations_text : List Event → ℕ → List Reason → List Refutation → List ℕ
 refutations_text es limit [] answers = []
 refutations_text es limit (r ∷ rs) [] = []
 refutations_text es limit (r ∷ rs) (a ∷ answers) =
-    refutation_lines es limit r a ++ refutations_text es limit rs answers
+    refutation_lines es (call_count_on es r) limit r a ++ refutations_text es limit rs answers
 
 -- no, where one reason shows it, else open
 abbrev pub refute_status : List Refutation → ℕ

@@ -3,12 +3,11 @@
 ghost use Rattle.std.specs.Prelude.{◌≡◌, ◌⊎◌, ◌++◌, false, true, length, map, Any, Contains, OnOk};
 ghost use Rattle.std.specs.Prelude.{IfOk, IfErr, is_some};
 ghost use Rattle.std.specs.List.{AllZip, list_any};
-ghost use Rattle.model.specs.Orders.{calls_on};
-ghost use Rattle.events.specs.Events.{denoted};
 ghost use Rattle.events.specs.Operations.{call_of, calls_of};
 ghost use Rattle.refutation.specs.Refutations.{is_impossible, IsAnswer};
 ghost use Rattle.history_commands.specs.Refuted as spec;
-ghost use Rattle.history_commands.specs.Refuted.{doubt_text, refutation_lines, refutations_text};
+ghost use Rattle.history_commands.specs.Refuted.{counts_text, doubt_text, refutation_lines};
+ghost use Rattle.history_commands.specs.Refuted.{refutations_text, shown_line};
 ghost use Rattle.history_commands.specs.Refuted.{refute_status, AreAnswered, AreAnsweredIn};
 ghost use Rattle.history_commands.specs.Refuted.{IsOfText, IsReasonsFault, IsRefute, IsRefuteText};
 ghost use Rattle.history_commands.specs.Searches.{IsUnsearched};
@@ -118,26 +117,30 @@ fn push_object(text: &mut Vec<u8>, reason: &Reason) -> Result<(), AllocError>
     push_decimal(text, u64::from(reason.object))
 }
 
-/// The lines of a part that shows that no order is valid of the object's calls, this many.
+/// How many operations the part has, of this many.
+fn push_counts(text: &mut Vec<u8>, whole: usize, part: &ObjectHistory) -> Result<(), AllocError>
+    ensures { OnOk result (text.new.items ≡ text.old.items ++ counts_text whole part.now) }
+{
+    push_decimal(text, call_count(part) as u64)?;
+    text.extend_from_slice(b" of ")?;
+    push_decimal(text, whole as u64)
+}
+
+/// The line of a part that has no valid order, of an object of this many operations.
 fn push_shown(
     text: &mut Vec<u8>,
-    history: &History,
     whole: usize,
     reason: &Reason,
     part: &ObjectHistory,
 ) -> Result<(), AllocError>
-    requires whole { whole ≡ length (calls_on reason.now.object (denoted history.now)) }
     ensures { OnOk result (text.new.items ≡ text.old.items
-        ++ refutation_lines history.now 0 reason.now (Refutation.Impossible part.now)) }
+        ++ shown_line whole reason.now part.now) }
 {
     text.extend_from_slice(b"not linearizable: ")?;
     push_object(text, reason)?;
     text.extend_from_slice(b": ")?;
-    push_decimal(text, call_count(part) as u64)?;
-    text.extend_from_slice(b" of ")?;
-    push_decimal(text, whole as u64)?;
-    text.extend_from_slice(b" operations have no valid order\n")?;
-    push_operations(text, false, history, part)
+    push_counts(text, whole, part)?;
+    text.extend_from_slice(b" operations have no valid order\n")
 }
 
 /// Why it is not shown that no order is valid.
@@ -166,7 +169,7 @@ fn push_unfit(text: &mut Vec<u8>, reason: &Reason, why: &[u8]) -> Result<(), All
     text.extend_from_slice(why)
 }
 
-/// The lines of the answer to a reason on an object of this many calls.
+/// The lines of the answer to a reason on an object of this many operations.
 fn push_answer(
     text: &mut Vec<u8>,
     history: &History,
@@ -175,13 +178,14 @@ fn push_answer(
     reason: &Reason,
     answer: &Refutation,
 ) -> Result<(), AllocError>
-    requires whole { is_impossible answer.now ≡ true
-        → whole ≡ length (calls_on reason.now.object (denoted history.now)) }
     ensures { OnOk result (text.new.items ≡ text.old.items
-        ++ refutation_lines history.now steps reason.now answer.now) }
+        ++ refutation_lines history.now whole steps reason.now answer.now) }
 {
     match answer {
-        Refutation::Impossible(part) => push_shown(text, history, whole, reason, part),
+        Refutation::Impossible(part) => {
+            push_shown(text, whole, reason, part)?;
+            push_operations(text, false, history, part)
+        }
         Refutation::NotShown { part: _, doubt } => {
             push_object(text, reason)?;
             push_doubt(text, steps, *doubt)
