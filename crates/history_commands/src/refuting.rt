@@ -1,13 +1,15 @@
 //! The check of reasons, from anybody, why a history is not linearizable.
 
-ghost use Rattle.std.specs.Prelude.{◌≡◌, ◌⊎◌, ◌++◌, false, true, length, map, Any, Contains, OnOk};
-ghost use Rattle.std.specs.Prelude.{IfOk, IfErr, is_some};
+ghost use Rattle.std.specs.Prelude.{◌≡◌, ◌⊎◌, ◌++◌, false, true, length, map, All, Any, Contains};
+ghost use Rattle.std.specs.Prelude.{ℕ, IfOk, IfErr, OnOk, is_some};
 ghost use Rattle.std.specs.List.{AllZip, list_any};
+ghost use Rattle.model.specs.Orders.{calls_on};
+ghost use Rattle.events.specs.Events.{IsNamed, denoted};
 ghost use Rattle.events.specs.Operations.{call_of, calls_of};
 ghost use Rattle.refutation.specs.Refutations.{is_impossible, IsAnswer};
 ghost use Rattle.history_commands.specs.Refuted as spec;
 ghost use Rattle.history_commands.specs.Refuted.{counts_text, doubt_text, refutation_lines};
-ghost use Rattle.history_commands.specs.Refuted.{refutations_text, shown_line};
+ghost use Rattle.history_commands.specs.Refuted.{call_count_on, refutations_text, shown_line};
 ghost use Rattle.history_commands.specs.Refuted.{refute_status, AreAnswered, AreAnsweredIn};
 ghost use Rattle.history_commands.specs.Refuted.{IsOfText, IsReasonsFault, IsRefute, IsRefuteText};
 ghost use Rattle.history_commands.specs.Searches.{IsUnsearched};
@@ -170,7 +172,7 @@ fn push_unfit(text: &mut Vec<u8>, reason: &Reason, why: &[u8]) -> Result<(), All
 }
 
 /// The lines of the answer to a reason on an object of this many operations.
-fn push_answer(
+fn push_answer_on(
     text: &mut Vec<u8>,
     history: &History,
     whole: usize,
@@ -197,6 +199,26 @@ fn push_answer(
     }
 }
 
+/// The lines of the answer to a reason on one of the objects of the history.
+fn push_answer(
+    text: &mut Vec<u8>,
+    history: &History,
+    objects: &[ObjectHistory],
+    steps: u32,
+    reason: &Reason,
+    answer: &Refutation,
+) -> Result<(), AllocError>
+    requires calls { All (λ o. calls_of o.ops ≡ calls_on o.object (denoted history.now)) objects.now }
+    requires named { (x : ℕ) → IsNamed history.now x → Contains (map (λ o. o.object) objects.now) x }
+    requires answer { IsAnswer history.now reason.now answer.now }
+    ensures { OnOk result (text.new.items ≡ text.old.items
+        ++ refutation_lines history.now (call_count_on history.now reason.now) steps
+        reason.now answer.now) }
+{
+    let whole = call_count_of(objects, reason.object);
+    push_answer_on(text, history, whole, steps, reason, answer)
+}
+
 /// The lines of all answers.
 fn text_of(
     alloc: Global,
@@ -217,8 +239,7 @@ fn text_of(
         let [answer, later_answers @ ..] = answers_left else {
             break 'reasons;
         };
-        let whole = call_count_of(&objects, reason.object);
-        push_answer(&mut text, history, whole, steps, reason, answer)?;
+        push_answer(&mut text, history, &objects, steps, reason, answer)?;
         reasons_left = later_reasons;
         answers_left = later_answers;
     }
