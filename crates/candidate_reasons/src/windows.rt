@@ -154,3 +154,32 @@ pub(crate) fn takers_in(
         .copied()
         .collect(alloc)
 }
+
+/// Where a count in a window begins: the call at which the part begins, if it begins at one, and
+/// the number from which calls are counted in it.
+#[derive(Clone, Copy)]
+pub(crate) struct CountStart {
+    pub(crate) part: Option<u32>,
+    pub(crate) count: u32,
+}
+
+/// How a count in a window with these takers can begin. A window from moment 0 on is counted from
+/// the beginning. In another one the part begins with the first taker, or else only the count does:
+/// of the takers that overlap the first one the part would have none.
+pub(crate) fn starts_in(
+    alloc: Global,
+    takers: &[TimedCall],
+    window: Window,
+) -> Result<Vec<CountStart>, AllocError> {
+    let first = takers.iter().map(|taker| taker.number).min().unwrap_or(0);
+    let mut starts = Vec::new(alloc);
+    let part = if window.from == 0 { None } else { Some(first) };
+    starts.push(CountStart { part, count: 0 })?;
+    if window.from > 0 {
+        starts.push(CountStart {
+            part: None,
+            count: first,
+        })?;
+    }
+    Ok(starts)
+}
