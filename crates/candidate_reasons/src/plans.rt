@@ -307,15 +307,15 @@ impl Plan {
                 cuts.push(self.entry(alloc, key)?)?;
                 self.push_window(cuts)
             }
-            (Kind::Queue | Kind::Stack | Kind::Heap | Kind::Map, _) => {
-                self.push_keeping(alloc, history, cuts)?;
-                self.push_window(cuts)
-            }
-            (Kind::Register, _) => {
+            (Kind::Register, _) if self.all_values => {
                 self.push_window(cuts)?;
                 self.push_keeping(alloc, history, cuts)
             }
             (Kind::Mutex, _) => self.push_window(cuts),
+            _ => {
+                self.push_keeping(alloc, history, cuts)?;
+                self.push_window(cuts)
+            }
         }
     }
 

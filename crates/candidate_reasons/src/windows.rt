@@ -164,21 +164,28 @@ pub(crate) struct CountStart {
 }
 
 /// How a count in a window with these takers can begin. A window from moment 0 on is counted from
-/// the beginning. In another one the part begins with the first taker, or else only the count does:
-/// of the takers that overlap the first one the part would have none.
+/// the beginning. In another one the part begins with the first taker. Where others overlap it,
+/// which the part would not have, only the count can begin there.
 pub(crate) fn starts_in(
     alloc: Global,
     takers: &[TimedCall],
     window: Window,
 ) -> Result<Vec<CountStart>, AllocError> {
-    let first = takers.iter().map(|taker| taker.number).min().unwrap_or(0);
     let mut starts = Vec::new(alloc);
-    let part = if window.from == 0 { None } else { Some(first) };
+    let Some(first) = takers.iter().min_by_key(|taker| taker.begin).copied() else {
+        return Ok(starts);
+    };
+    let is_whole = window.from == 0;
+    let part = if is_whole { None } else { Some(first.number) };
     starts.push(CountStart { part, count: 0 })?;
-    if window.from > 0 {
+    let overlapping = takers
+        .iter()
+        .filter(|taker| taker.begin < first.end)
+        .count();
+    if !is_whole && overlapping > 1 {
         starts.push(CountStart {
             part: None,
-            count: first,
+            count: first.number,
         })?;
     }
     Ok(starts)
