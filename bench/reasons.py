@@ -4,8 +4,9 @@
 
 PROGRAM reads a history from standard input and writes a line for each object: its number, the
 number of operations of the part, or `none`, the microseconds, and what the reason is. PLAIN is the
-plain finder: `PLAIN find FILE` says nothing of an object for which it finds an order. Of the others
-it is not known that they have none, so the share that is refuted may be too small.
+plain finder: `PLAIN find FILE` says nothing of an object for which it finds an order. Broken is an
+object of which one of the two finds a reason; of others it is not known. Each program runs three
+times on each history, and the least time counts.
 """
 import re
 import subprocess
@@ -18,7 +19,8 @@ PLAIN = re.compile(r"; object (\d+): (?:(\d+) operations of|no reason).*?([\d.]+
 def plain_answers(program, path):
     """The operations of the part, if there is one, and the milliseconds, of each object without an
     order."""
-    run = subprocess.run([program, "find", path], capture_output=True, text=True)
+    words = [program, "find", path, "--seconds", "2"]
+    run = subprocess.run(words, capture_output=True, text=True)
     answers = {}
     for line in run.stdout.splitlines():
         match = PLAIN.match(line)
@@ -61,7 +63,8 @@ def compare(program, plain, folder):
         names = dict(line.rstrip().split(" ", 1) for line in text)
     known = least(plain_answers, plain, history)
     own = least(answers, program, history)
-    broken = sorted(set(known) | {n for n, a in own.items() if a[0] is not None})
+    refuted = [n for n, a in known.items() if a[0] is not None]
+    broken = sorted({*refuted, *(n for n, a in own.items() if a[0] is not None)})
     found = [n for n in broken if own[n][0] is not None]
     missed = Counter(names[str(n)] for n in broken if own[n][0] is None)
     sizes = [size_of(own[n]) for n in found]
@@ -69,7 +72,7 @@ def compare(program, plain, folder):
     both = [n for n in found if n in known]
     ratio = middle([own[n][1] / max(known[n][1], 0.001) for n in both])
     print("%s: planted %d broken %d plain %d found %d; size %d..%d; ms %.1f..%.1f; ratio %.1f; missed %s" % (
-        folder.rsplit("/", 1)[-1], len(names), len(broken), sum(a[0] is not None for a in known.values()),
+        folder.rsplit("/", 1)[-1], len(names), len(broken), len(refuted),
         len(found), middle(sizes), max(sizes, default=0), middle(times), max(times, default=0), ratio,
         dict(missed)), flush=True)
 

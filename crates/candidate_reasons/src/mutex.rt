@@ -5,7 +5,7 @@ use crate::calls::{TimedCall, Timeline};
 use crate::candidates::{Candidate, of_container};
 use crate::patterns::Pattern;
 use crate::plans::Plan;
-use crate::windows::{shortest_window, takers_in};
+use crate::windows::{CountStart, shortest_window, starts_in, takers_in};
 use projection::{Count, Counted};
 use refutation::Evidence;
 use seq_objects::AnyOp;
@@ -25,29 +25,41 @@ fn calls_of(
         .collect(alloc)
 }
 
-/// The candidate of a window in which the takers take the content away too often.
+/// The candidate of a window in which these calls take the content away too often.
 fn window_candidate(
+    alloc: Global,
+    inside: &[TimedCall],
+    counted: Counted,
+    start: CountStart,
+) -> Candidate {
+    let mut plan = Plan::of(Vec::new(alloc));
+    plan.until = inside.iter().map(|taker| taker.until()).max();
+    plan.from = start.part;
+    plan.evidence = Evidence::Counting(Count {
+        counted,
+        from: start.count,
+    });
+    let weight = inside.len().saturating_mul(2);
+    of_container(Pattern::CountExceeded(counted), plan, weight)
+}
+
+/// The candidates of a window in which the takers take the content away too often.
+fn add_window(
     alloc: Global,
     takers: &[TimedCall],
     setters: &[TimedCall],
     counted: Counted,
-) -> Result<Option<Candidate>, AllocError> {
+    candidates: &mut Vec<Candidate>,
+) -> Result<(), AllocError> {
     let is_there_at_first = matches!(counted, Counted::Free);
     let Some(window) = shortest_window(alloc, takers, setters, is_there_at_first)? else {
-        return Ok(None);
+        return Ok(());
     };
     let inside = takers_in(alloc, takers, window)?;
-    let mut plan = Plan::of(Vec::new(alloc));
-    plan.until = inside.iter().map(|taker| taker.until()).max();
-    if window.from > 0 {
-        plan.from = inside
-            .iter()
-            .min_by_key(|taker| taker.begin)
-            .map(|taker| taker.number);
+    for start in &starts_in(alloc, &inside, window)? {
+        candidates.push(window_candidate(alloc, &inside, counted, *start))?;
     }
-    plan.evidence = Evidence::Counting(Count { counted, from: 0 });
-    let weight = inside.len().saturating_mul(2);
-    Ok(Some(of_container(Pattern::CountExceeded(counted), plan, weight)))
+    Ok(())
 }
 
 /// The windows in which a mutex is acquired, or released, too often.
@@ -58,11 +70,6 @@ pub(crate) fn add_mutex(
 ) -> Result<(), AllocError> {
     let acquires = calls_of(alloc, timeline, true)?;
     let releases = calls_of(alloc, timeline, false)?;
-    if let Some(found) = window_candidate(alloc, &acquires, &releases, Counted::Free)? {
-        candidates.push(found)?;
-    }
-    if let Some(found) = window_candidate(alloc, &releases, &acquires, Counted::Held)? {
-        candidates.push(found)?;
-    }
-    Ok(())
+    add_window(alloc, &acquires, &releases, Counted::Free, candidates)?;
+    add_window(alloc, &releases, &acquires, Counted::Held, candidates)
 }

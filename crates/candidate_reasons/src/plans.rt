@@ -205,17 +205,43 @@ impl Plan {
         !over && self.until.is_none_or(|until| operation.number < until)
     }
 
+    /// The number of the return of the call at which the plan begins; 0 where there is none.
+    fn begun(&self, operations: &[Invocation]) -> u32 {
+        let Some(from) = self.from else {
+            return 0;
+        };
+        let first = operations.iter().find(|o| o.number == from).copied();
+        match first.map(|operation| operation.end) {
+            Some(End::Returned { at, .. }) => at,
+            _ => 0,
+        }
+    }
+
+    /// Whether the operation is a refused swap that overlaps the beginning of a plan of all values,
+    /// which is this number, or its end. It is pending there, so it can set a value, and has to
+    /// stay.
+    fn is_cut_swap(&self, operation: &Invocation, begun: u32) -> bool {
+        let (AnyOp::Cas(..), End::Returned { at, .. }) = (operation.op, operation.end) else {
+            return false;
+        };
+        let is_cut = operation.number < begun || self.until.is_some_and(|until| at >= until);
+        self.all_values && is_cut && self.touches(operation)
+    }
+
     /// The cut that keeps the plan's values and operations.
     fn keeping(&self, alloc: Global, history: &ObjectHistory) -> Result<Cut, AllocError> {
         let operations = history.ops();
         let choice = self.choice(alloc, operations)?;
         let optional = self.optional(alloc)?;
         let is_register = history.kind() == Kind::Register;
+        let begun = self.begun(operations);
         let mut numbers = BTreeSet::new(alloc);
         for operation in operations {
             let kept = match role_of(&choice, operation) {
                 Role::Kept => !is_register || self.touches(operation),
-                Role::Optional => optional.contains(&operation.number),
+                Role::Optional => {
+                    optional.contains(&operation.number) || self.is_cut_swap(operation, begun)
+                }
                 Role::LeftOut => false,
             };
             if kept {
@@ -281,15 +307,15 @@ impl Plan {
                 cuts.push(self.entry(alloc, key)?)?;
                 self.push_window(cuts)
             }
-            (Kind::Queue | Kind::Stack | Kind::Heap | Kind::Map, _) => {
-                self.push_keeping(alloc, history, cuts)?;
-                self.push_window(cuts)
-            }
-            (Kind::Register, _) => {
+            (Kind::Register, _) if self.all_values => {
                 self.push_window(cuts)?;
                 self.push_keeping(alloc, history, cuts)
             }
             (Kind::Mutex, _) => self.push_window(cuts),
+            _ => {
+                self.push_keeping(alloc, history, cuts)?;
+                self.push_window(cuts)
+            }
         }
     }
 

@@ -1,6 +1,7 @@
 //! Swaps of a register that are refused while the value that they expect surely is there.
 
 use crate::accesses::{Access, CellCalls, Need};
+use crate::calls::{PENDING, TimedCall};
 use crate::candidates::Candidate;
 use crate::cells::{MOST, Scene, of_cell};
 use crate::patterns::Pattern;
@@ -104,6 +105,33 @@ fn last_shown(shown: &[Shown], content: usize, moment: u32) -> Option<Shown> {
     }
 }
 
+/// The call that shows, at or after this one, that the content is there last. Where a content is
+/// set once it stays until then.
+fn last_sight(scene: &Scene, shown: &[Shown], first: Shown) -> Shown {
+    if scene.setters.count(first.content) != 1 {
+        return first;
+    }
+    last_shown(shown, first.content, PENDING).unwrap_or(first)
+}
+
+/// The plan of a swap that is refused while the content is there that these calls show.
+fn refusal_plan(
+    alloc: Global,
+    access: &Access,
+    first: TimedCall,
+    last: TimedCall,
+) -> Result<Plan, AllocError> {
+    let mut elements = Vec::new(alloc);
+    for call in [first, access.call, last] {
+        elements.push(Element::Operation(call.number))?;
+    }
+    let mut plan = Plan::of(elements);
+    plan.all_values = true;
+    plan.from = Some(first.number);
+    plan.until = Some(access.call.until().max(last.until()));
+    Ok(plan)
+}
+
 /// What is wrong with a refused swap, if something is.
 fn refused(
     alloc: Global,
@@ -115,23 +143,20 @@ fn refused(
     let Need::IsNot(content) = access.need else {
         return Ok(None);
     };
-    let Some(last) = last_shown(shown, content, access.call.begin) else {
+    let Some(first) = last_shown(shown, content, access.call.begin) else {
         return Ok(None);
     };
-    let (Some(value), Some(call)) = (scene.value(content), scene.call_at(last.place)) else {
-        return Ok(None);
-    };
-    if others_over(overs, content, access.call.end) >= last.begin {
+    let last = last_sight(scene, shown, first);
+    let end = access.call.end;
+    if last.begin < end && others_over(overs, content, end) >= last.begin {
         return Ok(None);
     }
+    let calls = (scene.call_at(first.place), scene.call_at(last.place));
+    let (Some(value), (Some(first), Some(last))) = (scene.value(content), calls) else {
+        return Ok(None);
+    };
     let number = access.call.number;
-    let mut elements = Vec::new(alloc);
-    elements.push(Element::Operation(call.number))?;
-    elements.push(Element::Operation(number))?;
-    let mut plan = Plan::of(elements);
-    plan.all_values = true;
-    plan.from = Some(call.number);
-    plan.until = Some(access.call.until());
+    let plan = refusal_plan(alloc, access, first, last)?;
     let pattern = Pattern::RefusedUnderItsValue { value, number };
     Ok(Some(of_cell(scene.cell, pattern, plan, 2)))
 }

@@ -205,8 +205,8 @@ impl<'a> Judge<'a> {
         }
         for _ in 0..MOST_ROUNDS {
             let before = measure_of(plan);
-            self.end_early(plan)?;
             self.begin_late(plan)?;
+            self.end_early(plan)?;
             self.keep_few(plan)?;
             if measure_of(plan) == before {
                 break;

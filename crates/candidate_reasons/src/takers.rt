@@ -5,7 +5,7 @@ use crate::calls::TimedCall;
 use crate::candidates::Candidate;
 use crate::cells::{MOST, MOST_NAMED, Scene, cell_plan, of_cell};
 use crate::patterns::Pattern;
-use crate::windows::{shortest_window, takers_in};
+use crate::windows::{CountStart, shortest_window, starts_in, takers_in};
 use projection::{Count, Counted};
 use refutation::Evidence;
 use std::alloc::{AllocError, Global};
@@ -29,11 +29,11 @@ fn in_part(counted: Counted) -> Counted {
     }
 }
 
-/// The count, from the beginning on, in the part of a cell's plan.
-fn evidence_of(counted: Counted) -> Evidence {
+/// The count, from this number on, in the part of a cell's plan.
+fn evidence_of(counted: Counted, from: u32) -> Evidence {
     Evidence::Counting(Count {
         counted: in_part(counted),
-        from: 0,
+        from,
     })
 }
 
@@ -106,7 +106,7 @@ fn excess_candidate(
 ) -> Result<Candidate, AllocError> {
     let mut plan = cell_plan(alloc, scene.cell, &[content], takers)?;
     plan.until = takers.last().map(|taker| taker.until());
-    plan.evidence = evidence_of(counted);
+    plan.evidence = evidence_of(counted, 0);
     let taken = takers.len();
     let set = taken.saturating_sub(1);
     let pattern = match scene.value(content) {
@@ -148,32 +148,46 @@ pub(crate) fn add_excesses(
     Ok(())
 }
 
-/// The candidate of a content that is taken away in a window more often than it can have been
-/// there.
+/// The candidate of a content that these calls take away in a window more often than it can have
+/// been there.
 fn window_candidate(
+    alloc: Global,
+    scene: &Scene,
+    content: usize,
+    inside: &[TimedCall],
+    counted: Counted,
+    start: CountStart,
+) -> Result<Candidate, AllocError> {
+    let mut plan = cell_plan(alloc, scene.cell, &[content], inside)?;
+    plan.until = inside.last().map(|taker| taker.until());
+    plan.from = start.part;
+    plan.evidence = evidence_of(counted, start.count);
+    let weight = inside.len().saturating_mul(2);
+    let pattern = Pattern::CountExceeded(counted);
+    Ok(of_cell(scene.cell, pattern, plan, weight))
+}
+
+/// The candidates of a content that is taken away in a window more often than it can have been
+/// there. Whether there are some.
+fn add_window(
     alloc: Global,
     scene: &Scene,
     content: usize,
     takers: &[TimedCall],
     setters: &[TimedCall],
-    counted: Counted,
-) -> Result<Option<Candidate>, AllocError> {
+    candidates: &mut Vec<Candidate>,
+) -> Result<bool, AllocError> {
+    let Some(counted) = counted(scene.cell, content) else {
+        return Ok(false);
+    };
     let Some(window) = shortest_window(alloc, takers, setters, content == NOTHING)? else {
-        return Ok(None);
+        return Ok(false);
     };
     let inside = takers_in(alloc, takers, window)?;
-    let mut plan = cell_plan(alloc, scene.cell, &[content], &inside)?;
-    plan.until = inside.last().map(|taker| taker.until());
-    if window.from > 0 {
-        plan.from = inside
-            .iter()
-            .min_by_key(|taker| taker.begin)
-            .map(|taker| taker.number);
+    for start in &starts_in(alloc, &inside, window)? {
+        candidates.push(window_candidate(alloc, scene, content, &inside, counted, *start)?)?;
     }
-    plan.evidence = evidence_of(counted);
-    let weight = inside.len().saturating_mul(2);
-    let pattern = Pattern::CountExceeded(counted);
-    Ok(Some(of_cell(scene.cell, pattern, plan, weight)))
+    Ok(true)
 }
 
 /// The contents that are set more than once and in a window taken away more often than they can
@@ -187,16 +201,9 @@ pub(crate) fn add_windows(
     let setters = by_content(alloc, scene.cell, |access| access.sets)?;
     let mut found: usize = 0;
     for content in 0..scene.cell.contents.len() {
-        let Some(counted) = counted(scene.cell, content) else {
-            continue;
-        };
         let own = calls_on(alloc, &takers, content)?;
         let set = calls_on(alloc, &setters, content)?;
-        if own.len() < 2 {
-            continue;
-        }
-        if let Some(candidate) = window_candidate(alloc, scene, content, &own, &set, counted)? {
-            candidates.push(candidate)?;
+        if own.len() >= 2 && add_window(alloc, scene, content, &own, &set, candidates)? {
             found = found.saturating_add(1);
         }
         if found >= MOST {

@@ -154,3 +154,39 @@ pub(crate) fn takers_in(
         .copied()
         .collect(alloc)
 }
+
+/// Where a count in a window begins: the call at which the part begins, if it begins at one, and
+/// the number from which calls are counted in it.
+#[derive(Clone, Copy)]
+pub(crate) struct CountStart {
+    pub(crate) part: Option<u32>,
+    pub(crate) count: u32,
+}
+
+/// How a count in a window with these takers can begin. A window from moment 0 on is counted from
+/// the beginning. In another one the part begins with the first taker. Where others overlap it,
+/// which the part would not have, only the count can begin there.
+pub(crate) fn starts_in(
+    alloc: Global,
+    takers: &[TimedCall],
+    window: Window,
+) -> Result<Vec<CountStart>, AllocError> {
+    let mut starts = Vec::new(alloc);
+    let Some(first) = takers.iter().min_by_key(|taker| taker.begin).copied() else {
+        return Ok(starts);
+    };
+    let is_whole = window.from == 0;
+    let part = if is_whole { None } else { Some(first.number) };
+    starts.push(CountStart { part, count: 0 })?;
+    let overlapping = takers
+        .iter()
+        .filter(|taker| taker.begin < first.end)
+        .count();
+    if !is_whole && overlapping > 1 {
+        starts.push(CountStart {
+            part: None,
+            count: first.number,
+        })?;
+    }
+    Ok(starts)
+}
