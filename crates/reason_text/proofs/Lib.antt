@@ -1,2 +1,5 @@
 pub mod Elements
 pub mod Reading
+pub mod Rising
+pub mod Sending
+pub mod Writing

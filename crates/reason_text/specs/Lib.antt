@@ -1,3 +1,4 @@
 pub mod Denotes
 pub mod Faults
 pub mod Lines
+pub mod Written

@@ -7,6 +7,7 @@ mod cut_writer;
 mod evidence;
 mod fault;
 mod reader;
+mod set_writer;
 mod sets;
 mod writer;
 

@@ -1,26 +1,41 @@
 //! Reasons as text.
 
-ghost use Rattle.std.specs.Prelude.{◌≡◌, ◌++◌, false, true, codes, decimal, OnOk, IfErr};
+ghost use Rattle.std.specs.Prelude.{◌≡◌, ◌≤◌, ◌++◌, false, true, codes, decimal, OnOk, IfErr};
+ghost use Rattle.std.specs.Fmt.{signed_decimal};
 ghost use Rattle.byte_streams.specs.Sent.{Writes};
+ghost use Rattle.edn_reader.specs.Text.{IsInt64};
+ghost use Rattle.reason_text.specs.Denotes.{max_number};
 ghost use Rattle.reason_text.specs.Lines as text;
+ghost use Rattle.reason_text.specs.Lines.{AreInRange, SpellsReasons};
+ghost use Rattle.reason_text.specs.Written.{IsTypedCounted, IsTypedEvidence, IsTypedReason};
 
-use crate::cut_writer::{write_cuts, write_integer_after, write_number_after};
+use crate::cut_writer::write_cuts;
+use crate::set_writer::{write_integer_after, write_number_after};
 use edn::{Failed, Sink, WriteFault, write_bytes};
 use projection::{Count, Counted};
 use refutation::{Evidence, Reason};
+
+/// A value under a key.
+fn write_entry<S: Sink>(key: i64, value: i64, sink: &mut S) -> Result<(), Failed>
+    requires { S.broken sink.old ≡ false }
+    ensures sent { Writes result (S.sent sink.old) (S.sent sink.new) (S.broken sink.new)
+        ((codes ":key " ++ signed_decimal key) ++ (codes ", :value " ++ signed_decimal value)) }
+    ensures in_range { IsInt64 key × IsInt64 value }
+{
+    write_integer_after(b":key ", key, sink)?;
+    write_integer_after(b", :value ", value, sink)
+}
 
 /// What is counted.
 fn write_counted<S: Sink>(counted: Counted, sink: &mut S) -> Result<(), Failed>
     requires { S.broken sink.old ≡ false }
     ensures sent { Writes result (S.sent sink.old) (S.sent sink.new) (S.broken sink.new)
         (text.counted_text counted) }
+    ensures typed { IsTypedCounted counted }
 {
     match counted {
         Counted::Value(value) => write_integer_after(b":value ", value, sink),
-        Counted::Entry { key, value } => {
-            write_integer_after(b":key ", key, sink)?;
-            write_integer_after(b", :value ", value, sink)
-        }
+        Counted::Entry { key, value } => write_entry(key, value, sink),
         Counted::NoEntry(key) => write_integer_after(b":key ", key, sink),
         Counted::Held => write_bytes(b":held true", sink),
         Counted::Free => write_bytes(b":free true", sink),
@@ -32,6 +47,7 @@ fn write_start<S: Sink>(from: u32, sink: &mut S) -> Result<(), Failed>
     requires { S.broken sink.old ≡ false }
     ensures sent { Writes result (S.sent sink.old) (S.sent sink.new) (S.broken sink.new)
         ((codes ", :from " ++ decimal from) ++ codes "}") }
+    ensures in_range { from ≤ max_number }
 {
     write_number_after(b", :from ", from, sink)?;
     write_bytes(b"}", sink)
@@ -42,6 +58,7 @@ fn write_count<S: Sink>(count: Count, sink: &mut S) -> Result<(), Failed>
     requires { S.broken sink.old ≡ false }
     ensures sent { Writes result (S.sent sink.old) (S.sent sink.new) (S.broken sink.new)
         (text.count_text count) }
+    ensures typed { OnOk result (IsTypedCounted count.counted × (count.from ≤ max_number)) }
 {
     write_bytes(b", :count {", sink)?;
     write_counted(count.counted, sink)?;
@@ -53,6 +70,7 @@ fn write_evidence<S: Sink>(evidence: Evidence, sink: &mut S) -> Result<(), Faile
     requires { S.broken sink.old ≡ false }
     ensures sent { Writes result (S.sent sink.old) (S.sent sink.new) (S.broken sink.new)
         (text.evidence_text evidence) }
+    ensures typed { OnOk result (IsTypedEvidence evidence) }
 {
     match evidence {
         Evidence::Search => Ok(()),
@@ -65,6 +83,7 @@ fn write_open_reason<S: Sink>(reason: &Reason, sink: &mut S) -> Result<(), Faile
     requires { S.broken sink.old ≡ false }
     ensures sent { Writes result (S.sent sink.old) (S.sent sink.new) (S.broken sink.new)
         (text.open_reason_text reason.now) }
+    ensures typed { OnOk result (IsTypedReason reason.now) }
 {
     write_number_after(b"{:object ", reason.object, sink)?;
     write_cuts(&reason.cuts, sink)?;
@@ -76,6 +95,7 @@ fn write_line<S: Sink>(reason: &Reason, sink: &mut S) -> Result<(), Failed>
     requires { S.broken sink.old ≡ false }
     ensures sent { Writes result (S.sent sink.old) (S.sent sink.new) (S.broken sink.new)
         (text.line_of reason.now) }
+    ensures typed { OnOk result (IsTypedReason reason.now) }
 {
     write_open_reason(reason, sink)?;
     write_bytes(b"}\n", sink)
@@ -86,6 +106,9 @@ pub fn write_reasons<S: Sink>(reasons: &[Reason], sink: &mut S) -> Result<(), Wr
     requires working { S.broken sink.old ≡ false }
     ensures sent { Writes result (S.sent sink.old) (S.sent sink.new) (S.broken sink.new)
         (text.lines_of reasons.now) }
+    // What went out reads back as these reasons.
+    ensures spelled { OnOk result (AreInRange reasons.now →
+        SpellsReasons reasons.now (text.lines_of reasons.now)) }
     ensures device { IfErr result (λ e. e ≡ WriteFault.Device) }
 {
     for reason in reasons {
