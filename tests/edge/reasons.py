@@ -14,7 +14,7 @@ from .texts import lines
 VALUE = r"nil|false|-?\d+|\[-?\d+ -?\d+\]"
 TOLD = re.compile(
     rf"maps? (\d+)(?: and (\d+))?: process (\d+), :([\w-]+) ({VALUE})(?:, :ok ({VALUE}))?"
-    rf"(?:, counted as :([\w-]+) ({VALUE})(?:, :ok ({VALUE}))?)?(, pending)?"
+    rf"(?:, counted as :([\w-]+) ({VALUE})(?:, :ok ({VALUE}))?)?(, pending|, failed)?"
 )
 IMPOSSIBLE = re.compile(r"; object (\d+): impossible")
 OPEN = re.compile(r"; object (\d+): (out of memory|out of steps after \d+|too large)")
@@ -192,7 +192,8 @@ def why_not_shown(history, on, operations, reason):
             return f"no operation: {line}"
         if not is_of_history(maps, told, on):
             return f"not in the history: {line}"
-        calls.append(call_of(told))
+        if told[10] != ", failed":
+            calls.append(call_of(told))
     if count_in(reason):
         return None if is_overdrawn(count_in(reason), calls) else "the count is not exceeded"
     if not calls or len(calls) <= MOST_ORDERED and has_order(calls):
@@ -227,7 +228,7 @@ def operations_on(history, on):
 
 def refuted(history, on, operations):
     """What refute says of a reason whose part has these operations."""
-    part, whole = len(operations), operations_on(history, on)
+    part, whole = sum(not it.endswith(", failed") for it in operations), operations_on(history, on)
     return lines(f"not linearizable: object {on}: {part} of {whole} operations have no valid order", *operations)
 
 

@@ -193,6 +193,7 @@ fn push_said(text: &mut Vec<u8>, told: &Invocation, counted: &Invocation) -> Res
     push_end(text, counted.end)
 }
 
+/// The same of the operation with what the history has at its numbers.
 fn push_recorded(
     text: &mut Vec<u8>,
     events: &[Event],
