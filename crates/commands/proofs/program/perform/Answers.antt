@@ -17,3 +17,6 @@ returns-in-Run g c = record { performs = rw c.in-Run.is c.report_run.ensures.lea
 
 pub returns-in-Simulate : goal.returns-in-Simulate
 returns-in-Simulate g c = record { performs = rw c.in-Simulate.is c.report_simulation.ensures.leaves }
+
+pub returns-in-Refute : goal.returns-in-Refute
+returns-in-Refute g c = record { performs = rw c.in-Refute.is c.report_refutation.ensures.leaves }
