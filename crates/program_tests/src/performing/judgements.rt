@@ -16,32 +16,11 @@ struct JudgeRow {
     status: u8,
 }
 
-/// A cas fails, since the register contains 1: the write of 2 came first.
-const FAILED_CAS: &str = "{:process 0, :type :invoke, :f :write, :value 1}\n\
-    {:process 1, :type :invoke, :f :write, :value 2}\n\
-    {:process 0, :type :ok, :f :write, :value 1}\n\
-    {:process 1, :type :ok, :f :write, :value 2}\n\
-    {:process 0, :type :invoke, :f :cas, :value [2 9]}\n\
-    {:process 0, :type :ok, :f :cas, :value false}";
-
-const JUDGEMENTS: [JudgeRow; 6] = [
+const JUDGEMENTS: [JudgeRow; 4] = [
     JudgeRow {
         history: HELD,
         steps: 0,
         output: "yes: 3 operations, 1 objects\nmutex: 1 objects, 3 operations\n",
-        status: 0,
-    },
-    // the second write comes first, which the finder does not try
-    JudgeRow {
-        history: FAILED_CAS,
-        steps: 0,
-        output: "; object 0: out of steps after 0\n",
-        status: 3,
-    },
-    JudgeRow {
-        history: FAILED_CAS,
-        steps: 100,
-        output: "yes: 3 operations, 1 objects\nregister: 1 objects, 3 operations\n",
         status: 0,
     },
     JudgeRow {
@@ -128,6 +107,45 @@ fn a_history_alone_is_answered_yes_as_with_certificates(rt: HostRuntime) -> Resu
         let is_so = output.as_slice() == row.output.as_bytes() && status == 0;
         assert!(rt; is_so, "{}", row.name);
     }
+    Ok(())
+}
+
+/// Twelve writes overlap, and the first must come last: else a cas would find its value.
+fn first_write_last(alloc: Global) -> Result<String, Fail> {
+    let mut text = String::new(alloc);
+    for word in ["invoke", "ok"] {
+        for write in 0..12 {
+            let map = format!(in alloc;
+                "{{:process {write} :type :{word} :f :write :value {write}}}\n"
+            )?;
+            text.push_str(&map)?;
+        }
+    }
+    for value in 1..12 {
+        let begun = format!(in alloc;
+            "{{:process 0 :type :invoke :f :cas :value [{value} 99]}}\n"
+        )?;
+        text.push_str(&begun)?;
+        text.push_str("{:process 0 :type :ok :f :cas :value false}\n")?;
+    }
+    Ok(text)
+}
+
+/// The finder does not try this order, so it takes a search.
+#[test]
+fn an_order_may_take_too_many_steps(rt: HostRuntime) -> Result<(), Fail> {
+    let history = first_write_last(rt.alloc())?;
+    let line = judging(rt.alloc(), 0)?;
+    check_output(
+        &rt,
+        &line,
+        &history,
+        "; object 0: out of steps after 0\n",
+        3,
+    );
+    let line = judging(rt.alloc(), 1_000_000)?;
+    let yes = "yes: 23 operations, 1 objects\nregister: 1 objects, 23 operations\n";
+    check_output(&rt, &line, &history, yes, 0);
     Ok(())
 }
 
