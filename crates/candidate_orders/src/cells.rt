@@ -1,12 +1,11 @@
 //! Registers and maps, where each value is set once at most in each cell: the orders of the cells,
 //! merged by gaps.
 
-use crate::accesses::{CellCalls, cells_of};
-use crate::calls::TimedCall;
 use crate::links::links_of;
 use crate::refusing::with_refusals;
 use crate::runs::order_of_runs;
 use std::alloc::{AllocError, Global};
+use timed_calls::{CellCalls, Timeline, cells_of};
 
 /// The places of one cell's calls in an order that may be valid.
 fn cell_order(alloc: Global, cell: &CellCalls) -> Result<Option<Vec<usize>>, AllocError> {
@@ -32,9 +31,9 @@ fn add_cell(
     let mut gap = 0;
     for place in order {
         if let Some(access) = cell.accesses.get(*place) {
-            gap = access.begin.max(gap);
+            gap = access.call.begin.max(gap);
             let turn = merged.len();
-            merged.push((gap, turn, access.number))?;
+            merged.push((gap, turn, access.call.number))?;
         }
     }
     Ok(())
@@ -43,10 +42,10 @@ fn add_cell(
 /// An order of the calls that may be valid.
 pub(crate) fn cells_order(
     alloc: Global,
-    calls: &[TimedCall],
+    timeline: &Timeline,
 ) -> Result<Option<Vec<i64>>, AllocError> {
     let mut merged = Vec::new(alloc);
-    for cell in &cells_of(alloc, calls)? {
+    for cell in &cells_of(alloc, &timeline.calls)? {
         let Some(order) = cell_order(alloc, cell)? else {
             return Ok(None);
         };

@@ -5,10 +5,10 @@
 //! return and that extract allow. That a heap of such calls has a valid order only where this finds
 //! a gap for each is not proved.
 
-use crate::calls::{PENDING, TimedCall, moment_count};
 use crate::gaps::Gaps;
 use crate::residences::{Residence, Residences};
 use std::alloc::{AllocError, Global};
+use timed_calls::{PENDING, TimedCall, Timeline};
 
 /// What comes first in one gap: extracts by rising value, each after its insert where that is in
 /// the same gap, then calls that find nothing, then inserts of what is extracted later.
@@ -139,11 +139,11 @@ fn give_removals(alloc: Global, residences: &mut Residences) -> Result<(), Alloc
 /// An order of the calls that may be valid.
 pub(crate) fn heap_order(
     alloc: Global,
-    calls: &[TimedCall],
+    timeline: &Timeline,
     mut residences: Residences,
 ) -> Result<Option<Vec<i64>>, AllocError> {
     give_removals(alloc, &mut residences)?;
-    let end = moment_count(calls);
+    let end = timeline.end;
     let mut gaps = Gaps::new(alloc, end)?;
     let mut placed = Vec::new(alloc);
     if !place_all(&mut gaps, &mut placed, &residences, end)? {

@@ -6,8 +6,6 @@
 //! a pending call may be needed, or values may come more than once.
 #![tactic(auto)]
 
-mod accesses;
-mod calls;
 mod cells;
 mod gaps;
 mod heap;

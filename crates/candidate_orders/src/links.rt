@@ -1,9 +1,8 @@
 //! How the calls of one cell follow one another, where each value is set once at most: which call
 //! sets a value, which see it, and which takes it away and sets the next.
 
-use crate::accesses::{Access, CellCalls, NOTHING, Need};
-use crate::calls::PENDING;
 use std::alloc::{AllocError, Global};
+use timed_calls::{Access, CellCalls, NOTHING, Need};
 
 /// For each value the call that sets it; none where two do.
 fn setters_of(
@@ -34,7 +33,7 @@ fn setters_of(
 fn returned(alloc: Global, accesses: &[Access]) -> Result<Vec<usize>, AllocError> {
     let mut places = Vec::new(alloc);
     for (place, access) in accesses.iter().enumerate() {
-        if access.end != PENDING {
+        if !access.call.is_pending() {
             places.push(place)?;
         }
     }
@@ -147,11 +146,11 @@ fn linked(
 /// the same value, or nothing sets one that is there.
 pub(crate) fn links_of(alloc: Global, cell: &CellCalls) -> Result<Option<Links>, AllocError> {
     let accesses = cell.accesses.as_slice();
-    let Some(setters) = setters_of(alloc, accesses, cell.values)? else {
+    let Some(setters) = setters_of(alloc, accesses, cell.contents.len())? else {
         return Ok(None);
     };
     let Some(kept) = happened(alloc, accesses, &setters)? else {
         return Ok(None);
     };
-    linked(alloc, accesses, &kept, cell.values)
+    linked(alloc, accesses, &kept, cell.contents.len())
 }

@@ -1,6 +1,5 @@
 //! The methods of looking for an order of the calls of an object.
 
-use crate::calls::{TimedCall, timed_calls};
 use crate::cells::cells_order;
 use crate::heap::heap_order;
 use crate::mutex::mutex_order;
@@ -11,6 +10,7 @@ use events::{Invocation, ObjectHistory};
 use order_search::{Outcome, TryFirst, find_order};
 use seq_objects::Kind;
 use std::alloc::{AllocError, Global};
+use timed_calls::{Timeline, timeline_of};
 
 /// A method of looking for an order.
 #[derive(Clone, Copy, Debug, PartialEq, Eq)]
@@ -25,15 +25,15 @@ pub enum Method {
 fn residences_order(
     alloc: Global,
     kind: Kind,
-    calls: &[TimedCall],
+    timeline: &Timeline,
 ) -> Result<Option<Vec<i64>>, AllocError> {
-    let Some(residences) = residences_of(alloc, calls)? else {
+    let Some(residences) = residences_of(alloc, &timeline.calls)? else {
         return Ok(None);
     };
     match kind {
-        Kind::Queue => queue_order(alloc, calls, residences),
-        Kind::Stack => stack_order(alloc, calls, residences),
-        Kind::Heap => heap_order(alloc, calls, residences),
+        Kind::Queue => queue_order(alloc, timeline, residences),
+        Kind::Stack => stack_order(alloc, timeline, residences),
+        Kind::Heap => heap_order(alloc, timeline, residences),
         _ => Ok(None),
     }
 }
@@ -44,11 +44,11 @@ fn order_of_kind(
     kind: Kind,
     operations: &[Invocation],
 ) -> Result<Option<Vec<i64>>, AllocError> {
-    let calls = timed_calls(alloc, operations)?;
+    let timeline = timeline_of(alloc, operations)?;
     match kind {
-        Kind::Register | Kind::Map => cells_order(alloc, &calls),
-        Kind::Mutex => mutex_order(alloc, &calls),
-        Kind::Queue | Kind::Stack | Kind::Heap => residences_order(alloc, kind, &calls),
+        Kind::Register | Kind::Map => cells_order(alloc, &timeline),
+        Kind::Mutex => mutex_order(alloc, &timeline),
+        Kind::Queue | Kind::Stack | Kind::Heap => residences_order(alloc, kind, &timeline),
     }
 }
 

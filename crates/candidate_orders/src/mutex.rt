@@ -2,10 +2,10 @@
 //! of its kind that are running, the one that returns first. All acquires are alike, and so are all
 //! releases, so nothing better can be chosen.
 
-use crate::calls::{TimedCall, moments_of};
 use seq_objects::AnyOp;
 use std::alloc::{AllocError, Global};
 use std::collections::BTreeSet;
+use timed_calls::{TimedCall, Timeline, moments_of};
 
 /// Calls that run and are not placed, by the moment of their return.
 #[derive(Debug, Drop)]
@@ -95,14 +95,14 @@ fn places_in_order(alloc: Global, calls: &[TimedCall]) -> Result<Option<Vec<usiz
 /// An order of the calls that may be valid.
 pub(crate) fn mutex_order(
     alloc: Global,
-    calls: &[TimedCall],
+    timeline: &Timeline,
 ) -> Result<Option<Vec<i64>>, AllocError> {
-    let Some(places) = places_in_order(alloc, calls)? else {
+    let Some(places) = places_in_order(alloc, &timeline.calls)? else {
         return Ok(None);
     };
     let mut order = Vec::new(alloc);
     for place in &places {
-        if let Some(call) = calls.get(*place) {
+        if let Some(call) = timeline.calls.get(*place) {
             order.push(call.number as i64)?;
         }
     }

@@ -7,10 +7,10 @@
 //! leads nowhere back to itself (Henzinger, Sezgin, Vafeiadis, CONCUR 2013), which is not proved
 //! here.
 
-use crate::calls::{TimedCall, moment_count};
 use crate::gaps::Gaps;
 use crate::residences::{NEVER, Residence, Residences};
 use std::alloc::{AllocError, Global};
+use timed_calls::Timeline;
 
 /// A call that finds nothing, and its gap.
 #[derive(Clone, Copy, Debug)]
@@ -293,11 +293,11 @@ fn give_removals(alloc: Global, residences: &mut Residences) -> Result<(), Alloc
 /// An order of the calls that may be valid.
 pub(crate) fn queue_order(
     alloc: Global,
-    calls: &[TimedCall],
+    timeline: &Timeline,
     mut residences: Residences,
 ) -> Result<Option<Vec<i64>>, AllocError> {
     give_removals(alloc, &mut residences)?;
-    let Some(cuts) = cuts_of(alloc, &residences, moment_count(calls))? else {
+    let Some(cuts) = cuts_of(alloc, &residences, timeline.end)? else {
         return Ok(None);
     };
     let mut rows = Vec::new(alloc);

@@ -1,9 +1,8 @@
 //! Calls that ask that a cell does not hold a value, put into an order of its other calls.
 
-use crate::accesses::{Access, NOTHING, Need};
-use crate::calls::PENDING;
 use std::alloc::{AllocError, Global};
 use std::collections::BTreeSet;
+use timed_calls::{Access, NOTHING, Need, PENDING};
 
 /// A place in the order, before one of its calls or after them all.
 #[derive(Clone, Copy, Debug)]
@@ -35,7 +34,7 @@ fn spots_before(
     for place in order {
         if let Some(access) = accesses.get(*place) {
             spot.holds = access.sets.unwrap_or(spot.holds);
-            spot.greatest_begin = spot.greatest_begin.max(access.begin);
+            spot.greatest_begin = spot.greatest_begin.max(access.call.begin);
         }
         spots.push(spot)?;
     }
@@ -53,7 +52,7 @@ fn add_behind(spots: &mut [Spot], accesses: &[Access], order: &[usize]) {
             let end = order
                 .get(k)
                 .and_then(|place| accesses.get(*place))
-                .map_or(PENDING, |access| access.end);
+                .map_or(PENDING, |access| access.call.end);
             spot.least_end = next.least_end.min(end);
             spot.next_other = if next.holds == spot.holds {
                 next.next_other
@@ -89,7 +88,7 @@ impl Floor {
 
 /// The first spot for a call that asks that the cell does not hold a value.
 fn spot_for(spots: &[Spot], access: &Access, value: usize, floor: usize) -> Option<usize> {
-    let begin = access.begin;
+    let begin = access.call.begin;
     let first = spots
         .partition_point(|spot| spot.least_end < begin)
         .max(floor);
@@ -100,7 +99,7 @@ fn spot_for(spots: &[Spot], access: &Access, value: usize, floor: usize) -> Opti
         first
     };
     let there = spots.get(place)?;
-    if there.greatest_begin < access.end {
+    if there.greatest_begin < access.call.end {
         Some(place)
     } else {
         None
@@ -127,11 +126,11 @@ fn spots_for(
         let Need::IsNot(value) = access.need else {
             return Ok(None);
         };
-        floor.rise(access.begin);
+        floor.rise(access.call.begin);
         let Some(spot) = spot_for(spots, access, value, floor.least) else {
             return Ok(None);
         };
-        floor.running.insert((access.end, spot))?;
+        floor.running.insert((access.call.end, spot))?;
         found.push((spot, *place))?;
     }
     found.sort_unstable();

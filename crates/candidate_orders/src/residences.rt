@@ -2,9 +2,9 @@
 //! and removals are paired in the order of their begins, and each pair counts as a value of its
 //! own.
 
-use crate::calls::{PENDING, TimedCall};
 use seq_objects::{AnyOp, AnyReply};
 use std::alloc::{AllocError, Global};
+use timed_calls::{PENDING, TimedCall};
 
 /// The moment that a value is taken which nobody takes: after that of a call that is pending.
 pub(crate) const NEVER: u32 = 0xffff_ffff;

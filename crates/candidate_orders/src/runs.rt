@@ -6,10 +6,9 @@
 //! begin of its calls. Where the return comes first, the cell is in that run's hands over the whole
 //! zone, so such zones may not overlap; another run stands at one gap, outside of these zones.
 
-use crate::accesses::{Access, NOTHING};
-use crate::calls::PENDING;
 use crate::links::Links;
 use std::alloc::{AllocError, Global};
+use timed_calls::{Access, NOTHING};
 
 /// The end of a zone that reaches after all moments.
 const FOREVER: i64 = 0x1_0000_0000;
@@ -79,10 +78,10 @@ fn run_of(accesses: &[Access], places: Vec<usize>) -> Run {
         let Some(access) = accesses.get(*place) else {
             break;
         };
-        if access.end != PENDING {
-            run.first_return = run.first_return.min(access.end as i64 - 1);
+        if !access.call.is_pending() {
+            run.first_return = run.first_return.min(access.call.end as i64 - 1);
         }
-        run.last_begin = run.last_begin.max(access.begin as i64);
+        run.last_begin = run.last_begin.max(access.call.begin as i64);
         run.empties = access.sets == Some(NOTHING);
     }
     run

@@ -6,11 +6,11 @@
 //! others, and any that can be put before them all and taken after them all may be that one. That a
 //! stack of such calls has a valid order only where this finds one is not proved.
 
-use crate::calls::{TimedCall, moment_count};
 use crate::gaps::Gaps;
 use crate::residences::{Residence, Residences};
 use crate::trees::{ABSENT, Counts, Least};
 use std::alloc::{AllocError, Global};
+use timed_calls::{TimedCall, Timeline};
 
 /// What is left to be done, the last first.
 #[derive(Clone, Copy, Debug)]
@@ -390,13 +390,13 @@ fn apart(
 /// An order of the calls that may be valid.
 pub(crate) fn stack_order(
     alloc: Global,
-    calls: &[TimedCall],
+    timeline: &Timeline,
     mut residences: Residences,
 ) -> Result<Option<Vec<i64>>, AllocError> {
     give_removals(alloc, &mut residences)?;
     let (long, short) = apart(alloc, &residences.residences)?;
     let mut ordering = Ordering {
-        values: Values::new(alloc, long, moment_count(calls))?,
+        values: Values::new(alloc, long, timeline.end)?,
         tasks: Vec::new(alloc),
         turns: Vec::new(alloc),
     };

@@ -1,9 +1,9 @@
 //! Candidates: a pattern that was found, and the plan of a reason that it makes.
 
-use crate::calls::TimedCall;
 use crate::patterns::Pattern;
 use crate::plans::{Element, Plan};
 use std::alloc::{AllocError, Global};
+use timed_calls::TimedCall;
 
 /// A pattern that was found, at a map with its key, and the plan of a reason. The weight tells
 /// roughly how many operations the plan keeps.

@@ -1,7 +1,5 @@
 //! Patterns of the cells of registers and maps.
 
-use crate::accesses::{Access, CellCalls, NOTHING, Need, cells_of};
-use crate::calls::{TimedCall, Timeline};
 use crate::candidates::Candidate;
 use crate::patterns::Pattern;
 use crate::plans::{Element, Plan};
@@ -10,6 +8,7 @@ use crate::sights::{Setters, Sight, Sights};
 use crate::takers::{add_excesses, add_windows};
 use crate::zones::add_zones;
 use std::alloc::{AllocError, Global};
+use timed_calls::{Access, CellCalls, NOTHING, Need, TimedCall, Timeline, cells_of};
 
 /// The most candidates of one pattern in one cell.
 pub(crate) const MOST: usize = 8;

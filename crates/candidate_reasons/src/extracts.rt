@@ -1,13 +1,13 @@
 //! Extracts of a heap under smaller values: at each moment at which the value can have been taken a
 //! smaller one surely is in.
 
-use crate::calls::TimedCall;
 use crate::candidates::{Candidate, of_container, plan_until};
 use crate::intervals::{Interval, values_of, weight_of};
 use crate::patterns::Pattern;
 use crate::runs::Runs;
 use crate::trees::{Greatest, Mark};
 use std::alloc::{AllocError, Global};
+use timed_calls::TimedCall;
 
 /// The most candidates.
 const MOST: usize = 4;

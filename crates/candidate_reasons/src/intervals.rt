@@ -1,12 +1,12 @@
 //! Times in which a value surely is in a queue, stack or heap, and calls that find nothing though
 //! at each moment of theirs some value surely is in.
 
-use crate::calls::{PENDING, TimedCall};
 use crate::candidates::{Candidate, of_container, plan_until};
 use crate::patterns::Pattern;
 use crate::runs::{Run, Runs};
 use crate::trees::{Mark, NONE};
 use std::alloc::{AllocError, Global};
+use timed_calls::{PENDING, TimedCall};
 
 /// The most candidates of one pattern.
 const MOST: usize = 4;

@@ -7,8 +7,6 @@
 //! do not find each reason.
 #![tactic(auto)]
 
-mod accesses;
-mod calls;
 mod candidates;
 mod cells;
 mod extracts;

@@ -1,7 +1,6 @@
 //! Mutexes: in a window of time one is acquired, or released, more often than it can have been
 //! free, or held.
 
-use crate::calls::{TimedCall, Timeline};
 use crate::candidates::{Candidate, of_container};
 use crate::patterns::Pattern;
 use crate::plans::Plan;
@@ -10,6 +9,7 @@ use projection::{Count, Counted};
 use refutation::Evidence;
 use seq_objects::AnyOp;
 use std::alloc::{AllocError, Global};
+use timed_calls::{TimedCall, Timeline};
 
 /// The acquires, or else the releases.
 fn calls_of(

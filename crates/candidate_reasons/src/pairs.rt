@@ -1,11 +1,11 @@
 //! Two values of a queue or stack in the wrong order, each put in once.
 
-use crate::calls::PENDING;
 use crate::candidates::{Candidate, of_container, plan_until};
 use crate::patterns::Pattern;
 use crate::runs::Runs;
 use crate::trees::{Greatest, Mark, NONE};
 use std::alloc::{AllocError, Global};
+use timed_calls::PENDING;
 
 /// The most candidates of one pattern.
 const MOST: usize = 8;

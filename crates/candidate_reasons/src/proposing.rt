@@ -1,6 +1,5 @@
 //! The search for reasons: the patterns, the smallest first, and each made smaller.
 
-use crate::calls::{Timeline, timeline_of};
 use crate::candidates::Candidate;
 use crate::cells::add_cells;
 use crate::extracts::add_extracts;
@@ -18,6 +17,7 @@ use projection::{Cut, part_by};
 use refutation::{Reason, Refutation, refute};
 use seq_objects::Kind;
 use std::alloc::{AllocError, Global};
+use timed_calls::{Timeline, timeline_of};
 
 /// A reason that no order is valid, which need not be true, with the pattern that led to it, and at
 /// a map the key that the pattern is about.

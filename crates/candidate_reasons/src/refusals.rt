@@ -1,12 +1,11 @@
 //! Swaps of a register that are refused while the value that they expect surely is there.
 
-use crate::accesses::{Access, CellCalls, Need};
-use crate::calls::{PENDING, TimedCall};
 use crate::candidates::Candidate;
 use crate::cells::{MOST, Scene, of_cell};
 use crate::patterns::Pattern;
 use crate::plans::{Element, Plan};
 use std::alloc::{AllocError, Global};
+use timed_calls::{Access, CellCalls, Need, PENDING, TimedCall};
 
 /// A call that shows a content, and the one that begins last among those that show the same and
 /// return no later.

@@ -1,7 +1,7 @@
 //! What calls of a cell set and show, by time.
 
-use crate::accesses::CellCalls;
 use std::alloc::{AllocError, Global};
+use timed_calls::CellCalls;
 
 /// A call that sets a content: when it begins, and when all calls that set the same and begin no
 /// later are over.

@@ -1,13 +1,13 @@
 //! Patterns of one value in a queue, stack or heap: it is taken more often, or earlier, than it is
 //! put in.
 
-use crate::calls::TimedCall;
 use crate::candidates::{Candidate, of_container, plan_until};
 use crate::patterns::Pattern;
 use crate::runs::{Run, Runs};
 use projection::{Count, Counted};
 use refutation::Evidence;
 use std::alloc::{AllocError, Global};
+use timed_calls::TimedCall;
 
 /// The most candidates of this kind.
 const MOST: usize = 8;

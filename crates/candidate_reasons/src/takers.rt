@@ -1,7 +1,5 @@
 //! Contents of a cell that are taken away more often than they are set.
 
-use crate::accesses::{Access, CellCalls, NOTHING, Need};
-use crate::calls::TimedCall;
 use crate::candidates::Candidate;
 use crate::cells::{MOST, MOST_NAMED, Scene, cell_plan, of_cell};
 use crate::patterns::Pattern;
@@ -9,6 +7,7 @@ use crate::windows::{CountStart, shortest_window, starts_in, takers_in};
 use projection::{Count, Counted};
 use refutation::Evidence;
 use std::alloc::{AllocError, Global};
+use timed_calls::{Access, CellCalls, NOTHING, Need, TimedCall};
 
 /// What of a cell is counted; nothing for a register that contains nothing, which no call counts.
 fn counted(cell: &CellCalls, content: usize) -> Option<Counted> {

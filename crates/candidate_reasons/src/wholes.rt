@@ -1,13 +1,13 @@
 //! Plans that keep everything of an object of few operations, or of a map's key: where no pattern
 //! leads to a reason, such a plan is made smaller.
 
-use crate::calls::{TimedCall, Timeline};
 use crate::candidates::Candidate;
 use crate::patterns::Pattern;
 use crate::plans::{Element, Plan};
 use seq_objects::{AnyOp, AnyReply, Kind};
 use std::alloc::{AllocError, Global};
 use std::collections::BTreeSet;
+use timed_calls::{TimedCall, Timeline};
 
 /// The most calls of a plan that keeps everything.
 const MOST: usize = 64;

@@ -1,8 +1,8 @@
 //! Windows of time in which a content is taken away more often than it can have been there.
 
-use crate::calls::{PENDING, TimedCall};
 use crate::trees::Most;
 use std::alloc::{AllocError, Global};
+use timed_calls::{PENDING, TimedCall};
 
 /// What happens at a moment.
 #[derive(Clone, Copy)]

@@ -1,12 +1,11 @@
 //! Two values of a cell that are set once each, and each of which surely is there before the other
 //! one is.
 
-use crate::accesses::{Access, CellCalls, NOTHING, Need};
-use crate::calls::TimedCall;
 use crate::candidates::Candidate;
 use crate::cells::{MOST, Scene, cell_plan, of_cell};
 use crate::patterns::Pattern;
 use std::alloc::{AllocError, Global};
+use timed_calls::{Access, CellCalls, NOTHING, Need, TimedCall};
 
 /// Of the calls that need a content or set it the one that ends first, and the one that begins
 /// last, with their places.

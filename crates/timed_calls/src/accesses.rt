@@ -8,18 +8,18 @@ use std::alloc::{AllocError, Global};
 use std::collections::BTreeMap;
 
 /// The number of the content of an empty cell.
-pub(crate) const NOTHING: usize = 0;
+pub const NOTHING: usize = 0;
 
 /// What a call asks of what the cell contains before it.
-#[derive(Clone, Copy)]
-pub(crate) enum Need<C> {
+#[derive(Clone, Copy, PartialEq, Eq, Debug)]
+pub enum Need<C> {
     Any,
     Is(C),
     IsNot(C),
 }
 
 /// What a call asks and leaves, in values.
-#[derive(Clone, Copy)]
+#[derive(Clone, Copy, Debug)]
 struct Effect {
     key: Option<i64>,
     need: Need<Option<i64>>,
@@ -49,16 +49,16 @@ fn effect_of(call: &TimedCall) -> Option<Effect> {
 
 /// A call on one cell. Contents are told by their numbers in the cell. What sets the content that
 /// it asks for sets nothing.
-#[derive(Clone, Copy)]
-pub(crate) struct Access {
-    pub(crate) call: TimedCall,
-    pub(crate) need: Need<usize>,
-    pub(crate) sets: Option<usize>,
+#[derive(Clone, Copy, Debug)]
+pub struct Access {
+    pub call: TimedCall,
+    pub need: Need<usize>,
+    pub sets: Option<usize>,
 }
 
 impl Access {
     /// What the cell contains after it, if that is known.
-    pub(crate) fn shows(&self) -> Option<usize> {
+    pub fn shows(&self) -> Option<usize> {
         match (self.sets, self.need) {
             (Some(content), _) => Some(content),
             (None, Need::Is(content)) => Some(content),
@@ -68,23 +68,23 @@ impl Access {
 }
 
 /// The calls on one cell in the order of their invocations, and the contents by their numbers.
-#[derive(Drop)]
-pub(crate) struct CellCalls {
+#[derive(Debug, Drop)]
+pub struct CellCalls {
     /// The key of a map; nothing at a register.
-    pub(crate) key: Option<i64>,
-    pub(crate) accesses: Vec<Access>,
-    pub(crate) contents: Vec<Option<i64>>,
+    pub key: Option<i64>,
+    pub accesses: Vec<Access>,
+    pub contents: Vec<Option<i64>>,
 }
 
 impl CellCalls {
     /// The value of a content; none for nothing.
-    pub(crate) fn value(&self, content: usize) -> Option<i64> {
+    pub fn value(&self, content: usize) -> Option<i64> {
         self.contents.get(content).copied().flatten()
     }
 }
 
 /// The numbers of a cell's contents.
-#[derive(Drop)]
+#[derive(Debug, Drop)]
 struct Numbers {
     known: BTreeMap<i64, usize>,
     contents: Vec<Option<i64>>,
@@ -167,7 +167,7 @@ fn effects_of(alloc: Global, calls: &[TimedCall]) -> Result<Vec<(Effect, TimedCa
 }
 
 /// The calls of each cell.
-pub(crate) fn cells_of(alloc: Global, calls: &[TimedCall]) -> Result<Vec<CellCalls>, AllocError> {
+pub fn cells_of(alloc: Global, calls: &[TimedCall]) -> Result<Vec<CellCalls>, AllocError> {
     let effects = effects_of(alloc, calls)?;
     let mut rest = effects.as_slice();
     let mut cells = Vec::new(alloc);
