@@ -2,6 +2,7 @@
 
 use crate::patterns::Pattern;
 use crate::plans::{Element, Plan};
+use crate::runs::Runs;
 use std::alloc::{AllocError, Global};
 use timed_calls::TimedCall;
 
@@ -15,16 +16,48 @@ pub(crate) struct Candidate {
     pub(crate) weight: usize,
 }
 
-/// The plan that keeps these values and optional operations, until a number.
-pub(crate) fn plan_until(
+/// The values of runs, in rising order, each once, and since when.
+fn kept_of(
     alloc: Global,
-    values: &[i64],
+    runs: &Runs,
+    chain: &[usize],
+) -> Result<Vec<(i64, Option<u32>)>, AllocError> {
+    let mut kept = Vec::new(alloc);
+    for place in chain {
+        if let Some(run) = runs.runs.get(*place) {
+            kept.push((run.value, run.since))?;
+        }
+    }
+    kept.sort_unstable();
+    kept.dedup_by_key(|(value, _)| *value);
+    Ok(kept)
+}
+
+/// The values of runs, in rising order.
+pub(crate) fn values_of(
+    alloc: Global,
+    runs: &Runs,
+    chain: &[usize],
+) -> Result<Vec<i64>, AllocError> {
+    let kept = kept_of(alloc, runs, chain)?;
+    kept.iter().map(|(value, _)| *value).collect(alloc)
+}
+
+/// The plan that keeps the values of these runs and these optional operations, until a number. What
+/// was done with a value before the first of its runs is left out.
+pub(crate) fn plan_of_runs(
+    alloc: Global,
+    runs: &Runs,
+    chain: &[usize],
     optional: &[TimedCall],
     until: u32,
 ) -> Result<Plan, AllocError> {
     let mut elements = Vec::new(alloc);
-    for value in values {
-        elements.push(Element::Value(*value))?;
+    for (value, since) in &kept_of(alloc, runs, chain)? {
+        elements.push(match since {
+            None => Element::Value(*value),
+            Some(since) => Element::Since(*value, *since),
+        })?;
     }
     for call in optional {
         elements.push(Element::Operation(call.number))?;

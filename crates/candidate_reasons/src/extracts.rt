@@ -1,8 +1,8 @@
 //! Extracts of a heap under smaller values: at each moment at which the value can have been taken a
 //! smaller one surely is in.
 
-use crate::candidates::{Candidate, of_container, plan_until};
-use crate::intervals::{Interval, values_of, weight_of};
+use crate::candidates::{Candidate, of_container, plan_of_runs, values_of};
+use crate::intervals::{Interval, weight_of};
 use crate::patterns::Pattern;
 use crate::runs::Runs;
 use crate::trees::{Greatest, Mark};
@@ -83,10 +83,10 @@ impl Sweep {
         let Some(run) = runs.runs.get(place) else {
             return Ok(());
         };
-        let Some(put) = run.puts.first() else {
+        let Some(put) = runs.puts(run).first() else {
             return Ok(());
         };
-        for call in &run.takings {
+        for call in runs.takings(run) {
             let from = call.begin.max(put.begin);
             if from >= call.end || self.found.len() >= MOST_FOUND {
                 continue;
@@ -153,7 +153,7 @@ pub(crate) fn add_extracts(
     for covered in find_covered(alloc, runs, intervals)?.iter().take(MOST) {
         let values = values_of(alloc, runs, &covered.chain)?;
         let pattern = pattern_of(covered.value, &values);
-        let plan = plan_until(alloc, &values, &[], covered.call.until())?;
+        let plan = plan_of_runs(alloc, runs, &covered.chain, &[], covered.call.until())?;
         candidates.push(of_container(pattern, plan, covered.weight))?;
     }
     Ok(())

@@ -1,7 +1,7 @@
 //! Times in which a value surely is in a queue, stack or heap, and calls that find nothing though
 //! at each moment of theirs some value surely is in.
 
-use crate::candidates::{Candidate, of_container, plan_until};
+use crate::candidates::{Candidate, of_container, plan_of_runs};
 use crate::patterns::Pattern;
 use crate::runs::{Run, Runs};
 use crate::trees::{Mark, NONE};
@@ -75,24 +75,24 @@ fn add_steps(
     Ok(())
 }
 
-/// What happens to a run, in the order of time.
-fn steps_of(alloc: Global, run: &Run) -> Result<Vec<(u32, Step)>, AllocError> {
-    let mut steps = Vec::new(alloc);
-    add_steps(&mut steps, &run.puts, Step::PutBegins, Step::PutEnds)?;
+/// Sets the list to what happens to a run, in the order of time.
+fn set_steps(steps: &mut Vec<(u32, Step)>, runs: &Runs, run: &Run) -> Result<(), AllocError> {
+    steps.clear();
+    add_steps(steps, runs.puts(run), Step::PutBegins, Step::PutEnds)?;
     add_steps(
-        &mut steps,
-        &run.takings,
+        steps,
+        runs.takings(run),
         Step::TakingBegins,
         Step::TakingEnds,
     )?;
     steps.sort_unstable_by_key(|(at, _)| *at);
-    Ok(steps)
+    Ok(())
 }
 
 /// The moment up to which this many values of a run surely are in, of which nothing is known before
 /// this moment: pending takings can take those that no other call takes.
 fn known_until(runs: &Runs, run: &Run, many: usize, until: u32) -> u32 {
-    if many.saturating_add(run.takings.len()) > run.puts.len() {
+    if many.saturating_add(runs.takings(run).len()) > run.put_count() {
         return until;
     }
     let last = many.saturating_sub(1);
@@ -118,15 +118,14 @@ fn add_interval(
     Ok(())
 }
 
-/// Adds the intervals of one run.
+/// Adds the intervals of one run, to which this happens.
 fn add_run(
-    alloc: Global,
     runs: &Runs,
     place: usize,
     run: &Run,
+    steps: &[(u32, Step)],
     intervals: &mut Vec<Interval>,
 ) -> Result<(), AllocError> {
-    let steps = steps_of(alloc, run)?;
     let mut counts = Counts {
         begun: 0,
         put: 0,
@@ -155,8 +154,10 @@ fn add_run(
 /// The times in which values surely are in, by runs.
 pub(crate) fn intervals_of(alloc: Global, runs: &Runs) -> Result<Vec<Interval>, AllocError> {
     let mut intervals = Vec::new(alloc);
+    let mut steps = Vec::new(alloc);
     for (place, run) in runs.runs.iter().enumerate() {
-        add_run(alloc, runs, place, run, &mut intervals)?;
+        set_steps(&mut steps, runs, run)?;
+        add_run(runs, place, run, &steps, &mut intervals)?;
     }
     Ok(intervals)
 }
@@ -204,22 +205,6 @@ fn chain_over(
         at = mark.at;
     }
     Ok(None)
-}
-
-/// The values of runs.
-pub(crate) fn values_of(
-    alloc: Global,
-    runs: &Runs,
-    chain: &[usize],
-) -> Result<Vec<i64>, AllocError> {
-    let mut values = Vec::new(alloc);
-    for place in chain {
-        if let Some(run) = runs.runs.get(*place) {
-            values.push(run.value)?;
-        }
-    }
-    values.sort_unstable();
-    Ok(values)
 }
 
 /// How many calls the runs have.
@@ -270,8 +255,7 @@ pub(crate) fn add_empties(
         let Some(chain) = chain_over(alloc, &reach, &call, &mut links)? else {
             continue;
         };
-        let values = values_of(alloc, runs, &chain)?;
-        let plan = plan_until(alloc, &values, &[call], call.until())?;
+        let plan = plan_of_runs(alloc, runs, &chain, &[call], call.until())?;
         let number = call.number;
         let pattern = Pattern::SurelyNotEmpty { number };
         candidates.push(of_container(pattern, plan, weight.saturating_add(1)))?;

@@ -1,6 +1,6 @@
 //! Two values of a queue or stack in the wrong order, each put in once.
 
-use crate::candidates::{Candidate, of_container, plan_until};
+use crate::candidates::{Candidate, of_container, plan_of_runs};
 use crate::patterns::Pattern;
 use crate::runs::Runs;
 use crate::trees::{Greatest, Mark, NONE};
@@ -13,6 +13,8 @@ const MOST: usize = 8;
 /// A value that is put in once, and taken at most once.
 #[derive(Clone, Copy)]
 struct Pair {
+    /// The place of its run.
+    place: usize,
     value: i64,
     put_begin: u32,
     put_end: u32,
@@ -28,15 +30,16 @@ struct Pair {
 fn pairs_of(alloc: Global, runs: &Runs) -> Result<Vec<Pair>, AllocError> {
     let first_pending = runs.first_pending();
     let mut pairs = Vec::new(alloc);
-    for run in &runs.runs {
-        let (Some(put), 1, taken) = (run.puts.first(), run.puts.len(), run.takings.len()) else {
+    for (place, run) in runs.runs.iter().enumerate() {
+        let ([put], takings) = (runs.puts(run), runs.takings(run)) else {
             continue;
         };
-        if taken > 1 {
+        if takings.len() > 1 {
             continue;
         }
-        let taking = run.takings.first();
+        let taking = takings.first();
         pairs.push(Pair {
+            place,
             value: run.value,
             put_begin: put.begin,
             put_end: put.end,
@@ -71,10 +74,15 @@ fn returned(at: u32) -> Option<u32> {
 }
 
 /// The candidate of two values, of which the second is taken too early in a queue.
-fn queue_candidate(alloc: Global, first: &Pair, second: &Pair) -> Result<Candidate, AllocError> {
-    let values = [first.value, second.value];
-    let plan = plan_until(alloc, &values, &[], second.until)?;
-    let [first_value, second_value] = values;
+fn queue_candidate(
+    alloc: Global,
+    runs: &Runs,
+    first: &Pair,
+    second: &Pair,
+) -> Result<Candidate, AllocError> {
+    let places = [first.place, second.place];
+    let plan = plan_of_runs(alloc, runs, &places, &[], second.until)?;
+    let (first_value, second_value) = (first.value, second.value);
     let pattern = if first.gone == PENDING {
         Pattern::LeftBehind {
             first: first_value,
@@ -90,10 +98,15 @@ fn queue_candidate(alloc: Global, first: &Pair, second: &Pair) -> Result<Candida
 }
 
 /// The candidate of two values, of which the first is taken too early from a stack.
-fn stack_candidate(alloc: Global, first: &Pair, second: &Pair) -> Result<Candidate, AllocError> {
-    let values = [first.value, second.value];
-    let plan = plan_until(alloc, &values, &[], first.until)?;
-    let [first_value, second_value] = values;
+fn stack_candidate(
+    alloc: Global,
+    runs: &Runs,
+    first: &Pair,
+    second: &Pair,
+) -> Result<Candidate, AllocError> {
+    let places = [first.place, second.place];
+    let plan = plan_of_runs(alloc, runs, &places, &[], first.until)?;
+    let (first_value, second_value) = (first.value, second.value);
     let pattern = if second.gone == PENDING {
         Pattern::LeftAbove {
             first: first_value,
@@ -146,7 +159,7 @@ pub(crate) fn add_queue_pairs(
         if second.gone > latest.at || first.value == second.value {
             continue;
         }
-        candidates.push(queue_candidate(alloc, first, second)?)?;
+        candidates.push(queue_candidate(alloc, runs, first, second)?)?;
         found = found.saturating_add(1);
         if found >= MOST {
             break;
@@ -200,7 +213,7 @@ pub(crate) fn add_stack_pairs(
         if latest.at < first.gone || first.value == second.value {
             continue;
         }
-        candidates.push(stack_candidate(alloc, first, second)?)?;
+        candidates.push(stack_candidate(alloc, runs, first, second)?)?;
         found = found.saturating_add(1);
         if found >= MOST {
             break;

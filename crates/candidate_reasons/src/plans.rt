@@ -13,6 +13,9 @@ use std::collections::BTreeSet;
 #[derive(Clone, Copy)]
 pub(crate) enum Element {
     Value(i64),
+    /// A value of a queue, stack or heap, without what was done with it before this number, where
+    /// it surely was not in.
+    Since(i64, u32),
     Operation(u32),
 }
 
@@ -173,9 +176,11 @@ impl Plan {
         }
         let mut values = BTreeSet::new(alloc);
         for element in &self.elements {
-            if let Element::Value(value) = element {
-                values.insert(*value)?;
-            }
+            match element {
+                Element::Value(value) => values.insert(*value)?,
+                Element::Since(value, _) => values.insert(*value)?,
+                Element::Operation(_) => false,
+            };
         }
         Ok(Values::Only(values))
     }
@@ -284,7 +289,7 @@ impl Plan {
         Ok(())
     }
 
-    /// The cut that keeps the values and operations of a queue, stack, heap or map.
+    /// The cuts that keep the values and operations of a queue, stack, heap or map.
     pub(crate) fn push_keeping(
         &self,
         alloc: Global,
@@ -292,6 +297,11 @@ impl Plan {
         cuts: &mut Vec<Cut>,
     ) -> Result<(), AllocError> {
         cuts.push(self.keeping(alloc, history)?)?;
+        for element in &self.elements {
+            if let Element::Since(value, before) = *element {
+                cuts.push(Cut::Without { value, before })?;
+            }
+        }
         Ok(())
     }
 

@@ -1,7 +1,7 @@
 //! Patterns of one value in a queue, stack or heap: it is taken more often, or earlier, than it is
 //! put in.
 
-use crate::candidates::{Candidate, of_container, plan_until};
+use crate::candidates::{Candidate, of_container, plan_of_runs};
 use crate::patterns::Pattern;
 use crate::runs::{Run, Runs};
 use projection::{Count, Counted};
@@ -21,9 +21,14 @@ fn by_end(alloc: Global, calls: &[TimedCall]) -> Result<Vec<TimedCall>, AllocErr
 
 /// The first taking, in the order of their ends, that returns when fewer puts have begun than
 /// takings have ended, and how many had ended before it.
-fn excess(alloc: Global, run: &Run) -> Result<Option<(usize, TimedCall)>, AllocError> {
-    for (before, taking) in by_end(alloc, &run.takings)?.iter().enumerate() {
-        let put = run.puts.get(before);
+fn excess(
+    alloc: Global,
+    runs: &Runs,
+    run: &Run,
+) -> Result<Option<(usize, TimedCall)>, AllocError> {
+    let puts = runs.puts(run);
+    for (before, taking) in by_end(alloc, runs.takings(run))?.iter().enumerate() {
+        let put = puts.get(before);
         if put.is_none_or(|put| put.begin > taking.end) {
             return Ok(Some((before, *taking)));
         }
@@ -38,7 +43,7 @@ fn others(runs: &[Run], value: i64, at: usize) -> usize {
     let mut calls: usize = 0;
     for place in from..to {
         if place != at {
-            calls = calls.saturating_add(runs.get(place).map_or(0, |run| run.puts.len()));
+            calls = calls.saturating_add(runs.get(place).map_or(0, |run| run.put_count()));
         }
     }
     calls
@@ -67,19 +72,19 @@ pub(crate) fn add_singles(
 ) -> Result<(), AllocError> {
     let mut found: usize = 0;
     for (place, run) in runs.runs.iter().enumerate() {
-        let Some((before, taking)) = excess(alloc, run)? else {
+        let Some((before, taking)) = excess(alloc, runs, run)? else {
             continue;
         };
         let elsewhere = others(&runs.runs, run.value, place);
-        let puts = elsewhere.saturating_add(run.puts.len());
+        let puts = elsewhere.saturating_add(run.put_count());
         let taken = elsewhere.saturating_add(before).saturating_add(1);
         let pattern = pattern_of(run.value, puts, taken);
-        let mut plan = plan_until(alloc, &[run.value], &[], taking.until())?;
+        let mut plan = plan_of_runs(alloc, runs, &[place], &[], taking.until())?;
         plan.evidence = Evidence::Counting(Count {
             counted: Counted::Value(run.value),
             from: 0,
         });
-        candidates.push(of_container(pattern, plan, puts.saturating_add(taken)))?;
+        candidates.push(of_container(pattern, plan, run.size()))?;
         found = found.saturating_add(1);
         if found >= MOST {
             break;

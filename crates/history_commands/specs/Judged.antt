@@ -1,8 +1,11 @@
 -- What is put out where a history is judged without certificates, and the exit status.
-use Rattle.std.specs.Prelude.{◌≡◌, ◌<◌, ◌↔◌, ℕ, Bool, true, false, ⊤, List, [], ◌∷◌, ◌++◌, codes}
+use Rattle.std.specs.Prelude.{◌≡◌, ◌<◌, ◌↔◌, ℕ, ℤ, Bool, true, false, ⊤, List, [], ◌∷◌, ◌++◌}
+use Rattle.std.specs.Prelude.{codes, Option, Some, None}
 use Rattle.std.specs.Prelude.{decimal, map, All, AllPairs, Contains, if◌then◌else◌}
 use Rattle.std.specs.List.{list_all, list_any}
 use Rattle.edn_reader.specs.Sound.{IsShort}
+use Rattle.model.specs.declared.Kind.{Kind}
+use Rattle.model.specs.declared.Kind.TheVariants.{Map}
 use Rattle.model.specs.Linearizable.{IsLinearizable}
 use Rattle.model.specs.Orders.{calls_on, events}
 use Rattle.events.specs.declared.event.Event.{Event}
@@ -28,12 +31,17 @@ use Rattle.history_commands.specs.Searches.{IsNotLinearizableText}
 use Rattle.outputs.specs.Outputs.{IsOutput}
 use Rattle.outputs.specs.Statuses.{no_memory_status, no_status, yes_status}
 
+-- The kind that a sentence speaks of: where the part is of a key, it is one of a map.
+abbrev pub kind_told : Kind → Option ℤ → Kind
+kind_told kind None = kind
+kind_told kind (Some key) = Map
+
 -- The lines on an object of which no order is valid: that it is so, the sentence of the finder of
 -- reasons, the operations of the part of which no order is valid, and the reason that names it.
 abbrev pub impossible_lines : List Event → ℕ → FoundReason → List ℕ
 impossible_lines es x f =
     ((codes "; object " ++ decimal x) ++ codes ": impossible\n")
-    ++ (sentence_line f.part.kind f.pattern f.key
+    ++ (sentence_line (kind_told f.part.kind f.key) f.pattern f.key
     ++ (operations_text true es f.part.ops ++ (codes "; " ++ line_of f.reason)))
 
 -- the lines on an object that has no certificate, and nothing on one that has

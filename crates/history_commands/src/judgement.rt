@@ -6,6 +6,7 @@ ghost use Rattle.std.specs.List.{list_all, list_any};
 ghost use Rattle.certificate.specs.Denotes.{AreDistinct};
 ghost use Rattle.checker.specs.Refusals.{AreValid};
 ghost use Rattle.deciding.specs.Decisions.{certificates_in, is_impossible};
+ghost use Rattle.history_commands.specs.Judged as judged;
 ghost use Rattle.history_commands.specs.Judged.{impossible_lines, is_order, judge_status};
 ghost use Rattle.history_commands.specs.Judged.{note_lines, notes_text, AreOpen, IsJudgement};
 ghost use Rattle.history_commands.specs.Judged.{IsOpenText, IsVerdictOn, IsVerdictOnText};
@@ -21,11 +22,23 @@ use judging::verdict_on;
 use outputs::{NO, NO_MEMORY, Output, YES, put_out};
 use reason_report::{push_operations, push_reason, push_sentence};
 use report::Verdict;
+use seq_objects::Kind;
 use std::alloc::{AllocError, Global};
 use std::thread::Threads;
 
-/// The lines on an object of which no order is valid: that it is so, what the finder of reasons has
-/// seen, the operations of the part of which no order is valid, and the reason that names this part.
+/// The kind that a sentence speaks of: where the part is of a key, it is one of a map.
+fn kind_told(kind: Kind, key: Option<i64>) -> Kind
+    ensures { result ≡ judged.kind_told kind key }
+{
+    match key {
+        None => kind,
+        Some(_) => Kind::Map,
+    }
+}
+
+/// The lines on an object of which no order is valid: that it is so, what the finder of reasons
+/// has seen, the operations of the part of which no order is valid, and the reason that names this
+/// part.
 fn push_impossible(
     alloc: Global,
     text: &mut Vec<u8>,
@@ -37,7 +50,8 @@ fn push_impossible(
         ++ impossible_lines history.now object found.now) }
 {
     push_note(text, object, b": impossible\n")?;
-    push_sentence(text, found.part.kind(), found.pattern, found.key)?;
+    let kind = kind_told(found.part.kind(), found.key);
+    push_sentence(text, kind, found.pattern, found.key)?;
     push_operations(text, true, history, &found.part)?;
     push_reason(alloc, text, true, &found.reason)
 }

@@ -502,7 +502,7 @@ count_bounded kind calls what from most order rising ends before v =
 
 -- ---- operations and calls
 
-abbrev passes : (Call → Bool) → Option Call → Bool
+abbrev pub passes : (Call → Bool) → Option Call → Bool
 passes q None = false
 passes q (Some c) = q c
 
@@ -514,7 +514,7 @@ tally_calls p q same (o ∷ ops) = ap (λ b. one b + tally p ops) (same o) ∙ g
     go None h = omega arith
     go (Some c) h = ap (λ (n : ℕ). one (q c) + n) h
 
-count_calls : (p : Invocation → Bool) (q : Call → Bool) → ((o : Invocation) → p o ≡ passes q (call_of o)) → (ops : List Invocation) → count_by p ops ≡ count_by q (calls_of ops)
+pub count_calls : (p : Invocation → Bool) (q : Call → Bool) → ((o : Invocation) → p o ≡ passes q (call_of o)) → (ops : List Invocation) → count_by p ops ≡ count_by q (calls_of ops)
 count_calls p q same ops = sym (count_tally p ops) ∙ tally_calls p q same ops ∙ count_tally q (calls_of ops)
 
 set_count : (what : Counted) (from : ℕ) (ops : List Invocation) → count_by (λ o. is_set what from o.op o.«end») ops ≡ set_since what from (calls_of ops)

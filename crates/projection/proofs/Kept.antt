@@ -23,10 +23,10 @@ use Rattle.projection.proofs.Closed.{projection_valid}
 use Rattle.projection.proofs.Sequences.{in_filter_map_from}
 use Rattle.projection.proofs.Pieces.{bind, filter_map-filter, map-same, IsPiece, pieces_history, pieces_calls, rising_calls, all_calls}
 
-abbrev own : {X : Type 0} → (X → Bool) → X → Option X
+abbrev pub own : {X : Type 0} → (X → Bool) → X → Option X
 own p x = cond (p x) (Some x) None
 
-as_filter : {X : Type 0} (p : X → Bool) (xs : List X) → filter_map (own p) xs ≡ filter p xs
+pub as_filter : {X : Type 0} (p : X → Bool) (xs : List X) → filter_map (own p) xs ≡ filter p xs
 as_filter p xs = filter_map-filter p (λ x. x) xs ∙ map-same (filter p xs)
 
 piece_is : (kept : ℕ → Bool) (o p : Invocation) → own (λ z. kept z.number) o ≡ Some p → IsPiece o p

@@ -19,3 +19,5 @@ pub mod Mapped
 pub mod Recasts
 pub mod Shadows
 pub mod Keyed
+pub mod Absent
+pub mod Early

@@ -9,14 +9,15 @@ use Rattle.model.specs.declared.AnyReply.{AnyReply}
 use Rattle.model.specs.Orders.{Call}
 use Rattle.events.specs.Operations.{ObjectCalls, calls_of}
 use Rattle.order_search.specs.Outcomes.{IsNoneValid}
+use Rattle.projection.specs.Absent.{IsAbsent, calls_without}
 use Rattle.projection.specs.Cells.{cell_calls}
 use Rattle.projection.specs.Entries.{entry_calls}
 use Rattle.projection.specs.Parts.{IsClosed, kept_calls, calls_before, IsStart, calls_from}
 use Rattle.projection.specs.declared.keeping.Values.{Values}
 use Rattle.projection.specs.declared.keeping.Values.TheVariants.{All, Only}
 use Rattle.projection.specs.declared.cutting.Cut.{Cut}
-use Rattle.projection.specs.declared.cutting.Cut.TheVariants.{From, Until, Keep, Cell}
-use Rattle.projection.specs.declared.cutting.Cut.TheVariants.{Entry}
+use Rattle.projection.specs.declared.cutting.Cut.TheVariants.{From, Until, Without, Keep}
+use Rattle.projection.specs.declared.cutting.Cut.TheVariants.{Cell, Entry}
 
 -- A part is of the same object, maybe as an object of another kind. If no order of its calls is
 -- valid for its kind, then none of the whole's is for the whole's.
@@ -52,6 +53,8 @@ pub record IsSuffix (from : ℕ) (calls part : List Call) : Type 0 where
 abbrev pub Names : Cut → List Call → List Call → Type 0
 Names (From number) calls part = IsSuffix number calls part
 Names (Until number) calls part = part ≡ calls_before number calls
+Names (Without value before) calls part =
+    IsAbsent value before calls × (part ≡ calls_without value before calls)
 Names (Keep values numbers) calls part =
     IsClosedPart values numbers calls × (part ≡ kept_calls (keeps_number numbers) calls)
 Names (Cell values other numbers) calls part =
@@ -69,6 +72,7 @@ NamesPart (cut ∷ cuts) calls part =
 abbrev pub kind_cut : Cut → Kind → Kind
 kind_cut (From number) kind = kind
 kind_cut (Until number) kind = kind
+kind_cut (Without value before) kind = kind
 kind_cut (Keep values numbers) kind = kind
 kind_cut (Cell values other numbers) kind = kind
 kind_cut (Entry key values other numbers) kind = Register

@@ -2,6 +2,7 @@ pub mod Parts
 pub mod Recasts
 pub mod Cells
 pub mod Entries
+pub mod Absent
 pub mod Cuts
 pub mod Counts
 pub mod Pieces

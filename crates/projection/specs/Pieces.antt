@@ -3,6 +3,7 @@ use Rattle.std.specs.Prelude.{◌≡◌, ◌==◌, ◌⊎◌, ℕ, ℤ, nat_lt, 
 use Rattle.std.specs.Prelude.{List, [], ◌∷◌, ◌-◌, ◌||◌, if◌then◌else◌}
 use Rattle.std.specs.Prelude.{Option, Some, None, option_map}
 use Rattle.std.specs.Option.{option_map_or}
+use Rattle.std.specs.Ordering.{int_eq}
 use Rattle.model.specs.declared.AnyOp.{AnyOp}
 use Rattle.model.specs.declared.AnyOp.TheVariants.{Write}
 use Rattle.model.specs.declared.AnyReply.{AnyReply}
@@ -66,6 +67,26 @@ piece_before until o =
     if nat_lt o.number until
     then Some (record { number = o.number; op = o.op; «end» = end_before until o.«end» })
     else None
+
+-- ---- a value that is absent
+
+-- whether an operation that did not fail puts in the value, and was invoked before this number
+abbrev pub is_put_before_end : ℤ → ℕ → ℕ → AnyOp → End → Bool
+is_put_before_end v before number op (Returned at reply) =
+    puts_in (int_eq v) op && nat_lt number before
+is_put_before_end v before number op Pending = puts_in (int_eq v) op && nat_lt number before
+is_put_before_end v before number op Failed = false
+
+-- whether an operation took out the value, and returned before this number
+abbrev pub is_taken_before_end : ℤ → ℕ → AnyOp → End → Bool
+is_taken_before_end v before op (Returned at reply) =
+    takes_out (int_eq v) op (Some reply) && nat_lt at before
+is_taken_before_end v before op Pending = false
+is_taken_before_end v before op Failed = false
+
+abbrev pub is_early : ℤ → ℕ → Invocation → Bool
+is_early v before o =
+    is_put_before_end v before o.number o.op o.«end» || is_taken_before_end v before o.op o.«end»
 
 -- ---- a suffix
 

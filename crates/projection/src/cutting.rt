@@ -5,6 +5,7 @@ ghost use Rattle.model.specs.Orders.{Call};
 ghost use Rattle.events.specs.Operations.{calls_of};
 ghost use Rattle.projection.specs.Cuts.{IsPart, Names, NamesPart, kind_cut, part_kind};
 
+use crate::absent::without;
 use crate::cells::cell;
 use crate::entries::entry;
 use crate::keeping::{Values, keep};
@@ -22,6 +23,9 @@ pub enum Cut {
     /// What was invoked before this number, pending where it had not returned by then: see
     /// [`until`].
     Until(u32),
+    /// All except what was done with this value before this number, where it surely was not in: see
+    /// [`without`].
+    Without { value: i64, before: u32 },
     /// The operations with these numbers, which keep these values, or keys: see [`keep`].
     Keep {
         values: Values,
@@ -74,6 +78,7 @@ fn cut_by(
     match cut {
         Cut::From(number) => from(alloc, history, *number),
         Cut::Until(number) => Ok(Some(until(alloc, history, *number)?)),
+        Cut::Without { value, before } => without(alloc, history, *value, *before),
         Cut::Keep { values, numbers } => keep(alloc, history, values, numbers),
         Cut::Cell {
             values,

@@ -1,5 +1,6 @@
-//! Closure under projection, prefixes, suffixes, cells and entries, and the bound of a count:
-//! functions that do nothing, whose contracts are theorems.
+//! Closure under projection, prefixes, suffixes, cells and entries, and without what was done with
+//! a value that is absent; and the bound of a count: functions that do nothing, whose contracts are
+//! theorems.
 
 ghost use Rattle.std.specs.Prelude.{◌≡◌, ◌<◌, ◌≤◌, ◌+◌, ℕ, ℤ, Bool, List, Option, Some};
 ghost use Rattle.std.specs.Prelude.{All, AllPairs};
@@ -9,6 +10,7 @@ ghost use Rattle.model.specs.declared.AnyReply.{AnyReply};
 ghost use Rattle.model.specs.Objects.{kind_of};
 ghost use Rattle.model.specs.Orders.{Call, Return, IsValidOrder};
 ghost use Rattle.projection.specs.declared.counting.Counted.{Counted};
+ghost use Rattle.projection.specs.Absent.{IsAbsent, calls_without};
 ghost use Rattle.projection.specs.Cells.{cell_calls};
 ghost use Rattle.projection.specs.Entries.{entry_calls};
 ghost use Rattle.projection.specs.Counts.{most_before, set_since, taken_since};
@@ -33,6 +35,16 @@ pub fn prefix_is_valid()
         → All (λ e. (r : Return) → e.returned ≡ Some r → e.number < r.at) calls
         → IsValidOrder kind calls order
         → (part : List ℤ) × IsValidOrder kind (calls_before until calls) part }
+{}
+
+/// Where the calls have a valid order, and before a number as many removals of a value had returned
+/// as puts of it were invoked, the calls without those have one.
+pub fn without_is_valid()
+    ensures { (kind : Kind) (calls : List Call) (v : ℤ) (number : ℕ) (order : List ℤ)
+        → AllPairs (λ a b. a.number < b.number) calls
+        → IsAbsent v number calls
+        → IsValidOrder kind calls order
+        → (part : List ℤ) × IsValidOrder kind (calls_without v number calls) part }
 {}
 
 /// Closure under suffixes: where the calls have a valid order, those of a suffix have one.

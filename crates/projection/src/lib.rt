@@ -2,6 +2,7 @@
 //! part can show that no order of the whole is valid.
 #![tactic(auto)]
 
+mod absent;
 mod cells;
 mod counting;
 mod cutting;
@@ -11,6 +12,7 @@ mod laws;
 mod prefix;
 mod suffix;
 
+pub use absent::without;
 pub use cells::cell;
 pub use counting::{Count, Counted, is_overdrawn};
 pub use cutting::{Cut, part_by};
@@ -18,7 +20,7 @@ pub use entries::entry;
 pub use keeping::{Values, keep};
 pub use laws::{
     cell_is_valid, count_is_bounded, entry_is_valid, prefix_is_valid, projection_is_valid,
-    suffix_is_valid,
+    suffix_is_valid, without_is_valid,
 };
 pub use prefix::until;
 pub use suffix::from;

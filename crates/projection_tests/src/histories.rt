@@ -276,3 +276,56 @@ pub(crate) const SEEN_AFTER_NONE: &str = "
     {:process 0 :type :ok :f :get :value nil}
     {:process 0 :type :invoke :f :get :value 7}
     {:process 0 :type :ok :f :get :value 1}";
+
+/// Value 1 is put in and taken, then 2 and again 1 are put in, and 1 is taken before 2.
+pub(crate) const AGAIN: &str = "
+    {:process 0 :type :invoke :f :enqueue :value 1}
+    {:process 0 :type :ok :f :enqueue :value 1}
+    {:process 0 :type :invoke :f :dequeue}
+    {:process 0 :type :ok :f :dequeue :value 1}
+    {:process 0 :type :invoke :f :enqueue :value 2}
+    {:process 0 :type :ok :f :enqueue :value 2}
+    {:process 1 :type :invoke :f :enqueue :value 1}
+    {:process 1 :type :ok :f :enqueue :value 1}
+    {:process 0 :type :invoke :f :dequeue}
+    {:process 0 :type :ok :f :dequeue :value 1}";
+
+/// Value 1 is put in twice, 2 while the second put is under way, and then 1, 2 and 1 are taken.
+pub(crate) const TWICE_IN: &str = "
+    {:process 0 :type :invoke :f :enqueue :value 1}
+    {:process 1 :type :invoke :f :enqueue :value 1}
+    {:process 0 :type :ok :f :enqueue :value 1}
+    {:process 0 :type :invoke :f :enqueue :value 2}
+    {:process 0 :type :ok :f :enqueue :value 2}
+    {:process 0 :type :invoke :f :dequeue}
+    {:process 0 :type :ok :f :dequeue :value 1}
+    {:process 1 :type :ok :f :enqueue :value 1}
+    {:process 0 :type :invoke :f :dequeue}
+    {:process 0 :type :ok :f :dequeue :value 2}
+    {:process 0 :type :invoke :f :dequeue}
+    {:process 0 :type :ok :f :dequeue :value 1}";
+
+/// Value 1 is pushed and popped, then 1 and 2 are pushed, and 1 is popped.
+pub(crate) const POPPED_AGAIN: &str = "
+    {:process 0 :type :invoke :f :push :value 1}
+    {:process 0 :type :ok :f :push :value 1}
+    {:process 0 :type :invoke :f :pop}
+    {:process 0 :type :ok :f :pop :value 1}
+    {:process 0 :type :invoke :f :push :value 1}
+    {:process 0 :type :ok :f :push :value 1}
+    {:process 0 :type :invoke :f :push :value 2}
+    {:process 0 :type :ok :f :push :value 2}
+    {:process 1 :type :invoke :f :pop}
+    {:process 1 :type :ok :f :pop :value 1}";
+
+/// Value 1 is put in twice and taken once, a taking is pending, and then there is nothing.
+pub(crate) const MAYBE_GONE: &str = "
+    {:process 0 :type :invoke :f :insert :value 1}
+    {:process 0 :type :ok :f :insert :value 1}
+    {:process 1 :type :invoke :f :extract-min}
+    {:process 0 :type :invoke :f :insert :value 1}
+    {:process 0 :type :ok :f :insert :value 1}
+    {:process 0 :type :invoke :f :extract-min}
+    {:process 0 :type :ok :f :extract-min :value 1}
+    {:process 0 :type :invoke :f :extract-min}
+    {:process 0 :type :ok :f :extract-min :value nil}";

@@ -1,10 +1,10 @@
 //! Parts by cuts, as a table.
 
 use crate::histories::{
-    BOTH_PENDING, CROSSED, FAILED_SWAP, FOUND_TWICE, GONE, HEAP, LATE_RETURN, OVERLAPPING,
-    OVERLAPPING_READ, OVERLAPPING_TAKING, PENDING_ENTRY, PENDING_PUT, PENDING_SWAP, PENDING_TAKING,
-    REMOVED, SEEN_AFTER_ANOTHER, SEEN_AFTER_NONE, STACK, STALE_READ, SWAPPED, TWO_HOLD,
-    TWO_PENDING, WRONG_ORDER,
+    AGAIN, BOTH_PENDING, CROSSED, FAILED_SWAP, FOUND_TWICE, GONE, HEAP, LATE_RETURN, MAYBE_GONE,
+    OVERLAPPING, OVERLAPPING_READ, OVERLAPPING_TAKING, PENDING_ENTRY, PENDING_PUT, PENDING_SWAP,
+    PENDING_TAKING, POPPED_AGAIN, REMOVED, SEEN_AFTER_ANOTHER, SEEN_AFTER_NONE, STACK, STALE_READ,
+    SWAPPED, TWICE_IN, TWO_HOLD, TWO_PENDING, WRONG_ORDER,
 };
 use events::{ObjectHistory, split};
 use history::read_history_text;
@@ -20,6 +20,8 @@ use std::test::Fail;
 enum Plan {
     From(u32),
     Until(u32),
+    /// Without what was done with this value before this number.
+    Without(i64, u32),
     /// Keeps all values, and the operations with these numbers.
     Numbers(&'static [u32]),
     /// Keeps these values, or keys.
@@ -73,6 +75,7 @@ fn cut_of(alloc: Global, plan: Plan) -> Result<Cut, Fail> {
     Ok(match plan {
         Plan::From(number) => Cut::From(number),
         Plan::Until(number) => Cut::Until(number),
+        Plan::Without(value, before) => Cut::Without { value, before },
         Plan::Numbers(numbers) => Cut::Keep {
             values: Values::All,
             numbers: numbers_of(alloc, numbers)?,
@@ -314,6 +317,40 @@ fn windows(rt: HostRuntime) -> Result<(), Fail> {
             ),
             // The same with no cut at all.
             (TWO_HOLD, &[], Impossible),
+        ],
+    )
+}
+
+/// Parts without what was done with a value before it surely was not in.
+#[test]
+fn values_that_are_absent(rt: HostRuntime) -> Result<(), Fail> {
+    check(
+        &rt,
+        &[
+            (AGAIN, &[], Impossible),
+            (AGAIN, &[Plan::Without(1, 4)], Impossible),
+            (AGAIN, &[Plan::Without(1, 6), Plan::Until(10)], Impossible),
+            // Before 3 the removal had not returned, and after 6 the value may be in again.
+            (AGAIN, &[Plan::Without(1, 3)], NoPart),
+            (AGAIN, &[Plan::Without(1, 7)], NoPart),
+            (AGAIN, &[Plan::Without(2, 10)], NoPart),
+            (AGAIN, &[Plan::Without(2, 4)], Impossible),
+            (AGAIN, &[Plan::Without(7, 10)], Impossible),
+            (AGAIN, &[Plan::Without(1, 10), Plan::Until(6)], Possible),
+            // Both puts of 1 were invoked before 7, and one removal had returned. Without all of
+            // these the last removal would have no put.
+            (TWICE_IN, &[], Possible),
+            (TWICE_IN, &[Plan::Without(1, 7)], NoPart),
+            (TWICE_IN, &[Plan::Without(1, 12)], Possible),
+            (POPPED_AGAIN, &[Plan::Without(1, 4)], Impossible),
+            (POPPED_AGAIN, &[Plan::Without(1, 5)], NoPart),
+            // The pending taking can have taken the first 1, and nobody says so.
+            (MAYBE_GONE, &[], Possible),
+            (MAYBE_GONE, &[Plan::Without(1, 3)], NoPart),
+            (MAYBE_GONE, &[Plan::Without(1, 7)], NoPart),
+            // Of another kind nothing is put in, and all stays.
+            (TWO_HOLD, &[Plan::Without(1, 4)], Impossible),
+            (STALE_READ, &[Plan::Without(1, 4)], Impossible),
         ],
     )
 }

@@ -25,7 +25,8 @@ use Rattle.edn_fields.specs.Fields.{same_bytes, value_at}
 use Rattle.projection.specs.declared.keeping.Values.{Values}
 use Rattle.projection.specs.declared.keeping.Values.TheVariants.{All, Only}
 use Rattle.projection.specs.declared.cutting.Cut.{Cut}
-use Rattle.projection.specs.declared.cutting.Cut.TheVariants.{From, Until, Keep, Cell, Entry}
+use Rattle.projection.specs.declared.cutting.Cut.TheVariants.{From, Until, Without, Keep, Cell}
+use Rattle.projection.specs.declared.cutting.Cut.TheVariants.{Entry}
 use Rattle.projection.specs.declared.counting.Counted.{Counted}
 use Rattle.projection.specs.declared.counting.Counted.TheVariants as counted
 use Rattle.refutation.specs.declared.reason.Evidence.{Evidence}
@@ -66,6 +67,8 @@ other_entries other ns = entry (codes "other") (atom (integer other)) (numbers_e
 abbrev pub cut_datum : Cut → Datum
 cut_datum (From n) = dictionary (entry (codes "from") (atom (integer (pos n))) no_entries)
 cut_datum (Until n) = dictionary (entry (codes "until") (atom (integer (pos n))) no_entries)
+cut_datum (Without v n) = dictionary (entry (codes "without") (atom (integer v))
+    (entry (codes "before") (atom (integer (pos n))) no_entries))
 cut_datum (Keep vs ns) = dictionary (entry (codes "keep") (values_datum vs)
     (numbers_entries ns.keys))
 cut_datum (Cell vs other ns) = dictionary (entry (codes "cell") (values_datum vs)
@@ -129,6 +132,9 @@ numbers_are_text (n ∷ ns) =
 cut_is_text : (c : Cut) → cut_text c ≡ text_of (cut_datum c)
 cut_is_text (From n) = ap (λ t. codes "{:from " ++ (t ++ codes "}")) (sym (append-nil (decimal n)))
 cut_is_text (Until n) = ap (λ t. codes "{:until " ++ (t ++ codes "}"))
+    (sym (append-nil (decimal n)))
+cut_is_text (Without v n) =
+    ap (λ t. codes "{:without " ++ ((signed_decimal v ++ (codes ", :before " ++ t)) ++ codes "}"))
     (sym (append-nil (decimal n)))
 cut_is_text (Keep vs ns) =
     ap (λ t. codes "{:keep " ++ ((t ++ numbers_text ns.keys) ++ codes "}")) (values_are_text vs)
@@ -232,6 +238,7 @@ other_fits other ns = (lacks_numbers (codes "other") ns (λ h. cc), tt, numbers_
 cut_fits : (c : Cut) → Fits 14 (cut_datum c)
 cut_fits (From n) = (lit< tt, (tt, tt, tt))
 cut_fits (Until n) = (lit< tt, (tt, tt, tt))
+cut_fits (Without v n) = (lit< tt, ((λ h. cc, tt), tt, (tt, tt, tt)))
 cut_fits (Keep vs ns) = (
   lit< tt,
   (
@@ -337,6 +344,7 @@ cut_in_profile : (c : Cut) → IsTypedCut c → InProfile (cut_datum c)
 unfolding is_name
 cut_in_profile (From n) h = (refl, number_in_profile n h, tt)
 cut_in_profile (Until n) h = (refl, number_in_profile n h, tt)
+cut_in_profile (Without v n) h = (refl, h.0, (refl, number_in_profile n h.1, tt))
 cut_in_profile (Keep vs ns) h = (
   refl,
   values_in_profile vs h.0,
@@ -461,6 +469,7 @@ entry_read d key other (n ∷ ns) = refl
 cut_read : (c : Cut) → IsTypedCut c → cut_in (cut_datum c) ≡ Some (seen_cut c)
 cut_read (From n) t = ap (option_map spec.from) (number_read n t)
 cut_read (Until n) t = ap (option_map spec.until) (number_read n t)
+cut_read (Without v n) t = ap (spec.without_with (Some v)) (number_read n t.1)
 cut_read (Keep vs ns) t =
     keep_read (values_datum vs) ns.keys
     ∙ (ap (λ v. spec.keep_with v (numbers_at ns.keys)) (values_read vs t.0)

@@ -11,7 +11,8 @@ use Rattle.edn_fields.specs.Fields.{same_bytes, value_at, natural_in, object_in}
 use Rattle.projection.specs.declared.keeping.Values.{Values}
 use Rattle.projection.specs.declared.keeping.Values.TheVariants.{All, Only}
 use Rattle.projection.specs.declared.cutting.Cut.{Cut}
-use Rattle.projection.specs.declared.cutting.Cut.TheVariants.{From, Until, Keep, Cell, Entry}
+use Rattle.projection.specs.declared.cutting.Cut.TheVariants.{From, Until, Without, Keep, Cell}
+use Rattle.projection.specs.declared.cutting.Cut.TheVariants.{Entry}
 use Rattle.projection.specs.declared.counting.Count.{Count}
 use Rattle.projection.specs.declared.counting.Counted.{Counted}
 use Rattle.projection.specs.declared.counting.Counted.TheVariants as counted
@@ -29,6 +30,7 @@ pub data KeptValues : Type 0 where
 pub data CutSeen : Type 0 where
   from : ℕ → CutSeen
   until : ℕ → CutSeen
+  without : ℤ → ℕ → CutSeen
   keep : KeptValues → List ℕ → CutSeen
   cell : KeptValues → ℤ → List ℕ → CutSeen
   entry_cell : ℤ → KeptValues → ℤ → List ℕ → CutSeen
@@ -45,6 +47,7 @@ seen_values (Only s) = only s.keys
 abbrev pub seen_cut : Cut → CutSeen
 seen_cut (From n) = from n
 seen_cut (Until n) = until n
+seen_cut (Without v n) = without v n
 seen_cut (Keep values numbers) = keep (seen_values values) numbers.keys
 seen_cut (Cell values other numbers) = cell (seen_values values) other numbers.keys
 seen_cut (Entry key values other numbers) =
@@ -98,6 +101,10 @@ cell_with (Some vs) None (Some w) (Some ns) = Some (cell vs w ns)
 cell_with (Some vs) (Some k) (Some w) (Some ns) = Some (entry_cell k vs w ns)
 cell_with vs k w ns = None
 
+abbrev pub without_with : Option ℤ → Option ℕ → Option CutSeen
+without_with (Some v) (Some n) = Some (without v n)
+without_with v n = None
+
 abbrev pub keep_with : Option KeptValues → Option (List ℕ) → Option CutSeen
 keep_with (Some vs) (Some ns) = Some (keep vs ns)
 keep_with vs ns = None
@@ -110,6 +117,10 @@ or_else (Some d) here there = here
 abbrev pub int_at : List ℕ → Entries → Option ℤ
 int_at key es = option_and_then integer_in (value_at key es)
 
+abbrev pub without_of : Entries → Option CutSeen
+without_of es =
+    without_with (int_at (codes "without") es) (number_in (value_at (codes "before") es))
+
 abbrev pub keep_of : Entries → Option CutSeen
 keep_of es =
     keep_with (values_in (value_at (codes "keep") es))
@@ -120,15 +131,16 @@ cell_of es =
     cell_with (values_in (value_at (codes "cell") es)) (int_at (codes "key") es)
     (int_at (codes "other") es) (numbers_in (value_at (codes "numbers") es))
 
--- The cut that a map names by the first of the keys :until, :from, :keep and :cell that it has.
+-- The cut that a map names by the first of the keys :until, :from, :without, :keep and :cell that
+-- it has.
 abbrev pub cut_of : Entries → Option CutSeen
 cut_of es =
     or_else (value_at (codes "until") es)
     (option_map until (number_in (value_at (codes "until") es)))
     (or_else (value_at (codes "from") es)
     (option_map from (number_in (value_at (codes "from") es)))
-    (or_else (value_at (codes "keep") es)
-    (keep_of es) (cell_of es)))
+    (or_else (value_at (codes "without") es) (without_of es)
+    (or_else (value_at (codes "keep") es) (keep_of es) (cell_of es))))
 
 abbrev pub cut_in : Datum → Option CutSeen
 cut_in (dictionary es) = cut_of es

@@ -9,7 +9,8 @@ use Rattle.edn_fields.specs.Fields.{max_object}
 use Rattle.projection.specs.declared.keeping.Values.{Values}
 use Rattle.projection.specs.declared.keeping.Values.TheVariants as values
 use Rattle.projection.specs.declared.cutting.Cut.{Cut}
-use Rattle.projection.specs.declared.cutting.Cut.TheVariants.{From, Until, Keep, Cell, Entry}
+use Rattle.projection.specs.declared.cutting.Cut.TheVariants.{From, Until, Without, Keep, Cell}
+use Rattle.projection.specs.declared.cutting.Cut.TheVariants.{Entry}
 use Rattle.projection.specs.declared.counting.Count.{Count}
 use Rattle.projection.specs.declared.counting.Counted.{Counted}
 use Rattle.projection.specs.declared.counting.Counted.TheVariants as counted
@@ -54,6 +55,8 @@ cell_text vs = codes "{:cell " ++ values_text vs
 abbrev pub open_cut_text : Cut → List ℕ
 open_cut_text (From n) = codes "{:from " ++ decimal n
 open_cut_text (Until n) = codes "{:until " ++ decimal n
+open_cut_text (Without v n) =
+    (codes "{:without " ++ signed_decimal v) ++ (codes ", :before " ++ decimal n)
 open_cut_text (Keep vs ns) = codes "{:keep " ++ (values_text vs ++ numbers_text ns.keys)
 open_cut_text (Cell vs other ns) = cell_text vs ++ other_text other ns.keys
 open_cut_text (Entry key vs other ns) =

@@ -8,7 +8,8 @@ use Rattle.edn_reader.specs.Text.{IsInt64}
 use Rattle.projection.specs.declared.keeping.Values.{Values}
 use Rattle.projection.specs.declared.keeping.Values.TheVariants.{All, Only}
 use Rattle.projection.specs.declared.cutting.Cut.{Cut}
-use Rattle.projection.specs.declared.cutting.Cut.TheVariants.{From, Until, Keep, Cell, Entry}
+use Rattle.projection.specs.declared.cutting.Cut.TheVariants.{From, Until, Without, Keep, Cell}
+use Rattle.projection.specs.declared.cutting.Cut.TheVariants.{Entry}
 use Rattle.projection.specs.declared.counting.Counted.{Counted}
 use Rattle.projection.specs.declared.counting.Counted.TheVariants as counted
 use Rattle.refutation.specs.declared.reason.Evidence.{Evidence}
@@ -33,6 +34,7 @@ AreTypedValues (Only s) = AreIntegerKeys s.keys
 abbrev pub IsTypedCut : Cut → Type 0
 IsTypedCut (From n) = n ≤ max_number
 IsTypedCut (Until n) = n ≤ max_number
+IsTypedCut (Without v n) = IsInt64 v × (n ≤ max_number)
 IsTypedCut (Keep vs ns) = AreTypedValues vs × AreNumberKeys ns.keys
 IsTypedCut (Cell vs other ns) = AreTypedValues vs × IsInt64 other × AreNumberKeys ns.keys
 IsTypedCut (Entry key vs other ns) =

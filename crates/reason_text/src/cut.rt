@@ -21,6 +21,16 @@ pub(crate) fn int_at(entries: &[(Name, Form)], key: &[u8]) -> Option<i64>
     }
 }
 
+/// A value, and the number before which it is absent.
+fn without_in(entries: &[(Name, Form)]) -> Option<Cut>
+    ensures { option_map spec.seen_cut result
+        ≡ spec.without_of (entries_of (pair_views entries.now)) }
+{
+    let value = int_at(entries, b"without")?;
+    let before = number(value_at(entries, b"before"))?;
+    Some(Cut::Without { value, before })
+}
+
 /// What is kept of values or keys, and of the others by number.
 fn keep_in(alloc: Global, entries: &[(Name, Form)]) -> Result<Option<Cut>, AllocError>
     ensures { IfOk result (λ o. option_map spec.seen_cut o
@@ -76,6 +86,9 @@ fn cut_of(alloc: Global, entries: &[(Name, Form)]) -> Result<Option<Cut>, AllocE
     let from = value_at(entries, b"from");
     if from.is_some() {
         return Ok(number(from).map(Cut::From));
+    }
+    if value_at(entries, b"without").is_some() {
+        return Ok(without_in(entries));
     }
     if value_at(entries, b"keep").is_some() {
         return keep_in(alloc, entries);

@@ -1,10 +1,11 @@
 //! The cuts of a reason, as text.
 
-ghost use Rattle.std.specs.Prelude.{◌≡◌, ◌++◌, false, true, codes, OnOk};
+ghost use Rattle.std.specs.Prelude.{◌≡◌, ◌≤◌, ◌++◌, false, true, codes, decimal, OnOk};
 ghost use Rattle.std.specs.Fmt.{signed_decimal};
 ghost use Rattle.std.specs.List.{AllByRecursion};
 ghost use Rattle.byte_streams.specs.Sent.{Writes};
 ghost use Rattle.edn_reader.specs.Text.{between, IsInt64};
+ghost use Rattle.reason_text.specs.Denotes.{max_number};
 ghost use Rattle.reason_text.specs.Lines as text;
 ghost use Rattle.reason_text.specs.Written.{AreNumberKeys, AreTypedValues, IsTypedCut};
 
@@ -37,6 +38,17 @@ fn write_other<S: Sink>(other: i64, numbers: &BTreeSet<u32>, sink: &mut S) -> Re
 {
     write_integer_after(b", :other ", other, sink)?;
     write_numbers(numbers, sink)
+}
+
+/// A value and the number before which it is absent, without the closing bracket.
+fn write_without<S: Sink>(value: i64, before: u32, sink: &mut S) -> Result<(), Failed>
+    requires { S.broken sink.old ≡ false }
+    ensures sent { Writes result (S.sent sink.old) (S.sent sink.new) (S.broken sink.new)
+        ((codes "{:without " ++ signed_decimal value) ++ (codes ", :before " ++ decimal before)) }
+    ensures in_range { IsInt64 value × (before ≤ max_number) }
+{
+    write_integer_after(b"{:without ", value, sink)?;
+    write_number_after(b", :before ", before, sink)
 }
 
 /// A cut that keeps values, without its closing bracket.
@@ -109,6 +121,7 @@ fn write_open_cut<S: Sink>(cut: &Cut, sink: &mut S) -> Result<(), Failed>
     match cut {
         Cut::From(n) => write_number_after(b"{:from ", *n, sink),
         Cut::Until(n) => write_number_after(b"{:until ", *n, sink),
+        Cut::Without { value, before } => write_without(*value, *before, sink),
         Cut::Keep { values, numbers } => write_keep(values, numbers, sink),
         Cut::Cell {
             values,

@@ -21,6 +21,8 @@ enum Kept {
 enum Plan {
     From(u32),
     Until(u32),
+    /// Without what was done with this value before this number.
+    Without(i64, u32),
     /// Keeps these values, and the operations with these numbers.
     Keep(Kept, &'static [u32]),
     /// A cell of these values, with one other value, and the operations with these numbers.
@@ -54,6 +56,7 @@ fn cut_of(alloc: Global, plan: Plan) -> Result<Cut, AllocError> {
     match plan {
         Plan::From(number) => Ok(Cut::From(number)),
         Plan::Until(number) => Ok(Cut::Until(number)),
+        Plan::Without(value, before) => Ok(Cut::Without { value, before }),
         Plan::Keep(kept, numbers) => Ok(Cut::Keep {
             values: values_of(alloc, kept)?,
             numbers: numbers_of(alloc, numbers)?,
@@ -102,6 +105,9 @@ fn is_same_cut(cut: &Cut, plan: Plan) -> bool {
     match (cut, plan) {
         (Cut::From(number), Plan::From(wanted)) => *number == wanted,
         (Cut::Until(number), Plan::Until(wanted)) => *number == wanted,
+        (Cut::Without { value, before }, Plan::Without(wanted, until)) => {
+            *value == wanted && *before == until
+        }
         (Cut::Keep { values, numbers }, Plan::Keep(kept, wanted)) => {
             are_same_values(values, kept) && numbers.iter().eq(wanted.iter())
         }
@@ -178,11 +184,16 @@ fn says(
 
 #[test]
 fn cuts(rt: HostRuntime) -> Result<(), Fail> {
-    let rows: [(Plan, &str); 12] = [
+    let rows: [(Plan, &str); 14] = [
         (Plan::From(17), "{:from 17}"),
         (Plan::From(0), "{:from 0}"),
         (Plan::Until(120), "{:until 120}"),
         (Plan::Until(4_294_967_295), "{:until 4294967295}"),
+        (Plan::Without(7, 120), "{:without 7, :before 120}"),
+        (
+            Plan::Without(-9_223_372_036_854_775_808, 4_294_967_295),
+            "{:without -9223372036854775808, :before 4294967295}",
+        ),
         (
             Plan::Keep(Only(&[1, 2]), &[4, 7]),
             "{:keep [1 2], :numbers [4 7]}",

@@ -1,0 +1,120 @@
+//! Absent values: the operations without those that were done with a value before it surely was not
+//! in the object.
+
+ghost use Rattle.std.specs.Prelude.{◌≡◌, true, IfOk, IfSome, None, count_by, filter, not};
+ghost use Rattle.events.specs.Operations.{calls_of};
+ghost use Rattle.projection.specs.Absent.{IsAbsent, calls_without};
+ghost use Rattle.projection.specs.Cuts.{IsPart};
+ghost use Rattle.projection.specs.Pieces.{is_early, is_put_before_end, is_taken_before_end};
+
+use events::{End, Invocation, ObjectHistory};
+use seq_objects::{AnyOp, AnyReply};
+use std::alloc::{AllocError, Global};
+
+/// Whether an operation that did not fail puts in this value, and was invoked before this number.
+fn puts_before(value: i64, before: u32, operation: &Invocation) -> bool
+    ensures { result ≡ is_put_before_end value before operation.now.number operation.now.op
+        operation.now.«end» }
+{
+    if operation.end == End::Failed {
+        return false;
+    }
+    match operation.op {
+        AnyOp::Enqueue(put) => value == put && operation.number < before,
+        AnyOp::Push(put) => value == put && operation.number < before,
+        AnyOp::Insert(put) => value == put && operation.number < before,
+        _ => false,
+    }
+}
+
+/// Whether an operation took out this value, and returned before this number.
+fn takes_before(value: i64, before: u32, operation: &Invocation) -> bool
+    ensures { result ≡ is_taken_before_end value before operation.now.op operation.now.«end» }
+{
+    match (operation.op, operation.end) {
+        (
+            AnyOp::Dequeue | AnyOp::Pop | AnyOp::ExtractMin,
+            End::Returned {
+                at,
+                reply: AnyReply::Value(Some(taken)),
+            },
+        ) => value == taken && at < before,
+        _ => false,
+    }
+}
+
+/// How many operations put in the value and were invoked before this number.
+fn put_count(value: i64, before: u32, operations: &[Invocation]) -> usize
+    ensures { result ≡ count_by (λ o. is_put_before_end value before o.number o.op o.«end»)
+        operations.now }
+{
+    operations
+        .iter()
+        .filter(|o| puts_before(value, before, o))
+        .count()
+}
+
+/// How many operations took out the value and returned before this number.
+fn taken_count(value: i64, before: u32, operations: &[Invocation]) -> usize
+    ensures { result ≡ count_by (λ o. is_taken_before_end value before o.op o.«end»)
+        operations.now }
+{
+    operations
+        .iter()
+        .filter(|o| takes_before(value, before, o))
+        .count()
+}
+
+/// Whether as many removals of the value returned before this number as puts of it were invoked.
+fn is_absent(value: i64, before: u32, operations: &[Invocation]) -> bool
+    ensures yes { result ≡ true → IsAbsent value before (calls_of operations.now) }
+    ensures no { IsAbsent value before (calls_of operations.now) → result ≡ true }
+{
+    put_count(value, before, operations) <= taken_count(value, before, operations)
+}
+
+/// The operations without those puts and those removals.
+fn pieces(
+    alloc: Global,
+    value: i64,
+    before: u32,
+    operations: &[Invocation],
+) -> Result<Vec<Invocation>, AllocError>
+    ensures { IfOk result (λ v. v.items
+        ≡ filter (λ o. not (is_early value before o)) operations.now) }
+{
+    operations
+        .iter()
+        .filter(|o| !(puts_before(value, before, o) || takes_before(value, before, o)))
+        .copied()
+        .collect(alloc)
+}
+
+/// The part without the puts of a value that were invoked before this number, and without the
+/// removals of it that had returned by then. There are as many of these as of those, so that the
+/// value surely was not in the queue, stack or heap; `None`: there are fewer.
+///
+/// An error: the allocator refused memory.
+pub fn without(
+    alloc: Global,
+    history: &ObjectHistory,
+    value: i64,
+    before: u32,
+) -> Result<Option<ObjectHistory>, AllocError>
+    ensures part { IfOk result (λ o. IfSome o (λ p. IsPart history.now p)) }
+    ensures kind { IfOk result (λ o. IfSome o (λ p. p.kind ≡ history.now.kind)) }
+    ensures absent { IfOk result (λ o. IfSome o (λ p.
+        IsAbsent value before (calls_of history.now.ops))) }
+    ensures calls { IfOk result (λ o. IfSome o (λ p.
+        calls_of p.ops ≡ calls_without value before (calls_of history.now.ops))) }
+    // `None` is given only where the value may have been in the object.
+    ensures refused { IfOk result (λ o. o ≡ None
+        → IsAbsent value before (calls_of history.now.ops) → ⊥) }
+{
+    let operations = history.ops();
+    if !is_absent(value, before, operations) {
+        return Ok(None);
+    }
+    let ops = pieces(alloc, value, before, operations)?;
+    Ok(Some(ObjectHistory::new(history.object(), history.kind(), ops)))
+}
