@@ -11,6 +11,7 @@
 //! and `write_reasons` writes.
 #![tactic(auto)]
 
+pub use candidate_reasons::Pattern;
 pub use certificate::{CertFault, CertFaultKind, Certificate, write_certificates};
 pub use checker::{OrderFault, Refusal};
 pub use deciding::{Decision, decide_all};
