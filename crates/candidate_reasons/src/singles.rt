@@ -21,11 +21,7 @@ fn by_end(alloc: Global, calls: &[TimedCall]) -> Result<Vec<TimedCall>, AllocErr
 
 /// The first taking, in the order of their ends, that returns when fewer puts have begun than
 /// takings have ended, and how many had ended before it.
-fn excess(
-    alloc: Global,
-    runs: &Runs,
-    run: &Run,
-) -> Result<Option<(usize, TimedCall)>, AllocError> {
+fn excess(alloc: Global, runs: &Runs, run: &Run) -> Result<Option<(usize, TimedCall)>, AllocError> {
     let puts = runs.puts(run);
     for (before, taking) in by_end(alloc, runs.takings(run))?.iter().enumerate() {
         let put = puts.get(before);

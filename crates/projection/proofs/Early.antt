@@ -12,7 +12,7 @@ use Rattle.projection.specs.Absent.{is_put_before, is_taken_before, IsAbsent, ca
 use Rattle.projection.specs.Cuts.{IsPart}
 use Rattle.projection.specs.Parts.{puts_in, is_taking, takes_out}
 use Rattle.projection.specs.Pieces.{is_put_before_end, is_taken_before_end, is_early}
-use Rattle.projection.proofs.Absent.{without_valid}
+use Rattle.projection.proofs.Absences.{without_valid}
 use Rattle.projection.proofs.Bounds.{passes, count_calls}
 use Rattle.projection.proofs.Kept.{own, as_filter}
 use Rattle.projection.proofs.Pieces.{bind, IsPiece, pieces_history, pieces_calls, rising_calls}

@@ -19,5 +19,5 @@ pub mod Mapped
 pub mod Recasts
 pub mod Shadows
 pub mod Keyed
-pub mod Absent
+pub mod Absences
 pub mod Early

@@ -1,5 +1,5 @@
 -- The part that cuts name, one after another.
-use Rattle.std.proofs.Common.{◌≡◌, suc, ℕ, ◌<◌, ◌+◌, List, ◌∷◌, length, get_or, drop, refl, ap, sym, ◌∙◌, subst, arith}
+use Rattle.std.proofs.Common.{◌≡◌, suc, ℕ, ℤ, ◌<◌, ◌+◌, List, ◌∷◌, length, get_or, drop, refl, ap, sym, ◌∙◌, subst, arith}
 use Rattle.std.proofs.Math.Seq.{drop-cons, drop-length}
 use Rattle.std.specs.declared.alloc.AllocError.{AllocError}
 use Rattle.std.specs.Prelude.{Result, Ok, Err, Option, Some, None, IfOk, IfSome}
@@ -8,7 +8,8 @@ use Rattle.model.specs.Orders.{Call}
 use Rattle.events.specs.Operations.{ObjectCalls, calls_of}
 use Rattle.model.proofs.Lists.{Pairs}
 use Rattle.projection.specs.declared.cutting.Cut.{Cut}
-use Rattle.projection.specs.declared.cutting.Cut.TheVariants.{From}
+use Rattle.projection.specs.declared.cutting.Cut.TheVariants.{From, Without}
+use Rattle.projection.specs.Absent.{IsRest}
 use Rattle.projection.specs.Cuts.{IsSuffix, Names, NamesPart, kind_cut, part_kind}
 use Rattle.projection.proofs.Later.{one_suffix}
 
@@ -19,6 +20,14 @@ pub from_one : (cut : Cut) (number : ℕ) (calls : List Call) (cut_out : Result 
 from_one cut number calls (Ok None) e rising h = tt
 from_one cut number calls (Ok (Some p)) e rising h = λ part named. one_suffix number calls part (calls_of p.ops) rising (subst (λ (z : Cut). Names z calls part) e named) h
 from_one cut number calls (Err x) e rising h = tt
+
+-- what was done with an absent value was left out, and the cut names what is left
+pub without_named : (cut : Cut) (v w : ℤ) (before : ℕ) (calls : List Call) (cut_out : Result (Option ObjectCalls) AllocError) → cut ≡ Without v before → w ≡ v
+    → IfOk cut_out (λ o. IfSome o (λ p. IsRest w before calls (calls_of p.ops))) → IfOk cut_out (λ o. IfSome o (λ p. Names cut calls (calls_of p.ops)))
+without_named cut v w before calls (Ok None) e f h = tt
+without_named cut v w before calls (Ok (Some p)) e f h =
+    subst (λ (z : Cut). Names z calls (calls_of p.ops)) (sym e) (subst (λ (z : ℤ). IsRest z before calls (calls_of p.ops)) f h)
+without_named cut v w before calls (Err x) e f h = tt
 
 -- the cuts name the same part of the whole as those of them that are left name of what the others cut
 pub record IsCutSoFar (cuts : List Cut) (i : ℕ) (whole now : List Call) : Type 0 where

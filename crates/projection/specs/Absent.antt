@@ -1,7 +1,7 @@
 -- A value that surely is not in a queue, stack or heap before some number of a map: as many
 -- removals of it had returned by then as puts of it were invoked. What was done with it before has
 -- no part in what is done with it later.
-use Rattle.std.specs.Prelude.{◌≤◌, ℕ, ℤ, nat_lt, Bool, not, ◌&&◌, ◌||◌, List, count_by, filter}
+use Rattle.std.specs.Prelude.{◌≡◌, ◌≤◌, ℕ, ℤ, nat_lt, Bool, not, ◌&&◌, ◌||◌, List, count_by, filter}
 use Rattle.std.specs.Ordering.{int_eq}
 use Rattle.model.specs.Orders.{Call}
 use Rattle.projection.specs.Parts.{reply_of, puts_in, takes_out, ended_before}
@@ -24,3 +24,7 @@ pub record IsAbsent (v : ℤ) (number : ℕ) (calls : List Call) : Type 0 where
 abbrev pub calls_without : ℤ → ℕ → List Call → List Call
 calls_without v number calls =
     filter (λ e. not (is_put_before v number e || is_taken_before v number e)) calls
+
+-- the value is absent before this number, and these are the calls without those
+abbrev pub IsRest : ℤ → ℕ → List Call → List Call → Type 0
+IsRest v number calls part = IsAbsent v number calls × (part ≡ calls_without v number calls)

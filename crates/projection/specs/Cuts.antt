@@ -9,7 +9,7 @@ use Rattle.model.specs.declared.AnyReply.{AnyReply}
 use Rattle.model.specs.Orders.{Call}
 use Rattle.events.specs.Operations.{ObjectCalls, calls_of}
 use Rattle.order_search.specs.Outcomes.{IsNoneValid}
-use Rattle.projection.specs.Absent.{IsAbsent, calls_without}
+use Rattle.projection.specs.Absent.{IsRest}
 use Rattle.projection.specs.Cells.{cell_calls}
 use Rattle.projection.specs.Entries.{entry_calls}
 use Rattle.projection.specs.Parts.{IsClosed, kept_calls, calls_before, IsStart, calls_from}
@@ -53,8 +53,7 @@ pub record IsSuffix (from : ℕ) (calls part : List Call) : Type 0 where
 abbrev pub Names : Cut → List Call → List Call → Type 0
 Names (From number) calls part = IsSuffix number calls part
 Names (Until number) calls part = part ≡ calls_before number calls
-Names (Without value before) calls part =
-    IsAbsent value before calls × (part ≡ calls_without value before calls)
+Names (Without value before) calls part = IsRest value before calls part
 Names (Keep values numbers) calls part =
     IsClosedPart values numbers calls × (part ≡ kept_calls (keeps_number numbers) calls)
 Names (Cell values other numbers) calls part =

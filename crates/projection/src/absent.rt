@@ -3,7 +3,7 @@
 
 ghost use Rattle.std.specs.Prelude.{◌≡◌, true, IfOk, IfSome, None, count_by, filter, not};
 ghost use Rattle.events.specs.Operations.{calls_of};
-ghost use Rattle.projection.specs.Absent.{IsAbsent, calls_without};
+ghost use Rattle.projection.specs.Absent.{IsAbsent, IsRest};
 ghost use Rattle.projection.specs.Cuts.{IsPart};
 ghost use Rattle.projection.specs.Pieces.{is_early, is_put_before_end, is_taken_before_end};
 
@@ -103,10 +103,8 @@ pub fn without(
 ) -> Result<Option<ObjectHistory>, AllocError>
     ensures part { IfOk result (λ o. IfSome o (λ p. IsPart history.now p)) }
     ensures kind { IfOk result (λ o. IfSome o (λ p. p.kind ≡ history.now.kind)) }
-    ensures absent { IfOk result (λ o. IfSome o (λ p.
-        IsAbsent value before (calls_of history.now.ops))) }
     ensures calls { IfOk result (λ o. IfSome o (λ p.
-        calls_of p.ops ≡ calls_without value before (calls_of history.now.ops))) }
+        IsRest value before (calls_of history.now.ops) (calls_of p.ops))) }
     // `None` is given only where the value may have been in the object.
     ensures refused { IfOk result (λ o. o ≡ None
         → IsAbsent value before (calls_of history.now.ops) → ⊥) }

@@ -25,7 +25,10 @@ pub enum Cut {
     Until(u32),
     /// All except what was done with this value before this number, where it surely was not in: see
     /// [`without`].
-    Without { value: i64, before: u32 },
+    Without {
+        value: i64,
+        before: u32,
+    },
     /// The operations with these numbers, which keep these values, or keys: see [`keep`].
     Keep {
         values: Values,

@@ -1,8 +1,21 @@
+use Rattle.std.proofs.Common.{ℤ, count_by, ap, ◌∙◌, w64}
+use Rattle.std.proofs.lemmas.Int.{to_z-of_z}
+use Rattle.projection.specs.Pieces.{is_put_before_end, is_taken_before_end}
 use Rattle.projection.proofs.Early.{absent_from, absent_to}
 use Rattle.projection.proofs.absent.is_absent.Goals as goal
 
 pub returns-clause-yes : goal.returns-clause-yes
-returns-clause-yes c e = absent_from c.args.value c.args.before c.args.operations.now c.put_count.result c.taken_count.result c.put_count.ensures c.taken_count.ensures e
+returns-clause-yes c e =
+    let os = c.args.operations.now in
+    let same = to_z-of_z w64 c.args.value c.ranges.value in
+    let put = c.put_count.ensures ∙ ap (λ (z : ℤ). count_by (λ o. is_put_before_end z c.args.before o.number o.op o.«end») os) same in
+    let taken = c.taken_count.ensures ∙ ap (λ (z : ℤ). count_by (λ o. is_taken_before_end z c.args.before o.op o.«end») os) same in
+    absent_from c.args.value c.args.before os c.put_count.result c.taken_count.result put taken e
 
 pub returns-clause-no : goal.returns-clause-no
-returns-clause-no c absent = absent_to c.args.value c.args.before c.args.operations.now c.put_count.result c.taken_count.result c.put_count.ensures c.taken_count.ensures absent
+returns-clause-no c absent =
+    let os = c.args.operations.now in
+    let same = to_z-of_z w64 c.args.value c.ranges.value in
+    let put = c.put_count.ensures ∙ ap (λ (z : ℤ). count_by (λ o. is_put_before_end z c.args.before o.number o.op o.«end») os) same in
+    let taken = c.taken_count.ensures ∙ ap (λ (z : ℤ). count_by (λ o. is_taken_before_end z c.args.before o.op o.«end») os) same in
+    absent_to c.args.value c.args.before os c.put_count.result c.taken_count.result put taken absent

@@ -98,17 +98,17 @@ heap_goes v [] ExtractMin r = λ a. (heap [], refl, (refl, tt))
 heap_goes v (w ∷ vs) ExtractMin r = λ a. (heap (filter (others v) vs), ap (λ us. next (heap us) ExtractMin) (filter_in (others v) w vs (ap not a.1)), (refl, r.1))
 heap_goes v vs op r = tt
 
+abbrev swapped : Option ℤ → ℤ → ℤ → Bool → Option (Content × AnyReply)
+swapped x a b t = cond t (Some (register (Some b), Swapped a b)) (Some (register x, NotSwapped))
+
 register_goes : (v : ℤ) (x : Option ℤ) (op : AnyOp) → IfSome (next (register x) op) (λ p. IsApart v op p.1 → Goes v op (register x) p.0 p.1)
 register_goes v x (Write w) = λ a. (register (Some w), refl, refl)
 register_goes v x Read = λ a. (register x, refl, refl)
 register_goes v x (Cas a b) = go (contains_value x a) refl
   where
-    abbrev swap : Bool → Option (Content × AnyReply)
-    swap t = cond t (Some (register (Some b), Swapped a b)) (Some (register x, NotSwapped))
-
-    go : (t : Bool) → contains_value x a ≡ t → IfSome (swap t) (λ p. IsApart v (Cas a b) p.1 → Goes v (Cas a b) (register x) p.0 p.1)
-    go true e = λ k. (register (Some b), ap swap e, refl)
-    go false e = λ k. (register x, ap swap e, refl)
+    go : (t : Bool) → contains_value x a ≡ t → IfSome (swapped x a b t) (λ p. IsApart v (Cas a b) p.1 → Goes v (Cas a b) (register x) p.0 p.1)
+    go true e = λ k. (register (Some b), ap (swapped x a b) e, refl)
+    go false e = λ k. (register x, ap (swapped x a b) e, refl)
 register_goes v x op = tt
 
 table_goes : (v : ℤ) (m : table_of.FinMap int_cmp ℤ) (op : AnyOp) → IfSome (next (table m) op) (λ p. IsApart v op p.1 → Goes v op (table m) p.0 p.1)
@@ -326,7 +326,7 @@ early_spent v number e es c after reply t early spent = elim (or_true (is_put_be
       let told = ap one (early_taking v number e taken).0 in
       let here = ap one taken in
       take_sums (one (takes_out (int_eq v) e.op (Some reply))) _ _ _ _ _ _ _ t.balance t.fewer told here (and_le (puts_in (int_eq v) e.op) (nat_lt e.number number))
-          (no_put e.op (reply_of e.returned) (early_taking v number e taken).0) spent
+      (no_put e.op (reply_of e.returned) (early_taking v number e taken).0) spent
 ]
   where
     put_sums : (after took size put early told here more gone : ℕ) → after + took ≡ size + put → put ≡ 1 → early ≡ 1 → took ≡ 0 → here ≤ told → told ≡ 0
@@ -336,7 +336,7 @@ early_spent v number e es c after reply t early spent = elim (or_true (is_put_be
     no_put : (op : AnyOp) (r : Option AnyReply) → takes_out (int_eq v) op r ≡ true → one (puts_in (int_eq v) op) ≡ 0
     no_put op r k = elim (test_cases (puts_in (int_eq v) op)) [
       | inl put ↦ absurd (unlike (sym (no_put_takes (int_eq v) op r put) ∙ k))
-      | inr no_put ↦ ap one no_put
+      | inr none ↦ ap one none
     ]
 
     take_sums : (took after size put told here early more : ℕ) → after + took ≡ size + put → told ≤ took → told ≡ 1 → here ≡ 1 → early ≤ put → put ≡ 0
@@ -350,7 +350,7 @@ without_early v number (e ∷ es) c d s h p spent =
     let t = turn (int_eq v) e c h.0 h.1 h.2 h.3 in
     elim (test_cases (is_put_before v number e || is_taken_before v number e)) [
       | inl early ↦
-          let skipped = subst (λ z. IfSome z (λ p. Touches v e.op p.1 → IsOthers v p.0 d)) h.2 (skips v c d e.op s) (touched early t.fewer) in
+          let skipped = subst (λ z. IfSome z (λ p. Touches v e.op p.1 → IsOthers v p.0 d)) h.2 (skips v c d e.op s) (touched h.1 early t.fewer) in
           subst (RepliesAlong d) (sym (filter_away (stays v number) e es (ap not early)))
           (without_early v number es h.0 d skipped h.4 p.1 (early_spent v number e es c h.0 h.1 t early spent))
       | inr late ↦
@@ -372,9 +372,9 @@ without_early v number (e ∷ es) c d s h p spent =
     zero : (here gone : ℕ) → here ≡ 0 → gone ≡ 0 → here + gone ≡ 0
     zero here gone a b = omega arith
 
-    touched : {reply : AnyReply} → (is_put_before v number e || is_taken_before v number e) ≡ true
+    touched : (reply : AnyReply) → (is_put_before v number e || is_taken_before v number e) ≡ true
         → one (takes_out (int_eq v) e.op (reply_of e.returned)) ≤ one (takes_out (int_eq v) e.op (Some reply)) → Touches v e.op reply
-    touched {reply} early fewer = elim (or_true (is_put_before v number e) (is_taken_before v number e) early) [
+    touched reply early fewer = elim (or_true (is_put_before v number e) (is_taken_before v number e) early) [
       | inl put ↦ inl (early_put v number e put).0
       | inr taken ↦ inr (more (takes_out (int_eq v) e.op (reply_of e.returned)) (takes_out (int_eq v) e.op (Some reply)) (early_taking v number e taken).0 fewer)
     ]
