@@ -6,16 +6,12 @@
 //! a pending call may be needed, or values may come more than once.
 #![tactic(auto)]
 
-mod cells;
 mod gaps;
 mod heap;
-mod links;
 mod methods;
 mod mutex;
 mod queue;
-mod refusing;
 mod residences;
-mod runs;
 mod stack;
 mod trees;
 

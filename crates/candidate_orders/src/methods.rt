@@ -1,6 +1,6 @@
 //! The methods of looking for an order of the calls of an object.
 
-use crate::cells::cells_order;
+use cell_orders::order_of_cells;
 use crate::heap::heap_order;
 use crate::mutex::mutex_order;
 use crate::queue::queue_order;
@@ -46,7 +46,7 @@ fn order_of_kind(
 ) -> Result<Option<Vec<i64>>, AllocError> {
     let timeline = timeline_of(alloc, operations)?;
     match kind {
-        Kind::Register | Kind::Map => cells_order(alloc, &timeline),
+        Kind::Register | Kind::Map => order_of_cells(alloc, &timeline),
         Kind::Mutex => mutex_order(alloc, &timeline),
         Kind::Queue | Kind::Stack | Kind::Heap => residences_order(alloc, kind, &timeline),
     }
