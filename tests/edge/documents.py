@@ -1,22 +1,75 @@
-"""Checks that documents agree with the code: the tables of crates, and the counts of lines to believe."""
+"""Checks that documents agree with the code: tables of crates, contracts, counts of lines to believe, links, and words to avoid."""
+import os
 import re
 import subprocess
 
 from .running import ROOT
 
+PAGES = [
+    f"{base}/{file}"
+    for folder in ("", "docs", "bench", "examples")
+    for base, _, files in os.walk(f"{ROOT}/{folder}".rstrip("/"))
+    for file in sorted(files)
+    if file.endswith(".md") and (folder or base == ROOT)
+]
+
+
+def read(path):
+    with open(path) as file:
+        return file.read()
+
 
 def documents(program, report):
     """What scripts of docs/ find is what the pages say."""
-    ran = subprocess.run([f"{ROOT}/docs/crate_tables.py", "--check"], capture_output=True, text=True)
-    report.equal("documents: docs/architecture.md agrees with crates.txt", 0, ran.returncode, ran.stdout + ran.stderr)
+    for script, page in (("crate_tables.py", "architecture.md"), ("contract_list.py", "contracts.md")):
+        ran = subprocess.run([f"{ROOT}/docs/{script}", "--check"], capture_output=True, text=True)
+        report.equal(f"documents: docs/{page} agrees with the code", 0, ran.returncode, ran.stdout + ran.stderr)
     ran = subprocess.run([f"{ROOT}/docs/lines_to_believe.py"], capture_output=True, text=True)
     counted = re.findall(r"^(\w+)\D+(\d+)", ran.stdout, re.M)
     report.equal("documents: two counts of lines to believe", ["judge_history", "judge"], [name for name, _ in counted], ran.stderr)
-    for page in ("README.md", "docs/definitions.md"):
-        with open(f"{ROOT}/{page}") as file:
-            text = file.read()
+    for page in ("README.md", "docs/definitions.md", "docs/guarantees.md"):
+        text = read(f"{ROOT}/{page}")
         for name, count in counted:
             report.holds(f"documents: {page} has the count for {name}, {count}", re.search(rf"\b{count}\b", text))
 
 
-PARTS = (documents,)
+def anchors(text):
+    """The anchors of the headings of a page, as GitHub makes them."""
+    headings = re.findall(r"^#+ (.*)$", text, re.M)
+    return {re.sub(r"[^\w\- ]", "", heading.lower()).replace(" ", "-") for heading in headings}
+
+
+def links(program, report):
+    """Each link of a page to a file of the repository leads to one, and to a heading of it where it names one."""
+    for page in PAGES:
+        for target in re.findall(r"\]\(([^)\s]+)\)", read(page)):
+            if "://" in target:
+                continue
+            path, _, anchor = target.partition("#")
+            path = os.path.normpath(f"{os.path.dirname(page)}/{path}") if path else page
+            there = os.path.exists(path) and (not anchor or anchor in anchors(read(path)))
+            report.holds(f"links: {os.path.relpath(page, ROOT)}: {target}", there)
+
+
+def words_to_avoid():
+    """The words in the first column of the table of CONTRIBUTING."""
+    table = read(f"{ROOT}/docs/CONTRIBUTING.md").partition("| avoid | write |\n")[2].partition("\n\n")[0]
+    return re.findall(r"^\| ([^|]+?) \|", table, re.M)[1:]
+
+
+def plain_words(program, report):
+    """No page, doc comment or message of the code has one of the words to avoid."""
+    words = words_to_avoid()
+    report.holds("plain_words: CONTRIBUTING has a table of words to avoid", len(words) > 5)
+    texts = {os.path.relpath(page, ROOT): read(page) for page in PAGES if not page.endswith("CONTRIBUTING.md")}
+    for base, _, files in os.walk(f"{ROOT}/crates"):
+        if os.path.basename(base) == "src" or "/src/" in base:
+            for file in (it for it in files if it.endswith(".rt")):
+                said = "\n".join(line for line in read(f"{base}/{file}").split("\n") if re.match(r" *//[/!]", line))
+                texts[os.path.relpath(f"{base}/{file}", ROOT)] = said
+    for word in words:
+        found = [name for name, text in texts.items() if re.search(rf"\b{re.escape(word)}\b", text, re.I)]
+        report.equal(f"plain_words: nobody writes '{word}'", [], found)
+
+
+PARTS = (documents, links, plain_words)

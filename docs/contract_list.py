@@ -1,0 +1,164 @@
+#!/usr/bin/env python3
+"""Writes docs/contracts.md: of each library crate its public functions, and of each function its clauses.
+
+    docs/contract_list.py [--check]
+
+All of it comes from the source: what a crate is from the first lines of its lib.rt, what a function does from its doc comment, and what a
+clause says from the comment before it and from the clause itself. With --check nothing is written: the exit status is 1 where
+the page is another than the one that would be written."""
+import os
+import re
+import sys
+
+from crate_tables import ROOT, groups
+
+PAGE = f"{ROOT}/docs/contracts.md"
+HEAD = """# The contracts, crate by crate
+
+This page is made from the source by [contract_list.py](contract_list.py), and the gate checks that it is up to date.
+
+Each public function is listed with its clauses: what it asks of its caller (*asks*), and what it promises. A clause has a name, except
+where a function has only one, and its text, after the comment that the source has before it. The text is in the words of
+[definitions.md](definitions.md): `IfOk result P` says that P holds of the result where it is Ok, and so `IfErr`, `IfSome`, `OnOk`.
+`x.now` is what an argument refers to, `x.old` and `x.new` what it referred to before and after.
+[guarantees.md](guarantees.md) says what follows for a user of the program.
+"""
+FN = re.compile(r"^( *)(pub )?(?:const )?(?:unsafe )?fn (\w+)")
+CLAUSE = re.compile(r"^ *(ensures|requires)(?: ([a-z_]\w*))? \{")
+
+
+def lines_of(path):
+    with open(path) as file:
+        return file.read().split("\n")
+
+
+def exported(crate):
+    """The names that a crate's lib.rt makes public, and those of its modules that are."""
+    text = "\n".join(lines_of(f"{ROOT}/crates/{crate}/src/lib.rt"))
+    names, modules = set(), set(re.findall(r"^pub mod (\w+)", text, re.M))
+    for found in re.finditer(r"^pub use ([\w:]+?)(?:::\{([^}]*)\})?;", text, re.M):
+        path, many = found.groups()
+        names |= {it.strip() for it in many.split(",")} if many else {path.split("::")[-1]}
+    return names, modules
+
+
+def about(crate):
+    """What the crate is: the first lines of its lib.rt."""
+    found = []
+    for line in lines_of(f"{ROOT}/crates/{crate}/src/lib.rt"):
+        if not line.startswith("//!"):
+            break
+        if line == "//!":
+            break
+        found.append(line[3:].strip())
+    return " ".join(found)
+
+
+def comment_before(lines, at, mark):
+    """The comment that ends right before a line."""
+    first = at
+    while first and (lines[first - 1].strip().startswith(mark) or mark == "///" and lines[first - 1].strip().startswith("#[")):
+        first -= 1
+    said = [it.strip()[len(mark):].strip() for it in lines[first:at] if it.strip().startswith(mark)]
+    return said
+
+
+def closed(lines, at, opening):
+    """The text of a block that begins at a column of a line, and the line after it."""
+    depth, text = 0, ""
+    for number in range(at, len(lines)):
+        for character in lines[number][opening if number == at else 0:]:
+            depth += (character == "{") - (character == "}")
+            text += character
+            if not depth:
+                return text[1:-1], number + 1
+        text += " "
+    return text, len(lines)
+
+
+def clauses(lines, at):
+    """The clauses after a function's signature: kind, name, comment and text of each."""
+    found = []
+    while at < len(lines):
+        line = lines[at]
+        match = CLAUSE.match(line)
+        if match:
+            text, after = closed(lines, at, match.end() - 1)
+            found.append((match.group(1), match.group(2), " ".join(comment_before(lines, at, "//")), " ".join(text.split())))
+            at = after
+        elif re.match(r"^ *\{", line) or line.rstrip().endswith(("{", "{}", ";")) and not found and FN.match(line):
+            break
+        elif found and not line.strip().startswith("//"):
+            break
+        else:
+            at += 1
+            if line.rstrip().endswith((";", " {", " {}")):
+                break
+    return found
+
+
+def functions(crate):
+    """The public functions of a crate: where each is, its name, its doc comment and its clauses."""
+    names, modules = exported(crate)
+    folder = f"{ROOT}/crates/{crate}/src"
+    for base, folders, files in os.walk(folder):
+        folders.sort()
+        for file in sorted(files):
+            lines, owner, is_trait = lines_of(f"{base}/{file}"), "", False
+            for at, line in enumerate(lines):
+                head = re.match(r"^(?:pub )?(?:unsafe )?(impl|trait)(?:<.*?>)? (?:[\w:<>', ]+ for )?(\w+)", line)
+                if head:
+                    owner, is_trait = head.group(2), head.group(1) == "trait"
+                elif re.match(r"^\}", line):
+                    owner = ""
+                function = FN.match(line)
+                if not function or not (function.group(2) or owner and is_trait):
+                    continue
+                indent, name = function.group(1), function.group(3)
+                if (owner if indent else name) not in names and file != "lib.rt" and file[:-3] not in modules:
+                    continue
+                doc = comment_before(lines, at, "///")
+                yield f"{owner}::{name}" if indent and owner else name, doc, clauses(lines, at + 1 if not CLAUSE.match(line) else at)
+
+
+def first_paragraph(doc):
+    return " ".join(doc[: doc.index("")] if "" in doc else doc)
+
+
+def page():
+    made = [HEAD]
+    for heading, crates in groups():
+        if heading.startswith("Tests"):
+            continue
+        rows = []
+        for crate, _ in crates:
+            if not os.path.isfile(f"{ROOT}/crates/{crate}/src/lib.rt"):
+                continue
+            listed = [it for it in functions(crate) if it[2]]
+            rows.append(f"\n### `{crate}`\n\n{about(crate)}")
+            for name, doc, said in listed:
+                rows.append(f"\n**`{name}`** {first_paragraph(doc)}\n")
+                for kind, label, comment, text in said:
+                    mark = "*asks*" if kind == "requires" else ""
+                    label = f"`{label}`" if label else ""
+                    head = " ".join(filter(None, (mark, label)))
+                    rows.append("- " + " ".join(filter(None, (head and f"{head}:", comment, f"`{text}`"))))
+        if rows:
+            made.append(f"\n## {heading}\n" + "\n".join(rows) + "\n")
+    return "".join(made)
+
+
+def main(*options):
+    made = page()
+    if "--check" in options:
+        same = os.path.isfile(PAGE) and "\n".join(lines_of(PAGE)) == made
+        if not same:
+            print("docs/contracts.md is not up to date: docs/contract_list.py mends it")
+        return 0 if same else 1
+    with open(PAGE, "w") as file:
+        file.write(made)
+    return 0
+
+
+if __name__ == "__main__":
+    sys.exit(main(*sys.argv[1:]))
