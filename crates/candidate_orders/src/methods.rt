@@ -1,11 +1,11 @@
 //! The methods of looking for an order of the calls of an object.
 
-use cell_orders::order_of_cells;
 use crate::heap::heap_order;
 use crate::mutex::mutex_order;
 use crate::queue::queue_order;
 use crate::residences::residences_of;
 use crate::stack::stack_order;
+use cell_orders::order_of_cells;
 use events::{Invocation, ObjectHistory};
 use order_search::{Outcome, TryFirst, find_order};
 use seq_objects::Kind;
