@@ -11,7 +11,10 @@ use std::alloc::{AllocError, Global};
 use timed_calls::{Access, Moment, NOTHING, Need, TimedCall, moments_of};
 
 /// The most steps in which a search comes no further.
-const MOST_IN_VAIN: usize = 3_000_000;
+const MOST_IN_VAIN: usize = 1_500_000;
+
+/// The most steps in which a hasty search comes no further and goes back step by step.
+const MOST_UNTIL_HASTE: usize = 5_000;
 
 /// The state in which a call returns that has no place, and how many steps were tried there.
 #[derive(Clone, Copy)]
@@ -44,10 +47,12 @@ struct Search<'a> {
     /// The furthest moment, and the number of steps when the search came there.
     furthest: usize,
     steps_there: usize,
+    /// Whether it leaps back further than is known to be of no matter.
+    hasty: bool,
 }
 
 impl<'a> Search<'a> {
-    fn new(alloc: Global, accesses: &'a [Access]) -> Result<Search<'a>, AllocError> {
+    fn new(alloc: Global, accesses: &'a [Access], hasty: bool) -> Result<Search<'a>, AllocError> {
         let calls: Vec<TimedCall> = accesses.iter().map(|access| access.call).collect(alloc)?;
         Ok(Search {
             accesses,
@@ -63,6 +68,7 @@ impl<'a> Search<'a> {
             steps: 0,
             furthest: 0,
             steps_there: 0,
+            hasty,
         })
     }
 
@@ -225,33 +231,40 @@ impl<'a> Search<'a> {
         }
     }
 
-    /// How many calls come before the last one in the order that sets one of these contents.
-    fn before_last(&mut self, contents: &[usize]) -> Option<usize> {
+    /// How many calls come before the last one in the order that sets one of these contents, and
+    /// could be placed later: no call that is against them comes wholly after it, and before this
+    /// call begins.
+    fn before_last(&mut self, contents: &[usize], call: usize) -> Option<usize> {
+        let begin = self.accesses.get(call)?.call.begin;
+        let mut barrier = 0;
         for k in (0..self.order.len()).rev() {
             self.steps = self.steps.saturating_add(1);
             let access = self.accesses.get(*self.order.get(k)?)?;
-            if access
-                .sets
-                .is_some_and(|content| contents.contains(&content))
-            {
+            let Some(content) = access.shows() else {
+                continue;
+            };
+            if !contents.contains(&content) {
+                if access.call.end <= begin {
+                    barrier = access.call.begin.max(barrier);
+                }
+            } else if access.sets.is_some() && access.call.end > barrier {
                 return Some(k);
             }
         }
         None
     }
 
-    /// Where no way leads to what the call at this choice asks for, gives up the choices since one
-    /// of the contents was set that lead there: none of them can set it again.
+    /// Gives up the choices since one of the contents was set that lead to what the call at this
+    /// choice asks for. Where no way leads there now, none of them can set it again.
     fn leap_back(&mut self, alloc: Global, choice: &Choice) -> Result<(), AllocError> {
         let mut contents = Vec::new(alloc);
         let position = self.position(choice);
         let Some(goal) = position.goal() else {
             return Ok(());
         };
-        if position.step_to(goal, &mut contents)?.is_some() {
-            return Ok(());
-        }
-        let mut keep = match self.before_last(&contents) {
+        let _step = position.step_to(goal, &mut contents)?;
+        let last = self.before_last(&contents, choice.call);
+        let mut keep = match last {
             Some(last) => self.choices.partition_point(|choice| choice.placed <= last),
             None => 0,
         };
@@ -260,6 +273,11 @@ impl<'a> Search<'a> {
         }
         self.choices.truncate(keep);
         Ok(())
+    }
+
+    /// Whether the search leaps back at each dead end, since it came no further for long.
+    fn is_stuck(&self) -> bool {
+        self.hasty && self.steps > self.steps_there.saturating_add(MOST_UNTIL_HASTE)
     }
 
     /// Tries the next step of the last state that has one left. False where none has.
@@ -278,7 +296,7 @@ impl<'a> Search<'a> {
                 return Ok(true);
             }
             self.dead_ends.add(choice.fingerprint);
-            if choice.tried == 0 {
+            if choice.tried == 0 || self.is_stuck() {
                 self.leap_back(alloc, &choice)?;
             }
         }
@@ -318,15 +336,19 @@ fn most_steps(calls: usize) -> usize {
     calls.saturating_mul(100).saturating_add(20_000)
 }
 
-/// The places of a cell's calls in an order that may be valid.
+/// The places of a cell's calls in an order that may be valid. The second search leaves out more.
 pub(crate) fn searched_order(
     alloc: Global,
     accesses: &[Access],
 ) -> Result<Option<Vec<usize>>, AllocError> {
-    let mut search = Search::new(alloc, accesses)?;
-    if search.succeeds(alloc, most_steps(accesses.len()))? {
-        Ok(Some(search.order))
-    } else {
-        Ok(None)
+    for hasty in [false, true] {
+        let mut search = Search::new(alloc, accesses, hasty)?;
+        if search.succeeds(alloc, most_steps(accesses.len()))? {
+            return Ok(Some(search.order));
+        }
+        if search.choices.is_empty() {
+            break;
+        }
     }
+    Ok(None)
 }
