@@ -1,18 +1,12 @@
 //! Orders of an object's calls that may be valid, each looked for by a method that is made for its
 //! kind. No contract says that one is: `finder` checks each before it hands it out.
 //!
-//! The methods are made to find an order of a queue, stack, heap, register or map in which each
-//! value is put in once, and of any mutex, in some n log n steps of n calls. They do not find each:
-//! a pending call may be needed, or values may come more than once.
+//! The methods are made to find an order of any mutex, and of a queue, stack or heap in which each
+//! value is put in once, in some n log n steps of n calls. Where values repeat `value_orders` finds
+//! many orders of these, and `cell_orders` of registers and maps. They do not find each.
 #![tactic(auto)]
 
-mod gaps;
-mod heap;
 mod methods;
 mod mutex;
-mod queue;
-mod residences;
-mod stack;
-mod trees;
 
 pub use methods::{Method, order_by};
