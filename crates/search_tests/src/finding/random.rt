@@ -40,13 +40,13 @@ struct Contents {
 
 /// A call in words: its function, its argument and its reply.
 #[derive(Debug, Drop)]
-struct Words {
-    function: &'static str,
-    argument: String,
-    reply: String,
+pub(super) struct Words {
+    pub(super) function: &'static str,
+    pub(super) argument: String,
+    pub(super) reply: String,
 }
 
-fn number(alloc: Global, value: Option<u32>) -> Result<String, AllocError> {
+pub(super) fn number(alloc: Global, value: Option<u32>) -> Result<String, AllocError> {
     match value {
         Some(value) => format!(in alloc; "{value}"),
         None => String::from_str(alloc, "nil"),
@@ -54,7 +54,7 @@ fn number(alloc: Global, value: Option<u32>) -> Result<String, AllocError> {
 }
 
 /// A call whose argument and reply are numbers, or nothing.
-fn words_of(
+pub(super) fn words_of(
     alloc: Global,
     function: &'static str,
     argument: Option<u32>,
@@ -237,7 +237,11 @@ fn moments_of(
 }
 
 /// A history of these calls, each by a process of its own.
-fn history_text(alloc: Global, random: &mut Random, calls: &[Words]) -> Result<String, AllocError> {
+pub(super) fn history_text(
+    alloc: Global,
+    random: &mut Random,
+    calls: &[Words],
+) -> Result<String, AllocError> {
     let mut text = String::new(alloc);
     for (_, place, returns) in &moments_of(alloc, random, calls.len())? {
         if let Some(call) = calls.get(*place) {
@@ -274,7 +278,11 @@ fn idle_pair(alloc: Global, kind: Kind) -> Result<String, AllocError> {
 }
 
 /// This history after 4,098 calls that leave the object as it is.
-fn behind_idle_calls(alloc: Global, kind: Kind, text: &str) -> Result<String, AllocError> {
+pub(super) fn behind_idle_calls(
+    alloc: Global,
+    kind: Kind,
+    text: &str,
+) -> Result<String, AllocError> {
     let pair = idle_pair(alloc, kind)?;
     let mut long = String::new(alloc);
     for _ in 0..2_049 {
@@ -285,7 +293,7 @@ fn behind_idle_calls(alloc: Global, kind: Kind, text: &str) -> Result<String, Al
 }
 
 /// The one object of a history.
-fn object_of(alloc: Global, text: &str) -> Result<ObjectHistory, Fail> {
+pub(super) fn object_of(alloc: Global, text: &str) -> Result<ObjectHistory, Fail> {
     match objects_of(alloc, text)?.pop() {
         Some(object) => Ok(object),
         None => Err(Fail::new("no object is named")),
@@ -293,7 +301,7 @@ fn object_of(alloc: Global, text: &str) -> Result<ObjectHistory, Fail> {
 }
 
 /// Whether a search finds an order of the object; `None` where it has too many operations for one.
-fn searched(alloc: Global, history: &ObjectHistory) -> Result<Option<bool>, Fail> {
+pub(super) fn searched(alloc: Global, history: &ObjectHistory) -> Result<Option<bool>, Fail> {
     match find_order(alloc, history, TryFirst::LeastNumber, 1_000_000).outcome {
         Outcome::Found(_) => Ok(Some(true)),
         Outcome::Impossible => Ok(Some(false)),
@@ -303,7 +311,7 @@ fn searched(alloc: Global, history: &ObjectHistory) -> Result<Option<bool>, Fail
 }
 
 /// Whether the finder finds an order of the object, which the checker accepts.
-fn found(alloc: Global, history: &ObjectHistory) -> Result<bool, Fail> {
+pub(super) fn found(alloc: Global, history: &ObjectHistory) -> Result<bool, Fail> {
     match find(alloc, history)? {
         FindOutcome::Order(certificate) => {
             if check_object(alloc, history, &certificate).is_err() {
@@ -316,7 +324,7 @@ fn found(alloc: Global, history: &ObjectHistory) -> Result<bool, Fail> {
 }
 
 /// Whether an order is found of a history that is too long for a search.
-fn found_without_search(alloc: Global, text: &str) -> Result<bool, Fail> {
+pub(super) fn found_without_search(alloc: Global, text: &str) -> Result<bool, Fail> {
     let object = object_of(alloc, text)?;
     if searched(alloc, &object)?.is_some() {
         return Err(Fail::new("a history is short enough for a search"));
