@@ -1,5 +1,6 @@
 //! The finder, on a history of each kind.
 
+mod cells;
 mod random;
 mod rows;
 mod small;

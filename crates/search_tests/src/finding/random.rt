@@ -40,13 +40,13 @@ struct Contents {
 
 /// A call in words: its function, its argument and its reply.
 #[derive(Debug, Drop)]
-struct Words {
-    function: &'static str,
-    argument: String,
-    reply: String,
+pub(super) struct Words {
+    pub(super) function: &'static str,
+    pub(super) argument: String,
+    pub(super) reply: String,
 }
 
-fn number(alloc: Global, value: Option<u32>) -> Result<String, AllocError> {
+pub(super) fn number(alloc: Global, value: Option<u32>) -> Result<String, AllocError> {
     match value {
         Some(value) => format!(in alloc; "{value}"),
         None => String::from_str(alloc, "nil"),
@@ -54,7 +54,7 @@ fn number(alloc: Global, value: Option<u32>) -> Result<String, AllocError> {
 }
 
 /// A call whose argument and reply are numbers, or nothing.
-fn words_of(
+pub(super) fn words_of(
     alloc: Global,
     function: &'static str,
     argument: Option<u32>,
@@ -237,7 +237,11 @@ fn moments_of(
 }
 
 /// A history of these calls, each by a process of its own.
-fn history_text(alloc: Global, random: &mut Random, calls: &[Words]) -> Result<String, AllocError> {
+pub(super) fn history_text(
+    alloc: Global,
+    random: &mut Random,
+    calls: &[Words],
+) -> Result<String, AllocError> {
     let mut text = String::new(alloc);
     for (_, place, returns) in &moments_of(alloc, random, calls.len())? {
         if let Some(call) = calls.get(*place) {
