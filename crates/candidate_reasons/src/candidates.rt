@@ -2,7 +2,7 @@
 
 use crate::patterns::Pattern;
 use crate::plans::{Element, Plan};
-use crate::runs::Runs;
+use crate::runs::{Run, Runs};
 use std::alloc::{AllocError, Global};
 use timed_calls::TimedCall;
 
@@ -16,6 +16,18 @@ pub(crate) struct Candidate {
     pub(crate) weight: usize,
 }
 
+/// A value with at most this many calls is kept whole.
+const FEW_CALLS: usize = 8;
+
+/// The number before which what was done with the value of a run is left out; none where the run is
+/// its first, or the value has few calls.
+fn since_of(runs: &Runs, run: &Run) -> Option<u32> {
+    if runs.calls_of(run.value) <= FEW_CALLS {
+        return None;
+    }
+    run.since
+}
+
 /// The values of runs, in rising order, each once, and since when.
 fn kept_of(
     alloc: Global,
@@ -25,7 +37,7 @@ fn kept_of(
     let mut kept = Vec::new(alloc);
     for place in chain {
         if let Some(run) = runs.runs.get(*place) {
-            kept.push((run.value, run.since))?;
+            kept.push((run.value, since_of(runs, run)))?;
         }
     }
     kept.sort_unstable();
