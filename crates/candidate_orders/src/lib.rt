@@ -2,21 +2,16 @@
 //! kind. No contract says that one is: `finder` checks each before it hands it out.
 //!
 //! The methods are made to find an order of a queue, stack, heap, register or map in which each
-//! value is put in once, and of any mutex, in some n log n steps of n calls. They do not find each:
-//! a pending call may be needed, or values may come more than once.
+//! value is put in once, and of any mutex, in some n log n steps of n calls; of queues, heaps and
+//! stacks `value_orders` finds many where values repeat, too. They do not find each: a pending call
+//! may be needed, or equal values may have to be told apart.
 #![tactic(auto)]
 
 mod cells;
-mod gaps;
-mod heap;
 mod links;
 mod methods;
 mod mutex;
-mod queue;
 mod refusing;
-mod residences;
 mod runs;
-mod stack;
-mod trees;
 
 pub use methods::{Method, order_by};

@@ -1,41 +1,24 @@
 //! The methods of looking for an order of the calls of an object.
 
 use crate::cells::cells_order;
-use crate::heap::heap_order;
 use crate::mutex::mutex_order;
-use crate::queue::queue_order;
-use crate::residences::residences_of;
-use crate::stack::stack_order;
 use events::{Invocation, ObjectHistory};
 use order_search::{Outcome, TryFirst, find_order};
 use seq_objects::Kind;
 use std::alloc::{AllocError, Global};
-use timed_calls::{Timeline, timeline_of};
+use timed_calls::timeline_of;
+use value_orders::{other_values_order, values_order};
 
 /// A method of looking for an order.
 #[derive(Clone, Copy, Debug, PartialEq, Eq)]
 pub enum Method {
     /// The one that is made for the kind of the object.
     OfTheKind,
+    /// The same for a stack or heap in which it can be chosen which removal takes which value, with
+    /// another choice.
+    OtherPairs,
     /// The bounded search, where there are few enough operations for it.
     Search,
-}
-
-/// An order of the calls of a queue, stack or heap that may be valid.
-fn residences_order(
-    alloc: Global,
-    kind: Kind,
-    timeline: &Timeline,
-) -> Result<Option<Vec<i64>>, AllocError> {
-    let Some(residences) = residences_of(alloc, &timeline.calls)? else {
-        return Ok(None);
-    };
-    match kind {
-        Kind::Queue => queue_order(alloc, timeline, residences),
-        Kind::Stack => stack_order(alloc, timeline, residences),
-        Kind::Heap => heap_order(alloc, timeline, residences),
-        _ => Ok(None),
-    }
 }
 
 /// An order of the calls that may be valid.
@@ -48,7 +31,23 @@ fn order_of_kind(
     match kind {
         Kind::Register | Kind::Map => cells_order(alloc, &timeline),
         Kind::Mutex => mutex_order(alloc, &timeline),
-        Kind::Queue | Kind::Stack | Kind::Heap => residences_order(alloc, kind, &timeline),
+        Kind::Queue | Kind::Stack | Kind::Heap => values_order(alloc, kind, &timeline),
+    }
+}
+
+/// Another order of the calls of a stack or heap that may be valid; none where there is nothing to
+/// be chosen.
+fn order_of_other_pairs(
+    alloc: Global,
+    kind: Kind,
+    operations: &[Invocation],
+) -> Result<Option<Vec<i64>>, AllocError> {
+    match kind {
+        Kind::Stack | Kind::Heap => {
+            let timeline = timeline_of(alloc, operations)?;
+            other_values_order(alloc, kind, &timeline)
+        }
+        _ => Ok(None),
     }
 }
 
@@ -76,6 +75,7 @@ pub fn order_by(
 ) -> Result<Option<Vec<i64>>, AllocError> {
     match method {
         Method::OfTheKind => order_of_kind(alloc, history.kind(), history.ops()),
+        Method::OtherPairs => order_of_other_pairs(alloc, history.kind(), history.ops()),
         Method::Search => searched_order(alloc, history),
     }
 }

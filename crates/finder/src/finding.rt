@@ -40,14 +40,14 @@ fn find_by(
     }
 }
 
-/// Looks for a certificate of an object, first by the method that is made for its kind, and then,
-/// among at most 4,096 operations, by a bounded search of 20,000 steps and 20 more for each
-/// operation.
+/// Looks for a certificate of an object, first by the method that is made for its kind, for a stack
+/// or heap with two ways of pairing the puts and removals of equal values, and then, among at most
+/// 4,096 operations, by a bounded search of 20,000 steps and 20 more for each operation.
 pub fn find(alloc: Global, history: &ObjectHistory) -> Result<FindOutcome, AllocError>
     ensures valid { IfOk result (λ f. IfOrder f
         (IsFor history.now.object history.now.kind (calls_of history.now.ops))) }
 {
-    for method in [Method::OfTheKind, Method::Search] {
+    for method in [Method::OfTheKind, Method::OtherPairs, Method::Search] {
         if let Some(certificate) = find_by(alloc, method, history)? {
             return Ok(FindOutcome::Order(certificate));
         }

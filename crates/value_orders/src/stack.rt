@@ -1,4 +1,5 @@
-//! Stacks in which each value comes once.
+//! Stacks. Where a value comes more than once each pair of a put and a removal counts as a value of
+//! its own.
 //!
 //! A value whose put and removal overlap is put and taken in one gap, anywhere. The others surely
 //! are in the stack for a while, and are cut where none of them surely is: what is after the cut
@@ -6,9 +7,14 @@
 //! others, and any that can be put before them all and taken after them all may be that one. That a
 //! stack of such calls has a valid order only where this finds one is not proved.
 
+use crate::crossings::uncross;
 use crate::gaps::Gaps;
-use crate::residences::{Residence, Residences};
-use crate::trees::{ABSENT, Counts, Least};
+use crate::matching::residences_of;
+use crate::removals::Removals;
+use crate::residences::{Residence, pair};
+use crate::stack_pairs::stack_pairs;
+use crate::touches::{Touch, Touches, first_value};
+use crate::trees::{ABSENT, Counts, Least, small};
 use std::alloc::{AllocError, Global};
 use timed_calls::{TimedCall, Timeline};
 
@@ -51,11 +57,6 @@ struct Values {
     /// For each value how many of the two are known: that it can be put before the others, and
     /// taken after them.
     known: Vec<u8>,
-}
-
-/// A place as a number of 32 bits. There are never more.
-fn small(place: usize) -> u32 {
-    u32::try_from(place).unwrap_or(u32::MAX)
 }
 
 fn surely_to(residence: &Residence, end: u32) -> u32 {
@@ -166,6 +167,8 @@ struct Ordering {
     values: Values,
     tasks: Vec<Task>,
     turns: Vec<Turn>,
+    /// Values that can't be ordered: none of them can be below the others.
+    stuck: Vec<Vec<Residence>>,
 }
 
 impl Ordering {
@@ -199,22 +202,40 @@ impl Ordering {
         Ok(true)
     }
 
-    /// Puts a value below the others of its range, and plans the rest above it. False where none
-    /// can be.
+    /// Notes that the values of a range can't be ordered.
+    fn give_up(&mut self, alloc: Global, from: usize, to: usize) -> Result<(), AllocError> {
+        let mut stuck = Vec::new(alloc);
+        let mut at = small(from);
+        for _ in from..to {
+            let place = self.values.left.first_free(at) as usize;
+            if place >= to {
+                break;
+            }
+            if let Some(residence) = self.values.residences.get(place) {
+                stuck.push(*residence)?;
+            }
+            at = small(place).saturating_add(1);
+        }
+        self.stuck.push(stuck)?;
+        Ok(())
+    }
+
+    /// Puts a value below the others of its range, and plans the rest above it.
     fn lay_lowest(
         &mut self,
+        alloc: Global,
         from: usize,
         to: usize,
         first: i64,
         last: i64,
-    ) -> Result<bool, AllocError> {
+    ) -> Result<(), AllocError> {
         self.values.note_puts(from, to, first);
         self.values.note_takes(from, to, last);
         let Some(place) = self.values.lowest.first_at_most(from, to, 0) else {
-            return Ok(false);
+            return self.give_up(alloc, from, to);
         };
         let Some(residence) = self.values.residences.get(place).copied() else {
-            return Ok(false);
+            return Ok(());
         };
         self.values.remove(place);
         self.turns.push(Turn {
@@ -223,18 +244,18 @@ impl Ordering {
         })?;
         self.tasks.push(Task::Take(place))?;
         self.tasks.push(Task::Order(from, to))?;
-        Ok(true)
+        Ok(())
     }
 
-    /// Orders the values of a range, or cuts it in two. False where neither can be done.
-    fn order(&mut self, from: usize, to: usize) -> Result<bool, AllocError> {
+    /// Orders the values of a range, or cuts it in two.
+    fn order(&mut self, alloc: Global, from: usize, to: usize) -> Result<(), AllocError> {
         let at = small(from);
         let next = self.values.left.first_free(at) as usize;
         let Some(residence) = self.values.residences.get(next) else {
-            return Ok(true);
+            return Ok(());
         };
         if next >= to {
-            return Ok(true);
+            return Ok(());
         }
         let first = residence.surely_from();
         let last = self.values.last.least(from, to).saturating_neg();
@@ -243,17 +264,17 @@ impl Ordering {
             .cover
             .first_free(first as usize, usize::try_from(last).unwrap_or(0))
         else {
-            return self.lay_lowest(from, to, first as i64, last);
+            return self.lay_lowest(alloc, from, to, first as i64, last);
         };
         let middle = self.behind(small(gap));
         self.tasks.push(Task::Order(middle, to))?;
         self.tasks.push(Task::Order(next, middle))?;
-        Ok(true)
+        Ok(())
     }
 
-    fn run(&mut self, task: Task) -> Result<bool, AllocError> {
+    fn run(&mut self, alloc: Global, task: Task) -> Result<(), AllocError> {
         match task {
-            Task::Order(from, to) => return self.order(from, to),
+            Task::Order(from, to) => self.order(alloc, from, to)?,
             Task::FindsNone(call, from) => self.turns.push(Turn { call, from })?,
             Task::Take(place) => {
                 if let Some(call) = self
@@ -266,11 +287,11 @@ impl Ordering {
                 }
             }
         }
-        Ok(true)
+        Ok(())
     }
 
-    /// Does what is planned. False where it can't be done.
-    fn run_all(&mut self) -> Result<bool, AllocError> {
+    /// Does what is planned.
+    fn run_all(&mut self, alloc: Global) -> Result<(), AllocError> {
         // each value is put and taken once, and is the first after a cut at most once
         let most = self
             .values
@@ -282,11 +303,9 @@ impl Ordering {
             let Some(task) = self.tasks.pop() else {
                 break;
             };
-            if !self.run(task)? {
-                return Ok(false);
-            }
+            self.run(alloc, task)?;
         }
-        Ok(true)
+        Ok(())
     }
 }
 
@@ -328,43 +347,140 @@ fn merged(alloc: Global, turns: &[Turn], short: &[Residence]) -> Result<Vec<i64>
     Ok(order)
 }
 
-/// Gives removals that are pending to the values that nobody is known to take and that must be
-/// gone: nothing is found by a call that begins when their put has returned, or a value that was
-/// put before them is taken then.
-fn give_removals(alloc: Global, residences: &mut Residences) -> Result<(), AllocError> {
-    let mut below = Vec::new(alloc);
-    for residence in &residences.residences {
-        if let Some(take) = residence.take {
-            below.push((residence.put.end, take.begin))?;
+/// How the pushes and pops of equal values are paired.
+#[derive(Clone, Copy, Debug, PartialEq, Eq)]
+pub(crate) enum Pairing {
+    /// A pop takes a value that can be on top.
+    OnTop,
+    /// A pop takes the last value of those that have been pushed.
+    LastIn,
+}
+
+/// The residences of the values, each pop with the last value that has been pushed. None where a
+/// pop has no push.
+fn last_in(alloc: Global, known: &[Touch], end: u32) -> Result<Option<Vec<Residence>>, AllocError> {
+    let mut gaps = Gaps::new(alloc, end)?;
+    let mut removals = Removals::new(alloc, end, Vec::new(alloc), false)?;
+    let mut residences = Vec::new(alloc);
+    let mut rest = known;
+    for _ in 0..known.len() {
+        let (own, others) = first_value(rest);
+        if own.is_empty() {
+            break;
+        }
+        let Some(own) = residences_of(alloc, own, &mut gaps, &mut removals, true)? else {
+            return Ok(None);
+        };
+        residences.extend_from_slice(&own)?;
+        rest = others;
+    }
+    Ok(Some(residences))
+}
+
+/// The residences of the values, by value and by the begin of their push. None where a pop has no
+/// push.
+fn paired(
+    alloc: Global,
+    touches: &Touches,
+    end: u32,
+    pairing: Pairing,
+) -> Result<Option<Vec<Residence>>, AllocError> {
+    if !touches.repeat() {
+        return pair(alloc, &touches.known, |touch| touch.call.begin);
+    }
+    let found = match pairing {
+        Pairing::OnTop => stack_pairs(alloc, &touches.known, &touches.empties)?,
+        Pairing::LastIn => last_in(alloc, &touches.known, end)?,
+    };
+    let Some(mut residences) = found else {
+        return Ok(None);
+    };
+    residences.sort_unstable_by_key(|residence| (residence.value, residence.put.begin));
+    Ok(Some(residences))
+}
+
+/// The values that nobody is known to take, by the begin of their put, and the removals of the
+/// others by the return of their put.
+fn left_and_taken(
+    alloc: Global,
+    residences: &[Residence],
+) -> Result<(Vec<(u32, usize)>, Vec<(u32, TimedCall)>), AllocError> {
+    let mut left = Vec::new(alloc);
+    let mut taken = Vec::new(alloc);
+    for (place, residence) in residences.iter().enumerate() {
+        match residence.take {
+            Some(take) => taken.push((residence.put.end, take))?,
+            None => left.push((residence.put.begin, place))?,
         }
     }
-    below.sort_unstable();
-    raise(&mut below);
-    let empty = residences.last_empty();
-    let needed = residences.left_before(
-        alloc,
-        |residence| taken_below(&below, residence).max(empty),
-    )?;
-    residences.give(needed);
-    Ok(())
+    left.sort_unstable();
+    taken.sort_unstable_by_key(|(end, _)| *end);
+    Ok((left, taken))
 }
 
-/// When the last removal begins of the values that were put before this one; 0 where none is taken.
-fn taken_below(below: &[(u32, u32)], residence: &Residence) -> u32 {
-    let under = below.partition_point(|(end, _)| *end < residence.put.begin);
-    under
-        .checked_sub(1)
-        .and_then(|last| below.get(last))
-        .map_or(0, |last| last.1)
-}
-
-/// Makes each second number the greatest of those up to it.
-fn raise(pairs: &mut [(u32, u32)]) {
-    let mut greatest = 0;
-    for pair in pairs.iter_mut() {
-        greatest = pair.1.max(greatest);
-        pair.1 = greatest;
+/// Notes the removals, from a place on, of values whose put returns before this moment; the first
+/// place that is left.
+fn note_below(
+    removals: &mut Removals,
+    taken: &[(u32, TimedCall)],
+    from: usize,
+    moment: u32,
+) -> usize {
+    let to = taken.partition_point(|(end, _)| *end < moment);
+    for k in from..to {
+        if let Some((_, take)) = taken.get(k) {
+            removals.note(take);
+        }
     }
+    to.max(from)
+}
+
+/// By when the values must be gone that nobody is known to take: a value that was put before them
+/// is taken, or nothing is found, by a call that begins when their put has returned.
+fn dues_of(
+    alloc: Global,
+    residences: &[Residence],
+    removals: &mut Removals,
+) -> Result<Vec<(u32, usize)>, AllocError> {
+    let (left, taken) = left_and_taken(alloc, residences)?;
+    let mut noted = 0;
+    let mut dues = Vec::new(alloc);
+    for (begin, place) in &left {
+        noted = note_below(removals, &taken, noted, *begin);
+        let Some(residence) = residences.get(*place) else {
+            break;
+        };
+        if let Some(due) = removals.due(residence.put.end) {
+            dues.push((due, *place))?;
+        }
+    }
+    dues.sort_unstable();
+    Ok(dues)
+}
+
+/// Gives removals that are pending to the values that nobody is known to take and that must be
+/// gone.
+fn give_removals(
+    alloc: Global,
+    residences: &mut [Residence],
+    empties: &[TimedCall],
+    mut removals: Removals,
+) -> Result<(), AllocError> {
+    if removals.is_empty() {
+        return Ok(());
+    }
+    for call in empties {
+        removals.note(call);
+    }
+    for (due, place) in &dues_of(alloc, residences, &mut removals)? {
+        let Some(call) = removals.take(*due) else {
+            continue;
+        };
+        if let Some(residence) = residences.get_mut(*place) {
+            residence.take = Some(call);
+        }
+    }
+    Ok(())
 }
 
 /// The values apart: those that surely are in the stack for a while, and the others, each in rising
@@ -387,21 +503,69 @@ fn apart(
     Ok((long, short))
 }
 
+/// How often the values are ordered anew, with other pairs.
+const MOST_ROUNDS: usize = 40;
+
+/// How many values are ordered at most, in all these rounds.
+const MOST_ORDERED: usize = 2_000_000;
+
+/// How many comparisons of values are made at most to find better pairs.
+const MOST_WORK: u64 = 200_000_000;
+
+/// The values between the calls that find nothing, ordered as far as that can be done. None where
+/// one of these calls has no gap.
+fn ordering_of(
+    alloc: Global,
+    long: Vec<Residence>,
+    empties: &[TimedCall],
+    end: u32,
+) -> Result<Option<Ordering>, AllocError> {
+    let mut ordering = Ordering {
+        values: Values::new(alloc, long, end)?,
+        tasks: Vec::new(alloc),
+        turns: Vec::new(alloc),
+        stuck: Vec::new(alloc),
+    };
+    if !ordering.plan(alloc, empties)? {
+        return Ok(None);
+    }
+    ordering.run_all(alloc)?;
+    Ok(Some(ordering))
+}
+
 /// An order of the calls that may be valid.
 pub(crate) fn stack_order(
     alloc: Global,
     timeline: &Timeline,
-    mut residences: Residences,
+    touches: Touches,
+    pairing: Pairing,
 ) -> Result<Option<Vec<i64>>, AllocError> {
-    give_removals(alloc, &mut residences)?;
-    let (long, short) = apart(alloc, &residences.residences)?;
-    let mut ordering = Ordering {
-        values: Values::new(alloc, long, timeline.end)?,
-        tasks: Vec::new(alloc),
-        turns: Vec::new(alloc),
-    };
-    if !ordering.plan(alloc, &residences.empties)? || !ordering.run_all()? {
+    let end = timeline.end;
+    let Some(mut residences) = paired(alloc, &touches, end, pairing)? else {
         return Ok(None);
+    };
+    let mut work = if touches.repeat() { MOST_WORK } else { 0 };
+    let Touches {
+        known: _known,
+        empties,
+        unknown,
+    } = touches;
+    let removals = Removals::new(alloc, end, unknown, pairing == Pairing::OnTop)?;
+    give_removals(alloc, &mut residences, &empties, removals)?;
+    let rounds = MOST_ORDERED / residences.len().max(1);
+    for _ in 0..rounds.clamp(1, MOST_ROUNDS) {
+        let (long, short) = apart(alloc, &residences)?;
+        let Some(ordering) = ordering_of(alloc, long, &empties, end)? else {
+            break;
+        };
+        if ordering.stuck.is_empty() {
+            return Ok(Some(merged(alloc, &ordering.turns, &short)?));
+        }
+        let (changes, left) = uncross(alloc, &mut residences, &ordering.stuck, work)?;
+        work = left;
+        if !changes || work == 0 {
+            break;
+        }
     }
-    Ok(Some(merged(alloc, &ordering.turns, &short)?))
+    Ok(None)
 }

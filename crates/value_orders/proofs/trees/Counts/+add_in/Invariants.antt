@@ -1,4 +1,4 @@
-use Rattle.candidate_orders.proofs.trees.Counts.+add_in.Given as goal
+use Rattle.value_orders.proofs.trees.Counts.+add_in.Given as goal
 
 abbrev pub decreases-add_in : goal.decreases-add_in
 decreases-add_in l = l.depth

@@ -5,6 +5,11 @@ use std::alloc::{AllocError, Global};
 /// What is in place of a number that is taken out.
 pub(crate) const ABSENT: i64 = i64::MAX;
 
+/// A place as a number of 32 bits. There are never more.
+pub(crate) fn small(place: usize) -> u32 {
+    u32::try_from(place).unwrap_or(u32::MAX)
+}
+
 /// The shape of a binary tree with at least n leaves: their number, and how far they are from the
 /// root.
 fn shape(leaves: usize) -> (usize, u32) {
@@ -95,6 +100,11 @@ impl Least {
         let left = node.saturating_mul(2);
         let number = self.at(left).min(self.at(left.saturating_add(1)));
         self.put(node, number);
+    }
+
+    /// The number at this place.
+    pub(crate) fn number(&self, place: usize) -> i64 {
+        self.at(place.saturating_add(self.width))
     }
 
     /// Puts another number at this place.

@@ -1,0 +1,269 @@
+//! The puts and removals of one value, paired as they come.
+//!
+//! A removal takes a value whose put has returned. Where there is none it waits for the next put
+//! that returns, and takes one that runs when it returns itself. So the value surely is in the
+//! object in few gaps.
+
+use crate::gaps::Gaps;
+use crate::removals::Removals;
+use crate::residences::{Residence, pair};
+use crate::touches::Touch;
+use std::alloc::{AllocError, Global};
+use std::collections::BTreeSet;
+use timed_calls::PENDING;
+
+/// What happens at a gap, in the order in which it does.
+#[derive(Clone, Copy, PartialEq, Eq, PartialOrd, Ord, Debug)]
+enum Event {
+    /// A value that is in must be gone.
+    MustBeGone,
+    TakeReturns,
+    PutBegins,
+    TakeBegins,
+    PutReturns,
+}
+
+/// What happens with the value: the gap, the event, and the place of the call. Where a gap can't be
+/// used it happens at the next that can.
+fn events_of(
+    alloc: Global,
+    touches: &[Touch],
+    gaps: &mut Gaps,
+    removals: &Removals,
+) -> Result<Vec<(u32, Event, usize)>, AllocError> {
+    let mut events = Vec::new(alloc);
+    for (place, touch) in touches.iter().enumerate() {
+        let (begin, end) = (touch.call.begin, touch.call.end);
+        let returned = end != PENDING;
+        if touch.takes {
+            events.push((gaps.first_free(begin), Event::TakeBegins, place))?;
+        } else {
+            events.push((gaps.first_free(begin), Event::PutBegins, place))?;
+        }
+        if returned && touch.takes {
+            events.push((gaps.first_free(end), Event::TakeReturns, place))?;
+        } else if returned {
+            let last = end.saturating_sub(1);
+            events.push((gaps.first_free(last), Event::PutReturns, place))?;
+            if let Some(due) = removals.due(end) {
+                events.push((gaps.first_free(due), Event::MustBeGone, place))?;
+            }
+        }
+    }
+    events.sort_unstable();
+    Ok(events)
+}
+
+/// The calls that have no partner, by their returns, and the pairs.
+#[derive(Debug, Drop)]
+struct Matching {
+    touches: Vec<Touch>,
+    last_in: bool,
+    /// Puts that run.
+    running: BTreeSet<(u32, usize)>,
+    /// Puts that have returned.
+    open: BTreeSet<(u32, usize)>,
+    /// Removals that run.
+    waiting: BTreeSet<(u32, usize)>,
+    /// A put and a removal.
+    pairs: Vec<(usize, usize)>,
+}
+
+impl Matching {
+    fn end_of(&self, place: usize) -> u32 {
+        self.touches
+            .get(place)
+            .map_or(PENDING, |touch| touch.call.end)
+    }
+
+    fn put_returns(&mut self, put: (u32, usize)) -> Result<(), AllocError> {
+        if !self.running.remove(&put) {
+            return Ok(());
+        }
+        match self.waiting.pop_first() {
+            Some((_, take)) => self.pairs.push((put.1, take))?,
+            None => {
+                self.open.insert(put)?;
+            }
+        }
+        Ok(())
+    }
+
+    fn take_begins(&mut self, take: (u32, usize)) -> Result<(), AllocError> {
+        let put = if self.last_in {
+            self.open.pop_last()
+        } else {
+            self.open.pop_first()
+        };
+        match put {
+            Some((_, put)) => self.pairs.push((put, take.1))?,
+            None => {
+                self.waiting.insert(take)?;
+            }
+        }
+        Ok(())
+    }
+
+    /// False where no put is left that the removal can have.
+    fn take_returns(&mut self, take: (u32, usize)) -> Result<bool, AllocError> {
+        if !self.waiting.remove(&take) {
+            return Ok(true);
+        }
+        match self.running.pop_first() {
+            Some((_, put)) => self.pairs.push((put, take.1))?,
+            None => return self.take_over(take),
+        }
+        Ok(true)
+    }
+
+    /// Gives the removal the put of one that returns later, which waits again. False where there is
+    /// none.
+    fn take_over(&mut self, take: (u32, usize)) -> Result<bool, AllocError> {
+        for k in (0..self.pairs.len()).rev().take(64) {
+            let Some((put, other)) = self.pairs.get(k).copied() else {
+                break;
+            };
+            let end = self.end_of(other);
+            if end > take.0 {
+                if let Some(pair) = self.pairs.get_mut(k) {
+                    *pair = (put, take.1);
+                }
+                self.waiting.insert((end, other))?;
+                return Ok(true);
+            }
+        }
+        Ok(false)
+    }
+
+    /// Gives a pending removal to the value if it still is in.
+    fn give(&mut self, put: (u32, usize), removals: &mut Removals) -> Result<(), AllocError> {
+        let Some(touch) = self.touches.get(put.1).copied() else {
+            return Ok(());
+        };
+        if !self.open.contains(&put) {
+            return Ok(());
+        }
+        let Some(call) = removals.due(put.0).and_then(|due| removals.take(due)) else {
+            return Ok(());
+        };
+        self.open.remove(&put);
+        self.pairs.push((put.1, self.touches.len()))?;
+        self.touches.push(Touch {
+            value: touch.value,
+            takes: true,
+            call,
+        })?;
+        Ok(())
+    }
+
+    /// False where the removal has no put.
+    fn happen(
+        &mut self,
+        event: Event,
+        place: usize,
+        removals: &mut Removals,
+    ) -> Result<bool, AllocError> {
+        let call = (self.end_of(place), place);
+        match event {
+            Event::MustBeGone => self.give(call, removals)?,
+            Event::TakeReturns => return self.take_returns(call),
+            Event::PutBegins => {
+                self.running.insert(call)?;
+            }
+            Event::TakeBegins => self.take_begins(call)?,
+            Event::PutReturns => self.put_returns(call)?,
+        }
+        Ok(true)
+    }
+
+    /// Pairs the removals that wait at the end: they are pending. False where one is not.
+    fn end(&mut self) -> Result<bool, AllocError> {
+        for _ in 0..self.waiting.len() {
+            let Some((end, take)) = self.waiting.pop_first() else {
+                break;
+            };
+            if end != PENDING {
+                return Ok(false);
+            }
+            if let Some((_, put)) = self.running.pop_first() {
+                self.pairs.push((put, take))?;
+            }
+        }
+        Ok(true)
+    }
+
+    /// The values of the pairs, and those that are not taken.
+    fn residences(&self, alloc: Global) -> Result<Vec<Residence>, AllocError> {
+        let mut residences = Vec::new(alloc);
+        for (put, take) in &self.pairs {
+            if let (Some(put), Some(take)) = (self.touches.get(*put), self.touches.get(*take)) {
+                residences.push(Residence {
+                    value: put.value,
+                    put: put.call,
+                    take: Some(take.call),
+                })?;
+            }
+        }
+        for (_, put) in &self.open {
+            if let Some(put) = self.touches.get(*put) {
+                residences.push(Residence {
+                    value: put.value,
+                    put: put.call,
+                    take: None,
+                })?;
+            }
+        }
+        Ok(residences)
+    }
+}
+
+/// The residences of one value, whose puts come first. Pending removals are given to it where it
+/// must be gone. None where a removal has no put.
+fn matched(
+    alloc: Global,
+    touches: &[Touch],
+    gaps: &mut Gaps,
+    removals: &mut Removals,
+    last_in: bool,
+) -> Result<Option<Vec<Residence>>, AllocError> {
+    let events = events_of(alloc, touches, gaps, removals)?;
+    let mut matching = Matching {
+        touches: Vec::from_slice(alloc, touches)?,
+        last_in,
+        running: BTreeSet::new(alloc),
+        open: BTreeSet::new(alloc),
+        waiting: BTreeSet::new(alloc),
+        pairs: Vec::new(alloc),
+    };
+    for (_, event, place) in &events {
+        if !matching.happen(*event, *place, removals)? {
+            return Ok(None);
+        }
+    }
+    if !matching.end()? {
+        return Ok(None);
+    }
+    Ok(Some(matching.residences(alloc)?))
+}
+
+/// Whether the value is put once and taken once, or is not taken where no removal is pending.
+fn is_plain(touches: &[Touch], removals: &Removals) -> bool {
+    let takes = touches.get(1).is_some_and(|touch| touch.takes);
+    touches.len() == 1 && removals.is_empty() || touches.len() == 2 && takes
+}
+
+/// The residences of one value, whose puts come first, in gaps that can be used: a removal takes the
+/// last value that is in, or the first. None where a removal has no put.
+pub(crate) fn residences_of(
+    alloc: Global,
+    touches: &[Touch],
+    gaps: &mut Gaps,
+    removals: &mut Removals,
+    last_in: bool,
+) -> Result<Option<Vec<Residence>>, AllocError> {
+    if is_plain(touches, removals) {
+        pair(alloc, touches, |touch| touch.call.begin)
+    } else {
+        matched(alloc, touches, gaps, removals, last_in)
+    }
+}

@@ -1,0 +1,41 @@
+//! The orders that are looked for, by the kind of the object.
+
+use crate::heap::heap_order;
+use crate::queue::queue_order;
+use crate::stack::{Pairing, stack_order};
+use crate::touches::touches_of;
+use seq_objects::Kind;
+use std::alloc::{AllocError, Global};
+use timed_calls::Timeline;
+
+/// An order of the calls of a queue, stack or heap that may be valid.
+pub fn values_order(
+    alloc: Global,
+    kind: Kind,
+    timeline: &Timeline,
+) -> Result<Option<Vec<i64>>, AllocError> {
+    let touches = touches_of(alloc, &timeline.calls)?;
+    match kind {
+        Kind::Queue => queue_order(alloc, timeline, touches),
+        Kind::Stack => stack_order(alloc, timeline, touches, Pairing::OnTop),
+        Kind::Heap => heap_order(alloc, timeline, touches, true),
+        _ => Ok(None),
+    }
+}
+
+/// Another one, where it can be chosen which removal of a stack or heap takes which value.
+pub fn other_values_order(
+    alloc: Global,
+    kind: Kind,
+    timeline: &Timeline,
+) -> Result<Option<Vec<i64>>, AllocError> {
+    let touches = touches_of(alloc, &timeline.calls)?;
+    if !touches.repeat() && touches.unknown.is_empty() {
+        return Ok(None);
+    }
+    match kind {
+        Kind::Stack => stack_order(alloc, timeline, touches, Pairing::LastIn),
+        Kind::Heap => heap_order(alloc, timeline, touches, false),
+        _ => Ok(None),
+    }
+}

@@ -1,0 +1,529 @@
+//! Queues, whose values may repeat.
+//!
+//! Values are lined up one by one, each with a put and a removal: they come and go in the same
+//! order. Of the puts that are left one returns first, and so does one of the removals. Its value
+//! is next, if a call of the other kind can be its partner: one that begins before any other that
+//! is left returns. Of those that can, the one that returns first is taken. Where two values can be
+//! next, that of the put is, unless its removal is one that had better wait. With different values
+//! that finds a valid order wherever there is one (Henzinger, Sezgin, Vafeiadis, CONCUR 2013); that
+//! is not proved here, and with equal ones it may miss it.
+//!
+//! A call that finds nothing is in the first gap in which the fewest values surely are in the queue,
+//! and cuts the line: it comes when all calls are lined up that return before that gap, and before
+//! it only calls are that have begun. Where no value can be next the gap is moved on. A removal that
+//! is pending is used where nothing else is left.
+
+use crate::residences::{NEVER, pair_by_counts};
+use crate::touches::{Touch, Touches};
+use crate::trees::{ABSENT, Counts, Least};
+use std::alloc::{AllocError, Global};
+use std::collections::BTreeSet;
+use timed_calls::{TimedCall, Timeline};
+
+/// The puts, or the removals, and which of them are left.
+#[derive(Debug, Drop)]
+struct Side {
+    /// By value, and those of a value by their returns.
+    touches: Vec<Touch>,
+    /// When each begins that is left.
+    begins: Least,
+    /// The places in the order of the returns.
+    by_return: Vec<(u32, usize)>,
+    next: usize,
+}
+
+impl Side {
+    /// Those of the touches that put values in, or those that take them.
+    fn new(alloc: Global, all: &[Touch], takes: bool) -> Result<Side, AllocError> {
+        let mut touches = Vec::new(alloc);
+        for touch in all {
+            if touch.takes == takes {
+                touches.push(*touch)?;
+            }
+        }
+        touches.sort_unstable_by_key(|touch| (touch.value, touch.call.end));
+        let mut begins = Vec::new(alloc);
+        let mut by_return = Vec::new(alloc);
+        for (place, touch) in touches.iter().enumerate() {
+            begins.push(touch.call.begin as i64)?;
+            by_return.push((touch.call.end, place))?;
+        }
+        by_return.sort_unstable();
+        Ok(Side {
+            begins: Least::new(alloc, &begins)?,
+            touches,
+            by_return,
+            next: 0,
+        })
+    }
+
+    /// The place of the call that is left and returns first.
+    fn first(&mut self) -> Option<(usize, Touch)> {
+        for k in self.next..self.by_return.len() {
+            let (_, place) = self.by_return.get(k).copied()?;
+            if self.begins.number(place) != ABSENT {
+                self.next = k;
+                let touch = self.touches.get(place).copied()?;
+                return Some((place, touch));
+            }
+        }
+        self.next = self.by_return.len();
+        None
+    }
+
+    /// The places of a value's calls.
+    fn range(&self, value: i64) -> (usize, usize) {
+        let from = self.touches.partition_point(|touch| touch.value < value);
+        let to = self.touches.partition_point(|touch| touch.value <= value);
+        (from, to)
+    }
+
+    /// The place of the call of this value that is left, begins by this moment, and returns first.
+    fn ready(&self, value: i64, latest: u32) -> Option<usize> {
+        let (from, to) = self.range(value);
+        self.begins.first_at_most(from, to, latest as i64)
+    }
+
+    /// Whether another call of the same value is left that returns before this one.
+    fn has_earlier(&self, place: usize) -> bool {
+        let Some(touch) = self.touches.get(place) else {
+            return false;
+        };
+        let (from, _) = self.range(touch.value);
+        self.begins
+            .first_at_most(from, place, NEVER as i64)
+            .is_some()
+    }
+
+    /// Takes out the call at this place.
+    fn remove(&mut self, place: usize) {
+        self.begins.set(place, ABSENT);
+    }
+}
+
+/// More than there are calls.
+const PLENTY: i64 = 0x1_0000_0000;
+
+/// For each removal how many more puts of its value begin before it returns than removals have to
+/// be lined up by then.
+#[derive(Debug, Drop)]
+struct Room {
+    counts: Counts,
+}
+
+/// How many puts of this value, which are told by rising value and begin, begin before this moment.
+fn puts_before(begins: &[(i64, u32)], value: i64, moment: u32) -> usize {
+    let before = begins.partition_point(|put| *put < (value, moment));
+    let smaller = begins.partition_point(|put| put.0 < value);
+    before.saturating_sub(smaller)
+}
+
+impl Room {
+    /// None where a value is taken more often than it can have been put in.
+    fn new(alloc: Global, puts: &Side, takes: &Side) -> Result<Option<Room>, AllocError> {
+        let mut begins = Vec::new(alloc);
+        for touch in &puts.touches {
+            begins.push((touch.value, touch.call.begin))?;
+        }
+        begins.sort_unstable();
+        let mut counts = Counts::new(alloc, takes.touches.len())?;
+        let mut value = None;
+        let mut turn: usize = 0;
+        for (place, touch) in takes.touches.iter().enumerate() {
+            if value != Some(touch.value) {
+                value = Some(touch.value);
+                turn = 0;
+            }
+            turn = turn.saturating_add(1);
+            let count = puts_before(&begins, touch.value, touch.call.end);
+            let Some(room) = count.checked_sub(turn) else {
+                return Ok(None);
+            };
+            let room = i64::try_from(room).unwrap_or(PLENTY);
+            counts.add(place, place.saturating_add(1), room);
+        }
+        Ok(Some(Room { counts }))
+    }
+
+    /// Whether there is room before each of these removals.
+    fn is_left(&self, from: usize, to: usize) -> bool {
+        self.counts.first_free(from, to).is_none()
+    }
+
+    /// Notes that a put went to another removal than these.
+    fn shrink(&mut self, from: usize, to: usize) {
+        self.counts.add(from, to, -1);
+    }
+
+    /// Notes that a removal is lined up: it needs no room.
+    fn settle(&mut self, take: usize) {
+        self.counts.add(take, take.saturating_add(1), PLENTY);
+    }
+}
+
+/// Gaps for the calls that find nothing.
+#[derive(Debug, Drop)]
+struct Cuts {
+    /// How many values surely are in the queue at each gap.
+    sure: Least,
+    /// A gap, the return and the number of a call that is left.
+    left: BTreeSet<(u32, u32, u32)>,
+}
+
+impl Cuts {
+    /// None where a value is taken more often than it is put in.
+    fn new(alloc: Global, touches: &Touches, end: u32) -> Result<Option<Cuts>, AllocError> {
+        let Some(residences) = pair_by_counts(alloc, &touches.known)? else {
+            return Ok(None);
+        };
+        let mut sure: Vec<i64> = vec![in alloc; 0; (end as usize).saturating_add(1)]?;
+        for residence in &residences {
+            let (from, to) = (residence.put.end, residence.taken_from());
+            if from < to {
+                add_at(&mut sure, from, 1);
+                add_at(&mut sure, to, -1);
+            }
+        }
+        let mut count: i64 = 0;
+        for number in sure.iter_mut() {
+            count = count.saturating_add(*number);
+            *number = count;
+        }
+        let mut cuts = Cuts {
+            sure: Least::new(alloc, &sure)?,
+            left: BTreeSet::new(alloc),
+        };
+        for call in &touches.empties {
+            if !cuts.add(call.begin, call.end, call.number)? {
+                return Ok(None);
+            }
+        }
+        Ok(Some(cuts))
+    }
+
+    /// Puts a call at the first gap from this one on in which the fewest values surely are in the
+    /// queue. False where it has none.
+    fn add(&mut self, from: u32, end: u32, number: u32) -> Result<bool, AllocError> {
+        let (from, to) = (from as usize, end as usize);
+        let fewest = self.sure.least(from, to);
+        match self.sure.first_at_most(from, to, fewest) {
+            Some(gap) => {
+                let gap = u32::try_from(gap).unwrap_or(NEVER);
+                self.left.insert((gap, end, number))?;
+                Ok(true)
+            }
+            None => Ok(false),
+        }
+    }
+
+    /// Moves the first call on. False where there is none, or no gap is left for it.
+    fn move_on(&mut self) -> Result<bool, AllocError> {
+        match self.left.pop_first() {
+            Some((gap, end, number)) => self.add(gap.saturating_add(1), end, number),
+            None => Ok(false),
+        }
+    }
+
+    fn first_gap(&self) -> u32 {
+        self.left.first().map_or(NEVER, |cut| cut.0)
+    }
+}
+
+fn add_at(numbers: &mut [i64], place: u32, change: i64) {
+    if let Some(number) = numbers.get_mut(place as usize) {
+        *number = number.saturating_add(change);
+    }
+}
+
+/// What comes first in one gap between two cuts.
+#[derive(Clone, Copy, PartialEq, Eq, PartialOrd, Ord, Debug)]
+enum Rank {
+    Puts,
+    Takes,
+    FindsNone,
+}
+
+#[derive(Clone, Copy, Debug)]
+struct Step {
+    /// The number of cuts before it.
+    phase: usize,
+    gap: u32,
+    rank: Rank,
+    turn: usize,
+    number: u32,
+}
+
+/// The calls that are lined up, each in the first gap that those before it leave.
+#[derive(Debug, Drop)]
+struct Line {
+    steps: Vec<Step>,
+    phase: usize,
+    /// The gap of the last cut, and 0 where there is none.
+    from: u32,
+    put_at: u32,
+    take_at: u32,
+}
+
+impl Line {
+    fn add(&mut self, gap: u32, rank: Rank, number: u32) -> Result<(), AllocError> {
+        self.steps.push(Step {
+            phase: self.phase,
+            gap,
+            rank,
+            turn: self.steps.len(),
+            number,
+        })?;
+        Ok(())
+    }
+
+    fn put(&mut self, call: &TimedCall) -> Result<(), AllocError> {
+        self.put_at = call.begin.max(self.from).max(self.put_at);
+        self.add(self.put_at, Rank::Puts, call.number)
+    }
+
+    fn take(&mut self, call: &TimedCall) -> Result<(), AllocError> {
+        self.take_at = call.begin.max(self.put_at).max(self.take_at);
+        self.add(self.take_at, Rank::Takes, call.number)
+    }
+
+    fn cut(&mut self, gap: u32, number: u32) -> Result<(), AllocError> {
+        self.add(gap, Rank::FindsNone, number)?;
+        self.from = gap;
+        self.phase = self.phase.saturating_add(1);
+        Ok(())
+    }
+
+    /// The numbers of the calls in their order.
+    fn order(mut self, alloc: Global) -> Result<Vec<i64>, AllocError> {
+        self.steps
+            .sort_unstable_by_key(|step| (step.phase, step.gap, step.rank, step.turn));
+        self.steps
+            .iter()
+            .map(|step| step.number as i64)
+            .collect(alloc)
+    }
+}
+
+/// What can be next.
+#[derive(Clone, Copy, Debug)]
+enum Next {
+    /// A call that finds nothing.
+    Cut,
+    /// A value's put and removal.
+    Value(usize, usize),
+    /// A value that a pending removal takes.
+    Lost(usize),
+    /// A value that nobody takes.
+    Stays(usize),
+    Nothing,
+    End,
+}
+
+/// What is left to be lined up, and what is lined up.
+#[derive(Debug, Drop)]
+struct LineUp {
+    puts: Side,
+    takes: Side,
+    room: Room,
+    cuts: Cuts,
+    /// Removals that are pending, in the order of their begins.
+    unknown: Vec<TimedCall>,
+    used: usize,
+    line: Line,
+}
+
+impl LineUp {
+    /// None where a value is taken more often than it is put in.
+    fn new(alloc: Global, touches: Touches, end: u32) -> Result<Option<LineUp>, AllocError> {
+        let puts = Side::new(alloc, &touches.known, false)?;
+        let takes = Side::new(alloc, &touches.known, true)?;
+        let Some(room) = Room::new(alloc, &puts, &takes)? else {
+            return Ok(None);
+        };
+        let Some(cuts) = Cuts::new(alloc, &touches, end)? else {
+            return Ok(None);
+        };
+        Ok(Some(LineUp {
+            puts,
+            takes,
+            room,
+            cuts,
+            unknown: touches.unknown,
+            used: 0,
+            line: Line {
+                steps: Vec::new(alloc),
+                phase: 0,
+                from: 0,
+                put_at: 0,
+                take_at: 0,
+            },
+        }))
+    }
+
+    /// The put that returns first, and a removal that begins by this moment.
+    fn by_put(&self, put: Option<(usize, Touch)>, latest: u32) -> Option<(usize, usize)> {
+        let (put, touch) = put?;
+        if touch.call.is_pending() {
+            return None;
+        }
+        let take = self.takes.ready(touch.value, latest)?;
+        let (from, _) = self.takes.range(touch.value);
+        if self.room.is_left(from, take) {
+            Some((put, take))
+        } else {
+            None
+        }
+    }
+
+    /// A put that begins by one moment, and the removal that returns first, if it begins by
+    /// another.
+    fn by_take(
+        &self,
+        take: Option<(usize, Touch)>,
+        put_latest: u32,
+        latest: u32,
+    ) -> Option<(usize, usize)> {
+        let (take, touch) = take?;
+        if touch.call.begin > latest {
+            return None;
+        }
+        let put = self.puts.ready(touch.value, put_latest)?;
+        Some((put, take))
+    }
+
+    /// The value that is next of two that can be.
+    fn better(&self, by_put: (usize, usize), by_take: (usize, usize)) -> (usize, usize) {
+        if self.takes.has_earlier(by_put.1) && !self.puts.has_earlier(by_take.0) {
+            by_take
+        } else {
+            by_put
+        }
+    }
+
+    /// The put that returns first, if a removal that is pending can be its partner.
+    fn lost(&self, put: Option<(usize, Touch)>, latest: u32) -> Next {
+        let (Some((put, touch)), Some(call)) = (put, self.unknown.get(self.used)) else {
+            return Next::Nothing;
+        };
+        let (from, to) = self.takes.range(touch.value);
+        if call.begin <= latest && self.room.is_left(from, to) {
+            Next::Lost(put)
+        } else {
+            Next::Nothing
+        }
+    }
+
+    fn next(&mut self) -> Next {
+        let put = self.puts.first();
+        let take = self.takes.first();
+        let put_end = put.map_or(NEVER, |(_, touch)| touch.call.end);
+        let take_end = take.map_or(NEVER, |(_, touch)| touch.call.end);
+        let gap = self.cuts.first_gap();
+        if gap < put_end.min(take_end) {
+            return Next::Cut;
+        }
+        if take.is_none() && gap == NEVER {
+            return match put {
+                Some((place, touch)) if !touch.call.is_pending() => Next::Stays(place),
+                _ => Next::End,
+            };
+        }
+        // no other call that is left has returned then
+        let latest = take_end.saturating_sub(1).min(gap);
+        let put_latest = put_end.saturating_sub(1).min(latest);
+        let by_take = self.by_take(take, put_latest, latest);
+        let by_put = if put_end < take_end {
+            self.by_put(put, latest)
+        } else {
+            None
+        };
+        match (by_put, by_take) {
+            (Some(by_put), Some(by_take)) => {
+                let (put, take) = self.better(by_put, by_take);
+                Next::Value(put, take)
+            }
+            (Some((put, take)), None) => Next::Value(put, take),
+            (None, Some((put, take))) => Next::Value(put, take),
+            (None, None) if put_end < take_end => self.lost(put, latest),
+            (None, None) => Next::Nothing,
+        }
+    }
+
+    /// Lines up a value's put.
+    fn add_put(&mut self, put: usize) -> Result<(), AllocError> {
+        let Some(touch) = self.puts.touches.get(put).copied() else {
+            return Ok(());
+        };
+        self.puts.remove(put);
+        self.line.put(&touch.call)
+    }
+
+    /// Lines up a value's removal.
+    fn add_take(&mut self, take: usize) -> Result<(), AllocError> {
+        let Some(touch) = self.takes.touches.get(take).copied() else {
+            return Ok(());
+        };
+        self.takes.remove(take);
+        let (from, _) = self.takes.range(touch.value);
+        self.room.shrink(from, take);
+        self.room.settle(take);
+        self.line.take(&touch.call)
+    }
+
+    /// Lines up a value that a pending removal takes.
+    fn add_lost(&mut self, put: usize) -> Result<(), AllocError> {
+        let Some(touch) = self.puts.touches.get(put).copied() else {
+            return Ok(());
+        };
+        let (from, to) = self.takes.range(touch.value);
+        self.room.shrink(from, to);
+        self.add_put(put)?;
+        if let Some(call) = self.unknown.get(self.used).copied() {
+            self.line.take(&call)?;
+        }
+        self.used = self.used.saturating_add(1);
+        Ok(())
+    }
+
+    /// Lines up all. False where nothing can be next.
+    fn run(&mut self) -> Result<bool, AllocError> {
+        let calls = self.puts.touches.len().saturating_add(self.cuts.left.len());
+        for _ in 0..calls.saturating_mul(8).saturating_add(1_000) {
+            match self.next() {
+                Next::Cut => {
+                    if let Some((gap, _, number)) = self.cuts.left.pop_first() {
+                        self.line.cut(gap, number)?;
+                    }
+                }
+                Next::Value(put, take) => {
+                    self.add_put(put)?;
+                    self.add_take(take)?;
+                }
+                Next::Lost(put) => self.add_lost(put)?,
+                Next::Stays(put) => self.add_put(put)?,
+                Next::Nothing => {
+                    if !self.cuts.move_on()? {
+                        return Ok(false);
+                    }
+                }
+                Next::End => return Ok(true),
+            }
+        }
+        Ok(false)
+    }
+}
+
+/// An order of the calls that may be valid.
+pub(crate) fn queue_order(
+    alloc: Global,
+    timeline: &Timeline,
+    touches: Touches,
+) -> Result<Option<Vec<i64>>, AllocError> {
+    let Some(mut line_up) = LineUp::new(alloc, touches, timeline.end)? else {
+        return Ok(None);
+    };
+    if !line_up.run()? {
+        return Ok(None);
+    }
+    Ok(Some(line_up.line.order(alloc)?))
+}

@@ -1,0 +1,378 @@
+//! The pushes and pops of a stack, paired as they come.
+//!
+//! A pop takes its value when it returns: of those whose push has returned the last that can be on
+//! top, or else one whose push runs. A value can be on top where each that surely is above it can be
+//! popped by a pop that runs, and these then are.
+
+use crate::residences::{NEVER, Residence};
+use crate::touches::Touch;
+use std::alloc::{AllocError, Global};
+use std::collections::BTreeSet;
+use timed_calls::{PENDING, TimedCall};
+
+/// How many pushes of a value are looked at for one that can be on top.
+const MOST_PUSHES: usize = 8;
+
+/// How many of the last pairs are looked at for one that is given up.
+const MOST_PAIRS: usize = 256;
+
+/// How many values are popped at most before a call that finds nothing.
+const MOST_GONE: usize = 1_000;
+
+/// The pushes and pops of one value that have no partner.
+#[derive(Debug, Drop)]
+struct Value {
+    /// Pushes that have returned, in the order of their returns.
+    open: Vec<usize>,
+    /// Pushes that run, by their returns.
+    running: BTreeSet<(u32, usize)>,
+    /// Pops that run, by their returns.
+    waiting: BTreeSet<(u32, usize)>,
+}
+
+/// What happens to the stack.
+#[derive(Clone, Copy, Debug)]
+enum Event {
+    Begins(usize),
+    Returns(usize),
+    /// A call that begins at this moment has found nothing.
+    FoundNone(u32),
+}
+
+/// What happens, in the order in which it does.
+fn events_of(
+    alloc: Global,
+    touches: &[Touch],
+    empties: &[TimedCall],
+) -> Result<Vec<(u32, Event)>, AllocError> {
+    let mut events = Vec::new(alloc);
+    for (place, touch) in touches.iter().enumerate() {
+        events.push((touch.call.begin, Event::Begins(place)))?;
+        if touch.call.end != PENDING {
+            events.push((touch.call.end, Event::Returns(place)))?;
+        }
+    }
+    for call in empties {
+        events.push((call.end, Event::FoundNone(call.begin)))?;
+    }
+    events.sort_unstable_by_key(|event| event.0);
+    Ok(events)
+}
+
+/// The values without partners, the values in the stack, and the pairs.
+#[derive(Debug, Drop)]
+struct Contents {
+    values: Vec<Value>,
+    /// Of each call the place of its value.
+    value_of: Vec<usize>,
+    /// Pushes that have returned and are not popped; the one that begins last comes first.
+    inside: BTreeSet<(u32, usize)>,
+    /// A push and a pop.
+    pairs: Vec<(usize, usize)>,
+}
+
+/// The key of a push by which the one that begins last comes first.
+fn key_of(touches: &[Touch], put: usize) -> (u32, usize) {
+    let begin = touches.get(put).map_or(0, |touch| touch.call.begin);
+    (NEVER.saturating_sub(begin), put)
+}
+
+/// Takes a number out of a list, near whose end it is.
+fn take_out(numbers: &mut Vec<usize>, number: usize) {
+    for k in (0..numbers.len()).rev() {
+        if k < numbers.len() && numbers[k] == number {
+            numbers.remove(k);
+            return;
+        }
+    }
+}
+
+impl Contents {
+    /// None of the calls, which are sorted by their values, has begun.
+    fn new(alloc: Global, touches: &[Touch]) -> Result<Contents, AllocError> {
+        let mut contents = Contents {
+            values: Vec::new(alloc),
+            value_of: Vec::new(alloc),
+            inside: BTreeSet::new(alloc),
+            pairs: Vec::new(alloc),
+        };
+        let mut last = None;
+        for touch in touches {
+            if last != Some(touch.value) {
+                last = Some(touch.value);
+                contents.values.push(Value {
+                    open: Vec::new(alloc),
+                    running: BTreeSet::new(alloc),
+                    waiting: BTreeSet::new(alloc),
+                })?;
+            }
+            let place = contents.values.len().saturating_sub(1);
+            contents.value_of.push(place)?;
+        }
+        Ok(contents)
+    }
+
+    fn place_of(&self, call: usize) -> usize {
+        self.value_of.get(call).copied().unwrap_or(0)
+    }
+
+    fn value(&self, call: usize) -> Option<&Value> {
+        self.values.get(self.place_of(call))
+    }
+
+    fn value_mut(&mut self, call: usize) -> Option<&mut Value> {
+        let place = self.place_of(call);
+        self.values.get_mut(place)
+    }
+
+    /// How many of these pushes are of the same value as this one.
+    fn count_like(&self, puts: &[usize], put: usize) -> usize {
+        let mut count: usize = 0;
+        for other in puts {
+            if self.place_of(*other) == self.place_of(put) {
+                count = count.saturating_add(1);
+            }
+        }
+        count
+    }
+
+    /// The pushes of the values that surely are above this one when the pop begins; none where not
+    /// each of them can be popped by a pop that runs.
+    fn above(
+        &self,
+        alloc: Global,
+        touches: &[Touch],
+        put: usize,
+        take: usize,
+    ) -> Result<Option<Vec<usize>>, AllocError> {
+        let mut above = Vec::new(alloc);
+        let (Some(put), Some(take)) = (touches.get(put), touches.get(take)) else {
+            return Ok(None);
+        };
+        for (_, other) in &self.inside {
+            let Some(touch) = touches.get(*other) else {
+                break;
+            };
+            if touch.call.begin < put.call.end {
+                break;
+            }
+            if touch.call.end <= take.call.begin {
+                let waiting = self.value(*other).map_or(0, |value| value.waiting.len());
+                if waiting <= self.count_like(&above, *other) {
+                    return Ok(None);
+                }
+                above.push(*other)?;
+            }
+        }
+        Ok(Some(above))
+    }
+
+    /// The last push of the pop's value that can be on top, and those above it.
+    fn on_top(
+        &self,
+        alloc: Global,
+        touches: &[Touch],
+        take: usize,
+    ) -> Result<Option<(usize, Vec<usize>)>, AllocError> {
+        let Some(value) = self.value(take) else {
+            return Ok(None);
+        };
+        for put in value.open.iter().rev().take(MOST_PUSHES) {
+            let put = *put;
+            if let Some(above) = self.above(alloc, touches, put, take)? {
+                return Ok(Some((put, above)));
+            }
+        }
+        Ok(None)
+    }
+
+    /// Pairs a push that has returned with a pop.
+    fn join(&mut self, touches: &[Touch], put: usize, take: usize) -> Result<(), AllocError> {
+        if let Some(value) = self.value_mut(put) {
+            take_out(&mut value.open, put);
+        }
+        self.inside.remove(&key_of(touches, put));
+        self.pairs.push((put, take))?;
+        Ok(())
+    }
+
+    /// Pairs a push that has returned with a pop that waits, if one does.
+    fn join_waiting(&mut self, touches: &[Touch], put: usize) -> Result<(), AllocError> {
+        let waiting = match self.value_mut(put) {
+            Some(value) => value.waiting.pop_first(),
+            None => None,
+        };
+        match waiting {
+            Some((_, take)) => self.join(touches, put, take),
+            None => Ok(()),
+        }
+    }
+
+    /// Gives the pop the push of one that returns later, which waits again. False where there is
+    /// none.
+    fn take_over(&mut self, touches: &[Touch], take: (u32, usize)) -> Result<bool, AllocError> {
+        for k in (0..self.pairs.len()).rev().take(MOST_PAIRS) {
+            let Some((put, other)) = self.pairs.get(k).copied() else {
+                break;
+            };
+            let end = touches.get(other).map_or(0, |touch| touch.call.end);
+            if end > take.0 && self.place_of(other) == self.place_of(take.1) {
+                if let Some(pair) = self.pairs.get_mut(k) {
+                    *pair = (put, take.1);
+                }
+                if let Some(value) = self.value_mut(other) {
+                    value.waiting.insert((end, other))?;
+                }
+                return Ok(true);
+            }
+        }
+        Ok(false)
+    }
+
+    /// A pop returns. False where no push is left that it can have.
+    fn take_returns(
+        &mut self,
+        alloc: Global,
+        touches: &[Touch],
+        take: (u32, usize),
+    ) -> Result<bool, AllocError> {
+        let waits = match self.value_mut(take.1) {
+            Some(value) => value.waiting.remove(&take),
+            None => false,
+        };
+        if !waits {
+            return Ok(true);
+        }
+        if let Some((put, above)) = self.on_top(alloc, touches, take.1)? {
+            for other in &above {
+                self.join_waiting(touches, *other)?;
+            }
+            self.join(touches, put, take.1)?;
+            return Ok(true);
+        }
+        let running = match self.value_mut(take.1) {
+            Some(value) => value.running.pop_first(),
+            None => None,
+        };
+        if let Some((_, put)) = running {
+            self.pairs.push((put, take.1))?;
+            return Ok(true);
+        }
+        let last = self
+            .value(take.1)
+            .and_then(|value| value.open.last().copied());
+        match last {
+            Some(put) => self.join(touches, put, take.1)?,
+            None => return self.take_over(touches, take),
+        }
+        Ok(true)
+    }
+
+    fn put_returns(&mut self, touches: &[Touch], put: (u32, usize)) -> Result<(), AllocError> {
+        let Some(value) = self.value_mut(put.1) else {
+            return Ok(());
+        };
+        if value.running.remove(&put) {
+            value.open.push(put.1)?;
+            self.inside.insert(key_of(touches, put.1))?;
+        }
+        Ok(())
+    }
+
+    /// What was pushed before this moment must be gone.
+    fn found_none(
+        &mut self,
+        alloc: Global,
+        touches: &[Touch],
+        moment: u32,
+    ) -> Result<(), AllocError> {
+        let mut gone = Vec::new(alloc);
+        for (_, put) in self.inside.iter().take(MOST_GONE) {
+            let put = *put;
+            if touches
+                .get(put)
+                .is_some_and(|touch| touch.call.end <= moment)
+            {
+                gone.push(put)?;
+            }
+        }
+        for put in &gone {
+            self.join_waiting(touches, *put)?;
+        }
+        Ok(())
+    }
+
+    /// False where a pop has no push.
+    fn happen(
+        &mut self,
+        alloc: Global,
+        touches: &[Touch],
+        event: Event,
+    ) -> Result<bool, AllocError> {
+        let (place, returns) = match event {
+            Event::FoundNone(moment) => {
+                self.found_none(alloc, touches, moment)?;
+                return Ok(true);
+            }
+            Event::Begins(place) => (place, false),
+            Event::Returns(place) => (place, true),
+        };
+        let Some(touch) = touches.get(place) else {
+            return Ok(true);
+        };
+        let call = (touch.call.end, place);
+        if returns && touch.takes {
+            return self.take_returns(alloc, touches, call);
+        }
+        if returns {
+            self.put_returns(touches, call)?;
+        } else if let Some(value) = self.value_mut(place) {
+            if touch.takes {
+                value.waiting.insert(call)?;
+            } else {
+                value.running.insert(call)?;
+            }
+        }
+        Ok(true)
+    }
+
+    /// The values of the pairs, and those that are not popped.
+    fn residences(&self, alloc: Global, touches: &[Touch]) -> Result<Vec<Residence>, AllocError> {
+        let mut residences = Vec::new(alloc);
+        for (put, take) in &self.pairs {
+            if let (Some(put), Some(take)) = (touches.get(*put), touches.get(*take)) {
+                residences.push(Residence {
+                    value: put.value,
+                    put: put.call,
+                    take: Some(take.call),
+                })?;
+            }
+        }
+        for (_, put) in &self.inside {
+            if let Some(put) = touches.get(*put) {
+                residences.push(Residence {
+                    value: put.value,
+                    put: put.call,
+                    take: None,
+                })?;
+            }
+        }
+        Ok(residences)
+    }
+}
+
+/// The values of a stack with their pushes and pops, which come sorted by their values. None where a
+/// pop has no push.
+pub(crate) fn stack_pairs(
+    alloc: Global,
+    touches: &[Touch],
+    empties: &[TimedCall],
+) -> Result<Option<Vec<Residence>>, AllocError> {
+    let mut contents = Contents::new(alloc, touches)?;
+    for (_, event) in &events_of(alloc, touches, empties)? {
+        if !contents.happen(alloc, touches, *event)? {
+            return Ok(None);
+        }
+    }
+    Ok(Some(contents.residences(alloc, touches)?))
+}
