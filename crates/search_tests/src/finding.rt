@@ -1,6 +1,7 @@
 //! The finder, on a history of each kind.
 
 mod random;
+mod rows;
 mod small;
 
 use checker::check_object;

@@ -274,7 +274,11 @@ fn idle_pair(alloc: Global, kind: Kind) -> Result<String, AllocError> {
 }
 
 /// This history after 4,098 calls that leave the object as it is.
-fn behind_idle_calls(alloc: Global, kind: Kind, text: &str) -> Result<String, AllocError> {
+pub(super) fn behind_idle_calls(
+    alloc: Global,
+    kind: Kind,
+    text: &str,
+) -> Result<String, AllocError> {
     let pair = idle_pair(alloc, kind)?;
     let mut long = String::new(alloc);
     for _ in 0..2_049 {
@@ -285,7 +289,7 @@ fn behind_idle_calls(alloc: Global, kind: Kind, text: &str) -> Result<String, Al
 }
 
 /// The one object of a history.
-fn object_of(alloc: Global, text: &str) -> Result<ObjectHistory, Fail> {
+pub(super) fn object_of(alloc: Global, text: &str) -> Result<ObjectHistory, Fail> {
     match objects_of(alloc, text)?.pop() {
         Some(object) => Ok(object),
         None => Err(Fail::new("no object is named")),
@@ -293,7 +297,7 @@ fn object_of(alloc: Global, text: &str) -> Result<ObjectHistory, Fail> {
 }
 
 /// Whether a search finds an order of the object; `None` where it has too many operations for one.
-fn searched(alloc: Global, history: &ObjectHistory) -> Result<Option<bool>, Fail> {
+pub(super) fn searched(alloc: Global, history: &ObjectHistory) -> Result<Option<bool>, Fail> {
     match find_order(alloc, history, TryFirst::LeastNumber, 1_000_000).outcome {
         Outcome::Found(_) => Ok(Some(true)),
         Outcome::Impossible => Ok(Some(false)),
@@ -303,7 +307,7 @@ fn searched(alloc: Global, history: &ObjectHistory) -> Result<Option<bool>, Fail
 }
 
 /// Whether the finder finds an order of the object, which the checker accepts.
-fn found(alloc: Global, history: &ObjectHistory) -> Result<bool, Fail> {
+pub(super) fn found(alloc: Global, history: &ObjectHistory) -> Result<bool, Fail> {
     match find(alloc, history)? {
         FindOutcome::Order(certificate) => {
             if check_object(alloc, history, &certificate).is_err() {
@@ -316,7 +320,7 @@ fn found(alloc: Global, history: &ObjectHistory) -> Result<bool, Fail> {
 }
 
 /// Whether an order is found of a history that is too long for a search.
-fn found_without_search(alloc: Global, text: &str) -> Result<bool, Fail> {
+pub(super) fn found_without_search(alloc: Global, text: &str) -> Result<bool, Fail> {
     let object = object_of(alloc, text)?;
     if searched(alloc, &object)?.is_some() {
         return Err(Fail::new("a history is short enough for a search"));
