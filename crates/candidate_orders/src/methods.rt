@@ -14,8 +14,8 @@ use value_orders::{other_values_order, values_order};
 pub enum Method {
     /// The one that is made for the kind of the object.
     OfTheKind,
-    /// The same for a stack or heap in which it can be chosen which removal takes which value, with
-    /// another choice.
+    /// The same for a queue, stack or heap in which it can be chosen which removal takes which
+    /// value, with another choice.
     OtherPairs,
     /// The bounded search, where there are few enough operations for it.
     Search,
@@ -35,15 +35,15 @@ fn order_of_kind(
     }
 }
 
-/// Another order of the calls of a stack or heap that may be valid; none where there is nothing to
-/// be chosen.
+/// Another order of the calls of a queue, stack or heap that may be valid; none where there is
+/// nothing to be chosen.
 fn order_of_other_pairs(
     alloc: Global,
     kind: Kind,
     operations: &[Invocation],
 ) -> Result<Option<Vec<i64>>, AllocError> {
     match kind {
-        Kind::Stack | Kind::Heap => {
+        Kind::Queue | Kind::Stack | Kind::Heap => {
             let timeline = timeline_of(alloc, operations)?;
             other_values_order(alloc, kind, &timeline)
         }

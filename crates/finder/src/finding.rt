@@ -40,9 +40,9 @@ fn find_by(
     }
 }
 
-/// Looks for a certificate of an object, first by the method that is made for its kind, for a stack
-/// or heap with two ways of pairing the puts and removals of equal values, and then, among at most
-/// 4,096 operations, by a bounded search of 20,000 steps and 20 more for each operation.
+/// Looks for a certificate of an object, first by the method that is made for its kind, for a queue,
+/// stack or heap with another choice of what each removal takes too, and then, among at most 4,096
+/// operations, by a bounded search of 20,000 steps and 20 more for each operation.
 pub fn find(alloc: Global, history: &ObjectHistory) -> Result<FindOutcome, AllocError>
     ensures valid { IfOk result (λ f. IfOrder f
         (IsFor history.now.object history.now.kind (calls_of history.now.ops))) }

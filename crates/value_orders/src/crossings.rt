@@ -75,7 +75,7 @@ struct Change {
 }
 
 /// The same values with each other's pops; none where one would be popped before it is pushed.
-fn changed(first: &Residence, second: &Residence) -> Option<(Residence, Residence)> {
+pub(crate) fn changed(first: &Residence, second: &Residence) -> Option<(Residence, Residence)> {
     if first.take.is_none() && second.take.is_none() {
         return None;
     }
@@ -258,9 +258,8 @@ impl Crossings {
         Ok(())
     }
 
-    /// Takes in the values that could not be ordered, and no others.
+    /// Takes in the values that could not be ordered.
     fn start(&mut self, residences: &[Residence], stuck: &[Residence]) -> Result<(), AllocError> {
-        self.members.clear();
         for residence in stuck {
             if self.work == 0 {
                 break;
@@ -274,28 +273,27 @@ impl Crossings {
     }
 }
 
-/// Changes the pops of equal values as long as fewer values cross. The residences are sorted by
-/// value and by the begin of the push. Whether any was changed, and how many comparisons are left.
+/// Changes the pops of values that could not be ordered as long as fewer cross. The residences are
+/// sorted by value and by the begin of the push. Whether any was changed, and how many comparisons
+/// are left.
 pub(crate) fn uncross(
     alloc: Global,
     residences: &mut [Residence],
-    stuck: &[Vec<Residence>],
+    stuck: &[Residence],
     work: u64,
 ) -> Result<(bool, u64), AllocError> {
     let mut crossings = Crossings {
         members: Vec::new(alloc),
         work,
     };
+    crossings.start(residences, stuck)?;
     let mut changes = false;
-    for some in stuck {
-        crossings.start(residences, some)?;
-        for _ in 0..MOST_CHANGES {
-            let Some(change) = crossings.best(alloc, residences)? else {
-                break;
-            };
-            crossings.make(residences, change)?;
-            changes = true;
-        }
+    for _ in 0..MOST_CHANGES {
+        let Some(change) = crossings.best(alloc, residences)? else {
+            break;
+        };
+        crossings.make(residences, change)?;
+        changes = true;
     }
     Ok((changes, crossings.work))
 }

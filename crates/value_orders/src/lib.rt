@@ -16,7 +16,9 @@ mod removals;
 mod residences;
 mod stack;
 mod stack_pairs;
+mod sure;
 mod touches;
 mod trees;
+mod trials;
 
 pub use orders::{other_values_order, values_order};

@@ -12,6 +12,9 @@ use std::alloc::{AllocError, Global};
 use std::collections::BTreeSet;
 use timed_calls::PENDING;
 
+/// How many of the last pairs are looked at for one that is given up.
+const MOST_PAIRS: usize = 64;
+
 /// What happens at a gap, in the order in which it does.
 #[derive(Clone, Copy, PartialEq, Eq, PartialOrd, Ord, Debug)]
 enum Event {
@@ -76,6 +79,10 @@ impl Matching {
             .map_or(PENDING, |touch| touch.call.end)
     }
 
+    fn begin_of(&self, place: usize) -> u32 {
+        self.touches.get(place).map_or(0, |touch| touch.call.begin)
+    }
+
     fn put_returns(&mut self, put: (u32, usize)) -> Result<(), AllocError> {
         if !self.running.remove(&put) {
             return Ok(());
@@ -105,34 +112,80 @@ impl Matching {
     }
 
     /// False where no put is left that the removal can have.
-    fn take_returns(&mut self, take: (u32, usize)) -> Result<bool, AllocError> {
+    fn take_returns(&mut self, alloc: Global, take: (u32, usize)) -> Result<bool, AllocError> {
         if !self.waiting.remove(&take) {
             return Ok(true);
         }
         match self.running.pop_first() {
             Some((_, put)) => self.pairs.push((put, take.1))?,
-            None => return self.take_over(take),
+            None => return self.take_over(alloc, take),
         }
         Ok(true)
     }
 
-    /// Gives the removal the put of one that returns later, which waits again. False where there is
-    /// none.
-    fn take_over(&mut self, take: (u32, usize)) -> Result<bool, AllocError> {
-        for k in (0..self.pairs.len()).rev().take(64) {
-            let Some((put, other)) = self.pairs.get(k).copied() else {
-                break;
-            };
-            let end = self.end_of(other);
-            if end > take.0 {
-                if let Some(pair) = self.pairs.get_mut(k) {
-                    *pair = (put, take.1);
-                }
-                self.waiting.insert((end, other))?;
-                return Ok(true);
+    /// Of the last pairs whose removal returns after this moment the place of that whose put returns
+    /// last.
+    fn later_pair(&self, end: u32) -> Option<usize> {
+        let mut latest = None;
+        for k in (0..self.pairs.len()).rev().take(MOST_PAIRS) {
+            let (put, take) = self.pairs.get(k).copied()?;
+            let returned = self.end_of(put);
+            if self.end_of(take) > end && latest.is_none_or(|(other, _)| returned > other) {
+                latest = Some((returned, k));
             }
         }
-        Ok(false)
+        latest.map(|(_, k)| k)
+    }
+
+    /// Gives the removal the put of one that returns later, which waits again. False where there is
+    /// none.
+    fn take_over(&mut self, alloc: Global, take: (u32, usize)) -> Result<bool, AllocError> {
+        let Some(k) = self.later_pair(take.0) else {
+            return Ok(false);
+        };
+        let Some((put, other)) = self.pairs.get(k).copied() else {
+            return Ok(false);
+        };
+        if let Some(pair) = self.pairs.get_mut(k) {
+            *pair = (put, take.1);
+        }
+        let end = self.end_of(other);
+        self.waiting.insert((end, other))?;
+        self.arrange(alloc, k)?;
+        Ok(true)
+    }
+
+    /// Pairs the puts and removals of the pairs from this place on in another way, if that can be:
+    /// the first put to return with the first removal to begin.
+    fn arrange(&mut self, alloc: Global, from: usize) -> Result<(), AllocError> {
+        let mut puts = Vec::new(alloc);
+        let mut takes = Vec::new(alloc);
+        for k in from..self.pairs.len() {
+            let Some((put, take)) = self.pairs.get(k).copied() else {
+                break;
+            };
+            puts.push((self.end_of(put), put))?;
+            takes.push((self.begin_of(take), take))?;
+        }
+        puts.sort_unstable();
+        takes.sort_unstable();
+        if self.can_pair(&puts, &takes) {
+            self.pairs.truncate(from);
+            for ((_, put), (_, take)) in puts.iter().zip(takes.iter()) {
+                self.pairs.push((*put, *take))?;
+            }
+        }
+        Ok(())
+    }
+
+    /// Whether each of these puts begins before its removal returns.
+    fn can_pair(&self, puts: &[(u32, usize)], takes: &[(u32, usize)]) -> bool {
+        for ((_, put), (_, take)) in puts.iter().zip(takes.iter()) {
+            if self.begin_of(*put) >= self.end_of(*take) {
+                return false;
+            }
+        }
+        true
     }
 
     /// Gives a pending removal to the value if it still is in.
@@ -159,6 +212,7 @@ impl Matching {
     /// False where the removal has no put.
     fn happen(
         &mut self,
+        alloc: Global,
         event: Event,
         place: usize,
         removals: &mut Removals,
@@ -166,7 +220,7 @@ impl Matching {
         let call = (self.end_of(place), place);
         match event {
             Event::MustBeGone => self.give(call, removals)?,
-            Event::TakeReturns => return self.take_returns(call),
+            Event::TakeReturns => return self.take_returns(alloc, call),
             Event::PutBegins => {
                 self.running.insert(call)?;
             }
@@ -236,7 +290,7 @@ fn matched(
         pairs: Vec::new(alloc),
     };
     for (_, event, place) in &events {
-        if !matching.happen(*event, *place, removals)? {
+        if !matching.happen(alloc, *event, *place, removals)? {
             return Ok(None);
         }
     }

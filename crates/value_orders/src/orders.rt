@@ -16,14 +16,14 @@ pub fn values_order(
 ) -> Result<Option<Vec<i64>>, AllocError> {
     let touches = touches_of(alloc, &timeline.calls)?;
     match kind {
-        Kind::Queue => queue_order(alloc, timeline, touches),
+        Kind::Queue => queue_order(alloc, timeline, touches, false),
         Kind::Stack => stack_order(alloc, timeline, touches, Pairing::OnTop),
         Kind::Heap => heap_order(alloc, timeline, touches, true),
         _ => Ok(None),
     }
 }
 
-/// Another one, where it can be chosen which removal of a stack or heap takes which value.
+/// Another one, where it can be chosen which removal takes which value.
 pub fn other_values_order(
     alloc: Global,
     kind: Kind,
@@ -34,6 +34,8 @@ pub fn other_values_order(
         return Ok(None);
     }
     match kind {
+        Kind::Queue if touches.unknown.is_empty() => Ok(None),
+        Kind::Queue => queue_order(alloc, timeline, touches, true),
         Kind::Stack => stack_order(alloc, timeline, touches, Pairing::LastIn),
         Kind::Heap => heap_order(alloc, timeline, touches, false),
         _ => Ok(None),

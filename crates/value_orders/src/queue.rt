@@ -13,12 +13,13 @@
 //! it only calls are that have begun. Where no value can be next the gap is moved on. A removal that
 //! is pending is used where nothing else is left.
 
-use crate::residences::{NEVER, pair_by_counts};
+use crate::residences::NEVER;
+use crate::sure::Sure;
 use crate::touches::{Touch, Touches};
 use crate::trees::{ABSENT, Counts, Least};
 use std::alloc::{AllocError, Global};
-use std::collections::BTreeSet;
-use timed_calls::{TimedCall, Timeline};
+use std::collections::{BTreeMap, BTreeSet};
+use timed_calls::{PENDING, TimedCall, Timeline};
 
 /// The puts, or the removals, and which of them are left.
 #[derive(Debug, Drop)]
@@ -71,6 +72,25 @@ impl Side {
         None
     }
 
+    /// The values of some calls that are left, in the order of their returns.
+    fn upcoming(&self, alloc: Global) -> Result<Vec<i64>, AllocError> {
+        let mut values = Vec::new(alloc);
+        for k in self.next..self.by_return.len() {
+            let Some((end, place)) = self.by_return.get(k).copied() else {
+                break;
+            };
+            if end == PENDING || values.len() >= MOST_UPCOMING {
+                break;
+            }
+            if let Some(touch) = self.touches.get(place) {
+                if self.begins.number(place) != ABSENT {
+                    values.push(touch.value)?;
+                }
+            }
+        }
+        Ok(values)
+    }
+
     /// The places of a value's calls.
     fn range(&self, value: i64) -> (usize, usize) {
         let from = self.touches.partition_point(|touch| touch.value < value);
@@ -99,6 +119,42 @@ impl Side {
     fn remove(&mut self, place: usize) {
         self.begins.set(place, ABSENT);
     }
+}
+
+/// How many values are looked at to see which puts and removals belong together.
+const MOST_UPCOMING: usize = 13;
+
+/// Adds to the number of times that a value is more often in one list than in another: how much
+/// farther apart they then are.
+fn shift(counts: &mut BTreeMap<i64, i64>, value: i64, change: i64) -> Result<i64, AllocError> {
+    let before = counts.get(&value).copied().unwrap_or(0);
+    let after = before.saturating_add(change);
+    counts.insert(value, after)?;
+    Ok(size_of(after).saturating_sub(size_of(before)))
+}
+
+fn size_of(number: i64) -> i64 {
+    number.max(number.saturating_neg())
+}
+
+/// How far two lists of values are apart: the sum, over all lengths of their beginnings, of the
+/// values that are in one of these and not in the other.
+fn distance(alloc: Global, puts: &[i64], takes: &[i64]) -> Result<i64, AllocError> {
+    let mut counts = BTreeMap::new(alloc);
+    let mut apart: i64 = 0;
+    let mut sum: i64 = 0;
+    for (put, take) in puts.iter().zip(takes.iter()) {
+        apart = apart.saturating_add(shift(&mut counts, *put, 1)?);
+        apart = apart.saturating_add(shift(&mut counts, *take, -1)?);
+        sum = sum.saturating_add(apart);
+    }
+    Ok(sum)
+}
+
+/// The list without its first value.
+fn later(values: &[i64]) -> &[i64] {
+    let (_, later) = values.split_at(values.len().min(1));
+    later
 }
 
 /// More than there are calls.
@@ -164,8 +220,7 @@ impl Room {
 /// Gaps for the calls that find nothing.
 #[derive(Debug, Drop)]
 struct Cuts {
-    /// How many values surely are in the queue at each gap.
-    sure: Least,
+    sure: Sure,
     /// A gap, the return and the number of a call that is left.
     left: BTreeSet<(u32, u32, u32)>,
 }
@@ -173,24 +228,11 @@ struct Cuts {
 impl Cuts {
     /// None where a value is taken more often than it is put in.
     fn new(alloc: Global, touches: &Touches, end: u32) -> Result<Option<Cuts>, AllocError> {
-        let Some(residences) = pair_by_counts(alloc, &touches.known)? else {
+        let Some(sure) = Sure::new(alloc, &touches.known, end)? else {
             return Ok(None);
         };
-        let mut sure: Vec<i64> = vec![in alloc; 0; (end as usize).saturating_add(1)]?;
-        for residence in &residences {
-            let (from, to) = (residence.put.end, residence.taken_from());
-            if from < to {
-                add_at(&mut sure, from, 1);
-                add_at(&mut sure, to, -1);
-            }
-        }
-        let mut count: i64 = 0;
-        for number in sure.iter_mut() {
-            count = count.saturating_add(*number);
-            *number = count;
-        }
         let mut cuts = Cuts {
-            sure: Least::new(alloc, &sure)?,
+            sure,
             left: BTreeSet::new(alloc),
         };
         for call in &touches.empties {
@@ -204,16 +246,11 @@ impl Cuts {
     /// Puts a call at the first gap from this one on in which the fewest values surely are in the
     /// queue. False where it has none.
     fn add(&mut self, from: u32, end: u32, number: u32) -> Result<bool, AllocError> {
-        let (from, to) = (from as usize, end as usize);
-        let fewest = self.sure.least(from, to);
-        match self.sure.first_at_most(from, to, fewest) {
-            Some(gap) => {
-                let gap = u32::try_from(gap).unwrap_or(NEVER);
-                self.left.insert((gap, end, number))?;
-                Ok(true)
-            }
-            None => Ok(false),
-        }
+        let Some(gap) = self.sure.fewest(from, end) else {
+            return Ok(false);
+        };
+        self.left.insert((gap, end, number))?;
+        Ok(true)
     }
 
     /// Moves the first call on. False where there is none, or no gap is left for it.
@@ -226,12 +263,6 @@ impl Cuts {
 
     fn first_gap(&self) -> u32 {
         self.left.first().map_or(NEVER, |cut| cut.0)
-    }
-}
-
-fn add_at(numbers: &mut [i64], place: u32, change: i64) {
-    if let Some(number) = numbers.get_mut(place as usize) {
-        *number = number.saturating_add(change);
     }
 }
 
@@ -329,12 +360,19 @@ struct LineUp {
     /// Removals that are pending, in the order of their begins.
     unknown: Vec<TimedCall>,
     used: usize,
+    /// Whether pending removals are used earlier, where the values that come then fit better.
+    lavish: bool,
     line: Line,
 }
 
 impl LineUp {
     /// None where a value is taken more often than it is put in.
-    fn new(alloc: Global, touches: Touches, end: u32) -> Result<Option<LineUp>, AllocError> {
+    fn new(
+        alloc: Global,
+        touches: Touches,
+        end: u32,
+        lavish: bool,
+    ) -> Result<Option<LineUp>, AllocError> {
         let puts = Side::new(alloc, &touches.known, false)?;
         let takes = Side::new(alloc, &touches.known, true)?;
         let Some(room) = Room::new(alloc, &puts, &takes)? else {
@@ -350,6 +388,7 @@ impl LineUp {
             cuts,
             unknown: touches.unknown,
             used: 0,
+            lavish,
             line: Line {
                 steps: Vec::new(alloc),
                 phase: 0,
@@ -413,20 +452,47 @@ impl LineUp {
         }
     }
 
-    fn next(&mut self) -> Next {
+    /// The put that returns first, which a pending removal takes, or this value, if another put of
+    /// it had better come first: whichever leaves puts and removals that belong together.
+    fn lost_or(
+        &self,
+        alloc: Global,
+        put: Option<(usize, Touch)>,
+        latest: u32,
+        by_take: (usize, usize),
+    ) -> Result<Next, AllocError> {
+        let value = Next::Value(by_take.0, by_take.1);
+        let Next::Lost(put) = self.lost(put, latest) else {
+            return Ok(value);
+        };
+        if !self.puts.has_earlier(by_take.0) {
+            return Ok(value);
+        }
+        let puts = self.puts.upcoming(alloc)?;
+        let takes = self.takes.upcoming(alloc)?;
+        let without_put = distance(alloc, later(&puts), &takes)?;
+        let without_take = distance(alloc, &puts, later(&takes))?;
+        if without_put < without_take {
+            Ok(Next::Lost(put))
+        } else {
+            Ok(value)
+        }
+    }
+
+    fn next(&mut self, alloc: Global) -> Result<Next, AllocError> {
         let put = self.puts.first();
         let take = self.takes.first();
         let put_end = put.map_or(NEVER, |(_, touch)| touch.call.end);
         let take_end = take.map_or(NEVER, |(_, touch)| touch.call.end);
         let gap = self.cuts.first_gap();
         if gap < put_end.min(take_end) {
-            return Next::Cut;
+            return Ok(Next::Cut);
         }
         if take.is_none() && gap == NEVER {
-            return match put {
+            return Ok(match put {
                 Some((place, touch)) if !touch.call.is_pending() => Next::Stays(place),
                 _ => Next::End,
-            };
+            });
         }
         // no other call that is left has returned then
         let latest = take_end.saturating_sub(1).min(gap);
@@ -437,16 +503,19 @@ impl LineUp {
         } else {
             None
         };
-        match (by_put, by_take) {
+        Ok(match (by_put, by_take) {
             (Some(by_put), Some(by_take)) => {
                 let (put, take) = self.better(by_put, by_take);
                 Next::Value(put, take)
             }
             (Some((put, take)), None) => Next::Value(put, take),
+            (None, Some(by_take)) if self.lavish && put_end < take_end => {
+                self.lost_or(alloc, put, latest, by_take)?
+            }
             (None, Some((put, take))) => Next::Value(put, take),
             (None, None) if put_end < take_end => self.lost(put, latest),
             (None, None) => Next::Nothing,
-        }
+        })
     }
 
     /// Lines up a value's put.
@@ -486,10 +555,10 @@ impl LineUp {
     }
 
     /// Lines up all. False where nothing can be next.
-    fn run(&mut self) -> Result<bool, AllocError> {
+    fn run(&mut self, alloc: Global) -> Result<bool, AllocError> {
         let calls = self.puts.touches.len().saturating_add(self.cuts.left.len());
         for _ in 0..calls.saturating_mul(8).saturating_add(1_000) {
-            match self.next() {
+            match self.next(alloc)? {
                 Next::Cut => {
                     if let Some((gap, _, number)) = self.cuts.left.pop_first() {
                         self.line.cut(gap, number)?;
@@ -513,16 +582,18 @@ impl LineUp {
     }
 }
 
-/// An order of the calls that may be valid.
+/// An order of the calls that may be valid. Pending removals are used where nothing else is left, or
+/// earlier where that seems better.
 pub(crate) fn queue_order(
     alloc: Global,
     timeline: &Timeline,
     touches: Touches,
+    lavish: bool,
 ) -> Result<Option<Vec<i64>>, AllocError> {
-    let Some(mut line_up) = LineUp::new(alloc, touches, timeline.end)? else {
+    let Some(mut line_up) = LineUp::new(alloc, touches, timeline.end, lavish)? else {
         return Ok(None);
     };
-    if !line_up.run()? {
+    if !line_up.run(alloc)? {
         return Ok(None);
     }
     Ok(Some(line_up.line.order(alloc)?))

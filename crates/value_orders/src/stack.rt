@@ -15,6 +15,7 @@ use crate::residences::{Residence, pair};
 use crate::stack_pairs::stack_pairs;
 use crate::touches::{Touch, Touches, first_value};
 use crate::trees::{ABSENT, Counts, Least, small};
+use crate::trials::try_changes;
 use std::alloc::{AllocError, Global};
 use timed_calls::{TimedCall, Timeline};
 
@@ -163,12 +164,12 @@ impl Values {
 
 /// The walk that orders the values.
 #[derive(Debug, Drop)]
-struct Ordering {
+pub(crate) struct Ordering {
     values: Values,
     tasks: Vec<Task>,
     turns: Vec<Turn>,
     /// Values that can't be ordered: none of them can be below the others.
-    stuck: Vec<Vec<Residence>>,
+    pub(crate) stuck: Vec<Vec<Residence>>,
 }
 
 impl Ordering {
@@ -389,7 +390,7 @@ fn paired(
         return pair(alloc, &touches.known, |touch| touch.call.begin);
     }
     let found = match pairing {
-        Pairing::OnTop => stack_pairs(alloc, &touches.known, &touches.empties)?,
+        Pairing::OnTop => stack_pairs(alloc, &touches.known, &touches.empties, end)?,
         Pairing::LastIn => last_in(alloc, &touches.known, end)?,
     };
     let Some(mut residences) = found else {
@@ -485,7 +486,7 @@ fn give_removals(
 
 /// The values apart: those that surely are in the stack for a while, and the others, each in rising
 /// order of their gaps.
-fn apart(
+pub(crate) fn apart(
     alloc: Global,
     residences: &[Residence],
 ) -> Result<(Vec<Residence>, Vec<Residence>), AllocError> {
@@ -514,7 +515,7 @@ const MOST_WORK: u64 = 200_000_000;
 
 /// The values between the calls that find nothing, ordered as far as that can be done. None where
 /// one of these calls has no gap.
-fn ordering_of(
+pub(crate) fn ordering_of(
     alloc: Global,
     long: Vec<Residence>,
     empties: &[TimedCall],
@@ -531,6 +532,44 @@ fn ordering_of(
     }
     ordering.run_all(alloc)?;
     Ok(Some(ordering))
+}
+
+/// Changes the pops of equal values where values could not be ordered: so that fewer cross if that
+/// is told, and else so that more can be ordered. Whether any was changed, and how many comparisons
+/// are left.
+fn change(
+    alloc: Global,
+    residences: &mut [Residence],
+    stuck: &[Vec<Residence>],
+    crossing: bool,
+    mut work: u64,
+) -> Result<(bool, u64), AllocError> {
+    let mut changes = false;
+    for some in stuck {
+        let (uncrossed, left) = if crossing {
+            uncross(alloc, residences, some, work)?
+        } else {
+            (false, work)
+        };
+        work = left;
+        if uncrossed {
+            changes = true;
+        } else {
+            let (made, left) = try_changes(alloc, residences, some, work)?;
+            changes = changes || made;
+            work = left;
+        }
+    }
+    Ok((changes, work))
+}
+
+/// How many values could not be ordered.
+fn count_stuck(stuck: &[Vec<Residence>]) -> usize {
+    let mut count: usize = 0;
+    for some in stuck {
+        count = count.saturating_add(some.len());
+    }
+    count
 }
 
 /// An order of the calls that may be valid.
@@ -553,6 +592,7 @@ pub(crate) fn stack_order(
     let removals = Removals::new(alloc, end, unknown, pairing == Pairing::OnTop)?;
     give_removals(alloc, &mut residences, &empties, removals)?;
     let rounds = MOST_ORDERED / residences.len().max(1);
+    let mut fewest = usize::MAX;
     for _ in 0..rounds.clamp(1, MOST_ROUNDS) {
         let (long, short) = apart(alloc, &residences)?;
         let Some(ordering) = ordering_of(alloc, long, &empties, end)? else {
@@ -561,7 +601,11 @@ pub(crate) fn stack_order(
         if ordering.stuck.is_empty() {
             return Ok(Some(merged(alloc, &ordering.turns, &short)?));
         }
-        let (changes, left) = uncross(alloc, &mut residences, &ordering.stuck, work)?;
+        // changes that make fewer values cross have to do good, or others are tried
+        let count = count_stuck(&ordering.stuck);
+        let crossing = count < fewest;
+        fewest = count.min(fewest);
+        let (changes, left) = change(alloc, &mut residences, &ordering.stuck, crossing, work)?;
         work = left;
         if !changes || work == 0 {
             break;

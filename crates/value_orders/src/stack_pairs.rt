@@ -5,6 +5,7 @@
 //! popped by a pop that runs, and these then are.
 
 use crate::residences::{NEVER, Residence};
+use crate::sure::Sure;
 use crate::touches::Touch;
 use std::alloc::{AllocError, Global};
 use std::collections::BTreeSet;
@@ -35,27 +36,33 @@ struct Value {
 enum Event {
     Begins(usize),
     Returns(usize),
-    /// A call that begins at this moment has found nothing.
-    FoundNone(u32),
+    /// A call finds nothing.
+    FindsNone,
 }
 
-/// What happens, in the order in which it does.
+/// What happens, in the order in which it does. A call that finds nothing does so at the first gap
+/// in which the fewest values surely are in the stack.
 fn events_of(
     alloc: Global,
     touches: &[Touch],
     empties: &[TimedCall],
-) -> Result<Vec<(u32, Event)>, AllocError> {
+    end: u32,
+) -> Result<Vec<(u32, bool, Event)>, AllocError> {
     let mut events = Vec::new(alloc);
     for (place, touch) in touches.iter().enumerate() {
-        events.push((touch.call.begin, Event::Begins(place)))?;
+        events.push((touch.call.begin, false, Event::Begins(place)))?;
         if touch.call.end != PENDING {
-            events.push((touch.call.end, Event::Returns(place)))?;
+            events.push((touch.call.end, false, Event::Returns(place)))?;
         }
     }
-    for call in empties {
-        events.push((call.end, Event::FoundNone(call.begin)))?;
+    if let Some(sure) = Sure::new(alloc, touches, end)? {
+        for call in empties {
+            if let Some(gap) = sure.fewest(call.begin, call.end) {
+                events.push((gap, true, Event::FindsNone))?;
+            }
+        }
     }
-    events.sort_unstable_by_key(|event| event.0);
+    events.sort_unstable_by_key(|event| (event.0, event.1));
     Ok(events)
 }
 
@@ -279,22 +286,11 @@ impl Contents {
         Ok(())
     }
 
-    /// What was pushed before this moment must be gone.
-    fn found_none(
-        &mut self,
-        alloc: Global,
-        touches: &[Touch],
-        moment: u32,
-    ) -> Result<(), AllocError> {
+    /// What has been pushed must be gone.
+    fn find_none(&mut self, alloc: Global, touches: &[Touch]) -> Result<(), AllocError> {
         let mut gone = Vec::new(alloc);
         for (_, put) in self.inside.iter().take(MOST_GONE) {
-            let put = *put;
-            if touches
-                .get(put)
-                .is_some_and(|touch| touch.call.end <= moment)
-            {
-                gone.push(put)?;
-            }
+            gone.push(*put)?;
         }
         for put in &gone {
             self.join_waiting(touches, *put)?;
@@ -310,8 +306,8 @@ impl Contents {
         event: Event,
     ) -> Result<bool, AllocError> {
         let (place, returns) = match event {
-            Event::FoundNone(moment) => {
-                self.found_none(alloc, touches, moment)?;
+            Event::FindsNone => {
+                self.find_none(alloc, touches)?;
                 return Ok(true);
             }
             Event::Begins(place) => (place, false),
@@ -367,9 +363,10 @@ pub(crate) fn stack_pairs(
     alloc: Global,
     touches: &[Touch],
     empties: &[TimedCall],
+    end: u32,
 ) -> Result<Option<Vec<Residence>>, AllocError> {
     let mut contents = Contents::new(alloc, touches)?;
-    for (_, event) in &events_of(alloc, touches, empties)? {
+    for (_, _, event) in &events_of(alloc, touches, empties, end)? {
         if !contents.happen(alloc, touches, *event)? {
             return Ok(None);
         }
