@@ -1,0 +1,255 @@
+//! What an object contains, as boxes: what it gives, and what was returned.
+
+use crate::content::{Content, Item};
+use crate::labels::{characters, count_text, value_text};
+use crate::memory::Memory;
+use crate::numbers::{CHARACTER, SMALL_CHARACTER};
+use crate::operations::Operation;
+use crate::sources::key_of;
+use seq_objects::{AnyReply, Value, value_of_reply};
+
+/// An object that contains no more has a box for each.
+const FEW: usize = 10;
+/// How many boxes there are at the end where values are taken out.
+const NEAR: usize = 8;
+
+/// What a box shows.
+#[derive(Clone, Copy, Debug, PartialEq, Eq)]
+pub enum BoxKind {
+    Plain,
+    /// What the object gives.
+    Gives,
+    /// What was returned, and is in the object at another place.
+    Returned,
+    /// What was returned.
+    Absent,
+    /// How many are not shown.
+    Skip,
+}
+
+/// A box: its text, the words under it, and where it is.
+#[derive(Debug, Drop)]
+pub struct ContentBox {
+    pub kind: BoxKind,
+    pub text: String,
+    pub under: [&'static str; 2],
+    /// The operation that put it there.
+    pub by: Option<u32>,
+    pub x: u32,
+    pub width: u32,
+}
+
+/// Boxes in the making, from left to right.
+#[derive(Drop)]
+struct Boxes<'a> {
+    memory: &'a Memory,
+    boxes: Vec<ContentBox>,
+    x: u32,
+}
+
+impl Boxes<'_> {
+    fn add(&mut self, kind: BoxKind, text: String, under: [&'static str; 2], by: Option<u32>) {
+        let own = characters(&text)
+            .saturating_mul(CHARACTER)
+            .saturating_add(16);
+        let by_words = match by {
+            Some(number) => crate::numbers::digits(number).saturating_add(3),
+            None => 0,
+        };
+        let words = characters(under[0]).max(characters(under[1])).max(by_words);
+        let width = own.max(words.saturating_mul(SMALL_CHARACTER).saturating_add(6));
+        let before = if kind == BoxKind::Absent { 26 } else { 0 };
+        let x = self.x.saturating_add(before);
+        let boxed = ContentBox {
+            kind,
+            text,
+            under,
+            by,
+            x,
+            width,
+        };
+        self.memory.note(self.boxes.push(boxed));
+        self.x = x.saturating_add(width).saturating_add(4);
+    }
+
+    fn item(&mut self, kind: BoxKind, item: Item, under: [&'static str; 2]) {
+        let text = value_text(self.memory, Value::Int(item.value));
+        self.add(kind, text, under, Some(item.by))
+    }
+
+    fn skipped(&mut self, count: usize) {
+        let count = count_text(self.memory, count);
+        let text = self.memory.text(format!(in self.memory.alloc; "… {count}"));
+        self.add(BoxKind::Skip, text, ["", ""], None)
+    }
+
+    /// The values of a list, of which that at the place `at` is given.
+    fn list(&mut self, items: &[Item], at: usize, is_stack: bool, returned: Option<i64>) -> bool {
+        let length = items.len();
+        let from = if is_stack {
+            length.saturating_sub(NEAR)
+        } else {
+            0
+        };
+        let last = if is_stack {
+            0
+        } else {
+            length.saturating_sub(1)
+        };
+        let mut is_found = false;
+        let mut skipped: usize = 0;
+        for (place, item) in items.iter().enumerate() {
+            let is_returned = !is_found && place != at && returned == Some(item.value);
+            let is_near = place >= from && place < from.saturating_add(NEAR);
+            if !is_near && !is_returned && place != last && length > FEW {
+                skipped = skipped.saturating_add(1);
+                continue;
+            }
+            if skipped > 0 {
+                self.skipped(skipped);
+                skipped = 0;
+            }
+            if place == at {
+                self.item(BoxKind::Gives, *item, ["gives", ""]);
+            } else if is_returned {
+                is_found = true;
+                self.item(BoxKind::Returned, *item, ["returned", ""]);
+            } else {
+                self.item(BoxKind::Plain, *item, ["", ""]);
+            }
+        }
+        if skipped > 0 {
+            self.skipped(skipped);
+        }
+        if length == 0 {
+            let text = self
+                .memory
+                .text(String::from_str(self.memory.alloc, "empty"));
+            self.add(BoxKind::Gives, text, ["gives nil", ""], None);
+        }
+        is_found
+    }
+
+    /// What was returned, after a list that has it or not.
+    fn returned_of_list(&mut self, returned: Option<i64>, is_found: bool) {
+        let under = match returned {
+            Some(_) if is_found => return,
+            Some(_) => ["returned,", "not in it"],
+            None => ["returned", ""],
+        };
+        let text = value_text(
+            self.memory,
+            returned.map_or(Value::Nil, |value| Value::Int(value)),
+        );
+        self.add(BoxKind::Absent, text, under, None)
+    }
+
+    fn returned(&mut self, reply: AnyReply) {
+        let text = value_text(self.memory, value_of_reply(&reply));
+        self.add(BoxKind::Absent, text, ["returned", ""], None)
+    }
+
+    /// The entries of a map; where there are many only the one of the key.
+    fn entries(&mut self, content: &Content, key: Option<i64>) {
+        let Content::Map(items) = content else {
+            return;
+        };
+        let mut is_there = false;
+        for (own, item) in items.iter() {
+            let is_own = key == Some(*own);
+            is_there = is_there || is_own;
+            if is_own || items.len() <= FEW {
+                let value = item.value;
+                let text = self
+                    .memory
+                    .text(format!(in self.memory.alloc; "{own} {value}"));
+                let kind = if is_own {
+                    BoxKind::Gives
+                } else {
+                    BoxKind::Plain
+                };
+                self.add(
+                    kind,
+                    text,
+                    [if is_own { "gives" } else { "" }, ""],
+                    Some(item.by),
+                );
+            }
+        }
+        if let (Some(key), false) = (key, is_there) {
+            let text = self
+                .memory
+                .text(format!(in self.memory.alloc; "{key} nothing"));
+            self.add(BoxKind::Gives, text, ["gives nil", ""], None);
+        }
+    }
+}
+
+/// The items of a list.
+fn items_of(memory: &Memory, content: &Content) -> Vec<Item> {
+    match content {
+        Content::Queue(items) => memory.list(items.iter().copied().collect(memory.alloc)),
+        Content::Stack(items) => memory.list(items.iter().copied().collect(memory.alloc)),
+        Content::Heap(items) => {
+            let keys = items.keys();
+            let items = keys.map(|key| Item {
+                value: key.0,
+                by: key.1,
+            });
+            memory.list(items.collect(memory.alloc))
+        }
+        _ => Vec::new(memory.alloc),
+    }
+}
+
+/// The boxes of what the object contains where this operation is refused.
+pub(crate) fn boxes_of(
+    memory: &Memory,
+    content: &Content,
+    operation: &Operation,
+) -> Vec<ContentBox> {
+    let mut boxes = Boxes {
+        memory,
+        boxes: Vec::new(memory.alloc),
+        x: 2,
+    };
+    let reply = operation.reply().unwrap_or(AnyReply::Value(None));
+    let returned = match reply {
+        AnyReply::Value(value) => value,
+        _ => None,
+    };
+    match content {
+        Content::Queue(_) | Content::Heap(_) | Content::Stack(_) => {
+            let items = items_of(memory, content);
+            let is_stack = matches!(content, Content::Stack(_));
+            let at = if is_stack {
+                items.len().saturating_sub(1)
+            } else {
+                0
+            };
+            let is_found = boxes.list(&items, at, is_stack, returned);
+            boxes.returned_of_list(returned, is_found);
+        }
+        Content::Register(item) => {
+            let value = item.map_or(Value::Nil, |item| Value::Int(item.value));
+            let text = value_text(memory, value);
+            boxes.add(
+                BoxKind::Gives,
+                text,
+                ["contains", ""],
+                item.map(|item| item.by),
+            );
+            boxes.returned(reply);
+        }
+        Content::Map(_) => {
+            boxes.entries(content, key_of(operation.op()));
+            boxes.returned(reply);
+        }
+        Content::Mutex { holder, .. } => {
+            let word = if holder.is_some() { "held" } else { "free" };
+            let text = memory.text(String::from_str(memory.alloc, word));
+            boxes.add(BoxKind::Gives, text, ["", ""], *holder);
+        }
+    }
+    boxes.boxes
+}

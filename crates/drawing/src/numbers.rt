@@ -1,0 +1,115 @@
+//! The numbers of the layout, in units of a drawing.
+
+/// The widest line.
+pub(crate) const WIDEST: u32 = 920;
+/// The room for the names of the lanes.
+pub const LEFT: u32 = 56;
+/// The room for a character of a label, and of a small one.
+pub(crate) const CHARACTER: u32 = 7;
+
+pub(crate) const SMALL_CHARACTER: u32 = 6;
+/// The room for an event.
+pub(crate) const EVENT_WIDTH: u32 = 12;
+/// The least room for a gap.
+pub(crate) const GAP_WIDTH: u32 = 44;
+/// The room that is kept free after an event for an arrow.
+pub(crate) const ARROW_ROOM: u32 = 46;
+/// The height of a bar, without points and with them, and the room between two lanes.
+pub(crate) const HEIGHT: u32 = 18;
+
+pub(crate) const HEIGHT_WITH_POINTS: u32 = 34;
+
+pub(crate) const LANE_GAP: u32 = 8;
+/// The height of the numbers above the lanes.
+pub(crate) const TOP: u32 = 22;
+/// A figure that is no wider is drawn at one and a half.
+pub(crate) const SMALL: u32 = 560;
+/// The height of the row of a nemesis.
+pub const NEMESIS_HEIGHT: u32 = 16;
+/// The characters of the longest label.
+pub(crate) const LABEL_LENGTH: usize = 32;
+/// An object with no more events is drawn whole; of another so many of the first ones, or what is
+/// around the focus; and never more than the most.
+pub(crate) const WHOLE: usize = 160;
+
+pub(crate) const FIRST: usize = 160;
+
+pub(crate) const MOST: usize = 400;
+/// The most lanes of a figure.
+pub(crate) const LANES: usize = 24;
+/// The most rows of the table of an order, and of tried orders.
+pub(crate) const ROWS: usize = 400;
+
+pub(crate) const TRIED_ROWS: usize = 24;
+
+/// The digits of a number.
+pub(crate) fn digits(number: u32) -> u32 {
+    let bounds: [u32; 9] = [
+        10,
+        100,
+        1_000,
+        10_000,
+        100_000,
+        1_000_000,
+        10_000_000,
+        100_000_000,
+        1_000_000_000,
+    ];
+    let mut digits: u32 = 1;
+    for bound in bounds {
+        if number >= bound {
+            digits = digits.saturating_add(1);
+        }
+    }
+    digits
+}
+
+/// The characters of a count, whose digits are in groups of three.
+pub(crate) fn grouped_digits(count: u32) -> u32 {
+    let digits = digits(count);
+    digits.saturating_add(digits.saturating_sub(1) / 3)
+}
+
+/// The room for a label of so many characters.
+pub(crate) fn label_room(characters: u32) -> u32 {
+    characters.saturating_mul(CHARACTER).saturating_add(14)
+}
+
+/// The width of a gap of so many maps.
+pub(crate) fn gap_width(count: u32) -> u32 {
+    let characters = grouped_digits(count).saturating_add(2);
+    GAP_WIDTH.max(
+        characters
+            .saturating_mul(SMALL_CHARACTER)
+            .saturating_add(10),
+    )
+}
+
+/// The width of a point of this rank.
+pub fn point_room(rank: u32) -> u32 {
+    digits(rank).saturating_mul(CHARACTER).saturating_add(8)
+}
+
+/// The width of the column of a point of this rank.
+pub(crate) fn point_width(rank: u32) -> u32 {
+    digits(rank).saturating_mul(CHARACTER).saturating_add(14)
+}
+
+/// The width of the column of a nemesis whose label has so many characters.
+pub(crate) fn nemesis_width(characters: u32) -> u32 {
+    characters
+        .saturating_mul(SMALL_CHARACTER)
+        .saturating_add(EVENT_WIDTH + 8)
+}
+
+/// The width of the column of an event; in a zoom its number always has room.
+pub(crate) fn event_width(number: u32, is_zoom: bool) -> u32 {
+    if !is_zoom {
+        return EVENT_WIDTH;
+    }
+    EVENT_WIDTH.max(
+        digits(number)
+            .saturating_mul(SMALL_CHARACTER)
+            .saturating_add(8),
+    )
+}

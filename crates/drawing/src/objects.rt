@@ -1,0 +1,432 @@
+//! The drawing of an object: sentences, figures, and the table of an order.
+
+use crate::boxes::{ContentBox, boxes_of};
+use crate::figure::{Figure, Mark};
+use crate::lines::figure_of;
+use crate::memory::Memory;
+use crate::moments::{Moment, Nemesis, moments_of};
+use crate::operations::{Operation, State, operation_at, operations_of};
+use crate::orders::{Placed, Row, rows_of, walk_along};
+use crate::scene::{Scene, numbers_of};
+use crate::sentences::{Explanation, Refused};
+use crate::shapes::Shape;
+use crate::spans::Span;
+use crate::tried::{Tried, try_orders};
+use crate::window::{choose, narrow};
+use checker::OrderFault;
+use events::{History, Invocation, ObjectHistory};
+use seq_objects::Kind;
+use std::alloc::{AllocError, Global};
+use std::collections::{BTreeMap, BTreeSet};
+
+/// The events of a window, by the numbers of their maps: from one on, and below one. Without both
+/// the window is chosen.
+#[derive(Clone, Copy, Debug, PartialEq, Eq)]
+pub struct Stretch {
+    pub from: Option<u32>,
+    pub to: Option<u32>,
+}
+
+/// An object of a history of so many maps, and the stretch of it that is drawn.
+#[derive(Clone, Copy)]
+pub struct Subject<'a> {
+    pub history: &'a History,
+    pub object: &'a ObjectHistory,
+    pub maps: u32,
+    /// Those of its maps whose process is a keyword, in rising number.
+    pub nemeses: &'a [Nemesis],
+    pub stretch: Stretch,
+}
+
+/// What a figure leaves out: operations of processes that have no lane, and those processes; and of
+/// all operations how many it shows.
+#[derive(Clone, Copy, Debug, PartialEq, Eq)]
+pub struct Extent {
+    pub operations: usize,
+    /// Those that did not fail.
+    pub live: usize,
+    pub drawn: usize,
+    pub without_lane: usize,
+    pub processes: usize,
+}
+
+/// The drawing of an object.
+#[derive(Drop)]
+pub struct ObjectDrawing {
+    pub object: u32,
+    pub kind: Kind,
+    pub sentences: Vec<Vec<Span>>,
+    /// Why an entry is refused, in a few words.
+    pub because: Vec<Span>,
+    /// What the object contains before the entry that is refused.
+    pub content: Option<String>,
+    /// The same as boxes.
+    pub boxes: Vec<ContentBox>,
+    /// The operations that the sentence speaks of, alone.
+    pub zoom: Option<Figure>,
+    pub figure: Figure,
+    pub extent: Extent,
+    /// The table of the order, if there is one.
+    pub rows: Vec<Row>,
+    /// The orders of a reason's operations that were tried.
+    pub tried: Option<Tried>,
+    /// The number at which a reason begins, where that is not the beginning.
+    pub from: Option<u32>,
+}
+
+/// The numbers of the events of these operations.
+fn focus_events(
+    memory: &Memory,
+    operations: &[Operation],
+    focus: &BTreeMap<u32, Mark>,
+) -> Vec<u32> {
+    let mut numbers = Vec::new(memory.alloc);
+    for number in focus.keys() {
+        memory.note(numbers.push(*number));
+        if let Some(operation) = operation_at(operations, i64::from(*number)) {
+            if let Some(ended) = operation.ended {
+                memory.note(numbers.push(ended));
+            }
+        }
+    }
+    numbers
+}
+
+/// The numbers of the operations with drawn events.
+fn drawn_numbers(memory: &Memory, operations: &[Operation], moments: &[Moment]) -> BTreeSet<u32> {
+    let mut numbers = BTreeSet::new(memory.alloc);
+    for moment in moments {
+        if moment.is_drawn {
+            if let Some(operation) = moment.of(operations) {
+                memory.note(numbers.insert(operation.number()));
+            }
+        }
+    }
+    numbers
+}
+
+/// The window of a figure.
+#[derive(Drop)]
+struct Window {
+    moments: Vec<Moment>,
+    drawn: BTreeSet<u32>,
+    extent: Extent,
+}
+
+fn window_of(
+    memory: &Memory,
+    operations: &[Operation],
+    focus: &BTreeMap<u32, Mark>,
+    subject: &Subject<'_>,
+) -> Window {
+    let mut moments = moments_of(memory, operations, subject.nemeses);
+    let events = focus_events(memory, operations, focus);
+    choose(memory, &mut moments, &events, subject.stretch);
+    let numbers = numbers_of(memory, focus);
+    let (without_lane, processes) = narrow(memory, operations, &mut moments, &numbers);
+    let drawn = drawn_numbers(memory, operations, &moments);
+    Window {
+        extent: Extent {
+            operations: operations.len(),
+            live: operations
+                .iter()
+                .filter(|operation| operation.state() != State::Failed)
+                .count(),
+            drawn: drawn.len(),
+            without_lane,
+            processes,
+        },
+        moments,
+        drawn,
+    }
+}
+
+/// The same events, of which those of the focus are drawn.
+fn focus_moments(
+    memory: &Memory,
+    operations: &[Operation],
+    moments: &[Moment],
+    focus: &BTreeMap<u32, Mark>,
+) -> Vec<Moment> {
+    let mut zoomed = Vec::new(memory.alloc);
+    for moment in moments {
+        let operation = moment.of(operations);
+        memory.note(zoomed.push(Moment {
+            is_drawn: operation.is_some_and(|it| focus.contains_key(&it.number())),
+            ..*moment
+        }));
+    }
+    zoomed
+}
+
+/// The points of the focus alone.
+fn focus_points(memory: &Memory, points: &[Placed], focus: &BTreeMap<u32, Mark>) -> Vec<Placed> {
+    let mut kept = Vec::new(memory.alloc);
+    for point in points {
+        if focus.contains_key(&point.operation.number()) {
+            memory.note(kept.push(Placed {
+                rank: point.rank,
+                operation: point.operation,
+                anchor: point.anchor,
+                is_refused: point.is_refused,
+                content: memory.text(point.content.clone()),
+            }));
+        }
+    }
+    kept
+}
+
+/// The two figures of an object: the operations of the focus alone, where they are shown alone, and
+/// the window.
+fn figures(
+    memory: &Memory,
+    operations: &[Operation],
+    subject: &Subject<'_>,
+    window: &Window,
+    points: &[Placed],
+    explanation: &Explanation<'_>,
+) -> (Option<Figure>, Figure) {
+    let focus = &explanation.focus;
+    let few = focus.len().saturating_add(1);
+    let whole = Scene {
+        operations,
+        moments: &window.moments,
+        nemeses: subject.nemeses,
+        points,
+        focus,
+        arrows: &explanation.arrows,
+        is_zoom: false,
+        dims: !focus.is_empty() && window.drawn.len() > few,
+        maps: subject.maps,
+    };
+    if explanation
+        .zoom_above
+        .is_none_or(|few| window.drawn.len() <= few)
+    {
+        return (None, figure_of(memory, &whole));
+    }
+    let zoomed = focus_moments(memory, operations, &window.moments, focus);
+    let zoom_points = focus_points(memory, points, focus);
+    let zoom = Scene {
+        moments: &zoomed,
+        points: &zoom_points,
+        is_zoom: true,
+        dims: false,
+        ..whole
+    };
+    let surroundings = Scene {
+        arrows: &[],
+        ..whole
+    };
+    (
+        Some(figure_of(memory, &zoom)),
+        figure_of(memory, &surroundings),
+    )
+}
+
+/// The operation of the entry that is refused.
+fn entry_at(
+    operations: &[Operation],
+    order: Option<&[i64]>,
+    refused: Option<usize>,
+) -> Option<Operation> {
+    let number = order?.get(refused?)?;
+    operation_at(operations, *number)
+}
+
+/// The drawing of an object with this order, if there is one, and with what is said of it.
+fn draw(
+    memory: &Memory,
+    subject: &Subject<'_>,
+    operations: &[Operation],
+    order: Option<&[i64]>,
+    explanation: Explanation<'_>,
+) -> ObjectDrawing {
+    let kind = subject.object.kind();
+    let window = window_of(memory, operations, &explanation.focus, subject);
+    let refused = explanation.refused;
+    let (points, rows) = match order {
+        Some(order) => {
+            let walk = walk_along(memory, operations, kind, order, refused, &window.drawn);
+            let rows = rows_of(memory, operations, order, refused, walk.rows);
+            (walk.points, rows)
+        }
+        None => (Vec::new(memory.alloc), Vec::new(memory.alloc)),
+    };
+    let (zoom, figure) = figures(memory, operations, subject, &window, &points, &explanation);
+    let boxes = match (&explanation.content, entry_at(operations, order, refused)) {
+        (Some(content), Some(operation)) => boxes_of(memory, content, &operation),
+        _ => Vec::new(memory.alloc),
+    };
+    let Explanation {
+        memory: _,
+        refused: _,
+        sentence,
+        because,
+        focus: _,
+        arrows: _,
+        zoom_above: _,
+        content,
+    } = explanation;
+    let mut sentences = Vec::new(memory.alloc);
+    if !sentence.is_empty() {
+        memory.note(sentences.push(sentence));
+    }
+    ObjectDrawing {
+        object: subject.object.object(),
+        kind,
+        sentences,
+        because,
+        content: content.map(|content| content.text(memory)),
+        boxes,
+        zoom,
+        figure,
+        extent: window.extent,
+        rows,
+        tried: None,
+        from: None,
+    }
+}
+
+/// The operations of the object, in memory that is noted.
+fn all_operations(memory: &Memory, subject: &Subject<'_>) -> Vec<Operation> {
+    memory.list(operations_of(memory.alloc, subject.history, subject.object))
+}
+
+/// The drawing of an object with an order that is valid, if one is given.
+pub fn draw_valid(
+    alloc: Global,
+    subject: &Subject<'_>,
+    order: Option<&[i64]>,
+) -> Result<ObjectDrawing, AllocError> {
+    let memory = Memory::new(alloc);
+    let operations = all_operations(&memory, subject);
+    let nothing = Explanation::new(&memory, None, None);
+    let drawing = draw(&memory, subject, &operations, order, nothing);
+    memory.whole(drawing)
+}
+
+/// The drawing of an object that has no certificate.
+pub fn draw_uncertified(alloc: Global, subject: &Subject<'_>) -> Result<ObjectDrawing, AllocError> {
+    let memory = Memory::new(alloc);
+    let operations = all_operations(&memory, subject);
+    let mut text = Explanation::new(&memory, None, None);
+    text.say_uncertified(subject.object.object(), operations.len());
+    let drawing = draw(&memory, subject, &operations, None, text);
+    memory.whole(drawing)
+}
+
+/// The drawing of an object with an order that is refused.
+pub fn draw_refused(
+    alloc: Global,
+    subject: &Subject<'_>,
+    order: &[i64],
+    fault: OrderFault,
+) -> Result<ObjectDrawing, AllocError> {
+    let memory = Memory::new(alloc);
+    let operations = all_operations(&memory, subject);
+    let refused = Refused {
+        memory: &memory,
+        events: subject.history.events(),
+        maps: subject.maps,
+        object: subject.object.object(),
+        kind: subject.object.kind(),
+        operations: &operations,
+        order,
+    };
+    let explanation = refused.explain(fault);
+    let drawing = draw(&memory, subject, &operations, Some(order), explanation);
+    memory.whole(drawing)
+}
+
+/// The operations of a part, as the history has them, and the one from which on it is a part.
+fn recorded(
+    memory: &Memory,
+    operations: &[Operation],
+    part: &[Invocation],
+    from: Option<u32>,
+) -> Vec<Operation> {
+    let mut recorded = Vec::new(memory.alloc);
+    if let Some(from) = from {
+        let is_there = part.iter().any(|invocation| invocation.number == from);
+        if let (Some(first), false) = (operation_at(operations, i64::from(from)), is_there) {
+            memory.note(recorded.push(first));
+        }
+    }
+    for invocation in part {
+        if let Some(operation) = operation_at(operations, i64::from(invocation.number)) {
+            memory.note(recorded.push(operation));
+        }
+    }
+    recorded
+}
+
+/// From each of these operations that returned to the next one that was invoked later.
+fn arrows_in(memory: &Memory, operations: &[Operation]) -> Vec<(Operation, Operation)> {
+    let mut arrows = Vec::new(memory.alloc);
+    for earlier in operations {
+        let Some(at) = earlier.returned() else {
+            continue;
+        };
+        if let Some(later) = operations.iter().find(|other| other.number() > at) {
+            memory.note(arrows.push((*earlier, *later)));
+        }
+    }
+    arrows
+}
+
+/// A part of an object's history of which no order is valid.
+#[derive(Clone, Copy)]
+pub struct Part<'a> {
+    pub part: &'a ObjectHistory,
+    /// The number from which on it is a part, where that is not the beginning.
+    pub from: Option<u32>,
+    /// The value that stands for all that it does not keep, if one does.
+    pub other: Option<i64>,
+}
+
+/// The drawing of an object of which no order is valid, for no order of this part is: the operations
+/// of the part alone, the orders of them that were tried, and where they are in the history.
+pub fn draw_impossible(
+    alloc: Global,
+    subject: &Subject<'_>,
+    part: &Part<'_>,
+) -> Result<ObjectDrawing, AllocError> {
+    let memory = Memory::new(alloc);
+    let operations = all_operations(&memory, subject);
+    let ops = part.part.ops();
+    let named = recorded(&memory, &operations, ops, part.from);
+    let tried = try_orders(&memory, &operations, part.part.kind(), ops, part.other);
+    let shape = Shape {
+        memory: &memory,
+        kind: subject.object.kind(),
+        operations: &operations,
+        part: &named,
+        from: part.from,
+    };
+    let sentence = shape.sentence(&tried);
+    let mut text = Explanation::new(&memory, None, Some(0));
+    for operation in &named {
+        text.mark(*operation, Mark::Fault);
+    }
+    text.arrows = arrows_in(&memory, &named);
+    let mut drawing = draw(&memory, subject, &operations, None, text);
+    let impossible = impossible(&memory, subject.object);
+    memory.note(drawing.sentences.push(impossible));
+    memory.note(drawing.sentences.push(sentence));
+    drawing.tried = Some(tried);
+    drawing.from = part.from;
+    memory.whole(drawing)
+}
+
+fn impossible(memory: &Memory, object: &ObjectHistory) -> Vec<Span> {
+    let mut sentence = Vec::new(memory.alloc);
+    memory.note(sentence.extend_from_slice(&[
+        Span::Text("No order of the operations of object "),
+        Span::Number(u64::from(object.object())),
+        Span::Text(", a "),
+        Span::Kind(object.kind()),
+        Span::Text(", is valid. So the history is not linearizable."),
+    ]));
+    sentence
+}

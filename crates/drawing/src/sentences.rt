@@ -1,0 +1,456 @@
+//! What is wrong with an order, in a sentence. Where a sentence says a fact of the history, the
+//! code that chooses it has looked the fact up.
+
+use crate::content::Content;
+use crate::figure::Mark;
+use crate::memory::Memory;
+use crate::operations::{Operation, operation_at};
+use crate::orders::walk_along;
+use crate::sources::{key_of, puts, takes, wanted};
+use crate::spans::Span;
+use checker::OrderFault;
+use events::{Action, Event};
+use seq_objects::{AnyOp, AnyReply, Kind};
+use std::collections::{BTreeMap, BTreeSet};
+
+/// The operations that a sentence on an order names are shown alone too, where more than these are
+/// drawn.
+const ZOOM: Option<usize> = Some(12);
+
+/// An order that is refused, and what it is an order of.
+#[derive(Clone, Copy)]
+pub(crate) struct Refused<'a> {
+    pub(crate) memory: &'a Memory,
+    pub(crate) events: &'a [Event],
+    pub(crate) maps: u32,
+    pub(crate) object: u32,
+    pub(crate) kind: Kind,
+    pub(crate) operations: &'a [Operation],
+    pub(crate) order: &'a [i64],
+}
+
+/// A fault in words: the place of the refused entry, the sentence, why the entry is refused in a
+/// few words, and the operations that the sentence speaks of.
+#[derive(Drop)]
+pub(crate) struct Explanation<'a> {
+    pub(crate) memory: &'a Memory,
+    pub(crate) refused: Option<usize>,
+    pub(crate) sentence: Vec<Span>,
+    pub(crate) because: Vec<Span>,
+    pub(crate) focus: BTreeMap<u32, Mark>,
+    pub(crate) arrows: Vec<(Operation, Operation)>,
+    /// The focus is shown alone too, where more operations than these are drawn.
+    pub(crate) zoom_above: Option<usize>,
+    /// What the object contains before the refused entry, where that tells why.
+    pub(crate) content: Option<Content>,
+}
+
+impl<'a> Explanation<'a> {
+    pub(crate) fn new(
+        memory: &'a Memory,
+        refused: Option<usize>,
+        zoom_above: Option<usize>,
+    ) -> Explanation<'a> {
+        Explanation {
+            memory,
+            refused,
+            sentence: Vec::new(memory.alloc),
+            because: Vec::new(memory.alloc),
+            focus: BTreeMap::new(memory.alloc),
+            arrows: Vec::new(memory.alloc),
+            zoom_above,
+            content: None,
+        }
+    }
+
+    fn say(&mut self, spans: &[Span]) {
+        self.memory.note(self.sentence.extend_from_slice(spans));
+    }
+
+    /// Says that the object has no certificate.
+    pub(crate) fn say_uncertified(&mut self, object: u32, operations: usize) {
+        self.say(&[
+            Span::Text("Object "),
+            Span::number(object),
+            Span::Text(" has no certificate. The history has "),
+            Span::Count(operations),
+            Span::Text(if operations == 1 {
+                " operation on it, so it needs one: "
+            } else {
+                " operations on it, so it needs one: "
+            }),
+            Span::Certificate(object),
+            Span::Text("."),
+        ])
+    }
+
+    fn because(&mut self, spans: &[Span]) {
+        self.memory.note(self.because.extend_from_slice(spans));
+    }
+
+    /// Shows the operation with this mark, if it has none yet.
+    pub(crate) fn mark(&mut self, operation: Operation, mark: Mark) {
+        if !self.focus.contains_key(&operation.number()) {
+            self.memory
+                .note(self.focus.insert(operation.number(), mark));
+        }
+    }
+
+    /// Says the operation, which the figure then shows with this mark, if it has none yet.
+    fn operation(&mut self, operation: Operation, mark: Mark) {
+        if !self.focus.contains_key(&operation.number()) {
+            self.memory
+                .note(self.focus.insert(operation.number(), mark));
+        }
+        self.say(&[Span::Operation(operation)])
+    }
+}
+
+/// The place of a number in an order.
+fn place_in(order: &[i64], number: i64) -> Option<usize> {
+    order.iter().position(|other| *other == number)
+}
+
+fn place_of(order: &[i64], operation: &Operation) -> Option<usize> {
+    place_in(order, i64::from(operation.number()))
+}
+
+/// The last invocation of the process before this number.
+fn invocation_before(events: &[Event], process: u64, number: u32) -> Option<u32> {
+    let next = events.partition_point(|event| event.number < number);
+    let mut before = events.get(..next).unwrap_or(events).iter().rev();
+    let own = before.find(|event| event.process == process)?;
+    Some(own.number)
+}
+
+impl<'a> Refused<'a> {
+    fn operation(&self, number: u32) -> Option<Operation> {
+        operation_at(self.operations, i64::from(number))
+    }
+
+    /// Why a number is that of no operation of the object that may be in an order.
+    fn why_unknown(&self, text: &mut Explanation<'_>, number: i64) {
+        if number < 0 {
+            return text.say(&[Span::Text("the number is negative")]);
+        }
+        let count = Span::Count(self.maps as usize);
+        let there_are = "it names no map of the history: there are ";
+        let place = u32::try_from(number).unwrap_or(u32::MAX);
+        if place >= self.maps {
+            return text.say(&[Span::Text(there_are), count]);
+        }
+        let next = self.events.partition_point(|event| event.number < place);
+        let map = Span::number(place);
+        match self.events.get(next) {
+            Some(event) if event.number == place => self.why_event(text, event),
+            _ => text.say(&[Span::Text("map "), map, Span::Text(" is of the nemesis")]),
+        }
+    }
+
+    /// The same where the number is that of a client event.
+    fn why_event(&self, text: &mut Explanation<'_>, event: &Event) {
+        if !matches!(event.action, Action::Invoke(_)) {
+            let invoked = invocation_before(self.events, event.process, event.number);
+            return text.say(&[
+                Span::Text("map "),
+                Span::number(event.number),
+                Span::Text(" is the completion of operation "),
+                Span::number(invoked.unwrap_or(event.number)),
+            ]);
+        }
+        if event.object != self.object {
+            let object = Span::number(event.object);
+            return text.say(&[Span::Text("it is an operation on object "), object]);
+        }
+        let operation = self.operation(event.number);
+        match operation.and_then(|operation| operation.ended) {
+            Some(ended) => text.say(&[
+                Span::Text("it failed at map "),
+                Span::number(ended),
+                Span::Text(", so it did not happen"),
+            ]),
+            None => text.say(&[Span::Text("it did not happen")]),
+        }
+    }
+
+    fn unknown(&self, number: i64) -> Explanation<'a> {
+        let place = place_in(self.order, number);
+        let mut text = Explanation::new(self.memory, place, None);
+        text.say(&[
+            Span::Text("Entry "),
+            Span::rank(place.unwrap_or(0)),
+            Span::Text(" of the order for object "),
+            Span::number(self.object),
+            Span::Text(" is "),
+        ]);
+        match operation_at(self.operations, number) {
+            Some(operation) => text.operation(operation, Mark::Fault),
+            None => text.say(&[Span::Entry(number)]),
+        }
+        text.say(&[Span::Text(", which is no operation that can stand in it: ")]);
+        self.why_unknown(&mut text, number);
+        text.say(&[Span::Text(".")]);
+        text.because(&[Span::Text("no operation")]);
+        text
+    }
+
+    fn repeated(&self, operation: Operation) -> Explanation<'a> {
+        let number = i64::from(operation.number());
+        let first = place_in(self.order, number).unwrap_or(0);
+        let next = first.saturating_add(1);
+        let later = self.order.get(next..).unwrap_or(&[]);
+        let again = place_in(later, number).unwrap_or(0).saturating_add(next);
+        let mut text = Explanation::new(self.memory, Some(again), ZOOM);
+        text.operation(operation, Mark::Fault);
+        text.say(&[
+            Span::Text(" stands twice in the order for object "),
+            Span::number(self.object),
+            Span::Text(", as entry "),
+            Span::rank(first),
+            Span::Text(" and again as entry "),
+            Span::rank(again),
+            Span::Text(". An operation takes effect once."),
+        ]);
+        text.because(&[Span::Text("stands already as entry "), Span::rank(first)]);
+        text
+    }
+
+    fn too_late(&self, late: Operation, early: Operation, at: u32) -> Explanation<'a> {
+        let (returned, invoked) = (Span::number(at), Span::number(early.number()));
+        let mut text = Explanation::new(self.memory, place_of(self.order, &late), ZOOM);
+        text.say(&[Span::Text("The order puts ")]);
+        text.operation(early, Mark::Named);
+        text.say(&[Span::Text(" before ")]);
+        text.operation(late, Mark::Fault);
+        text.say(&[
+            Span::Text(". But "),
+            Span::number(late.number()),
+            Span::Text(" returned at map "),
+            returned,
+            Span::Text(", before "),
+            invoked,
+            Span::Text(" was invoked at map "),
+            invoked,
+            Span::Text(". An operation that returned before another began must stand before it."),
+        ]);
+        text.because(&[
+            Span::Text("returned at map "),
+            returned,
+            Span::Text(", before "),
+            invoked,
+            Span::Text(" was invoked"),
+        ]);
+        self.memory.note(text.arrows.push((late, early)));
+        text
+    }
+
+    fn omitted(&self, operation: Operation, at: u32) -> Explanation<'a> {
+        let mut text = Explanation::new(self.memory, None, None);
+        text.operation(operation, Mark::LeftOut);
+        text.say(&[
+            Span::Text(" returned at map "),
+            Span::number(at),
+            Span::Text(", so it happened. But the order for object "),
+            Span::number(self.object),
+            Span::Text(" leaves it out."),
+        ]);
+        text
+    }
+
+    /// An explanation that begins with the entry's place, and what the object contains before it.
+    fn as_entry(&self, operation: Operation) -> (Explanation<'a>, Content) {
+        let place = place_of(self.order, &operation).unwrap_or(0);
+        let before = self.order.get(..place).unwrap_or(self.order);
+        let nothing = BTreeSet::new(self.memory.alloc);
+        let walk = walk_along(
+            self.memory,
+            self.operations,
+            self.kind,
+            before,
+            None,
+            &nothing,
+        );
+        let mut text = Explanation::new(self.memory, Some(place), ZOOM);
+        text.say(&[
+            Span::Text("As entry "),
+            Span::rank(place),
+            Span::Text(" of the order, "),
+        ]);
+        text.operation(operation, Mark::Fault);
+        (text, walk.content)
+    }
+
+    fn not_possible(&self, operation: Operation) -> Explanation<'a> {
+        let (mut text, content) = self.as_entry(operation);
+        let holder = content.holder().and_then(|number| self.operation(number));
+        let releaser = content.releaser().and_then(|number| self.operation(number));
+        text.say(&[Span::Text(" is not possible: the mutex is ")]);
+        if let Some(holder) = holder {
+            text.say(&[Span::Text("held there, by ")]);
+            text.operation(holder, Mark::Giver);
+        } else if let Some(releaser) = releaser {
+            text.say(&[Span::Text("free there, since ")]);
+            text.operation(releaser, Mark::Giver);
+        } else {
+            text.say(&[Span::Text("free there, from the beginning")]);
+        }
+        text.say(&[Span::Text(match operation.op() {
+            AnyOp::Acquire => ". A mutex is acquired only while it is free.",
+            _ => ". A mutex is released only while it is held.",
+        })]);
+        text.because(&[Span::Text("not possible")]);
+        text.content = Some(content);
+        text
+    }
+
+    fn wrong_reply(
+        &self,
+        operation: Operation,
+        gives: AnyReply,
+        returned: AnyReply,
+    ) -> Explanation<'a> {
+        let (mut text, content) = self.as_entry(operation);
+        text.say(&[
+            Span::Text(" gives "),
+            Span::reply(gives),
+            Span::Text(": the "),
+            Span::Kind(self.kind),
+            Span::Text(" contains "),
+            Span::Content,
+            Span::Text(" there. The history says that it returned "),
+            Span::reply(returned),
+            Span::Text("."),
+        ]);
+        self.say_giver(&mut text, &content, &operation);
+        self.say_source(&mut text, &content, &operation, returned);
+        text.because(&[
+            Span::Text("gives "),
+            Span::reply(gives),
+            Span::Text(", returned "),
+            Span::reply(returned),
+        ]);
+        text.content = Some(content);
+        text
+    }
+
+    /// Who put what the operation finds.
+    fn say_giver(&self, text: &mut Explanation<'_>, content: &Content, operation: &Operation) {
+        let Some(item) = content.found(&operation.op()) else {
+            return;
+        };
+        let Some(giver) = self.operation(item.by) else {
+            return;
+        };
+        let value = Span::integer(item.value);
+        text.say(&[Span::Text(" "), value, Span::Text(" was put there by ")]);
+        text.operation(giver, Mark::Giver);
+        text.say(&[Span::Text(".")])
+    }
+
+    /// Who put what the operation returned, and where in the order that is.
+    fn say_source(
+        &self,
+        text: &mut Explanation<'_>,
+        content: &Content,
+        operation: &Operation,
+        returned: AnyReply,
+    ) {
+        let (Some(value), Some(end)) = (wanted(returned), operation.returned()) else {
+            return;
+        };
+        let key = key_of(operation.op());
+        let mut latest_first = self.operations.iter().rev();
+        let source = latest_first.find(|other| other.number() < end && puts(other, key, value));
+        let Some(source) = source else {
+            return text.say(&[
+                Span::Text(" No operation that was invoked before map "),
+                Span::number(end),
+                Span::Text(" put "),
+                Span::integer(value),
+                Span::Text("."),
+            ]);
+        };
+        let words = [
+            Span::Text(" "),
+            Span::integer(value),
+            Span::Text(" was put by "),
+        ];
+        text.say(&words);
+        text.operation(*source, Mark::Source);
+        let refused = text.refused.unwrap_or(0);
+        let Some(place) = place_of(self.order, source) else {
+            return text.say(&[Span::Text(", which the order leaves out.")]);
+        };
+        let (rank, stop) = (Span::rank(place), Span::Text("."));
+        if place > refused {
+            let behind = Span::Text(", which stands behind it, as entry ");
+            return text.say(&[behind, rank, stop]);
+        }
+        text.say(&[Span::Text(", entry "), rank]);
+        self.say_turn(text, content, value, refused)
+    }
+
+    /// Why a value that was put in before is not what is found.
+    fn say_turn(&self, text: &mut Explanation<'_>, content: &Content, value: i64, refused: usize) {
+        if matches!(self.kind, Kind::Register | Kind::Map) {
+            return text.say(&[Span::Text(".")]);
+        }
+        if content.has(value) {
+            return text.say(&[Span::Text(", and is not at its turn.")]);
+        }
+        let mut taker = None;
+        for (place, number) in self.order.iter().enumerate().take(refused) {
+            match operation_at(self.operations, *number) {
+                Some(operation) if takes(&operation, value) => taker = Some((place, operation)),
+                _ => {}
+            }
+        }
+        let Some((place, taker)) = taker else {
+            return text.say(&[Span::Text(", and taken out since.")]);
+        };
+        text.say(&[Span::Text(", and taken out by ")]);
+        text.operation(taker, Mark::Source);
+        text.say(&[Span::Text(", entry "), Span::rank(place), Span::Text(".")])
+    }
+
+    /// The general sentence, where no fact is told.
+    fn general(&self, refused: Option<usize>) -> Explanation<'a> {
+        let mut text = Explanation::new(self.memory, refused, None);
+        text.say(&[
+            Span::Text("The order for object "),
+            Span::number(self.object),
+            Span::Text(" is not valid."),
+        ]);
+        text.because(&[Span::Text("refused")]);
+        text
+    }
+
+    /// The fault in words.
+    pub(crate) fn explain(&self, fault: OrderFault) -> Explanation<'a> {
+        let number = match fault {
+            OrderFault::UnknownOperation { op } => return self.unknown(op),
+            OrderFault::Repeated { op } => op,
+            OrderFault::TooLate { op, .. } => op,
+            OrderFault::NotPossible { op } => op,
+            OrderFault::WrongReply { op, .. } => op,
+            OrderFault::Omitted { op } => i64::from(op),
+        };
+        let Some(operation) = operation_at(self.operations, number) else {
+            return self.general(place_in(self.order, number));
+        };
+        let (returned, reply) = (operation.returned(), operation.reply());
+        match (fault, returned, reply) {
+            (OrderFault::Repeated { .. }, _, _) => self.repeated(operation),
+            (OrderFault::NotPossible { .. }, _, _) => self.not_possible(operation),
+            (OrderFault::WrongReply { gives, .. }, _, Some(reply)) => {
+                self.wrong_reply(operation, gives, reply)
+            }
+            (OrderFault::Omitted { .. }, Some(at), _) => self.omitted(operation, at),
+            (OrderFault::TooLate { by, .. }, Some(at), _) => match self.operation(by) {
+                Some(early) if at < by => self.too_late(operation, early, at),
+                _ => self.general(place_in(self.order, number)),
+            },
+            _ => self.general(place_in(self.order, number)),
+        }
+    }
+}

@@ -1,0 +1,480 @@
+//! Why an object has no valid order, in a sentence. A sentence of a shape is said only where all it
+//! says was checked on all operations of the object; else the general one is said.
+
+use crate::memory::Memory;
+use crate::operations::{Operation, Role, State};
+use crate::sources::{key_of, puts, takes, value_put};
+use crate::spans::Span;
+use crate::tried::Tried;
+use seq_objects::{AnyOp, AnyReply, Kind};
+
+/// The operations of an object, those of a part of which no order is valid, and where the part
+/// begins, if not at the beginning.
+#[derive(Clone, Copy)]
+pub(crate) struct Shape<'m, 'o, 'p> {
+    pub(crate) memory: &'m Memory,
+    pub(crate) kind: Kind,
+    pub(crate) operations: &'o [Operation],
+    pub(crate) part: &'p [Operation],
+    pub(crate) from: Option<u32>,
+}
+
+/// The name of an operation that puts in, and what putting in and taking out is.
+fn put_name(kind: Kind) -> &'static str {
+    match kind {
+        Kind::Stack => "push",
+        Kind::Heap => "insert",
+        _ => "enqueue",
+    }
+}
+
+fn put_word(kind: Kind) -> &'static str {
+    match kind {
+        Kind::Stack => " was pushed ",
+        Kind::Heap => " was inserted ",
+        _ => " was enqueued ",
+    }
+}
+
+fn taken_word(kind: Kind) -> &'static str {
+    match kind {
+        Kind::Stack => " and popped ",
+        Kind::Heap => " and extracted ",
+        _ => " and dequeued ",
+    }
+}
+
+/// Appends the operations, with `and` before the last.
+fn push_all(memory: &Memory, sentence: &mut Vec<Span>, operations: &[Operation]) {
+    for (place, operation) in operations.iter().enumerate() {
+        let is_last = place.saturating_add(1) == operations.len();
+        let before = if place == 0 {
+            ""
+        } else if is_last {
+            " and "
+        } else {
+            ", "
+        };
+        let spans = [Span::Text(before), Span::Operation(*operation)];
+        memory.note(sentence.extend_from_slice(&spans));
+    }
+}
+
+/// How often, as `twice`.
+fn times(count: usize) -> [Span; 2] {
+    match count {
+        1 => [Span::Text("once"), Span::Text("")],
+        2 => [Span::Text("twice"), Span::Text("")],
+        _ => [Span::Count(count), Span::Text(" times")],
+    }
+}
+
+/// A sentence of these spans.
+fn said(memory: &Memory, spans: &[Span]) -> Option<Vec<Span>> {
+    Some(memory.list(spans.to_vec(memory.alloc)))
+}
+
+/// The value that a taking returned.
+fn value_taken(operation: &Operation) -> Option<i64> {
+    match (operation.role(), operation.reply()) {
+        (Role::Take, Some(AnyReply::Value(value))) => value,
+        _ => None,
+    }
+}
+
+/// Whether the operation was invoked before this number, and took the value out, or may have.
+fn may_take(operation: &Operation, value: i64, before: u32) -> bool {
+    let is_pending = operation.state() == State::Pending;
+    operation.number() < before
+        && operation.role() == Role::Take
+        && (is_pending || takes(operation, value))
+}
+
+/// Whether the operation ran at some moment between the two numbers.
+fn ran_between(operation: &Operation, from: u32, to: u32) -> bool {
+    operation.state() != State::Failed
+        && operation.number() < to
+        && operation.closed().is_none_or(|closed| closed > from)
+}
+
+fn returns_by(operation: &Operation, until: u32) -> bool {
+    operation.returned().is_some_and(|at| at <= until)
+}
+
+fn puts_before(operation: &Operation, value: i64, until: u32) -> bool {
+    operation.number() < until && value_put(operation) == Some(value)
+}
+
+/// Whether the operation puts this value where another one was.
+fn sets_anew(operation: &Operation, key: Option<i64>, value: i64) -> bool {
+    puts(operation, key, value) && operation.op() != AnyOp::Cas(value, value)
+}
+
+/// The two operations of a part that put something in, if there are just two.
+fn two_putters(part: &[Operation]) -> Option<(Operation, Operation)> {
+    let mut first = None;
+    let mut second = None;
+    for operation in part {
+        if value_put(operation).is_none() {
+            continue;
+        }
+        match (first, second) {
+            (None, _) => first = Some(*operation),
+            (Some(_), None) => second = Some(*operation),
+            _ => return None,
+        }
+    }
+    Some((first?, second?))
+}
+
+/// The value that the taking took that returned last, and when.
+fn last_taking(operations: &[Operation]) -> Option<(i64, u32)> {
+    let mut last: Option<(i64, u32)> = None;
+    for operation in operations {
+        if let (Some(value), Some(at)) = (value_taken(operation), operation.returned()) {
+            if last.is_none_or(|last| last.1 < at) {
+                last = Some((value, at));
+            }
+        }
+    }
+    last
+}
+
+fn is_container(kind: Kind) -> bool {
+    matches!(kind, Kind::Queue | Kind::Stack | Kind::Heap)
+}
+
+impl Shape<'_, '_, '_> {
+    /// A value is returned that nothing had put in.
+    fn never_put(&self) -> Option<Vec<Span>> {
+        let [taker] = self.part else {
+            return None;
+        };
+        let (Some(value), Some(at)) = (value_taken(taker), taker.returned()) else {
+            return None;
+        };
+        let is_put = self
+            .operations
+            .iter()
+            .any(|other| puts_before(other, value, at));
+        if !is_container(self.kind) || is_put {
+            return None;
+        }
+        said(
+            self.memory,
+            &[
+                Span::Operation(*taker),
+                Span::Text(" returned "),
+                Span::integer(value),
+                Span::Text(" at map "),
+                Span::number(at),
+                Span::Text(", and no "),
+                Span::Text(put_name(self.kind)),
+                Span::Text(" of "),
+                Span::integer(value),
+                Span::Text(" was invoked before that."),
+            ],
+        )
+    }
+
+    /// The operations that these are true of.
+    fn chosen<F: Fn(&Operation) -> bool>(&self, test: F) -> Vec<Operation>
+        requires { F.IsAlwaysCallable test }
+    {
+        let mut chosen = Vec::new(self.memory.alloc);
+        for operation in self.operations {
+            if test(operation) {
+                self.memory.note(chosen.push(*operation));
+            }
+        }
+        chosen
+    }
+
+    /// A value is taken out more often than it was put in.
+    fn too_often(&self) -> Option<Vec<Span>> {
+        let Some((value, until)) = last_taking(self.part) else {
+            return None;
+        };
+        let takers = self.chosen(|other| returns_by(other, until) && takes(other, value));
+        let putters = self.chosen(|other| puts_before(other, value, until));
+        if !is_container(self.kind) || putters.is_empty() || takers.len() <= putters.len() {
+            return None;
+        }
+        let mut sentence = Vec::new(self.memory.alloc);
+        let put = Span::Text(put_word(self.kind));
+        self.memory
+            .note(sentence.extend_from_slice(&[Span::integer(value), put]));
+        self.memory
+            .note(sentence.extend_from_slice(&times(putters.len())));
+        self.memory
+            .note(sentence.extend_from_slice(&[Span::Text(", by ")]));
+        push_all(self.memory, &mut sentence, &putters);
+        self.memory.note(sentence.extend_from_slice(&[
+            Span::Text(","),
+            Span::Text(taken_word(self.kind)),
+        ]));
+        self.memory
+            .note(sentence.extend_from_slice(&times(takers.len())));
+        self.memory
+            .note(sentence.extend_from_slice(&[Span::Text(", by ")]));
+        push_all(self.memory, &mut sentence, &takers);
+        self.memory.note(sentence.extend_from_slice(&[
+            Span::Text(". No other "),
+            Span::Text(put_name(self.kind)),
+            Span::Text(" of "),
+            Span::integer(value),
+            Span::Text(" was invoked before map "),
+            Span::number(until),
+            Span::Text("."),
+        ]));
+        Some(sentence)
+    }
+
+    /// A taking finds nothing while a value is surely there.
+    fn not_empty(&self) -> Option<Vec<Span>> {
+        let [putter, taker] = self.part else {
+            return None;
+        };
+        let (Some(value), Some(end)) = (value_put(putter), taker.returned()) else {
+            return None;
+        };
+        let Some(at) = putter.returned().filter(|at| *at < taker.number()) else {
+            return None;
+        };
+        let found_nothing = taker.role() == Role::Take
+            && taker.reply() == Some(AnyReply::Value(None));
+        let is_taken = self
+            .operations
+            .iter()
+            .any(|other| may_take(other, value, end));
+        if !is_container(self.kind) || !found_nothing || is_taken {
+            return None;
+        }
+        said(
+            self.memory,
+            &[
+                Span::Operation(*taker),
+                Span::Text(" found the "),
+                Span::Kind(self.kind),
+                Span::Text(" empty. But "),
+                Span::Operation(*putter),
+                Span::Text(" had returned before (map "),
+                Span::number(at),
+                Span::Text("), and nothing that was invoked before map "),
+                Span::number(end),
+                Span::Text(" took "),
+                Span::integer(value),
+                Span::Text(" out again. So the "),
+                Span::Kind(self.kind),
+                Span::Text(" contained "),
+                Span::integer(value),
+                Span::Text("."),
+            ],
+        )
+    }
+
+    /// A queue gives the later of two values first.
+    fn wrong_turn(&self) -> Option<Vec<Span>> {
+        let Some((first, second)) = two_putters(self.part) else {
+            return None;
+        };
+        let (Some(v), Some(w)) = (value_put(&first), value_put(&second)) else {
+            return None;
+        };
+        let Some(at) = first.returned().filter(|at| *at < second.number()) else {
+            return None;
+        };
+        let Some(taker) = self.part.iter().find(|other| takes(other, w)) else {
+            return None;
+        };
+        let end = taker.returned().unwrap_or(0);
+        let is_taken = self.operations.iter().any(|other| may_take(other, v, end));
+        let again = self.chosen(|other| puts_before(other, w, end)).len();
+        if self.kind != Kind::Queue || v == w || is_taken || again != 1 {
+            return None;
+        }
+        said(
+            self.memory,
+            &[
+                Span::Operation(first),
+                Span::Text(" returned (map "),
+                Span::number(at),
+                Span::Text(") before "),
+                Span::Operation(second),
+                Span::Text(" was invoked, so "),
+                Span::integer(v),
+                Span::Text(" went in before "),
+                Span::integer(w),
+                Span::Text(". But "),
+                Span::Operation(*taker),
+                Span::Text(" took "),
+                Span::integer(w),
+                Span::Text(" out, and nothing invoked before map "),
+                Span::number(end),
+                Span::Text(" took "),
+                Span::integer(v),
+                Span::Text(" out."),
+            ],
+        )
+    }
+
+    /// A read of a register or a map returns a value that a later write had replaced.
+    fn out_of_date(&self) -> Option<Vec<Span>> {
+        let [writer, reader] = self.part else {
+            return None;
+        };
+        let (Some(at), Some(end)) = (writer.returned(), reader.returned()) else {
+            return None;
+        };
+        let key = key_of(reader.op());
+        let is_read = matches!(reader.op(), AnyOp::Read | AnyOp::Get(_));
+        let (Some(AnyReply::Value(Some(value))), Some(set)) = (reader.reply(), value_put(writer))
+        else {
+            return None;
+        };
+        let (from, to) = (writer.number(), end);
+        let is_set = self.operations.iter().any(|other| sets_anew(other, key, value)
+            && ran_between(other, from, to));
+        let is_later = at < reader.number() && key_of(writer.op()) == key;
+        if !is_read || !is_later || set == value || is_set {
+            return None;
+        }
+        said(
+            self.memory,
+            &[
+                Span::Operation(*reader),
+                Span::Text(" returned "),
+                Span::integer(value),
+                Span::Text(". But "),
+                Span::Operation(*writer),
+                Span::Text(" set "),
+                Span::integer(set),
+                Span::Text(" and returned (map "),
+                Span::number(at),
+                Span::Text(") before that began, and nothing that ran in between (maps "),
+                Span::number(from),
+                Span::Text(" to "),
+                Span::number(end),
+                Span::Text(") made it "),
+                Span::integer(value),
+                Span::Text(" again. So "),
+                Span::integer(value),
+                Span::Text(" is out of date."),
+            ],
+        )
+    }
+
+    /// A mutex is released twice, and not acquired in between.
+    fn twice_released(&self) -> Option<Vec<Span>> {
+        let [first, second] = self.part else {
+            return None;
+        };
+        let (Some(one), Some(other)) = (first.returned(), second.returned()) else {
+            return None;
+        };
+        let both = first.op() == AnyOp::Release && second.op() == AnyOp::Release;
+        let (from, to) = (first.number().min(second.number()), one.max(other));
+        let is_acquired = self.operations.iter().any(|other| other.op() == AnyOp::Acquire
+            && ran_between(other, from, to));
+        if !both || is_acquired {
+            return None;
+        }
+        said(
+            self.memory,
+            &[
+                Span::Text("Between map "),
+                Span::number(from),
+                Span::Text(" and map "),
+                Span::number(to),
+                Span::Text(" the mutex was released twice, by "),
+                Span::Operation(*first),
+                Span::Text(" and "),
+                Span::Operation(*second),
+                Span::Text(", and no acquire ran in between."),
+            ],
+        )
+    }
+
+    /// The general sentence: no order of these operations fits.
+    fn general(&self, tried: &Tried) -> Vec<Span> {
+        let memory = self.memory;
+        let mut sentence = Vec::new(memory.alloc);
+        let last = match tried.last {
+            Some(last) if tried.is_complete => Some(last),
+            _ => None,
+        };
+        let mut others = Vec::new(memory.alloc);
+        for operation in self.part {
+            if last != Some(*operation) {
+                memory.note(others.push(*operation));
+            }
+        }
+        let order = match (self.from, others.is_empty()) {
+            (Some(_), false) => ", and in whatever order ",
+            (Some(_), true) => "",
+            (None, false) => "In whatever order ",
+            (None, true) => "Whatever comes before",
+        };
+        if let Some(from) = self.from {
+            memory.note(sentence.extend_from_slice(&[
+                Span::Text("Whatever the "),
+                Span::Kind(self.kind),
+                Span::Text(" contained before map "),
+                Span::number(from),
+            ]));
+        }
+        memory.note(sentence.push(Span::Text(order)));
+        push_all(memory, &mut sentence, &others);
+        let come = if others.is_empty() { ", " } else { " come, " };
+        memory.note(sentence.push(Span::Text(come)));
+        memory.note(sentence.extend_from_slice(&self.end(last)));
+        sentence
+    }
+
+    /// What is said of the operation at which each order ends.
+    fn end(&self, last: Option<Operation>) -> [Span; 4] {
+        match (last, last.and_then(|last| last.reply())) {
+            (Some(last), Some(reply)) if self.kind != Kind::Mutex => [
+                Span::Operation(last),
+                Span::Text(" could not return "),
+                Span::reply(reply),
+                Span::Text("."),
+            ],
+            (Some(last), _) => [
+                Span::Operation(last),
+                Span::Text(" is not possible."),
+                Span::Text(""),
+                Span::Text(""),
+            ],
+            (None, _) => [
+                Span::Text("one of them does not fit: "),
+                Span::Text("the table says where each order breaks."),
+                Span::Text(""),
+                Span::Text(""),
+            ],
+        }
+    }
+
+    /// The sentence: the first shape whose facts hold, or the general one.
+    pub(crate) fn sentence(&self, tried: &Tried) -> Vec<Span> {
+        if let Some(sentence) = self.never_put() {
+            return sentence;
+        }
+        if let Some(sentence) = self.not_empty() {
+            return sentence;
+        }
+        if let Some(sentence) = self.out_of_date() {
+            return sentence;
+        }
+        if let Some(sentence) = self.twice_released() {
+            return sentence;
+        }
+        if let Some(sentence) = self.wrong_turn() {
+            return sentence;
+        }
+        if let Some(sentence) = self.too_often() {
+            return sentence;
+        }
+        self.general(tried)
+    }
+}
