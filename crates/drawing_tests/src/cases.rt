@@ -54,7 +54,7 @@ pub(crate) fn drawing_of(alloc: Global, case: &Case) -> Result<ObjectDrawing, Fa
     let Some(object) = objects.first() else {
         return Err(Fail::from("there is no object"));
     };
-    let maps = history.events().len() as u32;
+    let maps = u32::try_from(history.events().len()).unwrap_or(u32::MAX);
     let stretch = Stretch {
         from: None,
         to: None,
