@@ -1,0 +1,517 @@
+//! The page of a history that was judged, or checked by certificates.
+
+use crate::objects::{counts_in, object_at, one, row_of};
+use certificate::Certificate;
+use checker::{OrderFault, Refusal};
+use deciding::{Decision, FoundReason};
+use drawing::{
+    Memory, Nemesis, ObjectDrawing, Part, Span, Stretch, Subject, count_text, draw_impossible,
+    draw_refused, draw_uncertified, draw_valid,
+};
+use events::{History, ObjectHistory, split};
+use page::{Answer, ObjectRow, Page, html_of};
+use projection::Cut;
+use std::alloc::{AllocError, Global};
+
+/// The most operations that a page of several objects draws.
+const BUDGET: usize = 600;
+
+/// Which object is drawn, and which stretch of it.
+#[derive(Clone, Copy, Debug, PartialEq, Eq)]
+pub struct Options {
+    pub object: Option<u32>,
+    pub stretch: Stretch,
+}
+
+/// The texts that a page tells of: their names, and the lines of the verdict. And how many maps the
+/// history has.
+#[derive(Clone, Copy)]
+pub struct Texts<'a> {
+    pub history: &'a str,
+    pub certificates: Option<&'a str>,
+    pub lines: &'a str,
+    pub maps: u32,
+    pub nemeses: &'a [Nemesis],
+}
+
+/// What a page is made of.
+#[derive(Drop)]
+struct Parts {
+    answer: Answer,
+    /// The word of the title for the answer.
+    word: &'static str,
+    rows: Vec<ObjectRow>,
+    drawings: Vec<ObjectDrawing>,
+    sentences: Vec<Vec<Span>>,
+}
+
+fn push_number_of(
+    alloc: Global,
+    text: &mut String,
+    count: usize,
+    one: &str,
+    several: &str,
+) -> Result<(), AllocError> {
+    let memory = Memory::new(alloc);
+    let count_text = memory.whole(count_text(&memory, count))?;
+    text.push_str(&count_text)?;
+    text.push_str(if count == 1 { one } else { several })
+}
+
+/// Which texts the page is of, and what is in the history.
+fn facts_of(
+    alloc: Global,
+    texts: &Texts<'_>,
+    objects: &[ObjectHistory],
+) -> Result<String, AllocError> {
+    let counts = counts_in(objects);
+    let mut text = String::from_str(alloc, texts.history)?;
+    if let Some(certificates) = texts.certificates {
+        text.push_str(" with ")?;
+        text.push_str(certificates)?;
+    }
+    text.push_str(" · ")?;
+    push_number_of(alloc, &mut text, texts.maps as usize, " map · ", " maps · ")?;
+    push_number_of(
+        alloc,
+        &mut text,
+        counts.operations,
+        " operation · ",
+        " operations · ",
+    )?;
+    push_number_of(alloc, &mut text, objects.len(), " object", " objects")?;
+    if counts.pending > 0 {
+        text.push_str(" · ")?;
+        push_number_of(alloc, &mut text, counts.pending, " pending", " pending")?;
+    }
+    if counts.failed > 0 {
+        text.push_str(" · ")?;
+        push_number_of(alloc, &mut text, counts.failed, " failed", " failed")?;
+    }
+    Ok(text)
+}
+
+/// Which objects of the list are not drawn.
+fn say_not_drawn(
+    sentences: &mut Vec<Vec<Span>>,
+    alloc: Global,
+    rows: &[ObjectRow],
+    drawings: &[ObjectDrawing],
+) -> Result<(), AllocError> {
+    let is_drawn = |row: &ObjectRow| drawings.iter().any(|it| it.object == row.object);
+    let mut left_out: usize = 0;
+    let mut first = None;
+    for row in rows {
+        if !is_drawn(row) {
+            left_out = left_out.saturating_add(1);
+            first = first.or(Some(row.object));
+        }
+    }
+    let Some(first) = first else {
+        return Ok(());
+    };
+    let number = Span::Number(u64::from(first));
+    let mut sentence = one(alloc, Span::Aside("Not drawn: "))?;
+    if left_out == 1 {
+        sentence.extend_from_slice(&[Span::Aside("object "), number])?;
+    } else {
+        sentence.extend_from_slice(&[Span::Count(left_out), Span::Aside(" objects")])?;
+    }
+    sentence.extend_from_slice(&[
+        Span::Aside(". "),
+        Span::Command("--object "),
+        number,
+        Span::Aside(" draws object "),
+        number,
+        Span::Aside("."),
+    ])?;
+    sentences.push(sentence)?;
+    Ok(())
+}
+
+fn page_of(
+    alloc: Global,
+    texts: &Texts<'_>,
+    objects: &[ObjectHistory],
+    parts: Parts,
+) -> Result<Vec<u8>, AllocError> {
+    let facts = facts_of(alloc, texts, objects)?;
+    let (word, history) = (parts.word, texts.history);
+    let title = format!(in alloc; "{word}: {history}")?;
+    let mut sentences = parts.sentences;
+    say_not_drawn(&mut sentences, alloc, &parts.rows, &parts.drawings)?;
+    html_of(
+        alloc,
+        &Page {
+            answer: parts.answer,
+            title: &title,
+            facts: &facts,
+            sentences: &sentences,
+            lines: texts.lines,
+            objects: &parts.rows,
+            drawings: &parts.drawings,
+        },
+    )
+}
+
+fn subject<'a>(
+    history: &'a History,
+    object: &'a ObjectHistory,
+    texts: &Texts<'a>,
+    options: Options,
+) -> Subject<'a> {
+    Subject {
+        history,
+        object,
+        maps: texts.maps,
+        nemeses: texts.nemeses,
+        stretch: options.stretch,
+    }
+}
+
+/// What is said of a history of so many objects that is linearizable.
+fn valid_sentence(alloc: Global, objects: usize) -> Result<Vec<Span>, AllocError> {
+    let said = if objects == 0 {
+        "The history is linearizable: it has no operations."
+    } else if objects == 1 {
+        "The history is linearizable: this order is valid. Each operation that returned has its \
+         place in the order between its invocation and its return, and each reply is what the \
+         object gives there."
+    } else {
+        "The history is linearizable: these orders, one for each object, are valid. Each operation \
+         that returned has its place in the order between its invocation and its return, and each \
+         reply is what the object gives there."
+    };
+    one(alloc, Span::Text(said))
+}
+
+/// The page of a history whose certificates are valid.
+fn valid_page(
+    alloc: Global,
+    history: &History,
+    objects: &[ObjectHistory],
+    certificates: &[Certificate],
+    texts: &Texts<'_>,
+    options: Options,
+) -> Result<Vec<u8>, AllocError> {
+    let mut rows = Vec::new(alloc);
+    let mut drawings = Vec::new(alloc);
+    let mut drawn: usize = 0;
+    for object in objects {
+        rows.push(row_of(object, "valid", false))?;
+        let is_wanted = options
+            .object
+            .is_none_or(|wanted| wanted == object.object());
+        let found = certificates.iter().find(|it| it.object == object.object());
+        let Some(certificate) = found.filter(|_| is_wanted && drawn < BUDGET) else {
+            continue;
+        };
+        let subject = subject(history, object, texts, options);
+        let drawing = draw_valid(alloc, &subject, Some(&certificate.order))?;
+        drawn = drawn.saturating_add(drawing.extent.drawn);
+        drawings.push(drawing)?;
+    }
+    let parts = Parts {
+        answer: Answer::Yes,
+        word: "yes",
+        rows,
+        drawings,
+        sentences: one(alloc, valid_sentence(alloc, objects.len())?)?,
+    };
+    page_of(alloc, texts, objects, parts)
+}
+
+/// The sentence after each refusal.
+fn coda(alloc: Global) -> Result<Vec<Span>, AllocError> {
+    let mut sentence = Vec::new(alloc);
+    sentence.extend_from_slice(&[
+        Span::Aside("This refuses the order, and not the history: another order may be valid. "),
+        Span::Command("fcbench judge HISTORY"),
+        Span::Aside(" looks for one."),
+    ])?;
+    Ok(sentence)
+}
+
+fn code_of(refusal: &Refusal) -> &'static str {
+    match refusal {
+        Refusal::NoCertificate { .. } => "no C1",
+        Refusal::StrangeObject { .. } => "no C2",
+        Refusal::NoMemory => "no C8",
+        Refusal::BadOrder { fault, .. } => match fault {
+            OrderFault::UnknownOperation { .. } => "no C3",
+            OrderFault::Repeated { .. } => "no C4",
+            OrderFault::TooLate { .. } => "no C5",
+            OrderFault::WrongReply { .. } => "no C6",
+            OrderFault::Omitted { .. } => "no C7",
+            OrderFault::NotPossible { .. } => "no C9",
+        },
+    }
+}
+
+fn object_of(refusal: &Refusal) -> Option<u32> {
+    match refusal {
+        Refusal::NoCertificate { object } => Some(*object),
+        Refusal::StrangeObject { object } => Some(*object),
+        Refusal::BadOrder { object, .. } => Some(*object),
+        Refusal::NoMemory => None,
+    }
+}
+
+/// The rows where this object is refused. Those before it were accepted, and those after it were not
+/// looked at.
+fn refused_rows(
+    alloc: Global,
+    objects: &[ObjectHistory],
+    refusal: &Refusal,
+) -> Result<Vec<ObjectRow>, AllocError> {
+    let code = code_of(refusal);
+    let refused = object_of(refusal).unwrap_or(0);
+    let are_all_valid = matches!(refusal, Refusal::StrangeObject { .. });
+    let mut rows = Vec::new(alloc);
+    for object in objects {
+        let number = object.object();
+        rows.push(if are_all_valid || number < refused {
+            row_of(object, "valid", false)
+        } else if number == refused {
+            row_of(object, code.strip_prefix("no ").unwrap_or(code), true)
+        } else {
+            row_of(object, "not looked at", false)
+        })?;
+    }
+    Ok(rows)
+}
+
+/// The drawing of the object that is refused.
+fn refused_drawing(
+    alloc: Global,
+    subject: &Subject<'_>,
+    certificates: &[Certificate],
+    refusal: &Refusal,
+) -> Result<ObjectDrawing, AllocError> {
+    let number = subject.object.object();
+    let certificate = certificates.iter().find(|it| it.object == number);
+    match (refusal, certificate) {
+        (Refusal::BadOrder { object, fault }, Some(certificate)) if *object == number => {
+            draw_refused(alloc, subject, &certificate.order, *fault)
+        }
+        (Refusal::NoCertificate { object }, _) if *object == number => {
+            draw_uncertified(alloc, subject)
+        }
+        _ => draw_valid(alloc, subject, None),
+    }
+}
+
+/// What is said of an object that has a certificate and is not in the history.
+fn strange_sentence(alloc: Global, object: u32) -> Result<Vec<Span>, AllocError> {
+    let mut sentence = Vec::new(alloc);
+    sentence.extend_from_slice(&[
+        Span::Text("The certificates give an order for object "),
+        Span::Number(u64::from(object)),
+        Span::Text(", and no invocation of the history names it. "),
+        Span::Text("Each certificate must be of an object of the history."),
+    ])?;
+    Ok(sentence)
+}
+
+/// The page of a history whose certificates are refused.
+fn refused_page(
+    alloc: Global,
+    history: &History,
+    objects: &[ObjectHistory],
+    certificates: &[Certificate],
+    refusal: &Refusal,
+    texts: &Texts<'_>,
+    options: Options,
+) -> Result<Vec<u8>, AllocError> {
+    let shown = options.object.or(object_of(refusal));
+    let mut drawings = Vec::new(alloc);
+    if let Some(object) = shown.and_then(|shown| object_at(objects, shown)) {
+        let subject = subject(history, object, texts, options);
+        drawings.push(refused_drawing(alloc, &subject, certificates, refusal)?)?;
+    }
+    let mut sentences = Vec::new(alloc);
+    sentences.push(match refusal {
+        Refusal::StrangeObject { object } => strange_sentence(alloc, *object)?,
+        _ => coda(alloc)?,
+    })?;
+    let parts = Parts {
+        answer: Answer::No,
+        word: code_of(refusal),
+        rows: refused_rows(alloc, objects, refusal)?,
+        drawings,
+        sentences,
+    };
+    page_of(alloc, texts, objects, parts)
+}
+
+/// The page of a history that was checked by certificates.
+pub fn checked_page(
+    alloc: Global,
+    history: &History,
+    certificates: &[Certificate],
+    checked: &Result<(), Refusal>,
+    texts: &Texts<'_>,
+    options: Options,
+) -> Result<Vec<u8>, AllocError> {
+    let objects = split(alloc, history)?;
+    match checked {
+        Ok(()) => valid_page(alloc, history, &objects, certificates, texts, options),
+        Err(refusal) => refused_page(
+            alloc,
+            history,
+            &objects,
+            certificates,
+            refusal,
+            texts,
+            options,
+        ),
+    }
+}
+
+fn answer_of(decision: &Decision) -> &'static str {
+    match decision {
+        Decision::Order(_) => "valid",
+        Decision::Impossible(_) => "impossible",
+        Decision::OutOfSteps => "out of steps",
+        Decision::TooLarge => "too large",
+        Decision::NoMemory => "out of memory",
+    }
+}
+
+/// What is said of an object of which nothing was found.
+fn open_sentence(
+    alloc: Global,
+    object: u32,
+    answer: &'static str,
+) -> Result<Vec<Span>, AllocError> {
+    let mut sentence = Vec::new(alloc);
+    sentence.extend_from_slice(&[
+        Span::Text("No order was found for object "),
+        Span::Number(u64::from(object)),
+        Span::Text(", and none was excluded: "),
+        Span::Text(answer),
+        Span::Text(". Nothing is said of the history."),
+    ])?;
+    Ok(sentence)
+}
+
+/// The first object that is impossible, or else the first that has no order.
+fn faulty_object(answers: &[(u32, Decision)]) -> Option<u32> {
+    let impossible = answers
+        .iter()
+        .find(|answer| matches!(answer.1, Decision::Impossible(_)));
+    let open = answers
+        .iter()
+        .find(|answer| !matches!(answer.1, Decision::Order(_)));
+    impossible.or(open).map(|answer| answer.0)
+}
+
+/// The number of the last cut that begins a part later than the object's history.
+fn beginning(cuts: &[Cut]) -> Option<u32> {
+    let mut from = None;
+    for cut in cuts {
+        if let Cut::From(number) = cut {
+            from = Some(*number);
+        }
+    }
+    from
+}
+
+/// The value that stands for all that a part does not keep.
+fn other_in(cuts: &[Cut]) -> Option<i64> {
+    let mut found = None;
+    for cut in cuts {
+        match cut {
+            Cut::Cell { other, .. } => found = Some(*other),
+            Cut::Entry { other, .. } => found = Some(*other),
+            _ => {}
+        }
+    }
+    found
+}
+
+fn part_of(found: &FoundReason) -> Part<'_> {
+    Part {
+        part: &found.part,
+        from: beginning(&found.reason.cuts),
+        other: other_in(&found.reason.cuts),
+    }
+}
+
+/// The drawing of an object with what was decided of it.
+fn decided_drawing(
+    alloc: Global,
+    subject: &Subject<'_>,
+    decision: Option<&Decision>,
+) -> Result<ObjectDrawing, AllocError> {
+    match decision {
+        Some(Decision::Order(certificate)) => draw_valid(alloc, subject, Some(&certificate.order)),
+        Some(Decision::Impossible(found)) => { draw_impossible(alloc, subject, &part_of(found)) },
+        _ => draw_valid(alloc, subject, None),
+    }
+}
+
+/// The page of a history of which some object has no order.
+fn faulty_page(
+    alloc: Global,
+    history: &History,
+    objects: &[ObjectHistory],
+    answers: &[(u32, Decision)],
+    texts: &Texts<'_>,
+    options: Options,
+) -> Result<Vec<u8>, AllocError> {
+    let faulty = faulty_object(answers).unwrap_or(0);
+    let mut rows = Vec::new(alloc);
+    let mut sentences = Vec::new(alloc);
+    let mut answer = Answer::Open;
+    for (number, decision) in answers {
+        if let Some(object) = object_at(objects, *number) {
+            rows.push(row_of(object, answer_of(decision), *number == faulty))?;
+        }
+        if *number == faulty && !matches!(decision, Decision::Impossible(_)) {
+            sentences.push(open_sentence(alloc, *number, answer_of(decision))?)?;
+        } else if *number == faulty {
+            answer = Answer::Impossible;
+        }
+    }
+    let shown = options.object.unwrap_or(faulty);
+    let decision = answers.iter().find(|answer| answer.0 == shown);
+    let mut drawings = Vec::new(alloc);
+    if let Some(object) = object_at(objects, shown) {
+        let subject = subject(history, object, texts, options);
+        drawings.push(decided_drawing(alloc, &subject, decision.map(|it| &it.1))?)?;
+    }
+    let parts = Parts {
+        answer,
+        word: if answer == Answer::Open {
+            "open"
+        } else {
+            "impossible"
+        },
+        rows,
+        drawings,
+        sentences,
+    };
+    page_of(alloc, texts, objects, parts)
+}
+
+/// The page of a history of which each object was decided on.
+pub fn judged_page(
+    alloc: Global,
+    history: &History,
+    answers: Vec<(u32, Decision)>,
+    texts: &Texts<'_>,
+    options: Options,
+) -> Result<Vec<u8>, AllocError> {
+    let objects = split(alloc, history)?;
+    if faulty_object(&answers).is_some() {
+        return faulty_page(alloc, history, &objects, &answers, texts, options);
+    }
+    let mut certificates = Vec::new(alloc);
+    for (_, decision) in answers {
+        if let Decision::Order(certificate) = decision {
+            certificates.push(certificate)?;
+        }
+    }
+    valid_page(alloc, history, &objects, &certificates, texts, options)
+}
