@@ -31,8 +31,8 @@ enum Key {
 
 /// The walk over a text, and what it has found in the map that it is in.
 #[derive(Drop)]
-struct Walk<'a> {
-    memory: &'a Memory,
+struct Walk<'m, 'a> {
+    memory: &'m Memory,
     text: &'a [u8],
     mode: Mode,
     depth: usize,
@@ -50,7 +50,7 @@ fn name_of(memory: &Memory, token: &[u8]) -> String {
     memory.text(String::from_utf8_lossy(memory.alloc, name))
 }
 
-impl<'a> Walk<'a> {
+impl<'m, 'a> Walk<'m, 'a> {
     /// Takes in a key or a value of a map, which is this token, or no token.
     fn end_item(&mut self, token: &'a [u8]) {
         if self.depth != 1 {
