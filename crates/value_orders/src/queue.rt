@@ -119,6 +119,13 @@ impl Side {
     fn remove(&mut self, place: usize) {
         self.begins.set(place, ABSENT);
     }
+
+    /// Puts it back.
+    fn restore(&mut self, place: usize) {
+        if let Some(touch) = self.touches.get(place).copied() {
+            self.begins.set(place, touch.call.begin as i64);
+        }
+    }
 }
 
 /// How many values are looked at to see which puts and removals belong together.
@@ -206,14 +213,15 @@ impl Room {
         self.counts.first_free(from, to).is_none()
     }
 
-    /// Notes that a put went to another removal than these.
-    fn shrink(&mut self, from: usize, to: usize) {
-        self.counts.add(from, to, -1);
+    /// Notes that a put went to another removal than these, or takes that back.
+    fn shrink(&mut self, from: usize, to: usize, by: i64) {
+        self.counts.add(from, to, by.saturating_neg());
     }
 
-    /// Notes that a removal is lined up: it needs no room.
-    fn settle(&mut self, take: usize) {
-        self.counts.add(take, take.saturating_add(1), PLENTY);
+    /// Notes that a removal is lined up, and needs no room, or takes that back.
+    fn settle(&mut self, take: usize, by: i64) {
+        let plenty = PLENTY.saturating_mul(by);
+        self.counts.add(take, take.saturating_add(1), plenty);
     }
 }
 
@@ -253,12 +261,17 @@ impl Cuts {
         Ok(true)
     }
 
-    /// Moves the first call on. False where there is none, or no gap is left for it.
-    fn move_on(&mut self) -> Result<bool, AllocError> {
-        match self.left.pop_first() {
-            Some((gap, end, number)) => self.add(gap.saturating_add(1), end, number),
-            None => Ok(false),
-        }
+    /// Moves the first call on; none where there is none, or no gap is left for it.
+    fn move_on(&mut self) -> Result<Option<(Cut, Cut)>, AllocError> {
+        let Some((gap, end, number)) = self.left.first().copied() else {
+            return Ok(None);
+        };
+        let Some(later) = self.sure.fewest(gap.saturating_add(1), end) else {
+            return Ok(None);
+        };
+        self.left.remove(&(gap, end, number));
+        self.left.insert((later, end, number))?;
+        Ok(Some(((gap, end, number), (later, end, number))))
     }
 
     fn first_gap(&self) -> u32 {
@@ -335,19 +348,36 @@ impl Line {
     }
 }
 
-/// What can be next.
+/// A call that finds nothing: its gap, its return and its number.
+type Cut = (u32, u32, u32);
+
+/// What can be next, and what was.
 #[derive(Clone, Copy, Debug)]
 enum Next {
     /// A call that finds nothing.
     Cut,
+    /// A call that finds nothing was moved on.
+    Moved(Cut, Cut),
+    /// It was lined up.
+    Found(Cut),
     /// A value's put and removal.
     Value(usize, usize),
+    /// The same, in place of which another value can be next.
+    Either((usize, usize), (usize, usize)),
     /// A value that a pending removal takes.
     Lost(usize),
     /// A value that nobody takes.
     Stays(usize),
     Nothing,
     End,
+}
+
+/// What was lined up, and how far the walks over the returns had come before.
+#[derive(Clone, Copy, Debug)]
+struct Turn {
+    next: Next,
+    puts: usize,
+    takes: usize,
 }
 
 /// What is left to be lined up, and what is lined up.
@@ -362,7 +392,7 @@ struct LineUp {
     used: usize,
     /// Whether pending removals are used earlier, where the values that come then fit better.
     lavish: bool,
-    line: Line,
+    turns: Vec<Turn>,
 }
 
 impl LineUp {
@@ -389,13 +419,7 @@ impl LineUp {
             unknown: touches.unknown,
             used: 0,
             lavish,
-            line: Line {
-                steps: Vec::new(alloc),
-                phase: 0,
-                from: 0,
-                put_at: 0,
-                take_at: 0,
-            },
+            turns: Vec::new(alloc),
         }))
     }
 
@@ -431,11 +455,13 @@ impl LineUp {
     }
 
     /// The value that is next of two that can be.
-    fn better(&self, by_put: (usize, usize), by_take: (usize, usize)) -> (usize, usize) {
-        if self.takes.has_earlier(by_put.1) && !self.puts.has_earlier(by_take.0) {
-            by_take
+    fn better(&self, by_put: (usize, usize), by_take: (usize, usize)) -> Next {
+        if !self.takes.has_earlier(by_put.1) {
+            Next::Value(by_put.0, by_put.1)
+        } else if !self.puts.has_earlier(by_take.0) {
+            Next::Value(by_take.0, by_take.1)
         } else {
-            by_put
+            Next::Either(by_put, by_take)
         }
     }
 
@@ -504,10 +530,7 @@ impl LineUp {
             None
         };
         Ok(match (by_put, by_take) {
-            (Some(by_put), Some(by_take)) => {
-                let (put, take) = self.better(by_put, by_take);
-                Next::Value(put, take)
-            }
+            (Some(by_put), Some(by_take)) => self.better(by_put, by_take),
             (Some((put, take)), None) => Next::Value(put, take),
             (None, Some(by_take)) if self.lavish && put_end < take_end => {
                 self.lost_or(alloc, put, latest, by_take)?
@@ -518,67 +541,174 @@ impl LineUp {
         })
     }
 
-    /// Lines up a value's put.
-    fn add_put(&mut self, put: usize) -> Result<(), AllocError> {
-        let Some(touch) = self.puts.touches.get(put).copied() else {
-            return Ok(());
-        };
-        self.puts.remove(put);
-        self.line.put(&touch.call)
-    }
-
-    /// Lines up a value's removal.
-    fn add_take(&mut self, take: usize) -> Result<(), AllocError> {
-        let Some(touch) = self.takes.touches.get(take).copied() else {
-            return Ok(());
-        };
-        self.takes.remove(take);
-        let (from, _) = self.takes.range(touch.value);
-        self.room.shrink(from, take);
-        self.room.settle(take);
-        self.line.take(&touch.call)
-    }
-
-    /// Lines up a value that a pending removal takes.
-    fn add_lost(&mut self, put: usize) -> Result<(), AllocError> {
-        let Some(touch) = self.puts.touches.get(put).copied() else {
-            return Ok(());
-        };
-        let (from, to) = self.takes.range(touch.value);
-        self.room.shrink(from, to);
-        self.add_put(put)?;
-        if let Some(call) = self.unknown.get(self.used).copied() {
-            self.line.take(&call)?;
+    /// The removals of a value before this one.
+    fn removals_before(&self, take: usize) -> usize {
+        match self.takes.touches.get(take).copied() {
+            Some(touch) => self.takes.range(touch.value).0,
+            None => take,
         }
-        self.used = self.used.saturating_add(1);
+    }
+
+    /// The removals of the value of this put.
+    fn removals_of(&self, put: usize) -> (usize, usize) {
+        match self.puts.touches.get(put).copied() {
+            Some(touch) => self.takes.range(touch.value),
+            None => (0, 0),
+        }
+    }
+
+    fn add_value(&mut self, put: usize, take: usize) {
+        self.puts.remove(put);
+        self.takes.remove(take);
+        let from = self.removals_before(take);
+        self.room.shrink(from, take, 1);
+        self.room.settle(take, 1);
+    }
+
+    /// Lines it up.
+    fn add(&mut self, next: Next) -> Result<(), AllocError> {
+        let turn = Turn {
+            next,
+            puts: self.puts.next,
+            takes: self.takes.next,
+        };
+        let mut done = turn;
+        match next {
+            Next::Cut => {
+                if let Some(cut) = self.cuts.left.pop_first() {
+                    done.next = Next::Found(cut);
+                }
+            }
+            Next::Value(put, take) => self.add_value(put, take),
+            Next::Either((put, take), _) => self.add_value(put, take),
+            Next::Lost(put) => {
+                self.puts.remove(put);
+                let (from, to) = self.removals_of(put);
+                self.room.shrink(from, to, 1);
+                self.used = self.used.saturating_add(1);
+            }
+            Next::Stays(put) => self.puts.remove(put),
+            _ => (),
+        }
+        self.turns.push(done)?;
         Ok(())
     }
 
-    /// Lines up all. False where nothing can be next.
-    fn run(&mut self, alloc: Global) -> Result<bool, AllocError> {
-        let calls = self.puts.touches.len().saturating_add(self.cuts.left.len());
-        for _ in 0..calls.saturating_mul(8).saturating_add(1_000) {
-            match self.next(alloc)? {
-                Next::Cut => {
-                    if let Some((gap, _, number)) = self.cuts.left.pop_first() {
-                        self.line.cut(gap, number)?;
-                    }
-                }
-                Next::Value(put, take) => {
-                    self.add_put(put)?;
-                    self.add_take(take)?;
-                }
-                Next::Lost(put) => self.add_lost(put)?,
-                Next::Stays(put) => self.add_put(put)?,
-                Next::Nothing => {
-                    if !self.cuts.move_on()? {
-                        return Ok(false);
-                    }
-                }
-                Next::End => return Ok(true),
+    fn undo_value(&mut self, put: usize, take: usize) {
+        self.puts.restore(put);
+        self.takes.restore(take);
+        let from = self.removals_before(take);
+        self.room.shrink(from, take, -1);
+        self.room.settle(take, -1);
+    }
+
+    /// Takes back what was lined up.
+    fn undo(&mut self, turn: Turn) -> Result<(), AllocError> {
+        self.puts.next = turn.puts;
+        self.takes.next = turn.takes;
+        match turn.next {
+            Next::Found(cut) => {
+                self.cuts.left.insert(cut)?;
+            }
+            Next::Moved(from, to) => {
+                self.cuts.left.remove(&to);
+                self.cuts.left.insert(from)?;
+            }
+            Next::Value(put, take) => self.undo_value(put, take),
+            Next::Either((put, take), _) => self.undo_value(put, take),
+            Next::Lost(put) => {
+                self.puts.restore(put);
+                let (from, to) = self.removals_of(put);
+                self.room.shrink(from, to, -1);
+                self.used = self.used.saturating_sub(1);
+            }
+            Next::Stays(put) => self.puts.restore(put),
+            _ => (),
+        }
+        Ok(())
+    }
+
+    /// Goes back to the last place where another value can be next, and lines that up. False where
+    /// there is none.
+    fn go_back(&mut self) -> Result<bool, AllocError> {
+        for _ in 0..self.turns.len() {
+            let Some(turn) = self.turns.pop() else {
+                break;
+            };
+            self.undo(turn)?;
+            if let Next::Either(_, (put, take)) = turn.next {
+                self.add(Next::Value(put, take))?;
+                return Ok(true);
             }
         }
         Ok(false)
+    }
+
+    /// Lines up all. False where it can't be done.
+    fn run(&mut self, alloc: Global) -> Result<bool, AllocError> {
+        let calls = self.puts.touches.len().saturating_add(self.cuts.left.len());
+        for _ in 0..calls.saturating_mul(8).saturating_add(20_000) {
+            match self.next(alloc)? {
+                Next::Nothing => match self.cuts.move_on()? {
+                    Some((from, to)) => self.add(Next::Moved(from, to))?,
+                    None => {
+                        if !self.go_back()? {
+                            return Ok(false);
+                        }
+                    }
+                },
+                Next::End => return Ok(true),
+                next => self.add(next)?,
+            }
+        }
+        Ok(false)
+    }
+
+    /// The calls in line.
+    fn line(&self, alloc: Global) -> Result<Line, AllocError> {
+        let mut line = Line {
+            steps: Vec::new(alloc),
+            phase: 0,
+            from: 0,
+            put_at: 0,
+            take_at: 0,
+        };
+        let mut used = self.unknown.iter();
+        for turn in &self.turns {
+            match turn.next {
+                Next::Found((gap, _, number)) => line.cut(gap, number)?,
+                Next::Value(put, take) => self.add_calls(&mut line, put, Some(take))?,
+                Next::Either((put, take), _) => self.add_calls(&mut line, put, Some(take))?,
+                Next::Stays(put) => self.add_calls(&mut line, put, None)?,
+                Next::Lost(put) => {
+                    self.add_calls(&mut line, put, None)?;
+                    if let Some(call) = used.next() {
+                        line.take(call)?;
+                    }
+                }
+                _ => (),
+            }
+        }
+        Ok(line)
+    }
+
+    /// Adds a put, and a removal, to the line.
+    fn add_calls(
+        &self,
+        line: &mut Line,
+        put: usize,
+        take: Option<usize>,
+    ) -> Result<(), AllocError> {
+        if let Some(touch) = self.puts.touches.get(put) {
+            line.put(&touch.call)?;
+        }
+        let Some(take) = take else {
+            return Ok(());
+        };
+        if let Some(touch) = self.takes.touches.get(take) {
+            line.take(&touch.call)?;
+        }
+        Ok(())
     }
 }
 
@@ -596,5 +726,5 @@ pub(crate) fn queue_order(
     if !line_up.run(alloc)? {
         return Ok(None);
     }
-    Ok(Some(line_up.line.order(alloc)?))
+    Ok(Some(line_up.line(alloc)?.order(alloc)?))
 }

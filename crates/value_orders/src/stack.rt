@@ -378,26 +378,26 @@ fn last_in(alloc: Global, known: &[Touch], end: u32) -> Result<Option<Vec<Reside
     Ok(Some(residences))
 }
 
-/// The residences of the values, by value and by the begin of their push. None where a pop has no
-/// push.
+/// The residences of the values, and how many of the pending pops they have, the first ones. None
+/// where a pop has no push.
 fn paired(
     alloc: Global,
     touches: &Touches,
     end: u32,
     pairing: Pairing,
-) -> Result<Option<Vec<Residence>>, AllocError> {
-    if !touches.repeat() {
-        return pair(alloc, &touches.known, |touch| touch.call.begin);
+) -> Result<Option<(Vec<Residence>, usize)>, AllocError> {
+    if touches.repeat() && pairing == Pairing::OnTop {
+        return stack_pairs(alloc, touches, end);
     }
-    let found = match pairing {
-        Pairing::OnTop => stack_pairs(alloc, &touches.known, &touches.empties, end)?,
-        Pairing::LastIn => last_in(alloc, &touches.known, end)?,
+    let found = if touches.repeat() {
+        last_in(alloc, &touches.known, end)?
+    } else {
+        pair(alloc, &touches.known, |touch| touch.call.begin)?
     };
-    let Some(mut residences) = found else {
-        return Ok(None);
-    };
-    residences.sort_unstable_by_key(|residence| (residence.value, residence.put.begin));
-    Ok(Some(residences))
+    match found {
+        Some(residences) => Ok(Some((residences, 0))),
+        None => Ok(None),
+    }
 }
 
 /// The values that nobody is known to take, by the begin of their put, and the removals of the
@@ -580,16 +580,19 @@ pub(crate) fn stack_order(
     pairing: Pairing,
 ) -> Result<Option<Vec<i64>>, AllocError> {
     let end = timeline.end;
-    let Some(mut residences) = paired(alloc, &touches, end, pairing)? else {
+    let Some((mut residences, used)) = paired(alloc, &touches, end, pairing)? else {
         return Ok(None);
     };
+    residences.sort_unstable_by_key(|residence| (residence.value, residence.put.begin));
     let mut work = if touches.repeat() { MOST_WORK } else { 0 };
     let Touches {
         known: _known,
         empties,
         unknown,
     } = touches;
-    let removals = Removals::new(alloc, end, unknown, pairing == Pairing::OnTop)?;
+    let (_, left) = unknown.split_at(used.min(unknown.len()));
+    let left = Vec::from_slice(alloc, left)?;
+    let removals = Removals::new(alloc, end, left, pairing == Pairing::OnTop)?;
     give_removals(alloc, &mut residences, &empties, removals)?;
     let rounds = MOST_ORDERED / residences.len().max(1);
     let mut fewest = usize::MAX;

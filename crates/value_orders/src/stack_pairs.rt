@@ -6,7 +6,7 @@
 
 use crate::residences::{NEVER, Residence};
 use crate::sure::Sure;
-use crate::touches::Touch;
+use crate::touches::{Touch, Touches};
 use std::alloc::{AllocError, Global};
 use std::collections::BTreeSet;
 use timed_calls::{PENDING, TimedCall};
@@ -29,6 +29,9 @@ struct Value {
     running: BTreeSet<(u32, usize)>,
     /// Pops that run, by their returns.
     waiting: BTreeSet<(u32, usize)>,
+    /// How many pending pops can take it: how many more pushes there are than pops, of those that
+    /// are left.
+    surplus: usize,
 }
 
 /// What happens to the stack.
@@ -38,6 +41,8 @@ enum Event {
     Returns(usize),
     /// A call finds nothing.
     FindsNone,
+    /// A pop begins that is pending.
+    PendingBegins,
 }
 
 /// What happens, in the order in which it does. A call that finds nothing does so at the first gap
@@ -46,6 +51,7 @@ fn events_of(
     alloc: Global,
     touches: &[Touch],
     empties: &[TimedCall],
+    unknown: &[TimedCall],
     end: u32,
 ) -> Result<Vec<(u32, bool, Event)>, AllocError> {
     let mut events = Vec::new(alloc);
@@ -54,6 +60,9 @@ fn events_of(
         if touch.call.end != PENDING {
             events.push((touch.call.end, false, Event::Returns(place)))?;
         }
+    }
+    for call in unknown {
+        events.push((call.begin, false, Event::PendingBegins))?;
     }
     if let Some(sure) = Sure::new(alloc, touches, end)? {
         for call in empties {
@@ -76,6 +85,11 @@ struct Contents {
     inside: BTreeSet<(u32, usize)>,
     /// A push and a pop.
     pairs: Vec<(usize, usize)>,
+    /// Pops that are pending, in the order of their begins, and how many of them are used.
+    unknown: Vec<TimedCall>,
+    used: usize,
+    /// How many of them have begun.
+    begun: usize,
 }
 
 /// The key of a push by which the one that begins last comes first.
@@ -96,8 +110,15 @@ fn take_out(numbers: &mut Vec<usize>, number: usize) {
 
 impl Contents {
     /// None of the calls, which are sorted by their values, has begun.
-    fn new(alloc: Global, touches: &[Touch]) -> Result<Contents, AllocError> {
+    fn new(
+        alloc: Global,
+        touches: &[Touch],
+        unknown: Vec<TimedCall>,
+    ) -> Result<Contents, AllocError> {
         let mut contents = Contents {
+            unknown,
+            used: 0,
+            begun: 0,
             values: Vec::new(alloc),
             value_of: Vec::new(alloc),
             inside: BTreeSet::new(alloc),
@@ -111,12 +132,25 @@ impl Contents {
                     open: Vec::new(alloc),
                     running: BTreeSet::new(alloc),
                     waiting: BTreeSet::new(alloc),
+                    surplus: 0,
                 })?;
             }
             let place = contents.values.len().saturating_sub(1);
             contents.value_of.push(place)?;
+            contents.count(place, touch.takes);
         }
         Ok(contents)
+    }
+
+    /// Counts a push or a pop of a value, whose pushes come first.
+    fn count(&mut self, place: usize, takes: bool) {
+        if let Some(value) = self.values.get_mut(place) {
+            value.surplus = if takes {
+                value.surplus.saturating_sub(1)
+            } else {
+                value.surplus.saturating_add(1)
+            };
+        }
     }
 
     fn place_of(&self, call: usize) -> usize {
@@ -144,13 +178,14 @@ impl Contents {
     }
 
     /// The pushes of the values that surely are above this one when the pop begins; none where not
-    /// each of them can be popped by a pop that runs.
+    /// each of them can be popped by a pop that runs, or by so many others.
     fn above(
         &self,
         alloc: Global,
         touches: &[Touch],
         put: usize,
         take: usize,
+        mut others: usize,
     ) -> Result<Option<Vec<usize>>, AllocError> {
         let mut above = Vec::new(alloc);
         let (Some(put), Some(take)) = (touches.get(put), touches.get(take)) else {
@@ -166,7 +201,10 @@ impl Contents {
             if touch.call.end <= take.call.begin {
                 let waiting = self.value(*other).map_or(0, |value| value.waiting.len());
                 if waiting <= self.count_like(&above, *other) {
-                    return Ok(None);
+                    if others == 0 || !self.has_surplus(*other) {
+                        return Ok(None);
+                    }
+                    others -= 1;
                 }
                 above.push(*other)?;
             }
@@ -174,19 +212,21 @@ impl Contents {
         Ok(Some(above))
     }
 
-    /// The last push of the pop's value that can be on top, and those above it.
+    /// The last push of the pop's value that can be on top, if so many values are popped by pending
+    /// pops, and those above it.
     fn on_top(
         &self,
         alloc: Global,
         touches: &[Touch],
         take: usize,
+        others: usize,
     ) -> Result<Option<(usize, Vec<usize>)>, AllocError> {
         let Some(value) = self.value(take) else {
             return Ok(None);
         };
         for put in value.open.iter().rev().take(MOST_PUSHES) {
             let put = *put;
-            if let Some(above) = self.above(alloc, touches, put, take)? {
+            if let Some(above) = self.above(alloc, touches, put, take, others)? {
                 return Ok(Some((put, above)));
             }
         }
@@ -203,7 +243,17 @@ impl Contents {
         Ok(())
     }
 
-    /// Pairs a push that has returned with a pop that waits, if one does.
+    fn has_surplus(&self, put: usize) -> bool {
+        self.value(put).is_some_and(|value| value.surplus > 0)
+    }
+
+    /// How many pending pops are left that have begun.
+    fn spare(&self) -> usize {
+        self.begun.saturating_sub(self.used)
+    }
+
+    /// Pairs a push that has returned with a pop that waits, or with one that is pending, if there
+    /// is one.
     fn join_waiting(&mut self, touches: &[Touch], put: usize) -> Result<(), AllocError> {
         let waiting = match self.value_mut(put) {
             Some(value) => value.waiting.pop_first(),
@@ -211,8 +261,34 @@ impl Contents {
         };
         match waiting {
             Some((_, take)) => self.join(touches, put, take),
+            None if self.spare() > 0 && self.has_surplus(put) => {
+                let place = self.place_of(put);
+                self.count(place, true);
+                let take = touches.len().saturating_add(self.used);
+                self.used = self.used.saturating_add(1);
+                self.join(touches, put, take)
+            }
             None => Ok(()),
         }
+    }
+
+    /// Pairs a pop with a push that can be on top, if so many values are popped by pending pops.
+    /// False where there is none.
+    fn pop_top(
+        &mut self,
+        alloc: Global,
+        touches: &[Touch],
+        take: usize,
+        others: usize,
+    ) -> Result<bool, AllocError> {
+        let Some((put, above)) = self.on_top(alloc, touches, take, others)? else {
+            return Ok(false);
+        };
+        for other in &above {
+            self.join_waiting(touches, *other)?;
+        }
+        self.join(touches, put, take)?;
+        Ok(true)
     }
 
     /// Gives the pop the push of one that returns later, which waits again. False where there is
@@ -250,11 +326,7 @@ impl Contents {
         if !waits {
             return Ok(true);
         }
-        if let Some((put, above)) = self.on_top(alloc, touches, take.1)? {
-            for other in &above {
-                self.join_waiting(touches, *other)?;
-            }
-            self.join(touches, put, take.1)?;
+        if self.pop_top(alloc, touches, take.1, 0)? {
             return Ok(true);
         }
         let running = match self.value_mut(take.1) {
@@ -263,6 +335,10 @@ impl Contents {
         };
         if let Some((_, put)) = running {
             self.pairs.push((put, take.1))?;
+            return Ok(true);
+        }
+        let spare = self.spare();
+        if self.pop_top(alloc, touches, take.1, spare)? {
             return Ok(true);
         }
         let last = self
@@ -310,6 +386,10 @@ impl Contents {
                 self.find_none(alloc, touches)?;
                 return Ok(true);
             }
+            Event::PendingBegins => {
+                self.begun = self.begun.saturating_add(1);
+                return Ok(true);
+            }
             Event::Begins(place) => (place, false),
             Event::Returns(place) => (place, true),
         };
@@ -332,15 +412,26 @@ impl Contents {
         Ok(true)
     }
 
+    /// The pop at this place; those that are pending come last.
+    fn call_of(&self, touches: &[Touch], take: usize) -> Option<TimedCall> {
+        match touches.get(take) {
+            Some(touch) => Some(touch.call),
+            None => self
+                .unknown
+                .get(take.saturating_sub(touches.len()))
+                .copied(),
+        }
+    }
+
     /// The values of the pairs, and those that are not popped.
     fn residences(&self, alloc: Global, touches: &[Touch]) -> Result<Vec<Residence>, AllocError> {
         let mut residences = Vec::new(alloc);
         for (put, take) in &self.pairs {
-            if let (Some(put), Some(take)) = (touches.get(*put), touches.get(*take)) {
+            if let Some(put) = touches.get(*put) {
                 residences.push(Residence {
                     value: put.value,
                     put: put.call,
-                    take: Some(take.call),
+                    take: self.call_of(touches, *take),
                 })?;
             }
         }
@@ -357,19 +448,22 @@ impl Contents {
     }
 }
 
-/// The values of a stack with their pushes and pops, which come sorted by their values. None where a
-/// pop has no push.
+/// The values of a stack with their pushes and pops, which come sorted by their values, and how many
+/// of the pending pops they have, the first ones. None where a pop has no push.
 pub(crate) fn stack_pairs(
     alloc: Global,
-    touches: &[Touch],
-    empties: &[TimedCall],
+    touches: &Touches,
     end: u32,
-) -> Result<Option<Vec<Residence>>, AllocError> {
-    let mut contents = Contents::new(alloc, touches)?;
-    for (_, _, event) in &events_of(alloc, touches, empties, end)? {
-        if !contents.happen(alloc, touches, *event)? {
+) -> Result<Option<(Vec<Residence>, usize)>, AllocError> {
+    let known = touches.known.as_slice();
+    let events = events_of(alloc, known, &touches.empties, &touches.unknown, end)?;
+    let unknown = Vec::from_slice(alloc, &touches.unknown)?;
+    let mut contents = Contents::new(alloc, known, unknown)?;
+    for (_, _, event) in &events {
+        if !contents.happen(alloc, known, *event)? {
             return Ok(None);
         }
     }
-    Ok(Some(contents.residences(alloc, touches)?))
+    let residences = contents.residences(alloc, known)?;
+    Ok(Some((residences, contents.used)))
 }
