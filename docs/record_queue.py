@@ -1,7 +1,7 @@
 #!/usr/bin/env python3
 """Records a queue that four threads use, as a history for fcbench.
 
-    examples/record/record_queue.py [--fixed] > queue.history.edn
+    docs/record_queue.py [--fixed] > queue.history.edn
 
 The queue is a list with two indices. Its dequeue reads the index of the head and then moves it: without a lock (the bug) two threads can
 take the same value. With --fixed it holds a lock meanwhile."""
