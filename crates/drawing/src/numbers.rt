@@ -28,8 +28,8 @@ pub(crate) const SMALL: u32 = 560;
 pub const NEMESIS_HEIGHT: u32 = 16;
 /// The characters of the longest label.
 pub(crate) const LABEL_LENGTH: usize = 32;
-/// An object with no more events is drawn whole; of another so many of the first ones, or what is
-/// around the focus; and never more than the most.
+/// An object with at most `WHOLE` events is drawn whole. Of a larger one the first `FIRST` events
+/// are drawn, or those around the focus, and at most `MOST`.
 pub(crate) const WHOLE: usize = 160;
 
 pub(crate) const FIRST: usize = 160;
@@ -70,12 +70,12 @@ pub(crate) fn grouped_digits(count: u32) -> u32 {
     digits.saturating_add(digits.saturating_sub(1) / 3)
 }
 
-/// The room for a label of so many characters.
+/// The room for a label of n characters.
 pub(crate) fn label_room(characters: u32) -> u32 {
     characters.saturating_mul(CHARACTER).saturating_add(14)
 }
 
-/// The width of a gap of so many maps.
+/// The width of a gap of n maps.
 pub(crate) fn gap_width(count: u32) -> u32 {
     let characters = grouped_digits(count).saturating_add(2);
     GAP_WIDTH.max(
@@ -95,7 +95,7 @@ pub(crate) fn point_width(rank: u32) -> u32 {
     digits(rank).saturating_mul(CHARACTER).saturating_add(14)
 }
 
-/// The width of the column of a nemesis whose label has so many characters.
+/// The width of the column of a nemesis whose label has n characters.
 pub(crate) fn nemesis_width(characters: u32) -> u32 {
     characters
         .saturating_mul(SMALL_CHARACTER)

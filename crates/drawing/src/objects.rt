@@ -27,7 +27,7 @@ pub struct Stretch {
     pub to: Option<u32>,
 }
 
-/// An object of a history of so many maps, and the stretch of it that is drawn.
+/// An object of a history with this many maps, and the stretch of it that is drawn.
 #[derive(Clone, Copy)]
 pub struct Subject<'a> {
     pub history: &'a History,

@@ -14,7 +14,7 @@ pub enum State {
     Done,
     /// It did not happen.
     Failed,
-    /// Nobody knows whether it happened.
+    /// It may have happened, or not.
     Pending,
 }
 

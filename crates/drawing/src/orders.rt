@@ -49,7 +49,7 @@ pub enum Row {
         content: Option<String>,
         entry: Entry,
     },
-    /// So many entries are not shown.
+    /// The number of entries that are not shown here.
     Skipped(usize),
 }
 

@@ -169,7 +169,7 @@ fn subject<'a>(
     }
 }
 
-/// What is said of a history of so many objects that is linearizable.
+/// What is said of a linearizable history of n objects.
 fn valid_sentence(alloc: Global, objects: usize) -> Result<Vec<Span>, AllocError> {
     let said = if objects == 0 {
         "The history is linearizable: it has no operations."

@@ -156,9 +156,8 @@ const TWO_OBJECTS: &str = "
     {:process 4 :type :invoke :f :pop :value nil :object 2}
     {:process 4 :type :ok :f :pop :value 2 :object 2}";
 
-/// Each kind of operation, and each kind of end.
 #[test]
-fn operations(rt: HostRuntime) -> Result<(), Fail> {
+fn operations_of_containers_are_told(rt: HostRuntime) -> Result<(), Fail> {
     check(
         &rt,
         false,
@@ -205,6 +204,16 @@ maps 0 and 1: process 0, :insert 3, :ok 3
 maps 2 and 3: process 1, :extract-min nil, :ok 3
 ",
             },
+        ],
+    )
+}
+
+#[test]
+fn operations_of_cells_and_mutexes_are_told(rt: HostRuntime) -> Result<(), Fail> {
+    check(
+        &rt,
+        false,
+        &[
             Row {
                 history: REGISTER,
                 plans: &[],

@@ -35,10 +35,8 @@ fn check<R: AllocGlobal + Abort>(rt: &R, rows: &[Row]) -> Result<(), Fail> {
     Ok(())
 }
 
-/// Each pattern of a queue, stack or heap.
 #[test]
-fn containers(rt: HostRuntime) -> Result<(), Fail> {
-    let (first, second) = (1, -2);
+fn what_is_wrong_with_a_value_is_told(rt: HostRuntime) -> Result<(), Fail> {
     check(
         &rt,
         &[
@@ -76,6 +74,16 @@ fn containers(rt: HostRuntime) -> Result<(), Fail> {
                 None,
                 "the queue was surely not empty when map 12 found nothing",
             ),
+        ],
+    )
+}
+
+#[test]
+fn what_is_wrong_between_values_is_told(rt: HostRuntime) -> Result<(), Fail> {
+    let (first, second) = (1, -2);
+    check(
+        &rt,
+        &[
             (
                 Kind::Heap,
                 Pattern::UnderSmaller {
@@ -125,9 +133,8 @@ fn containers(rt: HostRuntime) -> Result<(), Fail> {
     )
 }
 
-/// Each pattern of a register, map or mutex.
 #[test]
-fn cells_and_mutexes(rt: HostRuntime) -> Result<(), Fail> {
+fn what_is_wrong_with_a_register_or_mutex_is_told(rt: HostRuntime) -> Result<(), Fail> {
     check(
         &rt,
         &[
@@ -136,12 +143,6 @@ fn cells_and_mutexes(rt: HostRuntime) -> Result<(), Fail> {
                 Pattern::Stale(Some(7)),
                 None,
                 "value 7 was read after another content had replaced it",
-            ),
-            (
-                Kind::Map,
-                Pattern::Stale(None),
-                Some(3),
-                "key 3: nil was seen after another content had replaced it",
             ),
             (
                 Kind::Register,
@@ -163,6 +164,33 @@ fn cells_and_mutexes(rt: HostRuntime) -> Result<(), Fail> {
                 Pattern::CountExceeded(Counted::Value(5)),
                 None,
                 "value 5 was taken away more often than it can have been there",
+            ),
+            (
+                Kind::Mutex,
+                Pattern::CountExceeded(Counted::Held),
+                None,
+                "the lock was released more often than it can have been held",
+            ),
+            (
+                Kind::Mutex,
+                Pattern::CountExceeded(Counted::Free),
+                None,
+                "the lock was acquired more often than it can have been free",
+            ),
+        ],
+    )
+}
+
+#[test]
+fn what_is_wrong_with_a_key_is_told(rt: HostRuntime) -> Result<(), Fail> {
+    check(
+        &rt,
+        &[
+            (
+                Kind::Map,
+                Pattern::Stale(None),
+                Some(3),
+                "key 3: nil was seen after another content had replaced it",
             ),
             (
                 Kind::Map,
@@ -187,18 +215,6 @@ fn cells_and_mutexes(rt: HostRuntime) -> Result<(), Fail> {
                 Pattern::CountExceeded(Counted::NoEntry(3)),
                 Some(3),
                 "key 3: no value was found more often than there can have been none",
-            ),
-            (
-                Kind::Mutex,
-                Pattern::CountExceeded(Counted::Held),
-                None,
-                "the lock was released more often than it can have been held",
-            ),
-            (
-                Kind::Mutex,
-                Pattern::CountExceeded(Counted::Free),
-                None,
-                "the lock was acquired more often than it can have been free",
             ),
         ],
     )

@@ -178,7 +178,7 @@ impl Contents {
     }
 
     /// The pushes of the values that surely are above this one when the pop begins; none where not
-    /// each of them can be popped by a pop that runs, or by so many others.
+    /// each of them can be popped by a pop that runs, or by one of `others` pending pops.
     fn above(
         &self,
         alloc: Global,
@@ -212,8 +212,8 @@ impl Contents {
         Ok(Some(above))
     }
 
-    /// The last push of the pop's value that can be on top, if so many values are popped by pending
-    /// pops, and those above it.
+    /// The last push of the pop's value that can be on top, where pending pops may pop this many
+    /// values, and the pushes above it.
     fn on_top(
         &self,
         alloc: Global,
@@ -272,7 +272,7 @@ impl Contents {
         }
     }
 
-    /// Pairs a pop with a push that can be on top, if so many values are popped by pending pops.
+    /// Pairs a pop with a push that can be on top, where pending pops may pop this many values.
     /// False where there is none.
     fn pop_top(
         &mut self,
