@@ -1,57 +1,77 @@
 //! Calls that a client makes at once, since it wins the object, and calls that it posts.
 
-use crate::desks::{
-    acquired, enlist, for_one, invoked, passes, post, record_of, returned, tickets_are,
+use crate::bench::Bench;
+use crate::steps::Got::{Nil, Value};
+use crate::steps::Step::{
+    Calls, CallsAtOnce, Combines, Enlists, IsSpent, Polls, Posts, Retires, Waits,
 };
-use combiner::{CallFault, call, call_at_once};
-use publication::{Answer, Enlist, Post};
-use seq_objects::{AnyOp, AnyReply, Kind};
+use crate::steps::{closes, play};
+use publication::Enlist;
+use seq_objects::{AnyOp, Kind};
 use std::test::Fail;
 
 // It waits for nobody, and so its row is in no list. A call that posts and enlists fails here.
 #[test]
 fn a_lone_client_is_not_listed(rt: HostRuntime) -> Result<(), Fail> {
-    let (desk, client) = for_one(rt.alloc(), Kind::Queue, 2)?;
-    let four = Ok(Answer::Reply(AnyReply::Value(Some(4))));
-    let (client, first) = call_at_once(&rt, &desk, client, 0, AnyOp::Enqueue(4));
-    assert!(rt; first == four);
-    let (mut client, second) = call_at_once(&rt, &desk, client, 0, AnyOp::Dequeue);
-    assert!(rt; second == four);
-    assert!(rt; !client.outstanding());
-    enlist(&rt, &desk, &mut client, Enlist::Listed);
-    Ok(())
+    let mut bench = Bench::new(rt.alloc(), Kind::Queue, 1, 2)?;
+    play(
+        &rt,
+        &mut bench,
+        &[
+            (0, CallsAtOnce(AnyOp::Enqueue(4), Value(4))),
+            (0, CallsAtOnce(AnyOp::Dequeue, Value(4))),
+            (0, Waits(false)),
+            (0, Enlists(Enlist::Listed)),
+        ],
+    )
 }
 
 // `call` posts, polls in vain, and enlists its row before it combines. A call that is made at once
-// fails here.
+// fails here. Each of the two calls takes one pass.
 #[test]
 fn a_lone_client_posts_and_is_listed(rt: HostRuntime) -> Result<(), Fail> {
-    let (desk, client) = for_one(rt.alloc(), Kind::Queue, 2)?;
-    let four = Ok(Answer::Reply(AnyReply::Value(Some(4))));
-    let (mut client, first) = call(&rt, &desk, client, 0, AnyOp::Enqueue(4));
-    assert!(rt; first == four);
-    enlist(&rt, &desk, &mut client, Enlist::Already);
-    let (client, second) = call(&rt, &desk, client, 0, AnyOp::Dequeue);
-    assert!(rt; second == four);
-    let (client, third) = call(&rt, &desk, client, 0, AnyOp::Dequeue);
-    assert!(rt; third == Err(CallFault::Post(Post::Spent)));
-    // Each of the two calls took one pass.
-    passes(&rt, &desk, client, 3, 0);
-    Ok(())
+    let mut bench = Bench::new(rt.alloc(), Kind::Queue, 1, 2)?;
+    play(
+        &rt,
+        &mut bench,
+        &[
+            (0, Calls(AnyOp::Enqueue(4), Value(4))),
+            (0, Enlists(Enlist::Already)),
+            (0, Calls(AnyOp::Dequeue, Value(4))),
+            (0, IsSpent(AnyOp::Dequeue)),
+            (0, Combines(3, 0)),
+        ],
+    )
 }
+
+const SERVED_FIRST: &str = "{:process 0, :type :invoke, :f :acquire, :value nil, :object 0}
+{:process 0, :type :ok, :f :acquire, :value nil, :object 0}
+{:process 0, :type :invoke, :f :release, :value nil, :object 0}
+{:process 1, :type :invoke, :f :acquire, :value nil, :object 0}
+{:process 1, :type :ok, :f :acquire, :value nil, :object 0}
+{:process 0, :type :ok, :f :release, :value nil, :object 0}
+{:object 0, :order [0 2 3]}
+yes: 3 operations, 1 objects
+mutex: 1 objects, 3 operations
+";
 
 // Client 0 waits with a release in its row, and client 1 acquires: the row of client 0 comes first.
 #[test]
 fn listed_rows_are_served_first(rt: HostRuntime) -> Result<(), Fail> {
-    let (desk, mut zero, one) = acquired(&rt, rt.alloc())?;
-    post(&rt, &desk, &mut zero, AnyOp::Release);
-    enlist(&rt, &desk, &mut zero, Enlist::Listed);
-    let (one, answer) = call_at_once(&rt, &desk, one, 0, AnyOp::Acquire);
-    assert!(rt; answer == Ok(Answer::Reply(AnyReply::Value(None))));
-    assert!(rt; desk.poll(&mut zero).is_some());
-    let record = record_of(&rt, desk, zero, one);
-    let other = [invoked(3, AnyOp::Acquire), returned(4, None)];
-    assert!(rt; record.journal(1) == other.as_slice());
-    assert!(rt; tickets_are(record.log(0), &[0, 2, 3]));
-    Ok(())
+    let mut bench = Bench::new(rt.alloc(), Kind::Mutex, 2, 2)?;
+    play(
+        &rt,
+        &mut bench,
+        &[
+            (0, Posts(0, AnyOp::Acquire)),
+            (0, Combines(1, 1)),
+            (0, Polls(Nil)),
+            (0, Posts(0, AnyOp::Release)),
+            (0, Enlists(Enlist::Listed)),
+            (1, CallsAtOnce(AnyOp::Acquire, Nil)),
+            (0, Polls(Nil)),
+            (1, Retires),
+        ],
+    )?;
+    closes(&rt, bench, 0, SERVED_FIRST)
 }

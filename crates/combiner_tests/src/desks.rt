@@ -1,235 +1,137 @@
-//! Desks of one object, with their clients, and what the tests do and ask of them.
+//! A new desk of a queue and a stack with three clients of one call each, the end of its clients,
+//! and its own.
 
-ghost use Rattle.std.specs.Prelude.{◌≡◌, ◌+◌, ◌<◌, length, IfOk};
-ghost use Rattle.publication.specs.Handles.{AllBegun};
-
-use combiner::{Combined, combine};
-use publication::{
-    Answer, Client, Desk, Enlist, JournalEvent, LogEntry, Pass, Record, Unretired, Win,
-};
-use seq_objects::{AnyObject, AnyOp, AnyReply, Kind};
-use std::alloc::{AllocError, Global};
+use crate::bench::{Bench, Closing};
+use crate::steps::Got::{Nothing, Value};
+use crate::steps::Step::{FindsNone, Polls, Posts, Retires, Waits};
+use crate::steps::{Got, closes, play};
+use publication::Win;
+use seq_objects::AnyOp;
 use std::process::Abort;
+use std::test::Fail;
 
-// A desk of one object, and its clients.
-pub(crate) fn desk_of(
-    alloc: Global,
-    kind: Kind,
-    clients: u32,
-    quota: u32,
-) -> Result<(Desk<AnyObject>, Vec<Client<AnyObject>>), AllocError>
-    requires clients { (0 < clients) × (clients < 33) }
-    requires quota { quota < 10001 }
-    ensures desk { IfOk result (λ r. length r.0.id.kinds ≡ 1) }
-    ensures clients { IfOk result (λ r. (length r.1.items ≡ clients) × AllBegun r.0.id r.1.items) }
-{
-    let mut objects = Vec::new(alloc);
-    objects.push(AnyObject::empty(alloc, kind))?;
-    Desk::new(alloc, objects, clients, quota)
-}
-
-// The last of the clients.
-pub(crate) fn next(
-    desk: &Desk<AnyObject>,
-    clients: &mut Vec<Client<AnyObject>>,
-) -> Client<AnyObject>
-    requires { (0 < length clients.old.items) × AllBegun desk.now.id clients.old.items }
-    ensures client { result.desk ≡ desk.now.id }
-    ensures others { (length clients.new.items + 1 ≡ length clients.old.items)
-        × AllBegun desk.now.id clients.new.items }
-{
-    match clients.pop() {
-        Some(client) => client,
-        None => unreachable!(),
+impl Bench {
+    // The number that the client in this seat has of itself.
+    fn number(&mut self, seat: u64) -> Result<u32, Fail> {
+        let Some(client) = self.take(seat) else {
+            return Err(Fail::new("nobody is there"));
+        };
+        let number = client.number();
+        self.seat(seat, client)?;
+        Ok(number)
     }
-}
 
-// A desk of one object, with one client.
-pub(crate) fn for_one(
-    alloc: Global,
-    kind: Kind,
-    quota: u32,
-) -> Result<(Desk<AnyObject>, Client<AnyObject>), AllocError>
-    requires { quota < 10001 }
-    ensures desk { IfOk result (λ r. (r.1.desk ≡ r.0.id) × (length r.0.id.kinds ≡ 1)) }
-{
-    let (desk, mut clients) = desk_of(alloc, kind, 1, quota)?;
-    let zero = next(&desk, &mut clients);
-    Ok((desk, zero))
-}
-
-// A desk of one object, with the clients 0 and 1.
-pub(crate) fn for_two(
-    alloc: Global,
-    kind: Kind,
-    quota: u32,
-) -> Result<(Desk<AnyObject>, Client<AnyObject>, Client<AnyObject>), AllocError>
-    requires { quota < 10001 }
-    ensures desk { IfOk result (λ r. (r.1.desk ≡ r.0.id) × (r.2.desk ≡ r.0.id)
-        × (length r.0.id.kinds ≡ 1)) }
-{
-    let (desk, mut clients) = desk_of(alloc, kind, 2, quota)?;
-    let one = next(&desk, &mut clients);
-    let zero = next(&desk, &mut clients);
-    Ok((desk, zero, one))
-}
-
-pub(crate) fn post<R: Abort>(
-    rt: &R,
-    desk: &Desk<AnyObject>,
-    client: &mut Client<AnyObject>,
-    op: AnyOp,
-)
-    requires { client.old.desk ≡ desk.now.id }
-    ensures { client.new.desk ≡ client.old.desk }
-{
-    assert!(rt; desk.post(client, 0, op).is_ok());
-}
-
-// Wins the object, which nobody holds.
-pub(crate) fn win<R: Abort>(
-    rt: &R,
-    desk: &Desk<AnyObject>,
-    client: Client<AnyObject>,
-    object: u32,
-) -> Pass<AnyObject>
-    requires desk { client.desk ≡ desk.now.id }
-    requires object { object < length desk.now.id.kinds }
-    ensures { result.desk ≡ client.desk }
-{
-    match desk.win(client, object) {
-        Win::Won(pass) => pass,
-        Win::Held(_) => panic!(rt; "the object is held"),
+    // The client wins object 0, and makes a call of its own.
+    fn perform(&mut self, number: u64, op: AnyOp) -> Result<Got, Fail> {
+        let Some(client) = self.take(number) else {
+            return Err(Fail::new("nobody is there to perform"));
+        };
+        let Ok(()) = self.desk.may_post(&client, 0, &op) else {
+            return Err(Fail::new("the call is refused"));
+        };
+        let (client, got) = match self.desk.win(client, 0) {
+            Win::Held(client) => (client, Got::Nothing),
+            Win::Won(mut pass) => {
+                let got = if pass.possible(&op) {
+                    Got::of(Some(pass.perform(&self.desk, op)))
+                } else {
+                    Got::Nothing
+                };
+                (pass.release(&self.desk), got)
+            }
+        };
+        self.seat(number, client)?;
+        Ok(got)
     }
-}
 
-pub(crate) fn enlist<R: Abort>(
-    rt: &R,
-    desk: &Desk<AnyObject>,
-    client: &mut Client<AnyObject>,
-    wanted: Enlist,
-)
-    requires client { client.old.desk ≡ desk.now.id }
-    requires object { 0 < length desk.now.id.kinds }
-    ensures { client.new.desk ≡ client.old.desk }
-{
-    assert_eq!(rt; desk.enlist(client, 0), wanted);
-}
-
-// One pass, of this number, which answers this many requests.
-pub(crate) fn passes<R: Abort>(
-    rt: &R,
-    desk: &Desk<AnyObject>,
-    client: Client<AnyObject>,
-    pass: u64,
-    count: u64,
-) -> Client<AnyObject>
-    requires client { client.desk ≡ desk.now.id }
-    requires object { 0 < length desk.now.id.kinds }
-    ensures { result.desk ≡ client.desk }
-{
-    let (client, combined) = combine(desk, client, 0);
-    assert!(rt; combined == Combined::Served { pass, count });
-    client
-}
-
-// The passes after the first n, up to this one, none of which answers a request.
-pub(crate) fn combines_to<R: Abort>(
-    rt: &R,
-    desk: &Desk<AnyObject>,
-    client: Client<AnyObject>,
-    done: u64,
-    last: u64,
-) -> Client<AnyObject>
-    requires client { client.desk ≡ desk.now.id }
-    requires object { 0 < length desk.now.id.kinds }
-    requires last { last < 1_000 }
-    ensures { result.desk ≡ client.desk }
-{
-    let mut client = client;
-    for pass in done..last {
-        client = passes(rt, desk, client, pass + 1, 0);
-    }
-    client
-}
-
-// Retires client 1, and closes the desk with client 0.
-pub(crate) fn record_of<R: Abort>(
-    rt: &R,
-    desk: Desk<AnyObject>,
-    zero: Client<AnyObject>,
-    one: Client<AnyObject>,
-) -> Record<AnyObject>
-    requires zero { zero.desk ≡ desk.id }
-    requires one { one.desk ≡ desk.id }
-    ensures journals { length result.journals ≡ 2 }
-    ensures logs { length result.logs ≡ 1 }
-{
-    desk.retire(one);
-    closed(rt, desk, zero)
-}
-
-// Closes the desk with client 0, once client 1 has retired.
-pub(crate) fn closed<R: Abort>(
-    rt: &R,
-    desk: Desk<AnyObject>,
-    zero: Client<AnyObject>,
-) -> Record<AnyObject>
-    requires { zero.desk ≡ desk.id }
-    ensures journals { length result.journals ≡ 2 }
-    ensures logs { length result.logs ≡ 1 }
-{
-    match desk.close(zero) {
-        Ok(record) => {
-            assert!(rt; record.clients() == 2 && record.objects() == 1);
-            record
+    // The numbers of the clients 1 and 2 after a meeting over object 1.
+    fn meet(&mut self) -> Result<(u32, u32), Fail> {
+        let (Some(one), Some(two)) = (self.take(1), self.take(2)) else {
+            return Err(Fail::new("a client is not there"));
+        };
+        if self.desk.objects() < 2 {
+            return Err(Fail::new("there is no object 1"));
         }
-        Err(unretired) => {
-            let Unretired {
-                desk: _,
-                last: _,
-                client,
-            } = unretired;
-            panic!(rt; "client {client} has not retired")
-        }
+        let (one, two) = self.desk.meet(one, two, 1);
+        Ok((one.number(), two.number()))
     }
 }
 
-pub(crate) fn invoked(ticket: u64, op: AnyOp) -> JournalEvent<AnyOp, AnyReply> {
-    JournalEvent::Invoked {
-        ticket,
-        object: 0,
-        op,
+// The bench as it was, and the client that has not retired.
+fn closes_too_early<R: Abort>(rt: &R, bench: Bench, number: u64) -> Result<(Bench, u32), Fail> {
+    match bench.close(number)? {
+        Closing::Unretired(bench, client) => Ok((bench, client)),
+        Closing::Closed(_) | Closing::Nobody => panic!(rt; "the desk was closed"),
     }
 }
 
-pub(crate) fn returned(ticket: u64, value: Option<i64>) -> JournalEvent<AnyOp, AnyReply> {
-    JournalEvent::Returned {
-        ticket,
-        answer: Answer::Reply(AnyReply::Value(value)),
+#[test]
+fn desk_begins_with_its_clients(rt: HostRuntime) -> Result<(), Fail> {
+    let mut bench = Bench::queue_and_stack(rt.alloc(), 3, 1)?;
+    assert!(rt; bench.desk.objects() == 2 && bench.desk.clients() == 3);
+    for seat in 0..3 {
+        let number = bench.number(seat)?;
+        assert!(rt; u64::from(number) == seat, "seat {seat}");
+        play(&rt, &mut bench, &[(seat, Waits(false))])?;
     }
+    Ok(())
 }
 
-pub(crate) fn tickets_are(log: &[LogEntry<AnyOp, AnyReply>], tickets: &[u64]) -> bool {
-    log.len() == tickets.len() && log.iter().zip(tickets).all(|(entry, t)| entry.ticket == *t)
+const NOTHING_DONE: &str = "yes: 0 operations, 0 objects\n";
+
+#[test]
+fn last_client_closes(rt: HostRuntime) -> Result<(), Fail> {
+    let mut bench = Bench::queue_and_stack(rt.alloc(), 3, 1)?;
+    play(&rt, &mut bench, &[(1, Retires), (0, Retires)])?;
+    closes(&rt, bench, 2, NOTHING_DONE)
 }
 
-pub(crate) fn value(v: i64) -> Option<Answer<AnyReply>> {
-    Some(Answer::Reply(AnyReply::Value(Some(v))))
+#[test]
+fn error_names_the_least_client(rt: HostRuntime) -> Result<(), Fail> {
+    let bench = Bench::queue_and_stack(rt.alloc(), 3, 1)?;
+    let (mut bench, client) = closes_too_early(&rt, bench, 1)?;
+    assert_eq!(rt; client, 0);
+    play(&rt, &mut bench, &[(0, Retires)])?;
+    let (mut bench, client) = closes_too_early(&rt, bench, 1)?;
+    assert_eq!(rt; client, 2);
+    play(&rt, &mut bench, &[(2, Retires)])?;
+    closes(&rt, bench, 1, NOTHING_DONE)
 }
 
-// A mutex that client 0 has acquired, in the first pass.
-pub(crate) fn acquired<R: Abort>(
-    rt: &R,
-    alloc: Global,
-) -> Result<(Desk<AnyObject>, Client<AnyObject>, Client<AnyObject>), AllocError>
-    ensures desk { IfOk result (λ r. (r.1.desk ≡ r.0.id) × (r.2.desk ≡ r.0.id)
-        × (length r.0.id.kinds ≡ 1)) }
-{
-    let (desk, mut zero, one) = for_two(alloc, Kind::Mutex, 2)?;
-    post(rt, &desk, &mut zero, AnyOp::Acquire);
-    let (mut zero, combined) = combine(&desk, zero, 0);
-    assert!(rt; combined == Combined::Served { pass: 1, count: 1 });
-    assert!(rt; desk.poll(&mut zero).is_some());
-    Ok((desk, zero, one))
+const OWN_CALL: &str = "{:process 2, :type :invoke, :f :enqueue, :value 4, :object 0}
+{:process 2, :type :ok, :f :enqueue, :value 4, :object 0}
+{:process 1, :type :invoke, :f :dequeue, :value nil, :object 0}
+{:object 0, :order [0]}
+yes: 2 operations, 1 objects
+queue: 1 objects, 2 operations
+";
+
+// No request comes to be in its row, and two tickets are drawn, so that the next call has ticket 2.
+#[test]
+fn own_call_goes_through_no_row(rt: HostRuntime) -> Result<(), Fail> {
+    let mut bench = Bench::queue_and_stack(rt.alloc(), 3, 1)?;
+    let got = bench.perform(2, AnyOp::Enqueue(4))?;
+    assert!(rt; got == Value(4));
+    play(
+        &rt,
+        &mut bench,
+        &[
+            (2, Waits(false)),
+            (2, Polls(Nothing)),
+            (1, FindsNone(0, 2)),
+            (1, FindsNone(1, 2)),
+            (1, Posts(0, AnyOp::Dequeue)),
+            (0, Retires),
+            (1, Retires),
+        ],
+    )?;
+    closes(&rt, bench, 2, OWN_CALL)
+}
+
+#[test]
+fn clients_come_back_from_a_meeting(rt: HostRuntime) -> Result<(), Fail> {
+    let mut bench = Bench::queue_and_stack(rt.alloc(), 3, 1)?;
+    let numbers = bench.meet()?;
+    assert!(rt; numbers == (1, 2));
+    Ok(())
 }

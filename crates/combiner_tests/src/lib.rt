@@ -1,4 +1,5 @@
-//! Tests of the public calls of `combiner`, on desks of `publication`. They are a crate of their
+//! Tests of the public calls of `publication` and `combiner`: a bench has a desk with its clients,
+//! and a test says which steps a client takes and what it is to find. They are a crate of their
 //! own, so that the libraries are proved once, and not again for their tests.
 #![tactic(auto)]
 
@@ -6,6 +7,8 @@
 mod abandoned;
 #[cfg(test)]
 mod at_once;
+#[cfg(test)]
+mod bench;
 #[cfg(test)]
 mod desks;
 #[cfg(test)]
@@ -19,6 +22,10 @@ mod outstanding;
 #[cfg(test)]
 mod refused;
 #[cfg(test)]
+mod refusing;
+#[cfg(test)]
 mod serving;
+#[cfg(test)]
+mod steps;
 #[cfg(test)]
 mod two_objects;

@@ -1,178 +1,201 @@
 //! Passes and calls on one object: which rows are served, in which order, and what is answered.
 
-ghost use Rattle.std.specs.Prelude.{◌≡◌, ◌<◌, length};
+ghost use Rattle.std.specs.Prelude.{◌≡◌};
 
-use crate::desks::{
-    acquired, enlist, for_one, for_two, invoked, passes, post, record_of, returned, tickets_are,
-    value, win,
-};
+use crate::bench::Bench;
+use crate::refusing::Refusing;
+use crate::steps::Got::{Nil, Nothing, Value};
+use crate::steps::Step::{Combines, Enlists, IsRefused, Polls, Posts, Retires, Serves};
+use crate::steps::{Got, closes, play};
 use combiner::{Combined, call, combine};
-use publication::{Answer, Client, Desk, Enlist, Pass, Picked, Post, Record};
-use seq_objects::{AnyObject, AnyOp, AnyReply, Kind};
-use std::process::Abort;
+use publication::{Client, Desk, Enlist, Post, Win};
+use seq_objects::{AnyOp, Kind};
 use std::sync::Wait;
 use std::test::Fail;
-use std::thread::join;
+use std::thread::{Threads, join};
 
-fn answer<R: Abort>(
-    rt: &R,
-    desk: &Desk<AnyObject>,
-    pass: Pass<AnyObject>,
-    row: u32,
-) -> Pass<AnyObject>
-    requires desk { pass.desk ≡ desk.now.id }
-    requires row { row < 32 }
-    ensures { result.desk ≡ pass.desk }
-{
-    match pass.pick(desk, row) {
-        Picked::Got(hand) => {
-            assert_eq!(rt; hand.request().object, 0);
-            assert!(rt; hand.possible());
-            hand.answer(desk).0
-        }
-        Picked::Not(pass) => {
-            drop(pass.release(desk));
-            panic!(rt; "row {row} has no request")
-        }
-    }
-}
+const SECOND_FIRST: &str = "{:process 0, :type :invoke, :f :enqueue, :value 1, :object 0}
+{:process 1, :type :invoke, :f :enqueue, :value 2, :object 0}
+{:process 0, :type :ok, :f :enqueue, :value 1, :object 0}
+{:process 1, :type :ok, :f :enqueue, :value 2, :object 0}
+{:process 0, :type :invoke, :f :dequeue, :value nil, :object 0}
+{:process 0, :type :ok, :f :dequeue, :value 2, :object 0}
+{:object 0, :order [1 0 4]}
+yes: 3 operations, 1 objects
+queue: 1 objects, 3 operations
+";
 
 #[test]
 fn the_call_posted_second_may_be_served_first(rt: HostRuntime) -> Result<(), Fail> {
-    let (desk, mut zero, mut one) = for_two(rt.alloc(), Kind::Queue, 2)?;
-    post(&rt, &desk, &mut zero, AnyOp::Enqueue(1));
-    post(&rt, &desk, &mut one, AnyOp::Enqueue(2));
-    let pass = win(&rt, &desk, one, 0);
-    let pass = answer(&rt, &desk, pass, 1);
-    let pass = answer(&rt, &desk, pass, 0);
-    one = pass.release(&desk);
-    assert!(rt; desk.poll(&mut zero) == value(1));
-    assert!(rt; desk.poll(&mut one) == value(2));
-    post(&rt, &desk, &mut zero, AnyOp::Dequeue);
-    let pass = win(&rt, &desk, zero, 0);
-    let pass = answer(&rt, &desk, pass, 0);
-    zero = pass.release(&desk);
-    assert!(rt; desk.poll(&mut zero) == value(2));
-    let record = record_of(&rt, desk, zero, one);
-    let (enqueue_one, enqueue_two) = (AnyOp::Enqueue(1), AnyOp::Enqueue(2));
-    let own = [
-        invoked(0, enqueue_one),
-        returned(2, Some(1)),
-        invoked(4, AnyOp::Dequeue),
-        returned(5, Some(2)),
-    ];
-    let other = [invoked(1, enqueue_two), returned(3, Some(2))];
-    assert!(rt; record.journal(0) == own.as_slice());
-    assert!(rt; record.journal(1) == other.as_slice());
-    assert!(rt; tickets_are(record.log(0), &[1, 0, 4]));
-    Ok(())
+    let mut bench = Bench::new(rt.alloc(), Kind::Queue, 2, 2)?;
+    play(
+        &rt,
+        &mut bench,
+        &[
+            (0, Posts(0, AnyOp::Enqueue(1))),
+            (1, Posts(0, AnyOp::Enqueue(2))),
+            (1, Serves(0, &[1, 0])),
+            (0, Polls(Value(1))),
+            (1, Polls(Value(2))),
+            (0, Posts(0, AnyOp::Dequeue)),
+            (0, Serves(0, &[0])),
+            (0, Polls(Value(2))),
+            (1, Retires),
+        ],
+    )?;
+    closes(&rt, bench, 0, SECOND_FIRST)
 }
 
 #[test]
 fn a_lone_call_is_answered(rt: HostRuntime) -> Result<(), Fail> {
-    let (desk, mut client) = for_one(rt.alloc(), Kind::Queue, 1)?;
-    post(&rt, &desk, &mut client, AnyOp::Enqueue(4));
-    assert!(rt; desk.post(&mut client, 0, AnyOp::Enqueue(4)) == Err(Post::Outstanding));
-    let (mut client, first) = combine(&desk, client, 0);
-    assert!(rt; first == Combined::Served { pass: 1, count: 1 });
-    assert!(rt; desk.poll(&mut client) == value(4));
-    assert!(rt; desk.poll(&mut client).is_none());
-    assert!(rt; desk.post(&mut client, 0, AnyOp::Dequeue) == Err(Post::Spent));
-    let (_, second) = combine(&desk, client, 0);
-    assert!(rt; second == Combined::Served { pass: 2, count: 0 });
-    Ok(())
+    let mut bench = Bench::new(rt.alloc(), Kind::Queue, 1, 1)?;
+    play(
+        &rt,
+        &mut bench,
+        &[
+            (0, Posts(0, AnyOp::Enqueue(4))),
+            (0, IsRefused(0, AnyOp::Enqueue(4), Post::Outstanding)),
+            (0, Combines(1, 1)),
+            (0, Polls(Value(4))),
+            (0, Polls(Nothing)),
+            (0, IsRefused(0, AnyOp::Dequeue, Post::Spent)),
+            (0, Combines(2, 0)),
+        ],
+    )
+}
+
+impl Bench {
+    // What it comes to that client 1 combines while client 0 holds the object.
+    fn combine_on_held(&mut self) -> Result<Combined, Fail> {
+        let (Some(zero), Some(one)) = (self.take(0), self.take(1)) else {
+            return Err(Fail::new("a client is not there"));
+        };
+        if self.desk.objects() == 0 {
+            return Err(Fail::new("there is no object"));
+        }
+        let (zero, one, combined) = match self.desk.win(zero, 0) {
+            Win::Held(zero) => (zero, one, Combined::NoMemory),
+            Win::Won(pass) => {
+                let (one, combined) = combine(&self.desk, one, 0);
+                (pass.release(&self.desk), one, combined)
+            }
+        };
+        self.seat(0, zero)?;
+        self.seat(1, one)?;
+        Ok(combined)
+    }
 }
 
 #[test]
 fn a_held_object_is_busy(rt: HostRuntime) -> Result<(), Fail> {
-    let (desk, zero, mut one) = for_two(rt.alloc(), Kind::Queue, 1)?;
-    post(&rt, &desk, &mut one, AnyOp::Enqueue(4));
-    enlist(&rt, &desk, &mut one, Enlist::Listed);
-    let pass = win(&rt, &desk, zero, 0);
-    let (one, tried) = combine(&desk, one, 0);
-    let zero = pass.release(&desk);
-    assert!(rt; tried == Combined::Busy);
-    let (_, tried) = combine(&desk, zero, 0);
-    assert!(rt; tried == Combined::Served { pass: 1, count: 1 });
-    let mut one = one;
-    assert!(rt; desk.poll(&mut one) == value(4));
-    Ok(())
+    let mut bench = Bench::new(rt.alloc(), Kind::Queue, 2, 1)?;
+    let waits = [
+        (1, Posts(0, AnyOp::Enqueue(4))),
+        (1, Enlists(Enlist::Listed)),
+    ];
+    play(&rt, &mut bench, &waits)?;
+    let combined = bench.combine_on_held()?;
+    assert!(rt; combined == Combined::Busy);
+    let served = [(0, Combines(1, 1)), (1, Polls(Value(4)))];
+    play(&rt, &mut bench, &served)
 }
 
-fn is_mutex_row(kept: &Record<AnyObject>) -> bool
-    requires journals { length kept.now.journals ≡ 2 }
-    requires logs { length kept.now.logs ≡ 1 }
-{
-    let own = [
-        invoked(0, AnyOp::Acquire),
-        returned(1, None),
-        invoked(3, AnyOp::Release),
-        returned(4, None),
-    ];
-    let other = [invoked(2, AnyOp::Acquire), returned(5, None)];
-    kept.journal(0) == own.as_slice()
-        && kept.journal(1) == other.as_slice()
-        && tickets_are(kept.log(0), &[0, 3, 2])
-}
+const LOCKED_TWICE: &str = "{:process 0, :type :invoke, :f :acquire, :value nil, :object 0}
+{:process 0, :type :ok, :f :acquire, :value nil, :object 0}
+{:process 1, :type :invoke, :f :acquire, :value nil, :object 0}
+{:process 0, :type :invoke, :f :release, :value nil, :object 0}
+{:process 0, :type :ok, :f :release, :value nil, :object 0}
+{:process 1, :type :ok, :f :acquire, :value nil, :object 0}
+{:object 0, :order [0 3 2]}
+yes: 3 operations, 1 objects
+mutex: 1 objects, 3 operations
+";
 
 #[test]
 fn what_was_put_back_is_served_later(rt: HostRuntime) -> Result<(), Fail> {
-    let (desk, mut zero, mut one) = acquired(&rt, rt.alloc())?;
-    post(&rt, &desk, &mut one, AnyOp::Acquire);
-    enlist(&rt, &desk, &mut one, Enlist::Listed);
-    let mut one = passes(&rt, &desk, one, 2, 0);
-    assert!(rt; desk.poll(&mut one).is_none());
-    post(&rt, &desk, &mut zero, AnyOp::Release);
-    let mut zero = passes(&rt, &desk, zero, 3, 2);
-    assert!(rt; desk.poll(&mut zero).is_some());
-    assert!(rt; desk.poll(&mut one).is_some());
-    let record = record_of(&rt, desk, zero, one);
-    assert!(rt; is_mutex_row(&record));
-    Ok(())
+    let mut bench = Bench::new(rt.alloc(), Kind::Mutex, 2, 2)?;
+    play(
+        &rt,
+        &mut bench,
+        &[
+            (0, Posts(0, AnyOp::Acquire)),
+            (0, Combines(1, 1)),
+            (0, Polls(Nil)),
+            (1, Posts(0, AnyOp::Acquire)),
+            (1, Enlists(Enlist::Listed)),
+            (1, Combines(2, 0)),
+            (1, Polls(Nothing)),
+            (0, Posts(0, AnyOp::Release)),
+            (0, Combines(3, 2)),
+            (0, Polls(Nil)),
+            (1, Polls(Nil)),
+            (1, Retires),
+        ],
+    )?;
+    closes(&rt, bench, 0, LOCKED_TWICE)
 }
 
 #[test]
 fn the_own_row_is_tried_again(rt: HostRuntime) -> Result<(), Fail> {
-    let (desk, mut zero, mut one) = acquired(&rt, rt.alloc())?;
-    post(&rt, &desk, &mut one, AnyOp::Acquire);
-    post(&rt, &desk, &mut zero, AnyOp::Release);
-    enlist(&rt, &desk, &mut zero, Enlist::Listed);
-    let mut one = passes(&rt, &desk, one, 2, 2);
-    assert!(rt; desk.poll(&mut zero).is_some());
-    assert!(rt; desk.poll(&mut one).is_some());
-    let record = record_of(&rt, desk, zero, one);
-    assert!(rt; tickets_are(record.log(0), &[0, 3, 2]));
-    Ok(())
+    let mut bench = Bench::new(rt.alloc(), Kind::Mutex, 2, 2)?;
+    play(
+        &rt,
+        &mut bench,
+        &[
+            (0, Posts(0, AnyOp::Acquire)),
+            (0, Combines(1, 1)),
+            (0, Polls(Nil)),
+            (1, Posts(0, AnyOp::Acquire)),
+            (0, Posts(0, AnyOp::Release)),
+            (0, Enlists(Enlist::Listed)),
+            (1, Combines(2, 2)),
+            (0, Polls(Nil)),
+            (1, Polls(Nil)),
+            (1, Retires),
+        ],
+    )?;
+    closes(&rt, bench, 0, LOCKED_TWICE)
 }
 
-// The values that a call of enqueue and then one of dequeue answer.
+// What a call of enqueue and then one of dequeue come to.
 fn enqueue_and_dequeue<R: Wait>(
     rt: &R,
-    desk: &Desk<AnyObject>,
-    client: Client<AnyObject>,
+    desk: &Desk<Refusing>,
+    client: Client<Refusing>,
     v: i64,
-) -> Option<(Answer<AnyReply>, Answer<AnyReply>)>
+) -> (Got, Got)
     requires { client.desk ≡ desk.now.id }
 {
     let (client, first) = call(rt, desk, client, 0, AnyOp::Enqueue(v));
     let (_, second) = call(rt, desk, client, 0, AnyOp::Dequeue);
-    Some((first.ok()?, second.ok()?))
+    (Got::of(first.ok()), Got::of(second.ok()))
+}
+
+impl Bench {
+    // What the calls of the clients 0 and 1 come to, each in a thread of its own.
+    fn both_call<R: Threads + Wait + Sync>(
+        &mut self,
+        rt: &R,
+    ) -> Result<((Got, Got), (Got, Got)), Fail> {
+        let (Some(zero), Some(one)) = (self.take(0), self.take(1)) else {
+            return Err(Fail::new("a client is not there"));
+        };
+        let desk = &self.desk;
+        Ok(join(
+            rt,
+            || enqueue_and_dequeue(rt, desk, zero, 1),
+            || enqueue_and_dequeue(rt, desk, one, 2),
+        ))
+    }
 }
 
 #[test]
 fn two_threads_are_answered(rt: HostRuntime) -> Result<(), Fail> {
     for _ in 0..100 {
-        let (desk, zero, one) = for_two(rt.alloc(), Kind::Queue, 2)?;
-        let (desk, handle) = (&desk, &rt);
-        let (a, b) = join(
-            handle,
-            || enqueue_and_dequeue(handle, desk, zero, 1),
-            || enqueue_and_dequeue(handle, desk, one, 2),
-        );
-        let one = Answer::Reply(AnyReply::Value(Some(1)));
-        let two = Answer::Reply(AnyReply::Value(Some(2)));
-        let own = a == Some((one, one)) && b == Some((two, two));
-        let crossed = a == Some((one, two)) && b == Some((two, one));
+        let mut bench = Bench::new(rt.alloc(), Kind::Queue, 2, 2)?;
+        let (zero, one) = bench.both_call(&rt)?;
+        let own = zero == (Value(1), Value(1)) && one == (Value(2), Value(2));
+        let crossed = zero == (Value(1), Value(2)) && one == (Value(2), Value(1));
         assert!(rt; own || crossed);
     }
     Ok(())

@@ -1,10 +1,8 @@
-//! Tests of the public calls of `roster`, `publication`, `workload`, `clients`, `machine` and
+//! Tests of the public calls of `publication_list`, `workload`, `clients`, `machine` and
 //! `simulation`. They are a crate of their own, so that each library is proved once, and not again
 //! for its tests.
 #![tactic(auto)]
 
-#[cfg(test)]
-mod desks;
 #[cfg(test)]
 mod enlisting;
 #[cfg(test)]

@@ -1,0 +1,156 @@
+//! A desk with its clients in their seats, so that a test names a client by its number.
+
+ghost use Rattle.std.specs.Prelude.{◌≡◌, ◌≢◌, ◌×◌, ◌<◌, length, IfOk, IfSome};
+ghost use Rattle.publication.specs.Handles.{AllBegun};
+ghost use Rattle.combiner_tests.specs.Seats.{AreSeated};
+
+use crate::refusing::Refusing;
+use number_map::NumberMap;
+use publication::{Client, Desk, Record, Unretired};
+use seq_objects::{AnyObject, Kind};
+use std::alloc::{AllocError, Global};
+use std::marker::Model;
+
+/// A desk, and those of its clients that are not at work.
+#[derive(Drop)]
+pub(crate) struct Bench {
+    pub(crate) desk: Desk<Refusing>,
+    pub(crate) seats: NumberMap<Client<Refusing>>,
+}
+
+/// What closing a desk came to.
+#[derive(Drop)]
+pub(crate) enum Closing {
+    Closed(Record<Refusing>),
+    /// The client with this number has not retired. The bench is as it was.
+    Unretired(Bench, u32),
+    /// There is no such client.
+    Nobody,
+}
+
+impl Model for Bench {
+    ghost use Rattle.publication.specs.Handles.{DeskId};
+    ghost use Rattle.combiner_tests.specs.Seats.{AreSeated};
+
+    ghost Value = { DeskId };
+
+    ghost view = { λ b. b.desk.id };
+
+    ghost invariant = { λ b. AreSeated b.desk.id b.seats };
+}
+
+// The last of the clients.
+fn next(desk: &Desk<Refusing>, clients: &mut Vec<Client<Refusing>>) -> Option<Client<Refusing>>
+    requires { AllBegun desk.now.id clients.old.items }
+    ensures client { IfSome result (λ c. (c.desk ≡ desk.now.id)
+        × (length clients.new.items < length clients.old.items)) }
+    ensures others { AllBegun desk.now.id clients.new.items }
+{
+    clients.pop()
+}
+
+// The clients, each in the seat of its place in the list.
+fn seated(
+    alloc: Global,
+    desk: &Desk<Refusing>,
+    mut clients: Vec<Client<Refusing>>,
+) -> Result<NumberMap<Client<Refusing>>, AllocError>
+    requires { AllBegun desk.now.id clients.items }
+    ensures { IfOk result (AreSeated desk.now.id) }
+{
+    let mut seats = NumberMap::new(alloc);
+    'seating: while let Some(client) = next(desk, &mut clients) {
+        seats.insert(clients.len() as u64, client)?;
+    }
+    Ok(seats)
+}
+
+impl Bench {
+    /// A desk of one object, which refuses the call after `left` others, or none.
+    pub(crate) fn refusing(
+        alloc: Global,
+        kind: Kind,
+        left: Option<u32>,
+        clients: u32,
+        quota: u32,
+    ) -> Result<Bench, AllocError>
+        requires clients { (0 < clients) × (clients < 33) }
+        requires quota { quota < 10001 }
+    {
+        let mut objects = Vec::new(alloc);
+        objects.push(Refusing {
+            inside: AnyObject::empty(alloc, kind),
+            left,
+        })?;
+        let (desk, clients) = Desk::new(alloc, objects, clients, quota)?;
+        let seats = seated(alloc, &desk, clients)?;
+        Ok(Bench { desk, seats })
+    }
+
+    /// A desk of one object.
+    pub(crate) fn new(
+        alloc: Global,
+        kind: Kind,
+        clients: u32,
+        quota: u32,
+    ) -> Result<Bench, AllocError>
+        requires clients { (0 < clients) × (clients < 33) }
+        requires quota { quota < 10001 }
+    {
+        Bench::refusing(alloc, kind, None, clients, quota)
+    }
+
+    /// A desk of a queue and a stack.
+    pub(crate) fn queue_and_stack(
+        alloc: Global,
+        clients: u32,
+        quota: u32,
+    ) -> Result<Bench, AllocError>
+        requires clients { (0 < clients) × (clients < 33) }
+        requires quota { quota < 10001 }
+    {
+        let mut objects = Vec::with_capacity(alloc, 2)?;
+        objects.push_reserved(Refusing {
+            inside: AnyObject::empty(alloc, Kind::Queue),
+            left: None,
+        });
+        objects.push_reserved(Refusing {
+            inside: AnyObject::empty(alloc, Kind::Stack),
+            left: None,
+        });
+        let (desk, clients) = Desk::new(alloc, objects, clients, quota)?;
+        let seats = seated(alloc, &desk, clients)?;
+        Ok(Bench { desk, seats })
+    }
+
+    /// The client with this number leaves its seat.
+    pub(crate) fn take(&mut self, number: u64) -> Option<Client<Refusing>>
+        ensures same { self.new ≡ self.old }
+        ensures client { IfSome result (λ c. c.desk ≡ self.old) }
+    {
+        self.seats.remove(number)
+    }
+
+    /// The client takes the seat with this number.
+    pub(crate) fn seat(&mut self, number: u64, client: Client<Refusing>) -> Result<(), AllocError>
+        requires { client.desk ≡ self.old }
+        ensures { self.new ≡ self.old }
+    {
+        self.seats.insert(number, client)
+    }
+
+    /// Closes the desk by the client with this number.
+    pub(crate) fn close(mut self, number: u64) -> Result<Closing, AllocError> {
+        let Some(last) = self.take(number) else {
+            return Ok(Closing::Nobody);
+        };
+        let Bench { desk, mut seats } = self;
+        match desk.close(last) {
+            Ok(record) => Ok(Closing::Closed(record)),
+            Err(Unretired { desk, last, client }) => {
+                seats.insert(number, last)?;
+                Ok(Closing::Unretired(Bench { desk, seats }, client))
+            }
+        }
+    }
+}
