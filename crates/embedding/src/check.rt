@@ -27,8 +27,10 @@ pub extern "C" fn fcbench_check(
 ) -> u32
     // The headline: where it answers 0, the history that the bytes denote is linearizable.
     ensures linearizable { result ≡ yes_status → IsLinearizableText history.now }
+    // The lines are those of a verdict that holds, with its status, or memory for them was refused.
     ensures checked { IsAnswered (IsCheck history.now certificates.now)
         result out.old out.new needed.new }
+    // Valid certificates are accepted, except where memory is refused.
     ensures accepts { AreValidTexts history.now certificates.now →
         (result ≡ yes_status) ⊎ (result ≡ no_memory_status) }
 {

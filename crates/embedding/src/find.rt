@@ -30,6 +30,7 @@ pub extern "C" fn fcbench_find(
     ensures certified { result ≡ yes_status →
         (text : List ℕ) × AreCertificatesFor history.now text
         × IsHandedOut text out.old out.new needed.new }
+    // The lines say what was found, with its status, or memory for them was refused.
     ensures found { IsAnswered (IsFind history.now) result out.old out.new needed.new }
 {
     // This does nothing: it says that valid certificates make the history linearizable.

@@ -25,10 +25,11 @@ pub extern "C" fn fcbench_judge(
     out: &mut [u8],
     needed: &mut usize,
 ) -> u32
-    // The headline: where it answers 0, the history that the bytes denote is linearizable, and where
-    // it answers 1 it is not.
+    // The headline: where it answers 0, the history that the bytes denote is linearizable.
     ensures linearizable { result ≡ yes_status → IsLinearizableText history.now }
+    // Where it answers 1, that history is not linearizable.
     ensures refuted { result ≡ no_status → IsNotLinearizableText history.now }
+    // The lines are those of a judgement with this status, or memory for them was refused.
     ensures judged { IsAnswered (IsJudgement history.now steps)
         result out.old out.new needed.new }
 {

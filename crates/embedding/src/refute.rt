@@ -27,6 +27,7 @@ pub extern "C" fn fcbench_refute(
 ) -> u32
     // Where it answers 1, the history that the bytes denote is not linearizable.
     ensures refuted { result ≡ no_status → IsNotLinearizableText history.now }
+    // The lines are the answers to the reasons, with their status, or memory for them was refused.
     ensures answered { IsAnswered (IsRefute history.now reasons.now steps)
         result out.old out.new needed.new }
 {
