@@ -2,6 +2,7 @@
 """Drives a right queue and one with a race by 4 threads, records them, and judges the histories. FCBENCH_RUNS says how many runs of
 each are made."""
 import os
+import sys
 import threading
 import time
 import unittest
@@ -10,8 +11,9 @@ import fcbench
 from fcbench import Verdict
 from recorder import Failed, Recorder
 
-THREADS, CALLS, MOST_OPERATIONS, MOST_TURNS = 4, 50, 5, 2000
+THREADS, CALLS, MOST_OPERATIONS, MOST_TURNS = 4, 50, 5, 50
 RUNS = int(os.environ.get("FCBENCH_RUNS", "100"))
+sys.setswitchinterval(0.00001)  # so that threads take turns often
 
 
 class Queue:
@@ -38,6 +40,8 @@ class Queue:
             return None
         if self.has_race:
             self.wait_for_another()
+        else:
+            time.sleep(0)
         self.head = head + 1
         return self.values[head]
 
@@ -52,7 +56,7 @@ class Queue:
         for _ in range(MOST_TURNS):
             if self.inside > 1:
                 break
-            time.sleep(0)
+            time.sleep(0.00005)
         self.count(-1)
 
 
