@@ -23,7 +23,7 @@ where a function has only one, and its text, after the comment that the source h
 `x.now` is what an argument refers to, `x.old` and `x.new` what it referred to before and after.
 [guarantees.md](guarantees.md) says what follows for a user of the program.
 """
-FN = re.compile(r"^( *)(pub )?(?:const )?(?:unsafe )?fn (\w+)")
+FN = re.compile(r"^( *)(pub )?(?:const )?(?:unsafe )?(extern \"C\" )?fn (\w+)")
 CLAUSE = re.compile(r"^ *(ensures|requires)(?: ([a-z_]\w*))? \{")
 
 
@@ -114,8 +114,8 @@ def functions(crate):
                 function = FN.match(line)
                 if not function or not (function.group(2) or owner and is_trait):
                     continue
-                indent, name = function.group(1), function.group(3)
-                if (owner if indent else name) not in names and file != "lib.rt" and file[:-3] not in modules:
+                indent, for_c, name = function.group(1), function.group(3), function.group(4)
+                if not for_c and (owner if indent else name) not in names and file != "lib.rt" and file[:-3] not in modules:
                     continue
                 doc = comment_before(lines, at, "///")
                 yield f"{owner}::{name}" if indent and owner else name, doc, clauses(lines, at + 1 if not CLAUSE.match(line) else at)

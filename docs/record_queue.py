@@ -2,13 +2,18 @@
 """Records a queue that four threads use, as a history for fcbench.
 
     docs/record_queue.py [--fixed] > queue.history.edn
+    docs/record_queue.py [--fixed] --judge          judges it in place, by the library that clients/build makes
 
 The queue is a list with two indices. Its dequeue reads the index of the head and then moves it: without a lock (the bug) two threads can
 take the same value. With --fixed it holds a lock meanwhile."""
+import os
 import random
 import sys
 import threading
 import time
+
+sys.path.insert(0, os.path.join(os.path.dirname(os.path.abspath(__file__)), "..", "clients", "python"))
+from recorder import Recorder  # noqa: E402
 
 THREADS, CALLS = 4, 50
 
@@ -23,6 +28,7 @@ class Queue:
     def enqueue(self, value):
         with self.enqueuing:
             self.values.append(value)
+        return value
 
     def dequeue(self):
         if self.is_fixed:
@@ -39,42 +45,39 @@ class Queue:
         return self.values[head]
 
 
-class Recorder:
-    """Writes a map before each call and one after it, in the order in which they happen."""
-
-    def __init__(self, out):
-        self.out, self.lock = out, threading.Lock()
-
-    def write(self, process, kind, function, value):
-        text = "nil" if value is None else value
-        with self.lock:
-            self.out.write(f"{{:process {process}, :type :{kind}, :f :{function}, :value {text}}}\n")
-
-    def call(self, process, function, value, do):
-        self.write(process, "invoke", function, value)
-        reply = do()
-        self.write(process, "ok", function, reply)
-
-
-def work(process, queue, recorder):
+def work(number, queue, journal):
     """The calls of one thread. Each value is enqueued once: then a fault is found at any length."""
-    draw = random.Random(process)
-    for number in range(CALLS):
+    draw = random.Random(number)
+    for call in range(CALLS):
         if draw.random() < 0.5:
-            value = process * CALLS + number
-            recorder.call(process, "enqueue", value, lambda: queue.enqueue(value) or value)
+            value = number * CALLS + call
+            journal.call("enqueue", value, lambda: queue.enqueue(value))
         else:
-            recorder.call(process, "dequeue", None, queue.dequeue)
+            journal.call("dequeue", None, queue.dequeue)
 
 
-def main(*words):
-    queue, recorder = Queue("--fixed" in words), Recorder(sys.stdout)
-    threads = [threading.Thread(target=work, args=(it, queue, recorder)) for it in range(THREADS)]
+def record(is_fixed):
+    queue, recorder = Queue(is_fixed), Recorder()
+    journals = [recorder.journal() for _ in range(THREADS)]
+    threads = [threading.Thread(target=work, args=(number, queue, journal)) for number, journal in enumerate(journals)]
     for thread in threads:
         thread.start()
     for thread in threads:
         thread.join()
+    return recorder.history(journals)
+
+
+def main(*words):
+    history = record("--fixed" in words)
+    if "--judge" not in words:
+        sys.stdout.write(history)
+        return 0
+    import fcbench
+
+    answer = fcbench.judge(history)
+    sys.stdout.write(answer.lines)
+    return int(answer.verdict)
 
 
 if __name__ == "__main__":
-    main(*sys.argv[1:])
+    sys.exit(main(*sys.argv[1:]))

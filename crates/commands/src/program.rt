@@ -42,7 +42,7 @@ pub fn perform<R: Threads + Wait + Sync, S: Sink>(
             steps,
             first: order,
         } => report_search(alloc, first, *steps, *order, sink),
-        Line::Judge { history: _, steps } => report_judgement(rt, alloc, first, *steps, sink),
+        Line::Judge { history: _, steps } => report_judgement(alloc, first, *steps, sink),
         Line::Find { .. } => report_find(alloc, first, sink),
         Line::Refute {
             history: _,

@@ -18,13 +18,12 @@ use certificate::Certificate;
 use deciding::{Decision, FoundReason, decide_all};
 use edn::Sink;
 use history::History;
-use judging::verdict_on;
+use judging::verdict_alone;
 use outputs::{NO, NO_MEMORY, Output, YES, put_out};
 use reason_report::{push_operations, push_reason, push_sentence};
 use report::Verdict;
 use seq_objects::Kind;
 use std::alloc::{AllocError, Global};
-use std::thread::Threads;
 
 /// The kind that a sentence speaks of: where the part is of a key, it is one of a map.
 fn kind_told(kind: Kind, key: Option<i64>) -> Kind
@@ -167,30 +166,20 @@ fn certificates_of(
 }
 
 /// The verdict on the certificates that were found, one for each object.
-fn verdict_on_found<R: Threads + Sync>(
-    rt: &R,
-    alloc: Global,
-    history: &History,
-    answers: Vec<(u32, Decision)>,
-) -> Verdict
+fn verdict_on_found(alloc: Global, history: &History, answers: Vec<(u32, Decision)>) -> Verdict
     requires distinct { AreDistinct (certificates_in answers.items) }
     requires valid { AreValid history.now (certificates_in answers.items) }
     ensures { IsVerdictOn history.now result }
 {
     match certificates_of(alloc, answers) {
-        Ok(certificates) => verdict_on(rt, alloc, history, &certificates, 1),
+        Ok(certificates) => verdict_alone(alloc, history, &certificates),
         Err(AllocError) => Verdict::NoMemory,
     }
 }
 
 /// Finds certificates, and gives the verdict on them as an error, or else what is said of objects
 /// that have none.
-fn judge_events<R: Threads + Sync>(
-    rt: &R,
-    alloc: Global,
-    history: &History,
-    steps: u32,
-) -> Result<Output, Verdict>
+fn judge_events(alloc: Global, history: &History, steps: u32) -> Result<Output, Verdict>
     ensures notes { IfOk result (λ s. AreOpen history.now steps s.status s.text.items) }
     ensures judged { IfErr result (IsVerdictOn history.now) }
 {
@@ -198,7 +187,7 @@ fn judge_events<R: Threads + Sync>(
         return Err(Verdict::NoMemory);
     };
     if are_all_orders(&answers) {
-        return Err(verdict_on_found(rt, alloc, history, answers));
+        return Err(verdict_on_found(alloc, history, answers));
     }
     match output_of(alloc, history, steps, &answers) {
         Ok(output) => Ok(output),
@@ -208,32 +197,21 @@ fn judge_events<R: Threads + Sync>(
 
 /// The same for the history that a text denotes.
 #[tactic(auto, using(crate::proofs::Judged::unsearched))]
-fn judge_text<R: Threads + Sync>(
-    rt: &R,
-    alloc: Global,
-    text: &[u8],
-    steps: u32,
-) -> Result<Output, Verdict>
+fn judge_text(alloc: Global, text: &[u8], steps: u32) -> Result<Output, Verdict>
     ensures notes { IfOk result (λ s. IsOpenText text.now steps s.status s.text.items) }
     ensures judged { IfErr result (IsVerdictOnText text.now) }
 {
     let history = history_of(alloc, text)?;
-    judge_events(rt, alloc, &history, steps)
+    judge_events(alloc, &history, steps)
 }
 
 /// Finds certificates of the history in the text, judges it by them, puts out the verdict, or why
 /// some objects have no certificate, and gives the exit status. A search takes at most `steps`
-/// steps for each object.
-pub fn report_judgement<R: Threads + Sync, S: Sink>(
-    rt: &R,
-    alloc: Global,
-    text: &[u8],
-    steps: u32,
-    sink: &mut S,
-) -> u8
+/// steps for each object. It starts no thread.
+pub fn report_judgement<S: Sink>(alloc: Global, text: &[u8], steps: u32, sink: &mut S) -> u8
     requires working { S.broken sink.old ≡ false }
     ensures leaves { Leaves (IsJudgement text.now steps)
         (S.sent sink.old) result (S.sent sink.new) (S.broken sink.new) }
 {
-    put_out(judge_text(rt, alloc, text, steps), sink)
+    put_out(judge_text(alloc, text, steps), sink)
 }

@@ -9,9 +9,9 @@ ghost use Rattle.checker.specs.Refusals.{AreValid, IsFirstRefusal};
 ghost use Rattle.judging.specs.Texts.{AreValidTexts, IsLinearizableText, verdict_of};
 ghost use Rattle.judging.specs.Verdicts.{Judges, JudgesBy, OnYes, IsYesUnlessMemory};
 
-use crate::texts::{TextFailure, texts_in};
+use crate::texts::{TextFailure, texts_alone, texts_in};
 use certificate::Certificate;
-use checker::Refusal;
+use checker::{Refusal, check_all};
 use history::History;
 use locality::named_objects;
 use parallel::check_parallel;
@@ -23,8 +23,30 @@ use verdicts::{Verdict, verdict_on_check};
 /// Checks the certificates of a history. Where they are valid the history is linearizable.
 ///
 /// `Ok` exactly where each object that the history names has a valid order, and no other object has
-/// a certificate; else the first refusal. `NoMemory` says nothing. The work is shared by `workers`
-/// threads, at least 1 and at most 16.
+/// a certificate; else the first refusal. `NoMemory` says nothing. It starts no thread.
+pub fn judge_history_alone(
+    alloc: Global,
+    history: &History,
+    certificates: &[Certificate],
+) -> Result<(), Refusal>
+    // no object has two certificates
+    requires { AreDistinct certificates.now }
+    ensures linearizable { OnOk result (IsLinearizable (kind_at history.now)
+        (events (denoted history.now))) }
+    ensures valid { OnOk result (AreValid history.now certificates.now) }
+    ensures refused { IfErr result (IsFirstRefusal history.now certificates.now) }
+    ensures exact { AreValid history.now certificates.now →
+        IfErr result (λ e. e ≡ Refusal.NoMemory) }
+{
+    // These two do nothing. The first says that the events denote a well-formed history, the second
+    // is locality.
+    history.events();
+    named_objects();
+    check_all(alloc, history, certificates)
+}
+
+/// Checks the certificates of a history as `judge_history_alone` does, where the work is shared by
+/// `workers` threads, at most 16. With 0 or 1 it starts no thread.
 pub fn judge_history<R: Threads + Sync>(
     rt: &R,
     alloc: Global,
@@ -41,17 +63,31 @@ pub fn judge_history<R: Threads + Sync>(
     ensures exact { AreValid history.now certificates.now →
         IfErr result (λ e. e ≡ Refusal.NoMemory) }
 {
-    // These two do nothing. The first says that the events denote a well-formed history, the second
-    // is locality.
+    if workers < 2 {
+        return judge_history_alone(alloc, history, certificates);
+    }
     history.events();
     named_objects();
-    let workers = workers.clamp(1, 16);
-    check_parallel(rt, alloc, history, certificates, workers, &Open)
+    check_parallel(rt, alloc, history, certificates, workers.min(16), &Open)
 }
 
 /// The verdict on the certificates of a history: yes with the counts of the history exactly where
-/// `judge_history` accepts them, and else no with the first refusal. `NoMemory` says nothing. The
-/// work is shared by `workers` threads, at least 1 and at most 16.
+/// `judge_history_alone` accepts them, and else no with the first refusal. `NoMemory` says nothing.
+/// It starts no thread.
+pub fn verdict_alone(alloc: Global, history: &History, certificates: &[Certificate]) -> Verdict
+    // no object has two certificates
+    requires { AreDistinct certificates.now }
+    ensures linearizable { OnYes result (IsLinearizable (kind_at history.now)
+        (events (denoted history.now))) }
+    ensures judges { JudgesBy history.now certificates.now result }
+    ensures accepts { AreValid history.now certificates.now → IsYesUnlessMemory result }
+{
+    let checked = judge_history_alone(alloc, history, certificates);
+    verdict_on_check(alloc, history, checked)
+}
+
+/// The same verdict as `verdict_alone` gives, where the work is shared by `workers` threads, at most
+/// 16. With 0 or 1 it starts no thread.
 pub fn verdict_on<R: Threads + Sync>(
     rt: &R,
     alloc: Global,
@@ -71,18 +107,31 @@ pub fn verdict_on<R: Threads + Sync>(
 }
 
 /// Judges a history, as a text of Jepsen operation maps, by a text of certificates, an order of
-/// operations for each object.
+/// operations for each object. It starts no thread.
 ///
-/// Where `judge` answers Yes, the history that the text denotes is linearizable: some completion of
+/// Where it answers Yes, the history that the text denotes is linearizable: some completion of
 /// it is, process by process, equal to one sequential history over all objects that is legal for
 /// every object and keeps every return before a later invocation; it answers No only with the first
 /// fault that truly stands in the certificates.
 ///
 /// The history's text comes first, then what its maps say, then the certificates' text, its forms,
 /// and the check; the first fault is the answer. `NoMemory` says that nothing was found to be wrong
-/// before. The check is shared by `workers` threads, at least 1 and at most 16, and two of them
-/// read the texts side by side. Linearizability is that of Herlihy and Wing, TOPLAS 1990, section
-/// 2.
+/// before. Linearizability is that of Herlihy and Wing, TOPLAS 1990, section 2.
+pub fn judge_alone(alloc: Global, history: &[u8], certificates: &[u8]) -> Verdict
+    ensures linearizable { OnYes result (IsLinearizableText history.now) }
+    ensures judges { Judges history.now certificates.now result }
+    // With `judges`: Yes is answered exactly where both texts denote and the certificates are
+    // valid, except where memory is refused.
+    ensures accepts { AreValidTexts history.now certificates.now → IsYesUnlessMemory result }
+{
+    match texts_alone(alloc, history, certificates) {
+        Ok((client_events, orders)) => verdict_alone(alloc, &client_events, &orders),
+        Err(stop) => verdict_on_failure(stop),
+    }
+}
+
+/// Judges two texts as `judge_alone` does, where the check is shared by `workers` threads, at most
+/// 16, and two of them read the texts side by side. With 0 or 1 it starts no thread.
 pub fn judge<R: Threads + Sync>(
     rt: &R,
     alloc: Global,
@@ -92,11 +141,12 @@ pub fn judge<R: Threads + Sync>(
 ) -> Verdict
     ensures linearizable { OnYes result (IsLinearizableText history.now) }
     ensures judges { Judges history.now certificates.now result }
-    // With `judges`: Yes is answered exactly where both texts denote and the certificates are
-    // valid, except where memory is refused.
     ensures accepts { AreValidTexts history.now certificates.now → IsYesUnlessMemory result }
 {
-    match texts_in(rt, alloc, history, certificates, workers) {
+    if workers < 2 {
+        return judge_alone(alloc, history, certificates);
+    }
+    match texts_in(rt, alloc, history, certificates) {
         Ok((client_events, orders)) => verdict_on(rt, alloc, &client_events, &orders, workers),
         Err(stop) => verdict_on_failure(stop),
     }

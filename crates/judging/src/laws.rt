@@ -4,9 +4,11 @@ ghost use Rattle.std.specs.Prelude.{◌≡◌, ℕ, List, map};
 ghost use Rattle.events.specs.declared.event.Event.{Event};
 ghost use Rattle.certificate.specs.declared.Certificate.{Certificate};
 ghost use Rattle.certificate.specs.Denotes.{reading_of};
-ghost use Rattle.judging.specs.Texts.{DenotesHistory, DenotesCertificates};
+ghost use Rattle.checker.specs.Refusals.{AreValid};
+ghost use Rattle.judging.specs.Texts.{DenotesHistory, DenotesCertificates, IsLinearizableText};
 
 use edn::one_reading;
+use locality::named_objects;
 
 /// A text denotes one history at most.
 pub fn one_history()
@@ -23,4 +25,14 @@ pub fn one_list_of_orders()
         DenotesCertificates text ds → map reading_of cs ≡ map reading_of ds }
 {
     one_reading();
+}
+
+/// A history that a text denotes is linearizable where certificates are valid for it.
+pub fn valid_certificates_suffice()
+    ensures { (text : List ℕ) (es : List Event) (cs : List Certificate) → DenotesHistory text es →
+        AreValid es cs →
+        IsLinearizableText text }
+{
+    // This does nothing: it is locality.
+    named_objects();
 }

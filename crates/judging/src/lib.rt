@@ -5,7 +5,10 @@ mod decision;
 mod laws;
 mod texts;
 
-pub use decision::{judge, judge_history, verdict_on, verdict_on_failure};
-pub use laws::{one_history, one_list_of_orders};
+pub use decision::{
+    judge, judge_alone, judge_history, judge_history_alone, verdict_alone, verdict_on,
+    verdict_on_failure,
+};
+pub use laws::{one_history, one_list_of_orders, valid_certificates_suffice};
 pub use texts::{TextFailure, history_in};
 pub use verdicts::{Fault, KindCount, Summary, Verdict};

@@ -86,14 +86,12 @@ pub(crate) fn certificates_in(alloc: Global, text: &[u8]) -> Result<Vec<Certific
     }
 }
 
-/// What both texts denote, or what stops the reading of the first that is stopped. One worker reads
-/// the certificates after the history, and only where that denotes; more read them side by side.
-pub(crate) fn texts_in<R: Threads + Sync>(
-    rt: &R,
+/// What both texts denote, or what stops the reading of the first that is stopped. The certificates
+/// are read after the history, and only where that denotes.
+pub(crate) fn texts_alone(
     alloc: Global,
     history: &[u8],
     certificates: &[u8],
-    workers: u32,
 ) -> Result<(History, Vec<Certificate>), TextFailure>
     ensures texts { IfOk result (λ r. DenoteOnly history.now certificates.now r.0 r.1.items) }
     ensures distinct { IfOk result (λ r. AreDistinct r.1.items) }
@@ -101,11 +99,24 @@ pub(crate) fn texts_in<R: Threads + Sync>(
     ensures accepts { IfErr result (λ s. AreValidTexts history.now certificates.now →
         s ≡ TextFailure.NoMemory) }
 {
-    if workers < 2 {
-        let client_events = history_in(alloc, history)?;
-        let orders = certificates_in(alloc, certificates)?;
-        return Ok((client_events, orders));
-    }
+    let client_events = history_in(alloc, history)?;
+    let orders = certificates_in(alloc, certificates)?;
+    Ok((client_events, orders))
+}
+
+/// The same, where two threads read the texts side by side.
+pub(crate) fn texts_in<R: Threads + Sync>(
+    rt: &R,
+    alloc: Global,
+    history: &[u8],
+    certificates: &[u8],
+) -> Result<(History, Vec<Certificate>), TextFailure>
+    ensures texts { IfOk result (λ r. DenoteOnly history.now certificates.now r.0 r.1.items) }
+    ensures distinct { IfOk result (λ r. AreDistinct r.1.items) }
+    ensures stop { IfErr result (λ s. Judges history.now certificates.now (verdict_of s)) }
+    ensures accepts { IfErr result (λ s. AreValidTexts history.now certificates.now →
+        s ≡ TextFailure.NoMemory) }
+{
     let (client_events, orders) = join(
         rt,
         || -> Result<History, TextFailure>

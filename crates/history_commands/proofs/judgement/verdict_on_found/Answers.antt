@@ -4,8 +4,8 @@ use Rattle.history_commands.proofs.Judged.{on_valid}
 use Rattle.history_commands.proofs.judgement.verdict_on_found.Goals as goal
 
 pub returns-in-Ok : goal.returns-in-Ok
-returns-in-Ok g c =
+returns-in-Ok c =
     let es = c.args.history.now in
-    let e = c.verdict_on.ensures in
+    let e = c.verdict_alone.ensures in
     let valid = subst (AreValid es) (sym (c.deref.ensures.value ∙ c.in-Ok.ensures)) c.requires.valid in
-    on_valid es c.deref.result.now valid c.verdict_on.result e.linearizable e.judges (e.accepts valid)
+    on_valid es c.deref.result.now valid c.verdict_alone.result e.linearizable e.judges (e.accepts valid)

@@ -1,0 +1,196 @@
+/* Records the calls of threads on concurrent objects, as a history for fcbench. Copy this file.
+ *
+ *     struct recorder recorder;
+ *     recorder_open(&recorder, 4);                                  one journal for each of 4 threads
+ *     struct journal *journal = &recorder.journals[thread];         in the thread
+ *     size_t call = journal_invoke(journal, 0, "enqueue", fcbench_number(7));
+ *     enqueue(queue, 7);
+ *     journal_return(journal, call, fcbench_number(7));
+ *     char *text = recorder_text(&recorder, &length);                after the threads have ended
+ *     recorder_close(&recorder);
+ *
+ * An atomic counter gives a ticket before each call and one after it. A thread writes into its own
+ * journal and takes no lock. The events in the order of their tickets are the history: where one call
+ * returned before another was invoked in the history, it did so in fact. So a history that is not
+ * linearizable shows that the object is not.
+ *
+ * A call that does not return, as one that timed out, may have happened or may still happen: its
+ * operation ends with :info. A thread that goes on after such a call does so as a new process, as
+ * Jepsen's threads do. Calls that failed, so that they surely did not happen, end with journal_fail.
+ *
+ * Needs C11. Where memory is refused the program ends: a history with a gap would be worth nothing. */
+#ifndef FCBENCH_RECORDER_H
+#define FCBENCH_RECORDER_H
+
+#include <inttypes.h>
+#include <stdarg.h>
+#include <stdatomic.h>
+#include <stdio.h>
+#include <stdlib.h>
+#include <string.h>
+
+/* An argument or a reply: nil, false, a number, or a pair of numbers. */
+enum fcbench_shape { FCBENCH_NIL, FCBENCH_FALSE, FCBENCH_NUMBER, FCBENCH_PAIR };
+
+struct fcbench_value {
+    enum fcbench_shape shape;
+    int64_t first, second;
+};
+
+static inline struct fcbench_value fcbench_nil(void) { return (struct fcbench_value){FCBENCH_NIL, 0, 0}; }
+static inline struct fcbench_value fcbench_false(void) { return (struct fcbench_value){FCBENCH_FALSE, 0, 0}; }
+static inline struct fcbench_value fcbench_number(int64_t n) { return (struct fcbench_value){FCBENCH_NUMBER, n, 0}; }
+static inline struct fcbench_value fcbench_pair(int64_t a, int64_t b) { return (struct fcbench_value){FCBENCH_PAIR, a, b}; }
+
+/* How a call ended. One that is pending at the end is written with :info. */
+enum recorded_end { RECORDED_PENDING, RECORDED_OK, RECORDED_FAIL };
+
+struct recorded_call {
+    uint64_t invoked, ended; /* tickets */
+    uint64_t process;
+    uint16_t object;
+    enum recorded_end end;
+    const char *function; /* as "enqueue"; it is not copied */
+    struct fcbench_value argument, reply;
+};
+
+struct recorder;
+
+/* What one thread did. */
+struct journal {
+    struct recorder *recorder;
+    uint64_t process;
+    size_t count, room;
+    struct recorded_call *calls;
+};
+
+struct recorder {
+    atomic_uint_fast64_t tickets;
+    size_t threads;
+    struct journal *journals;
+};
+
+static inline void *recorder_memory(void *old, size_t size) {
+    void *memory = realloc(old, size);
+    if (memory == NULL) {
+        fputs("recorder: out of memory\n", stderr);
+        abort();
+    }
+    return memory;
+}
+
+static inline void recorder_open(struct recorder *recorder, size_t threads) {
+    atomic_init(&recorder->tickets, 0);
+    recorder->threads = threads;
+    recorder->journals = recorder_memory(NULL, (threads + 1) * sizeof *recorder->journals);
+    for (size_t i = 0; i < threads; i++)
+        recorder->journals[i] = (struct journal){recorder, i, 0, 0, NULL};
+}
+
+static inline void recorder_close(struct recorder *recorder) {
+    for (size_t i = 0; i < recorder->threads; i++)
+        free(recorder->journals[i].calls);
+    free(recorder->journals);
+}
+
+/* Call it just before the call. It gives the number of the call in this journal. */
+static inline size_t journal_invoke(struct journal *journal, uint16_t object, const char *function, struct fcbench_value argument) {
+    if (journal->count == journal->room) {
+        journal->room = journal->room == 0 ? 256 : 2 * journal->room;
+        journal->calls = recorder_memory(journal->calls, journal->room * sizeof *journal->calls);
+    }
+    size_t number = journal->count++;
+    struct recorded_call *call = &journal->calls[number];
+    *call = (struct recorded_call){0, 0, journal->process, object, RECORDED_PENDING, function, argument, fcbench_nil()};
+    call->invoked = atomic_fetch_add(&journal->recorder->tickets, 1);
+    return number;
+}
+
+static inline void journal_end(struct journal *journal, size_t call, enum recorded_end end, struct fcbench_value reply) {
+    journal->calls[call].ended = atomic_fetch_add(&journal->recorder->tickets, 1);
+    journal->calls[call].reply = reply;
+    journal->calls[call].end = end;
+}
+
+/* Call it just after the call returned. */
+static inline void journal_return(struct journal *journal, size_t call, struct fcbench_value reply) {
+    journal_end(journal, call, RECORDED_OK, reply);
+}
+
+/* Call it where the call surely did not happen. */
+static inline void journal_fail(struct journal *journal, size_t call) {
+    journal_end(journal, call, RECORDED_FAIL, fcbench_nil());
+}
+
+/* Call it where the call did not return and the thread goes on: it does so as another process. */
+static inline void journal_give_up(struct journal *journal) {
+    journal->process += journal->recorder->threads;
+}
+
+/* ---- the text */
+
+struct recorder_text {
+    char *bytes;
+    size_t length, room;
+};
+
+static inline void recorder_print(struct recorder_text *text, const char *format, ...) {
+    va_list words;
+    if (text->room - text->length < 200) {
+        text->room = 2 * text->room + 4096;
+        text->bytes = recorder_memory(text->bytes, text->room);
+    }
+    va_start(words, format);
+    text->length += (size_t)vsnprintf(text->bytes + text->length, 200, format, words);
+    va_end(words);
+}
+
+static inline void recorder_map(struct recorder_text *text, const struct recorded_call *call, const char *type, struct fcbench_value value) {
+    recorder_print(text, "{:process %" PRIu64 ", :type :%s, :f :%.64s, :value ", call->process, type, call->function);
+    switch (value.shape) {
+    case FCBENCH_NIL: recorder_print(text, "nil"); break;
+    case FCBENCH_FALSE: recorder_print(text, "false"); break;
+    case FCBENCH_NUMBER: recorder_print(text, "%" PRId64, value.first); break;
+    case FCBENCH_PAIR: recorder_print(text, "[%" PRId64 " %" PRId64 "]", value.first, value.second); break;
+    }
+    recorder_print(text, ", :object %u}\n", (unsigned)call->object);
+}
+
+struct recorder_event {
+    const struct recorded_call *call;
+    int is_end;
+};
+
+/* The history, after all threads have ended: each event at the place of its ticket, and a zero byte after the text. The
+ * caller frees it. */
+static inline char *recorder_text(struct recorder *recorder, size_t *length) {
+    uint64_t tickets = atomic_load(&recorder->tickets);
+    struct recorder_event *events = recorder_memory(NULL, (tickets + 1) * sizeof *events);
+    struct recorder_text text = {NULL, 0, 0};
+    memset(events, 0, (tickets + 1) * sizeof *events);
+    for (size_t i = 0; i < recorder->threads; i++) {
+        for (size_t j = 0; j < recorder->journals[i].count; j++) {
+            const struct recorded_call *call = &recorder->journals[i].calls[j];
+            events[call->invoked] = (struct recorder_event){call, 0};
+            if (call->end != RECORDED_PENDING)
+                events[call->ended] = (struct recorder_event){call, 1};
+        }
+    }
+    recorder_print(&text, "%s", "");
+    for (uint64_t ticket = 0; ticket < tickets; ticket++) {
+        const struct recorded_call *call = events[ticket].call;
+        if (call != NULL && !events[ticket].is_end)
+            recorder_map(&text, call, "invoke", call->argument);
+        else if (call != NULL)
+            recorder_map(&text, call, call->end == RECORDED_OK ? "ok" : "fail", call->reply);
+    }
+    for (size_t i = 0; i < recorder->threads; i++)
+        for (size_t j = 0; j < recorder->journals[i].count; j++)
+            if (recorder->journals[i].calls[j].end == RECORDED_PENDING)
+                recorder_map(&text, &recorder->journals[i].calls[j], "info", recorder->journals[i].calls[j].argument);
+    free(events);
+    *length = text.length;
+    return text.bytes;
+}
+
+#endif

@@ -1,0 +1,92 @@
+/* Calls the library: a yes, a no, a malformed text, and a buffer that is too small. */
+#include "fcbench.h"
+#include <stdio.h>
+#include <stdlib.h>
+#include <string.h>
+
+static const char queue[] =
+    "{:process 0, :type :invoke, :f :enqueue, :value 1}\n"
+    "{:process 0, :type :ok, :f :enqueue, :value 1}\n"
+    "{:process 0, :type :invoke, :f :dequeue}\n"
+    "{:process 0, :type :ok, :f :dequeue, :value 1}\n";
+static const char yes_lines[] = "yes: 2 operations, 1 objects\nqueue: 1 objects, 2 operations\n";
+/* The register contains 2 where 1 is read. */
+static const char old_read[] =
+    "{:process 0, :type :invoke, :f :write, :value 1}\n"
+    "{:process 0, :type :ok, :f :write, :value 1}\n"
+    "{:process 0, :type :invoke, :f :write, :value 2}\n"
+    "{:process 0, :type :ok, :f :write, :value 2}\n"
+    "{:process 0, :type :invoke, :f :read}\n"
+    "{:process 0, :type :ok, :f :read, :value 1}\n";
+
+static const uint8_t *bytes(const char *text) { return (const uint8_t *)text; }
+
+static void want(int holds, const char *what) {
+    if (!holds) {
+        fprintf(stderr, "test_judge: %s\n", what);
+        exit(1);
+    }
+}
+
+/* All lines of a judgement, in a block of their own. */
+static char *judged(const char *history, uint32_t *status) {
+    size_t needed = 0, capacity;
+    *status = fcbench_judge(bytes(history), strlen(history), FCBENCH_STEPS, NULL, 0, &needed);
+    char *lines = malloc(needed + 1);
+    want(lines != NULL, "out of memory");
+    capacity = needed;
+    uint32_t again = fcbench_judge(bytes(history), strlen(history), FCBENCH_STEPS, (uint8_t *)lines, capacity, &needed);
+    want(again == *status && needed == capacity, "two calls answer the same");
+    lines[needed] = 0;
+    return lines;
+}
+
+static void answers(void) {
+    uint32_t status;
+    char *lines = judged(queue, &status);
+    want(status == FCBENCH_YES && strcmp(lines, yes_lines) == 0, "a queue is judged");
+    free(lines);
+    lines = judged(old_read, &status);
+    want(status == FCBENCH_NO && strncmp(lines, "; object 0: impossible\n", 23) == 0, "a register is refuted");
+    /* The last line of a judgement is the reason, as a comment. */
+    char *reason = strstr(lines, "; {:object 0, :cuts ");
+    want(reason != NULL, "it comes with a reason");
+    size_t needed;
+    status = fcbench_refute(bytes(old_read), strlen(old_read), bytes(reason + 2), strlen(reason + 2), FCBENCH_STEPS, NULL, 0, &needed);
+    want(status == FCBENCH_NO, "the reason is accepted");
+    status = fcbench_refute(bytes(queue), strlen(queue), bytes(reason + 2), strlen(reason + 2), FCBENCH_STEPS, NULL, 0, &needed);
+    want(status == FCBENCH_OPEN, "it shows nothing of the other history");
+    free(lines);
+    lines = judged("{:process 0", &status);
+    want(status == FCBENCH_MALFORMED && strcmp(lines, "malformed history: E2 at byte 11\n") == 0, "a text that ends early");
+    free(lines);
+}
+
+static void certificates(void) {
+    uint8_t orders[64], lines[64];
+    size_t length, needed;
+    uint32_t status = fcbench_find(bytes(queue), strlen(queue), orders, sizeof orders, &length);
+    want(status == FCBENCH_YES && length == 26 && memcmp(orders, "{:object 0, :order [0 2]}\n", 26) == 0, "certificates are found");
+    status = fcbench_check(bytes(queue), strlen(queue), orders, length, lines, sizeof lines, &needed);
+    want(status == FCBENCH_YES && needed == strlen(yes_lines), "and accepted");
+    status = fcbench_check(bytes(queue), strlen(queue), NULL, 0, lines, sizeof lines, &needed);
+    want(status == FCBENCH_NO && needed == 35 && memcmp(lines, "no: C1 object 0 has no certificate\n", 35) == 0, "none are refused");
+    want(fcbench_check(NULL, 0, NULL, 0, NULL, 0, &needed) == FCBENCH_YES && needed == 29, "texts of no bytes");
+}
+
+static void a_buffer_too_small(void) {
+    uint8_t out[16];
+    size_t needed = 0;
+    memset(out, '-', sizeof out);
+    uint32_t status = fcbench_judge(bytes(queue), strlen(queue), FCBENCH_STEPS, out, 10, &needed);
+    want(status == FCBENCH_YES && needed == strlen(yes_lines), "the status is right, and how long the lines are");
+    want(memcmp(out, "yes: 2 ope------", 16) == 0, "the lines are cut, and nothing is written after the buffer");
+}
+
+int main(void) {
+    answers();
+    certificates();
+    a_buffer_too_small();
+    puts("test_judge: passed");
+    return 0;
+}

@@ -1,0 +1,108 @@
+// Package fcbench is the proved judge of fcbench, for tests of concurrent objects, and a recorder of what goroutines do.
+//
+// cgo finds fcbench.h and libfcbench.a by CGO_CFLAGS and CGO_LDFLAGS, as
+//
+//	CGO_CFLAGS=-I$top/include CGO_LDFLAGS=$top/crates/embedding/out/libfcbench.a go test ./...
+package fcbench
+
+/*
+#include "fcbench.h"
+*/
+import "C"
+
+import "unsafe"
+
+// Steps is the program's number of steps where it is given none.
+const Steps = 1000000
+
+// capacity is how much room there is for lines at first.
+const capacity = 512
+
+// Verdict is what is answered.
+type Verdict uint32
+
+const (
+	// Yes says that the history is linearizable, which is proved.
+	Yes Verdict = 0
+	// No of Judge and Refute says that the history is not linearizable, which is proved. Of Check: the certificates are refused.
+	No Verdict = 1
+	// Malformed says that a text is malformed.
+	Malformed Verdict = 2
+	// Open says that it is not decided: an object stays open, or memory was refused.
+	Open Verdict = 3
+)
+
+// Answer is a verdict, and the lines that say why.
+type Answer struct {
+	Verdict Verdict
+	Lines   string
+}
+
+func bytesOf(text []byte) (*C.uint8_t, C.size_t) {
+	if len(text) == 0 {
+		return nil, 0
+	}
+	return (*C.uint8_t)(unsafe.Pointer(&text[0])), C.size_t(len(text))
+}
+
+// whole calls with more room until all lines fit.
+func whole(call func(out []byte) (Verdict, int)) Answer {
+	out := make([]byte, capacity)
+	for {
+		verdict, needed := call(out)
+		if needed <= len(out) {
+			return Answer{verdict, string(out[:needed])}
+		}
+		out = make([]byte, needed)
+	}
+}
+
+// Judge judges a history: certificates are found, or a reason why there are none.
+func Judge(history string) Answer {
+	return whole(func(out []byte) (Verdict, int) { return JudgeInto([]byte(history), Steps, out) })
+}
+
+// JudgeInto does so with at most this many steps for each object, and writes the lines into a buffer. They are cut where it is
+// too small. It also gives how long they are.
+func JudgeInto(history []byte, steps uint32, out []byte) (Verdict, int) {
+	var needed C.size_t
+	text, length := bytesOf(history)
+	at, room := bytesOf(out)
+	status := C.fcbench_judge(text, length, C.uint32_t(steps), at, room, &needed)
+	return Verdict(status), int(needed)
+}
+
+// Check judges a history by certificates.
+func Check(history, certificates string) Answer {
+	text, length := bytesOf([]byte(history))
+	orders, count := bytesOf([]byte(certificates))
+	return whole(func(out []byte) (Verdict, int) {
+		var needed C.size_t
+		at, room := bytesOf(out)
+		status := C.fcbench_check(text, length, orders, count, at, room, &needed)
+		return Verdict(status), int(needed)
+	})
+}
+
+// Find finds certificates: where it is a yes, the lines are their text.
+func Find(history string) Answer {
+	text, length := bytesOf([]byte(history))
+	return whole(func(out []byte) (Verdict, int) {
+		var needed C.size_t
+		at, room := bytesOf(out)
+		status := C.fcbench_find(text, length, at, room, &needed)
+		return Verdict(status), int(needed)
+	})
+}
+
+// Refute checks reasons why a history is not linearizable. It never answers Yes.
+func Refute(history, reasons string) Answer {
+	text, length := bytesOf([]byte(history))
+	why, count := bytesOf([]byte(reasons))
+	return whole(func(out []byte) (Verdict, int) {
+		var needed C.size_t
+		at, room := bytesOf(out)
+		status := C.fcbench_refute(text, length, why, count, Steps, at, room, &needed)
+		return Verdict(status), int(needed)
+	})
+}

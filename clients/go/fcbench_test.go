@@ -1,0 +1,61 @@
+package fcbench
+
+import (
+	"strings"
+	"testing"
+)
+
+const queueHistory = `{:process 0, :type :invoke, :f :enqueue, :value 1}
+{:process 0, :type :ok, :f :enqueue, :value 1}
+{:process 0, :type :invoke, :f :dequeue}
+{:process 0, :type :ok, :f :dequeue, :value 1}
+`
+const yesLines = "yes: 2 operations, 1 objects\nqueue: 1 objects, 2 operations\n"
+
+// The register contains 2 where 1 is read.
+const oldRead = `{:process 0, :type :invoke, :f :write, :value 1}
+{:process 0, :type :ok, :f :write, :value 1}
+{:process 0, :type :invoke, :f :write, :value 2}
+{:process 0, :type :ok, :f :write, :value 2}
+{:process 0, :type :invoke, :f :read}
+{:process 0, :type :ok, :f :read, :value 1}
+`
+
+func want(t *testing.T, answer Answer, verdict Verdict, lines string) {
+	t.Helper()
+	if answer.Verdict != verdict || answer.Lines != lines {
+		t.Fatalf("wanted %v and %q, and not %v", verdict, lines, answer)
+	}
+}
+
+func TestYes(t *testing.T) {
+	want(t, Judge(queueHistory), Yes, yesLines)
+	found := Find(queueHistory)
+	want(t, found, Yes, "{:object 0, :order [0 2]}\n")
+	want(t, Check(queueHistory, found.Lines), Yes, yesLines)
+}
+
+func TestNo(t *testing.T) {
+	answer := Judge(oldRead)
+	lines := strings.Split(strings.TrimSpace(answer.Lines), "\n")
+	if answer.Verdict != No || lines[0] != "; object 0: impossible" {
+		t.Fatal(answer)
+	}
+	reason := strings.TrimPrefix(lines[len(lines)-1], "; ")
+	if refuted := Refute(oldRead, reason); refuted.Verdict != No {
+		t.Fatal(refuted)
+	}
+	want(t, Check(queueHistory, ""), No, "no: C1 object 0 has no certificate\n")
+}
+
+func TestMalformed(t *testing.T) {
+	want(t, Judge("{:process 0"), Malformed, "malformed history: E2 at byte 11\n")
+}
+
+func TestBufferTooSmall(t *testing.T) {
+	out := []byte("----------------")
+	verdict, needed := JudgeInto([]byte(queueHistory), Steps, out[:10])
+	if verdict != Yes || needed != len(yesLines) || string(out) != "yes: 2 ope------" {
+		t.Fatal(verdict, needed, string(out))
+	}
+}

@@ -1,0 +1,3 @@
+module fcbench
+
+go 1.19

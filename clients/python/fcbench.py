@@ -1,0 +1,93 @@
+"""The proved judge of fcbench, by ctypes over libfcbench.so. Copy this file.
+
+    answer = fcbench.judge(history)
+    assert answer.verdict is fcbench.Verdict.YES, answer.lines
+
+A text is bytes or a str. The library is the file that FCBENCH_SO names, or libfcbench.so where the loader or clients/build has it."""
+import ctypes
+import enum
+import os
+import typing
+
+STEPS = 1_000_000
+CAPACITY = 512
+HERE = os.path.dirname(os.path.abspath(__file__))
+PLACES = (f"{HERE}/../../crates/embedding/out/libfcbench.so", f"{HERE}/../../lib/libfcbench.so")
+
+
+class Verdict(enum.IntEnum):
+    """YES: the history is linearizable, which is proved. NO of judge and refute: it is not, which is proved; of check: the
+    certificates are refused. OPEN: not decided, since an object stays open or memory was refused."""
+
+    YES = 0
+    NO = 1
+    MALFORMED = 2
+    OPEN = 3
+
+
+class Answer(typing.NamedTuple):
+    verdict: Verdict
+    lines: str
+
+
+def _library():
+    named = os.environ.get("FCBENCH_SO")
+    there = [named] if named else [place for place in PLACES if os.path.exists(place)]
+    library = ctypes.CDLL(there[0] if there else "libfcbench.so")
+    text = [ctypes.c_char_p, ctypes.c_size_t]
+    room = [ctypes.c_char_p, ctypes.c_size_t, ctypes.POINTER(ctypes.c_size_t)]
+    steps = [ctypes.c_uint32]
+    takes = {"check": text + text, "judge": text + steps, "find": text, "refute": text + text + steps}
+    for name, words in takes.items():
+        function = getattr(library, f"fcbench_{name}")
+        function.argtypes, function.restype = words + room, ctypes.c_uint32
+    return library
+
+
+_C = _library()
+
+
+def _bytes(text):
+    return text.encode() if isinstance(text, str) else bytes(text)
+
+
+def judge_into(history, steps, capacity):
+    """The verdict, the lines as far as there is room for them, and how long they are."""
+    text, out, needed = _bytes(history), ctypes.create_string_buffer(capacity), ctypes.c_size_t()
+    status = _C.fcbench_judge(text, len(text), steps, out, capacity, ctypes.byref(needed))
+    return Verdict(status), out.raw[: min(needed.value, capacity)], needed.value
+
+
+def _whole(call, *words):
+    """Calls with more room until all lines fit."""
+    capacity = CAPACITY
+    while True:
+        out, needed = ctypes.create_string_buffer(capacity), ctypes.c_size_t()
+        status = call(*words, out, capacity, ctypes.byref(needed))
+        if needed.value <= capacity:
+            return Answer(Verdict(status), out.raw[: needed.value].decode())
+        capacity = needed.value
+
+
+def judge(history, steps=STEPS):
+    """Judges a history: certificates are found, or a reason why there are none."""
+    text = _bytes(history)
+    return _whole(_C.fcbench_judge, text, len(text), steps)
+
+
+def check(history, certificates):
+    """Judges a history by certificates."""
+    text, orders = _bytes(history), _bytes(certificates)
+    return _whole(_C.fcbench_check, text, len(text), orders, len(orders))
+
+
+def find(history):
+    """Finds certificates: where it is a yes, the lines are their text."""
+    text = _bytes(history)
+    return _whole(_C.fcbench_find, text, len(text))
+
+
+def refute(history, reasons, steps=STEPS):
+    """Checks reasons why a history is not linearizable. It never answers YES."""
+    text, why = _bytes(history), _bytes(reasons)
+    return _whole(_C.fcbench_refute, text, len(text), why, len(why), steps)

@@ -1,0 +1,66 @@
+#!/usr/bin/env python3
+"""Calls the library: a yes, a no, a malformed text, and a buffer that is too small."""
+import threading
+import unittest
+
+import fcbench
+from fcbench import Verdict
+
+QUEUE = """{:process 0, :type :invoke, :f :enqueue, :value 1}
+{:process 0, :type :ok, :f :enqueue, :value 1}
+{:process 0, :type :invoke, :f :dequeue}
+{:process 0, :type :ok, :f :dequeue, :value 1}
+"""
+YES_LINES = "yes: 2 operations, 1 objects\nqueue: 1 objects, 2 operations\n"
+# The register contains 2 where 1 is read.
+OLD_READ = """{:process 0, :type :invoke, :f :write, :value 1}
+{:process 0, :type :ok, :f :write, :value 1}
+{:process 0, :type :invoke, :f :write, :value 2}
+{:process 0, :type :ok, :f :write, :value 2}
+{:process 0, :type :invoke, :f :read}
+{:process 0, :type :ok, :f :read, :value 1}
+"""
+
+
+class Calls(unittest.TestCase):
+    def test_yes(self):
+        self.assertEqual(fcbench.judge(QUEUE), (Verdict.YES, YES_LINES))
+        found = fcbench.find(QUEUE.encode())
+        self.assertEqual(found, (Verdict.YES, "{:object 0, :order [0 2]}\n"))
+        self.assertEqual(fcbench.check(QUEUE, found.lines).verdict, Verdict.YES)
+
+    def test_no(self):
+        answer = fcbench.judge(OLD_READ)
+        self.assertEqual(answer.verdict, Verdict.NO)
+        self.assertTrue(answer.lines.startswith("; object 0: impossible\n"))
+        reason = answer.lines.splitlines()[-1].removeprefix("; ")
+        self.assertEqual(fcbench.refute(OLD_READ, reason).verdict, Verdict.NO)
+        self.assertEqual(fcbench.refute(QUEUE, reason).verdict, Verdict.OPEN)
+        self.assertEqual(fcbench.check(QUEUE, b""), (Verdict.NO, "no: C1 object 0 has no certificate\n"))
+
+    def test_malformed(self):
+        self.assertEqual(fcbench.judge("{:process 0"), (Verdict.MALFORMED, "malformed history: E2 at byte 11\n"))
+
+    def test_buffer_too_small(self):
+        length = len(YES_LINES)
+        self.assertEqual(fcbench.judge_into(QUEUE, fcbench.STEPS, 10), (Verdict.YES, b"yes: 2 ope", length))
+        self.assertEqual(fcbench.judge_into(QUEUE, fcbench.STEPS, 0), (Verdict.YES, b"", length))
+
+    def test_lines_longer_than_the_first_buffer(self):
+        history = "".join(f"{{:process {x}, :type :invoke, :f :enqueue, :value 1, :object {x}}}\n" for x in range(40))
+        found = fcbench.find(history)
+        self.assertEqual((found.verdict, len(found.lines.splitlines())), (Verdict.YES, 40))
+
+    def test_several_threads_at_once(self):
+        answers = []
+        work = lambda: answers.extend(fcbench.judge(text).verdict for text in (QUEUE, OLD_READ) * 50)  # noqa: E731
+        threads = [threading.Thread(target=work) for _ in range(4)]
+        for thread in threads:
+            thread.start()
+        for thread in threads:
+            thread.join()
+        self.assertEqual((answers.count(Verdict.YES), answers.count(Verdict.NO)), (200, 200))
+
+
+if __name__ == "__main__":
+    unittest.main()

@@ -1,0 +1,16 @@
+//! Links libfcbench.a, from the folder that FCBENCH_LIB names, or from where `clients/build` leaves it.
+
+use std::env;
+use std::path::PathBuf;
+
+fn main() {
+    let here = PathBuf::from(env::var("CARGO_MANIFEST_DIR").expect("cargo sets it"));
+    let folder = match env::var("FCBENCH_LIB") {
+        Ok(folder) => PathBuf::from(folder),
+        Err(_) => here.join("../../crates/embedding/out"),
+    };
+    println!("cargo:rustc-link-search=native={}", folder.display());
+    println!("cargo:rustc-link-lib=static=fcbench");
+    println!("cargo:rerun-if-changed={}", folder.join("libfcbench.a").display());
+    println!("cargo:rerun-if-env-changed=FCBENCH_LIB");
+}

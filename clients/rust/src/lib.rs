@@ -1,0 +1,161 @@
+//! The proved judge of fcbench, for tests of concurrent objects, and a recorder of what threads do.
+//!
+//! ```ignore
+//! let answer = fcbench::judge(history);
+//! assert_eq!(answer.verdict, fcbench::Verdict::Yes, "{}", answer.lines);
+//! ```
+
+pub mod recorder;
+
+/// The program's number of steps where it is given none.
+pub const STEPS: u32 = 1_000_000;
+
+/// How much room there is for lines at first.
+const CAPACITY: usize = 512;
+
+mod c {
+    extern "C" {
+        pub fn fcbench_check(
+            history: *const u8,
+            history_length: usize,
+            certificates: *const u8,
+            certificates_length: usize,
+            out: *mut u8,
+            capacity: usize,
+            needed: *mut usize,
+        ) -> u32;
+        pub fn fcbench_judge(
+            history: *const u8,
+            history_length: usize,
+            steps: u32,
+            out: *mut u8,
+            capacity: usize,
+            needed: *mut usize,
+        ) -> u32;
+        pub fn fcbench_find(
+            history: *const u8,
+            history_length: usize,
+            out: *mut u8,
+            capacity: usize,
+            needed: *mut usize,
+        ) -> u32;
+        pub fn fcbench_refute(
+            history: *const u8,
+            history_length: usize,
+            reasons: *const u8,
+            reasons_length: usize,
+            steps: u32,
+            out: *mut u8,
+            capacity: usize,
+            needed: *mut usize,
+        ) -> u32;
+    }
+}
+
+/// What is answered.
+#[derive(Clone, Copy, Debug, PartialEq, Eq)]
+pub enum Verdict {
+    /// The history is linearizable, which is proved.
+    Yes,
+    /// Of `judge` and `refute`: the history is not linearizable, which is proved. Of `check`: the certificates are refused.
+    No,
+    /// A text is malformed.
+    Malformed,
+    /// Not decided: an object stays open, or memory was refused.
+    Open,
+}
+
+impl Verdict {
+    fn of(status: u32) -> Verdict {
+        match status {
+            0 => Verdict::Yes,
+            1 => Verdict::No,
+            2 => Verdict::Malformed,
+            _ => Verdict::Open,
+        }
+    }
+}
+
+/// A verdict, and the lines that say why.
+#[derive(Clone, Debug, PartialEq, Eq)]
+pub struct Answer {
+    pub verdict: Verdict,
+    pub lines: String,
+}
+
+/// Judges a history: certificates are found, or a reason why there are none. A search takes at most `STEPS` steps.
+pub fn judge(history: impl AsRef<[u8]>) -> Answer {
+    judge_in(history, STEPS)
+}
+
+/// The same with at most `steps` steps for each object.
+pub fn judge_in(history: impl AsRef<[u8]>, steps: u32) -> Answer {
+    whole(|out| judge_into(history.as_ref(), steps, out))
+}
+
+/// The same, where the lines are written into a buffer, and cut where it is too small. Also gives how long they are.
+pub fn judge_into(history: &[u8], steps: u32, out: &mut [u8]) -> (Verdict, usize) {
+    // SAFETY: each pointer is of a slice that is lent for the call, with its length.
+    answered(out, |at, capacity, needed| unsafe {
+        c::fcbench_judge(history.as_ptr(), history.len(), steps, at, capacity, needed)
+    })
+}
+
+/// Judges a history by certificates.
+pub fn check(history: impl AsRef<[u8]>, certificates: impl AsRef<[u8]>) -> Answer {
+    whole(|out| check_into(history.as_ref(), certificates.as_ref(), out))
+}
+
+pub fn check_into(history: &[u8], certificates: &[u8], out: &mut [u8]) -> (Verdict, usize) {
+    let (orders, length) = (certificates.as_ptr(), certificates.len());
+    // SAFETY: as above.
+    answered(out, |at, capacity, needed| unsafe {
+        c::fcbench_check(history.as_ptr(), history.len(), orders, length, at, capacity, needed)
+    })
+}
+
+/// Finds certificates: where it is a yes, the lines are their text.
+pub fn find(history: impl AsRef<[u8]>) -> Answer {
+    whole(|out| find_into(history.as_ref(), out))
+}
+
+pub fn find_into(history: &[u8], out: &mut [u8]) -> (Verdict, usize) {
+    // SAFETY: as above.
+    answered(out, |at, capacity, needed| unsafe {
+        c::fcbench_find(history.as_ptr(), history.len(), at, capacity, needed)
+    })
+}
+
+/// Checks reasons why a history is not linearizable. It never answers yes.
+pub fn refute(history: impl AsRef<[u8]>, reasons: impl AsRef<[u8]>) -> Answer {
+    whole(|out| refute_into(history.as_ref(), reasons.as_ref(), STEPS, out))
+}
+
+pub fn refute_into(history: &[u8], reasons: &[u8], steps: u32, out: &mut [u8]) -> (Verdict, usize) {
+    let (first, length) = (reasons.as_ptr(), reasons.len());
+    // SAFETY: as above.
+    answered(out, |at, capacity, needed| unsafe {
+        c::fcbench_refute(history.as_ptr(), history.len(), first, length, steps, at, capacity, needed)
+    })
+}
+
+fn answered(out: &mut [u8], call: impl FnOnce(*mut u8, usize, *mut usize) -> u32) -> (Verdict, usize) {
+    let mut needed = 0;
+    let status = call(out.as_mut_ptr(), out.len(), &mut needed);
+    (Verdict::of(status), needed)
+}
+
+/// Calls with more room until all lines fit.
+fn whole(mut call: impl FnMut(&mut [u8]) -> (Verdict, usize)) -> Answer {
+    let mut lines = vec![0; CAPACITY];
+    loop {
+        let (verdict, needed) = call(&mut lines);
+        if needed <= lines.len() {
+            lines.truncate(needed);
+            // Lines are ASCII.
+            let lines = String::from_utf8_lossy(&lines).into_owned();
+            return Answer { verdict, lines };
+        }
+        lines.resize(needed, 0);
+    }
+}

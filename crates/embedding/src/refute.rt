@@ -1,0 +1,37 @@
+//! The check of reasons why a history is not linearizable.
+
+ghost use Rattle.std.specs.Prelude.{◌≡◌};
+ghost use Rattle.history_commands.specs.Refuted.{IsRefute};
+ghost use Rattle.history_commands.specs.Searches.{IsNotLinearizableText};
+ghost use Rattle.outputs.specs.Statuses.{no_status};
+ghost use Rattle.embedding.specs.Handed.{IsAnswered};
+
+use crate::answer::answer;
+use edn::Out;
+use history_commands::report_refutation;
+use std::alloc::Global;
+
+/// Checks reasons why the history is not linearizable, and writes the lines of the answers. The
+/// search of a part takes at most `steps` steps.
+///
+/// 1: some reason shows that the history is not linearizable. 2: a text is malformed. 3: no reason
+/// shows it, or memory was refused.
+#[unsafe(no_mangle)]
+pub extern "C" fn fcbench_refute(
+    alloc: Global,
+    history: &[u8],
+    reasons: &[u8],
+    steps: u32,
+    out: &mut [u8],
+    needed: &mut usize,
+) -> u32
+    // Where it answers 1, the history that the bytes denote is not linearizable.
+    ensures refuted { result ≡ no_status → IsNotLinearizableText history.now }
+    // The lines are the answers to the reasons, with their status, or memory for them was refused.
+    ensures answered { IsAnswered (IsRefute history.now reasons.now steps)
+        result out.old out.new needed.new }
+{
+    let mut sink = Out::new(Vec::new(alloc));
+    let status = report_refutation(alloc, history, reasons, steps, &mut sink);
+    answer(status, &sink.into_inner(), out, needed)
+}

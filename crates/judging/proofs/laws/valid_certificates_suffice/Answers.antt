@@ -1,0 +1,15 @@
+use Rattle.std.proofs.Common.{sym, subst}
+use Rattle.events.specs.Events.{kind_at, denoted, IsProper}
+use Rattle.events.proofs.WellFormed.{denoted_is_history}
+use Rattle.history.proofs.Proper.{proper_events}
+use Rattle.judging.proofs.Naming.{orders}
+use Rattle.judging.proofs.laws.valid_certificates_suffice.Goals as goal
+
+pub returns : goal.returns
+returns c text es cs d valid =
+    let proper = subst IsProper (sym d.denoted.events) (proper_events d.forms d.denoted.faultless) in
+    record {
+      client_events = es;
+      history_text = d;
+      linearizable = c.named_objects.ensures (kind_at es) (denoted es) (denoted_is_history es proper) (orders es cs valid);
+    }

@@ -1,0 +1,71 @@
+/* The proved judge of fcbench, for tests of concurrent objects.
+ *
+ * Link libfcbench.a or libfcbench.so. No call starts a thread, takes a lock, waits, reads a file or
+ * prints. What a call takes by malloc it frees before it returns, and it keeps nothing: calls may be
+ * made from several threads at once.
+ *
+ * A text is bytes and their number. It need not end in a zero byte. docs/formats.md says what
+ * the texts mean.
+ *
+ * The caller sees to these, and nothing checks them:
+ *   - each pointer points to that many bytes, and nobody writes them during the call. NULL with the
+ *     length 0 is a text, or a buffer, of no bytes;
+ *   - `out` and `needed` overlap nothing else that is passed, and nobody else reads or writes them
+ *     during the call;
+ *   - `needed` is not NULL;
+ *   - malloc, realloc and free are of one allocator, which aligns a block to each power of two up to
+ *     16 that divides its size;
+ *   - no call is made from a signal handler, or in the forked child of a process with threads.
+ *
+ * Each call answers an exit status of the program's command, below, and writes the command's lines
+ * into `out`: at most `capacity` bytes, without a zero byte after them. `*needed` is how many bytes
+ * the lines are. Where it is more than `capacity` the lines are cut there: call again with that
+ * much room for all of them. The status is right either way, so who wants no lines passes NULL and 0.
+ */
+#ifndef FCBENCH_H
+#define FCBENCH_H
+
+#include <stddef.h>
+#include <stdint.h>
+
+#ifdef __cplusplus
+extern "C" {
+#endif
+
+/* The history is linearizable. This is proved of each call that keeps the rules above. */
+#define FCBENCH_YES 0u
+/* fcbench_judge, fcbench_refute: the history is not linearizable, which is proved too.
+ * fcbench_check: the certificates are refused. fcbench_find never answers it. */
+#define FCBENCH_NO 1u
+/* A text is malformed. The line says where. */
+#define FCBENCH_MALFORMED 2u
+/* Not decided: the lines say why, as an object that stays open, or `out of memory`. */
+#define FCBENCH_OPEN 3u
+
+/* The program's number of steps where it is given none. */
+#define FCBENCH_STEPS 1000000u
+
+/* Judges a history by certificates, an order of operations for each object. */
+uint32_t fcbench_check(const uint8_t *history, size_t history_length,
+                       const uint8_t *certificates, size_t certificates_length,
+                       uint8_t *out, size_t capacity, size_t *needed);
+
+/* Finds certificates, or reasons why there are none, and judges the history by them. A search takes
+ * at most `steps` steps for each object. */
+uint32_t fcbench_judge(const uint8_t *history, size_t history_length, uint32_t steps,
+                       uint8_t *out, size_t capacity, size_t *needed);
+
+/* Finds certificates, and writes them: a line for each object. */
+uint32_t fcbench_find(const uint8_t *history, size_t history_length,
+                      uint8_t *out, size_t capacity, size_t *needed);
+
+/* Checks reasons why the history is not linearizable. The search of a part takes at most `steps`
+ * steps. It never answers FCBENCH_YES. */
+uint32_t fcbench_refute(const uint8_t *history, size_t history_length,
+                        const uint8_t *reasons, size_t reasons_length, uint32_t steps,
+                        uint8_t *out, size_t capacity, size_t *needed);
+
+#ifdef __cplusplus
+}
+#endif
+#endif

@@ -1,0 +1,224 @@
+"""The library: its callers in C, C++, Rust, Python and Go, their recorders, the checker for Jepsen in Clojure, and what ./install
+installs. A language that is missing is skipped, and the line of the part says how to install it."""
+import os
+import re
+import shutil
+import subprocess
+
+from .running import EXAMPLES, ROOT, Program, Ran, at_once
+
+CLIENTS = f"{ROOT}/clients"
+OUT = f"{ROOT}/crates/embedding/out"
+LIBRARY = f"{OUT}/libfcbench.a"
+SHARED = f"{OUT}/libfcbench.so"
+EXPORTS = ["fcbench_check", "fcbench_find", "fcbench_judge", "fcbench_refute"]
+# What the library calls of others.
+CALLS = {"free", "malloc", "memcmp", "memcpy", "memmove", "memset", "realloc"}
+WARNINGS = ("-O2", "-Wall", "-Wextra", "-Werror", f"-I{ROOT}/include")
+C = ("gcc", "-std=c11", "-D_GNU_SOURCE", *WARNINGS)
+CPP = ("g++", "-std=c++17", *WARNINGS)
+VALGRIND = ("valgrind", "--quiet", "--leak-check=full", "--errors-for-leak-kinds=all", "--error-exitcode=9")
+# Debian's package of each language, where one is missing.
+PACKAGES = {"gcc": "gcc", "g++": "g++", "valgrind": "valgrind", "cargo": "cargo", "go": "golang", "clojure": "clojure"}
+# Runs of each recorder: of a right queue, and of a wrong one.
+RUNS = 100
+SECONDS = 240
+
+
+def missing(*names):
+    """Says which of these is missing and how to install it, or nothing."""
+    lacks = [PACKAGES[name] for name in names if not shutil.which(name)]
+    return f"SKIPPED: missing, apt-get update; apt-get install -y {' '.join(lacks)}" if lacks else ""
+
+
+def done(report, name, words, says=None, **env):
+    """Runs these words, which must end with 0, and must say this."""
+    how = {"env": {**os.environ, **env}, "stdin": subprocess.DEVNULL, "stdout": subprocess.PIPE, "stderr": subprocess.STDOUT, "text": True}
+    folder = how["env"].pop("FOLDER", None)
+    try:
+        ran = subprocess.run(words, timeout=SECONDS, cwd=folder, **how)
+    except subprocess.TimeoutExpired as late:
+        report.holds(f"embedding: {name}", False, f"not ended after {SECONDS} seconds: {late.output}")
+        return ""
+    is_well = ran.returncode == 0 and (says is None or says in ran.stdout)
+    report.holds(f"embedding: {name}", is_well, f"status {ran.returncode}\n{ran.stdout[-4000:]}")
+    return ran.stdout
+
+
+def built(program, report, compiler, source, name):
+    """Builds a caller with the library into the room, and returns its path."""
+    path = f"{program.room}/{name}"
+    done(report, f"{name} is built", [*compiler, source, LIBRARY, "-lpthread", "-o", path])
+    return path
+
+
+def library(program, report):
+    """The library is built where it is missing, has four names, and calls only what allocates and copies."""
+    done(report, "the library is built", [f"{CLIENTS}/build"])
+    names = subprocess.run(["nm", "-g", LIBRARY], capture_output=True, text=True).stdout
+    exports = sorted(re.findall(r"^[0-9a-f]+ [A-Z] (\w+)$", names, re.M))
+    calls = set(re.findall(r"^ +U (\w+)$", names, re.M))
+    report.equal("embedding: what the library exports", EXPORTS, exports)
+    report.equal("embedding: what it calls besides malloc, realloc, free and copies: no thread, lock or file", set(), calls - CALLS)
+    state = re.findall(r"^[0-9a-f]+ [bBdDC] (\w+)$", subprocess.run(["nm", LIBRARY], capture_output=True, text=True).stdout, re.M)
+    return f"{os.path.getsize(LIBRARY)} bytes, {len(state)} names of data that can be written"
+
+
+def cases():
+    """Each command of the library on each example."""
+    names = set(os.listdir(EXAMPLES))
+    for name in sorted(names):
+        stem, _, kind = name.partition(".")
+        if kind != "history.edn":
+            continue
+        yield ("judge", f"{EXAMPLES}/{name}")
+        yield ("find", f"{EXAMPLES}/{name}")
+        for command, other in (("check", f"{stem}.certificates.edn"), ("refute", f"{stem}.reasons.edn")):
+            if other in names:
+                yield (command, f"{EXAMPLES}/{name}", f"{EXAMPLES}/{other}")
+
+
+def answering(program, report):
+    return Program(built(program, report, C, f"{ROOT}/tests/edge/answer.c", "answer"), program.room, program.faults)
+
+
+def as_the_program(program, report):
+    """The library answers each example as the program does; and where the buffer is too small, a beginning of it."""
+    if missing("gcc"):
+        return missing("gcc")
+    answer, every = answering(program, report), list(cases())
+    told = at_once(lambda words: (answer.run(*words), program.run(*words), answer.run(*words, "10")), every)
+    for words, (came, wanted, short) in zip(every, told):
+        name = " ".join([words[0], *map(os.path.basename, words[1:])])
+        report.equal(f"embedding: {name}", (wanted.status, wanted.out), (came.status, came.out))
+        report.equal(f"embedding: {name} into 10 bytes", Ran(wanted.status, wanted.out[:10], b""), short)
+    return f"{len(every)} calls"
+
+
+def refused_memory_of_calls(program, report):
+    """Each allocation of a call is refused in turn: the answer is 3, or what it is with ample memory."""
+    if missing("gcc"):
+        return missing("gcc")
+    answer, count = answering(program, report), 0
+    for words in (it for it in cases() if re.search("/(queue|lost_put|overlapping|larger_first|two_for_one)[.]", it[1])):
+        whole, allocations, _ = answer.counts(*words)
+        runs = at_once(lambda at: answer.run(*words, faults={"REFUSE_AT": at}), range(1, allocations + 1))
+        good = {(whole.status, whole.out)}
+        bad = [at for at, ran in enumerate(runs, 1) if (ran.status, ran.out) not in good and not (ran.status == 3 and ran.out.endswith((b"out of memory\n", b": open\n")))]
+        report.equal(f"embedding: {words[0]} {os.path.basename(words[1])} without memory", [], bad, runs[bad[0] - 1] if bad else "")
+        count += allocations
+    return f"{count} allocations refused"
+
+
+def c_callers(program, report):
+    """The caller and the recorder in C, and both without a leak or a wrong access."""
+    if missing("gcc"):
+        return missing("gcc")
+    judge = built(program, report, C, f"{CLIENTS}/c/test_judge.c", "c_judge")
+    recorder = built(program, report, C, f"{CLIENTS}/c/test_recorder.c", "c_recorder")
+    done(report, "C: a yes, a no, a malformed text, a buffer too small", [judge], "passed")
+    done(report, "C: queues are recorded and judged", [recorder, str(RUNS)], f"passed, {RUNS} runs")
+    if missing("valgrind"):
+        return missing("valgrind")
+    done(report, "C: the caller under valgrind", [*VALGRIND, judge], "passed")
+    done(report, "C: the recorder under valgrind", [*VALGRIND, recorder, "1"], "passed, 1 runs")
+    return None
+
+
+def cpp_callers(program, report):
+    """The same in C++."""
+    if missing("g++"):
+        return missing("g++")
+    judge = built(program, report, CPP, f"{CLIENTS}/cpp/test_judge.cpp", "cpp_judge")
+    recorder = built(program, report, CPP, f"{CLIENTS}/cpp/test_recorder.cpp", "cpp_recorder")
+    done(report, "C++: a yes, a no, a malformed text, a buffer too small", [judge], "passed")
+    done(report, "C++: queues are recorded and judged", [recorder, str(RUNS)], f"passed, {RUNS} runs")
+    return None
+
+
+def rust_callers(program, report):
+    """The same in Rust: a package without dependencies."""
+    if missing("cargo"):
+        return missing("cargo")
+    words = ["cargo", "test", "--quiet", "--offline", "--manifest-path", f"{CLIENTS}/rust/Cargo.toml"]
+    said = done(report, "Rust: the tests of the package", words, CARGO_TARGET_DIR=f"{program.room}/cargo", FCBENCH_LIB=OUT, FCBENCH_RUNS=str(RUNS), RUSTFLAGS="-D warnings")
+    report.equal("embedding: Rust: how many tests passed", 9, sum(map(int, re.findall(r"(\d+) passed", said))), said[-2000:])
+    return None
+
+
+def python_callers(program, report):
+    """The same in Python, by ctypes."""
+    for name in ("judge", "recorder"):
+        done(report, f"Python: test_{name}.py", [f"{CLIENTS}/python/test_{name}.py"], "\nOK", FCBENCH_SO=SHARED, FCBENCH_RUNS=str(RUNS), PYTHONDONTWRITEBYTECODE="1")
+
+
+def go_callers(program, report):
+    """The same in Go, by cgo."""
+    if missing("go", "gcc"):
+        return missing("go", "gcc")
+    env = {"CGO_CFLAGS": f"-O2 -I{ROOT}/include", "CGO_LDFLAGS": LIBRARY, "GOCACHE": f"{program.room}/go", "GOFLAGS": "-mod=mod", "FCBENCH_RUNS": str(RUNS)}
+    said = done(report, "Go: the tests of the package", ["go", "test", "-count=1", "-v", "."], "\nok ", FOLDER=f"{CLIENTS}/go", **env)
+    report.equal("embedding: Go: how many tests passed", 7, said.count("--- PASS"), said[-2000:])
+    return None
+
+
+def clojure_checker(program, report):
+    """The checker for Jepsen: on histories as a store of Jepsen has them, without Jepsen."""
+    if missing("clojure"):
+        return missing("clojure")
+    words = ["clojure", "-cp", f"{CLIENTS}/clojure", f"{CLIENTS}/clojure/fcbench_test.clj", program.path]
+    done(report, "Clojure: the converter and the checker", words, "0 failures, 0 errors")
+    return None
+
+
+INSTALLED = (
+    "bin/fcbench",
+    "include/fcbench.h",
+    "lib/libfcbench.a",
+    "lib/libfcbench.so",
+    "share/bash-completion/completions/fcbench",
+    "share/fish/vendor_completions.d/fcbench.fish",
+    "share/man/man1/fcbench.1",
+    "share/zsh/site-functions/_fcbench",
+)
+
+
+def completed(prefix, *words):
+    """What bash completes after these words."""
+    line = f'. "{prefix}/{INSTALLED[4]}"; COMP_WORDS=({" ".join(map(repr, words))}); COMP_CWORD={len(words) - 1}; _fcbench; echo "${{COMPREPLY[*]}}"'
+    return subprocess.run(["bash", "-c", line], capture_output=True, text=True).stdout.split()
+
+
+def installed(program, report):
+    """What ./install puts under its prefix: it says each, and a caller is built from it alone."""
+    prefix = f"{program.room}/prefix"
+    said = done(report, "./install", [f"{ROOT}/install", prefix])
+    there = sorted(os.path.relpath(f"{base}/{file}", prefix) for base, _, files in os.walk(prefix) for file in files)
+    report.equal("embedding: what is installed", sorted(INSTALLED), there)
+    report.equal("embedding: what ./install says", sorted(f"{prefix}/{it}" for it in INSTALLED), sorted(said.split()))
+    ran = subprocess.run([f"{prefix}/bin/fcbench", "judge", f"{EXAMPLES}/queue.history.edn"], capture_output=True)
+    report.holds("embedding: the installed program judges", ran.returncode == 0 and ran.stdout.startswith(b"yes: 2 operations"), ran)
+    if not missing("gcc"):
+        path = f"{program.room}/installed_judge"
+        done(report, "a caller of what is installed is built", ["gcc", f"-I{prefix}/include", f"{CLIENTS}/c/test_judge.c", f"-L{prefix}/lib", "-l:libfcbench.a", "-o", path])
+        done(report, "and runs", [path], "passed")
+    report.holds("embedding: bash completes commands", {"judge", "check"} <= set(completed(prefix, "fcbench", "")))
+    report.equal("embedding: bash completes one command", ["judge"], completed(prefix, "fcbench", "ju"))
+    report.equal("embedding: bash completes an option", ["--steps"], completed(prefix, "fcbench", "judge", "--st"))
+    report.equal("embedding: bash completes a value", ["return"], completed(prefix, "fcbench", "search", "--first", "re"))
+    manual(f"{prefix}/share/man/man1/fcbench.1", report)
+
+
+def manual(page, report):
+    """The manual has each section of docs/formats.md, and roff has nothing to say of it."""
+    with open(page) as file:
+        text = file.read()
+    with open(f"{ROOT}/docs/formats.md") as file:
+        heads = re.findall(r"^## (.*)$", file.read(), re.M)
+    report.equal("embedding: sections of the manual", [], [it for it in heads if f'.SH "{it}"' not in text.replace("\\-", "-")])
+    if shutil.which("groff"):
+        ran = subprocess.run(["groff", "-man", "-ww", "-z", "-Tutf8", page], capture_output=True, text=True)
+        report.equal("embedding: groff says nothing of the manual", (0, ""), (ran.returncode, ran.stderr))
+
+
+PARTS = (library, as_the_program, refused_memory_of_calls, c_callers, cpp_callers, rust_callers, python_callers, go_callers, clojure_checker, installed)
