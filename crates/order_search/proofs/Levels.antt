@@ -8,22 +8,16 @@ use Rattle.events.specs.declared.operations.Invocation.{Invocation}
 use Rattle.events.specs.Operations.{return_of, Agrees}
 use Rattle.reversible.specs.Undoing.{undone}
 use Rattle.order_search.specs.declared.level.Level.{Level}
-use Rattle.order_search.specs.declared.trials.Trials.{Trials}
-use Rattle.order_search.specs.declared.dead.Pair.{Pair}
 use Rattle.order_search.specs.Arranged.{as_call, call_at, owes, count_below}
 use Rattle.order_search.specs.Continuations.{Continues}
 use Rattle.order_search.specs.Links.{Linked, next_without, before_without}
-use Rattle.order_search.specs.Searching.{places, befores, IsLeast, Stack, IsWalk, AreDead}
+use Rattle.order_search.specs.Searching.{places, befores, IsLeast, Stack, IsWalk}
 use Rattle.order_search.proofs.Owed.{none_owed, owes_placed, owes_pending}
 use Rattle.order_search.proofs.Stack.{onto, continued, placed, placed_frame, candidate_now, linked_now, walk_linked, walk_left}
 use Rattle.order_search.proofs.Links.{linked_without}
 use Rattle.order_search.proofs.Steps.{reverse_push}
 
 -- ---- the first level
-
-pub none_dead : (t : Trials) (pairs : List Pair) → pairs ≡ [] → AreDead t pairs
-none_dead t [] e = λ k d l. absurd (omega arith)
-none_dead t (p ∷ pairs) e = absurd (cc e)
 
 pub begun : (n : ℕ) (call : ℕ → Call) (start c : Content) (ls : List Level) (nx pv : List ℕ) (at least left : ℕ) → ls ≡ [] → c ≡ start
     → Linked n [] nx pv → at ≡ get_or nx 0 0 → IsLeast n call [] least → left ≡ count_below (owes call []) n → 0 < left

@@ -5,5 +5,6 @@ pub mod Calls
 pub mod Stack
 pub mod Steps
 pub mod Levels
+pub mod Generations
 pub mod Measure
 pub mod Orders

@@ -1,5 +1,6 @@
 pub mod Continuations
 pub mod Links
+pub mod Remembered
 pub mod Arranged
 pub mod Searching
 pub mod Outcomes

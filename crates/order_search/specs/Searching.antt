@@ -8,7 +8,8 @@ use Rattle.reversible.specs.Undoing.{content_of, content_kept, undone}
 use Rattle.reversible.specs.declared.step.Step.{Step}
 use Rattle.order_search.specs.declared.level.Level.{Level}
 use Rattle.order_search.specs.declared.trials.Trials.{Trials}
-use Rattle.order_search.specs.declared.dead.Pair.{Pair}
+use Rattle.order_search.specs.declared.pairs.Pair.{Pair}
+use Rattle.order_search.specs.declared.dead.Dead.{Dead}
 use Rattle.order_search.specs.declared.walk.State.{State}
 use Rattle.order_search.specs.Arranged.{call_at, owes, count_below, IsArranged}
 use Rattle.order_search.specs.Continuations.{IsLeft, IsCandidate, Places, Continues, IsDead}
@@ -101,12 +102,17 @@ AreDead t pairs =
     All (λ p. IsDeadPair (length t.items.items) (call_at t.items.items) p.high p.undone.items
     (content_kept p.content)) pairs
 
+-- and so are those of both generations
+pub record AreAllDead (t : Trials) (d : Dead) : Type 0 where
+  pub older : AreDead t d.older.pairs.items
+  pub younger : AreDead t d.younger.pairs.items
+
 -- a search stands between two steps, at this content
 pub record IsSearchingAt (t : Trials) (s : State) (c : Content) : Type 0 where
   pub walk : IsWalk (length t.items.items) (call_at t.items.items) (empty t.kind)
       (reverse s.levels.items) (befores (reverse s.levels.items) c) c s.undone.next.items
       s.undone.before.items s.high s.at s.least s.left
-  pub dead : AreDead t s.dead.pairs.items
+  pub dead : AreAllDead t s.dead
 
 abbrev pub IsSearching : Trials → State → Type 0
 IsSearching t s = IsSearchingAt t s (content_of s.object)

@@ -6,6 +6,7 @@ mod dead;
 mod digest;
 mod finding;
 mod level;
+mod pairs;
 mod trials;
 mod undone;
 mod walk;

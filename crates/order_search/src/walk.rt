@@ -13,9 +13,10 @@ ghost use Rattle.order_search.specs.Searching.{places, content_before, AreTrials
 ghost use Rattle.order_search.specs.Searching.{IsOrder, IsNoOrder, IsDeadHere, IsDeadAtPlace};
 ghost use Rattle.order_search.specs.Searching.{IsSearching, IsSearchingAt};
 
-use crate::dead::{Dead, Pair};
+use crate::dead::Dead;
 use crate::digest::Digest;
 use crate::level::Level;
+use crate::pairs::Pair;
 use crate::trials::Trials;
 use crate::undone::Undone;
 use events::{End, Invocation};
@@ -112,7 +113,7 @@ impl State {
             levels: Vec::new(alloc),
             object: Reversible::empty(alloc, trials.kind),
             undone,
-            dead: Dead::new(alloc),
+            dead: Dead::new(alloc, &trials.items)?,
             digest: Digest::new(),
             high: 0,
             at,

@@ -3,7 +3,8 @@ use Rattle.std.proofs.lemmas.List.{get_or_default}
 use Rattle.model.specs.Objects.{empty}
 use Rattle.order_search.specs.Arranged.{call_at}
 use Rattle.order_search.specs.Links.{Linked}
-use Rattle.order_search.proofs.Levels.{begun, none_dead}
+use Rattle.order_search.proofs.Levels.{begun}
+use Rattle.order_search.proofs.Generations.{none_dead}
 use Rattle.order_search.proofs.walk.State.begin.Goals as goal
 
 pub returns-clause-search : goal.returns-clause-search
@@ -18,5 +19,8 @@ returns-clause-search c =
       walk = begun (length items) (call_at items) (empty t.kind) _ c.new.result.items u.next.items u.before.items c.index-at.result.now
           c.least_return-least.result c.args.left c.new.ensures.items c.empty.ensures link
           (c.index-at.ensures ∙ get_or_default u.next.items 0 _ 0 (omega arith)) (c.least_return-least.ensures [] link) c.requires.counts c.requires.owed;
-      dead = none_dead t c.new-2.result.pairs.items c.new-2.ensures;
+      dead = record {
+        older = none_dead t c.in_ok-new.field-0.older.pairs.items c.in_ok-new.ensures.older;
+        younger = none_dead t c.in_ok-new.field-0.younger.pairs.items c.in_ok-new.ensures.younger;
+      };
     }

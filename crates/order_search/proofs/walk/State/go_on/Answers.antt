@@ -3,12 +3,13 @@ use Rattle.std.proofs.lemmas.List.{get_or_default}
 use Rattle.model.specs.Objects.{empty}
 use Rattle.reversible.specs.Undoing.{content_of}
 use Rattle.reversible.specs.declared.kept.Kept.TheVariants.{Whole}
-use Rattle.order_search.specs.declared.dead.Pair.{Pair}
+use Rattle.order_search.specs.declared.pairs.Pair.{Pair}
 use Rattle.order_search.specs.declared.level.Level.{Level}
 use Rattle.order_search.specs.Arranged.{as_call, call_at}
 use Rattle.order_search.specs.Continuations.{IsDeadAt}
 use Rattle.order_search.specs.Searching.{places, befores, content_before, IsWalk}
-use Rattle.order_search.proofs.Steps.{hit, walk_within, without_within, walk_again, call_read}
+use Rattle.order_search.proofs.Generations.{hit_any}
+use Rattle.order_search.proofs.Steps.{walk_within, without_within, walk_again, call_read}
 use Rattle.order_search.proofs.Levels.{befores_more, stepped, taken_out, owed_less, onward, over_now}
 use Rattle.order_search.proofs.walk.State.go_on.Goals as goal
 
@@ -48,13 +49,11 @@ pass-requires-clause-dead_at c =
     let a = c.args.self.now in
     let t = c.args.trials.now in
     let before = content_before a c.args.step in
-    let h = c.holds.ensures c.if-holds.true in
     let d : Pair = record { hash = 0; high = 0; undone = a.undone.next; content = Whole a.object } in
-    let q = h.2 d in
-    let dead = hit (length t.items.items) (call_at t.items.items) (empty t.kind) (reverse a.levels.items) (befores (reverse a.levels.items) before)
-    before (content_of a.object) _ a.undone.next.items a.undone.before.items c.take_out.new.self.next.items a.high a.at a.least a.left _ _ _ c.args.step.reply
-    c.requires.search.walk c.requires.at c.requires.does c.take_out.ensures.next q.1 (omega (arith, c.max-high.ensures))
-    (omega (arith, c.max-high.ensures)) (c.requires.search.dead h.0 d h.1) q.0 q.2 in
+    let dead = hit_any t (empty t.kind) (reverse a.levels.items) (befores (reverse a.levels.items) before)
+    before (content_of a.object) a.undone.next.items a.undone.before.items c.take_out.new.self.next.items a.high a.at a.least a.left c.max-high.result c.args.step.reply a.dead
+    c.requires.search.walk c.requires.at c.requires.does c.take_out.ensures.next (omega (arith, c.max-high.ensures))
+    (omega (arith, c.max-high.ensures)) c.requires.search.dead (c.holds.ensures c.if-holds.true) d in
     subst (λ x. IsDeadAt (length t.items.items) (call_at t.items.items) (places (reverse a.levels.items)) x a.at) (sym c.in_ok-undo.ensures) dead
 
 pub returns-then-self-eq0-clause-over : goal.returns-then-self-eq0-clause-over
