@@ -5,6 +5,7 @@ use crate::figure::{Figure, Mark};
 use crate::lines::figure_of;
 use crate::memory::Memory;
 use crate::moments::{Moment, Nemesis, moments_of};
+use crate::numbers::WHOLE;
 use crate::operations::{Operation, State, operation_at, operations_of};
 use crate::orders::{Placed, Row, rows_of, walk_along};
 use crate::scene::{Scene, numbers_of};
@@ -75,7 +76,7 @@ pub struct ObjectDrawing {
 }
 
 /// The numbers of the events of these operations.
-fn focus_events(
+pub(crate) fn focus_events(
     memory: &Memory,
     operations: &[Operation],
     focus: &BTreeMap<u32, Mark>,
@@ -93,7 +94,11 @@ fn focus_events(
 }
 
 /// The numbers of the operations with drawn events.
-fn drawn_numbers(memory: &Memory, operations: &[Operation], moments: &[Moment]) -> BTreeSet<u32> {
+pub(crate) fn drawn_numbers(
+    memory: &Memory,
+    operations: &[Operation],
+    moments: &[Moment],
+) -> BTreeSet<u32> {
     let mut numbers = BTreeSet::new(memory.alloc);
     for moment in moments {
         if moment.is_drawn {
@@ -121,7 +126,7 @@ fn window_of(
 ) -> Window {
     let mut moments = moments_of(memory, operations, subject.nemeses);
     let events = focus_events(memory, operations, focus);
-    choose(memory, &mut moments, &events, subject.stretch);
+    choose(memory, &mut moments, &events, subject.stretch, WHOLE);
     let numbers = numbers_of(memory, focus);
     let (without_lane, processes) = narrow(memory, operations, &mut moments, &numbers);
     let drawn = drawn_numbers(memory, operations, &moments);
@@ -198,6 +203,8 @@ fn figures(
         is_zoom: false,
         dims: !focus.is_empty() && window.drawn.len() > few,
         maps: subject.maps,
+        names_objects: false,
+        faulty: None,
     };
     if explanation
         .zoom_above
