@@ -150,6 +150,8 @@ fn page_of(
             lines: texts.lines,
             objects: &parts.rows,
             drawings: &parts.drawings,
+            place: None,
+            quoted: "",
         },
     )
 }
