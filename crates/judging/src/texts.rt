@@ -88,7 +88,7 @@ pub(crate) fn certificates_in(alloc: Global, text: &[u8]) -> Result<Vec<Certific
 
 /// What both texts denote, or what stops the reading of the first that is stopped. One worker reads
 /// the certificates after the history, and only where that denotes; more read them side by side.
-pub(crate) fn texts_in<R: Threads + Sync>(
+pub fn texts_in<R: Threads + Sync>(
     rt: &R,
     alloc: Global,
     history: &[u8],
