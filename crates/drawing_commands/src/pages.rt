@@ -32,9 +32,9 @@ fn lines_of(alloc: Global, verdict: &Verdict) -> Result<String, AllocError> {
     text_of(alloc, &sink.into_inner())
 }
 
-/// Lines as text.
+/// Lines as text, without the end of the last one.
 pub(crate) fn text_of(alloc: Global, lines: &[u8]) -> Result<String, AllocError> {
-    String::from_utf8_lossy(alloc, lines)
+    String::from_utf8_lossy(alloc, lines.strip_suffix(b"\n").unwrap_or(lines))
 }
 
 /// The page of a malformed text.
