@@ -1,5 +1,7 @@
 //! The drawing of an object: sentences, figures, and the table of an order.
 
+ghost use Rattle.std.specs.Prelude.{◌≡◌, IfOk};
+
 use crate::boxes::{ContentBox, boxes_of};
 use crate::figure::{Figure, Mark};
 use crate::lines::figure_of;
@@ -248,7 +250,10 @@ fn draw(
     operations: &[Operation],
     order: Option<&[i64]>,
     explanation: Explanation<'_>,
-) -> ObjectDrawing {
+) -> ObjectDrawing
+    ensures object { result.object ≡ subject.now.object.now.object }
+    ensures kind { result.kind ≡ subject.now.object.now.kind }
+{
     let kind = subject.object.kind();
     let window = window_of(memory, operations, &explanation.focus, subject);
     let refused = explanation.refused;
@@ -305,7 +310,11 @@ pub fn draw_valid(
     alloc: Global,
     subject: &Subject<'_>,
     order: Option<&[i64]>,
-) -> Result<ObjectDrawing, AllocError> {
+) -> Result<ObjectDrawing, AllocError>
+    // It is of this object.
+    ensures object { IfOk result (λ d. d.object ≡ subject.now.object.now.object) }
+    ensures kind { IfOk result (λ d. d.kind ≡ subject.now.object.now.kind) }
+{
     let memory = Memory::new(alloc);
     let operations = all_operations(&memory, subject);
     let nothing = Explanation::new(&memory, None, None);
@@ -314,7 +323,11 @@ pub fn draw_valid(
 }
 
 /// The drawing of an object that has no certificate.
-pub fn draw_uncertified(alloc: Global, subject: &Subject<'_>) -> Result<ObjectDrawing, AllocError> {
+pub fn draw_uncertified(alloc: Global, subject: &Subject<'_>) -> Result<ObjectDrawing, AllocError>
+    // It is of this object.
+    ensures object { IfOk result (λ d. d.object ≡ subject.now.object.now.object) }
+    ensures kind { IfOk result (λ d. d.kind ≡ subject.now.object.now.kind) }
+{
     let memory = Memory::new(alloc);
     let operations = all_operations(&memory, subject);
     let mut text = Explanation::new(&memory, None, None);
@@ -329,7 +342,11 @@ pub fn draw_refused(
     subject: &Subject<'_>,
     order: &[i64],
     fault: OrderFault,
-) -> Result<ObjectDrawing, AllocError> {
+) -> Result<ObjectDrawing, AllocError>
+    // It is of this object.
+    ensures object { IfOk result (λ d. d.object ≡ subject.now.object.now.object) }
+    ensures kind { IfOk result (λ d. d.kind ≡ subject.now.object.now.kind) }
+{
     let memory = Memory::new(alloc);
     let operations = all_operations(&memory, subject);
     let refused = Refused {
@@ -398,7 +415,11 @@ pub fn draw_impossible(
     alloc: Global,
     subject: &Subject<'_>,
     part: &Part<'_>,
-) -> Result<ObjectDrawing, AllocError> {
+) -> Result<ObjectDrawing, AllocError>
+    // It is of this object.
+    ensures object { IfOk result (λ d. d.object ≡ subject.now.object.now.object) }
+    ensures kind { IfOk result (λ d. d.kind ≡ subject.now.object.now.kind) }
+{
     let memory = Memory::new(alloc);
     let operations = all_operations(&memory, subject);
     let ops = part.part.ops();
