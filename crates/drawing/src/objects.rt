@@ -17,7 +17,7 @@ use crate::spans::Span;
 use crate::tried::{Tried, try_orders};
 use crate::window::{choose, narrow};
 use checker::OrderFault;
-use events::{History, Invocation, ObjectHistory};
+use events::{End, History, Invocation, ObjectHistory};
 use seq_objects::Kind;
 use std::alloc::{AllocError, Global};
 use std::collections::{BTreeMap, BTreeSet};
@@ -75,6 +75,9 @@ pub struct ObjectDrawing {
     pub tried: Option<Tried>,
     /// The number at which a reason begins, where that is not the beginning.
     pub from: Option<u32>,
+    /// The operations of a reason that returned, and of which it counts no return: they may have
+    /// taken effect outside of it.
+    pub outside: Vec<Operation>,
 }
 
 /// The numbers of the events of these operations.
@@ -297,6 +300,7 @@ fn draw(
         rows,
         tried: None,
         from: None,
+        outside: Vec::new(memory.alloc),
     }
 }
 
@@ -385,6 +389,20 @@ fn recorded(
     recorded
 }
 
+/// Those of the operations that returned and are pending in the part.
+fn outside_of(memory: &Memory, operations: &[Operation], part: &[Invocation]) -> Vec<Operation> {
+    let mut outside = Vec::new(memory.alloc);
+    for operation in operations {
+        let is_pending = part.iter().any(|invocation| {
+            invocation.number == operation.number() && invocation.end == End::Pending
+        });
+        if is_pending && operation.state() == State::Done {
+            memory.note(outside.push(*operation));
+        }
+    }
+    outside
+}
+
 /// From each of these operations that returned to the next one that was invoked later.
 fn arrows_in(memory: &Memory, operations: &[Operation]) -> Vec<(Operation, Operation)> {
     let mut arrows = Vec::new(memory.alloc);
@@ -442,6 +460,7 @@ pub fn draw_impossible(
     let impossible = impossible(&memory, subject.object);
     memory.note(drawing.sentences.push(impossible));
     memory.note(drawing.sentences.push(sentence));
+    drawing.outside = outside_of(&memory, &named, ops);
     drawing.tried = Some(tried);
     drawing.from = part.from;
     memory.whole(drawing)

@@ -7,7 +7,7 @@ use crate::excerpts::Place;
 use crate::html::Word;
 use crate::markup::{Name, Style, Tag};
 use crate::writer::{Writer, add_bars, figures_in, number};
-use drawing::{Entry, Extent, Figure, Line, Memory, ObjectDrawing, Row, Span};
+use drawing::{Entry, Extent, Figure, Line, Memory, ObjectDrawing, Operation, Row, Span};
 use seq_objects::{Kind, kind_name};
 use std::alloc::{AllocError, Global};
 use std::collections::BTreeSet;
@@ -369,8 +369,29 @@ impl Writer {
             figure,
             &drawing.because,
         );
+        self.outside(&drawing.outside);
         self.html.close(Tag::Figure);
         self.html.text("\n")
+    }
+
+    /// The operations of a reason that are not wholly within it.
+    fn outside(&mut self, operations: &[Operation]) {
+        if operations.is_empty() {
+            return;
+        }
+        let class = [Word::Text("note")];
+        self.html.begin(Tag::Paragraph);
+        self.html.attribute(Name::Class, &class);
+        self.html.end();
+        self.html.text("Not wholly within this stretch, so ");
+        self.html.text(plural(operations.len(), "it", "they"));
+        self.html.text(" may have taken effect outside of it: ");
+        for (place, operation) in operations.iter().enumerate() {
+            self.html.text(if place > 0 { ", " } else { "" });
+            self.operation(operation);
+        }
+        self.html.text(".");
+        self.html.close(Tag::Paragraph)
     }
 
     /// How many operations have bars in the figure.
