@@ -4,9 +4,10 @@ import os
 import re
 from dataclasses import dataclass
 
-from . import reasons, rows, workloads
+from . import reasons, rows, sentences, workloads
 from .answers import is_accepted
-from .running import EXAMPLES, Program
+from .pages import Drawn
+from .running import EXAMPLES, Program, Ran
 
 OUT = b"out of memory\n"
 NO_MEMORY = 3
@@ -59,11 +60,13 @@ def examples():
         if kind == "history.edn":
             if f"{stem}.certificates.edn" in names:
                 yield of_example("check", name, f"{stem}.certificates.edn")
+                yield of_example("draw", name, f"{stem}.certificates.edn")
             # A search that never ends by itself would take all its steps at each refusal.
             few = ("--steps", "1000") if f"{stem}.reasons.edn" in names else ()
             yield of_example("search", *few, name)
             yield of_example("find", name)
             yield of_example("judge", *few, name)
+            yield of_example("draw", *few, name)
 
 
 def of_example(*words):
@@ -122,6 +125,8 @@ def is_out_of_memory(command, whole, ran):
         return True
     if command == "search":
         return object_is_out_of_memory(whole, ran)
+    if command == "draw" and ran.status == NO_MEMORY:
+        return is_out_of_memory("judge", whole, told_by(ran))
     if command == "judge":
         # It tells only the objects that have no certificate. Where no memory is left to look for a reason it searches.
         lines = rb"(; object \d+: (out of memory|out of steps after \d+|too large)\n)+"
@@ -131,6 +136,21 @@ def is_out_of_memory(command, whole, ran):
     if command in ("run", "simulate") and ran.status == NO_MEMORY:
         return ran.out.endswith(b"; " + OUT) or command == "run" and ran.out == b"no thread\n"
     return False
+
+
+def told_by(ran):
+    """The lines of the verdict on a page, as the output of the run."""
+    return Ran(ran.status, f"{Drawn(ran.out).lines}\n".encode(), ran.err)
+
+
+def is_other_page(program, words, whole, ran):
+    """Whether a page says no for another reason, which holds, or has other orders, which are valid."""
+    if ran.status != whole.status or not ran.out.startswith(b"<!DOCTYPE html>") or "--steps" not in words and len(words) > 2:
+        return False
+    if ran.status == 1:
+        return is_other_reason(program, words, whole, told_by(ran))
+    with open(f"{program.room}/{words[-1]}") as file:
+        return ran.status == 0 and sentences.why_order_false(Drawn(ran.out), file.read()) is None
 
 
 def is_other_reason(program, words, whole, ran):
@@ -164,7 +184,7 @@ def refuse(it):
     is_out = is_out_of_memory(command, whole, ran)
     is_same = (ran.status, ran.out, ran.err) == (whole.status, whole.out, whole.err)
     is_quiet = ran.err == b"" or ran.err == whole.err
-    is_other = is_other_reason if command == "judge" else is_other_run
+    is_other = {"judge": is_other_reason, "draw": is_other_page}.get(command, is_other_run)
     is_well = is_quiet and (is_same or is_out or is_other(it.program, it.words, whole, ran))
     return is_out, ran.out, None if is_well else ran
 

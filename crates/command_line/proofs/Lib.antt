@@ -1,4 +1,5 @@
 pub mod Walks
+pub mod Drawn
 pub mod OneFile
 pub mod Parse
 pub mod Sought

@@ -13,7 +13,7 @@ use Rattle.seq_objects.specs.declared.kinds.Kinds.TheVariants.{One}
 use Rattle.model.specs.declared.Kind.TheVariants.{Queue}
 use Rattle.command_line.specs.declared.asking.RunOptions.{RunOptions}
 use Rattle.command_line.specs.declared.asking.Line.{Line}
-use Rattle.command_line.specs.declared.asking.Line.TheVariants.{Check, Search, Find, Judge, Refute, Run, Simulate}
+use Rattle.command_line.specs.declared.asking.Line.TheVariants.{Check, Search, Find, Judge, Refute, Draw, Run, Simulate}
 use Rattle.clap.specs.Kinds.{HasKind, IsAmong, or_else}
 use Rattle.clap.specs.Values.{kind_of}
 use Rattle.clap.specs.declared.error.Error.{Error}
@@ -26,10 +26,11 @@ use Rattle.clap.proofs.OnLiterals.{clap_on_literals}
 use Rattle.order_search.specs.declared.trials.TryFirst.TheVariants.{LeastNumber}
 use Rattle.command_line.specs.Limits.{max_workers, default_steps}
 use Rattle.command_line.specs.Words.{AreNoOptions, AreRunOptions, AreSteps, IsFirst, AskFor, AskOnFile, AskToCheck, Finds, HasCheck, HasJudge}
-use Rattle.command_line.specs.Words.{HasNoCheck, HasNoJudge, HasNoRefute, HasNoRun, HasNoSearch, HasRefute, HasSearch, IsCheckFound, IsCommand, IsFault, IsFileFound, IsFor}
-use Rattle.command_line.specs.Words.{IsNumber, IsPlain, IsPlainCheck, IsPlainRun, IsPlainSearch, IsPlainSimulate, IsPlainFind, IsPlainJudge, IsPlainRefute, Lacks}
+use Rattle.command_line.specs.Words.{HasNoCheck, HasNoDraw, HasNoJudge, HasNoRefute, HasNoRun, HasNoSearch, HasRefute, HasSearch, HasDraw, IsCheckFound, IsCommand, IsFault, IsFileFound, IsFor}
+use Rattle.command_line.specs.Words.{IsNumber, IsPlain, IsPlainCheck, IsPlainRun, IsPlainSearch, IsPlainSimulate, IsPlainFind, IsPlainJudge, IsPlainRefute, IsPlainDraw, IsPlainCheckedDraw, Lacks}
 use Rattle.command_line.specs.Words.{LacksFor, command, values}
-use Rattle.command_line.proofs.Walks.{IsName, Stops, after, ends0, enters, enters_judge, enters_refute, enters_run, enters_search, history_is, judged, level_parts}
+use Rattle.command_line.proofs.Drawn.{both_values, drawn_values, plain_draw, takes_both, takes_draw}
+use Rattle.command_line.proofs.Walks.{IsName, Stops, after, drawn, ends0, enters, enters_draw, enters_judge, enters_refute, enters_run, enters_search, history_is, judged, level_parts}
 use Rattle.command_line.proofs.Walks.{low, names, not_nil, plain_word, reasoned, reasons_state, running, sought, state0, state2, stops, top, top_words}
 use Rattle.command_line.proofs.OneFile.{enters_find, enters_simulate, file_taken, file_walked, judged_takes, looked, looked_help, looked_takes}
 use Rattle.command_line.proofs.OneFile.{played, played_help, played_takes, sought_takes, stops_find, stops_simulate, takes_find, takes_judge}
@@ -126,7 +127,8 @@ name_entered program w rest known = elim known [
   | inr (inr (inr (inl is))) ↦ subst At is (_, enters_simulate rest)
   | inr (inr (inr (inr (inl is)))) ↦ subst At is (_, enters_find rest)
   | inr (inr (inr (inr (inr (inl is))))) ↦ subst At is (_, enters_judge rest)
-  | inr (inr (inr (inr (inr (inr is))))) ↦ subst At is (_, enters_refute rest)
+  | inr (inr (inr (inr (inr (inr (inl is)))))) ↦ subst At is (_, enters_refute rest)
+  | inr (inr (inr (inr (inr (inr (inr is)))))) ↦ subst At is (_, enters_draw rest)
 ]
   where
     At : Text → Type 0
@@ -291,6 +293,7 @@ pub record HasValues (w : Text) (rows : List Row) : Type 0 where
   pub check : w ≡ codes "check" → HasNoCheck rows → ⊥
   pub judge : w ≡ codes "judge" → HasNoJudge rows → ⊥
   pub refute : w ≡ codes "refute" → HasNoRefute rows → ⊥
+  pub draw : w ≡ codes "draw" → HasNoDraw rows → ⊥
 
 lacks_not : (name : Text) (P : List Row → Type 0) (m : Option (Text × List Row)) (w : Text) (r : List Row) (f : LineFault) → m ≡ Some (w, r) → (w ≡ name → P r → ⊥) → LacksFor name P m f → ⊥
 lacks_not name P m w r f e has l =
@@ -301,7 +304,8 @@ lacks_nothing m w r f e has (inl l) = lacks_not (codes "search") HasNoSearch m w
 lacks_nothing m w r f e has (inr (inl l)) = lacks_not (codes "run") HasNoRun m w r f e has.run l
 lacks_nothing m w r f e has (inr (inr (inl l))) = lacks_not (codes "check") HasNoCheck m w r f e has.check l
 lacks_nothing m w r f e has (inr (inr (inr (inl l)))) = lacks_not (codes "judge") HasNoJudge m w r f e has.judge l
-lacks_nothing m w r f e has (inr (inr (inr (inr l)))) = lacks_not (codes "refute") HasNoRefute m w r f e has.refute l
+lacks_nothing m w r f e has (inr (inr (inr (inr (inl l))))) = lacks_not (codes "refute") HasNoRefute m w r f e has.refute l
+lacks_nothing m w r f e has (inr (inr (inr (inr (inr l))))) = lacks_not (codes "draw") HasNoDraw m w r f e has.draw l
 
 -- another name than that of a command that can lack its values
 other : (v w : Text) (P : Type 0) → bytes_eq v w ≡ false → v ≡ w → P → ⊥
@@ -329,6 +333,7 @@ only_memory words f p =
       check = λ is none. none p.history p.certs 1 (low_values p.history p.certs p.history_plain p.certs_plain);
       judge = other (codes "check") (codes "judge") _ refl;
       refute = other (codes "check") (codes "refute") _ refl;
+      draw = other (codes "check") (codes "draw") _ refl;
     } in
     only_memory_at (p.program ∷ codes "check" ∷ rest) words (codes "check") _ f p.said (takes p.program p.history p.certs p.history_plain p.certs_plain) (enters rest) has
 
@@ -341,6 +346,7 @@ only_memory_run words f p =
       check = other (codes "run") (codes "check") _ refl;
       judge = other (codes "run") (codes "judge") _ refl;
       refute = other (codes "run") (codes "refute") _ refl;
+      draw = other (codes "run") (codes "draw") _ refl;
     } in
     only_memory_at (p.program ∷ codes "run" ∷ []) words (codes "run") _ f p.said (takes_run p.program) (enters_run []) has
 
@@ -353,6 +359,7 @@ only_memory_search words f p =
       check = other (codes "search") (codes "check") _ refl;
       judge = other (codes "search") (codes "judge") _ refl;
       refute = other (codes "search") (codes "refute") _ refl;
+      draw = other (codes "search") (codes "draw") _ refl;
     } in
     only_memory_at (p.program ∷ codes "search" ∷ p.history ∷ []) words (codes "search") _ f p.said (takes_search p.program p.history p.history_plain) (enters_search (p.history ∷ [])) has
 
@@ -365,6 +372,7 @@ only_memory_judge words f p =
       check = other (codes "judge") (codes "check") _ refl;
       judge = λ is none. none p.history default_steps (judged_values p.history p.history_plain);
       refute = other (codes "judge") (codes "refute") _ refl;
+      draw = other (codes "judge") (codes "draw") _ refl;
     } in
     only_memory_at (p.program ∷ codes "judge" ∷ p.history ∷ []) words (codes "judge") _ f p.said (takes_judge p.program p.history p.history_plain) (enters_judge (p.history ∷ [])) has
 
@@ -378,32 +386,58 @@ only_memory_refute words f p =
       check = other (codes "refute") (codes "check") _ refl;
       judge = other (codes "refute") (codes "judge") _ refl;
       refute = λ is none. none p.history p.reasons default_steps (reasoned_values p.history p.reasons p.history_plain p.reasons_plain);
+      draw = other (codes "refute") (codes "draw") _ refl;
     } in
     only_memory_at (p.program ∷ codes "refute" ∷ rest) words (codes "refute") _ f p.said
     (takes_refute p.program p.history p.reasons p.history_plain p.reasons_plain) (enters_refute rest) has
 
+-- a drawing of these values has them
+drawn_has : (rows : List Row) (h : Text) (c : Option Text) → HasDraw rows h c plain_draw → HasValues (codes "draw") rows
+drawn_has rows h c found = record {
+  search = other (codes "draw") (codes "search") _ refl;
+  run = other (codes "draw") (codes "run") _ refl;
+  check = other (codes "draw") (codes "check") _ refl;
+  judge = other (codes "draw") (codes "judge") _ refl;
+  refute = other (codes "draw") (codes "refute") _ refl;
+  draw = λ is none. none h c plain_draw found;
+}
+
+pub only_memory_draw : (words : List Text) (f : LineFault) → IsPlainDraw words → IsFault words f → f ≡ NoMemory
+unfolding clap_on_literals
+only_memory_draw words f p =
+    only_memory_at (p.program ∷ codes "draw" ∷ p.history ∷ []) words (codes "draw") _ f p.said (takes_draw p.program p.history p.history_plain) (enters_draw (p.history ∷ []))
+    (drawn_has (rows_after drawn.rules [] (p.history ∷ [])) p.history None (drawn_values p.history p.history_plain))
+
+pub only_memory_checked_draw : (words : List Text) (f : LineFault) → IsPlainCheckedDraw words → IsFault words f → f ≡ NoMemory
+unfolding clap_on_literals
+only_memory_checked_draw words f p =
+    let rest = p.history ∷ p.certs ∷ [] in
+    only_memory_at (p.program ∷ codes "draw" ∷ rest) words (codes "draw") _ f p.said (takes_both p.program p.history p.certs p.history_plain p.certs_plain) (enters_draw rest)
+    (drawn_has (rows_after drawn.rules [] rest) p.history (Some p.certs) (both_values p.history p.certs p.history_plain p.certs_plain))
+
 -- a command on one file alone has its values
 has_file : (name : Text) (rows : List Row) → bytes_eq name (codes "search") ≡ false → bytes_eq name (codes "run") ≡ false
-    → bytes_eq name (codes "check") ≡ false → bytes_eq name (codes "judge") ≡ false → bytes_eq name (codes "refute") ≡ false → HasValues name rows
-has_file name rows no_search no_run no_check no_judge no_refute = record {
+    → bytes_eq name (codes "check") ≡ false → bytes_eq name (codes "judge") ≡ false → bytes_eq name (codes "refute") ≡ false → bytes_eq name (codes "draw") ≡ false → HasValues name rows
+has_file name rows no_search no_run no_check no_judge no_refute no_draw = record {
   search = other name (codes "search") _ no_search;
   run = other name (codes "run") _ no_run;
   check = other name (codes "check") _ no_check;
   judge = other name (codes "judge") _ no_judge;
   refute = other name (codes "refute") _ no_refute;
+  draw = other name (codes "draw") _ no_draw;
 }
 
 pub only_memory_simulate : (words : List Text) (f : LineFault) → IsPlainSimulate words → IsFault words f → f ≡ NoMemory
 unfolding clap_on_literals
 only_memory_simulate words f p =
     only_memory_at (p.program ∷ codes "simulate" ∷ p.schedule ∷ []) words (codes "simulate") _ f p.said
-    (takes_simulate p.program p.schedule p.schedule_plain) (enters_simulate (p.schedule ∷ [])) (has_file (codes "simulate") _ refl refl refl refl refl)
+    (takes_simulate p.program p.schedule p.schedule_plain) (enters_simulate (p.schedule ∷ [])) (has_file (codes "simulate") _ refl refl refl refl refl refl)
 
 pub only_memory_find : (words : List Text) (f : LineFault) → IsPlainFind words → IsFault words f → f ≡ NoMemory
 unfolding clap_on_literals
 only_memory_find words f p =
     only_memory_at (p.program ∷ codes "find" ∷ p.history ∷ []) words (codes "find") _ f p.said (takes_find p.program p.history p.history_plain)
-    (enters_find (p.history ∷ [])) (has_file (codes "find") _ refl refl refl refl refl)
+    (enters_find (p.history ∷ [])) (has_file (codes "find") _ refl refl refl refl refl refl)
 
 -- ---- what is found
 
@@ -442,6 +476,7 @@ asked words t (Search history steps first) g = g
 asked words t (Find history) g = asked_file (codes "find") (codes "HISTORY") words (t.find (taken_name words t (codes "find") g.rows g.entered)) (string_bytes history) g
 asked words t (Judge history steps) g = g
 asked words t (Refute history reasons steps) g = g
+asked words t (Draw history certs options) g = g
 asked words t (Run options) g = g
 asked words t (Simulate schedule) g = asked_file (codes "simulate") (codes "SCHEDULE") words (t.simulate (taken_name words t (codes "simulate") g.rows g.entered)) (string_bytes schedule) g
 
@@ -453,7 +488,8 @@ is_command words t = elim t.known [
   | inr (inr (inr (inl is))) ↦ let f = t.simulate (sym is) in inr (inr (inr (inl (f.0, f.2))))
   | inr (inr (inr (inr (inl is)))) ↦ let f = t.find (sym is) in inr (inr (inr (inr (inl (f.0, f.2)))))
   | inr (inr (inr (inr (inr (inl is))))) ↦ inr (inr (inr (inr (inr (inl (t.rows, at_name is))))))
-  | inr (inr (inr (inr (inr (inr is))))) ↦ inr (inr (inr (inr (inr (inr (t.rows, at_name is))))))
+  | inr (inr (inr (inr (inr (inr (inl is)))))) ↦ inr (inr (inr (inr (inr (inr (inl (t.rows, at_name is)))))))
+  | inr (inr (inr (inr (inr (inr (inr is)))))) ↦ inr (inr (inr (inr (inr (inr (inr (t.rows, at_name is)))))))
 ]
   where
     at_name : {name : Text} → name ≡ t.name → subcommand_of command words ≡ Some (name, t.rows)

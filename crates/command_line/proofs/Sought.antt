@@ -1,13 +1,14 @@
--- The values of a check, a search, a judgement or a run in what clap has found.
+-- The values of a check, a search, a judgement, a run or a drawing in what clap has found.
 use Rattle.std.proofs.Common.{◌≡◌, ◌∙◌, ℕ, Option, Some, None, sym, subst, codes}
 use Rattle.clap.specs.Walk.{Text, first_of, rows_of}
 use Rattle.clap.specs.Matches.{first_value}
 use Rattle.clap.specs.declared.parser.matches.Found.{Found}
 use Rattle.clap.proofs.WalkLemmas.{first_value-rows}
 use Rattle.order_search.specs.declared.trials.TryFirst.{TryFirst}
+use Rattle.command_line.specs.declared.asking.DrawOptions.{DrawOptions}
 use Rattle.command_line.specs.declared.asking.RunOptions.{RunOptions}
 use Rattle.command_line.specs.Limits.{max_workers}
-use Rattle.command_line.specs.Words.{AreRunOptions, AreSteps, HasCheck, HasJudge, HasNoCheck, HasNoJudge, HasNoRefute, HasNoRun, HasNoSearch, HasRefute, HasSearch, IsFirst, IsNumber}
+use Rattle.command_line.specs.Words.{AreDrawOptions, AreRunOptions, AreSteps, HasCheck, HasDraw, HasJudge, HasNoCheck, HasNoDraw, HasNoJudge, HasNoRefute, HasNoRun, HasNoSearch, HasRefute, HasSearch, IsFirst, IsNumber}
 
 absent : {X : Type 0} {o p : Option X} {x : X} → o ≡ None → o ≡ p → p ≡ Some x → ⊥
 absent e f g = cc
@@ -70,3 +71,19 @@ module _ (inner : Found) where
 
   pub no_run : ((o : RunOptions) → AreRunOptions (first_value inner) o → ⊥) → HasNoRun (rows_of inner)
   no_run none o h = none o (subst (λ (value : Text → Option Text). AreRunOptions value o) (sym values_are) h)
+
+  -- ---- a drawing
+
+  pub no_drawn_file : first_value inner (codes "HISTORY") ≡ None → HasNoDraw (rows_of inner)
+  no_drawn_file e h c o v = absent e (first_value-rows inner (codes "HISTORY")) v.history_first
+
+  pub no_draw : ((o : DrawOptions) → AreDrawOptions (first_value inner) o → ⊥) → HasNoDraw (rows_of inner)
+  no_draw none h c o v = none o (subst (λ (value : Text → Option Text). AreDrawOptions value o) (sym values_are) v.options)
+
+  pub has_draw : (h : Text) (c : Option Text) (o : DrawOptions) → first_value inner (codes "HISTORY") ≡ Some h → first_value inner (codes "CERTS") ≡ c
+      → AreDrawOptions (first_value inner) o → HasDraw (rows_of inner) h c o
+  has_draw h c o e f w = record {
+    history_first = sym (first_value-rows inner (codes "HISTORY")) ∙ e;
+    certs_first = sym (first_value-rows inner (codes "CERTS")) ∙ f;
+    options = subst (λ (value : Text → Option Text). AreDrawOptions value o) values_are w;
+  }

@@ -13,6 +13,10 @@ max_steps = 1000000000
 abbrev pub default_steps : ℕ
 default_steps = 1000000
 
+-- the greatest number of an object or a map
+abbrev pub max_number : ℕ
+max_number = 4294967295
+
 -- the objects, clients and calls of each client that a run may be asked to have at most, and its
 -- greatest seed
 abbrev pub max_objects : ℕ

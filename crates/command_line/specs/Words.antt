@@ -1,6 +1,6 @@
 -- What the words of a command line ask for.
 use Rattle.std.specs.Prelude.{◌≡◌, ◌≢◌, ◌⊎◌, ◌≤◌, ◌∷◌, [], ⊤, ℕ, ℤ, pos, List, true, codes, Option}
-use Rattle.std.specs.Prelude.{Some, None, IfSome, if◌then◌else◌}
+use Rattle.std.specs.Prelude.{Some, None, IfSome, if◌then◌else◌, option_map}
 use Rattle.std.specs.Str.{bytes_eq}
 use Rattle.std.specs.String.{string_bytes}
 use Rattle.clap.specs.Faults.{fault_of}
@@ -21,11 +21,13 @@ use Rattle.seq_objects.specs.declared.kinds.Kinds.TheVariants.{One}
 use Rattle.model.specs.declared.Kind.TheVariants.{Queue}
 use Rattle.seq_objects.specs.Kinds.{kinds_named}
 use Rattle.command_line.specs.Limits.{default_calls, default_clients, default_steps, max_calls}
-use Rattle.command_line.specs.Limits.{max_clients, max_objects, max_seed, max_steps, max_workers}
+use Rattle.command_line.specs.Limits.{max_clients, max_number, max_objects, max_seed, max_steps}
+use Rattle.command_line.specs.Limits.{max_workers}
+use Rattle.command_line.specs.declared.asking.DrawOptions.{DrawOptions}
 use Rattle.command_line.specs.declared.asking.RunOptions.{RunOptions}
 use Rattle.command_line.specs.declared.asking.Line.{Line}
 use Rattle.command_line.specs.declared.asking.Line.TheVariants.{Check, Search, Find, Judge, Run}
-use Rattle.command_line.specs.declared.asking.Line.TheVariants.{Refute, Simulate}
+use Rattle.command_line.specs.declared.asking.Line.TheVariants.{Refute, Draw, Simulate}
 use Rattle.command_line.specs.declared.asking.LineFault.{LineFault}
 use Rattle.command_line.specs.declared.asking.LineFault.TheVariants.{Help, Refused, NoMemory}
 
@@ -64,6 +66,21 @@ abbrev pub refute_command : App
 refute_command =
     with_rule (with_rule (on_history (codes "refute")) (required (codes "REASONS"))) steps_rule
 
+-- a drawing with its files
+abbrev pub draw_files : App
+draw_files = with_rule (on_history (codes "draw")) (new_rule (codes "CERTS"))
+
+abbrev pub chosen_rule : Text → Rule
+chosen_rule name = number_rule name (pos 0) (pos max_number)
+
+-- the same with an object and a number of steps
+abbrev pub draw_object : App
+draw_object = with_rule (with_rule draw_files (chosen_rule (codes "object"))) steps_rule
+
+abbrev pub draw_command : App
+draw_command =
+    with_rule (with_rule draw_object (chosen_rule (codes "from"))) (chosen_rule (codes "to"))
+
 abbrev pub kind_rule : Rule
 kind_rule = record (new_rule (codes "kind")) { long = Some (codes "kind") }
 
@@ -95,7 +112,9 @@ judging_commands =
     judge_command.top) check.top) search_command.top) find_command.top) refute_command.top
 
 abbrev pub command : App
-command = with_subcommand (with_subcommand judging_commands run.top) simulate_command.top
+command =
+    with_subcommand (with_subcommand (with_subcommand judging_commands draw_command.top) run.top)
+    simulate_command.top
 
 -- ---- the words of a command
 
@@ -220,6 +239,33 @@ pub record IsRefuteFound (m : Option (Text × List Row)) (history reasons : Text
   pub entered : m ≡ Some (codes "refute", rows)
   pub values : HasRefute rows history reasons steps
 
+-- a number that is given, at most the greatest; none where none is
+abbrev pub IsChosen : Option Text → Option ℕ → Type 0
+IsChosen None o = o ≡ None
+IsChosen (Some t) None = ⊥
+IsChosen (Some t) (Some n) = IsNumber 0 max_number 0 (Some t) n
+
+-- this is what a drawing is asked to be of, by the options' values
+pub record AreDrawOptions (value : Text → Option Text) (o : DrawOptions) : Type 0 where
+  pub object : IsChosen (value (codes "object")) o.object
+  pub from : IsChosen (value (codes "from")) o.from
+  pub to : IsChosen (value (codes "to")) o.to
+  pub steps : AreSteps (value (codes "steps")) o.steps
+
+-- these are the values of a drawing
+pub record HasDraw (rows : List Row) (history : Text) (certs : Option Text) (o : DrawOptions)
+    : Type 0 where
+  pub history_first : first_of (codes "HISTORY") rows ≡ Some history
+  pub certs_first : first_of (codes "CERTS") rows ≡ certs
+  pub options : AreDrawOptions (λ id. first_of id rows) o
+
+-- The parse has found `draw`, with these values.
+pub record IsDrawFound (m : Option (Text × List Row)) (history : Text) (certs : Option Text)
+    (o : DrawOptions) : Type 0 where
+  pub rows : List Row
+  pub entered : m ≡ Some (codes "draw", rows)
+  pub values : HasDraw rows history certs o
+
 abbrev pub AskFor : List Text → Line → Type 0
 AskFor words (Check history certs workers) =
     AskToCheck words (string_bytes history) (string_bytes certs) workers
@@ -230,6 +276,9 @@ AskFor words (Judge history steps) =
     IsJudgeFound (subcommand_of command words) (string_bytes history) steps
 AskFor words (Refute history reasons steps) =
     IsRefuteFound (subcommand_of command words) (string_bytes history) (string_bytes reasons) steps
+AskFor words (Draw history certs options) =
+    IsDrawFound (subcommand_of command words) (string_bytes history) (option_map string_bytes certs)
+    options
 AskFor words (Run options) = IsRunFound (subcommand_of command words) options
 AskFor words (Simulate schedule) = AskToSimulate words (string_bytes schedule)
 
@@ -277,6 +326,22 @@ pub record IsPlainRefute (words : List Text) : Type 0 where
   pub history_plain : IsPlain history
   pub reasons_plain : IsPlain reasons
 
+-- the program's name, `draw` and the name of a file
+pub record IsPlainDraw (words : List Text) : Type 0 where
+  pub program : Text
+  pub history : Text
+  pub said : words ≡ program ∷ codes "draw" ∷ history ∷ []
+  pub history_plain : IsPlain history
+
+-- the program's name, `draw` and the names of two files
+pub record IsPlainCheckedDraw (words : List Text) : Type 0 where
+  pub program : Text
+  pub history : Text
+  pub certs : Text
+  pub said : words ≡ program ∷ codes "draw" ∷ history ∷ certs ∷ []
+  pub history_plain : IsPlain history
+  pub certs_plain : IsPlain certs
+
 -- the program's name and `run`
 pub record IsPlainRun (words : List Text) : Type 0 where
   pub program : Text
@@ -321,7 +386,7 @@ abbrev pub IsCommand : Option (Text × List Row) → Type 0
 IsCommand m =
     IsEntered (codes "check") m ⊎ IsEntered (codes "search") m ⊎ IsEntered (codes "run") m
     ⊎ IsSimulateEntered m ⊎ IsFindEntered m ⊎ IsEntered (codes "judge") m
-    ⊎ IsEntered (codes "refute") m
+    ⊎ IsEntered (codes "refute") m ⊎ IsEntered (codes "draw") m
 
 abbrev pub FindsCheck : List Row → Line → Type 0
 FindsCheck rows (Check history certs workers) =
@@ -330,6 +395,7 @@ FindsCheck rows (Search history steps first) = ⊥
 FindsCheck rows (Find history) = ⊥
 FindsCheck rows (Judge history steps) = ⊥
 FindsCheck rows (Refute history reasons steps) = ⊥
+FindsCheck rows (Draw history certs options) = ⊥
 FindsCheck rows (Run options) = ⊥
 FindsCheck rows (Simulate schedule) = ⊥
 
@@ -339,6 +405,7 @@ FindsSearch rows (Search history steps first) = HasSearch rows (string_bytes his
 FindsSearch rows (Find history) = ⊥
 FindsSearch rows (Judge history steps) = ⊥
 FindsSearch rows (Refute history reasons steps) = ⊥
+FindsSearch rows (Draw history certs options) = ⊥
 FindsSearch rows (Run options) = ⊥
 FindsSearch rows (Simulate schedule) = ⊥
 
@@ -348,6 +415,7 @@ FindsJudge rows (Search history steps first) = ⊥
 FindsJudge rows (Find history) = ⊥
 FindsJudge rows (Judge history steps) = HasJudge rows (string_bytes history) steps
 FindsJudge rows (Refute history reasons steps) = ⊥
+FindsJudge rows (Draw history certs options) = ⊥
 FindsJudge rows (Run options) = ⊥
 FindsJudge rows (Simulate schedule) = ⊥
 
@@ -358,8 +426,20 @@ FindsRefute rows (Find history) = ⊥
 FindsRefute rows (Judge history steps) = ⊥
 FindsRefute rows (Refute history reasons steps) =
     HasRefute rows (string_bytes history) (string_bytes reasons) steps
+FindsRefute rows (Draw history certs options) = ⊥
 FindsRefute rows (Run options) = ⊥
 FindsRefute rows (Simulate schedule) = ⊥
+
+abbrev pub FindsDraw : List Row → Line → Type 0
+FindsDraw rows (Check history certs workers) = ⊥
+FindsDraw rows (Search history steps first) = ⊥
+FindsDraw rows (Find history) = ⊥
+FindsDraw rows (Judge history steps) = ⊥
+FindsDraw rows (Refute history reasons steps) = ⊥
+FindsDraw rows (Draw history certs options) =
+    HasDraw rows (string_bytes history) (option_map string_bytes certs) options
+FindsDraw rows (Run options) = ⊥
+FindsDraw rows (Simulate schedule) = ⊥
 
 abbrev pub FindsRun : List Row → Line → Type 0
 FindsRun rows (Check history certs workers) = ⊥
@@ -367,6 +447,7 @@ FindsRun rows (Search history steps first) = ⊥
 FindsRun rows (Find history) = ⊥
 FindsRun rows (Judge history steps) = ⊥
 FindsRun rows (Refute history reasons steps) = ⊥
+FindsRun rows (Draw history certs options) = ⊥
 FindsRun rows (Run options) = AreRunOptions (λ id. first_of id rows) options
 FindsRun rows (Simulate schedule) = ⊥
 
@@ -376,6 +457,7 @@ FindsSchedule rows (Search history steps first) = ⊥
 FindsSchedule rows (Find history) = ⊥
 FindsSchedule rows (Judge history steps) = ⊥
 FindsSchedule rows (Refute history reasons steps) = ⊥
+FindsSchedule rows (Draw history certs options) = ⊥
 FindsSchedule rows (Run options) = ⊥
 FindsSchedule rows (Simulate schedule) =
     first_of (codes "SCHEDULE") rows ≡ Some (string_bytes schedule)
@@ -386,6 +468,7 @@ FindsHistory rows (Search history steps first) = ⊥
 FindsHistory rows (Find history) = first_of (codes "HISTORY") rows ≡ Some (string_bytes history)
 FindsHistory rows (Judge history steps) = ⊥
 FindsHistory rows (Refute history reasons steps) = ⊥
+FindsHistory rows (Draw history certs options) = ⊥
 FindsHistory rows (Run options) = ⊥
 FindsHistory rows (Simulate schedule) = ⊥
 
@@ -397,6 +480,8 @@ Finds m (Find history) = IsHistoryFound m (string_bytes history)
 Finds m (Judge history steps) = IsJudgeFound m (string_bytes history) steps
 Finds m (Refute history reasons steps) =
     IsRefuteFound m (string_bytes history) (string_bytes reasons) steps
+Finds m (Draw history certs options) =
+    IsDrawFound m (string_bytes history) (option_map string_bytes certs) options
 Finds m (Run options) = IsRunFound m options
 Finds m (Simulate schedule) = IsScheduleFound m (string_bytes schedule)
 
@@ -430,6 +515,11 @@ abbrev pub HasNoRefute : List Row → Type 0
 HasNoRefute rows =
     (history reasons : Text) (steps : ℕ) → HasRefute rows history reasons steps → ⊥
 
+-- the rows of a drawing name no file, or some number outside its bounds
+abbrev pub HasNoDraw : List Row → Type 0
+HasNoDraw rows =
+    (history : Text) (certs : Option Text) (o : DrawOptions) → HasDraw rows history certs o → ⊥
+
 -- the rows of a run name no kinds, or some number outside its bounds
 abbrev pub HasNoRun : List Row → Type 0
 HasNoRun rows = (o : RunOptions) → AreRunOptions (λ id. first_of id rows) o → ⊥
@@ -449,15 +539,17 @@ pub record LacksFor (name : Text) (HasNone : List Row → Type 0) (m : Option (T
   pub none : HasNone rows
   pub refused : IsRefused f
 
--- the parse has found a search, a run, a check, a judgement or a refutation without its values
+-- the parse has found a search, a run, a check, a judgement, a refutation or a drawing without its
+-- values
 abbrev pub Lacks : Option (Text × List Row) → LineFault → Type 0
 Lacks m f =
     LacksFor (codes "search") HasNoSearch m f ⊎ LacksFor (codes "run") HasNoRun m f
     ⊎ LacksFor (codes "check") HasNoCheck m f ⊎ LacksFor (codes "judge") HasNoJudge m f
-    ⊎ LacksFor (codes "refute") HasNoRefute m f
+    ⊎ LacksFor (codes "refute") HasNoRefute m f ⊎ LacksFor (codes "draw") HasNoDraw m f
 
 -- The fault is an allocation failure, or clap refuses the words with an error of a kind for which
--- it is, or it finds a search, a run, a check, a judgement or a refutation without its values.
+-- it is, or it finds a search, a run, a check, a judgement, a refutation or a drawing without its
+-- values.
 abbrev pub IsFault : List Text → LineFault → Type 0
 IsFault words f =
     (f ≡ NoMemory) ⊎ ((k : ErrorKind) × IsAmong k (fault_of command words) × IsFor k f)

@@ -26,6 +26,19 @@ pub struct RunOptions {
     ghost few_calls: { calls ≤ max_calls },
 }
 
+/// What of a history is to be drawn, and how it is judged.
+#[derive(Clone, Copy, Debug, PartialEq, Eq)]
+pub struct DrawOptions {
+    /// The one object that is to be drawn.
+    pub object: Option<u32>,
+    /// The first map of the stretch that is to be drawn.
+    pub from: Option<u32>,
+    /// The map after that stretch.
+    pub to: Option<u32>,
+    /// The most steps of a search for each object, where no certificates are given.
+    pub steps: u32,
+}
+
 /// What the words ask for.
 #[derive(Debug, PartialEq, Eq, Drop)]
 pub enum Line {
@@ -59,6 +72,13 @@ pub enum Line {
         history: String,
         reasons: String,
         steps: u32,
+    },
+    /// To draw the history in a file with the certificates in another, by which it is checked, or
+    /// else with what a judgement of it finds.
+    Draw {
+        history: String,
+        certs: Option<String>,
+        options: DrawOptions,
     },
     /// To run clients, and to judge what they did.
     Run(RunOptions),

@@ -1,7 +1,7 @@
 //! The command line.
 
 ghost use Rattle.std.specs.Prelude.{◌≡◌, ◌≢◌, ◌≤◌, ℕ, List, [], Some, IsSome, IfOk, IfErr, IfSome};
-ghost use Rattle.std.specs.Prelude.{IfNone, false, map, codes};
+ghost use Rattle.std.specs.Prelude.{IfNone, Option, false, map, option_map, codes};
 ghost use Rattle.clap.specs.Faults.{fault_of};
 ghost use Rattle.clap.specs.Words.{app_of, first_value, found_of, kind_of, rows_of, rule_of};
 ghost use Rattle.clap.specs.Words.{subcommand_rows_of};
@@ -10,10 +10,11 @@ ghost use Rattle.clap.specs.Walk.{first_of};
 ghost use Rattle.std.specs.String.{string_bytes};
 ghost use Rattle.order_search.specs.declared.trials.TryFirst.{TryFirst};
 ghost use Rattle.seq_objects.specs.declared.kinds.Kinds.{Kinds};
+ghost use Rattle.command_line.specs.declared.asking.DrawOptions.{DrawOptions};
 ghost use Rattle.command_line.specs.declared.asking.RunOptions.{RunOptions};
 ghost use Rattle.command_line.specs.Words as spec;
 
-use crate::asking::{Line, LineFault, RunOptions};
+use crate::asking::{DrawOptions, Line, LineFault, RunOptions};
 use clap::builder::ValueParser;
 use clap::error::ErrorKind;
 use clap::{Arg, ArgMatches, Command, Error, value_parser};
@@ -28,6 +29,9 @@ const DEFAULT_STEPS: u64 = 1_000_000;
 
 /// The most steps of a search.
 const MAX_STEPS: u64 = 1_000_000_000;
+
+/// The greatest number of an object or a map.
+const MAX_NUMBER: u64 = 4_294_967_295;
 
 /// The most workers of a check.
 const MAX_WORKERS: u64 = 16;
@@ -67,6 +71,11 @@ const NO_JUDGEMENT: &str =
 /// this.
 const NO_REFUTATION: &str =
     "error: a refutation has not two files, or no number of steps from 0 to 1000000000\n";
+
+/// Said of a drawing that lacks a value, or has one outside its bounds. clap never lets it come to
+/// this.
+const NO_DRAWING: &str =
+    "error: a drawing has no file, or a number that is not from 0 to 4294967295\n";
 
 /// Said of a check that lacks a value. Of its files clap never lets it come to this.
 const NO_CHECK: &str = "error: a check has not two files, or no number of workers from 1 to 16\n";
@@ -147,6 +156,62 @@ fn refute_command<'a>(alloc: Global) -> Result<Command<'a>, AllocError>
     )?
     .arg(reasons)?
     .arg(steps)
+}
+
+/// `draw` with its files.
+fn draw_files<'a>(alloc: Global) -> Result<Command<'a>, AllocError>
+    ensures shape { IfOk result (λ c. app_of c ≡ spec.draw_files) }
+    ensures globals { IfOk result (λ c. (fields_of c).has_globals ≡ false) }
+{
+    let certs = Arg::new(alloc, "CERTS").help(
+        "a file of certificates, by which the history is checked; without it, it is judged",
+    );
+    history_command(
+        alloc,
+        "draw",
+        "draws a history, its order, and what is wrong, as a page",
+    )?
+    .arg(certs)
+}
+
+/// The same with the object that is drawn, and the most steps of a search.
+fn draw_object<'a>(alloc: Global) -> Result<Command<'a>, AllocError>
+    ensures shape { IfOk result (λ c. app_of c ≡ spec.draw_object) }
+    ensures globals { IfOk result (λ c. (fields_of c).has_globals ≡ false) }
+{
+    let object = number_option(
+        alloc,
+        "object",
+        "draws this object alone",
+        0,
+        MAX_NUMBER as i64,
+    );
+    let steps = steps_option(
+        alloc,
+        "the most steps for each object that is searched, 0 to 1000000000, else 1000000",
+    );
+    draw_files(alloc)?.arg(object)?.arg(steps)
+}
+
+fn draw_command<'a>(alloc: Global) -> Result<Command<'a>, AllocError>
+    ensures shape { IfOk result (λ c. app_of c ≡ spec.draw_command) }
+    ensures globals { IfOk result (λ c. (fields_of c).has_globals ≡ false) }
+{
+    let from = number_option(
+        alloc,
+        "from",
+        "draws events from this map on",
+        0,
+        MAX_NUMBER as i64,
+    );
+    let to = number_option(
+        alloc,
+        "to",
+        "draws events before this map",
+        0,
+        MAX_NUMBER as i64,
+    );
+    draw_object(alloc)?.arg(from)?.arg(to)
 }
 
 fn check_command<'a>(alloc: Global) -> Result<Command<'a>, AllocError>
@@ -277,9 +342,11 @@ fn judging_commands<'a>(alloc: Global) -> Result<Command<'a>, AllocError>
 fn command<'a>(alloc: Global) -> Result<Command<'a>, AllocError>
     ensures { IfOk result (λ c. app_of c ≡ spec.command) }
 {
+    let draw = draw_command(alloc)?;
     let run = run_command(alloc)?;
     let simulate = simulate_command(alloc)?;
     judging_commands(alloc)?
+        .subcommand(draw)?
         .subcommand(run)?
         .subcommand(simulate)
 }
@@ -465,6 +532,77 @@ fn refute_found(alloc: Global, matches: &ArgMatches<'_>) -> Result<Line, LineFau
     })
 }
 
+/// The value of an option that is a number, if it is given.
+fn chosen_in(matches: &ArgMatches<'_>, name: &str) -> Option<Option<u32>>
+    ensures some { IfSome result (spec.IsChosen
+        (first_value (found_of matches.now) name.now)) }
+    ensures none { IfNone result ((n : Option ℕ) →
+        spec.IsChosen (first_value (found_of matches.now) name.now) n → ⊥) }
+{
+    match matches.get_str(name) {
+        None => Some(None),
+        Some(_) => match number_in(matches, name, 0, MAX_NUMBER, 0) {
+            Some(number) => Some(Some(number as u32)),
+            None => None,
+        },
+    }
+}
+
+/// What of a history is to be drawn.
+fn draw_options_in(matches: &ArgMatches<'_>) -> Option<DrawOptions>
+    ensures some { IfSome result (spec.AreDrawOptions (first_value (found_of matches.now))) }
+    ensures none { IfNone result ((o : DrawOptions) →
+        spec.AreDrawOptions (first_value (found_of matches.now)) o → ⊥) }
+{
+    let object = chosen_in(matches, "object")?;
+    let from = chosen_in(matches, "from")?;
+    let to = chosen_in(matches, "to")?;
+    let steps = number_in(matches, "steps", 0, MAX_STEPS, DEFAULT_STEPS)?;
+    Some(DrawOptions {
+        object,
+        from,
+        to,
+        steps: steps as u32,
+    })
+}
+
+/// The value of an argument, if it has one.
+fn given_value(
+    alloc: Global,
+    matches: &ArgMatches<'_>,
+    name: &str,
+) -> Result<Option<String>, AllocError>
+    ensures { IfOk result (λ v. first_value (found_of matches.now) name.now
+        ≡ option_map string_bytes v) }
+{
+    match matches.get_str(name) {
+        None => Ok(None),
+        Some(text) => Ok(Some(String::from_str(alloc, text)?)),
+    }
+}
+
+/// The drawing whose matches these are. Of its numbers clap lets none come here that is outside its
+/// bounds.
+fn draw_found(alloc: Global, matches: &ArgMatches<'_>) -> Result<Line, LineFault>
+    ensures found { IfOk result (spec.FindsDraw (rows_of (found_of matches.now))) }
+    ensures lacks { IfErr result (λ f. f ≢ LineFault.NoMemory →
+        spec.IsRefused f × spec.HasNoDraw (rows_of (found_of matches.now))) }
+{
+    let Some(history) = matches.get_str("HISTORY") else {
+        return Err(refusal(alloc, NO_DRAWING));
+    };
+    let Some(options) = draw_options_in(matches) else {
+        return Err(refusal(alloc, NO_DRAWING));
+    };
+    let history = String::from_str(alloc, history)?;
+    let certs = given_value(alloc, matches, "CERTS")?;
+    Ok(Line::Draw {
+        history,
+        certs,
+        options,
+    })
+}
+
 /// The kinds that a run is to have.
 fn kinds_in(matches: &ArgMatches<'_>) -> Option<Kinds>
     ensures some { IfSome result (spec.IsKinds
@@ -544,6 +682,9 @@ fn line_of(alloc: Global, matches: &ArgMatches<'_>) -> Result<Line, LineFault>
     if let Some(refute) = matches.subcommand_matches("refute") {
         return refute_found(alloc, refute);
     }
+    if let Some(draw) = matches.subcommand_matches("draw") {
+        return draw_found(alloc, draw);
+    }
     match matches.subcommand_matches("run") {
         Some(run) => run_found(alloc, run),
         None => unreachable!(),
@@ -564,6 +705,10 @@ pub fn line<S: AsStr>(alloc: Global, words: &[S]) -> Result<Line, LineFault>
     ensures judges { spec.IsPlainJudge (map S.text words.now) →
         IfErr result (λ e. e ≡ LineFault.NoMemory) }
     ensures refutes { spec.IsPlainRefute (map S.text words.now) →
+        IfErr result (λ e. e ≡ LineFault.NoMemory) }
+    ensures draws { spec.IsPlainDraw (map S.text words.now) →
+        IfErr result (λ e. e ≡ LineFault.NoMemory) }
+    ensures draws_checked { spec.IsPlainCheckedDraw (map S.text words.now) →
         IfErr result (λ e. e ≡ LineFault.NoMemory) }
     ensures runs { spec.IsPlainRun (map S.text words.now) →
         IfErr result (λ e. e ≡ LineFault.NoMemory) }

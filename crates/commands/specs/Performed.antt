@@ -1,8 +1,9 @@
 -- What the program does for each command line.
-use Rattle.std.specs.Prelude.{ℕ, List}
+use Rattle.std.specs.Prelude.{ℕ, List, Some, None}
 use Rattle.command_line.specs.declared.asking.Line.{Line}
 use Rattle.command_line.specs.declared.asking.Line.TheVariants.{Check, Search, Find, Judge, Run}
-use Rattle.command_line.specs.declared.asking.Line.TheVariants.{Refute, Simulate}
+use Rattle.command_line.specs.declared.asking.Line.TheVariants.{Refute, Draw, Simulate}
+use Rattle.drawing_commands.specs.Drawings.{IsCheckedDrawing, IsDrawing}
 use Rattle.outputs.specs.Checked.{IsCheck}
 use Rattle.history_commands.specs.Findings.{IsFind}
 use Rattle.history_commands.specs.Judged.{IsJudgement}
@@ -20,5 +21,9 @@ IsPerformed (Find history) first second status out = IsFind first status out
 IsPerformed (Judge history steps) first second status out = IsJudgement first steps status out
 IsPerformed (Refute history reasons steps) first second status out =
     IsRefute first second steps status out
+IsPerformed (Draw history None options) first second status out =
+    IsDrawing first options.steps status out
+IsPerformed (Draw history (Some certs) options) first second status out =
+    IsCheckedDrawing first second status out
 IsPerformed (Run options) first second status out = IsRun options status out
 IsPerformed (Simulate schedule) first second status out = IsSimulation first status out

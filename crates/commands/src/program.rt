@@ -4,6 +4,7 @@ ghost use Rattle.std.specs.Prelude.{◌≡◌, false};
 ghost use Rattle.outputs.specs.Outputs.{Leaves};
 ghost use Rattle.commands.specs.Performed.{IsPerformed};
 
+use crate::drawing::{Names, draw_checked, draw_judged};
 use crate::running::report_run;
 use crate::simulating::report_simulation;
 use command_line::Line;
@@ -49,6 +50,22 @@ pub fn perform<R: Threads + Wait + Sync, S: Sink>(
             reasons: _,
             steps,
         } => report_refutation(alloc, first, second, *steps, sink),
+        Line::Draw {
+            history,
+            certs: None,
+            options,
+        } => draw_judged(alloc, history, *options, first, sink),
+        Line::Draw {
+            history,
+            certs: Some(certificates),
+            options,
+        } => {
+            let names = Names {
+                history,
+                certificates,
+            };
+            draw_checked(alloc, names, *options, first, second, sink)
+        }
         Line::Run(options) => report_run(rt, alloc, *options, sink),
         Line::Simulate { .. } => report_simulation(alloc, first, sink),
     }

@@ -90,6 +90,17 @@ pub struct Arrow {
     pub later: Operation,
 }
 
+/// The faulty map of a text that is no history: its number, the number of the fault after the
+/// letter H, and its type and function as words.
+#[derive(Debug, Drop)]
+pub struct Cross {
+    pub number: u32,
+    pub fault: u8,
+    pub x: u32,
+    pub y: u32,
+    pub label: String,
+}
+
 /// A line of a figure. The ranks of its points rise from left to right, and each point, except one
 /// that is refused, is within the bar of its operation.
 #[derive(Debug, Drop)]
@@ -103,6 +114,7 @@ pub struct Line {
     pub bars: Vec<Bar>,
     pub points: Vec<Point>,
     pub arrows: Vec<Arrow>,
+    pub crosses: Vec<Cross>,
     pub ghost sound: { ∥ AreSound bars.items points.items ∥₁ },
 }
 

@@ -6,6 +6,7 @@
 mod boxes;
 mod columns;
 mod content;
+mod faulty;
 mod figure;
 mod labels;
 mod lines;
@@ -28,7 +29,8 @@ mod tried;
 mod window;
 
 pub use boxes::{BoxKind, ContentBox};
-pub use figure::{Arrow, Bar, Figure, Gap, Lane, Line, Mark, NemesisMark, Tick};
+pub use faulty::{Faulty, FaultyDrawing, draw_up_to};
+pub use figure::{Arrow, Bar, Cross, Figure, Gap, Lane, Line, Mark, NemesisMark, Tick};
 pub use labels::{count_text, label, value_text};
 pub use memory::Memory;
 pub use moments::Nemesis;
@@ -40,5 +42,6 @@ pub use objects::{
 pub use operations::{Operation, Role, State, operations_of};
 pub use orders::{Entry, Row};
 pub use points::{Point, sound_points};
+pub use scene::FaultyMap;
 pub use spans::Span;
 pub use tried::{Attempt, Failure, Tried};

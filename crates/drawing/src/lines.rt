@@ -1,8 +1,8 @@
 //! The lines of a figure.
 
 use crate::columns::{What, columns_of};
-use crate::figure::{Arrow, Bar, Figure, Lane, Line, NemesisMark};
-use crate::labels::fit;
+use crate::figure::{Arrow, Bar, Cross, Figure, Lane, Line, NemesisMark};
+use crate::labels::{characters, fit};
 use crate::memory::Memory;
 use crate::numbers::{
     CHARACTER, HEIGHT, HEIGHT_WITH_POINTS, LANE_GAP, LEFT, NEMESIS_HEIGHT, SMALL, TOP,
@@ -53,6 +53,11 @@ fn processes_of(
                     memory.note(processes.insert(point.operation.process));
                 }
             }
+        }
+    }
+    if let Some(process) = scene.faulty.and_then(|faulty| faulty.process) {
+        if line == layout.last_line() {
+            memory.note(processes.insert(process));
         }
     }
     processes
@@ -123,7 +128,7 @@ impl Sheet {
 
     fn bar(&self, memory: &Memory, scene: &Scene<'_>, layout: &Layout, segment: &Segment) -> Bar {
         let operation = segment.operation;
-        let (text, _) = label_of(memory, &operation);
+        let (text, _) = label_of(memory, scene, &operation);
         let room = segment.to.saturating_sub(segment.from).saturating_sub(8) / CHARACTER;
         let info = match (operation.closed(), operation.ended) {
             (None, Some(number)) => layout.event(number),
@@ -227,6 +232,23 @@ impl Sheet {
         arrows
     }
 
+    /// The faulty map, where it is in the line.
+    fn cross(&self, memory: &Memory, scene: &Scene<'_>, layout: &Layout) -> Option<Cross> {
+        let faulty = scene.faulty?;
+        let spot = layout.event(faulty.number)?;
+        let top = self.tops.get(&faulty.process?).copied()?;
+        if spot.line != self.line {
+            return None;
+        }
+        Some(Cross {
+            number: faulty.number,
+            fault: faulty.fault,
+            x: spot.x.saturating_add(LEFT),
+            y: top.saturating_add(self.height / 2),
+            label: memory.text(String::from_str(memory.alloc, faulty.words)),
+        })
+    }
+
     fn into_line(self, memory: &Memory, scene: &Scene<'_>, layout: &Layout) -> Line {
         let bars = self.bars(memory, scene, layout);
         let points = self.points(memory, scene, layout);
@@ -235,10 +257,16 @@ impl Sheet {
         let ticks = ticks_of(memory, scene, layout, self.line, &gaps);
         let lanes = self.lanes(memory);
         let arrows = self.arrows(memory, scene, layout);
+        let mut width = layout.end_of(self.line).saturating_add(LEFT + 8);
+        let mut crosses = Vec::new(memory.alloc);
+        if let Some(cross) = self.cross(memory, scene, layout) {
+            width = width.max(cross_end(&cross));
+            memory.note(crosses.push(cross));
+        }
         let count = u32::try_from(lanes.len()).unwrap_or(u32::MAX);
         let high = count.saturating_mul(self.height.saturating_add(LANE_GAP));
         Line {
-            width: layout.end_of(self.line).saturating_add(LEFT + 8),
+            width,
             height: high.saturating_add(self.top).saturating_add(6),
             lanes,
             gaps,
@@ -247,8 +275,15 @@ impl Sheet {
             bars,
             points,
             arrows,
+            crosses,
         }
     }
+}
+
+/// How far the words at a cross go.
+fn cross_end(cross: &Cross) -> u32 {
+    let room = characters(&cross.label).saturating_mul(CHARACTER);
+    cross.x.saturating_add(room).saturating_add(24)
 }
 
 /// The figure of the scene.

@@ -1,5 +1,7 @@
 //! Memory for a drawing.
 
+ghost use Rattle.std.specs.Prelude.{◌≡◌, IfOk};
+
 use std::alloc::{AllocError, Global};
 use std::cell::Cell;
 
@@ -49,7 +51,9 @@ impl Memory {
     }
 
     /// What was made, where nothing was refused.
-    pub fn whole<T: Drop>(&self, made: T) -> Result<T, AllocError> {
+    pub fn whole<T: Drop>(&self, made: T) -> Result<T, AllocError>
+        ensures { IfOk result (λ v. v ≡ made) }
+    {
         if self.was_refused.get() {
             return Err(AllocError);
         }

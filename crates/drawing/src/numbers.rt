@@ -33,6 +33,8 @@ pub(crate) const LABEL_LENGTH: usize = 32;
 pub(crate) const WHOLE: usize = 160;
 
 pub(crate) const FIRST: usize = 160;
+/// The same of a text that is no history.
+pub(crate) const WHOLE_BEFORE_FAULT: usize = 40;
 
 pub(crate) const MOST: usize = 400;
 /// The most lanes of a figure.

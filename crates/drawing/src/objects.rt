@@ -1,10 +1,13 @@
 //! The drawing of an object: sentences, figures, and the table of an order.
 
+ghost use Rattle.std.specs.Prelude.{◌≡◌, IfOk};
+
 use crate::boxes::{ContentBox, boxes_of};
 use crate::figure::{Figure, Mark};
 use crate::lines::figure_of;
 use crate::memory::Memory;
 use crate::moments::{Moment, Nemesis, moments_of};
+use crate::numbers::WHOLE;
 use crate::operations::{Operation, State, operation_at, operations_of};
 use crate::orders::{Placed, Row, rows_of, walk_along};
 use crate::scene::{Scene, numbers_of};
@@ -14,7 +17,7 @@ use crate::spans::Span;
 use crate::tried::{Tried, try_orders};
 use crate::window::{choose, narrow};
 use checker::OrderFault;
-use events::{History, Invocation, ObjectHistory};
+use events::{End, History, Invocation, ObjectHistory};
 use seq_objects::Kind;
 use std::alloc::{AllocError, Global};
 use std::collections::{BTreeMap, BTreeSet};
@@ -72,10 +75,13 @@ pub struct ObjectDrawing {
     pub tried: Option<Tried>,
     /// The number at which a reason begins, where that is not the beginning.
     pub from: Option<u32>,
+    /// The operations of a reason that returned, and of which it counts no return: they may have
+    /// taken effect outside of it.
+    pub outside: Vec<Operation>,
 }
 
 /// The numbers of the events of these operations.
-fn focus_events(
+pub(crate) fn focus_events(
     memory: &Memory,
     operations: &[Operation],
     focus: &BTreeMap<u32, Mark>,
@@ -93,7 +99,11 @@ fn focus_events(
 }
 
 /// The numbers of the operations with drawn events.
-fn drawn_numbers(memory: &Memory, operations: &[Operation], moments: &[Moment]) -> BTreeSet<u32> {
+pub(crate) fn drawn_numbers(
+    memory: &Memory,
+    operations: &[Operation],
+    moments: &[Moment],
+) -> BTreeSet<u32> {
     let mut numbers = BTreeSet::new(memory.alloc);
     for moment in moments {
         if moment.is_drawn {
@@ -121,7 +131,7 @@ fn window_of(
 ) -> Window {
     let mut moments = moments_of(memory, operations, subject.nemeses);
     let events = focus_events(memory, operations, focus);
-    choose(memory, &mut moments, &events, subject.stretch);
+    choose(memory, &mut moments, &events, subject.stretch, WHOLE);
     let numbers = numbers_of(memory, focus);
     let (without_lane, processes) = narrow(memory, operations, &mut moments, &numbers);
     let drawn = drawn_numbers(memory, operations, &moments);
@@ -198,6 +208,8 @@ fn figures(
         is_zoom: false,
         dims: !focus.is_empty() && window.drawn.len() > few,
         maps: subject.maps,
+        names_objects: false,
+        faulty: None,
     };
     if explanation
         .zoom_above
@@ -241,7 +253,10 @@ fn draw(
     operations: &[Operation],
     order: Option<&[i64]>,
     explanation: Explanation<'_>,
-) -> ObjectDrawing {
+) -> ObjectDrawing
+    ensures object { result.object ≡ subject.now.object.now.object }
+    ensures kind { result.kind ≡ subject.now.object.now.kind }
+{
     let kind = subject.object.kind();
     let window = window_of(memory, operations, &explanation.focus, subject);
     let refused = explanation.refused;
@@ -285,6 +300,7 @@ fn draw(
         rows,
         tried: None,
         from: None,
+        outside: Vec::new(memory.alloc),
     }
 }
 
@@ -298,7 +314,11 @@ pub fn draw_valid(
     alloc: Global,
     subject: &Subject<'_>,
     order: Option<&[i64]>,
-) -> Result<ObjectDrawing, AllocError> {
+) -> Result<ObjectDrawing, AllocError>
+    // It is of this object.
+    ensures object { IfOk result (λ d. d.object ≡ subject.now.object.now.object) }
+    ensures kind { IfOk result (λ d. d.kind ≡ subject.now.object.now.kind) }
+{
     let memory = Memory::new(alloc);
     let operations = all_operations(&memory, subject);
     let nothing = Explanation::new(&memory, None, None);
@@ -307,7 +327,11 @@ pub fn draw_valid(
 }
 
 /// The drawing of an object that has no certificate.
-pub fn draw_uncertified(alloc: Global, subject: &Subject<'_>) -> Result<ObjectDrawing, AllocError> {
+pub fn draw_uncertified(alloc: Global, subject: &Subject<'_>) -> Result<ObjectDrawing, AllocError>
+    // It is of this object.
+    ensures object { IfOk result (λ d. d.object ≡ subject.now.object.now.object) }
+    ensures kind { IfOk result (λ d. d.kind ≡ subject.now.object.now.kind) }
+{
     let memory = Memory::new(alloc);
     let operations = all_operations(&memory, subject);
     let mut text = Explanation::new(&memory, None, None);
@@ -322,7 +346,11 @@ pub fn draw_refused(
     subject: &Subject<'_>,
     order: &[i64],
     fault: OrderFault,
-) -> Result<ObjectDrawing, AllocError> {
+) -> Result<ObjectDrawing, AllocError>
+    // It is of this object.
+    ensures object { IfOk result (λ d. d.object ≡ subject.now.object.now.object) }
+    ensures kind { IfOk result (λ d. d.kind ≡ subject.now.object.now.kind) }
+{
     let memory = Memory::new(alloc);
     let operations = all_operations(&memory, subject);
     let refused = Refused {
@@ -361,6 +389,20 @@ fn recorded(
     recorded
 }
 
+/// Those of the operations that returned and are pending in the part.
+fn outside_of(memory: &Memory, operations: &[Operation], part: &[Invocation]) -> Vec<Operation> {
+    let mut outside = Vec::new(memory.alloc);
+    for operation in operations {
+        let is_pending = part.iter().any(|invocation| {
+            invocation.number == operation.number() && invocation.end == End::Pending
+        });
+        if is_pending && operation.state() == State::Done {
+            memory.note(outside.push(*operation));
+        }
+    }
+    outside
+}
+
 /// From each of these operations that returned to the next one that was invoked later.
 fn arrows_in(memory: &Memory, operations: &[Operation]) -> Vec<(Operation, Operation)> {
     let mut arrows = Vec::new(memory.alloc);
@@ -391,7 +433,11 @@ pub fn draw_impossible(
     alloc: Global,
     subject: &Subject<'_>,
     part: &Part<'_>,
-) -> Result<ObjectDrawing, AllocError> {
+) -> Result<ObjectDrawing, AllocError>
+    // It is of this object.
+    ensures object { IfOk result (λ d. d.object ≡ subject.now.object.now.object) }
+    ensures kind { IfOk result (λ d. d.kind ≡ subject.now.object.now.kind) }
+{
     let memory = Memory::new(alloc);
     let operations = all_operations(&memory, subject);
     let ops = part.part.ops();
@@ -414,6 +460,7 @@ pub fn draw_impossible(
     let impossible = impossible(&memory, subject.object);
     memory.note(drawing.sentences.push(impossible));
     memory.note(drawing.sentences.push(sentence));
+    drawing.outside = outside_of(&memory, &named, ops);
     drawing.tried = Some(tried);
     drawing.from = part.from;
     memory.whole(drawing)

@@ -30,11 +30,12 @@ pub enum Role {
     Swap,
 }
 
-/// An operation of an object, its process, and the number of its completion; none where it has
-/// none.
+/// An operation of an object, its object and process, and the number of its completion; none where
+/// it has none.
 #[derive(Clone, Copy, Debug, PartialEq, Eq)]
 pub struct Operation {
     pub invocation: Invocation,
+    pub object: u32,
     pub process: u64,
     pub ended: Option<u32>,
 }
@@ -121,6 +122,7 @@ fn operation_of(events: &[Event], completions: &[Option<u32>], invocation: &Invo
     let place = events.partition_point(|event| event.number < invocation.number);
     Operation {
         invocation: *invocation,
+        object: events.get(place).map_or(0, |event| event.object),
         process: events.get(place).map_or(0, |event| event.process),
         ended: completions.get(place).copied().flatten(),
     }

@@ -29,7 +29,7 @@ pub(crate) fn labels_of(memory: &Memory, scene: &Scene<'_>) -> BTreeMap<u32, Lab
             continue;
         };
         if moment.is_drawn && !labels.contains_key(&operation.number()) {
-            let (text, room) = label_of(memory, &operation);
+            let (text, room) = label_of(memory, scene, &operation);
             memory.note(labels.insert(operation.number(), Label { text, room }));
         }
     }
@@ -82,24 +82,46 @@ impl Layout {
         None
     }
 
+    /// Where the faulty map begins in this line: after the labels of what is outstanding of its
+    /// process.
+    fn left_of_faulty(&self, scene: &Scene<'_>) -> u32 {
+        let mut left = self.x;
+        for moment in scene.moments {
+            let Some(operation) = scene.operation(moment) else {
+                continue;
+            };
+            let is_outstanding = moment.is_invocation && operation.ended.is_none();
+            if is_outstanding && scene.is_of_faulty(&operation) {
+                left = left.max(self.label_end(&operation));
+            }
+        }
+        left
+    }
+
+    /// The end of the room of the operation's label, where that is in this line, and else 0.
+    fn label_end(&self, operation: &Operation) -> u32 {
+        match self.event(operation.number()) {
+            Some(begin) if begin.line == self.line => begin.x.saturating_add(self.room(operation)),
+            _ => 0,
+        }
+    }
+
     /// Where a column begins in this line: a completion where its bar has room for its label.
     fn left_of(&self, scene: &Scene<'_>, column: &Column) -> u32 {
         let What::Event(moment) = column.what else {
             return self.x;
         };
+        if scene.is_faulty(&moment) {
+            return self.left_of_faulty(scene);
+        }
         let Some(operation) = scene.operation(&moment) else {
             return self.x;
         };
         if moment.is_invocation {
             return self.x;
         }
-        match self.event(operation.number()) {
-            Some(begin) if begin.line == self.line => {
-                let end = begin.x.saturating_add(self.room(&operation));
-                self.x.max(end.saturating_sub(column.width / 2))
-            }
-            _ => self.x,
-        }
+        let end = self.label_end(&operation);
+        self.x.max(end.saturating_sub(column.width / 2))
     }
 
     /// Whether it is the invocation of a focus operation whose label would not fit, in the right

@@ -8,6 +8,7 @@ use crate::numbers::{LABEL_LENGTH, label_room};
 use crate::operations::Operation;
 use crate::orders::Placed;
 use std::collections::{BTreeMap, BTreeSet};
+use std::fmt::Write;
 
 /// The operations of an object, its events with those that are drawn, the points of an order, and
 /// what the sentence speaks of.
@@ -28,6 +29,20 @@ pub(crate) struct Scene<'a> {
     pub(crate) dims: bool,
     /// How many maps the history has.
     pub(crate) maps: u32,
+    /// Whether labels name the object.
+    pub(crate) names_objects: bool,
+    /// The map that is faulty, after all that is drawn.
+    pub(crate) faulty: Option<FaultyMap<'a>>,
+}
+
+/// A map that makes a text no history: its number, the number of the fault after the letter H, its
+/// process if it has one, and its type and function as words.
+#[derive(Clone, Copy, Debug, PartialEq, Eq)]
+pub struct FaultyMap<'a> {
+    pub number: u32,
+    pub fault: u8,
+    pub process: Option<u64>,
+    pub words: &'a str,
 }
 
 impl Scene<'_> {
@@ -45,6 +60,18 @@ impl Scene<'_> {
             .filter(|nemesis| nemesis.number == number)
     }
 
+    /// Whether the event is the faulty map.
+    pub(crate) fn is_faulty(&self, moment: &Moment) -> bool {
+        self.faulty
+            .is_some_and(|faulty| faulty.number == moment.number)
+    }
+
+    /// Whether the faulty map is of the operation's process.
+    pub(crate) fn is_of_faulty(&self, operation: &Operation) -> bool {
+        self.faulty
+            .is_some_and(|faulty| faulty.process == Some(operation.process))
+    }
+
     pub(crate) fn is_focus(&self, operation: &Operation) -> bool {
         self.focus.contains_key(&operation.number())
     }
@@ -59,9 +86,15 @@ impl Scene<'_> {
     }
 }
 
-/// The label of an operation, no longer than the longest, and the room that it needs.
-pub(crate) fn label_of(memory: &Memory, operation: &Operation) -> (String, u32) {
-    let text = fit(memory, &label(memory, operation), LABEL_LENGTH);
+/// The label of an operation, no longer than the longest, and the room that it needs. Where
+/// operations of several objects are drawn, the label ends with the object.
+pub(crate) fn label_of(memory: &Memory, scene: &Scene<'_>, operation: &Operation) -> (String, u32) {
+    let mut text = label(memory, operation);
+    if scene.names_objects {
+        let object = operation.object;
+        memory.note(write!(text, " @{object}"));
+    }
+    let text = fit(memory, &text, LABEL_LENGTH);
     let room = label_room(characters(&text));
     (text, room)
 }

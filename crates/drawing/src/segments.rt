@@ -83,8 +83,26 @@ fn right_end(scene: &Scene<'_>, layout: &Layout, operation: &Operation, left: Ba
     let line = last_line_of(scene, layout, operation, left.line);
     BarEnd {
         line,
-        x: layout.end_of(line),
+        x: pending_end(scene, layout, operation, left.line, line),
         is_open: true,
+    }
+}
+
+/// How far the bar of a pending operation goes that is in lines from one to another: to the faulty
+/// map of its process, or to the end of the last line.
+fn pending_end(
+    scene: &Scene<'_>,
+    layout: &Layout,
+    operation: &Operation,
+    first: usize,
+    last: usize,
+) -> u32 {
+    let faulty = scene.faulty.and_then(|faulty| layout.event(faulty.number));
+    match faulty {
+        Some(spot) if scene.is_of_faulty(operation) && first == last && spot.line == last => {
+            spot.x.saturating_sub(9)
+        }
+        _ => layout.end_of(last),
     }
 }
 

@@ -19,6 +19,8 @@ pub enum Span {
     Operation(Operation),
     /// What the object contains before the entry that is refused.
     Content,
+    /// What a text has at its fault.
+    Quoted,
     /// A certificate of this object, as an example.
     Certificate(u32),
     Command(&'static str),

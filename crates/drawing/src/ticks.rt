@@ -69,9 +69,10 @@ fn bare_ticks(memory: &Memory, scene: &Scene<'_>, layout: &Layout, line: usize) 
                 number: moment.number,
                 x: spot.x.saturating_add(LEFT),
                 is_shown: false,
-                is_focus: scene
-                    .operation(&moment)
-                    .is_some_and(|operation| scene.is_focus(&operation)),
+                is_focus: scene.is_faulty(&moment)
+                    || scene
+                        .operation(&moment)
+                        .is_some_and(|operation| scene.is_focus(&operation)),
             }));
         }
     }

@@ -103,6 +103,7 @@ impl Trying<'_, '_> {
     fn recorded(&self, invocation: &Invocation) -> Operation {
         operation_at(self.operations, i64::from(invocation.number)).unwrap_or(Operation {
             invocation: *invocation,
+            object: 0,
             process: 0,
             ended: None,
         })

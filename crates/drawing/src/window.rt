@@ -2,7 +2,7 @@
 
 use crate::memory::Memory;
 use crate::moments::{Moment, count_drawn, draw_some};
-use crate::numbers::{FIRST, LANES, MOST, WHOLE};
+use crate::numbers::{FIRST, LANES, MOST};
 use crate::objects::Stretch;
 use crate::operations::Operation;
 use std::collections::{BTreeMap, BTreeSet};
@@ -63,17 +63,23 @@ fn draw_no_more(moments: &mut [Moment]) {
     }
 }
 
-/// Draws the events of the window: those of the stretch, if one is given; all, where there are few;
-/// without a focus the first ones; and else what is around the focus, the less of it the more the
-/// focus is.
-pub(crate) fn choose(memory: &Memory, moments: &mut [Moment], focus: &[u32], stretch: Stretch) {
+/// Draws the events of the window: those of the stretch, if one is given; all, where there are no
+/// more than `whole`; without a focus the first ones; and else what is around the focus, the less of
+/// it the more the focus is.
+pub(crate) fn choose(
+    memory: &Memory,
+    moments: &mut [Moment],
+    focus: &[u32],
+    stretch: Stretch,
+    whole: usize,
+) {
     let count = moments.len();
     if stretch.from.is_some() || stretch.to.is_some() {
         let (from, to) = (stretch.from.unwrap_or(0), stretch.to.unwrap_or(u32::MAX));
         let first = moments.partition_point(|moment| moment.number < from);
         let next = moments.partition_point(|moment| moment.number < to);
         draw_some(moments, first, next.saturating_sub(first).min(MOST));
-    } else if count <= WHOLE {
+    } else if count <= whole {
         draw_some(moments, 0, count);
     } else if focus.is_empty() {
         draw_some(moments, 0, FIRST);

@@ -132,6 +132,8 @@ fn page_of(alloc: Global, answer: Answer, drawing: ObjectDrawing) -> Result<Vec<
         lines: "no: C5 object 0: 0 returned before 2 was invoked",
         objects: &[],
         drawings: &drawings,
+        place: None,
+        quoted: "",
     };
     Ok(html_of(alloc, &page)?)
 }

@@ -112,6 +112,16 @@ fn run_line<R: Host>(rt: &R, line: &Line) -> io::Result<u8> {
             reasons,
             ..
         } => run_on_files(rt, line, history, reasons),
+        Line::Draw {
+            history,
+            certs: None,
+            ..
+        } => run_on_file(rt, line, history),
+        Line::Draw {
+            history,
+            certs: Some(certs),
+            ..
+        } => run_on_files(rt, line, history, certs),
         Line::Run(_) => Ok(do_line(rt, line, b"", b"")),
         Line::Simulate { schedule } => run_on_file(rt, line, schedule),
     }

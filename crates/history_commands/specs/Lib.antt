@@ -2,4 +2,5 @@ pub mod Comments
 pub mod Searches
 pub mod Findings
 pub mod Judged
+pub mod JudgedEvents
 pub mod Refuted

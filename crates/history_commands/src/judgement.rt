@@ -1,15 +1,16 @@
 //! The judgement of a history without certificates: they are found, and it is judged by them. Of an
 //! object that has none it is said why.
 
-ghost use Rattle.std.specs.Prelude.{◌≡◌, ◌++◌, false, IfOk, IfErr, OnOk};
+ghost use Rattle.std.specs.Prelude.{◌≡◌, ◌++◌, ℕ, false, IfOk, IfErr, OnOk};
 ghost use Rattle.std.specs.List.{list_all, list_any};
 ghost use Rattle.certificate.specs.Denotes.{AreDistinct};
 ghost use Rattle.checker.specs.Refusals.{AreValid};
 ghost use Rattle.deciding.specs.Decisions.{certificates_in, is_impossible};
 ghost use Rattle.history_commands.specs.Judged as judged;
 ghost use Rattle.history_commands.specs.Judged.{impossible_lines, is_order, judge_status};
-ghost use Rattle.history_commands.specs.Judged.{note_lines, notes_text, AreOpen, IsJudgement};
-ghost use Rattle.history_commands.specs.Judged.{IsOpenText, IsVerdictOn, IsVerdictOnText};
+ghost use Rattle.history_commands.specs.Judged.{note_lines, notes_text, IsJudgement};
+ghost use Rattle.history_commands.specs.Judged.{IsOpenText, IsVerdictOnText};
+ghost use Rattle.history_commands.specs.JudgedEvents.{IsJudged};
 ghost use Rattle.outputs.specs.Outputs.{Leaves};
 
 use crate::searching::{push_note, push_steps};
@@ -165,44 +166,73 @@ fn certificates_of(
     Ok(certificates)
 }
 
-/// The verdict on the certificates that were found, one for each object.
-fn verdict_on_found(alloc: Global, history: &History, answers: Vec<(u32, Decision)>) -> Verdict
+/// The certificates that were found, one for each object, and the verdict on them.
+fn judge_found(alloc: Global, history: &History, answers: Vec<(u32, Decision)>) -> Judgement
     requires distinct { AreDistinct (certificates_in answers.items) }
     requires valid { AreValid history.now (certificates_in answers.items) }
-    ensures { IsVerdictOn history.now result }
+    ensures { (steps : ℕ) → IsJudged history.now steps result }
 {
     match certificates_of(alloc, answers) {
-        Ok(certificates) => verdict_alone(alloc, history, &certificates),
-        Err(AllocError) => Verdict::NoMemory,
+        Ok(certificates) => {
+            let verdict = verdict_alone(alloc, history, &certificates);
+            Judgement::Certified {
+                certificates,
+                verdict,
+            }
+        }
+        Err(AllocError) => Judgement::NoMemory,
     }
 }
 
-/// Finds certificates, and gives the verdict on them as an error, or else what is said of objects
-/// that have none.
-fn judge_events(alloc: Global, history: &History, steps: u32) -> Result<Output, Verdict>
-    ensures notes { IfOk result (λ s. AreOpen history.now steps s.status s.text.items) }
-    ensures judged { IfErr result (IsVerdictOn history.now) }
+/// What the judgement of a history comes to.
+#[derive(Drop)]
+pub enum Judgement {
+    /// A certificate was found for each object: these, and the verdict on them.
+    Certified {
+        certificates: Vec<Certificate>,
+        verdict: Verdict,
+    },
+    /// Some object has none: what was decided of each, and what is put out.
+    Open {
+        answers: Vec<(u32, Decision)>,
+        output: Output,
+    },
+    /// Memory was refused.
+    NoMemory,
+}
+
+/// Finds certificates of the history, and gives them with the verdict on them, or else what is said
+/// of objects that have none. A search takes at most `steps` steps for each object.
+pub fn judge_events(alloc: Global, history: &History, steps: u32) -> Judgement
+    ensures judges { IsJudged history.now steps result }
 {
     let Ok(answers) = decide_all(alloc, history, u64::from(steps)) else {
-        return Err(Verdict::NoMemory);
+        return Judgement::NoMemory;
     };
     if are_all_orders(&answers) {
-        return Err(verdict_on_found(alloc, history, answers));
+        return judge_found(alloc, history, answers);
     }
     match output_of(alloc, history, steps, &answers) {
-        Ok(output) => Ok(output),
-        Err(AllocError) => Err(Verdict::NoMemory),
+        Ok(output) => Judgement::Open { answers, output },
+        Err(AllocError) => Judgement::NoMemory,
     }
 }
 
-/// The same for the history that a text denotes.
+/// What is put out of a history that a text denotes, or the verdict on it.
 #[tactic(auto, using(crate::proofs::Judged::unsearched))]
 fn judge_text(alloc: Global, text: &[u8], steps: u32) -> Result<Output, Verdict>
     ensures notes { IfOk result (λ s. IsOpenText text.now steps s.status s.text.items) }
     ensures judged { IfErr result (IsVerdictOnText text.now) }
 {
     let history = history_of(alloc, text)?;
-    judge_events(alloc, &history, steps)
+    match judge_events(alloc, &history, steps) {
+        Judgement::Certified {
+            certificates: _,
+            verdict,
+        } => Err(verdict),
+        Judgement::Open { answers: _, output } => Ok(output),
+        Judgement::NoMemory => Err(Verdict::NoMemory),
+    }
 }
 
 /// Finds certificates of the history in the text, judges it by them, puts out the verdict, or why

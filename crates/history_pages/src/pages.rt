@@ -1,5 +1,8 @@
 //! The page of a history that was judged, or checked by certificates.
 
+ghost use Rattle.std.specs.Prelude.{IfOk};
+ghost use Rattle.page.specs.Marks.{IsMade};
+
 use crate::objects::{counts_in, object_at, one, row_of};
 use certificate::Certificate;
 use checker::{OrderFault, Refusal};
@@ -129,16 +132,38 @@ fn say_not_drawn(
     Ok(())
 }
 
+/// That the history has no object with the number that is asked for, if it has none.
+fn say_absent(
+    sentences: &mut Vec<Vec<Span>>,
+    alloc: Global,
+    objects: &[ObjectHistory],
+    wanted: Option<u32>,
+) -> Result<(), AllocError> {
+    match wanted {
+        Some(wanted) if object_at(objects, wanted).is_none() => {
+            let mut sentence = one(alloc, Span::Text("The history has no object "))?;
+            sentence.extend_from_slice(&[Span::Number(u64::from(wanted)), Span::Text(".")])?;
+            sentences.push(sentence)?;
+            Ok(())
+        }
+        _ => Ok(()),
+    }
+}
+
 fn page_of(
     alloc: Global,
     texts: &Texts<'_>,
     objects: &[ObjectHistory],
+    options: Options,
     parts: Parts,
-) -> Result<Vec<u8>, AllocError> {
+) -> Result<Vec<u8>, AllocError>
+    ensures { IfOk result (λ v. ∥ IsMade v.items ∥₁) }
+{
     let facts = facts_of(alloc, texts, objects)?;
     let (word, history) = (parts.word, texts.history);
     let title = format!(in alloc; "{word}: {history}")?;
     let mut sentences = parts.sentences;
+    say_absent(&mut sentences, alloc, objects, options.object)?;
     say_not_drawn(&mut sentences, alloc, &parts.rows, &parts.drawings)?;
     html_of(
         alloc,
@@ -150,6 +175,8 @@ fn page_of(
             lines: texts.lines,
             objects: &parts.rows,
             drawings: &parts.drawings,
+            place: None,
+            quoted: "",
         },
     )
 }
@@ -193,7 +220,9 @@ fn valid_page(
     certificates: &[Certificate],
     texts: &Texts<'_>,
     options: Options,
-) -> Result<Vec<u8>, AllocError> {
+) -> Result<Vec<u8>, AllocError>
+    ensures { IfOk result (λ v. ∥ IsMade v.items ∥₁) }
+{
     let mut rows = Vec::new(alloc);
     let mut drawings = Vec::new(alloc);
     let mut drawn: usize = 0;
@@ -218,7 +247,7 @@ fn valid_page(
         drawings,
         sentences: one(alloc, valid_sentence(alloc, objects.len())?)?,
     };
-    page_of(alloc, texts, objects, parts)
+    page_of(alloc, texts, objects, options, parts)
 }
 
 /// The sentence after each refusal.
@@ -322,7 +351,9 @@ fn refused_page(
     refusal: &Refusal,
     texts: &Texts<'_>,
     options: Options,
-) -> Result<Vec<u8>, AllocError> {
+) -> Result<Vec<u8>, AllocError>
+    ensures { IfOk result (λ v. ∥ IsMade v.items ∥₁) }
+{
     let shown = options.object.or(object_of(refusal));
     let mut drawings = Vec::new(alloc);
     if let Some(object) = shown.and_then(|shown| object_at(objects, shown)) {
@@ -341,22 +372,25 @@ fn refused_page(
         drawings,
         sentences,
     };
-    page_of(alloc, texts, objects, parts)
+    page_of(alloc, texts, objects, options, parts)
 }
 
-/// The page of a history that was checked by certificates.
+/// The page of a history whose certificates are refused, or else valid.
 pub fn checked_page(
     alloc: Global,
     history: &History,
     certificates: &[Certificate],
-    checked: &Result<(), Refusal>,
+    refusal: Option<&Refusal>,
     texts: &Texts<'_>,
     options: Options,
-) -> Result<Vec<u8>, AllocError> {
+) -> Result<Vec<u8>, AllocError>
+    // It is made of the page's own markup, of numbers, and of text that is escaped.
+    ensures { IfOk result (λ v. ∥ IsMade v.items ∥₁) }
+{
     let objects = split(alloc, history)?;
-    match checked {
-        Ok(()) => valid_page(alloc, history, &objects, certificates, texts, options),
-        Err(refusal) => refused_page(
+    match refusal {
+        None => valid_page(alloc, history, &objects, certificates, texts, options),
+        Some(refusal) => refused_page(
             alloc,
             history,
             &objects,
@@ -459,7 +493,9 @@ fn faulty_page(
     answers: &[(u32, Decision)],
     texts: &Texts<'_>,
     options: Options,
-) -> Result<Vec<u8>, AllocError> {
+) -> Result<Vec<u8>, AllocError>
+    ensures { IfOk result (λ v. ∥ IsMade v.items ∥₁) }
+{
     let faulty = faulty_object(answers).unwrap_or(0);
     let mut rows = Vec::new(alloc);
     let mut sentences = Vec::new(alloc);
@@ -492,26 +528,20 @@ fn faulty_page(
         drawings,
         sentences,
     };
-    page_of(alloc, texts, objects, parts)
+    page_of(alloc, texts, objects, options, parts)
 }
 
-/// The page of a history of which each object was decided on.
+/// The page of a history of which each object was decided on, and some object has no certificate.
 pub fn judged_page(
     alloc: Global,
     history: &History,
-    answers: Vec<(u32, Decision)>,
+    answers: &[(u32, Decision)],
     texts: &Texts<'_>,
     options: Options,
-) -> Result<Vec<u8>, AllocError> {
+) -> Result<Vec<u8>, AllocError>
+    // It is made of the page's own markup, of numbers, and of text that is escaped.
+    ensures { IfOk result (λ v. ∥ IsMade v.items ∥₁) }
+{
     let objects = split(alloc, history)?;
-    if faulty_object(&answers).is_some() {
-        return faulty_page(alloc, history, &objects, &answers, texts, options);
-    }
-    let mut certificates = Vec::new(alloc);
-    for (_, decision) in answers {
-        if let Decision::Order(certificate) = decision {
-            certificates.push(certificate)?;
-        }
-    }
-    valid_page(alloc, history, &objects, &certificates, texts, options)
+    faulty_page(alloc, history, &objects, answers, texts, options)
 }

@@ -10,5 +10,5 @@ pub use decision::{
     verdict_on_failure,
 };
 pub use laws::{one_history, one_list_of_orders, valid_certificates_suffice};
-pub use texts::{TextFailure, history_in};
+pub use texts::{TextFailure, history_in, texts_alone};
 pub use verdicts::{Fault, KindCount, Summary, Verdict};

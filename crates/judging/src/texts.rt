@@ -88,7 +88,7 @@ pub(crate) fn certificates_in(alloc: Global, text: &[u8]) -> Result<Vec<Certific
 
 /// What both texts denote, or what stops the reading of the first that is stopped. The certificates
 /// are read after the history, and only where that denotes.
-pub(crate) fn texts_alone(
+pub fn texts_alone(
     alloc: Global,
     history: &[u8],
     certificates: &[u8],

@@ -59,7 +59,7 @@ fn became(operation: &Operation) -> [Word; 3] {
 }
 
 impl Writer {
-    fn bar_title(&mut self, object: u32, operation: &Operation) {
+    fn bar_title(&mut self, operation: &Operation) {
         let text = label(&self.memory, operation);
         self.html.open(Tag::Title);
         self.html.text(&text);
@@ -69,7 +69,7 @@ impl Writer {
             Word::Text(", process "),
             Word::Number(operation.process),
             Word::Text(", object "),
-            number(object),
+            number(operation.object),
             Word::Text("\n"),
         ]);
         self.html.words(&became(operation));
@@ -177,8 +177,8 @@ impl Writer {
         }
     }
 
-    /// The bar of an operation of the object, or its part in a line.
-    pub(crate) fn bar(&mut self, object: u32, bar: &Bar) {
+    /// The bar of an operation, or its part in a line.
+    pub(crate) fn bar(&mut self, bar: &Bar) {
         let operation = &bar.operation;
         let class = [
             Word::Text(role_class(operation)),
@@ -194,7 +194,7 @@ impl Writer {
             self.html.attribute(Name::Id, &[Word::Text("o"), own]);
         }
         self.html.end();
-        self.bar_title(object, operation);
+        self.bar_title(operation);
         self.html.begin(Tag::Rect);
         self.html.attribute(Name::Class, &[Word::Text("fill")]);
         self.html.attribute(Name::X, &[Word::At(bar.from)]);

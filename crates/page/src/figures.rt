@@ -4,7 +4,7 @@ use crate::html::Word;
 use crate::markup::{Name, Tag};
 use crate::writer::{Writer, number};
 use drawing::{
-    Arrow, Figure, Gap, LEFT, Lane, Line, NemesisMark, Point, Span, Tick, count_text, label,
+    Arrow, Cross, Figure, Gap, LEFT, Lane, Line, NemesisMark, Point, Span, Tick, count_text, label,
 };
 
 /// A size at one and a half, where the figure is large.
@@ -253,6 +253,39 @@ impl Writer {
         self.html.close(Tag::Group)
     }
 
+    /// The faulty map.
+    fn cross(&mut self, cross: &Cross) {
+        let (x, y) = (cross.x, cross.y);
+        self.group("cross");
+        self.html.open(Tag::Title);
+        self.html.words(&[
+            Word::Text("map "),
+            number(cross.number),
+            Word::Text(": H"),
+            Word::Number(u64::from(cross.fault)),
+        ]);
+        self.html.close(Tag::Title);
+        let d = [
+            Word::Text("M"),
+            Word::At(x.saturating_sub(6)),
+            Word::Text(" "),
+            Word::At(y.saturating_sub(6)),
+            Word::Text("l12 12m0 -12l-12 12"),
+        ];
+        self.html.begin(Tag::Path);
+        self.html.attribute(Name::D, &d);
+        self.html.end_empty();
+        self.html.begin(Tag::Text);
+        self.html
+            .attribute(Name::X, &[Word::At(x.saturating_add(10))]);
+        self.html
+            .attribute(Name::Y, &[Word::At(y.saturating_add(4))]);
+        self.html.end();
+        self.html.text(&cross.label);
+        self.html.close(Tag::Text);
+        self.html.close(Tag::Group)
+    }
+
     fn nemesis(&mut self, line: &Line, nemesis: &NemesisMark) {
         let x = Word::At(nemesis.x);
         self.group("nem");
@@ -343,11 +376,14 @@ impl Writer {
         self.html.end();
         self.ground(line);
         for bar in &line.bars {
-            self.bar(object, bar);
+            self.bar(bar);
         }
         self.points(object, line, because);
         for arrow in &line.arrows {
             self.arrow(arrow);
+        }
+        for cross in &line.crosses {
+            self.cross(cross);
         }
         self.html.close(Tag::Svg);
         self.html.close(Tag::Div);

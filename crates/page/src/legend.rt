@@ -2,6 +2,7 @@
 
 use crate::html::Word;
 use crate::markup::{Name, Tag};
+use crate::pages::Page;
 use crate::writer::{Writer, figures_in};
 use drawing::{Bar, Figure, Line, Mark, ObjectDrawing, Role, State};
 
@@ -165,11 +166,22 @@ fn figure_has(place: usize, figure: Option<&Figure>) -> bool {
     }
 }
 
-fn page_has(place: usize, drawings: &[ObjectDrawing]) -> bool {
+fn drawings_have(place: usize, drawings: &[ObjectDrawing]) -> bool {
     drawings.iter().any(|drawing| {
         let figures = figures_in(drawing);
         figure_has(place, figures[0]) || figure_has(place, figures[1])
     })
+}
+
+/// Whether a figure of the page has the sign at this place.
+fn page_has(place: usize, page: &Page<'_>) -> bool {
+    let before = page.place.and_then(|it| it.before.map(|it| &it.figure));
+    drawings_have(place, page.drawings) || figure_has(place, before)
+}
+
+/// Whether some sign is on the page.
+fn has_signs(page: &Page<'_>) -> bool {
+    (0..SIGNS.len()).any(|place| page_has(place, page))
 }
 
 impl Writer {
@@ -226,7 +238,10 @@ impl Writer {
     }
 
     /// What the signs mean that are on the page.
-    pub(crate) fn legend(&mut self, drawings: &[ObjectDrawing]) {
+    pub(crate) fn legend(&mut self, page: &Page<'_>) {
+        if !has_signs(page) {
+            return;
+        }
         let class = [Word::Text("legend")];
         self.html.begin(Tag::Details);
         self.html.attribute(Name::Class, &class);
@@ -237,7 +252,7 @@ impl Writer {
         self.html.close(Tag::Summary);
         self.html.open(Tag::List);
         for (place, sign) in SIGNS.iter().enumerate() {
-            if page_has(place, drawings) {
+            if page_has(place, page) {
                 self.sign(sign);
             }
         }

@@ -5,6 +5,7 @@
 mod bars;
 mod boxes;
 mod escaping;
+mod excerpts;
 mod figures;
 mod html;
 mod legend;
@@ -16,6 +17,7 @@ mod tables;
 mod writer;
 
 pub use escaping::push_escaped;
+pub use excerpts::{Excerpt, MarkedLine, Place, TextLine};
 pub use html::{Html, Word};
 pub use markup::{Name, Style, Tag};
 pub use pages::{Answer, ObjectRow, Page, html_of};

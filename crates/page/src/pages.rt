@@ -3,10 +3,11 @@
 ghost use Rattle.std.specs.Prelude.{IfOk};
 ghost use Rattle.page.specs.Marks.{IsMade};
 
+use crate::excerpts::Place;
 use crate::html::Word;
 use crate::markup::{Name, Style, Tag};
 use crate::writer::{Writer, add_bars, figures_in, number};
-use drawing::{Entry, Extent, Figure, Line, Memory, ObjectDrawing, Row, Span};
+use drawing::{Entry, Extent, Figure, Line, Memory, ObjectDrawing, Operation, Row, Span};
 use seq_objects::{Kind, kind_name};
 use std::alloc::{AllocError, Global};
 use std::collections::BTreeSet;
@@ -21,6 +22,10 @@ pub enum Answer {
     No,
     Impossible,
     Open,
+    /// A text is malformed.
+    Malformed,
+    /// Memory was refused.
+    NoMemory,
 }
 
 /// A row of the table of objects.
@@ -37,7 +42,8 @@ pub struct ObjectRow {
 }
 
 /// What a page shows: what is said of a history, of which texts, in which words and lines; the
-/// table of its objects, which is there where there are several; and the drawings.
+/// table of its objects, which is there where there are several; the drawings; and of a malformed
+/// text its place, and what it has there.
 #[derive(Clone, Copy)]
 pub struct Page<'a> {
     pub answer: Answer,
@@ -47,6 +53,8 @@ pub struct Page<'a> {
     pub lines: &'a str,
     pub objects: &'a [ObjectRow],
     pub drawings: &'a [ObjectDrawing],
+    pub place: Option<&'a Place<'a>>,
+    pub quoted: &'a str,
 }
 
 /// The class of the page, its sign and its word.
@@ -56,6 +64,8 @@ fn words_of(answer: Answer) -> (&'static str, &'static str, &'static str) {
         Answer::No => ("no", "✕", " No"),
         Answer::Impossible => ("impossible", "✕", " Impossible"),
         Answer::Open => ("open", "?", " Open"),
+        Answer::Malformed => ("malformed", "✕", " Malformed"),
+        Answer::NoMemory => ("memory", "?", " Out of memory"),
     }
 }
 
@@ -155,11 +165,13 @@ impl Writer {
     }
 
     /// A link to the fault or the reason, for whom has a keyboard.
-    fn skip_link(&mut self, answer: Answer) {
-        let (place, text) = match answer {
+    fn skip_link(&mut self, page: &Page<'_>) {
+        let has_reason = page.drawings.iter().any(|drawing| drawing.tried.is_some());
+        let (place, text) = match page.answer {
             Answer::No => ("fault", "Go to the fault"),
-            Answer::Impossible => ("reason", "Go to the reason"),
-            Answer::Yes | Answer::Open => return,
+            Answer::Impossible if has_reason => ("reason", "Go to the reason"),
+            Answer::Malformed => ("fault", "Go to the place"),
+            _ => return,
         };
         let (class, place) = ([Word::Text("skiplink")], [Word::Text(place)]);
         self.html.begin(Tag::A);
@@ -177,7 +189,7 @@ impl Writer {
             }
         }
         for sentence in page.sentences {
-            self.sentence(sentence, None);
+            self.sentence(sentence, Some(page.quoted));
         }
     }
 
@@ -211,7 +223,7 @@ impl Writer {
     }
 
     /// What a figure leaves out.
-    fn note(&mut self, extent: &Extent, figure: &Figure) {
+    pub(crate) fn note(&mut self, extent: &Extent, figure: &Figure) {
         let left_out = extent.operations > extent.drawn;
         if extent.without_lane == 0 && !left_out && figure.left_out == 0 {
             return;
@@ -357,8 +369,29 @@ impl Writer {
             figure,
             &drawing.because,
         );
+        self.outside(&drawing.outside);
         self.html.close(Tag::Figure);
         self.html.text("\n")
+    }
+
+    /// The operations of a reason that are not wholly within it.
+    fn outside(&mut self, operations: &[Operation]) {
+        if operations.is_empty() {
+            return;
+        }
+        let class = [Word::Text("note")];
+        self.html.begin(Tag::Paragraph);
+        self.html.attribute(Name::Class, &class);
+        self.html.end();
+        self.html.text("Not wholly within this stretch, so ");
+        self.html.text(plural(operations.len(), "it", "they"));
+        self.html.text(" may have taken effect outside of it: ");
+        for (place, operation) in operations.iter().enumerate() {
+            self.html.text(if place > 0 { ", " } else { "" });
+            self.operation(operation);
+        }
+        self.html.text(".");
+        self.html.close(Tag::Paragraph)
     }
 
     /// How many operations have bars in the figure.
@@ -368,7 +401,7 @@ impl Writer {
         numbers.len()
     }
 
-    fn heading(&mut self, place: &'static str, words: &[Word]) {
+    pub(crate) fn heading(&mut self, place: &'static str, words: &[Word]) {
         self.html.begin(Tag::H2);
         if !place.is_empty() {
             self.html.attribute(Name::Id, &[Word::Text(place)]);
@@ -461,7 +494,7 @@ impl Writer {
         self.html.begin(Tag::Body);
         self.html.attribute(Name::Class, &[Word::Text(class)]);
         self.html.end();
-        self.skip_link(page.answer);
+        self.skip_link(page);
         self.header(page);
         self.html.open(Tag::Main);
         let is_strange = page.drawings.is_empty() && page.answer == Answer::No;
@@ -474,7 +507,10 @@ impl Writer {
         if is_strange {
             self.nothing();
         }
-        self.legend(page.drawings);
+        if let Some(place) = page.place {
+            self.place(place);
+        }
+        self.legend(page);
         self.html.close(Tag::Main);
         self.html.close(Tag::Body);
         self.html.close(Tag::Html);
@@ -487,7 +523,7 @@ pub fn html_of(alloc: Global, page: &Page<'_>) -> Result<Vec<u8>, AllocError>
     // It is made of the page's own markup, of numbers, and of text that is escaped.
     ensures { IfOk result (λ v. ∥ IsMade v.items ∥₁) }
 {
-    let mut writer = Writer::new(alloc, page.drawings);
+    let mut writer = Writer::new(alloc, page);
     writer.head(page);
     writer.body(page);
     writer.into_text()

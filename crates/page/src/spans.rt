@@ -79,6 +79,7 @@ impl Writer {
             Span::Kind(kind) => self.html.text(kind_name(kind)),
             Span::Operation(operation) => self.operation(&operation),
             Span::Content => self.code(content.unwrap_or("")),
+            Span::Quoted => self.html.text(content.unwrap_or("")),
             Span::Certificate(object) => self.certificate(object),
             Span::Command(text) => self.code(text),
             Span::Aside(text) => self.aside(text),

@@ -12,6 +12,9 @@ use seq_objects::{AnyReply, Kind, kind_name, value_of_reply};
 /// The characters of the longest row of a table that is beside its figure.
 const BESIDE: usize = 46;
 
+/// The most rows of the table of objects.
+const MOST_OBJECTS: usize = 64;
+
 fn content_title(kind: Kind) -> &'static str {
     match kind {
         Kind::Queue => "content after (first … last)",
@@ -40,6 +43,20 @@ fn digits(n: u64) -> usize {
         rest /= 10;
     }
     digits
+}
+
+/// The last row of the table of objects, where it is full: one after the others that is at fault,
+/// or else the next.
+fn last_row(rows: &[ObjectRow]) -> Option<&ObjectRow> {
+    let others = rows.get(MOST_OBJECTS - 1..).unwrap_or(&[]);
+    others
+        .iter()
+        .find(|row| row.is_faulty)
+        .or_else(|| others.first())
+}
+
+fn is_drawn(row: &ObjectRow, drawings: &[ObjectDrawing]) -> bool {
+    drawings.iter().any(|drawing| drawing.object == row.object)
 }
 
 impl Writer {
@@ -360,12 +377,16 @@ impl Writer {
         ];
         let title = [Word::Text("Objects")];
         self.table("overview", &[Word::Text("objects")], &title, &heads);
-        for row in rows.iter().take(64) {
-            let is_drawn = drawings.iter().any(|drawing| drawing.object == row.object);
-            self.object_row(row, is_drawn);
+        for row in rows.iter().take(MOST_OBJECTS - 1) {
+            self.object_row(row, is_drawn(row, drawings));
         }
-        if rows.len() > 64 {
-            self.skipped(6, rows.len().saturating_sub(64), " more objects");
+        if let Some(row) = last_row(rows) {
+            self.object_row(row, is_drawn(row, drawings));
+        }
+        match rows.len().saturating_sub(MOST_OBJECTS) {
+            0 => {}
+            1 => self.skipped(6, 1, " more object"),
+            count => self.skipped(6, count, " more objects"),
         }
         self.end_table()
     }

@@ -4,6 +4,7 @@ ghost use Rattle.std.specs.Prelude.{IfOk};
 ghost use Rattle.page.specs.Marks.{IsMade};
 
 use crate::html::{Html, Word};
+use crate::pages::Page;
 use drawing::{Bar, Figure, Memory, ObjectDrawing};
 use std::alloc::{AllocError, Global};
 use std::collections::BTreeSet;
@@ -32,15 +33,18 @@ pub(crate) fn add_bars(memory: &Memory, shown: &mut BTreeSet<u32>, figure: &Figu
 }
 
 impl Writer {
-    pub(crate) fn new(alloc: Global, drawings: &[ObjectDrawing]) -> Writer {
+    pub(crate) fn new(alloc: Global, page: &Page<'_>) -> Writer {
         let memory = Memory::new(alloc);
         let mut shown = BTreeSet::new(alloc);
-        for drawing in drawings {
+        for drawing in page.drawings {
             for figure in figures_in(drawing) {
                 if let Some(figure) = figure {
                     add_bars(&memory, &mut shown, figure);
                 }
             }
+        }
+        if let Some(before) = page.place.and_then(|place| place.before) {
+            add_bars(&memory, &mut shown, &before.figure);
         }
         Writer {
             memory,

@@ -21,4 +21,9 @@ returns-in-Some-subcommand_matches-4-clause-lacks c =
 pub returns-in-Some-subcommand_matches-5-clause-lacks : goal.returns-in-Some-subcommand_matches-5-clause-lacks
 returns-in-Some-subcommand_matches-5-clause-lacks c =
     let rows = rows_of (found_of c.in-Some-subcommand_matches-5.refute.now) in
-    IfErr-weaker c.refute_found.result _ _ (λ f h other. let l = h other in inr (inr (inr (inr (record { rows = rows; entered = search rules; none = l.1; refused = l.0 }))))) c.refute_found.ensures.lacks
+    IfErr-weaker c.refute_found.result _ _ (λ f h other. let l = h other in inr (inr (inr (inr (inl (record { rows = rows; entered = search rules; none = l.1; refused = l.0 })))))) c.refute_found.ensures.lacks
+
+pub returns-in-Some-subcommand_matches-6-clause-lacks : goal.returns-in-Some-subcommand_matches-6-clause-lacks
+returns-in-Some-subcommand_matches-6-clause-lacks c =
+    let rows = rows_of (found_of c.in-Some-subcommand_matches-6.draw.now) in
+    IfErr-weaker c.draw_found.result _ _ (λ f h other. let l = h other in inr (inr (inr (inr (inr (record { rows = rows; entered = search rules; none = l.1; refused = l.0 })))))) c.draw_found.ensures.lacks

@@ -5,8 +5,8 @@ use Rattle.history_commands.specs.Judged.{is_order, judge_status, notes_text}
 use Rattle.history_commands.proofs.Judged.{are_open}
 use Rattle.history_commands.proofs.judgement.judge_events.Goals as goal
 
-pub returns-in-Ok-output_of-clause-notes : goal.returns-in-Ok-output_of-clause-notes
-returns-in-Ok-output_of-clause-notes c =
+pub returns-in-Ok-output_of : goal.returns-in-Ok-output_of
+returns-in-Ok-output_of c =
     let answers = c.in-Ok.answers.items in
     let e = c.in-Ok.ensures in
     let o = c.in-Ok-output_of.output in

@@ -1,10 +1,10 @@
 use Rattle.std.proofs.Common.{sym, subst, ◌∙◌}
 use Rattle.checker.specs.Refusals.{AreValid}
 use Rattle.history_commands.proofs.Judged.{on_valid}
-use Rattle.history_commands.proofs.judgement.verdict_on_found.Goals as goal
+use Rattle.history_commands.proofs.judgement.judge_found.Goals as goal
 
 pub returns-in-Ok : goal.returns-in-Ok
-returns-in-Ok c =
+returns-in-Ok c steps =
     let es = c.args.history.now in
     let e = c.verdict_alone.ensures in
     let valid = subst (AreValid es) (sym (c.deref.ensures.value ∙ c.in-Ok.ensures)) c.requires.valid in

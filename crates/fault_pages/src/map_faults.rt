@@ -1,0 +1,344 @@
+//! What is said of a text that can be read and is no history, or no certificates.
+
+use crate::excerpts::excerpt;
+use crate::places::{Place, element_at, elements_in, value_in};
+use crate::text_faults::Explained;
+use certificate::{CertFault, CertFaultKind};
+use drawing::{Faulty, FaultyDrawing, FaultyMap, Memory, Operation, Span, draw_up_to};
+use events::{Action, Event, History, ObjectHistory, split};
+use history::{HistoryFault, HistoryFaultKind, read_history_text};
+use history_pages::places_in;
+use seq_objects::{Kind, kind_name};
+use std::alloc::{AllocError, Global};
+
+/// What is wrong with a map, in general.
+fn general(kind: HistoryFaultKind) -> (&'static str, &'static str) {
+    match kind {
+        HistoryFaultKind::NotAnOperation => (
+            "Map ",
+            " is no operation: its :process, :type, :f or :object is missing or not of the right \
+             kind.",
+        ),
+        HistoryFaultKind::UnknownF => ("Map ", " names a function that is none of the fourteen."),
+        HistoryFaultKind::BadValue => (
+            "The :value of map ",
+            " has not the shape that its :f asks for.",
+        ),
+        HistoryFaultKind::MixedKinds => (
+            "Map ",
+            " calls a function of another kind than the earlier maps of its object.",
+        ),
+        HistoryFaultKind::Busy => (
+            "Map ",
+            " invokes an operation of a process whose operation is still outstanding.",
+        ),
+        HistoryFaultKind::Stray => (
+            "Map ",
+            " completes an operation, and its process has none outstanding.",
+        ),
+        HistoryFaultKind::Mismatch => (
+            "Map ",
+            " completes another :f or :object than its process invoked.",
+        ),
+        HistoryFaultKind::AfterInfo => ("Map ", " is of a process that an :info had closed."),
+        HistoryFaultKind::TooMany => ("Map ", " is one too many: a history has at most 1,000,000."),
+        HistoryFaultKind::NoMemory => ("Map ", " was not read."),
+    }
+}
+
+/// A keyword without its colon.
+fn name_of(keyword: Option<&[u8]>) -> &str {
+    let name = keyword.and_then(|it| it.get(1..)).unwrap_or(&[]);
+    std::str::from_utf8(name).unwrap_or("")
+}
+
+fn number_of(value: Option<&[u8]>) -> Option<u64> {
+    std::str::from_utf8(value?).ok()?.parse::<u64>().ok()
+}
+
+/// A faulty map as its text has it: its bytes, its process and object if they are numbers.
+#[derive(Clone, Copy)]
+struct Map<'a> {
+    fault: HistoryFault,
+    place: Place,
+    process: Option<u64>,
+    object: u32,
+    kind_of_event: &'a str,
+    function: &'a str,
+}
+
+fn map_of<'a>(memory: &Memory, text: &'a [u8], fault: HistoryFault, place: Place) -> Map<'a> {
+    let map = place.of(text);
+    let object = number_of(value_in(memory, map, b":object"));
+    Map {
+        fault,
+        place,
+        process: number_of(value_in(memory, map, b":process")),
+        object: object.map_or(0, |it| u32::try_from(it).unwrap_or(u32::MAX)),
+        kind_of_event: name_of(value_in(memory, map, b":type")),
+        function: name_of(value_in(memory, map, b":f")),
+    }
+}
+
+/// The number of the last event of the process, or of its last invocation.
+fn last_of(events: &[Event], process: Option<u64>, is_invocation: bool) -> Option<u32> {
+    let process = process?;
+    let mut latest_first = events.iter().rev();
+    let found = latest_first.find(|event| event.process == process
+        && (!is_invocation || matches!(event.action, Action::Invoke(_))));
+    found.map(|event| event.number)
+}
+
+/// The earlier map that the faulty map clashes with, if it does with one.
+fn earlier_of(events: &[Event], map: &Map<'_>) -> Option<u32> {
+    match map.fault.kind {
+        HistoryFaultKind::MixedKinds => {
+            let mut own = events.iter().filter(|event| event.object == map.object);
+            own.next().map(|event| event.number)
+        }
+        HistoryFaultKind::Busy | HistoryFaultKind::Mismatch => last_of(events, map.process, true),
+        HistoryFaultKind::AfterInfo => last_of(events, map.process, false),
+        _ => None,
+    }
+}
+
+/// What the earlier map is to the faulty one.
+fn caption_of(kind: HistoryFaultKind) -> &'static str {
+    match kind {
+        HistoryFaultKind::MixedKinds => "The object’s first map, ",
+        HistoryFaultKind::Busy => "The operation that is outstanding, map ",
+        HistoryFaultKind::Mismatch => "What the process invoked, map ",
+        _ => "The :info that closed the process, map ",
+    }
+}
+
+/// What is wrong with the map, where it has a process and an earlier operation.
+fn clash(
+    memory: &Memory,
+    map: &Map<'_>,
+    earlier: Option<(u32, Operation, Kind)>,
+) -> Option<Vec<Span>> {
+    let (the_map, number) = (Span::Text("Map "), Span::Number(map.fault.map as u64));
+    let process = map.process.map(Span::Number)?;
+    if map.fault.kind == HistoryFaultKind::Stray {
+        let (before, after) = (
+            " completes an operation of process ",
+            ", which has none outstanding.",
+        );
+        let said = [
+            the_map,
+            number,
+            Span::Text(before),
+            process,
+            Span::Text(after),
+        ];
+        return Some(memory.list(said.to_vec(memory.alloc)));
+    }
+    let (at, operation, kind) = earlier?;
+    let (operation, at) = (Span::Operation(operation), Span::Number(u64::from(at)));
+    let said = match map.fault.kind {
+        HistoryFaultKind::Busy => [
+            Span::Text(" invokes an operation of process "),
+            process,
+            Span::Text(", and "),
+            operation,
+            Span::Text(" of that process is still outstanding."),
+            Span::Text(""),
+            Span::Text(""),
+        ],
+        HistoryFaultKind::Mismatch => [
+            Span::Text(" completes an operation of process "),
+            process,
+            Span::Text(", but with another :f or :object than "),
+            operation,
+            Span::Text(", which is outstanding."),
+            Span::Text(""),
+            Span::Text(""),
+        ],
+        HistoryFaultKind::AfterInfo => [
+            Span::Text(" is of process "),
+            process,
+            Span::Text(", which the :info at map "),
+            at,
+            Span::Text(" closed: "),
+            operation,
+            Span::Text(" may have happened or not, so the process goes on under another number."),
+        ],
+        HistoryFaultKind::MixedKinds => [
+            Span::Text(" calls a function of another kind on an object that "),
+            operation,
+            Span::Text(" made a "),
+            Span::Kind(kind),
+            Span::Text("."),
+            Span::Text(""),
+            Span::Text(""),
+        ],
+        _ => return None,
+    };
+    let mut sentence = Vec::new(memory.alloc);
+    memory.note(sentence.extend_from_slice(&[the_map, number]));
+    memory.note(sentence.extend_from_slice(&said));
+    Some(sentence)
+}
+
+/// The history before a faulty map: the text up to it.
+#[derive(Drop)]
+struct Before {
+    drawing: FaultyDrawing,
+    number: Option<u32>,
+    kind: Kind,
+}
+
+fn draw_before(
+    alloc: Global,
+    text: &[u8],
+    history: &History,
+    map: &Map<'_>,
+) -> Result<Before, AllocError> {
+    let objects = split(alloc, history)?;
+    let places = places_in(alloc, text)?;
+    let number = earlier_of(history.events(), map);
+    let (event, function) = (map.kind_of_event, map.function);
+    let words = format!(in alloc; "{event} {function}")?;
+    let drawing = draw_up_to(
+        alloc,
+        &Faulty {
+            history,
+            objects: &objects,
+            nemeses: &places.nemeses,
+            map: FaultyMap {
+                number: u32::try_from(map.fault.map).unwrap_or(u32::MAX),
+                fault: map.fault.kind.number(),
+                process: map.process,
+                words: words.trim(),
+            },
+            earlier: number,
+        },
+    )?;
+    Ok(Before {
+        drawing,
+        number,
+        kind: kind_at(&objects, map.object),
+    })
+}
+
+fn kind_at(objects: &[ObjectHistory], number: u32) -> Kind {
+    let own = objects.iter().find(|object| object.object() == number);
+    own.map_or(Kind::Queue, |object| object.kind())
+}
+
+/// The history before the map, drawn; none where it can't be read again.
+fn before_of(memory: &Memory, text: &[u8], map: &Map<'_>) -> Option<Before> {
+    let prefix = text.get(..map.place.from).unwrap_or(text);
+    let history = read_history_text(memory.alloc, prefix).ok()?;
+    draw_before(memory.alloc, prefix, &history, map).ok()
+}
+
+fn caption_at(kind: HistoryFaultKind, map: usize) -> [Span; 4] {
+    [
+        Span::Text("H"),
+        Span::Number(u64::from(kind.number())),
+        Span::Text(" at map "),
+        Span::Count(map),
+    ]
+}
+
+/// What is said of a text whose maps are no history, and the history before the faulty one.
+pub(crate) fn explain_maps(
+    memory: &Memory,
+    text: &[u8],
+    fault: HistoryFault,
+) -> (Explained, Option<FaultyDrawing>) {
+    let mut explained = Explained::new(memory);
+    let nowhere = Place {
+        from: text.len(),
+        to: text.len(),
+    };
+    let place = element_at(text, fault.map).unwrap_or(nowhere);
+    let map = map_of(memory, text, fault, place);
+    let before = before_of(memory, text, &map);
+    let earlier = before.as_ref().and_then(|it| match (it.number, it.drawing.earlier) {
+        (Some(number), Some(operation)) => Some((number, operation, it.kind)),
+        _ => None,
+    });
+    let mut sentence = Vec::new(memory.alloc);
+    memory.note(sentence.push(Span::Text("The text can be read, but it is no history. ")));
+    match clash(memory, &map, earlier) {
+        Some(said) => memory.note(sentence.extend_from_slice(&said)),
+        None => {
+            let (begin, end) = general(fault.kind);
+            let said = [Span::Text(begin), Span::Count(fault.map), Span::Text(end)];
+            memory.note(sentence.extend_from_slice(&said));
+        }
+    }
+    explained.say(memory, &sentence);
+    let caption = caption_at(fault.kind, fault.map);
+    explained.show(memory, excerpt(memory, text, place, &caption, "here"));
+    if let Some((number, _, _)) = earlier {
+        let other = element_at(text, number as usize).unwrap_or(nowhere);
+        let caption = [
+            Span::Text(caption_of(fault.kind)),
+            Span::Number(u64::from(number)),
+        ];
+        explained.show(memory, excerpt(memory, text, other, &caption, "here"));
+    }
+    (explained, before.map(|it| it.drawing))
+}
+
+/// The first of these forms that has this object, and its number.
+fn first_for<'a>(
+    memory: &Memory,
+    text: &'a [u8],
+    forms: &'a [Place],
+    object: &[u8],
+) -> Option<(usize, Place)> {
+    let found = forms.iter().position(|form| value_in(memory, form.of(text), b":object")
+        == Some(object))?;
+    Some((found, *forms.get(found)?))
+}
+
+/// What is said of a text whose forms are no certificates.
+pub(crate) fn explain_forms(memory: &Memory, text: &[u8], fault: CertFault) -> Explained {
+    let mut explained = Explained::new(memory);
+    let forms = elements_in(memory, text, 0);
+    let nowhere = Place {
+        from: text.len(),
+        to: text.len(),
+    };
+    let place = forms.get(fault.form).copied().unwrap_or(nowhere);
+    let wrong = match fault.kind {
+        CertFaultKind::TwoForOneObject => " is a second certificate for the same object.",
+        _ => " is no certificate: a map with :object and :order, a vector of integers.",
+    };
+    explained.say(
+        memory,
+        &[
+            Span::Text("The text can be read, but these are no certificates. Form "),
+            Span::Count(fault.form),
+            Span::Text(wrong),
+        ],
+    );
+    let caption = [
+        Span::Text("K"),
+        Span::Number(u64::from(fault.kind.number())),
+        Span::Text(" at form "),
+        Span::Count(fault.form),
+    ];
+    explained.show(memory, excerpt(memory, text, place, &caption, "here"));
+    let object = value_in(memory, place.of(text), b":object");
+    let before = forms.get(..fault.form).unwrap_or(&[]);
+    let first = object.and_then(|object| first_for(memory, text, before, object));
+    match (fault.kind, first, number_of(object)) {
+        (CertFaultKind::TwoForOneObject, Some((form, place)), Some(object)) => {
+            let caption = [
+                Span::Text("The first one for object "),
+                Span::Number(object),
+                Span::Text(", form "),
+                Span::Number(form as u64),
+            ];
+            explained.show(memory, excerpt(memory, text, place, &caption, "here"));
+        }
+        _ => {}
+    }
+    explained
+}

@@ -1,0 +1,110 @@
+//! The page of a malformed text, and that of texts for which memory was refused.
+
+ghost use Rattle.std.specs.Prelude.{IfOk};
+ghost use Rattle.page.specs.Marks.{IsMade};
+
+use crate::map_faults::{explain_forms, explain_maps};
+use crate::text_faults::{Explained, Read, explain_text};
+use drawing::{FaultyDrawing, Memory, Span};
+use page::{Answer, Page, Place, html_of};
+use std::alloc::{AllocError, Global};
+use verdicts::Fault;
+
+/// A text with the name of its file, and the lines of the verdict.
+#[derive(Clone, Copy)]
+pub struct FaultyText<'a> {
+    pub name: &'a str,
+    pub text: &'a [u8],
+    pub lines: &'a str,
+}
+
+/// What is said of the text, and the history before a faulty map.
+fn explain(memory: &Memory, text: &[u8], fault: &Fault) -> (Explained, Option<FaultyDrawing>) {
+    let (history, certificates) = (
+        Read {
+            word: "history",
+            text,
+        },
+        Read {
+            word: "certificates",
+            text,
+        },
+    );
+    match fault {
+        Fault::HistoryText(fault) => (explain_text(memory, history, *fault), None),
+        Fault::HistoryMaps(fault) => explain_maps(memory, text, *fault),
+        Fault::CertificateText(fault) => (explain_text(memory, certificates, *fault), None),
+        Fault::CertificateForms(fault) => (explain_forms(memory, text, *fault), None),
+    }
+}
+
+/// The letter of the fault, and its number.
+fn code_of(fault: &Fault) -> (&'static str, u8) {
+    match fault {
+        Fault::HistoryText(fault) => ("E", fault.kind.number()),
+        Fault::HistoryMaps(fault) => ("H", fault.kind.number()),
+        Fault::CertificateText(fault) => ("E", fault.kind.number()),
+        Fault::CertificateForms(fault) => ("K", fault.kind.number()),
+    }
+}
+
+/// The page of a text with this fault.
+pub fn fault_page(
+    alloc: Global,
+    fault: &Fault,
+    faulty: &FaultyText<'_>,
+) -> Result<Vec<u8>, AllocError>
+    // It is made of the page's own markup, of numbers, and of text that is escaped.
+    ensures { IfOk result (λ v. ∥ IsMade v.items ∥₁) }
+{
+    let memory = Memory::new(alloc);
+    let (letter, number) = code_of(fault);
+    let name = faulty.name;
+    let title = format!(in alloc; "malformed {letter}{number}: {name}")?;
+    let (explained, before) = explain(&memory, faulty.text, fault);
+    memory.whole(())?;
+    let place = Place {
+        excerpts: &explained.excerpts,
+        before: before.as_ref(),
+    };
+    html_of(
+        alloc,
+        &Page {
+            answer: Answer::Malformed,
+            title: &title,
+            facts: name,
+            sentences: &explained.sentences,
+            lines: faulty.lines,
+            objects: &[],
+            drawings: &[],
+            place: Some(&place),
+            quoted: &explained.quoted,
+        },
+    )
+}
+
+/// The page of a history of which nothing is known, since memory was refused.
+pub fn memory_page(alloc: Global, name: &str, lines: &str) -> Result<Vec<u8>, AllocError>
+    // It is made of the page's own markup, of numbers, and of text that is escaped.
+    ensures { IfOk result (λ v. ∥ IsMade v.items ∥₁) }
+{
+    let title = format!(in alloc; "out of memory: {name}")?;
+    let mut sentence = Vec::new(alloc);
+    sentence.push(Span::Text("Memory was refused. This says nothing of the texts."))?;
+    let mut sentences = Vec::new(alloc);
+    sentences.push(sentence)?;
+    html_of(
+        alloc,
+        &Page {
+            answer: Answer::NoMemory,
+            title: &title,
+            facts: name,
+            sentences: &sentences,
+            lines,
+            objects: &[],
+            drawings: &[],
+            place: None,
+            quoted: "",
+        },
+    )
+}

@@ -1,0 +1,14 @@
+-- What the judgement of a history comes to.
+use Rattle.std.specs.Prelude.{ℕ, ⊤, List}
+use Rattle.events.specs.declared.event.Event.{Event}
+use Rattle.history_commands.specs.declared.judgement.Judgement.{Judgement}
+use Rattle.history_commands.specs.declared.judgement.Judgement.TheVariants.{Certified, Open}
+use Rattle.history_commands.specs.declared.judgement.Judgement.TheVariants.{NoMemory}
+use Rattle.history_commands.specs.Judged.{AreOpen, IsVerdictOn}
+
+-- The verdict on certificates that were found holds of the history; or some object has none, and
+-- what is put out says so.
+abbrev pub IsJudged : List Event → ℕ → Judgement → Type 0
+IsJudged es limit (Certified certificates v) = IsVerdictOn es v
+IsJudged es limit (Open answers output) = AreOpen es limit output.status output.text.items
+IsJudged es limit NoMemory = ⊤

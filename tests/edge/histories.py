@@ -1,0 +1,127 @@
+"""Histories that are made up, and the calls of any history, read by code that shares nothing with the program."""
+import random
+from dataclasses import dataclass
+
+from . import texts
+from .reasons import NEXT, maps_of, value_of
+
+FUNCTIONS = {
+    "queue": ("enqueue", "dequeue"),
+    "stack": ("push", "pop"),
+    "heap": ("insert", "extract-min"),
+    "register": ("write", "read", "cas"),
+    "map": ("put", "get", "del"),
+    "mutex": ("acquire", "release"),
+}
+KIND_OF = {f: kind for kind, functions in FUNCTIONS.items() for f in functions}
+
+
+@dataclass
+class Call:
+    """A call: the numbers of its invocation and of its completion, if it has one, and what became of it."""
+
+    number: int
+    process: str
+    on: int
+    f: str
+    argument: object
+    at: int = None
+    end: str = "open"
+    reply: object = None
+
+    def is_live(self):
+        return self.end != "fail"
+
+    def returned(self):
+        return self.at if self.end == "ok" else None
+
+
+def calls_of(history):
+    """The calls of a history, by their numbers, and how many maps it has."""
+    calls, outstanding, maps = {}, {}, maps_of(history)
+    for number, it in enumerate(maps):
+        process = it["process"]
+        if process.startswith(":"):
+            continue
+        if it["type"] == ":invoke":
+            call = Call(number, process, int(it.get("object", 0)), it["f"][1:], value_of(it.get("value")))
+            calls[number] = outstanding[process] = call
+        else:
+            call = outstanding.pop(process)
+            call.at, call.end, call.reply = number, it["type"][1:], value_of(it.get("value"))
+    return calls, len(maps)
+
+
+@dataclass
+class Made:
+    """A history that is linearizable, of one object, and a valid order of it."""
+
+    kind: str
+    maps: list
+    order: list
+
+    def text(self):
+        return texts.lines(*self.maps)
+
+
+def argument_for(rng, f, values):
+    if f in ("enqueue", "push", "insert", "write"):
+        return rng.randrange(values)
+    if f in ("cas", "put"):
+        return rng.randrange(values), rng.randrange(values)
+    return rng.randrange(values) if f in ("get", "del") else None
+
+
+def made(kind, seed, calls=12, processes=3, values=4, on=0):
+    """A history of clients that take turns at random: each call takes effect at some moment between its two maps."""
+    rng = random.Random(f"{kind} {seed}")
+    content, running, maps, order, begun, names = (), {}, [], [], 0, list(range(processes))
+    while begun < calls or running:
+        place = rng.randrange(processes)
+        process = names[place]
+        if process not in running:
+            if begun < calls:
+                f = rng.choice(FUNCTIONS[kind])
+                argument = argument_for(rng, f, values)
+                running[process] = [len(maps), f, argument, None]
+                maps.append(texts.invoke(process, f, argument, on))
+                begun += 1
+            continue
+        number, f, argument, done = running[process]
+        if done is None:
+            taken = NEXT[f](content, f, argument)
+            if taken and rng.random() < 0.95:
+                content = taken[0]
+                running[process][3] = taken
+                order.append(number)
+            elif rng.random() < 0.3:
+                maps.append(texts.fail(process, f, argument, on))
+                del running[process]
+            continue
+        del running[process]
+        if rng.random() < 0.07:
+            maps.append(texts.info(process, f, argument, on))
+            names[place] = max(names) + 1
+        else:
+            maps.append(texts.ok(process, f, done[1], on))
+    return Made(kind, maps, order)
+
+
+def spoilt(kind, seed):
+    """The maps of a made history in which one reply is another: it may be that no order is valid."""
+    rng = random.Random(f"spoilt {kind} {seed}")
+    history = made(kind, seed, calls=rng.choice((6, 10, 16)), values=3)
+    calls, _ = calls_of(history.text())
+    returned = [it for it in calls.values() if it.end == "ok"]
+    if not returned:
+        return history.maps
+    call = rng.choice(returned)
+    maps = list(history.maps)
+    if kind == "mutex":
+        del maps[call.number : call.at + 1]
+        return [it for it in maps]
+    reply = rng.choice((None, 0, 1, 2, 77))
+    if call.f == "cas":
+        reply = False if call.reply is not False else call.argument
+    maps[call.at] = texts.ok(call.process, call.f, reply, call.on)
+    return maps

@@ -1,0 +1,423 @@
+"""Checks the sentences of a page on the history that it is of, by code that shares nothing with the program."""
+import itertools
+import re
+
+from .histories import KIND_OF, calls_of
+from .pages import REF
+from .reasons import NEXT, has_order, value_of
+from .texts import value
+
+PUT = {"queue": "enqueue", "stack": "push", "heap": "insert", "register": "write", "map": "put", "mutex": "acquire"}
+PUTS = ("enqueue", "push", "insert", "write", "put", "cas")
+TAKES = ("dequeue", "pop", "extract-min")
+TIMES = {"once": 1, "twice": 2}
+
+
+def number_in(text):
+    return int(text.replace(" ", ""))
+
+
+def label_of(call):
+    """The label of a call: its function, its argument, and what it returned where that says more."""
+    text = call.f + ("" if call.argument is None else f" {value(call.argument)}")
+    if call.end in ("open", "info"):
+        return f"{text} → ?"
+    is_said = call.f in ("acquire", "release") or call.f in ("enqueue", "push", "insert", "write") and call.reply == call.argument
+    return text if call.end == "fail" or is_said else f"{text} → {value(call.reply)}"
+
+
+def value_put(call):
+    if call.f in ("enqueue", "push", "insert", "write"):
+        return call.argument
+    if call.f == "put" or call.f == "cas" and call.reply is not False:
+        return call.argument[1]
+    return None
+
+
+def key_of(call):
+    return call.argument[0] if call.f == "put" else call.argument if call.f in ("get", "del") else None
+
+
+class Walked:
+    """What an object contains after some entries of an order, as values with the numbers of the calls that put them there."""
+
+    def __init__(self, kind):
+        self.kind, self.items, self.holder, self.releaser = kind, [], None, None
+
+    def take(self, call):
+        """Takes in a call, and returns its reply."""
+        before, f, of = list(self.items), call.f, call.argument
+        if f in ("enqueue", "push", "insert"):
+            self.items.append((of, call.number))
+            if f == "insert":
+                self.items.sort()
+            return of
+        if f in TAKES:
+            return self.items.pop(-1 if f == "pop" else 0)[0] if before else None
+        if f == "write" or f == "cas" and before and before[0][0] == of[0]:
+            self.items = [(of if f == "write" else of[1], call.number)]
+            return of
+        if f in ("read", "cas"):
+            return False if f == "cas" else before[0][0] if before else None
+        if f in ("put", "get", "del"):
+            own = [it for it in before if it[0][0] == key_of(call)]
+            if f != "get":
+                self.items = [it for it in before if it not in own]
+            if f == "put":
+                self.items = sorted(self.items + [(of, call.number)])
+            return own[0][0][1] if own else None
+        self.holder, self.releaser = (call.number, self.releaser) if f == "acquire" else (None, call.number)
+        return None
+
+    def is_possible(self, call):
+        return call.f not in ("acquire", "release") or (call.f == "acquire") == (self.holder is None)
+
+    def found(self, call):
+        """The item that the call finds, or None."""
+        if call.f in ("put", "get", "del"):
+            return next(((it[0][1], it[1]) for it in self.items if it[0][0] == key_of(call)), None)
+        return (self.items[-1] if self.kind == "stack" else self.items[0]) if self.items else None
+
+    def text(self):
+        values = [it[0] for it in self.items]
+        if self.kind == "mutex":
+            return "free" if self.holder is None else "held"
+        if self.kind == "register":
+            return value(values[0] if values else None)
+        if self.kind == "map":
+            more = f", … {len(values) - 6} more" if len(values) > 6 else ""
+            return "{" + ", ".join(f"{k} {v}" for k, v in values[:6]) + more + "}"
+        if len(values) > 11:
+            first = 2 if self.kind == "stack" else 8
+            shown = (" ".join(map(str, it)) for it in (values[:first], values[first - 10 :]))
+            return "[" + f" … {len(values) - 10} more … ".join(shown) + "]"
+        return "[" + " ".join(map(str, values)) + "]"
+
+
+class Said:
+    """What the sentences of a page say of a history, and of the orders that it was checked by."""
+
+    def __init__(self, history, orders):
+        self.calls, self.maps = calls_of(history)
+        self.orders = orders
+
+    def on(self, x):
+        return [it for it in self.calls.values() if it.on == x]
+
+    def walked(self, x, order, k):
+        """What the object contains before the k-th entry of the order."""
+        kind = KIND_OF[self.on(x)[0].f]
+        walk = Walked(kind)
+        for number in order[: k - 1]:
+            walk.take(self.calls[number])
+        return walk
+
+    # ---- a refusal
+
+    def c1(self, x, n):
+        return int(x) not in self.orders and number_in(n) == len(self.on(int(x)))
+
+    def c2(self, x):
+        return int(x) in self.orders and not self.on(int(x))
+
+    def c3(self, k, x, number, why):
+        x, number = int(x), int(re.sub(r"[⟨`]|\|.*|`", "", number))
+        if self.orders[x][int(k) - 1] != number:
+            return False
+        call = self.calls.get(number)
+        if why == "the number is negative":
+            return number < 0
+        there = re.fullmatch(r"it names no map of the history: there are ([\d ]+)", why)
+        if there:
+            return number >= self.maps == number_in(there[1])
+        other = re.fullmatch(r"it is an operation on object (\d+)", why)
+        if other:
+            return call.on == int(other[1]) != x
+        failed = re.fullmatch(r"it failed at map (\d+), so it did not happen", why)
+        if failed:
+            return (call.end, call.at, call.on) == ("fail", int(failed[1]), x)
+        ended = re.fullmatch(r"map (\d+) is the completion of operation (\d+)", why)
+        return bool(ended) and int(ended[1]) == number and self.calls[int(ended[2])].at == number
+
+    def c4(self, n, x, j, k):
+        order = self.orders[int(x)]
+        return int(j) < int(k) and order[int(j) - 1] == order[int(k) - 1] == int(n)
+
+    def c5(self, b, n, own, r, again, at):
+        early, late = self.calls[int(b)], self.calls[int(n)]
+        order = self.orders[late.on]
+        return (
+            (int(own), int(again), int(at)) == (late.number, early.number, early.number)
+            and late.returned() == int(r) < early.number
+            and order.index(early.number) < order.index(late.number)
+        )
+
+    def c7(self, n, r, x):
+        call = self.calls[int(n)]
+        return call.returned() == int(r) and call.on == int(x) and call.number not in self.orders[call.on]
+
+    def at_entry(self, k, n):
+        call = self.calls[int(n)]
+        order = self.orders[call.on]
+        return call, order, order[int(k) - 1] == call.number, self.walked(call.on, order, int(k))
+
+    def c9(self, k, n, of):
+        call, order, is_there, walk = self.at_entry(k, n)
+        held = re.fullmatch(r"held there, by ⟨(\d+)\|.*", of)
+        since = re.fullmatch(r"free there, since ⟨(\d+)\|.*", of)
+        if held:
+            return is_there and walk.holder == int(held[1]) and call.f == "acquire"
+        releaser = int(since[1]) if since else None
+        return is_there and walk.holder is None and walk.releaser == releaser and call.f == "release"
+
+    def c6(self, k, n, gives, kind, content, returned, rest):
+        call, order, is_there, walk = self.at_entry(k, n)
+        found, text, given = walk.found(call), walk.text(), walk.take(call)
+        is_so = is_there and (value(given), value(call.reply)) == (gives, returned) and call.end == "ok"
+        is_so &= KIND_OF[call.f] == kind and text == content and given != call.reply
+        giver = re.match(rf" (-?\d+) was put there by {REF}\.", rest)
+        if giver:
+            is_so &= found == (int(giver[1]), int(giver[2]))
+            rest = rest[giver.end() :]
+        return bool(is_so and (not rest or self.source(call, order, int(k), walk, rest)))
+
+    def source(self, call, order, k, walk, rest):
+        """What is said of the value that the call returned."""
+        live = [it for it in self.on(call.on) if it.is_live() and it.number < call.at]
+        same_key = [it for it in live if key_of(it) == key_of(call) or it.f not in ("put", "get", "del")]
+        nothing = re.fullmatch(r" No operation that was invoked before map (\d+) put (-?\d+)\.", rest)
+        if nothing:
+            return int(nothing[1]) == call.at and not any(value_put(it) == int(nothing[2]) for it in same_key)
+        by = re.fullmatch(rf" (-?\d+) was put by {REF}, (.*)\.", rest)
+        if not by or value_put(self.calls[int(by[2])]) != int(by[1]):
+            return False
+        number, wanted, how = int(by[2]), int(by[1]), by[4]
+        if how == "which the order leaves out":
+            return number not in order
+        place = order.index(number) + 1 if number in order else None
+        behind = re.fullmatch(r"which stands behind it, as entry (\d+)", how)
+        if behind:
+            return place == int(behind[1]) > k
+        entry = re.match(r"entry (\d+)", how)
+        if not entry or place != int(entry[1]) or place >= k:
+            return False
+        how = how[entry.end() :]
+        contents = [it[0] for it in self.walked(call.on, order, k).items]
+        if how == ", and is not at its turn":
+            return wanted in contents
+        taken = re.fullmatch(rf", and taken out by {REF}, entry (\d+)", how)
+        if taken:
+            taker = self.calls[int(taken[1])]
+            return order[int(taken[3]) - 1] == taker.number and taker.reply == wanted and int(taken[3]) < k
+        return how == "" and call.f in ("read", "cas", "put", "get", "del")
+
+    # ---- no order
+
+    def none_valid(self, x, kind):
+        return KIND_OF[self.on(int(x))[0].f] == kind
+
+    def never_put(self, n, v, at, f, again):
+        call = self.calls[int(n)]
+        others = [it for it in self.on(call.on) if it.number < call.at and it.is_live()]
+        is_so = (call.returned(), call.reply) == (int(at), int(v)) and v == again and call.f in TAKES
+        return is_so and not any(it.f == f and it.argument == int(v) for it in others)
+
+    def not_empty(self, n, kind, p, at, until, v):
+        call, put = self.calls[int(n)], self.calls[int(p)]
+        others = [it for it in self.on(call.on) if it.number < int(until) and it.f in TAKES and it.is_live()]
+        is_so = call.reply is None and call.end == "ok" and put.returned() == int(at) < call.number
+        is_so &= put.argument == int(v) and call.at == int(until)
+        return is_so and not any(it.end != "ok" or it.reply == int(v) for it in others)
+
+    def out_of_date(self, n, v, by, w, at, first, last):
+        read, write = self.calls[int(n)], self.calls[int(by)]
+        is_so = (read.reply, read.end, value_put(write)) == (int(v), "ok", int(w)) and v != w
+        is_so &= write.returned() == int(at) < read.number and (write.number, read.at) == (int(first), int(last))
+        ran = [it for it in self.on(read.on) if it.is_live() and it.number < read.at and (it.returned() is None or it.returned() > write.number)]
+        again = [it for it in ran if key_of(it) == key_of(read) or it.f in ("write", "cas")]
+        return is_so and not any(value_put(it) == int(v) and it.argument != (int(v), int(v)) for it in again)
+
+    def twice_released(self, first, last, a, b):
+        one, two = self.calls[int(a)], self.calls[int(b)]
+        is_so = one.f == two.f == "release" and one.end == two.end == "ok" and one.on == two.on
+        is_so &= (min(one.number, two.number), max(one.at, two.at)) == (int(first), int(last))
+        ran = [it for it in self.on(one.on) if it.is_live() and it.number < int(last) and (it.returned() is None or it.returned() > int(first))]
+        return is_so and not any(it.f == "acquire" for it in ran)
+
+    def wrong_turn(self, a, at, b, v, w, t, again, until, once_more):
+        one, two, taker = (self.calls[int(it)] for it in (a, b, t))
+        others = [it for it in self.on(one.on) if it.number < int(until) and it.is_live()]
+        is_so = one.returned() == int(at) < two.number and (one.argument, two.argument) == (int(v), int(w))
+        is_so &= (taker.reply, taker.at) == (int(w), int(until)) and (again, once_more) == (w, v)
+        is_so &= sum(it.f == "enqueue" and it.argument == int(w) for it in others) == 1
+        return is_so and not any(it.f == "dequeue" and (it.end != "ok" or it.reply == int(v)) for it in others)
+
+    def too_often(self, v, put, putters, taken, takers, f, again, until):
+        by, of = ([self.calls[int(it[0])] for it in re.findall(REF, those)] for those in (putters, takers))
+        counts = [TIMES.get(it, None) or number_in(it.removesuffix(" times")) for it in (put, taken)]
+        puts = [it for it in self.on(by[0].on) if it.is_live() and it.number < int(until) and it.f == f and it.argument == int(v)]
+        is_so = counts == [len(by), len(of)] and len(of) > len(by) and v == again
+        is_so &= {it.number for it in by} == {it.number for it in puts}
+        return is_so and all((it.reply, it.end) == (int(v), "ok") and it.at <= int(until) for it in of)
+
+    def contents(self, calls, has_window):
+        """What the object may have contained before the part: nothing, or, where it is a window, any small content."""
+        if not has_window:
+            return [()]
+        kind = KIND_OF[calls[0].f]
+        seen = {it for call in calls for it in (call.reply, value_put(call)) if isinstance(it, int) and it is not False} | {-99}
+        if kind == "mutex":
+            return [(), ("held",)]
+        if kind == "register":
+            return [()] + [(it,) for it in seen]
+        if kind == "map":
+            keys = {key_of(it) for it in calls}
+            return [tuple(zip(sorted(keys), those)) for those in itertools.product(seen, repeat=len(keys))] + [()]
+        sizes = range(3)
+        found = [it for size in sizes for it in itertools.product(sorted(seen), repeat=size)]
+        return [tuple(sorted(it)) if kind == "heap" else it for it in found]
+
+    def general(self, bars, begin, last, returned):
+        """The operations that have bars have no valid order, and where one is named it is among them."""
+        calls = [self.calls[it] for it in bars]
+        if last is not None:
+            call = self.calls[int(last)]
+            if call not in calls or returned is not None and value(call.reply) != returned:
+                return False
+        since = None if begin is None else int(begin)
+        return not any(self.has_order_from(calls, content, since) for content in self.contents(calls, begin is not None))
+
+    def has_order_from(self, calls, content, since):
+        """Whether some order of the calls is valid after this content. Those that began before the window need not be in it."""
+        free = [it for it in calls if since is not None and it.number < since]
+        for left_out in itertools.chain.from_iterable(itertools.combinations(free, size) for size in range(len(free) + 1)):
+            kept = [it for it in calls if it not in left_out and it.is_live()]
+            if is_ordered(kept, content):
+                return True
+        return False
+
+
+def is_ordered(calls, content):
+    """Whether some order of the calls is valid after this content."""
+    live = [(it.number, it.returned(), it.f, it.argument, it.reply) for it in calls]
+    if not content:
+        return has_order(live)
+
+    def goes_on(left, content):
+        ends = [it[1] for it in left if it[1] is not None]
+        if not ends:
+            return True
+        for it in left:
+            if any(end < it[0] for end in ends if end != it[1]):
+                continue
+            taken = NEXT[it[2]](content, it[2], it[3])
+            if taken and (it[1] is None or taken[1] == it[4]) and goes_on(left - {it}, taken[0]):
+                return True
+        return False
+
+    return goes_on(frozenset(live), content)
+
+
+VALID = (
+    "The history is linearizable: (?:this order is|these orders, one for each object, are) valid. Each operation that returned has its "
+    "place in the order between its invocation and its return, and each reply is what the object gives there."
+)
+KINDS = "(queue|stack|heap|register|map|mutex)"
+REPLY = r"(nil|false|-?\d+|\[-?\d+ -?\d+\])"
+FORMS = {
+    "c1": r"Object (\d+) has no certificate. The history has ([\d ]+) operations? on it, so it needs one: `\{:object \d+, :order \[..\]\}`.",
+    "c2": r"The certificates give an order for object (\d+), and no invocation of the history names it. Each certificate must be of an "
+    r"object of the history.",
+    "c3": r"Entry (\d+) of the order for object (\d+) is (⟨[^⟩]*⟩|`-?\d+`), which is no operation that can stand in it: (.*)\.",
+    "c4": rf"{REF} stands twice in the order for object (\d+), as entry (\d+) and again as entry (\d+). An operation takes effect once.",
+    "c5": rf"The order puts {REF} before {REF}. But (\d+) returned at map (\d+), before (\d+) was invoked at map (\d+). An operation that "
+    r"returned before another began must stand before it.",
+    "c6": rf"As entry (\d+) of the order, {REF} gives {REPLY}: the {KINDS} contains `([^`]*)` there. The history says that it returned "
+    rf"{REPLY}\.(.*)",
+    "c7": rf"{REF} returned at map (\d+), so it happened. But the order for object (\d+) leaves it out.",
+    "c9": rf"As entry (\d+) of the order, {REF} is not possible: the mutex is (.*)\. A mutex is (?:acquired only while it is free|released "
+    r"only while it is held)\.",
+    "none_valid": rf"No order of the operations of object (\d+), a {KINDS}, is valid. So the history is not linearizable.",
+    "never_put": rf"{REF} returned (-?\d+) at map (\d+), and no ([\w-]+) of (-?\d+) was invoked before that.",
+    "not_empty": rf"{REF} found the {KINDS} empty. But {REF} had returned before \(map (\d+)\), and nothing that was invoked before map "
+    r"(\d+) took (-?\d+) out again. So the \w+ contained -?\d+.",
+    "out_of_date": rf"{REF} returned (-?\d+). But {REF} set (-?\d+) and returned \(map (\d+)\) before that began, and nothing that ran in "
+    r"between \(maps (\d+) to (\d+)\) made it -?\d+ again. So -?\d+ is out of date.",
+    "twice_released": rf"Between map (\d+) and map (\d+) the mutex was released twice, by {REF} and {REF}, and no acquire ran in between.",
+    "wrong_turn": rf"{REF} returned \(map (\d+)\) before {REF} was invoked, so (-?\d+) went in before (-?\d+). But {REF} took (-?\d+) out, "
+    r"and nothing invoked before map (\d+) took (-?\d+) out.",
+    "too_often": r"(-?\d+) was \w+ (once|twice|[\d ]+ times), by (.*), \w+ (once|twice|[\d ]+ times), by (.*). No other ([\w-]+) of (-?\d+) "
+    r"was invoked before map (\d+).",
+}
+# Of each form that has operations, which of the groups are labels: those are checked apart.
+GENERAL = re.compile(
+    rf"(?:Whatever the \w+ contained before map (\d+))?(?:, and in|In|)(?: ?whatever order (?:.*) come, |, |Whatever comes before, )"
+    rf"(?:⟨(\d+)\|[^⟩]*⟩ could not return {REPLY}\.|⟨(\d+)\|[^⟩]*⟩ is not possible\.|one of them does not fit: the table says where each "
+    r"order breaks\.)"
+)
+# What is said beside.
+ASIDES = (
+    r"This refuses the order, and not the history: another order may be valid. `fcbench judge HISTORY` looks for one.",
+    r"Not drawn: (?:object \d+|[\d ]+ objects). `--object `\d+ draws object \d+.",
+    r"The history is linearizable: it has no operations.",
+    r"No order was found for object \d+, and none was excluded: [\w ]+. Nothing is said of the history.",
+    VALID,
+)
+
+
+def groups_of(form, match):
+    """The groups of a match without labels."""
+    names = [it for it in re.finditer(r"\((?!\?)", FORMS[form].replace(r"\(", "  "))]
+    labels = {number for number, it in enumerate(names, 1) if FORMS[form][it.start() :].startswith("([^⟩]*)")}
+    return [match[number] for number in range(1, len(names) + 1) if number not in labels]
+
+
+def why_false(page, history, orders):
+    """What is false of the sentences of a page, or None."""
+    said = Said(history, orders)
+    for sentence in page.said:
+        for number, label in re.findall(REF, sentence):
+            if label_of(said.calls[int(number)]) != label:
+                return f"no label of operation {number}: {label}"
+        wrong = why_sentence_false(page, said, sentence)
+        if wrong:
+            return f"{wrong}: {sentence}"
+    return None
+
+
+def why_sentence_false(page, said, sentence):
+    if any(re.fullmatch(it, sentence) for it in ASIDES):
+        return None
+    for form, pattern in FORMS.items():
+        match = re.fullmatch(pattern, sentence)
+        if match:
+            return None if getattr(said, form)(*groups_of(form, match)) else f"false ({form})"
+    match = GENERAL.fullmatch(sentence)
+    if not match:
+        return "no known sentence"
+    is_so = said.general(page.bars("zoom"), match[1], match[2] or match[4], match[3])
+    return None if is_so else "false (general)"
+
+
+def why_order_false(page, history):
+    """What is false of the tables of orders of a page whose history is linearizable, or None."""
+    said = Said(history, {})
+    for x in sorted({it.on for it in said.calls.values()}):
+        rows = page.rows(f"t{x}")
+        walk, last, entries = Walked(KIND_OF[said.on(x)[0].f]), 0, []
+        if any("skip" in name for name, _ in rows):
+            continue
+        for _, (rank, operation, content) in rows:
+            number = int(re.match(r"⟨(\d+)", operation)[1])
+            call = said.calls[number]
+            if not walk.is_possible(call) or walk.take(call) != call.reply and call.end == "ok" or content != f"`{walk.text()}`":
+                return f"entry {rank} of object {x}"
+            last += 1
+            entries.append(call)
+            if int(rank) != last:
+                return f"rank {rank} of object {x}"
+        if any(a.returned() is not None and a.returned() < b.number for b, a in itertools.combinations(entries, 2)):
+            return f"the order of object {x}"
+        if rows and {it.number for it in said.on(x) if it.end == "ok"} - {it.number for it in entries}:
+            return f"an operation is left out of object {x}"
+    return None
