@@ -1,5 +1,5 @@
 -- What a verdict on certificates says of the texts that denote them and their history.
-use Rattle.std.proofs.Common.{List, ℕ, inr, map, subst, sym}
+use Rattle.std.proofs.Common.{List, ℕ, inr, subst}
 use Rattle.model.specs.Linearizable.{IsLinearizable}
 use Rattle.model.specs.Orders.{events}
 use Rattle.events.specs.declared.event.Event.{Event}
@@ -9,7 +9,7 @@ use Rattle.checker.specs.Refusals.{AreValid}
 use Rattle.verdicts.specs.declared.verdict.Verdict.{Verdict}
 use Rattle.verdicts.specs.declared.verdict.Verdict.TheVariants.{Yes, No, Malformed, NoMemory}
 use Rattle.judging.specs.Texts.{AreValidTexts, DenoteOnly, IsLinearizableText}
-use Rattle.judging.specs.Verdicts.{IsYesUnlessMemory, Judges, JudgesBy, OnYes}
+use Rattle.judging.specs.Verdicts.{Judges, JudgesBy, OnYes}
 use Rattle.judging.proofs.Accepting.{same_valid}
 
 module _ (h c : List ℕ) (es : List Event) (cs : List Certificate) (t : DenoteOnly h c es cs) where

@@ -1,5 +1,5 @@
 -- What the verdict on a check says, from what the check says.
-use Rattle.std.proofs.Common.{◌≡◌, ◌≢◌, ◌∙◌, List, subst, sym}
+use Rattle.std.proofs.Common.{◌≡◌, ◌∙◌, List, subst, sym}
 use Rattle.std.specs.Prelude.{Result, Ok, Err, OnOk, IfErr}
 use Rattle.events.specs.declared.event.Event.{Event}
 use Rattle.certificate.specs.declared.Certificate.{Certificate}

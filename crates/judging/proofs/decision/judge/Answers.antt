@@ -1,5 +1,4 @@
 use Rattle.std.proofs.Common.{◌∙◌, ap, sym, subst}
-use Rattle.checker.specs.Refusals.{AreValid}
 use Rattle.judging.specs.Texts.{DenoteOnly, verdict_of}
 use Rattle.judging.specs.Verdicts.{IsYesUnlessMemory}
 use Rattle.judging.proofs.Judging.{judged, linearizable_text, valid_here}
