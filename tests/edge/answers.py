@@ -139,7 +139,7 @@ def examples(program, report):
         out, status = expected(name)
         report.answers(f"example {name}: {' '.join(words)}", program.run(*words), out, status)
 
-    names = sorted(os.listdir(EXAMPLES))
+    names = sorted(it for it in os.listdir(EXAMPLES) if os.path.isfile(f"{EXAMPLES}/{it}"))
     for name in names:
         with open(f"{EXAMPLES}/{name}", "rb") as file:
             program.write(name, file.read())

@@ -28,6 +28,13 @@ def with_each_file(name):
     yield from ((*it, name) for it in OF_ONE_FILE)
 
 
+def drawn_with(name):
+    """The words of a drawing with this name in the place of each of its files."""
+    yield "draw", name
+    yield "draw", name, CERTIFICATES
+    yield "draw", HISTORY, name
+
+
 def write_good(program):
     """Writes the texts of a history that is linearizable, its certificates, a reason and a schedule."""
     program.write(HISTORY, rows.OVERLAPPING)
@@ -53,7 +60,7 @@ def unreadable(program: Program, report: Report):
     write_good(program)
     os.makedirs(f"{program.room}/folder", exist_ok=True)
     for name in ("missing.edn", "folder"):
-        for words in with_each_file(name):
+        for words in (*with_each_file(name), *drawn_with(name)):
             report.answers(" ".join(words), program.run(*words), "", 4, f"fcbench: cannot read {name}\n")
     ran = program.run("check", "first.edn", "second.edn")
     report.answers("check: both files are missing", ran, "", 4, "fcbench: cannot read first.edn\n")
@@ -65,7 +72,7 @@ def unreadable(program: Program, report: Report):
     os.chmod(f"{program.room}/{secret}", 0)
     # The superuser may read every file, so then the program runs as nobody.
     how = AS_NOBODY if os.geteuid() == 0 else {}
-    for words in with_each_file(secret):
+    for words in (*with_each_file(secret), *drawn_with(secret)):
         ran = program.run(*words, **how)
         report.answers(f"{' '.join(words)}, without permission", ran, "", 4, f"fcbench: cannot read {secret}\n")
 
@@ -117,6 +124,10 @@ def too_long(program, report):
             if files[-1] == name and len(files) == 2:
                 out = f"malformed {SECOND_TEXTS[command]}: E10 at byte 0\n"
             report.answers(f"{command} {' '.join(files)}", program.run(command, *files), out, 2)
+        for words in drawn_with(name):
+            ran = program.run(*words)
+            is_said = ran.status == 2 and b"The text is longer than 268,435,456 bytes." in ran.out and len(ran.out) < 20_000
+            report.holds(f"{' '.join(words)}: the page", is_said, ran.out[-500:])
     # One byte fewer is read, and a zero byte is no token.
     with_zeros(program, "long.edn", LONGEST)
     ran = program.run("check", "long.edn", CERTIFICATES)

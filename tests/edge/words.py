@@ -1,6 +1,6 @@
 """Command lines: help, and words that are refused."""
 
-COMMANDS = ("check", "search", "find", "judge", "refute", "run", "simulate")
+COMMANDS = ("check", "search", "find", "judge", "refute", "draw", "run", "simulate")
 
 REFUSED = (
     (),
@@ -28,6 +28,13 @@ REFUSED = (
     ("refute", "one.edn", "two.edn", "three.edn"),
     ("refute", "--steps", "1000000001", "one.edn", "two.edn"),
     ("refute", "--steps", "many", "one.edn", "two.edn"),
+    ("draw",),
+    ("draw", "one.edn", "two.edn", "three.edn"),
+    ("draw", "--object", "-1", "one.edn"),
+    ("draw", "--from", "4294967296", "one.edn"),
+    ("draw", "--to", "end", "one.edn"),
+    ("draw", "--steps", "1000000001", "one.edn"),
+    ("draw", "--workers", "2", "one.edn", "two.edn"),
     ("run", "one.edn"),
     ("run", "--clients", "0"),
     ("run", "--clients", "33"),
@@ -51,6 +58,7 @@ def help_texts(program, report):
         lacks = [it for it in COMMANDS if f"\n  {it} ".encode() not in ran.out]
         report.equal(f"{words[0]} names each command", [], lacks, ran.out)
     options = {"check": ("--workers",), "search": ("--steps", "--first"), "judge": ("--steps",), "refute": ("--steps",)}
+    options["draw"] = ("--object", "--from", "--to", "--steps")
     options["run"] = ("--kind", "--objects", "--clients", "--calls", "--seed")
     for command in COMMANDS:
         ran = program.run(command, "--help")

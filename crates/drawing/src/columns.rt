@@ -139,7 +139,10 @@ impl Columns<'_> {
                 let label = fit(self.memory, &nemesis.function, LABEL_LENGTH);
                 self.add(what, nemesis_width(characters(&label)), EVENT_WIDTH / 2);
             }
-            None => self.add_even(what, event_width(number, scene.is_zoom)),
+            None => {
+                let has_room = scene.is_zoom || scene.is_faulty(&moment);
+                self.add_even(what, event_width(number, has_room))
+            }
         }
         let mut arrows = scene.arrows.iter();
         if arrows.any(|arrow| arrow.0.returned() == Some(number)) {

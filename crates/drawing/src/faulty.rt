@@ -7,7 +7,7 @@ use crate::memory::Memory;
 use crate::moments::{Moment, Nemesis, moments_of};
 use crate::numbers::WHOLE_BEFORE_FAULT;
 use crate::objects::{Stretch, focus_events};
-use crate::operations::{Operation, operations_of};
+use crate::operations::{Operation, completions_of, operations_of};
 use crate::scene::{FaultyMap, Scene, numbers_of};
 use crate::window::{choose, narrow};
 use events::{History, ObjectHistory};
@@ -38,9 +38,11 @@ pub struct FaultyDrawing {
 
 /// The operations of all objects, in rising number.
 fn operations_in(memory: &Memory, faulty: &Faulty<'_>) -> Vec<Operation> {
-    let mut operations = Vec::new(memory.alloc);
+    let (alloc, history) = (memory.alloc, faulty.history);
+    let completions = memory.list(completions_of(alloc, history.events()));
+    let mut operations = Vec::new(alloc);
     for object in faulty.objects {
-        let own = memory.list(operations_of(memory.alloc, faulty.history, object));
+        let own = memory.list(operations_of(alloc, history, &completions, object));
         memory.note(operations.extend_from_slice(&own));
     }
     operations.sort_unstable_by_key(|operation| operation.invocation.number);

@@ -39,7 +39,7 @@ pub use objects::{
     Extent, ObjectDrawing, Part, Stretch, Subject, draw_impossible, draw_refused, draw_uncertified,
     draw_valid,
 };
-pub use operations::{Operation, Role, State, operations_of};
+pub use operations::{Operation, Role, State, completions_of, operations_of};
 pub use orders::{Entry, Row};
 pub use points::{Point, sound_points};
 pub use scene::FaultyMap;

@@ -104,9 +104,9 @@ pub(crate) fn nemesis_width(characters: u32) -> u32 {
         .saturating_add(EVENT_WIDTH + 8)
 }
 
-/// The width of the column of an event; in a zoom its number always has room.
-pub(crate) fn event_width(number: u32, is_zoom: bool) -> u32 {
-    if !is_zoom {
+/// The width of the column of an event, with room for its number or not.
+pub(crate) fn event_width(number: u32, has_room: bool) -> u32 {
+    if !has_room {
         return EVENT_WIDTH;
     }
     EVENT_WIDTH.max(

@@ -34,6 +34,8 @@ pub struct Stretch {
 #[derive(Clone, Copy)]
 pub struct Subject<'a> {
     pub history: &'a History,
+    /// The completions of the history's events.
+    pub completions: &'a [Option<u32>],
     pub object: &'a ObjectHistory,
     pub maps: u32,
     /// Those of its maps whose process is a keyword, in rising number.
@@ -306,7 +308,12 @@ fn draw(
 
 /// The operations of the object, in memory that is noted.
 fn all_operations(memory: &Memory, subject: &Subject<'_>) -> Vec<Operation> {
-    memory.list(operations_of(memory.alloc, subject.history, subject.object))
+    memory.list(operations_of(
+        memory.alloc,
+        subject.history,
+        subject.completions,
+        subject.object,
+    ))
 }
 
 /// The drawing of an object with an order that is valid, if one is given.

@@ -97,7 +97,7 @@ impl Operation {
 
 /// For each event the number of the next event of its process that completes what is outstanding
 /// after it.
-fn completions_of(alloc: Global, events: &[Event]) -> Result<Vec<Option<u32>>, AllocError> {
+pub fn completions_of(alloc: Global, events: &[Event]) -> Result<Vec<Option<u32>>, AllocError> {
     let mut next: NumberMap<u32> = NumberMap::new(alloc);
     let mut numbers = Vec::new(alloc);
     for event in events.iter().rev() {
@@ -128,21 +128,22 @@ fn operation_of(events: &[Event], completions: &[Option<u32>], invocation: &Invo
     }
 }
 
-/// The operations of an object of the history, failed ones too, in rising number.
+/// The operations of an object of the history, failed ones too, in rising number. The completions
+/// are those of the history's events.
 pub fn operations_of(
     alloc: Global,
     history: &History,
+    completions: &[Option<u32>],
     object: &ObjectHistory,
 ) -> Result<Vec<Operation>, AllocError>
     // Each is one of the object's, with its numbers, and none is left out.
     ensures { IfOk result (λ v. map (λ o. o.invocation) v.items ≡ object.now.ops) }
 {
     let events = history.events();
-    let completions = completions_of(alloc, events)?;
     let mut operations = Vec::new(alloc);
     let ops = object.ops();
     for invocation in ops {
-        operations.push(operation_of(events, &completions, invocation))?;
+        operations.push(operation_of(events, completions, invocation))?;
     }
     Ok(operations)
 }

@@ -1,7 +1,9 @@
 //! Histories of one object with an order each, and what is wrong with the order.
 
 use checker::OrderFault;
-use drawing::{ObjectDrawing, Stretch, Subject, draw_refused, draw_uncertified, draw_valid};
+use drawing::{
+    ObjectDrawing, Stretch, Subject, completions_of, draw_refused, draw_uncertified, draw_valid,
+};
 use events::split;
 use history::read_history_text;
 use std::alloc::Global;
@@ -60,8 +62,10 @@ pub(crate) fn drawing_of(alloc: Global, case: &Case) -> Result<ObjectDrawing, Fa
         to: None,
     };
     let history = &history;
+    let completions = completions_of(alloc, history.events())?;
     let subject = Subject {
         history,
+        completions: &completions,
         object,
         maps,
         nemeses: &[],

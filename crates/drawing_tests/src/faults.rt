@@ -39,11 +39,11 @@ static ROWS: [Row; 8] = [
             "<tr class=\"at\"><th>7</th><td><mark>{:process 0, :type :invoke, :f :write, :value 3}\
              </mark></td></tr><tr><th>8</th>",
             "<figcaption>The operation that is outstanding, map 4</figcaption>",
-            "viewBox=\"0 0 340 80\" width=\"510\" height=\"120\"",
-            "<rect class=\"fill\" x=\"156\" y=\"26\" width=\"67\" height=\"18\"/>",
+            "viewBox=\"0 0 341 80\" width=\"511\" height=\"120\"",
+            "<rect class=\"fill\" x=\"156\" y=\"26\" width=\"68\" height=\"18\"/>",
             "<rect class=\"fill\" x=\"168\" y=\"52\" width=\"91\" height=\"18\"/>",
-            "<g class=\"cross\"><title>map 6: H5</title><path d=\"M226 29l12 12m0 -12l-12 12\"/>\
-             <text x=\"242\" y=\"39\">invoke write</text></g>",
+            "<g class=\"cross\"><title>map 6: H5</title><path d=\"M227 29l12 12m0 -12l-12 12\"/>\
+             <text x=\"243\" y=\"39\">invoke write</text></g>",
         ],
     },
     Row {
@@ -57,8 +57,9 @@ static ROWS: [Row; 8] = [
              <b>0</b> <code>enqueue 1 → ?</code></a> may have happened or not, so the process goes \
              on under another number.</p>",
             "<figcaption>The :info that closed the process, map 1</figcaption>",
-            "viewBox=\"0 0 301 54\" width=\"451\" height=\"81\"",
-            "<path d=\"M173 29l12 12m0 -12l-12 12\"/><text x=\"189\" y=\"39\">invoke enqueue</text>",
+            "viewBox=\"0 0 302 54\" width=\"453\" height=\"81\"",
+            "<text class=\"num on\" x=\"180\" y=\"12\">2</text>",
+            "<path d=\"M174 29l12 12m0 -12l-12 12\"/><text x=\"190\" y=\"39\">invoke enqueue</text>",
         ],
     },
     Row {

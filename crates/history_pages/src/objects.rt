@@ -53,9 +53,12 @@ pub(crate) fn counts_in(objects: &[ObjectHistory]) -> Counts {
     all
 }
 
-/// The object with this number.
+/// The object with this number, where the objects are in rising number.
 pub(crate) fn object_at(objects: &[ObjectHistory], number: u32) -> Option<&ObjectHistory> {
-    objects.iter().find(|object| object.object() == number)
+    let place = objects.partition_point(|object| object.object() < number);
+    objects
+        .get(place)
+        .filter(|object| object.object() == number)
 }
 
 /// A list with nothing in it but this.

@@ -8,8 +8,8 @@ use certificate::Certificate;
 use checker::{OrderFault, Refusal};
 use deciding::{Decision, FoundReason};
 use drawing::{
-    Memory, Nemesis, ObjectDrawing, Part, Span, Stretch, Subject, count_text, draw_impossible,
-    draw_refused, draw_uncertified, draw_valid,
+    Memory, Nemesis, ObjectDrawing, Part, Span, Stretch, Subject, completions_of, count_text,
+    draw_impossible, draw_refused, draw_uncertified, draw_valid,
 };
 use events::{History, ObjectHistory, split};
 use page::{Answer, ObjectRow, Page, html_of};
@@ -183,12 +183,14 @@ fn page_of(
 
 fn subject<'a>(
     history: &'a History,
+    completions: &'a [Option<u32>],
     object: &'a ObjectHistory,
     texts: &Texts<'a>,
     options: Options,
 ) -> Subject<'a> {
     Subject {
         history,
+        completions,
         object,
         maps: texts.maps,
         nemeses: texts.nemeses,
@@ -223,19 +225,20 @@ fn valid_page(
 ) -> Result<Vec<u8>, AllocError>
     ensures { IfOk result (λ v. ∥ IsMade v.items ∥₁) }
 {
+    let completions = completions_of(alloc, history.events())?;
     let mut rows = Vec::new(alloc);
     let mut drawings = Vec::new(alloc);
     let mut drawn: usize = 0;
     for object in objects {
         rows.push(row_of(object, "valid", false))?;
-        let is_wanted = options
-            .object
-            .is_none_or(|wanted| wanted == object.object());
-        let found = certificates.iter().find(|it| it.object == object.object());
-        let Some(certificate) = found.filter(|_| is_wanted && drawn < BUDGET) else {
+        let number = object.object();
+        if drawn >= BUDGET || options.object.is_some_and(|wanted| wanted != number) {
+            continue;
+        }
+        let Some(certificate) = certificates.iter().find(|it| it.object == number) else {
             continue;
         };
-        let subject = subject(history, object, texts, options);
+        let subject = subject(history, &completions, object, texts, options);
         let drawing = draw_valid(alloc, &subject, Some(&certificate.order))?;
         drawn = drawn.saturating_add(drawing.extent.drawn);
         drawings.push(drawing)?;
@@ -357,7 +360,8 @@ fn refused_page(
     let shown = options.object.or(object_of(refusal));
     let mut drawings = Vec::new(alloc);
     if let Some(object) = shown.and_then(|shown| object_at(objects, shown)) {
-        let subject = subject(history, object, texts, options);
+        let completions = completions_of(alloc, history.events())?;
+        let subject = subject(history, &completions, object, texts, options);
         drawings.push(refused_drawing(alloc, &subject, certificates, refusal)?)?;
     }
     let mut sentences = Vec::new(alloc);
@@ -514,7 +518,8 @@ fn faulty_page(
     let decision = answers.iter().find(|answer| answer.0 == shown);
     let mut drawings = Vec::new(alloc);
     if let Some(object) = object_at(objects, shown) {
-        let subject = subject(history, object, texts, options);
+        let completions = completions_of(alloc, history.events())?;
+        let subject = subject(history, &completions, object, texts, options);
         drawings.push(decided_drawing(alloc, &subject, decision.map(|it| &it.1))?)?;
     }
     let parts = Parts {

@@ -52,7 +52,7 @@ fn became(operation: &Operation) -> [Word; 3] {
         (State::Pending, Some(_)) => [
             Word::Text("pending: info at map "),
             at,
-            Word::Text(", nobody knows whether it happened"),
+            Word::Text(", it may have happened or not"),
         ],
         (State::Pending, None) => [Word::Text("pending: it has no completion"), at, at],
     }

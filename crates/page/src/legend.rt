@@ -63,7 +63,7 @@ static SIGNS: [Sign; 13] = [
         rectangle: WHOLE,
         paths: &[("edge", "M33 2H1V16H33"), ("more", "M28 5L32 9L28 13")],
         text: None,
-        meaning: " pending: open at the right, nobody knows whether it happened",
+        meaning: " pending: open at the right, it may have happened or not",
     },
     Sign {
         class: "op put failed",

@@ -101,6 +101,6 @@ align-items:center;gap:7px}
 .skiplink{display:none}.fill,.pt rect,mark,.box rect,tr.bad>*{print-color-adjust:exact;
 -webkit-print-color-adjust:exact}}
 .tbl.overview{margin-top:16px;max-height:60vh}
-.beside>.tbl.tried{max-width:none;flex:0 1 auto}
+.beside>.tbl.tried{max-width:none;flex:0 1 auto}.beside>#zoom>figcaption{max-width:600px}
 .tbl td code{white-space:nowrap}.tried td{white-space:normal}
 ";

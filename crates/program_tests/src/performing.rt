@@ -1,5 +1,6 @@
 //! What the program puts out for a line and the texts of its files, and the status that it gives.
 
+mod drawings;
 mod findings;
 mod judgements;
 mod refutations;

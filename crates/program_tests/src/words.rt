@@ -6,7 +6,7 @@ use std::test::Fail;
 
 /// Words after the name of the program, and the line that they ask for. An option is anywhere
 /// before `--`, and its value may be after `=`.
-const ASKED: [(&[&str], &str); 30] = [
+const ASKED: [(&[&str], &str); 34] = [
     (
         &["check", "h.edn", "c.edn"],
         "Check { history: \"h.edn\", certs: \"c.edn\", workers: 1 }",
@@ -135,6 +135,26 @@ const ASKED: [(&[&str], &str); 30] = [
         &["refute", "--", "-h.edn", "r.edn"],
         "Refute { history: \"-h.edn\", reasons: \"r.edn\", steps: 1000000 }",
     ),
+    (
+        &["draw", "h.edn"],
+        "Draw { history: \"h.edn\", certs: None, options: DrawOptions { object: None, from: None, \
+         to: None, steps: 1000000 } }",
+    ),
+    (
+        &["draw", "--", "-h.edn", "c.edn"],
+        "Draw { history: \"-h.edn\", certs: Some(\"c.edn\"), options: DrawOptions { object: None, \
+         from: None, to: None, steps: 1000000 } }",
+    ),
+    (
+        &["draw", "--object", "3", "h.edn", "--steps=7", "c.edn"],
+        "Draw { history: \"h.edn\", certs: Some(\"c.edn\"), options: DrawOptions { object: Some(3), \
+         from: None, to: None, steps: 7 } }",
+    ),
+    (
+        &["draw", "h.edn", "--from", "0", "--to", "4294967295"],
+        "Draw { history: \"h.edn\", certs: None, options: DrawOptions { object: None, from: Some(0), \
+         to: Some(4294967295), steps: 1000000 } }",
+    ),
     (&["simulate", "s.edn"], "Simulate { schedule: \"s.edn\" }"),
     (
         &["simulate", "--", "-s.edn"],
@@ -143,7 +163,7 @@ const ASKED: [(&[&str], &str); 30] = [
 ];
 
 /// Words after the name of the program that are refused.
-const REFUSED: [&[&str]; 58] = [
+const REFUSED: [&[&str]; 64] = [
     &[],
     &["check", "h.edn"],
     &["judge"],
@@ -206,6 +226,12 @@ const REFUSED: [&[&str]; 58] = [
     &["refute", "h.edn", "r.edn", "--steps", "1000000001"],
     &["refute", "h.edn", "r.edn", "--first", "return"],
     &["refute", "h.edn", "r.edn", "--workers", "2"],
+    &["draw"],
+    &["draw", "h.edn", "c.edn", "d.edn"],
+    &["draw", "h.edn", "--object", "-1"],
+    &["draw", "h.edn", "--from", "4294967296"],
+    &["draw", "h.edn", "--to"],
+    &["draw", "h.edn", "--workers", "2"],
     &["simulate"],
     &["simulate", "s.edn", "t.edn"],
     &["simulate", "-s.edn"],
