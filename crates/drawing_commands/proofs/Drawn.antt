@@ -31,7 +31,7 @@ with_verdict h limit v said status out is page = record {
 
 pub with_notes : (h : List ℕ) (limit : ℕ) (es : List Event) → IsShort h → DenotesHistory h es → (status : ℕ) (text : List ℕ) → AreOpen es limit status text
     → (out : List ℕ) → ∥ IsMade out ∥₁ → IsPageWith (IsJudgement h limit) status out
-with_notes h limit es short denotes status text open out page = record { lines = text; said = is_judgement h limit status text (inl (short, es, denotes, open)); page = page }
+with_notes h limit es short denotes status text notes out page = record { lines = text; said = is_judgement h limit status text (inl (short, es, denotes, notes)); page = page }
 
 pub verdict_on_text : (h : List ℕ) (es : List Event) → IsShort h → DenotesHistory h es → (v : Verdict) → IsVerdictOn es v → IsVerdictOnText h v
 verdict_on_text h es short denotes (verdict.Yes s) k = (short, es, denotes, k)
