@@ -1,5 +1,5 @@
 -- Pages, and the status of what was judged or checked.
-use Rattle.std.proofs.Common.{◌≡◌, ◌≢◌, ◌∙◌, ℕ, false, List, inl, inr, refl, sym}
+use Rattle.std.proofs.Common.{◌≡◌, ◌≢◌, ◌∙◌, ℕ, false, List, inl, inr, refl, subst, sym}
 use Rattle.edn_reader.specs.Sound.{IsShort}
 use Rattle.events.specs.declared.event.Event.{Event}
 use Rattle.page.specs.Marks.{IsMade}
@@ -14,7 +14,7 @@ use Rattle.history_commands.specs.Judged.{AreOpen, IsJudgement, IsJudgeOutput, I
 use Rattle.history_commands.proofs.Judged.{never_failed}
 use Rattle.history_commands.proofs.Meanings.{is_judgement}
 use Rattle.outputs.specs.Checked.{IsCheck}
-use Rattle.outputs.specs.Outputs.{IsOutOfMemory}
+use Rattle.outputs.specs.Outputs.{IsExactly}
 use Rattle.outputs.specs.Statuses.{failed_status, no_memory_status, no_status, status_of, yes_status}
 use Rattle.outputs.proofs.Meanings.{is_check}
 use Rattle.outputs.proofs.Outputs.{verdict_is_written}
@@ -31,7 +31,7 @@ with_verdict h limit v said status out is page = record {
 
 pub with_notes : (h : List ℕ) (limit : ℕ) (es : List Event) → IsShort h → DenotesHistory h es → (status : ℕ) (text : List ℕ) → AreOpen es limit status text
     → (out : List ℕ) → ∥ IsMade out ∥₁ → IsPageWith (IsJudgement h limit) status out
-with_notes h limit es short denotes status text open out page = record { lines = text; said = is_judgement h limit status text (inl (short, es, denotes, open)); page = page }
+with_notes h limit es short denotes status text notes out page = record { lines = text; said = is_judgement h limit status text (inl (short, es, denotes, notes)); page = page }
 
 pub verdict_on_text : (h : List ℕ) (es : List Event) → IsShort h → DenotesHistory h es → (v : Verdict) → IsVerdictOn es v → IsVerdictOnText h v
 verdict_on_text h es short denotes (verdict.Yes s) k = (short, es, denotes, k)
@@ -83,3 +83,9 @@ check_is_written h c status lines k = λ e. verdict_is_written k.output.0 (sym k
 pub is_checked_drawing : (h c : List ℕ) (status : ℕ) (out : List ℕ) → IsPageOutput (IsCheck h c) status out → IsCheckedDrawing h c status out
 is_checked_drawing h c status out (inl p) = record { output = inl p; linearizable = p.said.linearizable }
 is_checked_drawing h c status out (inr m) = record { output = inr m; linearizable = λ e. absurd (no_memory_is_no_yes (sym m.0 ∙ e)) }
+
+-- ---- what is sent
+
+-- this holds of exactly these lines
+pub at_exactly : (P : ℕ → List ℕ → Type 0) (status : ℕ) (text : List ℕ) → P status text → (own : ℕ) (out : List ℕ) → IsExactly status text own out → P own out
+at_exactly P status text p own out is = subst (λ n. P n out) (sym is.0) (subst (λ x. P status x) (sym is.1) p)

@@ -116,8 +116,8 @@ pub(crate) fn verdict_output(
     certificates: &[Certificate],
     verdict: &Verdict,
 ) -> Result<Output, AllocError>
-    ensures status { IfOk result (λ o. o.status ≡ spec.status_of verdict.now) }
-    ensures page { IfOk result (λ o. ∥ IsMade o.text.items ∥₁) }
+    ensures { IfOk result (λ o. (o.status ≡ spec.status_of verdict.now)
+        × ∥ IsMade o.text.items ∥₁) }
 {
     let lines = lines_of(alloc, verdict)?;
     Ok(Output {
@@ -133,8 +133,8 @@ pub(crate) fn unread_output(
     sheet: &Sheet<'_>,
     verdict: &Verdict,
 ) -> Result<Output, AllocError>
-    ensures status { IfOk result (λ o. o.status ≡ spec.status_of verdict.now) }
-    ensures page { IfOk result (λ o. ∥ IsMade o.text.items ∥₁) }
+    ensures { IfOk result (λ o. (o.status ≡ spec.status_of verdict.now)
+        × ∥ IsMade o.text.items ∥₁) }
 {
     let lines = lines_of(alloc, verdict)?;
     Ok(Output {
