@@ -7,11 +7,11 @@ use Rattle.drawing_commands.proofs.Drawn.{unread_texts, with_check}
 use Rattle.drawing_commands.proofs.checked.texts_output.Goals as goal
 
 pub returns-in-Ok : goal.returns-in-Ok
-returns-in-Ok g c =
+returns-in-Ok c =
     let h = c.args.sheet.now.history.now in
     let cs = c.args.sheet.now.certificates.now in
-    let e = c.verdict_on-verdict.ensures in
-    let v = c.verdict_on-verdict.result in
+    let e = c.verdict_alone-verdict.ensures in
+    let v = c.verdict_alone-verdict.result in
     let es = c.in-Ok.history in
     let texts : DenoteOnly h cs es c.deref.result.now = subst (DenoteOnly h cs es) (sym c.deref.ensures.value) c.in-Ok.ensures.texts in
     let holds : Holds h cs v = record {
@@ -22,7 +22,7 @@ returns-in-Ok g c =
     IfOk-weaker c.verdict_output.result _ _ (λ o k. with_check h cs v holds o.status o.text.items k.0 k.1) c.verdict_output.ensures
 
 pub returns-in-Err : goal.returns-in-Err
-returns-in-Err g c =
+returns-in-Err c =
     let h = c.args.sheet.now.history.now in
     let cs = c.args.sheet.now.certificates.now in
     let holds = subst (Holds h cs) (sym c.verdict_on_failure.ensures) (unread_texts h cs c.in-Err.failure c.in-Err.ensures.stop c.in-Err.ensures.accepts) in
