@@ -46,7 +46,7 @@ def run(program, case):
     if case.certificates is not None:
         files.append(program.write(f"{case.stem()}.{CERTIFICATES}", case.certificates))
     drawn = program.run("draw", *case.options, *files)
-    steps = [it for it in case.options if case.options[max(0, case.options.index(it) - 1)] == "--steps" or it == "--steps"]
+    steps = case.options if "--steps" in case.options else ()
     told = program.run("judge" if case.certificates is None else "check", *steps, *files)
     return drawn, told
 
@@ -109,7 +109,7 @@ def wanted_of(case, told, path):
     return {
         "file": path,
         "answer": answer,
-        "code": code_of(told),
+        "code": None if case.options else code_of(told),
         "rank": refused_rank(case, told) if answer == "no" and not case.options else None,
         "reason": reason_of(told) if answer == "impossible" else [],
         "shows": list(case.shows),

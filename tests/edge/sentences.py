@@ -360,6 +360,7 @@ ASIDES = (
     r"This refuses the order, and not the history: another order may be valid. `fcbench judge HISTORY` looks for one.",
     r"Not drawn: (?:object \d+|[\d ]+ objects). `--object `\d+ draws object \d+.",
     r"The history is linearizable: it has no operations.",
+    r"The history has no object \d+.",
     r"No order was found for object \d+, and none was excluded: [\w ]+. Nothing is said of the history.",
     VALID,
 )
