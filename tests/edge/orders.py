@@ -1,8 +1,8 @@
-"""Orders of operations, and what check says of them.
+"""Orders of operations, and what check says of them; and orders that find must find.
 
 The expected values are worked out by hand from the definitions of the objects and of a valid order."""
-from .rows import check, yes
-from .texts import certificate, invoke, lines, ok, one_process, order
+from .rows import check, find, yes
+from .texts import certificate, fail, invoke, lines, ok, one_process, order
 
 # In these a value that is nil is not written.
 
@@ -189,6 +189,148 @@ ROWS = [
     *[check(name, history, certificates, f"no: {fault}\n", 1) for name, history, certificates, fault in SEVERAL],
     *READ,
 ]
+
+# Histories that need a certain choice, and what the finder finds.
+FOUND = [
+    find(
+        "the second dequeue returns what the first enqueue, which runs long, puts in after the second",
+        lines(
+            invoke(0, "enqueue", 1),
+            invoke(1, "enqueue", 2),
+            ok(1, "enqueue", 2),
+            invoke(1, "dequeue"),
+            ok(1, "dequeue", 2),
+            ok(0, "enqueue", 1),
+            invoke(1, "dequeue"),
+            ok(1, "dequeue", 1),
+            invoke(1, "dequeue"),
+            ok(1, "dequeue"),
+        ),
+        order(1, 0, 3, 6, 8),
+        0,
+    ),
+    find(
+        "two extracts of which the one that is invoked later takes the lesser value",
+        lines(
+            invoke(0, "insert", 7),
+            ok(0, "insert", 7),
+            invoke(1, "extract-min"),
+            invoke(0, "insert", 3),
+            invoke(2, "extract-min"),
+            ok(0, "insert", 3),
+            ok(1, "extract-min", 7),
+            ok(2, "extract-min", 3),
+            invoke(2, "extract-min"),
+            ok(2, "extract-min"),
+        ),
+        order(0, 2, 3, 4, 8),
+        0,
+    ),
+    find(
+        "the release of a process lets another acquire before it has returned",
+        lines(
+            invoke(0, "acquire"),
+            invoke(1, "acquire"),
+            ok(0, "acquire"),
+            invoke(0, "release"),
+            ok(1, "acquire"),
+            ok(0, "release"),
+        ),
+        order(0, 3, 1),
+        0,
+    ),
+    find(
+        "one value put in twice at the same time, and taken twice",
+        lines(
+            invoke(0, "enqueue", 1),
+            invoke(1, "enqueue", 1),
+            ok(0, "enqueue", 1),
+            ok(1, "enqueue", 1),
+            invoke(0, "dequeue"),
+            ok(0, "dequeue", 1),
+            invoke(0, "dequeue"),
+            ok(0, "dequeue", 1),
+        ),
+        order(0, 1, 4, 6),
+        0,
+    ),
+    find(
+        "a value that is set twice in a register",
+        lines(
+            invoke(0, "write", 1),
+            ok(0, "write", 1),
+            invoke(0, "write", 1),
+            ok(0, "write", 1),
+        ),
+        order(0, 2),
+        0,
+    ),
+    find(
+        "a value that is taken before it is put in",
+        lines(
+            invoke(0, "dequeue"),
+            ok(0, "dequeue", 1),
+            invoke(0, "enqueue", 1),
+            ok(0, "enqueue", 1),
+        ),
+        "; object 0: open\n",
+        3,
+    ),
+    find(
+        "a read of 2 that runs while 2 is written and is over before 3 is; a compare-and-set that fails in between",
+        lines(
+            invoke(0, "write", 1),
+            invoke(1, "read"),
+            ok(0, "write", 1),
+            invoke(0, "write", 2),
+            invoke(2, "cas", (1, 3)),
+            ok(1, "read", 2),
+            ok(0, "write", 2),
+            fail(2, "cas", (1, 3)),
+            invoke(2, "cas", (2, 3)),
+            ok(2, "cas", (2, 3)),
+            invoke(1, "read"),
+            ok(1, "read", 3),
+        ),
+        order(0, 3, 1, 8, 10),
+        0,
+    ),
+    find(
+        "two keys: each is set and taken away, and one is seen to be empty in between",
+        lines(
+            invoke(0, "put", (1, 10)),
+            ok(0, "put"),
+            invoke(1, "put", (2, 20)),
+            invoke(0, "get", 1),
+            ok(0, "get", 10),
+            ok(1, "put"),
+        ),
+        order(0, 2, 3),
+        0,
+    ),
+    find(
+        "two values of which the lower one is pushed after the begin of the other push, and one that comes and goes between",
+        lines(
+            invoke(0, "push", 1),
+            invoke(1, "push", 2),
+            ok(0, "push", 1),
+            ok(1, "push", 2),
+            invoke(0, "pop"),
+            ok(0, "pop", 1),
+            invoke(0, "push", 3),
+            invoke(1, "pop"),
+            ok(1, "pop", 3),
+            ok(0, "push", 3),
+            invoke(1, "pop"),
+            ok(1, "pop", 2),
+            invoke(0, "pop"),
+            ok(0, "pop"),
+        ),
+        order(1, 0, 4, 6, 7, 10, 12),
+        0,
+    ),
+]
+ROWS += FOUND
 
 # A mutex on each of four objects whose numbers are multiples of 4; on the last one an operation that fails, and nothing is
 # known of the other.

@@ -50,12 +50,13 @@ def simulate(name, schedule, out, status):
     return Row(f"simulate: {name}", ("simulate", SCHEDULE), (schedule,), out, status)
 
 
-def exact_steps(name, history, steps, out, status):
+def exact_steps(name, history, steps, out, status, *options):
     """A search of one object that takes exactly this number of steps, and with one fewer is out of steps."""
-    rows = [search(f"{name}, in {steps} steps", history, out, status, "--steps", str(steps))]
+    name = " ".join((name, *options))
+    rows = [search(f"{name}, in {steps} steps", history, out, status, *options, "--steps", str(steps))]
     if steps:
         fewer = f"; object 0: out of steps after {steps - 1}\n"
-        rows.append(search(f"{name}, with a step fewer", history, fewer, 3, "--steps", str(steps - 1)))
+        rows.append(search(f"{name}, with a step fewer", history, fewer, 3, *options, "--steps", str(steps - 1)))
     return rows
 
 
@@ -195,6 +196,8 @@ ON_THREE_OBJECTS = lines(
 )
 
 LARGEST, LEAST = 9223372036854775807, -9223372036854775808
+# Pending operations, none of which need be in the order, after one that failed.
+PENDING_4096, PENDING_4097 = [FAILED + lines(*[invoke(1 + it, "dequeue") for it in range(count)]) for count in (4096, 4097)]
 TOO_MANY_TO_SEARCH = one_process(*[("enqueue", 1, 1)] * 4097)
 
 # Two swaps are refused after two writes that overlap, though one of the two values is there. After 4,100 other writes no reason
@@ -471,6 +474,20 @@ SEARCHES = [
     *exact_steps("a mutex is passed on", MUTEX, 3, order(0, 3, 2), 0),
     *exact_steps("a free mutex is released", RELEASE_OF_A_FREE_MUTEX, 0, "; object 0: impossible\n", 1),
     *exact_steps("equal enqueues", EQUAL_ENQUEUES, 5, "; object 0: impossible\n", 1),
+    *exact_steps("an enqueue and a dequeue", ENQUEUE_DEQUEUE, 2, order(0, 2), 0),
+    *exact_steps("a pending enqueue has happened", PENDING, 2, order(0, 1), 0),
+    *exact_steps("a heap", HEAP, 7, order(0, 2, 4, 6, 8, 10, 12), 0),
+    *exact_steps("a register", REGISTER, 4, order(0, 2, 4, 6), 0),
+    *exact_steps("a map", MAP, 5, order(0, 2, 4, 6, 8), 0),
+    *exact_steps("the later enqueue first", OVERLAPPING, 6, order(1, 0, 4), 0, "--first", "return"),
+    *exact_steps("no order", OUT_OF_ORDER, 3, "; object 0: impossible\n", 1, "--first", "return"),
+    # The dequeue is tried first, and gives nil.
+    *exact_steps("a pending enqueue has happened", PENDING, 3, order(0, 1), 0, "--first", "return"),
+    *exact_steps("a failed enqueue alone", FAILED, 0, order(), 0, "--first", "return"),
+    *exact_steps("a mutex is passed on", MUTEX, 3, order(0, 3, 2), 0, "--first", "return"),
+    search("no step", OVERLAPPING, "; object 0: out of steps after 0\n", 3, "--steps", "0"),
+    search("4,096 pending operations, and no step", PENDING_4096, order(), 0, "--steps", "0"),
+    search("4,097 pending operations, and no step", PENDING_4097, "; object 0: too large\n", 3, "--steps", "0"),
     search("a malformed history", AFTER_INFO, "malformed history: H8 at map 2\n", 2),
     search("empty text", "", "", 0),
 ]
