@@ -77,8 +77,8 @@ def worked_rows(program, report):
 
 
 def rows_of_tables(program, report):
-    """Each malformed text and each order of the tables, on plain files; a check also with two workers, which read side by side."""
-    for row in faulty.ROWS + orders.ROWS:
+    """Each malformed text, each order and each count of steps, on plain files; a check also with two workers, which read side by side."""
+    for row in faulty.ROWS + orders.ROWS + rows.STEPS:
         in_files(program, report, row)
         if row.words[0] == "check":
             in_files(program, report, row, "--workers", "2")

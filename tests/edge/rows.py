@@ -474,6 +474,12 @@ SEARCHES = [
     *exact_steps("a mutex is passed on", MUTEX, 3, order(0, 3, 2), 0),
     *exact_steps("a free mutex is released", RELEASE_OF_A_FREE_MUTEX, 0, "; object 0: impossible\n", 1),
     *exact_steps("equal enqueues", EQUAL_ENQUEUES, 5, "; object 0: impossible\n", 1),
+    search("a malformed history", AFTER_INFO, "malformed history: H8 at map 2\n", 2),
+    search("empty text", "", "", 0),
+]
+
+# How many steps other searches take.
+STEPS = [
     *exact_steps("an enqueue and a dequeue", ENQUEUE_DEQUEUE, 2, order(0, 2), 0),
     *exact_steps("a pending enqueue has happened", PENDING, 2, order(0, 1), 0),
     *exact_steps("a heap", HEAP, 7, order(0, 2, 4, 6, 8, 10, 12), 0),
@@ -488,8 +494,6 @@ SEARCHES = [
     search("no step", OVERLAPPING, "; object 0: out of steps after 0\n", 3, "--steps", "0"),
     search("4,096 pending operations, and no step", PENDING_4096, order(), 0, "--steps", "0"),
     search("4,097 pending operations, and no step", PENDING_4097, "; object 0: too large\n", 3, "--steps", "0"),
-    search("a malformed history", AFTER_INFO, "malformed history: H8 at map 2\n", 2),
-    search("empty text", "", "", 0),
 ]
 
 # The orders of these are the only valid ones.
