@@ -3,7 +3,7 @@ import os
 import threading
 import time
 
-from . import faulty, orders, rows, workloads
+from . import faulty, orders, rows, schedules, workloads
 from .rows import CERTIFICATES, HISTORY
 from .running import EXAMPLES, at_once
 from .texts import certificate, invoke, lines, ok
@@ -77,8 +77,8 @@ def worked_rows(program, report):
 
 
 def rows_of_tables(program, report):
-    """Each malformed text, each order and each count of steps, on plain files; a check also with two workers, which read side by side."""
-    for row in faulty.ROWS + orders.ROWS + rows.STEPS:
+    """Each malformed text, order, count of steps and schedule, on plain files; a check also with two workers, which read side by side."""
+    for row in faulty.ROWS + orders.ROWS + rows.STEPS + schedules.ROWS:
         in_files(program, report, row)
         if row.words[0] == "check":
             in_files(program, report, row, "--workers", "2")

@@ -3,7 +3,8 @@ import os
 import resource
 import signal
 
-from . import faulty, rows
+from . import faulty, rows, schedules
+from .answers import MUTEX_TWICE
 from .files import AS_NOBODY, good_runs, write_good
 from .rows import CERTIFICATES, HISTORY
 from .running import at_once
@@ -56,8 +57,10 @@ def cut_rows():
     """Rows whose outputs are cut after each of their bytes: those that search, or name a fault, and those of good runs and schedules."""
     given = [it for it in faulty.ROWS if it.words[0] in ("find", "judge")]
     given += [it for it in rows.SIMULATIONS if it.texts[0] in (rows.SERVED_BY_ANOTHER, "")]
+    given += [it for it in schedules.ROWS if it.out == schedules.TWO_CLIENTS]
     for it in (*rows.FINDINGS, *rows.JUDGEMENTS, *given):
         yield it.words, it.files(), it.out
+    yield ("run", "--kind", "mutex", "--clients", "1", "--calls", "5"), (), MUTEX_TWICE
     for words, files, out, _ in good_runs():
         if words[0] in ("check", "search", "refute"):
             yield words, files, out
