@@ -54,12 +54,13 @@ def output_cut_short(program, report):
 
 
 def cut_rows():
-    """Rows whose outputs are cut after each of their bytes: those that search, or name a fault, and those of good runs and schedules."""
+    """Rows whose outputs are cut after each of their bytes: findings, judgements, records, and one of each other command."""
     given = [it for it in faulty.ROWS if it.words[0] in ("find", "judge")]
     given += [it for it in rows.SIMULATIONS if it.texts[0] in (rows.SERVED_BY_ANOTHER, "")]
     given += [it for it in schedules.ROWS if it.out == schedules.TWO_CLIENTS]
     for it in (*rows.FINDINGS, *rows.JUDGEMENTS, *given):
-        yield it.words, it.files(), it.out
+        if len(it.texts[0]) < 2000:
+            yield it.words, it.files(), it.out
     yield ("run", "--kind", "mutex", "--clients", "1", "--calls", "5"), (), MUTEX_TWICE
     for words, files, out, _ in good_runs():
         if words[0] in ("check", "search", "refute"):
