@@ -164,7 +164,7 @@ fn a_source_that_fails_is_named(rt: HostRuntime) -> Result<(), Fail> {
     let (mut history, mut order) = (in_pieces(HISTORY, 9, true), in_pieces(ORDER, 9, true));
     let fault = fault_of(&rt, &mut history, &mut order);
     assert!(rt; fault == Some(ToolFault::Read(Text::History)) && order.asked == 0);
-    let mut history = in_pieces(HISTORY, 9, false);
+    let (mut history, mut order) = (in_pieces(HISTORY, 9, false), in_pieces(ORDER, 9, true));
     let fault = fault_of(&rt, &mut history, &mut order);
     assert!(rt; fault == Some(ToolFault::Read(Text::Certificates)));
     Ok(())
