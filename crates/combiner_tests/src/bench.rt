@@ -2,12 +2,13 @@
 
 ghost use Rattle.std.specs.Prelude.{◌≡◌, ◌+◌, ◌<◌, length, IfOk, IfSome};
 ghost use Rattle.publication.specs.Handles.{AllBegun};
+ghost use Rattle.publication.specs.Making.{AreEmpty};
 ghost use Rattle.combiner_tests.specs.Seats.{AreSeated};
 
 use crate::refusing::Refusing;
 use number_map::NumberMap;
 use publication::{Client, Desk, Record, Unretired};
-use seq_objects::{AnyObject, Kind};
+use seq_objects::{AnyObject, Kind, SeqObject};
 use std::alloc::{AllocError, Global};
 use std::marker::Model;
 use std::test::Fail;
@@ -50,6 +51,31 @@ impl Model for Bench {
     ghost view = { λ b. b.desk.id };
 
     ghost invariant = { λ b. AreSeated b.desk.id b.seats };
+}
+
+// Empty objects of these kinds. Object 0 refuses the call after `left` others, or none.
+fn objects_of(
+    alloc: Global,
+    kinds: (Kind, Option<Kind>),
+    left: Option<u32>,
+) -> Result<Vec<Refusing>, AllocError>
+    ensures { IfOk result (λ v. (0 < length v.items) × (length v.items < 17)
+        × AreEmpty ⟦<Refusing as SeqObject>⟧.content v.items) }
+{
+    let (first, second) = kinds;
+    let mut objects = Vec::with_capacity(alloc, 2)?;
+    objects.push_reserved(Refusing {
+        inside: AnyObject::empty(alloc, first),
+        left,
+    });
+    let Some(kind) = second else {
+        return Ok(objects);
+    };
+    objects.push_reserved(Refusing {
+        inside: AnyObject::empty(alloc, kind),
+        left: None,
+    });
+    Ok(objects)
 }
 
 // The last of the clients.
@@ -95,18 +121,7 @@ impl Bench {
         if clients == 0 || clients > 32 || quota > 10_000 {
             return Err(Fail::new("there is no such desk"));
         }
-        let (first, second) = kinds;
-        let mut objects = Vec::new(alloc);
-        objects.push(Refusing {
-            inside: AnyObject::empty(alloc, first),
-            left,
-        })?;
-        if let Some(kind) = second {
-            objects.push(Refusing {
-                inside: AnyObject::empty(alloc, kind),
-                left: None,
-            })?;
-        }
+        let objects = objects_of(alloc, kinds, left)?;
         let (desk, clients) = Desk::new(alloc, objects, clients, quota)?;
         let seats = seated(alloc, &desk, clients)?;
         Ok(Bench { desk, seats })
