@@ -29,11 +29,11 @@ fn texts_output(alloc: Global, sheet: &Sheet<'_>) -> Result<Output, AllocError>
 
 /// Judges the history in a text by the certificates in another, as `report_check` does, puts out a
 /// page on them, and gives the exit status.
-pub fn report_checked_drawing<S: Sink>(
+pub fn report_checked_drawing<'a, S: Sink>(
     alloc: Global,
-    request: &Request<'_>,
-    history: &[u8],
-    certificates: &[u8],
+    request: &Request<'a>,
+    history: &'a [u8],
+    certificates: &'a [u8],
     sink: &mut S,
 ) -> u8
     requires working { S.broken sink.old ≡ false }

@@ -77,10 +77,10 @@ fn text_output(alloc: Global, sheet: &Sheet<'_>) -> Result<Output, AllocError>
 
 /// Judges the history in the text, as `report_judgement` does, puts out a page on it, and gives the
 /// exit status.
-pub fn report_drawing<S: Sink>(
+pub fn report_drawing<'a, S: Sink>(
     alloc: Global,
-    request: &Request<'_>,
-    text: &[u8],
+    request: &Request<'a>,
+    text: &'a [u8],
     sink: &mut S,
 ) -> u8
     requires working { S.broken sink.old ≡ false }

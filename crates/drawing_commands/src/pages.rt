@@ -38,11 +38,11 @@ pub(crate) fn text_of(alloc: Global, lines: &[u8]) -> Result<String, AllocError>
 }
 
 /// The page of a malformed text.
-fn page_of_fault(
+fn page_of_fault<'a>(
     alloc: Global,
-    sheet: &Sheet<'_>,
+    sheet: &Sheet<'a>,
     fault: &Fault,
-    lines: &str,
+    lines: &'a str,
 ) -> Result<Vec<u8>, AllocError>
     ensures { IfOk result (λ v. ∥ IsMade v.items ∥₁) }
 {
@@ -74,13 +74,13 @@ fn page_without_history(
 }
 
 /// The page of a history that was judged by these certificates.
-fn page_of_history(
+fn page_of_history<'a>(
     alloc: Global,
-    sheet: &Sheet<'_>,
+    sheet: &Sheet<'a>,
     history: &History,
     certificates: &[Certificate],
     verdict: &Verdict,
-    lines: &str,
+    lines: &'a str,
 ) -> Result<Vec<u8>, AllocError>
     ensures { IfOk result (λ v. ∥ IsMade v.items ∥₁) }
 {

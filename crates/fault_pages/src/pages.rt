@@ -84,7 +84,7 @@ pub fn fault_page(
 }
 
 /// The page of a history of which nothing is known, since memory was refused.
-pub fn memory_page(alloc: Global, name: &str, lines: &str) -> Result<Vec<u8>, AllocError>
+pub fn memory_page<'a>(alloc: Global, name: &'a str, lines: &'a str) -> Result<Vec<u8>, AllocError>
     // It is made of the page's own markup, of numbers, and of text that is escaped.
     ensures { IfOk result (λ v. ∥ IsMade v.items ∥₁) }
 {
