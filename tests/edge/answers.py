@@ -3,7 +3,7 @@ import os
 import threading
 import time
 
-from . import rows, workloads
+from . import faulty, orders, rows, schedules, workloads
 from .rows import CERTIFICATES, HISTORY
 from .running import EXAMPLES, at_once
 from .texts import certificate, invoke, lines, ok
@@ -76,23 +76,35 @@ def worked_rows(program, report):
             report.answers(f"{row.name} (through pipes)", ran, row.out, row.status)
 
 
+def rows_of_tables(program, report):
+    """Each malformed text, order, count of steps and schedule, on plain files; a check also with two workers, which read side by side."""
+    for row in faulty.ROWS + orders.ROWS + rows.STEPS + schedules.ROWS:
+        in_files(program, report, row)
+        if row.words[0] == "check":
+            in_files(program, report, row, "--workers", "2")
+
+
 def every_number_of_workers(program, report):
-    """The first fault is that of the least object, with each number of workers."""
-    row = next(it for it in rows.NO if "least object" in it.name)
-    for workers in range(1, 17):
-        in_files(program, report, row, "--workers", str(workers))
+    """Each number of workers gives the same answer."""
+    for number, (history, certificates, out) in enumerate(orders.OF_ALL_WORKERS):
+        first = program.write(f"shared.{number}.history.edn", history)
+        second = program.write(f"shared.{number}.certificates.edn", certificates)
+        run = lambda workers: program.run("check", "--workers", str(workers), first, second)
+        for workers, ran in zip(range(1, 17), at_once(run, range(1, 17))):
+            name = f"check: {workers} workers: {' '.join(certificates.split())}"
+            report.answers(name, ran, out, orders.STATUSES[out[:3]])
 
 
 def found_orders_are_valid(program, report):
-    """What search and find put out is answered yes by check."""
-    for number, history in enumerate(rows.SEARCHED):
-        program.write(HISTORY, history)
+    """Of each history that is answered yes by its certificates, judge answers the same, and check by what search and find put out."""
+    for row in rows.YES:
+        history = program.write(HISTORY, row.texts[0])
+        report.answers(f"judge alone: {row.name}", program.run("judge", "--steps", "0", history), row.out, 0)
         for command in ("search", "find"):
-            found = program.run(command, HISTORY)
-            program.write(CERTIFICATES, found.out)
-            ran = program.run("check", HISTORY, CERTIFICATES)
-            name = f"{command}: check says yes to what it found in worked history {number}"
-            report.equal(name, (0, b"yes"), (found.status or ran.status, ran.out[:3]), found)
+            found = program.run(command, history)
+            ran = program.run("check", history, program.write(CERTIFICATES, found.out))
+            report.equal(f"{command} finds an order: {row.name}", (0, b""), (found.status, found.err))
+            report.answers(f"what {command} found is valid: {row.name}", ran, row.out, 0)
 
 
 def long_history(program, report):
@@ -106,6 +118,19 @@ def long_history(program, report):
     program.write(HISTORY, pair * 500_000 + lines(invoke(0, "enqueue", 1)))
     ran = program.run("check", HISTORY, CERTIFICATES)
     report.answers("check: a million maps and one", ran, "malformed history: H9 at map 1000000\n", 2)
+
+
+def maps_of_no_client(program, report):
+    """A map counts whether or not it is a client's: each can be the last of a million, and none comes after them."""
+    other, others = "{:process :x}\n", "{:process :x}\n" * 999_999
+    popped = lines(certificate(0, 999_999)), rows.yes(1, 1, "stack: 1 objects, 1 operations")
+    for last, certificates, out in (("{:process :nemesis}", "", rows.yes(0, 0)), ("{:process 0 :type :invoke :f :pop}", *popped)):
+        program.write(CERTIFICATES, certificates)
+        program.write(HISTORY, others + last)
+        report.answers(f"check: {last} after 999,999 maps", program.run("check", HISTORY, CERTIFICATES), out, 0)
+        program.write(HISTORY, others + other + last)
+        ran = program.run("check", HISTORY, CERTIFICATES)
+        report.answers(f"check: {last} after a million maps", ran, "malformed history: H9 at map 1000000\n", 2)
 
 
 def beginnings(program, report):
@@ -179,16 +204,42 @@ def runs(program, report):
     report.answers("run: an odd number of calls on a mutex", ran, MUTEX_TWICE, 0)
     ran = program.run("run", "--kind", "stack", "--clients", "1", "--calls", "2")
     report.answers("run: two calls on a stack", ran, workloads.output_of_one_client("stack", 1, 2, 0), 0)
-    for kind in workloads.KINDS_OF_A_RUN:
-        for objects, clients, calls in ((1, 2, 100), (1, 4, 20), (16, 32, 10)):
-            words = ("run", "--kind", kind, "--objects", objects, "--clients", clients, "--calls", calls)
-            ran = program.run(*map(str, words))
-            name = " ".join(map(str, words))
-            report.equal(f"{name}: status", (0, b""), (ran.status, ran.err))
-            is_workload = workloads.calls_in(ran.out) == workloads.calls_of_all(kind, objects, clients, calls, 0)
-            report.holds(f"{name}: each client makes its calls in order", is_workload, ran.out[-300:])
-            is_judged = is_accepted(program, ran.out)
-            report.holds(f"{name}: check gives the verdict that it ends with", is_judged, ran.out[-300:])
+    for words, asked in runs_asked():
+        is_well_run(program, report, words, *asked)
+
+
+def runs_asked():
+    """The words of runs of several clients, with the kind, the numbers of objects, clients and calls, and the seed that they ask for."""
+    yield (), ("queue", 1, 2, 100, 0)
+    yield ("--",), ("queue", 1, 2, 100, 0)
+    asked = [(kind, *of) for kind in workloads.KINDS_OF_A_RUN for of in ((1, 2, 100, 0), (1, 4, 20, 0), (16, 32, 10, 0), (3, 4, 20, 7))]
+    for of in (*asked, ("mixed", 16, 32, 200, 3), ("mutex", 1, 8, 100, 0)):
+        names = ("--kind", "--objects", "--clients", "--calls", "--seed")
+        yield tuple(str(it) for pair in zip(names, of) for it in pair), of
+
+
+def is_well_run(program, report, words, kind, objects, clients, calls, seed):
+    """Runs clients, and looks at what is put out."""
+    ran = program.run("run", *words)
+    name = " ".join(("run", *words))
+    report.equal(f"{name}: status", (0, b""), (ran.status, ran.err))
+    made = workloads.calls_of_all(kind, objects, clients, calls, seed)
+    report.holds(f"{name}: each client makes its calls in order", workloads.calls_in(ran.out) == made, ran.out[-300:])
+    report.holds(f"{name}: check gives the verdict that it ends with", is_accepted(program, ran.out), ran.out[-300:])
+    all_made = [it for of in made.values() for it in of]
+    on = {it.rpartition(":object ")[2] for it in all_made}
+    counts = lines(f"; yes: {len(all_made)} operations, {len(on)} objects").encode()
+    if kind == "mixed":
+        report.holds(f"{name}: its calls are counted", counts in ran.out, ran.out[-300:])
+    else:
+        counts += lines(f"; {kind}: {len(on)} objects, {len(all_made)} operations").encode()
+        report.equal(f"{name}: its calls are counted", counts, ran.out[-len(counts) :])
+
+
+def long_run(program, report):
+    """A run with the greatest number of each option."""
+    words = ("--seed", str(2**64 - 1), "--kind", "mixed", "--calls", "10000", "--clients", "32", "--objects=16")
+    is_well_run(program, report, words, "mixed", 16, 32, 10_000, 2**64 - 1)
 
 
 def is_accepted(program, output):
@@ -204,5 +255,5 @@ def is_accepted(program, output):
     return (ran.status, ran.out.decode()) == (0, lines(*comments))
 
 
-PARTS = (worked_rows, every_number_of_workers, found_orders_are_valid, examples, runs)
-LONG_PARTS = (long_history, beginnings)
+PARTS = (worked_rows, rows_of_tables, every_number_of_workers, found_orders_are_valid, examples, runs)
+LONG_PARTS = (long_history, maps_of_no_client, beginnings, long_run)

@@ -4,6 +4,7 @@
    FAIL_READ_AT=N    the Nth read fails
    READ_AT_MOST=N    a read takes at most N bytes
    WRITE_AT_MOST=N   a write takes at most N bytes
+   WRITE_IN_ALL=N    standard output takes N bytes in all, and then each write fails
    COUNT_TO=FILE     the number of allocations and of reads is written to FILE at the end */
 #define _GNU_SOURCE
 #include <errno.h>
@@ -19,8 +20,8 @@ extern void *__libc_calloc(size_t, size_t);
 extern void *__libc_realloc(void *, size_t);
 extern void *__libc_memalign(size_t, size_t);
 
-static atomic_long allocations, reads;
-static long refuse_at, fail_read_at, read_at_most, write_at_most;
+static atomic_long allocations, reads, written;
+static long refuse_at, fail_read_at, read_at_most, write_at_most, write_in_all;
 static int is_ready;
 
 static long number(const char *name) {
@@ -33,6 +34,7 @@ __attribute__((constructor)) static void begin(void) {
     fail_read_at = number("FAIL_READ_AT");
     read_at_most = number("READ_AT_MOST");
     write_at_most = number("WRITE_AT_MOST");
+    write_in_all = getenv("WRITE_IN_ALL") ? number("WRITE_IN_ALL") : -1;
     is_ready = 1;
 }
 
@@ -90,4 +92,15 @@ ssize_t read(int fd, void *to, size_t n) {
     return syscall(SYS_read, fd, to, at_most(n, read_at_most));
 }
 
-ssize_t write(int fd, const void *from, size_t n) { return syscall(SYS_write, fd, from, at_most(n, write_at_most)); }
+ssize_t write(int fd, const void *from, size_t n) {
+    n = at_most(n, write_at_most);
+    if (fd != STDOUT_FILENO || write_in_all < 0) return syscall(SYS_write, fd, from, n);
+    long room = write_in_all - atomic_load(&written);
+    if (n > 0 && room == 0) {
+        errno = ENOSPC;
+        return -1;
+    }
+    ssize_t took = syscall(SYS_write, fd, from, n > (size_t)room ? (size_t)room : n);
+    if (took > 0) atomic_fetch_add(&written, took);
+    return took;
+}

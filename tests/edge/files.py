@@ -64,6 +64,11 @@ def unreadable(program: Program, report: Report):
             report.answers(" ".join(words), program.run(*words), "", 4, f"fcbench: cannot read {name}\n")
     ran = program.run("check", "first.edn", "second.edn")
     report.answers("check: both files are missing", ran, "", 4, "fcbench: cannot read first.edn\n")
+    # A pipe that nobody feeds: who opens it waits.
+    os.mkfifo(f"{program.room}/never.edn")
+    ran = program.run("check", "missing.edn", "never.edn")
+    report.answers("check: the history is read first", ran, "", 4, "fcbench: cannot read missing.edn\n")
+    os.remove(f"{program.room}/never.edn")
     program.write("bad.edn", "007")
     ran = program.run("check", "bad.edn", "missing.edn")
     message = "fcbench: cannot read missing.edn\n"
@@ -108,16 +113,17 @@ def in_pieces(program, report):
     report.answers("check: two empty pipes", ran, rows.yes(0, 0), 0)
 
 
-def with_zeros(program, name, length):
-    """Makes a file of n zero bytes, which take no room on the disk."""
+def with_zeros(program, name, length, first=b""):
+    """Makes a file of n bytes, which are zero after the first ones. They take no room on the disk."""
     with open(f"{program.room}/{name}", "wb") as file:
+        file.write(first)
         file.truncate(length)
 
 
 def too_long(program, report):
-    """A text one byte too long, and a device that never ends."""
+    """A text one byte too long, which is no UTF-8, and a device that never ends: nothing in them is looked at."""
     write_good(program)
-    with_zeros(program, "long.edn", LONGEST + 1)
+    with_zeros(program, "long.edn", LONGEST + 1, b"\xff")
     for name in ("long.edn", "/dev/zero"):
         for command, *files in with_each_file(name):
             out = fault_of(command, "E10 at byte 0")

@@ -3,9 +3,11 @@ import os
 import resource
 import signal
 
-from . import rows
+from . import faulty, rows, schedules
+from .answers import MUTEX_TWICE
 from .files import AS_NOBODY, good_runs, write_good
 from .rows import CERTIFICATES, HISTORY
+from .running import at_once
 
 RUN = ("run", "--clients", "2", "--calls", "5")
 
@@ -51,6 +53,31 @@ def output_cut_short(program, report):
         report.equal(f"check: an output with room for {room} bytes", expected, came)
 
 
+def cut_rows():
+    """Rows whose outputs are cut after each of their bytes: findings, judgements, records, and one of each other command."""
+    given = [it for it in faulty.ROWS if it.words[0] in ("find", "judge")]
+    given += [it for it in rows.SIMULATIONS if it.texts[0] in (rows.SERVED_BY_ANOTHER, "")]
+    given += [it for it in schedules.ROWS if it.out == schedules.TWO_CLIENTS]
+    for it in (*rows.FINDINGS, *rows.JUDGEMENTS, *given):
+        if len(it.texts[0]) < 2000:
+            yield it.words, it.files(), it.out
+    yield ("run", "--kind", "mutex", "--clients", "1", "--calls", "5"), (), MUTEX_TWICE
+    for words, files, out, _ in good_runs():
+        if words[0] in ("check", "search", "refute"):
+            yield words, files, out
+
+
+def beginnings_of_output(program, report):
+    """Of an output that takes n bytes in all, whatever n is, these bytes are written, and the status is 4."""
+    for words, files, out in cut_rows():
+        for name, text in files:
+            program.write(name, text)
+        whole = out.encode()
+        run = lambda room: program.run(*words, faults={"WRITE_IN_ALL": room})
+        for room, ran in enumerate(at_once(run, range(len(whole)))):
+            report.answers(f"{' '.join(words)}: {room} of {len(whole)} bytes", ran, whole[:room], 4)
+
+
 def short_writes(program, report):
     """An output that takes a few bytes at a time gets all."""
     for words, files, out, status in good_runs():
@@ -75,4 +102,4 @@ def no_thread(program, report):
     report.answers("check: no thread can be started", ran, rows.QUEUES_YES, 0)
 
 
-PARTS = (failing_output, output_cut_short, short_writes, no_thread)
+PARTS = (failing_output, output_cut_short, beginnings_of_output, short_writes, no_thread)

@@ -50,12 +50,13 @@ def simulate(name, schedule, out, status):
     return Row(f"simulate: {name}", ("simulate", SCHEDULE), (schedule,), out, status)
 
 
-def exact_steps(name, history, steps, out, status):
+def exact_steps(name, history, steps, out, status, *options):
     """A search of one object that takes exactly this number of steps, and with one fewer is out of steps."""
-    rows = [search(f"{name}, in {steps} steps", history, out, status, "--steps", str(steps))]
+    name = " ".join((name, *options))
+    rows = [search(f"{name}, in {steps} steps", history, out, status, *options, "--steps", str(steps))]
     if steps:
         fewer = f"; object 0: out of steps after {steps - 1}\n"
-        rows.append(search(f"{name}, with a step fewer", history, fewer, 3, "--steps", str(steps - 1)))
+        rows.append(search(f"{name}, with a step fewer", history, fewer, 3, *options, "--steps", str(steps - 1)))
     return rows
 
 
@@ -169,8 +170,45 @@ EQUAL_ENQUEUES = lines(
     ok(0, "dequeue", 2),
 )
 
+# A queue gives what was never put in, and another one is used well.
+ONE_OF_TWO = lines(
+    invoke(0, "enqueue", 1, 1),
+    ok(0, "enqueue", 1, 1),
+    invoke(0, "dequeue", None, 0),
+    ok(0, "dequeue", 5, 0),
+)
+
+# What is invoked first returns last.
+RETURNS_CROSSED = lines(
+    invoke(0, "enqueue", 1),
+    invoke(1, "enqueue", 2),
+    ok(1, "enqueue", 2),
+    ok(0, "enqueue", 1),
+)
+
+# Of three objects, one has a failed operation alone, one an operation that returned, and one a pending one.
+ON_THREE_OBJECTS = lines(
+    invoke(0, "push", 5, 9),
+    invoke(1, "write", 5, 2),
+    fail(0, "push", 5, 9),
+    invoke(0, "read", None, 65535),
+    ok(1, "write", 5, 2),
+)
+
 LARGEST, LEAST = 9223372036854775807, -9223372036854775808
+# Pending operations, none of which need be in the order, after one that failed.
+PENDING_4096, PENDING_4097 = [FAILED + lines(*[invoke(1 + it, "dequeue") for it in range(count)]) for count in (4096, 4097)]
 TOO_MANY_TO_SEARCH = one_process(*[("enqueue", 1, 1)] * 4097)
+
+# Two swaps are refused after two writes that overlap, though one of the two values is there. After 4,100 other writes no reason
+# is found for that.
+TOO_MANY_AND_NO_REASON = one_process(*[("write", 1, 1)] * 4100) + lines(
+    invoke(0, "write", 1),
+    invoke(1, "write", 2),
+    ok(0, "write", 1),
+    ok(1, "write", 2),
+    *[it for of in (1, 2) for it in (invoke(0, "cas", (of, 9)), ok(0, "cas", False))],
+)
 
 # Schedules.
 
@@ -210,17 +248,66 @@ SERVED_LINES = """\
 ; queue: 1 objects, 2 operations
 """
 
+# The second acquire is put back until the mutex is released.
+PUT_BACK = lines(
+    "{:kind :mutex, :objects 1, :clients 2, :quota 2}",
+    step(0, "draw", ", :object 0, :f :acquire"),
+    step(0, "post"),
+    step(0, "win", ", :object 0"),
+    step(0, "pick", ", :row 0"),
+    step(0, "put-back"),
+    *[step(0, it) for it in ("answer", "release", "take", "draw")],
+    step(1, "draw", ", :object 0, :f :acquire"),
+    step(1, "post"),
+    step(1, "win", ", :object 0"),
+    step(1, "pick", ", :row 1"),
+    step(1, "answer"),
+    step(1, "put-back"),
+    step(0, "draw", ", :object 0, :f :release"),
+    step(0, "post"),
+    step(1, "pick", ", :row 0"),
+    step(1, "answer"),
+    step(1, "pick", ", :row 1"),
+    step(1, "answer"),
+    step(1, "release"),
+    *[step(client, it) for client in (0, 1) for it in ("take", "draw", "end")],
+)
+
+PUT_BACK_LINES = """\
+{:process 0, :type :invoke, :f :acquire, :value nil, :object 0}
+{:process 0, :type :ok, :f :acquire, :value nil, :object 0}
+{:process 1, :type :invoke, :f :acquire, :value nil, :object 0}
+{:process 0, :type :invoke, :f :release, :value nil, :object 0}
+{:process 0, :type :ok, :f :release, :value nil, :object 0}
+{:process 1, :type :ok, :f :acquire, :value nil, :object 0}
+; refused steps: 2
+; {:object 0, :order [0 3 2]}
+; yes: 3 operations, 1 objects
+; mutex: 1 objects, 3 operations
+"""
+
 # Rows.
 
 QUEUE_YES = yes(2, 1, "queue: 1 objects, 2 operations")
 THREE_YES = yes(3, 1, "queue: 1 objects, 3 operations")
 QUEUES_YES = yes(4, 2, "queue: 2 objects, 4 operations")
+MUTEX_YES = yes(3, 1, "mutex: 1 objects, 3 operations")
 
 YES = [
     check("empty texts", "", "", yes(0, 0), 0),
     check("an enqueue and a dequeue", ENQUEUE_DEQUEUE, order(0, 2), QUEUE_YES, 0),
     check("the later of two enqueues takes effect first", OVERLAPPING, order(1, 0, 4), THREE_YES, 0),
     check("two queues", TWO_QUEUES, TWO_ORDERS, QUEUES_YES, 0),
+    check(
+        "two queues, and their certificates in rising number", TWO_QUEUES, lines(certificate(0, 2, 0), certificate(1, 3, 1)), QUEUES_YES, 0
+    ),
+    check(
+        "three objects",
+        ON_THREE_OBJECTS,
+        lines(certificate(9), certificate(2, 1), certificate(65535)),
+        yes(2, 3, "stack: 1 objects, 0 operations", "register: 2 objects, 2 operations"),
+        0,
+    ),
     check("a pending enqueue has happened", PENDING, order(0, 1), QUEUE_YES, 0),
     check("a failed enqueue alone", FAILED, order(), yes(0, 1, "queue: 1 objects, 0 operations"), 0),
     check("maps of the nemesis are counted", NEMESIS, order(2, 4), QUEUE_YES, 0),
@@ -234,7 +321,9 @@ YES = [
     ),
     check("a register", REGISTER, order(0, 2, 4, 6), yes(4, 1, "register: 1 objects, 4 operations"), 0),
     check("a map", MAP, order(0, 2, 4, 6, 8), yes(5, 1, "map: 1 objects, 5 operations"), 0),
-    check("a mutex is passed on", MUTEX, order(0, 3, 2), yes(3, 1, "mutex: 1 objects, 3 operations"), 0),
+    check("a mutex is passed on", MUTEX, order(0, 3, 2), MUTEX_YES, 0),
+    check("the record of one client that serves another", SERVED_LINES, order(0, 1), QUEUE_YES, 0),
+    check("the record of a mutex that is passed on", PUT_BACK_LINES, order(0, 3, 2), MUTEX_YES, 0),
     check("the first three maps alone", lines(*ENQUEUE_DEQUEUE.splitlines()[:3]), order(0, 2), QUEUE_YES, 0),
     check(
         "a refused call is no operation",
@@ -379,6 +468,8 @@ SEARCHES = [
         "--steps",
         "2",
     ),
+    search("the least number is tried first", RETURNS_CROSSED, order(0, 1), 0, "--first", "number"),
+    search("the least return is tried first", RETURNS_CROSSED, order(1, 0), 0, "--first", "return"),
     search("4,097 operations", TOO_MANY_TO_SEARCH, "; object 0: too large\n", 3),
     *exact_steps("a mutex is passed on", MUTEX, 3, order(0, 3, 2), 0),
     *exact_steps("a free mutex is released", RELEASE_OF_A_FREE_MUTEX, 0, "; object 0: impossible\n", 1),
@@ -387,13 +478,33 @@ SEARCHES = [
     search("empty text", "", "", 0),
 ]
 
+# How many steps other searches take.
+STEPS = [
+    *exact_steps("an enqueue and a dequeue", ENQUEUE_DEQUEUE, 2, order(0, 2), 0),
+    *exact_steps("a pending enqueue has happened", PENDING, 2, order(0, 1), 0),
+    *exact_steps("a heap", HEAP, 7, order(0, 2, 4, 6, 8, 10, 12), 0),
+    *exact_steps("a register", REGISTER, 4, order(0, 2, 4, 6), 0),
+    *exact_steps("a map", MAP, 5, order(0, 2, 4, 6, 8), 0),
+    *exact_steps("the later enqueue first", OVERLAPPING, 6, order(1, 0, 4), 0, "--first", "return"),
+    *exact_steps("no order", OUT_OF_ORDER, 3, "; object 0: impossible\n", 1, "--first", "return"),
+    # The dequeue is tried first, and gives nil.
+    *exact_steps("a pending enqueue has happened", PENDING, 3, order(0, 1), 0, "--first", "return"),
+    *exact_steps("a failed enqueue alone", FAILED, 0, order(), 0, "--first", "return"),
+    *exact_steps("a mutex is passed on", MUTEX, 3, order(0, 3, 2), 0, "--first", "return"),
+    search("no step", OVERLAPPING, "; object 0: out of steps after 0\n", 3, "--steps", "0"),
+    search("4,096 pending operations, and no step", PENDING_4096, order(), 0, "--steps", "0"),
+    search("4,097 pending operations, and no step", PENDING_4097, "; object 0: too large\n", 3, "--steps", "0"),
+]
+
 # The orders of these are the only valid ones.
 FINDINGS = [
+    find("empty text", "", "", 0),
     find("an enqueue and a dequeue", ENQUEUE_DEQUEUE, order(0, 2), 0),
     find("the later enqueue first", OVERLAPPING, order(1, 0, 4), 0),
     find("two queues", TWO_QUEUES, lines(certificate(0, 2, 0), certificate(1, 3, 1)), 0),
     find("a mutex is passed on", MUTEX, order(0, 3, 2), 0),
     find("no order", OUT_OF_ORDER, "; object 0: open\n", 3),
+    find("one of two objects has an order", ONE_OF_TWO, "; object 0: open\n{:object 1, :order [0]}\n", 3),
     find("a free mutex is released", RELEASE_OF_A_FREE_MUTEX, "; object 0: open\n", 3),
     find("a malformed history", AFTER_INFO, "malformed history: H8 at map 2\n", 2),
 ]
@@ -406,9 +517,10 @@ JUDGEMENTS = [
     judge("a heap", HEAP, yes(7, 1, "heap: 1 objects, 7 operations"), 0),
     judge("a register", REGISTER, yes(4, 1, "register: 1 objects, 4 operations"), 0),
     judge("a map", MAP, yes(5, 1, "map: 1 objects, 5 operations"), 0),
-    judge("a mutex is passed on", MUTEX, yes(3, 1, "mutex: 1 objects, 3 operations"), 0),
+    judge("a mutex is passed on", MUTEX, MUTEX_YES, 0),
     judge("an order that takes a search", FIRST_WRITE_LAST, "; object 0: out of steps after 0\n", 3, "--steps", "0"),
     judge("an order that a search finds", FIRST_WRITE_LAST, yes(23, 1, "register: 1 objects, 23 operations"), 0),
+    judge("no reason, and too many to search", TOO_MANY_AND_NO_REASON, "; object 0: too large\n", 3, "--steps", "1000"),
     judge("a malformed history", AFTER_INFO, "malformed history: H8 at map 2\n", 2),
 ]
 
@@ -416,6 +528,7 @@ JUDGEMENTS = [
 NOT_LINEARIZABLE = [
     ("the later enqueue comes out first", OUT_OF_ORDER),
     ("the later enqueue comes out first, and no step", OUT_OF_ORDER, "--steps", "0"),
+    ("the first of two objects, and no step", ONE_OF_TWO, "--steps", "0"),
     ("equal enqueues", EQUAL_ENQUEUES),
     ("a free mutex is released", RELEASE_OF_A_FREE_MUTEX),
     ("a queue gives a value twice", one_process(("enqueue", 7, 7), ("dequeue", None, 7), ("dequeue", None, 7))),
@@ -502,11 +615,25 @@ REFUTATIONS = [
         "object 7: not shown: it is not in the history\n" + refutation(3, 4, ENQUEUE_1, ENQUEUE_2, DEQUEUE_2),
         1,
     ),
+    refute(
+        "two reasons in the other order",
+        THREE_VALUES,
+        TWO_OF_THREE + " {:object 4}",
+        refutation(3, 4, ENQUEUE_1, ENQUEUE_2, DEQUEUE_2) + "object 4: not shown: it is not in the history\n",
+        1,
+    ),
     refute("an object that is not there", THREE_VALUES, "{:object 7}", "object 7: not shown: it is not in the history\n", 3),
     refute(
         "a part that is not closed",
         THREE_VALUES,
         "{:object 0, :cuts [{:keep [1 2], :numbers [0 6]}]}",
+        "object 0: not shown: the cuts name no part\n",
+        3,
+    ),
+    refute(
+        "a part without the call that takes a value",
+        THREE_VALUES,
+        "{:object 0, :cuts [{:keep [1 2], :numbers [0 2]}]}",
         "object 0: not shown: the cuts name no part\n",
         3,
     ),
@@ -525,6 +652,7 @@ REFUTATIONS = [
         3,
     ),
     refute("no step", THREE_VALUES, TWO_OF_THREE, "object 0: not shown: out of steps after 0\n", 3, "--steps", "0"),
+    refute("the whole, and no step", THREE_VALUES, "{:object 0}", "object 0: not shown: out of steps after 0\n", 3, "--steps", "0"),
     refute("a history that is linearizable", OVERLAPPING, "{:object 0}", "object 0: not shown: the part has a valid order\n", 3),
     refute("too many to search", TOO_MANY_TO_SEARCH, "{:object 0}", "object 0: not shown: too large\n", 3),
     refute("a malformed history", AFTER_INFO, "{:object 0}", "malformed history: H8 at map 2\n", 2),
@@ -542,7 +670,34 @@ SIMULATIONS = [
         lines("; refused steps: 1", "; yes: 0 operations, 0 objects"),
         0,
     ),
+    simulate("a request is put back", PUT_BACK, PUT_BACK_LINES, 0),
+    simulate(
+        "no such client, object or row",
+        ONE_CLIENT
+        + " {:client 31, :step :end} {:client 0, :step :win, :object 15} {:client 0, :step :win, :object 0}"
+        + " {:client 0, :step :pick, :row 31} {:client 0, :step :release} {:client 0, :step :end}",
+        lines("; refused steps: 3", "; yes: 0 operations, 0 objects"),
+        0,
+    ),
+    simulate(
+        "an operation of another kind",
+        "{:kind :mixed, :objects 1, :clients 1, :quota 1} {:client 0, :step :draw, :object 0, :f :pop} {:client 0, :step :end}",
+        lines("; refused steps: 1", "; yes: 0 operations, 0 objects"),
+        0,
+    ),
+    simulate(
+        "keys that nobody reads",
+        "{:kind :queue, :objects 1, :clients 1, :quota 0, :seed 7} {:client 0, :step :end, :row 99, :note \"done\"}",
+        lines("; refused steps: 0", "; yes: 0 operations, 0 objects"),
+        0,
+    ),
     simulate("a client has not ended", lines(ONE_CLIENT), "client 0 has not ended\n", 2),
+    simulate(
+        "the least of the clients that have not ended",
+        "{:kind :queue, :objects 1, :clients 4, :quota 1} {:client 0, :step :end} {:client 2, :step :end}",
+        "client 1 has not ended\n",
+        2,
+    ),
     simulate(
         "17 objects",
         lines("{:kind :queue, :objects 17, :clients 1, :quota 1}"),
@@ -555,5 +710,3 @@ SIMULATIONS = [
 ]
 
 ROWS = YES + NO + MALFORMED + SEARCHES + FINDINGS + JUDGEMENTS + REFUTATIONS + SIMULATIONS
-# Of these histories every object has a valid order.
-SEARCHED = [ENQUEUE_DEQUEUE, OVERLAPPING, TWO_QUEUES, PENDING, HEAP, REGISTER, MAP]

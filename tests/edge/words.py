@@ -1,51 +1,152 @@
-"""Command lines: help, and words that are refused."""
+"""Command lines: what they ask for, help, and words that are refused."""
+import os
+import re
+import shutil
+
+from . import rows
+from .running import ROOT
 
 COMMANDS = ("check", "search", "find", "judge", "refute", "draw", "run", "simulate")
 
+# Command lines that are refused, after the program's name. None of the files is there.
+REFUSED_LINES = """
+    jump
+    --jump
+    -- run
+    check
+    check h.edn
+    check h.edn c.edn d.edn
+    check --workers 0 h.edn c.edn
+    check h.edn c.edn --workers 0
+    check h.edn c.edn --workers 17
+    check --workers 17 h.edn c.edn
+    check h.edn c.edn --workers x
+    check h.edn c.edn --workers
+    check --workers
+    check --workers 2 h.edn
+    check h.edn c.edn --workers 2 --workers 2
+    check --steps 5 h.edn c.edn
+    search
+    search h.edn c.edn
+    search h.edn --steps
+    search --steps 1000000001 h.edn
+    search h.edn --steps 1000000001
+    search h.edn --steps -1
+    search --steps -1 h.edn
+    search h.edn --steps many
+    search h.edn --steps 1 --steps 2
+    search h.edn --first value
+    search --first last h.edn
+    find
+    find h.edn c.edn
+    find -e.edn
+    find h.edn --steps 7
+    find --steps 5 h.edn
+    judge
+    judge h.edn c.edn
+    judge -e.edn
+    judge h.edn --steps
+    judge h.edn --steps 1000000001
+    judge --steps 1000000001 h.edn
+    judge h.edn --steps -1
+    judge h.edn --steps=7 --steps=7
+    judge h.edn --first return
+    judge h.edn --workers 2
+    refute
+    refute h.edn
+    refute h.edn r.edn c.edn
+    refute h.edn r.edn --steps 1000000001
+    refute --steps 1000000001 h.edn r.edn
+    refute --steps many h.edn r.edn
+    refute h.edn r.edn --first return
+    refute h.edn r.edn --workers 2
+    draw
+    draw h.edn c.edn d.edn
+    draw --object -1 h.edn
+    draw --object 4294967296 h.edn
+    draw --from 4294967296 h.edn
+    draw --to end h.edn
+    draw --steps 1000000001 h.edn
+    draw --workers 2 h.edn c.edn
+    draw --from 1 --from 2 h.edn
+    check --version h.edn c.edn
+    run --clients 33
+    run --clients 0
+    run --objects 17
+    run --objects 0
+    run --calls 10001
+    run --calls -1
+    run --seed -1
+    run --seed 18446744073709551616
+    run --kind tree
+    run --kind Queue
+    run --kind
+    run --clients two
+    run --clients 2 --clients 3
+    run --workers 2
+    run h.edn
+    run -- --
+    simulate
+    simulate s.edn t.edn
+    simulate -s.edn
+    simulate s.edn --steps 7
+"""
 REFUSED = (
     (),
-    ("jump",),
-    ("--jump",),
-    ("check",),
-    ("check", "one.edn"),
-    ("check", "one.edn", "two.edn", "three.edn"),
-    ("check", "--workers", "0", "one.edn", "two.edn"),
-    ("check", "--workers", "17", "one.edn", "two.edn"),
-    ("check", "--workers", "many", "one.edn", "two.edn"),
-    ("check", "--workers"),
-    ("check", "--steps", "5", "one.edn", "two.edn"),
-    ("search",),
-    ("search", "one.edn", "two.edn"),
-    ("search", "--steps", "1000000001", "one.edn"),
-    ("search", "--steps", "-1", "one.edn"),
-    ("search", "--first", "last", "one.edn"),
-    ("find",),
-    ("find", "--steps", "5", "one.edn"),
-    ("judge",),
-    ("judge", "--steps", "1000000001", "one.edn"),
-    ("refute",),
-    ("refute", "one.edn"),
-    ("refute", "one.edn", "two.edn", "three.edn"),
-    ("refute", "--steps", "1000000001", "one.edn", "two.edn"),
-    ("refute", "--steps", "many", "one.edn", "two.edn"),
-    ("draw",),
-    ("draw", "one.edn", "two.edn", "three.edn"),
-    ("draw", "--object", "-1", "one.edn"),
-    ("draw", "--from", "4294967296", "one.edn"),
-    ("draw", "--to", "end", "one.edn"),
-    ("draw", "--steps", "1000000001", "one.edn"),
-    ("draw", "--workers", "2", "one.edn", "two.edn"),
-    ("run", "one.edn"),
-    ("run", "--clients", "0"),
-    ("run", "--clients", "33"),
-    ("run", "--objects", "0"),
-    ("run", "--objects", "17"),
-    ("run", "--calls", "10001"),
-    ("run", "--kind", "tree"),
-    ("run", "--seed", "-1"),
-    ("run", "--seed", str(2**64)),
-    ("simulate",),
-    ("simulate", "one.edn", "two.edn"),
+    ("check", "h.edn", "c.edn", "--workers", ""),
+    ("run", "--kind", ""),
+    *[tuple(it.split()) for it in REFUSED_LINES.strip().splitlines()],
+)
+
+# What the files of command lines hold, and what is answered of them.
+CHECKED = (rows.OVERLAPPING, rows.order(1, 0, 4)), rows.THREE_YES, 0
+FOUND = (rows.OVERLAPPING,), rows.order(1, 0, 4), 0
+JUDGED = (rows.OVERLAPPING,), rows.THREE_YES, 0
+# Each of its 23 operations returned, so no order is found in fewer steps than these.
+SEARCHED = (rows.FIRST_WRITE_LAST,), rows.yes(23, 1, "register: 1 objects, 23 operations"), 0
+REFUTED = (rows.THREE_VALUES, rows.TWO_OF_THREE), rows.refutation(3, 4, rows.ENQUEUE_1, rows.ENQUEUE_2, rows.DEQUEUE_2), 1
+SIMULATED = (rows.SERVED_BY_ANOTHER,), rows.SERVED_LINES, 0
+
+
+def out_of_steps(steps):
+    return (rows.FIRST_WRITE_LAST,), f"; object 0: out of steps after {steps}\n", 3
+
+
+# Command lines with the texts of their files in order, the output and the status. An option is anywhere before `--`, and its
+# value may be after `=`.
+ACCEPTED = (
+    ("check h.edn c.edn", *CHECKED),
+    ("check -- -h.edn c.edn", *CHECKED),
+    ("check --workers 16 h.edn c.edn", *CHECKED),
+    ("check h.edn --workers=1 c.edn", *CHECKED),
+    ("check h.edn c.edn --workers +4", *CHECKED),
+    ("check --workers 2 -- h.edn c.edn", *CHECKED),
+    ("search h.edn", *FOUND),
+    ("search h.edn --steps 7", *out_of_steps(7)),
+    ("search --steps=7 h.edn", *out_of_steps(7)),
+    ("search --steps 7 -- h.edn", *out_of_steps(7)),
+    ("search h.edn --steps 1000000000", *FOUND),
+    ("search h.edn --first number", (rows.RETURNS_CROSSED,), rows.order(0, 1), 0),
+    ("search h.edn --first return", (rows.RETURNS_CROSSED,), rows.order(1, 0), 0),
+    ("find h.edn", *FOUND),
+    ("find -- -h.edn", *FOUND),
+    ("judge h.edn", *SEARCHED),
+    ("judge h.edn --steps 7", *out_of_steps(7)),
+    ("judge --steps=0 h.edn", *out_of_steps(0)),
+    ("judge h.edn --steps 1000000000", *SEARCHED),
+    ("judge -- -e.edn", *JUDGED),
+    ("refute h.edn r.edn", *REFUTED),
+    (
+        "refute h.edn --steps 7 r.edn",
+        (rows.FIRST_WRITE_LAST, "{:object 0}"),
+        "object 0: not shown: out of steps after 7\n",
+        3,
+    ),
+    ("refute --steps=1000000000 h.edn r.edn", *REFUTED),
+    ("refute -- -h.edn r.edn", *REFUTED),
+    ("run --kind=mutex --objects 1 --clients 1 --calls 0 --seed 0", (), "; yes: 0 operations, 0 objects\n", 0),
+    ("simulate s.edn", *SIMULATED),
+    ("simulate -- -s.edn", *SIMULATED),
 )
 
 
@@ -58,13 +159,37 @@ def help_texts(program, report):
         lacks = [it for it in COMMANDS if f"\n  {it} ".encode() not in ran.out]
         report.equal(f"{words[0]} names each command", [], lacks, ran.out)
     options = {"check": ("--workers",), "search": ("--steps", "--first"), "judge": ("--steps",), "refute": ("--steps",)}
-    options["draw"] = ("--object", "--from", "--to", "--steps")
     options["run"] = ("--kind", "--objects", "--clients", "--calls", "--seed")
+    options["draw"] = ("--object", "--from", "--to", "--steps")
     for command in COMMANDS:
         ran = program.run(command, "--help")
         lacks = [it for it in options.get(command, ()) if it.encode() not in ran.out]
         is_well = (ran.status, ran.err, lacks) == (0, b"", [])
         report.holds(f"{command} --help names its options", is_well, ran)
+
+
+def version(program, report):
+    """The version is that of the changelog, and the kit is the one that is installed."""
+    with open(f"{ROOT}/CHANGELOG.md", encoding="utf-8") as changelog:
+        newest = re.search(r"^## (\d+\.\d+\.\d+), .*\n\nProved by `(rattle-kit-[a-z0-9]+)`", changelog.read(), re.M)
+    report.holds("version: the changelog has one", newest)
+    said = f"fcbench {newest[1]}, proved by {newest[2]}\n"
+    for words in (("--version",), ("-V",)):
+        report.answers(f"version: {words[0]}", program.run(*words), said, 0)
+    with open(f"{os.path.dirname(os.path.realpath(shutil.which('rt')))}/../KIT-ID", encoding="utf-8") as kit:
+        report.holds("version: the kit", newest[2] in kit.read())
+
+
+def accepted(program, report):
+    """A command line that is accepted asks for what its words say. No other file is there."""
+    for line, texts, out, status in ACCEPTED:
+        words = line.split()
+        files = [it for it in words if it.endswith(".edn")]
+        for name, text in zip(files, texts):
+            program.write(name, text)
+        report.answers(line, program.run(*words), out, status)
+        for name in files:
+            os.remove(f"{program.room}/{name}")
 
 
 def refused(program, report):
@@ -77,14 +202,12 @@ def refused(program, report):
 
 def bad_words_are_told(program, report):
     """An option that takes one of some words, and is given another, is named, with the words that it takes."""
-    kinds = ("queue", "stack", "heap", "register", "map", "mutex", "mixed")
-    for words, option, taken in (
-        (("run", "--kind", "tree"), "--kind", kinds),
-        (("search", "--first", "last", "one.edn"), "--first", ("number", "return")),
+    kinds = "queue, stack, heap, register, map, mutex, mixed"
+    for words, said in (
+        (("run", "--kind", "tree"), f"error: --kind takes one of the words {kinds}\n"),
+        (("search", "h.edn", "--first", "value"), "error: --first takes one of the words number, return\n"),
     ):
-        ran = program.run(*words)
-        lacks = [it for it in (option, *taken) if it.encode() not in ran.err]
-        report.equal(f"refused: {' '.join(words)}: what it names", [], lacks, ran.err)
+        report.answers(f"refused: {' '.join(words)}: what it says", program.run(*words), "", 64, said)
 
 
 def not_utf_8(program, report):
@@ -110,4 +233,4 @@ def limits(program, report):
         report.answers(f"search --first {first}", program.run("search", "--first", first, "empty.edn"), "", 0)
 
 
-PARTS = (help_texts, refused, bad_words_are_told, not_utf_8, limits)
+PARTS = (help_texts, accepted, version, refused, bad_words_are_told, not_utf_8, limits)

@@ -1,21 +1,35 @@
 //! A desk with its clients in their seats, so that a test names a client by its number.
 
-ghost use Rattle.std.specs.Prelude.{◌≡◌, ◌≢◌, ◌×◌, ◌<◌, length, IfOk, IfSome};
+ghost use Rattle.std.specs.Prelude.{◌≡◌, ◌+◌, ◌<◌, length, IfOk, IfSome};
 ghost use Rattle.publication.specs.Handles.{AllBegun};
+ghost use Rattle.publication.specs.Making.{AreEmpty};
 ghost use Rattle.combiner_tests.specs.Seats.{AreSeated};
 
 use crate::refusing::Refusing;
 use number_map::NumberMap;
 use publication::{Client, Desk, Record, Unretired};
-use seq_objects::{AnyObject, Kind};
+use seq_objects::{AnyObject, Kind, SeqObject};
 use std::alloc::{AllocError, Global};
 use std::marker::Model;
+use std::test::Fail;
 
 /// A desk, and those of its clients that are not at work.
 #[derive(Drop)]
 pub(crate) struct Bench {
     pub(crate) desk: Desk<Refusing>,
     pub(crate) seats: NumberMap<Client<Refusing>>,
+}
+
+/// What a desk begins with.
+#[derive(Clone, Copy)]
+pub(crate) struct Setup {
+    /// The kind of object 0, and that of object 1 if there is one.
+    pub(crate) kinds: (Kind, Option<Kind>),
+    /// Object 0 refuses the call after this many others, or none.
+    pub(crate) left: Option<u32>,
+    pub(crate) clients: u32,
+    /// How many calls each client may make.
+    pub(crate) quota: u32,
 }
 
 /// What closing a desk came to.
@@ -39,14 +53,42 @@ impl Model for Bench {
     ghost invariant = { λ b. AreSeated b.desk.id b.seats };
 }
 
-// The last of the clients.
-fn next(desk: &Desk<Refusing>, clients: &mut Vec<Client<Refusing>>) -> Option<Client<Refusing>>
-    requires { AllBegun desk.now.id clients.old.items }
-    ensures client { IfSome result (λ c. (c.desk ≡ desk.now.id)
-        × (length clients.new.items < length clients.old.items)) }
-    ensures others { AllBegun desk.now.id clients.new.items }
+// Empty objects of these kinds. Object 0 refuses the call after `left` others, or none.
+fn objects_of(
+    alloc: Global,
+    kinds: (Kind, Option<Kind>),
+    left: Option<u32>,
+) -> Result<Vec<Refusing>, AllocError>
+    ensures { IfOk result (λ v. (0 < length v.items) × (length v.items < 17)
+        × AreEmpty ⟦<Refusing as SeqObject>⟧.content v.items) }
 {
-    clients.pop()
+    let (first, second) = kinds;
+    let mut objects = Vec::with_capacity(alloc, 2)?;
+    objects.push_reserved(Refusing {
+        inside: AnyObject::empty(alloc, first),
+        left,
+    });
+    let Some(kind) = second else {
+        return Ok(objects);
+    };
+    objects.push_reserved(Refusing {
+        inside: AnyObject::empty(alloc, kind),
+        left: None,
+    });
+    Ok(objects)
+}
+
+// The last of the clients.
+fn next(desk: &Desk<Refusing>, clients: &mut Vec<Client<Refusing>>) -> Client<Refusing>
+    requires { (0 < length clients.old.items) × AllBegun desk.now.id clients.old.items }
+    ensures client { result.desk ≡ desk.now.id }
+    ensures others { (length clients.new.items + 1 ≡ length clients.old.items)
+        × AllBegun desk.now.id clients.new.items }
+{
+    match clients.pop() {
+        Some(client) => client,
+        None => unreachable!(),
+    }
 }
 
 // The clients, each in the seat of its place in the list.
@@ -59,65 +101,27 @@ fn seated(
     ensures { IfOk result (AreSeated desk.now.id) }
 {
     let mut seats = NumberMap::new(alloc);
-    'seating: while let Some(client) = next(desk, &mut clients) {
+    'seating: while !clients.is_empty() {
+        let client = next(desk, &mut clients);
         seats.insert(clients.len() as u64, client)?;
     }
     Ok(seats)
 }
 
 impl Bench {
-    /// A desk of one object, which refuses the call after `left` others, or none.
-    pub(crate) fn refusing(
-        alloc: Global,
-        kind: Kind,
-        left: Option<u32>,
-        clients: u32,
-        quota: u32,
-    ) -> Result<Bench, AllocError>
-        requires clients { (0 < clients) × (clients < 33) }
-        requires quota { quota < 10001 }
-    {
-        let mut objects = Vec::new(alloc);
-        objects.push(Refusing {
-            inside: AnyObject::empty(alloc, kind),
+    /// A desk of one object, with clients of `quota` calls each. The object refuses the call after
+    /// `left` others, or none.
+    pub(crate) fn new(alloc: Global, setup: &Setup) -> Result<Bench, Fail> {
+        let Setup {
+            kinds,
             left,
-        })?;
-        let (desk, clients) = Desk::new(alloc, objects, clients, quota)?;
-        let seats = seated(alloc, &desk, clients)?;
-        Ok(Bench { desk, seats })
-    }
-
-    /// A desk of one object.
-    pub(crate) fn new(
-        alloc: Global,
-        kind: Kind,
-        clients: u32,
-        quota: u32,
-    ) -> Result<Bench, AllocError>
-        requires clients { (0 < clients) × (clients < 33) }
-        requires quota { quota < 10001 }
-    {
-        Bench::refusing(alloc, kind, None, clients, quota)
-    }
-
-    /// A desk of a queue and a stack.
-    pub(crate) fn queue_and_stack(
-        alloc: Global,
-        clients: u32,
-        quota: u32,
-    ) -> Result<Bench, AllocError>
-        requires clients { (0 < clients) × (clients < 33) }
-        requires quota { quota < 10001 }
-    {
-        let mut objects = Vec::with_capacity(alloc, 2)?;
-        objects.push_reserved(Refusing {
-            inside: AnyObject::empty(alloc, Kind::Queue),
-            left: None,
-        });
-        objects.push_reserved(Refusing {
-            inside: AnyObject::empty(alloc, Kind::Stack),
-            left: None,
-        });
+            clients,
+            quota,
+        } = *setup;
+        if clients == 0 || clients > 32 || quota > 10_000 {
+            return Err(Fail::new("there is no such desk"));
+        }
+        let objects = objects_of(alloc, kinds, left)?;
         let (desk, clients) = Desk::new(alloc, objects, clients, quota)?;
         let seats = seated(alloc, &desk, clients)?;
         Ok(Bench { desk, seats })

@@ -1,14 +1,59 @@
-//! A new desk of a queue and a stack with three clients of one call each, the end of its clients,
-//! and its own.
+//! Desks of a queue and a stack: their clients, the end of these, and their own.
 
-use crate::bench::{Bench, Closing};
+use crate::bench::{Bench, Closing, Setup};
 use crate::steps::Got::{Nothing, Value};
-use crate::steps::Step::{FindsNone, Polls, Posts, Retires, Waits};
-use crate::steps::{Got, closes, play};
-use publication::Win;
-use seq_objects::AnyOp;
+use crate::steps::Step::{
+    FindsNone, IsRefused, Performs, Polls, Posts, Retires, RetiresBefore, Serves, Waits,
+};
+use crate::steps::{Play, closes, take_turns};
+use publication::Post;
+use seq_objects::{AnyOp, Kind};
 use std::process::Abort;
 use std::test::Fail;
+
+// Three clients of one call each.
+const THREE: Setup = Setup {
+    kinds: (Kind::Queue, Some(Kind::Stack)),
+    left: None,
+    clients: 3,
+    quota: 1,
+};
+
+const NOTHING_DONE: &str = "yes: 0 operations, 0 objects\n";
+
+const OWN_CALL: &str = "{:process 2, :type :invoke, :f :enqueue, :value 4, :object 0}
+{:process 2, :type :ok, :f :enqueue, :value 4, :object 0}
+{:process 1, :type :invoke, :f :dequeue, :value nil, :object 0}
+{:object 0, :order [0]}
+yes: 2 operations, 1 objects
+queue: 1 objects, 2 operations
+";
+
+pub(crate) const PLAYS: [Play; 2] = [
+    Play {
+        name: "the last client closes",
+        setup: THREE,
+        turns: &[(1, Retires), (0, Retires)],
+        end: Some((2, NOTHING_DONE)),
+    },
+    // No request comes to be in its row, and two tickets are drawn, so that the next call has
+    // ticket 2.
+    Play {
+        name: "a call of one's own goes through no row",
+        setup: THREE,
+        turns: &[
+            (2, Performs(AnyOp::Enqueue(4), Value(4))),
+            (2, Waits(false)),
+            (2, Polls(Nothing)),
+            (1, FindsNone(0, 2)),
+            (1, FindsNone(1, 2)),
+            (1, Posts(0, AnyOp::Dequeue)),
+            (0, Retires),
+            (1, Retires),
+        ],
+        end: Some((2, OWN_CALL)),
+    },
+];
 
 impl Bench {
     // The number that the client in this seat has of itself.
@@ -19,29 +64,6 @@ impl Bench {
         let number = client.number();
         self.seat(seat, client)?;
         Ok(number)
-    }
-
-    // The client wins object 0, and makes a call of its own.
-    fn perform(&mut self, number: u64, op: AnyOp) -> Result<Got, Fail> {
-        let Some(client) = self.take(number) else {
-            return Err(Fail::new("nobody is there to perform"));
-        };
-        let Ok(()) = self.desk.may_post(&client, 0, &op) else {
-            return Err(Fail::new("the call is refused"));
-        };
-        let (client, got) = match self.desk.win(client, 0) {
-            Win::Held(client) => (client, Got::Nothing),
-            Win::Won(mut pass) => {
-                let got = if pass.possible(&op) {
-                    Got::of(Some(pass.perform(&self.desk, op)))
-                } else {
-                    Got::Nothing
-                };
-                (pass.release(&self.desk), got)
-            }
-        };
-        self.seat(number, client)?;
-        Ok(got)
     }
 
     // The numbers of the clients 1 and 2 after a meeting over object 1.
@@ -57,6 +79,20 @@ impl Bench {
     }
 }
 
+#[test]
+fn a_desk_begins_with_its_clients(rt: HostRuntime) -> Result<(), Fail> {
+    let mut bench = Bench::new(rt.alloc(), &THREE)?;
+    assert!(rt; bench.desk.objects() == 2 && bench.desk.clients() == 3);
+    for seat in 0..3 {
+        let number = bench.number(seat)?;
+        assert!(rt; u64::from(number) == seat, "seat {seat}");
+        take_turns(&rt, &mut bench, &[(seat, Waits(false))], "begins")?;
+    }
+    let numbers = bench.meet()?;
+    assert!(rt; numbers == (1, 2));
+    Ok(())
+}
+
 // The bench as it was, and the client that has not retired.
 fn closes_too_early<R: Abort>(rt: &R, bench: Bench, number: u64) -> Result<(Bench, u32), Fail> {
     match bench.close(number)? {
@@ -66,72 +102,55 @@ fn closes_too_early<R: Abort>(rt: &R, bench: Bench, number: u64) -> Result<(Benc
 }
 
 #[test]
-fn desk_begins_with_its_clients(rt: HostRuntime) -> Result<(), Fail> {
-    let mut bench = Bench::queue_and_stack(rt.alloc(), 3, 1)?;
-    assert!(rt; bench.desk.objects() == 2 && bench.desk.clients() == 3);
-    for seat in 0..3 {
-        let number = bench.number(seat)?;
-        assert!(rt; u64::from(number) == seat, "seat {seat}");
-        play(&rt, &mut bench, &[(seat, Waits(false))])?;
-    }
-    Ok(())
-}
-
-const NOTHING_DONE: &str = "yes: 0 operations, 0 objects\n";
-
-#[test]
-fn last_client_closes(rt: HostRuntime) -> Result<(), Fail> {
-    let mut bench = Bench::queue_and_stack(rt.alloc(), 3, 1)?;
-    play(&rt, &mut bench, &[(1, Retires), (0, Retires)])?;
-    closes(&rt, bench, 2, NOTHING_DONE)
-}
-
-#[test]
-fn error_names_the_least_client(rt: HostRuntime) -> Result<(), Fail> {
-    let bench = Bench::queue_and_stack(rt.alloc(), 3, 1)?;
+fn the_error_names_the_least_client(rt: HostRuntime) -> Result<(), Fail> {
+    let bench = Bench::new(rt.alloc(), &THREE)?;
     let (mut bench, client) = closes_too_early(&rt, bench, 1)?;
-    assert_eq!(rt; client, 0);
-    play(&rt, &mut bench, &[(0, Retires)])?;
+    assert!(rt; client == 0);
+    take_turns(&rt, &mut bench, &[(0, Retires)], "client 0")?;
     let (mut bench, client) = closes_too_early(&rt, bench, 1)?;
-    assert_eq!(rt; client, 2);
-    play(&rt, &mut bench, &[(2, Retires)])?;
-    closes(&rt, bench, 1, NOTHING_DONE)
+    assert!(rt; client == 2);
+    take_turns(&rt, &mut bench, &[(2, Retires)], "client 2")?;
+    closes(&rt, bench, 1, NOTHING_DONE, "the last client")
 }
 
-const OWN_CALL: &str = "{:process 2, :type :invoke, :f :enqueue, :value 4, :object 0}
-{:process 2, :type :ok, :f :enqueue, :value 4, :object 0}
-{:process 1, :type :invoke, :f :dequeue, :value nil, :object 0}
+const TWO_OBJECTS: &str = "{:process 0, :type :invoke, :f :enqueue, :value 1, :object 0}
+{:process 1, :type :invoke, :f :push, :value 2, :object 1}
+{:process 1, :type :ok, :f :push, :value 2, :object 1}
+{:process 0, :type :ok, :f :enqueue, :value 1, :object 0}
 {:object 0, :order [0]}
-yes: 2 operations, 1 objects
-queue: 1 objects, 2 operations
+{:object 1, :order [1]}
+yes: 2 operations, 2 objects
+queue: 1 objects, 1 operations
+stack: 1 objects, 1 operations
 ";
 
-// No request comes to be in its row, and two tickets are drawn, so that the next call has ticket 2.
+// Client 0 tries to close the desk too early, and then once client 1 has retired.
 #[test]
-fn own_call_goes_through_no_row(rt: HostRuntime) -> Result<(), Fail> {
-    let mut bench = Bench::queue_and_stack(rt.alloc(), 3, 1)?;
-    let got = bench.perform(2, AnyOp::Enqueue(4))?;
-    assert!(rt; got == Value(4));
-    play(
+fn two_objects_have_one_record(rt: HostRuntime) -> Result<(), Fail> {
+    let setup = Setup {
+        clients: 2,
+        quota: 2,
+        ..THREE
+    };
+    let mut bench = Bench::new(rt.alloc(), &setup)?;
+    take_turns(
         &rt,
         &mut bench,
         &[
-            (2, Waits(false)),
-            (2, Polls(Nothing)),
-            (1, FindsNone(0, 2)),
-            (1, FindsNone(1, 2)),
-            (1, Posts(0, AnyOp::Dequeue)),
-            (0, Retires),
-            (1, Retires),
+            (0, IsRefused(0, AnyOp::Push(5), Post::OtherKind)),
+            (0, IsRefused(2, AnyOp::Enqueue(1), Post::NoSuchObject)),
+            (0, Posts(0, AnyOp::Enqueue(1))),
+            (1, Posts(1, AnyOp::Push(2))),
+            (1, FindsNone(1, 0)),
+            (1, Serves(1, &[1])),
+            (1, Polls(Value(2))),
+            (0, Serves(0, &[0])),
+            (0, Polls(Value(1))),
         ],
+        "two objects",
     )?;
-    closes(&rt, bench, 2, OWN_CALL)
-}
-
-#[test]
-fn clients_come_back_from_a_meeting(rt: HostRuntime) -> Result<(), Fail> {
-    let mut bench = Bench::queue_and_stack(rt.alloc(), 3, 1)?;
-    let numbers = bench.meet()?;
-    assert!(rt; numbers == (1, 2));
-    Ok(())
+    let (mut bench, client) = closes_too_early(&rt, bench, 0)?;
+    assert!(rt; client == 1);
+    take_turns(&rt, &mut bench, &[(1, RetiresBefore(0))], "client 1")?;
+    closes(&rt, bench, 0, TWO_OBJECTS, "two objects")
 }

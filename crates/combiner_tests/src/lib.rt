@@ -27,5 +27,3 @@ mod refusing;
 mod serving;
 #[cfg(test)]
 mod steps;
-#[cfg(test)]
-mod two_objects;

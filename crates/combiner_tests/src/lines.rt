@@ -34,9 +34,14 @@ fn text_of<S: SeqObject>(alloc: Global, record: &Record<S>) -> Result<Vec<u8>, A
 }
 
 // The record's history, certificates and verdict are these lines.
-pub(crate) fn says<R: AllocGlobal + Abort, S: SeqObject>(rt: &R, record: &Record<S>, lines: &str) {
+pub(crate) fn says<R: AllocGlobal + Abort, S: SeqObject>(
+    rt: &R,
+    record: &Record<S>,
+    lines: &str,
+    name: &str,
+) {
     match text_of(rt.alloc(), record) {
-        Ok(text) => assert!(rt; text.as_slice() == lines.as_bytes()),
+        Ok(text) => assert!(rt; text.as_slice() == lines.as_bytes(), "{name}"),
         Err(_) => panic!(rt; "memory was refused"),
     }
 }

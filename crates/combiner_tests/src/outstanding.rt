@@ -1,15 +1,26 @@
 //! A call that is outstanding, since a pass of its own gets no memory.
 
-use crate::bench::Bench;
+use crate::bench::{Bench, Setup};
 use crate::steps::Got::Nil;
 use crate::steps::Step::{CallsAtOnce, Enlists, IsRefused, Polls, Posts, Waits};
-use crate::steps::{Got, play};
+use crate::steps::{Got, take_turns};
 use combiner::{CallFault, wait_for};
 use publication::{Enlist, Post};
 use seq_objects::{AnyOp, Kind};
+use std::alloc::AllocError;
 use std::process::Abort;
 use std::sync::Wait;
 use std::test::Fail;
+
+// A mutex, with this many clients of this many calls each.
+fn mutex(clients: u32, quota: u32) -> Setup {
+    Setup {
+        kinds: (Kind::Mutex, None),
+        left: None,
+        clients,
+        quota,
+    }
+}
 
 impl Bench {
     // What the client's outstanding call on object 0 comes to; None: memory was refused.
@@ -22,7 +33,10 @@ impl Bench {
         }
         let (client, waited) = wait_for(rt, &self.desk, client, 0);
         self.seat(number, client)?;
-        Ok(waited.ok().map(|answer| Got::of(Some(answer))))
+        Ok(match waited {
+            Ok(answer) => Some(Got::of(Some(answer))),
+            Err(AllocError) => None,
+        })
     }
 }
 
@@ -40,12 +54,17 @@ fn ends<R: Wait + Print + Abort>(
             println!(rt; "the call is outstanding")?;
             assert!(rt; fault == CallFault::NoMemory);
             let refused = IsRefused(0, AnyOp::Acquire, Post::Outstanding);
-            play(rt, bench, &[(number, Waits(true)), (number, refused)])?;
+            take_turns(
+                rt,
+                bench,
+                &[(number, Waits(true)), (number, refused)],
+                "outstanding",
+            )?;
             let waited = bench.wait(rt, number)?;
             assert!(rt; waited == Some(Nil));
         }
     }
-    play(rt, bench, &[(number, Waits(false))])
+    take_turns(rt, bench, &[(number, Waits(false))], "over")
 }
 
 // The log has no room yet, so the pass of the first call must make some. `rt try --test
@@ -53,9 +72,7 @@ fn ends<R: Wait + Print + Abort>(
 // call is outstanding.
 #[test]
 fn a_call_whose_pass_gets_no_memory_is_outstanding(rt: HostRuntime) -> Result<(), Fail> {
-    let Ok(mut bench) = Bench::new(rt.alloc(), Kind::Mutex, 1, 1) else {
-        return Ok(());
-    };
+    let mut bench = Bench::new(rt.alloc(), &mutex(1, 1))?;
     let called = bench.call(&rt, 0, AnyOp::Acquire)?;
     ends(&rt, &mut bench, 0, called)
 }
@@ -67,10 +84,8 @@ fn a_call_whose_pass_gets_no_memory_is_outstanding(rt: HostRuntime) -> Result<()
 // outstanding.
 #[test]
 fn a_call_that_was_not_made_at_once_is_outstanding(rt: HostRuntime) -> Result<(), Fail> {
-    let Ok(mut bench) = Bench::new(rt.alloc(), Kind::Mutex, 4, 5) else {
-        return Ok(());
-    };
-    play(
+    let mut bench = Bench::new(rt.alloc(), &mutex(4, 5))?;
+    take_turns(
         &rt,
         &mut bench,
         &[
@@ -83,8 +98,14 @@ fn a_call_that_was_not_made_at_once_is_outstanding(rt: HostRuntime) -> Result<()
             (1, Posts(0, AnyOp::Release)),
             (1, Enlists(Enlist::Listed)),
         ],
+        "before",
     )?;
     let called = bench.call_at_once(&rt, 3, AnyOp::Acquire)?;
     ends(&rt, &mut bench, 3, called)?;
-    play(&rt, &mut bench, &[(1, Polls(Nil)), (2, Polls(Nil))])
+    take_turns(
+        &rt,
+        &mut bench,
+        &[(1, Polls(Nil)), (2, Polls(Nil))],
+        "after",
+    )
 }

@@ -2,13 +2,15 @@
 
 ghost use Rattle.std.specs.Prelude.{◌≡◌};
 
-use crate::bench::Bench;
+use crate::bench::{Bench, Setup};
 use crate::refusing::Refusing;
 use crate::steps::Got::{Nil, Nothing, Value};
-use crate::steps::Step::{Combines, Enlists, IsRefused, Polls, Posts, Retires, Serves};
-use crate::steps::{Got, closes, play};
-use combiner::{Combined, call, combine};
-use publication::{Client, Desk, Enlist, Post, Win};
+use crate::steps::Step::{
+    Combines, Enlists, HoldsAgainst, IsRefused, Polls, Posts, Retires, Serves,
+};
+use crate::steps::{Got, Play};
+use combiner::call;
+use publication::{Client, Desk, Enlist, Post};
 use seq_objects::{AnyOp, Kind};
 use std::sync::Wait;
 use std::test::Fail;
@@ -25,81 +27,6 @@ yes: 3 operations, 1 objects
 queue: 1 objects, 3 operations
 ";
 
-#[test]
-fn the_call_posted_second_may_be_served_first(rt: HostRuntime) -> Result<(), Fail> {
-    let mut bench = Bench::new(rt.alloc(), Kind::Queue, 2, 2)?;
-    play(
-        &rt,
-        &mut bench,
-        &[
-            (0, Posts(0, AnyOp::Enqueue(1))),
-            (1, Posts(0, AnyOp::Enqueue(2))),
-            (1, Serves(0, &[1, 0])),
-            (0, Polls(Value(1))),
-            (1, Polls(Value(2))),
-            (0, Posts(0, AnyOp::Dequeue)),
-            (0, Serves(0, &[0])),
-            (0, Polls(Value(2))),
-            (1, Retires),
-        ],
-    )?;
-    closes(&rt, bench, 0, SECOND_FIRST)
-}
-
-#[test]
-fn a_lone_call_is_answered(rt: HostRuntime) -> Result<(), Fail> {
-    let mut bench = Bench::new(rt.alloc(), Kind::Queue, 1, 1)?;
-    play(
-        &rt,
-        &mut bench,
-        &[
-            (0, Posts(0, AnyOp::Enqueue(4))),
-            (0, IsRefused(0, AnyOp::Enqueue(4), Post::Outstanding)),
-            (0, Combines(1, 1)),
-            (0, Polls(Value(4))),
-            (0, Polls(Nothing)),
-            (0, IsRefused(0, AnyOp::Dequeue, Post::Spent)),
-            (0, Combines(2, 0)),
-        ],
-    )
-}
-
-impl Bench {
-    // What it comes to that client 1 combines while client 0 holds the object.
-    fn combine_on_held(&mut self) -> Result<Combined, Fail> {
-        let (Some(zero), Some(one)) = (self.take(0), self.take(1)) else {
-            return Err(Fail::new("a client is not there"));
-        };
-        if self.desk.objects() == 0 {
-            return Err(Fail::new("there is no object"));
-        }
-        let (zero, one, combined) = match self.desk.win(zero, 0) {
-            Win::Held(zero) => (zero, one, Combined::NoMemory),
-            Win::Won(pass) => {
-                let (one, combined) = combine(&self.desk, one, 0);
-                (pass.release(&self.desk), one, combined)
-            }
-        };
-        self.seat(0, zero)?;
-        self.seat(1, one)?;
-        Ok(combined)
-    }
-}
-
-#[test]
-fn a_held_object_is_busy(rt: HostRuntime) -> Result<(), Fail> {
-    let mut bench = Bench::new(rt.alloc(), Kind::Queue, 2, 1)?;
-    let waits = [
-        (1, Posts(0, AnyOp::Enqueue(4))),
-        (1, Enlists(Enlist::Listed)),
-    ];
-    play(&rt, &mut bench, &waits)?;
-    let combined = bench.combine_on_held()?;
-    assert!(rt; combined == Combined::Busy);
-    let served = [(0, Combines(1, 1)), (1, Polls(Value(4)))];
-    play(&rt, &mut bench, &served)
-}
-
 const LOCKED_TWICE: &str = "{:process 0, :type :invoke, :f :acquire, :value nil, :object 0}
 {:process 0, :type :ok, :f :acquire, :value nil, :object 0}
 {:process 1, :type :invoke, :f :acquire, :value nil, :object 0}
@@ -110,52 +37,6 @@ const LOCKED_TWICE: &str = "{:process 0, :type :invoke, :f :acquire, :value nil,
 yes: 3 operations, 1 objects
 mutex: 1 objects, 3 operations
 ";
-
-#[test]
-fn what_was_put_back_is_served_later(rt: HostRuntime) -> Result<(), Fail> {
-    let mut bench = Bench::new(rt.alloc(), Kind::Mutex, 2, 2)?;
-    play(
-        &rt,
-        &mut bench,
-        &[
-            (0, Posts(0, AnyOp::Acquire)),
-            (0, Combines(1, 1)),
-            (0, Polls(Nil)),
-            (1, Posts(0, AnyOp::Acquire)),
-            (1, Enlists(Enlist::Listed)),
-            (1, Combines(2, 0)),
-            (1, Polls(Nothing)),
-            (0, Posts(0, AnyOp::Release)),
-            (0, Combines(3, 2)),
-            (0, Polls(Nil)),
-            (1, Polls(Nil)),
-            (1, Retires),
-        ],
-    )?;
-    closes(&rt, bench, 0, LOCKED_TWICE)
-}
-
-#[test]
-fn the_own_row_is_tried_again(rt: HostRuntime) -> Result<(), Fail> {
-    let mut bench = Bench::new(rt.alloc(), Kind::Mutex, 2, 2)?;
-    play(
-        &rt,
-        &mut bench,
-        &[
-            (0, Posts(0, AnyOp::Acquire)),
-            (0, Combines(1, 1)),
-            (0, Polls(Nil)),
-            (1, Posts(0, AnyOp::Acquire)),
-            (0, Posts(0, AnyOp::Release)),
-            (0, Enlists(Enlist::Listed)),
-            (1, Combines(2, 2)),
-            (0, Polls(Nil)),
-            (1, Polls(Nil)),
-            (1, Retires),
-        ],
-    )?;
-    closes(&rt, bench, 0, LOCKED_TWICE)
-}
 
 // What a call of enqueue and then one of dequeue come to.
 fn enqueue_and_dequeue<R: Wait>(
@@ -192,7 +73,15 @@ impl Bench {
 #[test]
 fn two_threads_are_answered(rt: HostRuntime) -> Result<(), Fail> {
     for _ in 0..100 {
-        let mut bench = Bench::new(rt.alloc(), Kind::Queue, 2, 2)?;
+        let mut bench = Bench::new(
+            rt.alloc(),
+            &Setup {
+                kinds: (Kind::Queue, None),
+                left: None,
+                clients: 2,
+                quota: 2,
+            },
+        )?;
         let (zero, one) = bench.both_call(&rt)?;
         let own = zero == (Value(1), Value(1)) && one == (Value(2), Value(2));
         let crossed = zero == (Value(1), Value(2)) && one == (Value(2), Value(1));
@@ -200,3 +89,109 @@ fn two_threads_are_answered(rt: HostRuntime) -> Result<(), Fail> {
     }
     Ok(())
 }
+
+pub(crate) const PLAYS: [Play; 5] = [
+    Play {
+        name: "the call posted second may be served first",
+        setup: Setup {
+            kinds: (Kind::Queue, None),
+            left: None,
+            clients: 2,
+            quota: 2,
+        },
+        turns: &[
+            (0, Posts(0, AnyOp::Enqueue(1))),
+            (1, Posts(0, AnyOp::Enqueue(2))),
+            (1, Serves(0, &[1, 0])),
+            (0, Polls(Value(1))),
+            (1, Polls(Value(2))),
+            (0, Posts(0, AnyOp::Dequeue)),
+            (0, Serves(0, &[0])),
+            (0, Polls(Value(2))),
+            (1, Retires),
+        ],
+        end: Some((0, SECOND_FIRST)),
+    },
+    Play {
+        name: "a lone call is answered",
+        setup: Setup {
+            kinds: (Kind::Queue, None),
+            left: None,
+            clients: 1,
+            quota: 1,
+        },
+        turns: &[
+            (0, Posts(0, AnyOp::Enqueue(4))),
+            (0, IsRefused(0, AnyOp::Enqueue(4), Post::Outstanding)),
+            (0, Combines(1, 1)),
+            (0, Polls(Value(4))),
+            (0, Polls(Nothing)),
+            (0, IsRefused(0, AnyOp::Dequeue, Post::Spent)),
+            (0, Combines(2, 0)),
+        ],
+        end: None,
+    },
+    Play {
+        name: "what was put back is served later",
+        setup: Setup {
+            kinds: (Kind::Mutex, None),
+            left: None,
+            clients: 2,
+            quota: 2,
+        },
+        turns: &[
+            (0, Posts(0, AnyOp::Acquire)),
+            (0, Combines(1, 1)),
+            (0, Polls(Nil)),
+            (1, Posts(0, AnyOp::Acquire)),
+            (1, Enlists(Enlist::Listed)),
+            (1, Combines(2, 0)),
+            (1, Polls(Nothing)),
+            (0, Posts(0, AnyOp::Release)),
+            (0, Combines(3, 2)),
+            (0, Polls(Nil)),
+            (1, Polls(Nil)),
+            (1, Retires),
+        ],
+        end: Some((0, LOCKED_TWICE)),
+    },
+    Play {
+        name: "the own row is tried again",
+        setup: Setup {
+            kinds: (Kind::Mutex, None),
+            left: None,
+            clients: 2,
+            quota: 2,
+        },
+        turns: &[
+            (0, Posts(0, AnyOp::Acquire)),
+            (0, Combines(1, 1)),
+            (0, Polls(Nil)),
+            (1, Posts(0, AnyOp::Acquire)),
+            (0, Posts(0, AnyOp::Release)),
+            (0, Enlists(Enlist::Listed)),
+            (1, Combines(2, 2)),
+            (0, Polls(Nil)),
+            (1, Polls(Nil)),
+            (1, Retires),
+        ],
+        end: Some((0, LOCKED_TWICE)),
+    },
+    Play {
+        name: "a held object is busy",
+        setup: Setup {
+            kinds: (Kind::Queue, None),
+            left: None,
+            clients: 2,
+            quota: 1,
+        },
+        turns: &[
+            (1, Posts(0, AnyOp::Enqueue(4))),
+            (1, Enlists(Enlist::Listed)),
+            (0, HoldsAgainst(1)),
+            (0, Combines(1, 1)),
+            (1, Polls(Value(4))),
+        ],
+        end: None,
+    },
+];

@@ -1,14 +1,14 @@
-//! The steps of a client, each with what it is to find.
+//! The steps of a client, each with what it is to find, and plays, which are lists of steps.
 
 ghost use Rattle.std.specs.Prelude.{◌≡◌, ◌<◌, length};
 
-use crate::bench::{Bench, Closing};
+use crate::bench::{Bench, Closing, Setup};
 use crate::lines::says;
 use crate::refusing::Refusing;
+use crate::{abandoned, at_once, desks, listing, many_rows, refused, serving};
 use combiner::{CallFault, Combined, call, call_at_once, combine};
-use publication::{Answer, Desk, Enlist, Pass, Picked, Post, Win};
+use publication::{Answer, Client, Desk, Enlist, Pass, Picked, Post, Win};
 use seq_objects::{AnyOp, AnyReply};
-use std::alloc::AllocError;
 use std::process::Abort;
 use std::sync::Wait;
 use std::test::Fail;
@@ -32,6 +32,14 @@ impl Got {
             Some(Answer::Refused) => Got::Refused,
             None => Got::Nothing,
         }
+    }
+}
+
+/// What a call came to.
+fn got_of(called: Result<Answer<AnyReply>, CallFault>) -> Result<Got, CallFault> {
+    match called {
+        Ok(answer) => Ok(Got::of(Some(answer))),
+        Err(fault) => Err(fault),
     }
 }
 
@@ -62,6 +70,14 @@ pub(crate) enum Step {
     IsSpent(AnyOp),
     /// Has a call outstanding, or not.
     Waits(bool),
+    /// Wins object 0, and makes a call of its own.
+    Performs(AnyOp, Got),
+    /// Wins object 0, and holds it while this client combines, which finds it busy.
+    HoldsAgainst(u64),
+    /// Wins object 0, serves row 0, whose client is this one, and before the answer that one retires.
+    ServesAsItRetires(u64),
+    /// Wins object 0 and reserves more room than there can be, and then some, which is there.
+    ReservesTooMuch,
     Retires,
     /// Retires, and leaves word with this client.
     RetiresBefore(u64),
@@ -81,6 +97,31 @@ fn serve_row(desk: &Desk<Refusing>, pass: Pass<Refusing>, row: u32) -> (Pass<Ref
     match pass.pick(desk, row) {
         Picked::Got(hand) if hand.possible() => (hand.answer(desk).0, true),
         Picked::Got(hand) => (hand.put_back(desk), false),
+        Picked::Not(pass) => (pass, false),
+    }
+}
+
+// Picks up the request of the row, retires its client, and only then answers the request.
+fn serve_late(
+    desk: &Desk<Refusing>,
+    pass: Pass<Refusing>,
+    row: u32,
+    retiring: Client<Refusing>,
+) -> (Pass<Refusing>, bool)
+    requires desk { pass.desk ≡ desk.now.id }
+    requires retiring { retiring.desk ≡ desk.now.id }
+    requires row { row < 32 }
+    ensures { result.0.desk ≡ pass.desk }
+{
+    match pass.pick(desk, row) {
+        Picked::Got(hand) => {
+            let _ = desk.retire(retiring);
+            if hand.possible() {
+                (hand.answer(desk).0, true)
+            } else {
+                (hand.put_back(desk), false)
+            }
+        }
         Picked::Not(pass) => (pass, false),
     }
 }
@@ -184,7 +225,7 @@ impl Bench {
         };
         let (client, called) = call(rt, &self.desk, client, 0, op);
         self.seat(number, client)?;
-        Ok(called.map(|answer| Got::of(Some(answer))))
+        Ok(got_of(called))
     }
 
     pub(crate) fn call_at_once<R: Wait>(
@@ -198,7 +239,7 @@ impl Bench {
         };
         let (client, called) = call_at_once(rt, &self.desk, client, 0, op);
         self.seat(number, client)?;
-        Ok(called.map(|answer| Got::of(Some(answer))))
+        Ok(got_of(called))
     }
 
     pub(crate) fn is_waiting(&mut self, number: u64) -> Result<bool, Fail> {
@@ -208,6 +249,85 @@ impl Bench {
         let waits = client.outstanding();
         self.seat(number, client)?;
         Ok(waits)
+    }
+
+    fn perform(&mut self, number: u64, op: AnyOp) -> Result<Got, Fail> {
+        let Some(client) = self.take(number) else {
+            return Err(Fail::new("nobody is there to perform"));
+        };
+        let Ok(()) = self.desk.may_post(&client, 0, &op) else {
+            return Err(Fail::new("the call is refused"));
+        };
+        let (client, got) = match self.desk.win(client, 0) {
+            Win::Held(client) => (client, Got::Nothing),
+            Win::Won(mut pass) => {
+                let got = if pass.possible(&op) {
+                    Got::of(Some(pass.perform(&self.desk, op)))
+                } else {
+                    Got::Nothing
+                };
+                (pass.release(&self.desk), got)
+            }
+        };
+        self.seat(number, client)?;
+        Ok(got)
+    }
+
+    fn hold_against(&mut self, number: u64, other: u64) -> Result<bool, Fail> {
+        let (Some(holder), Some(one)) = (self.take(number), self.take(other)) else {
+            return Err(Fail::new("a client is not there"));
+        };
+        if self.desk.objects() == 0 {
+            return Err(Fail::new("there is no object"));
+        }
+        let (holder, one, is_busy) = match self.desk.win(holder, 0) {
+            Win::Held(holder) => (holder, one, false),
+            Win::Won(pass) => {
+                let (one, combined) = combine(&self.desk, one, 0);
+                let is_busy = combined == Combined::Busy;
+                (pass.release(&self.desk), one, is_busy)
+            }
+        };
+        self.seat(number, holder)?;
+        self.seat(other, one)?;
+        Ok(is_busy)
+    }
+
+    fn serve_as_it_retires(&mut self, number: u64, other: u64) -> Result<bool, Fail> {
+        let (Some(one), Some(retiring)) = (self.take(number), self.take(other)) else {
+            return Err(Fail::new("a client is not there"));
+        };
+        if self.desk.objects() == 0 {
+            return Err(Fail::new("there is no object"));
+        }
+        let (one, served) = match self.desk.win(one, 0) {
+            Win::Held(one) => (one, false),
+            Win::Won(pass) => {
+                let (pass, served) = serve_late(&self.desk, pass, 0, retiring);
+                (pass.release(&self.desk), served)
+            }
+        };
+        self.seat(number, one)?;
+        Ok(served)
+    }
+
+    fn reserve_too_much(&mut self, number: u64) -> Result<bool, Fail> {
+        let Some(client) = self.take(number) else {
+            return Err(Fail::new("nobody is there to reserve"));
+        };
+        if self.desk.objects() == 0 {
+            return Err(Fail::new("there is no object"));
+        }
+        let (client, reserved) = match self.desk.win(client, 0) {
+            Win::Held(client) => (client, false),
+            Win::Won(mut pass) => {
+                let too_much = pass.reserve(usize::MAX).is_err();
+                let some = pass.reserve(3).is_ok() && pass.room() >= 3;
+                (pass.release(&self.desk), too_much && some)
+            }
+        };
+        self.seat(number, client)?;
+        Ok(reserved)
     }
 
     fn retire(&mut self, number: u64) -> bool {
@@ -248,6 +368,10 @@ impl Bench {
             Step::CallsAtOnce(op, got) => self.call_at_once(rt, number, op)? == Ok(got),
             Step::IsSpent(op) => { self.call(rt, number, op)? == Err(CallFault::Post(Post::Spent)) }
             Step::Waits(waits) => self.is_waiting(number)? == waits,
+            Step::Performs(op, got) => self.perform(number, op)? == got,
+            Step::HoldsAgainst(other) => self.hold_against(number, other)?,
+            Step::ServesAsItRetires(other) => self.serve_as_it_retires(number, other)?,
+            Step::ReservesTooMuch => self.reserve_too_much(number)?,
             Step::Retires => self.retire(number),
             Step::RetiresBefore(other) => self.retire_before(number, other)?,
         })
@@ -255,12 +379,27 @@ impl Bench {
 }
 
 /// Takes the steps, each of which finds what it is to find.
-pub(crate) fn play<R: Wait + Abort>(rt: &R, bench: &mut Bench, turns: &[Turn]) -> Result<(), Fail> {
+pub(crate) fn take_turns<R: Wait + Abort>(
+    rt: &R,
+    bench: &mut Bench,
+    turns: &[Turn],
+    name: &str,
+) -> Result<(), Fail> {
     for (k, turn) in turns.iter().enumerate() {
         let found = bench.step(rt, turn)?;
-        assert!(rt; found, "step {k}");
+        assert!(rt; found, "{name}: step {k}");
     }
     Ok(())
+}
+
+/// A list of steps on a new desk, and what comes of it.
+pub(crate) struct Play {
+    pub(crate) name: &'static str,
+    pub(crate) setup: Setup,
+    pub(crate) turns: &'static [Turn],
+    /// The client that closes the desk at the end, and the lines of the record's history,
+    /// certificates and verdict.
+    pub(crate) end: Option<(u64, &'static str)>,
 }
 
 /// The client with this number closes the desk. The record's history, certificates and verdict are
@@ -270,11 +409,38 @@ pub(crate) fn closes<R: AllocGlobal + Abort>(
     bench: Bench,
     number: u64,
     lines: &str,
+    name: &str,
 ) -> Result<(), Fail> {
     match bench.close(number)? {
-        Closing::Closed(record) => says(rt, &record, lines),
-        Closing::Unretired(_, client) => panic!(rt; "client {client} has not retired"),
-        Closing::Nobody => panic!(rt; "client {number} is not there"),
+        Closing::Closed(record) => says(rt, &record, lines, name),
+        Closing::Unretired(_, client) => panic!(rt; "{name}: client {client} has not retired"),
+        Closing::Nobody => panic!(rt; "{name}: client {number} is not there"),
     }
     Ok(())
+}
+
+/// Plays each, and looks whether it goes as it says.
+pub(crate) fn check_plays<R: AllocGlobal + Wait + Abort>(
+    rt: &R,
+    plays: &[Play],
+) -> Result<(), Fail> {
+    for it in plays {
+        let mut bench = Bench::new(rt.alloc(), &it.setup)?;
+        take_turns(rt, &mut bench, it.turns, it.name)?;
+        if let Some((number, lines)) = it.end {
+            closes(rt, bench, number, lines, it.name)?;
+        }
+    }
+    Ok(())
+}
+
+#[test]
+fn each_play_goes_as_it_says(rt: HostRuntime) -> Result<(), Fail> {
+    check_plays(&rt, &abandoned::PLAYS)?;
+    check_plays(&rt, &at_once::PLAYS)?;
+    check_plays(&rt, &desks::PLAYS)?;
+    check_plays(&rt, &listing::PLAYS)?;
+    check_plays(&rt, &many_rows::PLAYS)?;
+    check_plays(&rt, &refused::PLAYS)?;
+    check_plays(&rt, &serving::PLAYS)
 }

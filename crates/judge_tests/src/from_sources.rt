@@ -1,11 +1,13 @@
 ghost use Rattle.std.specs.Prelude.{◌≡◌, ⊤, None, false};
 
 use edn::{Failed, MAX_LENGTH, Out};
+use outputs::report_check;
 use report::Verdict;
-use sources::{Bytes, In, NamedFile, Source, Text, ToolFault, check_over, read_text};
+use sources::{Bytes, In, Source, Text, ToolFault, check_over, read_text};
 use std::io;
 use std::io::{ErrorKind, Read};
 use std::test::Fail;
+use std::thread::Threads;
 
 /// One process enqueues 1 and dequeues it.
 const HISTORY: &[u8] = b"{:process 0, :type :invoke, :f :enqueue, :value 1}
@@ -65,69 +67,39 @@ impl Source for Pieces {
     }
 }
 
+/// Whether the texts are judged yes, its lines are written, and both sources are read to their ends.
+fn is_yes<R: AllocGlobal + Threads + Sync, H: Source, C: Source>(
+    rt: &R,
+    history: &mut H,
+    order: &mut C,
+    workers: u32,
+) -> bool
+    requires history { H.broken history.old ≡ false }
+    requires order { C.broken order.old ≡ false }
+{
+    let mut sink = Out::new(Vec::new(rt.alloc()));
+    let given = check_over(rt, rt.alloc(), history, order, workers, &mut sink);
+    let is_so = matches!(given, Ok(Verdict::Yes(_))) && sink.into_inner().as_slice() == YES;
+    is_so && !history.has_failed() && !order.has_failed()
+}
+
 #[test]
 fn both_texts_are_read_from_their_sources(rt: HostRuntime) -> Result<(), Fail> {
     for size in [1, 7, 100_000] {
         for workers in [1, 2] {
-            let mut sink = Out::new(Vec::new(rt.alloc()));
-            let (mut history, mut order) = (
-                in_pieces(HISTORY, size, false),
-                in_pieces(ORDER, size, false),
-            );
-            let given = check_over(
-                &rt,
-                rt.alloc(),
-                &mut history,
-                &mut order,
-                workers,
-                &mut sink,
-            );
-            assert!(rt; matches!(given, Ok(Verdict::Yes(_))));
-            assert!(rt; sink.into_inner().as_slice() == YES);
+            let mut history = in_pieces(HISTORY, size, false);
+            let mut order = in_pieces(ORDER, size, false);
+            assert!(rt; is_yes(&rt, &mut history, &mut order, workers));
         }
     }
     Ok(())
 }
 
 #[test]
-fn a_reader_is_a_source(rt: HostRuntime) -> Result<(), Fail> {
-    let mut sink = Out::new(Vec::new(rt.alloc()));
-    let (mut history, mut order) = (In::new(HISTORY), In::new(ORDER));
-    let given = check_over(&rt, rt.alloc(), &mut history, &mut order, 1, &mut sink);
-    assert!(rt; matches!(given, Ok(Verdict::Yes(_))));
-    assert!(rt; !history.has_failed() && !order.has_failed());
+fn readers_and_bytes_are_sources(rt: HostRuntime) -> Result<(), Fail> {
+    let (mut history, mut order) = (In::new(HISTORY), Bytes::new(ORDER));
+    assert!(rt; is_yes(&rt, &mut history, &mut order, 1));
     assert!(rt; history.into_inner().is_empty());
-    assert!(rt; sink.into_inner().as_slice() == YES);
-    Ok(())
-}
-
-#[test]
-fn bytes_are_a_source(rt: HostRuntime) -> Result<(), Fail> {
-    let mut sink = Out::new(Vec::new(rt.alloc()));
-    let (mut history, mut order) = (Bytes::new(HISTORY), Bytes::new(ORDER));
-    let given = check_over(&rt, rt.alloc(), &mut history, &mut order, 1, &mut sink);
-    assert!(rt; matches!(given, Ok(Verdict::Yes(_))));
-    assert!(rt; !history.has_failed() && !order.has_failed());
-    assert!(rt; sink.into_inner().as_slice() == YES);
-    Ok(())
-}
-
-/// A file is opened when it is read, and a history that cannot be opened is found before the
-/// certificates are.
-#[test]
-fn a_file_that_is_not_there_is_named(rt: HostRuntime) -> Result<(), Fail> {
-    let mut sink = Out::new(Vec::new(rt.alloc()));
-    let mut history = In::new(NamedFile::new(&rt, "no such folder/history.edn"));
-    let mut order = In::new(NamedFile::new(&rt, "no such folder/certificates.edn"));
-    let given = check_over(&rt, rt.alloc(), &mut history, &mut order, 1, &mut sink);
-    assert!(rt; given.err() == Some(ToolFault::Read(Text::History)));
-    assert!(rt; history.has_failed() && !history.lacks_memory());
-    assert!(rt; !order.has_failed());
-    let mut history = Bytes::new(HISTORY);
-    let given = check_over(&rt, rt.alloc(), &mut history, &mut order, 1, &mut sink);
-    assert!(rt; given.err() == Some(ToolFault::Read(Text::Certificates)));
-    assert!(rt; order.has_failed() && !order.lacks_memory());
-    assert!(rt; sink.into_inner().is_empty());
     Ok(())
 }
 
@@ -151,47 +123,50 @@ impl Read for Broken {
     }
 }
 
-/// The text whose reader fails in mid-stream is named, nothing is written, and the kind of the
-/// error is kept.
+/// Why a check gives no verdict, where it writes nothing.
+fn fault_of<R: AllocGlobal + Threads + Sync, H: Source, C: Source>(
+    rt: &R,
+    history: &mut H,
+    order: &mut C,
+) -> Option<ToolFault>
+    requires history { H.broken history.old ≡ false }
+    requires order { C.broken order.old ≡ false }
+{
+    let mut sink = Out::new(Vec::new(rt.alloc()));
+    let given = check_over(rt, rt.alloc(), history, order, 1, &mut sink);
+    if sink.into_inner().is_empty() {
+        return given.err();
+    }
+    None
+}
+
+/// The text whose reader fails in mid-stream is named, and the kind of the error is kept.
 #[test]
 fn readers_that_fail_in_mid_stream(rt: HostRuntime) -> Result<(), Fail> {
-    let mut sink = Out::new(Vec::new(rt.alloc()));
     let (text, _) = HISTORY.split_at(HISTORY.len() / 2);
-    let mut history = In::new(Broken {
-        text,
-        kind: ErrorKind::ConnectionReset,
-    });
-    let mut order = In::new(ORDER);
-    let given = check_over(&rt, rt.alloc(), &mut history, &mut order, 1, &mut sink);
-    assert!(rt; given.err() == Some(ToolFault::Read(Text::History)));
+    let kind = ErrorKind::ConnectionReset;
+    let (mut history, mut order) = (In::new(Broken { text, kind }), In::new(ORDER));
+    let fault = fault_of(&rt, &mut history, &mut order);
+    assert!(rt; fault == Some(ToolFault::Read(Text::History)));
     assert!(rt; history.has_failed() && !history.lacks_memory() && !order.has_failed());
     let (text, _) = ORDER.split_at(ORDER.len() / 2);
-    let mut history = In::new(HISTORY);
-    let mut order = In::new(Broken {
-        text,
-        kind: ErrorKind::OutOfMemory,
-    });
-    let given = check_over(&rt, rt.alloc(), &mut history, &mut order, 1, &mut sink);
-    assert!(rt; given.err() == Some(ToolFault::Read(Text::Certificates)));
+    let kind = ErrorKind::OutOfMemory;
+    let (mut history, mut order) = (In::new(HISTORY), In::new(Broken { text, kind }));
+    let fault = fault_of(&rt, &mut history, &mut order);
+    assert!(rt; fault == Some(ToolFault::Read(Text::Certificates)));
     assert!(rt; order.has_failed() && order.lacks_memory() && !history.has_failed());
-    assert!(rt; sink.into_inner().is_empty());
     Ok(())
 }
 
-/// The history is read first, and nothing is written where a text cannot be read.
+/// The history is read first.
 #[test]
 fn a_source_that_fails_is_named(rt: HostRuntime) -> Result<(), Fail> {
-    let mut sink = Out::new(Vec::new(rt.alloc()));
     let (mut history, mut order) = (in_pieces(HISTORY, 9, true), in_pieces(ORDER, 9, true));
-    let given = check_over(&rt, rt.alloc(), &mut history, &mut order, 1, &mut sink);
-    assert!(rt; given.err() == Some(ToolFault::Read(Text::History)));
-    assert!(rt; order.asked == 0);
-    assert!(rt; sink.into_inner().is_empty());
-    let mut sink = Out::new(Vec::new(rt.alloc()));
+    let fault = fault_of(&rt, &mut history, &mut order);
+    assert!(rt; fault == Some(ToolFault::Read(Text::History)) && order.asked == 0);
     let (mut history, mut order) = (in_pieces(HISTORY, 9, false), in_pieces(ORDER, 9, true));
-    let given = check_over(&rt, rt.alloc(), &mut history, &mut order, 1, &mut sink);
-    assert!(rt; given.err() == Some(ToolFault::Read(Text::Certificates)));
-    assert!(rt; sink.into_inner().is_empty());
+    let fault = fault_of(&rt, &mut history, &mut order);
+    assert!(rt; fault == Some(ToolFault::Read(Text::Certificates)));
     Ok(())
 }
 
@@ -199,30 +174,27 @@ fn a_source_that_fails_is_named(rt: HostRuntime) -> Result<(), Fail> {
 fn a_sink_that_fails_is_told(rt: HostRuntime) -> Result<(), Fail> {
     let mut room = [0; 20];
     let mut sink = Out::new(room.as_mut_slice());
-    let (mut history, mut order) = (in_pieces(HISTORY, 9, false), in_pieces(ORDER, 9, false));
+    let (mut history, mut order) = (Bytes::new(HISTORY), Bytes::new(ORDER));
     let given = check_over(&rt, rt.alloc(), &mut history, &mut order, 1, &mut sink);
     assert!(rt; given.err() == Some(ToolFault::Write));
     assert!(rt; room.as_slice() == b"yes: 2 operations, 1".as_slice());
     Ok(())
 }
 
-/// The bytes of the first three, two, one and no maps of the history, and the lines.
-const CUT: [(usize, &[u8]); 4] = [
-    (139, YES),
-    (98, b"no: C3 object 0: 2 is no operation\n"),
-    (51, b"no: C3 object 0: 2 is no operation\n"),
-    (0, b"no: C2 object 0 is not in the history\n"),
+/// Certificates of the history in memory, the lines and the exit status.
+const IN_MEMORY: [(&[u8], &[u8], u8); 3] = [
+    (ORDER, YES, 0),
+    (b"", b"no: C1 object 0 has no certificate\n", 1),
+    (b"[0 2]", b"malformed certificates: K1 at form 0\n", 2),
 ];
 
+/// No command checks texts in memory.
 #[test]
-fn each_beginning_of_a_history_is_judged(rt: HostRuntime) -> Result<(), Fail> {
-    for (length, lines) in CUT {
-        let (cut, _) = HISTORY.split_at(length.min(HISTORY.len()));
+fn a_check_of_texts_in_memory_gives_a_status(rt: HostRuntime) -> Result<(), Fail> {
+    for (order, lines, expected) in IN_MEMORY {
         let mut sink = Out::new(Vec::new(rt.alloc()));
-        let (mut history, mut order) = (in_pieces(cut, 9, false), in_pieces(ORDER, 9, false));
-        let given = check_over(&rt, rt.alloc(), &mut history, &mut order, 1, &mut sink);
-        assert!(rt; given.is_ok());
-        assert!(rt; sink.into_inner().as_slice() == lines);
+        let status = report_check(&rt, rt.alloc(), HISTORY, order, 1, &mut sink);
+        assert!(rt; status == expected && sink.into_inner().as_slice() == lines);
     }
     Ok(())
 }

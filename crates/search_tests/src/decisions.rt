@@ -95,31 +95,3 @@ fn an_object_is_found_or_impossible(rt: HostRuntime) -> Result<(), Fail> {
     decisions(rt.alloc(), HISTORY, 100, &wanted)?;
     decisions(rt.alloc(), HISTORY, 0, &wanted)
 }
-
-/// Twelve writes overlap, and the first must come last: else a cas would find its value.
-fn first_write_last(alloc: Global) -> Result<String, Fail> {
-    let mut text = String::new(alloc);
-    for word in ["invoke", "ok"] {
-        for write in 0..12 {
-            let map = format!(in alloc;
-                "{{:process {write} :type :{word} :f :write :value {write}}}\n"
-            )?;
-            text.push_str(&map)?;
-        }
-    }
-    for value in 1..12 {
-        let begun = format!(in alloc;
-            "{{:process 0 :type :invoke :f :cas :value [{value} 99]}}\n"
-        )?;
-        text.push_str(&begun)?;
-        text.push_str("{:process 0 :type :ok :f :cas :value false}\n")?;
-    }
-    Ok(text)
-}
-
-/// Of this history neither an order nor a reason is found without a search.
-#[test]
-fn an_object_that_is_not_found_may_take_too_many_steps(rt: HostRuntime) -> Result<(), Fail> {
-    let text = first_write_last(rt.alloc())?;
-    decisions(rt.alloc(), &text, 0, &[(0, "out of steps")])
-}
