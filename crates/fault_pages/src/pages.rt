@@ -84,11 +84,12 @@ pub fn fault_page(
 }
 
 /// The page of a history of which nothing is known, since memory was refused.
-pub fn memory_page<'a>(alloc: Global, name: &'a str, lines: &'a str) -> Result<Vec<u8>, AllocError>
+pub fn memory_page(alloc: Global, name: &str, lines: &str) -> Result<Vec<u8>, AllocError>
     // It is made of the page's own markup, of numbers, and of text that is escaped.
     ensures { IfOk result (λ v. ∥ IsMade v.items ∥₁) }
 {
     let title = format!(in alloc; "out of memory: {name}")?;
+    let lines = String::from_str(alloc, lines)?;
     let mut sentence = Vec::new(alloc);
     sentence.push(Span::Text("Memory was refused. This says nothing of the texts."))?;
     let mut sentences = Vec::new(alloc);
@@ -100,7 +101,7 @@ pub fn memory_page<'a>(alloc: Global, name: &'a str, lines: &'a str) -> Result<V
             title: &title,
             facts: name,
             sentences: &sentences,
-            lines,
+            lines: &lines,
             objects: &[],
             drawings: &[],
             place: None,
