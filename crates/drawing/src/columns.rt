@@ -57,7 +57,7 @@ fn drawn_places(memory: &Memory, moments: &[Moment]) -> Vec<usize> {
 }
 
 /// The holes between drawn events, also before the first and after the last.
-fn holes_of(memory: &Memory, scene: &Scene<'_>) -> Vec<Hole> {
+fn holes_of(memory: &Memory, scene: &Scene<'_, '_>) -> Vec<Hole> {
     let mut holes = Vec::new(memory.alloc);
     let mut first = 0;
     let mut is_left_out = false;
@@ -131,7 +131,7 @@ impl Columns<'_> {
         self.add_even(What::Gap(hole), gap_width(hole.count()));
     }
 
-    fn add_event(&mut self, scene: &Scene<'_>, moment: Moment) {
+    fn add_event(&mut self, scene: &Scene<'_, '_>, moment: Moment) {
         let number = moment.number;
         let what = What::Event(moment);
         match scene.nemesis(number) {
@@ -152,7 +152,7 @@ impl Columns<'_> {
 }
 
 /// The columns of the scene, from left to right. A zoom has no gap at its ends.
-pub(crate) fn columns_of(memory: &Memory, scene: &Scene<'_>) -> Vec<Column> {
+pub(crate) fn columns_of(memory: &Memory, scene: &Scene<'_, '_>) -> Vec<Column> {
     let places = drawn_places(memory, scene.moments);
     let mut columns = Columns {
         memory,

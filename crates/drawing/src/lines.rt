@@ -26,7 +26,7 @@ struct Sheet {
     height: u32,
 }
 
-fn height_of(scene: &Scene<'_>) -> u32 {
+fn height_of(scene: &Scene<'_, '_>) -> u32 {
     if scene.points.is_empty() {
         HEIGHT
     } else {
@@ -37,7 +37,7 @@ fn height_of(scene: &Scene<'_>) -> u32 {
 /// The processes that have something in the line.
 fn processes_of(
     memory: &Memory,
-    scene: &Scene<'_>,
+    scene: &Scene<'_, '_>,
     layout: &Layout,
     line: usize,
     segments: &[Segment],
@@ -80,7 +80,7 @@ fn tops_of(
 
 fn sheet_of(
     memory: &Memory,
-    scene: &Scene<'_>,
+    scene: &Scene<'_, '_>,
     layout: &Layout,
     line: usize,
     all: &[Segment],
@@ -126,7 +126,13 @@ impl Sheet {
         lanes
     }
 
-    fn bar(&self, memory: &Memory, scene: &Scene<'_>, layout: &Layout, segment: &Segment) -> Bar {
+    fn bar(
+        &self,
+        memory: &Memory,
+        scene: &Scene<'_, '_>,
+        layout: &Layout,
+        segment: &Segment,
+    ) -> Bar {
         let operation = segment.operation;
         let (text, _) = label_of(memory, scene, &operation);
         let room = segment.to.saturating_sub(segment.from).saturating_sub(8) / CHARACTER;
@@ -153,7 +159,7 @@ impl Sheet {
     }
 
     /// The bars, by lanes and then from left to right.
-    fn bars(&self, memory: &Memory, scene: &Scene<'_>, layout: &Layout) -> Vec<Bar> {
+    fn bars(&self, memory: &Memory, scene: &Scene<'_, '_>, layout: &Layout) -> Vec<Bar> {
         let mut order: Vec<(u32, u32, usize)> = Vec::new(memory.alloc);
         for (place, segment) in self.segments.iter().enumerate() {
             let top = self.top_of(segment.operation.process);
@@ -170,7 +176,7 @@ impl Sheet {
     }
 
     /// Where a refused point is joined to its bar, if it is beyond the end of it.
-    fn tether(&self, scene: &Scene<'_>, number: u32, x: u32) -> Option<u32> {
+    fn tether(&self, scene: &Scene<'_, '_>, number: u32, x: u32) -> Option<u32> {
         if scene.dims {
             return None;
         }
@@ -185,7 +191,7 @@ impl Sheet {
         }
     }
 
-    fn points(&self, memory: &Memory, scene: &Scene<'_>, layout: &Layout) -> Vec<Point> {
+    fn points(&self, memory: &Memory, scene: &Scene<'_, '_>, layout: &Layout) -> Vec<Point> {
         let mut points = Vec::new(memory.alloc);
         for (column, spot) in &layout.columns {
             let What::Point(place) = column.what else {
@@ -212,7 +218,7 @@ impl Sheet {
     }
 
     /// The arrows whose two ends are in the line.
-    fn arrows(&self, memory: &Memory, scene: &Scene<'_>, layout: &Layout) -> Vec<Arrow> {
+    fn arrows(&self, memory: &Memory, scene: &Scene<'_, '_>, layout: &Layout) -> Vec<Arrow> {
         let mut arrows = Vec::new(memory.alloc);
         for (earlier, later) in scene.arrows {
             let from = earlier.returned().and_then(|number| layout.event(number));
@@ -233,7 +239,7 @@ impl Sheet {
     }
 
     /// The faulty map, where it is in the line.
-    fn cross(&self, memory: &Memory, scene: &Scene<'_>, layout: &Layout) -> Option<Cross> {
+    fn cross(&self, memory: &Memory, scene: &Scene<'_, '_>, layout: &Layout) -> Option<Cross> {
         let faulty = scene.faulty?;
         let spot = layout.event(faulty.number)?;
         let top = self.tops.get(&faulty.process?).copied()?;
@@ -249,7 +255,7 @@ impl Sheet {
         })
     }
 
-    fn into_line(self, memory: &Memory, scene: &Scene<'_>, layout: &Layout) -> Line {
+    fn into_line(self, memory: &Memory, scene: &Scene<'_, '_>, layout: &Layout) -> Line {
         let bars = self.bars(memory, scene, layout);
         let points = self.points(memory, scene, layout);
         let points = sound_points(memory.alloc, &bars, points);
@@ -287,7 +293,7 @@ fn cross_end(cross: &Cross) -> u32 {
 }
 
 /// The figure of the scene.
-pub(crate) fn figure_of(memory: &Memory, scene: &Scene<'_>) -> Figure {
+pub(crate) fn figure_of(memory: &Memory, scene: &Scene<'_, '_>) -> Figure {
     let columns = columns_of(memory, scene);
     let layout = place(memory, scene, &columns);
     let (operations, left_out) = shown_operations(memory, scene, &layout);

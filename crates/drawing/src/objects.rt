@@ -190,13 +190,13 @@ fn focus_points(memory: &Memory, points: &[Placed], focus: &BTreeMap<u32, Mark>)
 
 /// The two figures of an object: the operations of the focus alone, where they are shown alone, and
 /// the window.
-fn figures<'a>(
+fn figures(
     memory: &Memory,
-    operations: &'a [Operation],
-    subject: &Subject<'a>,
-    window: &'a Window,
-    points: &'a [Placed],
-    explanation: &'a Explanation<'_>,
+    operations: &[Operation],
+    subject: &Subject<'_>,
+    window: &Window,
+    points: &[Placed],
+    explanation: &Explanation<'_>,
 ) -> (Option<Figure>, Figure) {
     let focus = &explanation.focus;
     let few = focus.len().saturating_add(1);

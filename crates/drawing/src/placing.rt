@@ -22,7 +22,7 @@ pub(crate) struct Label {
 }
 
 /// The labels of the operations with drawn events, by their numbers.
-pub(crate) fn labels_of(memory: &Memory, scene: &Scene<'_>) -> BTreeMap<u32, Label> {
+pub(crate) fn labels_of(memory: &Memory, scene: &Scene<'_, '_>) -> BTreeMap<u32, Label> {
     let mut labels = BTreeMap::new(memory.alloc);
     for moment in scene.moments {
         let Some(operation) = scene.operation(moment) else {
@@ -84,7 +84,7 @@ impl Layout {
 
     /// Where the faulty map begins in this line: after the labels of what is outstanding of its
     /// process.
-    fn left_of_faulty(&self, scene: &Scene<'_>) -> u32 {
+    fn left_of_faulty(&self, scene: &Scene<'_, '_>) -> u32 {
         let mut left = self.x;
         for moment in scene.moments {
             let Some(operation) = scene.operation(moment) else {
@@ -107,7 +107,7 @@ impl Layout {
     }
 
     /// Where a column begins in this line: a completion where its bar has room for its label.
-    fn left_of(&self, scene: &Scene<'_>, column: &Column) -> u32 {
+    fn left_of(&self, scene: &Scene<'_, '_>, column: &Column) -> u32 {
         let What::Event(moment) = column.what else {
             return self.x;
         };
@@ -126,7 +126,7 @@ impl Layout {
 
     /// Whether it is the invocation of a focus operation whose label would not fit, in the right
     /// half of a line.
-    fn is_early(&self, scene: &Scene<'_>, column: &Column, left: u32) -> bool {
+    fn is_early(&self, scene: &Scene<'_, '_>, column: &Column, left: u32) -> bool {
         let What::Event(moment) = column.what else {
             return false;
         };
@@ -140,7 +140,7 @@ impl Layout {
     }
 
     /// Puts the column into this line, or into a new one.
-    fn put(&mut self, memory: &Memory, scene: &Scene<'_>, column: Column) {
+    fn put(&mut self, memory: &Memory, scene: &Scene<'_, '_>, column: Column) {
         let mut left = self.left_of(scene, &column);
         let is_wide = left.saturating_add(column.width) > WIDEST;
         if !self.is_new && (is_wide || self.is_early(scene, &column, left)) {
@@ -172,7 +172,7 @@ impl Layout {
     }
 
     /// How far the last line goes: bars that stay open have room for their labels.
-    fn last_end(&self, scene: &Scene<'_>) -> u32 {
+    fn last_end(&self, scene: &Scene<'_, '_>) -> u32 {
         let mut end = self.columns_end(self.line);
         for (column, spot) in &self.columns {
             let What::Event(moment) = column.what else {
@@ -197,7 +197,7 @@ fn is_gap(column: &Column) -> bool {
 }
 
 /// Puts the columns into lines. A last gap that does not fit is dropped.
-pub(crate) fn place(memory: &Memory, scene: &Scene<'_>, columns: &[Column]) -> Layout {
+pub(crate) fn place(memory: &Memory, scene: &Scene<'_, '_>, columns: &[Column]) -> Layout {
     let mut layout = Layout {
         labels: labels_of(memory, scene),
         columns: Vec::new(memory.alloc),

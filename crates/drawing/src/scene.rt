@@ -13,7 +13,7 @@ use std::fmt::Write;
 /// The operations of an object, its events with those that are drawn, the points of an order, and
 /// what the sentence speaks of.
 #[derive(Clone, Copy)]
-pub(crate) struct Scene<'a> {
+pub(crate) struct Scene<'a, 'b> {
     pub(crate) operations: &'a [Operation],
     pub(crate) moments: &'a [Moment],
     /// The maps of nemeses, in rising number.
@@ -32,7 +32,7 @@ pub(crate) struct Scene<'a> {
     /// Whether labels name the object.
     pub(crate) names_objects: bool,
     /// The map that is faulty, after all that is drawn.
-    pub(crate) faulty: Option<FaultyMap<'a>>,
+    pub(crate) faulty: Option<FaultyMap<'b>>,
 }
 
 /// A map that makes a text no history: its number, the number of the fault after the letter H, its
@@ -45,7 +45,7 @@ pub struct FaultyMap<'a> {
     pub words: &'a str,
 }
 
-impl Scene<'_> {
+impl Scene<'_, '_> {
     pub(crate) fn operation(&self, moment: &Moment) -> Option<Operation> {
         moment.of(self.operations)
     }
@@ -88,7 +88,11 @@ impl Scene<'_> {
 
 /// The label of an operation, no longer than the longest, and the room that it needs. Where
 /// operations of several objects are drawn, the label ends with the object.
-pub(crate) fn label_of(memory: &Memory, scene: &Scene<'_>, operation: &Operation) -> (String, u32) {
+pub(crate) fn label_of(
+    memory: &Memory,
+    scene: &Scene<'_, '_>,
+    operation: &Operation,
+) -> (String, u32) {
     let mut text = label(memory, operation);
     if scene.names_objects {
         let object = operation.object;

@@ -57,7 +57,12 @@ fn end_at(layout: &Layout, number: u32) -> BarEnd {
 }
 
 /// The last line that has an event or a point of a pending operation, from this line on.
-fn last_line_of(scene: &Scene<'_>, layout: &Layout, operation: &Operation, first: usize) -> usize {
+fn last_line_of(
+    scene: &Scene<'_, '_>,
+    layout: &Layout,
+    operation: &Operation,
+    first: usize,
+) -> usize {
     let mut last = first;
     if let Some(spot) = operation.ended.and_then(|number| layout.event(number)) {
         last = last.max(spot.line);
@@ -76,7 +81,12 @@ fn last_line_of(scene: &Scene<'_>, layout: &Layout, operation: &Operation, first
     last
 }
 
-fn right_end(scene: &Scene<'_>, layout: &Layout, operation: &Operation, left: BarEnd) -> BarEnd {
+fn right_end(
+    scene: &Scene<'_, '_>,
+    layout: &Layout,
+    operation: &Operation,
+    left: BarEnd,
+) -> BarEnd {
     if let Some(number) = operation.closed() {
         return end_at(layout, number);
     }
@@ -91,7 +101,7 @@ fn right_end(scene: &Scene<'_>, layout: &Layout, operation: &Operation, left: Ba
 /// How far the bar of a pending operation goes that is in lines from one to another: to the faulty
 /// map of its process, or to the end of the last line.
 fn pending_end(
-    scene: &Scene<'_>,
+    scene: &Scene<'_, '_>,
     layout: &Layout,
     operation: &Operation,
     first: usize,
@@ -131,7 +141,7 @@ fn is_through(operation: &Operation, starts: &[u32]) -> bool {
 /// begins, and return, while there are lanes. And how many others are open all through.
 pub(crate) fn shown_operations(
     memory: &Memory,
-    scene: &Scene<'_>,
+    scene: &Scene<'_, '_>,
     layout: &Layout,
 ) -> (Vec<Operation>, usize) {
     let starts = stretches(memory, scene.moments);
@@ -163,7 +173,7 @@ pub(crate) fn shown_operations(
 /// The parts of the bars of these operations, in all lines.
 pub(crate) fn segments_of(
     memory: &Memory,
-    scene: &Scene<'_>,
+    scene: &Scene<'_, '_>,
     layout: &Layout,
     operations: &[Operation],
 ) -> Vec<Segment> {

@@ -32,7 +32,7 @@ pub(crate) fn gaps_of(memory: &Memory, layout: &Layout, line: usize) -> Vec<Gap>
 /// The maps of nemeses in the line.
 pub(crate) fn nemeses_of(
     memory: &Memory,
-    scene: &Scene<'_>,
+    scene: &Scene<'_, '_>,
     layout: &Layout,
     line: usize,
 ) -> Vec<NemesisMark> {
@@ -58,7 +58,7 @@ pub(crate) fn nemeses_of(
 }
 
 /// The events of the line; none has its number yet.
-fn bare_ticks(memory: &Memory, scene: &Scene<'_>, layout: &Layout, line: usize) -> Vec<Tick> {
+fn bare_ticks(memory: &Memory, scene: &Scene<'_, '_>, layout: &Layout, line: usize) -> Vec<Tick> {
     let mut ticks = Vec::new(memory.alloc);
     for (column, spot) in &layout.columns {
         let What::Event(moment) = column.what else {
@@ -98,7 +98,7 @@ fn is_free(taken: &[Room], room: Room) -> bool {
 /// Shows the numbers, of the focus or of the others, that have room.
 fn show(
     memory: &Memory,
-    scene: &Scene<'_>,
+    scene: &Scene<'_, '_>,
     ticks: &mut [Tick],
     taken: &mut Vec<Room>,
     of_focus: bool,
@@ -120,7 +120,7 @@ fn show(
 /// first, and in a zoom each has room.
 pub(crate) fn ticks_of(
     memory: &Memory,
-    scene: &Scene<'_>,
+    scene: &Scene<'_, '_>,
     layout: &Layout,
     line: usize,
     gaps: &[Gap],
