@@ -5,7 +5,7 @@ ghost use Rattle.outputs.specs.Checked.{IsCheck};
 ghost use Rattle.outputs.specs.Outputs.{Leaves};
 ghost use Rattle.drawing_commands.specs.Drawings.{IsCheckedDrawing, IsPageWith};
 
-use crate::pages::{Sheet, unread_output, verdict_output};
+use crate::pages::{unread_output, verdict_output};
 use crate::request::Request;
 use edn::Sink;
 use judging::{texts_alone, verdict_alone, verdict_on_failure};
@@ -13,17 +13,25 @@ use outputs::{Output, send, send_out_of_memory};
 use std::alloc::{AllocError, Global};
 
 /// The page of a history that is checked, or of the fault of a text, and the status of the check.
-fn texts_output(alloc: Global, sheet: &Sheet<'_>) -> Result<Output, AllocError>
+fn texts_output(
+    alloc: Global,
+    request: &Request<'_>,
+    history: &[u8],
+    certificates: &[u8],
+) -> Result<Output, AllocError>
     ensures drawn { IfOk result (λ o.
-        IsPageWith (IsCheck sheet.now.history.now sheet.now.certificates.now)
+        IsPageWith (IsCheck history.now certificates.now)
         o.status o.text.items) }
 {
-    match texts_alone(alloc, sheet.history, sheet.certificates) {
-        Ok((history, certificates)) => {
-            let verdict = verdict_alone(alloc, &history, &certificates);
-            verdict_output(alloc, sheet, &history, &certificates, &verdict)
+    match texts_alone(alloc, history, certificates) {
+        Ok((events, orders)) => {
+            let verdict = verdict_alone(alloc, &events, &orders);
+            verdict_output(alloc, request, history, &events, &orders, &verdict)
         }
-        Err(failure) => unread_output(alloc, sheet, &verdict_on_failure(failure)),
+        Err(failure) => {
+            let verdict = verdict_on_failure(failure);
+            unread_output(alloc, request, history, certificates, &verdict)
+        }
     }
 }
 
@@ -40,12 +48,7 @@ pub fn report_checked_drawing<S: Sink>(
     ensures leaves { Leaves (IsCheckedDrawing history.now certificates.now)
         (S.sent sink.old) result (S.sent sink.new) (S.broken sink.new) }
 {
-    let sheet = Sheet {
-        request: *request,
-        history,
-        certificates,
-    };
-    match texts_output(alloc, &sheet) {
+    match texts_output(alloc, request, history, certificates) {
         Ok(output) => send(&output.text, output.status, sink),
         Err(AllocError) => send_out_of_memory(sink),
     }

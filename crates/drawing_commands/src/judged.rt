@@ -8,7 +8,7 @@ ghost use Rattle.history_commands.specs.Judged.{IsJudgement};
 ghost use Rattle.outputs.specs.Outputs.{Leaves};
 ghost use Rattle.drawing_commands.specs.Drawings.{IsDrawing, IsPageWith};
 
-use crate::pages::{Sheet, text_of, unread_output, verdict_output};
+use crate::pages::{text_of, unread_output, verdict_output};
 use crate::request::{Request, file_name};
 use deciding::Decision;
 use edn::Sink;
@@ -23,7 +23,8 @@ use std::alloc::{AllocError, Global};
 /// The page of a history of which some object has no certificate.
 fn open_page(
     alloc: Global,
-    sheet: &Sheet<'_>,
+    request: &Request<'_>,
+    text: &[u8],
     history: &History,
     answers: &[(u32, Decision)],
     lines: &[u8],
@@ -31,47 +32,52 @@ fn open_page(
     ensures { IfOk result (λ v. ∥ IsMade v.items ∥₁) }
 {
     let lines = text_of(alloc, lines)?;
-    let places = places_in(alloc, sheet.history)?;
+    let places = places_in(alloc, text)?;
     let texts = Texts {
-        history: file_name(sheet.request.history),
+        history: file_name(request.history),
         certificates: None,
         lines: &lines,
         maps: places.maps,
         nemeses: &places.nemeses,
     };
-    judged_page(alloc, history, answers, &texts, sheet.request.options)
+    judged_page(alloc, history, answers, &texts, request.options)
 }
 
 /// The page of a history that is judged, and the status of the judgement.
-fn history_output(alloc: Global, sheet: &Sheet<'_>, history: &History) -> Result<Output, AllocError>
-    requires denotes { DenotesHistory sheet.now.history.now history.now }
-    requires short { IsShort sheet.now.history.now }
+fn history_output(
+    alloc: Global,
+    request: &Request<'_>,
+    text: &[u8],
+    history: &History,
+) -> Result<Output, AllocError>
+    requires denotes { DenotesHistory text.now history.now }
+    requires short { IsShort text.now }
     ensures drawn { IfOk result (λ o.
-        IsPageWith (IsJudgement sheet.now.history.now sheet.now.request.steps)
+        IsPageWith (IsJudgement text.now request.now.steps)
         o.status o.text.items) }
 {
-    match judge_events(alloc, history, sheet.request.steps) {
+    match judge_events(alloc, history, request.steps) {
         Judgement::Certified {
             certificates,
             verdict,
-        } => verdict_output(alloc, sheet, history, &certificates, &verdict),
+        } => verdict_output(alloc, request, text, history, &certificates, &verdict),
         Judgement::Open { answers, output } => Ok(Output {
             status: output.status,
-            text: open_page(alloc, sheet, history, &answers, &output.text)?,
+            text: open_page(alloc, request, text, history, &answers, &output.text)?,
         }),
-        Judgement::NoMemory => unread_output(alloc, sheet, &Verdict::NoMemory),
+        Judgement::NoMemory => unread_output(alloc, request, text, b"", &Verdict::NoMemory),
     }
 }
 
 /// The page of the history that a text denotes, or of its fault, and the status of the judgement.
-fn text_output(alloc: Global, sheet: &Sheet<'_>) -> Result<Output, AllocError>
+fn text_output(alloc: Global, request: &Request<'_>, text: &[u8]) -> Result<Output, AllocError>
     ensures drawn { IfOk result (λ o.
-        IsPageWith (IsJudgement sheet.now.history.now sheet.now.request.steps)
+        IsPageWith (IsJudgement text.now request.now.steps)
         o.status o.text.items) }
 {
-    match history_in(alloc, sheet.history) {
-        Ok(history) => history_output(alloc, sheet, &history),
-        Err(failure) => unread_output(alloc, sheet, &verdict_on_failure(failure)),
+    match history_in(alloc, text) {
+        Ok(history) => history_output(alloc, request, text, &history),
+        Err(failure) => unread_output(alloc, request, text, b"", &verdict_on_failure(failure)),
     }
 }
 
@@ -87,12 +93,7 @@ pub fn report_drawing<S: Sink>(
     ensures leaves { Leaves (IsDrawing text.now request.now.steps)
         (S.sent sink.old) result (S.sent sink.new) (S.broken sink.new) }
 {
-    let sheet = Sheet {
-        request: *request,
-        history: text,
-        certificates: b"",
-    };
-    match text_output(alloc, &sheet) {
+    match text_output(alloc, request, text) {
         Ok(output) => send(&output.text, output.status, sink),
         Err(AllocError) => send_out_of_memory(sink),
     }

@@ -14,15 +14,6 @@ use outputs::{Output, status_of};
 use report::{Fault, Verdict, write_verdict};
 use std::alloc::{AllocError, Global};
 
-/// What a page is made from: what is asked, the bytes of the history's file, and those of the
-/// certificates' if there is one.
-#[derive(Clone, Copy)]
-pub(crate) struct Sheet<'a> {
-    pub(crate) request: Request<'a>,
-    pub(crate) history: &'a [u8],
-    pub(crate) certificates: &'a [u8],
-}
-
 /// The lines of the verdict.
 fn lines_of(alloc: Global, verdict: &Verdict) -> Result<String, AllocError> {
     let mut sink = Out::new(Vec::new(alloc));
@@ -37,64 +28,82 @@ pub(crate) fn text_of(alloc: Global, lines: &[u8]) -> Result<String, AllocError>
     String::from_utf8_lossy(alloc, lines.strip_suffix(b"\n").unwrap_or(lines))
 }
 
-/// The page of a malformed text.
+/// The page of a malformed text from a file.
 fn page_of_fault(
     alloc: Global,
-    sheet: &Sheet<'_>,
+    path: &str,
+    text: &[u8],
     fault: &Fault,
-    lines: &str,
 ) -> Result<Vec<u8>, AllocError>
     ensures { IfOk result (λ v. ∥ IsMade v.items ∥₁) }
 {
-    let request = sheet.request;
-    let (name, text) = match fault {
-        Fault::HistoryText(_) | Fault::HistoryMaps(_) => (request.history, sheet.history),
-        Fault::CertificateText(_) | Fault::CertificateForms(_) => {
-            (request.certificates.unwrap_or(""), sheet.certificates)
-        }
-    };
-    let name = file_name(name);
-    fault_page(alloc, fault, &FaultyText { name, text, lines })
+    let name = String::from_str(alloc, file_name(path))?;
+    let lines = lines_of(alloc, &Verdict::Malformed(*fault))?;
+    fault_page(
+        alloc,
+        fault,
+        &FaultyText {
+            name: &name,
+            text,
+            lines: &lines,
+        },
+    )
 }
 
-/// The page of texts of which there is nothing to draw: the first fault of them, or that memory was
-/// refused.
-fn page_without_history(
+/// The page of a history of which memory was refused.
+fn page_without_memory(alloc: Global, request: &Request<'_>) -> Result<Vec<u8>, AllocError>
+    ensures { IfOk result (λ v. ∥ IsMade v.items ∥₁) }
+{
+    let lines = lines_of(alloc, &Verdict::NoMemory)?;
+    memory_page(alloc, file_name(request.history), &lines)
+}
+
+/// The page of texts that could not be read: the first fault of them, or that memory was refused.
+fn page_of_texts(
     alloc: Global,
-    sheet: &Sheet<'_>,
+    request: &Request<'_>,
+    history: &[u8],
+    certificates: &[u8],
     verdict: &Verdict,
-    lines: &str,
 ) -> Result<Vec<u8>, AllocError>
     ensures { IfOk result (λ v. ∥ IsMade v.items ∥₁) }
 {
-    match verdict {
-        Verdict::Malformed(fault) => page_of_fault(alloc, sheet, fault, lines),
-        _ => memory_page(alloc, file_name(sheet.request.history), lines),
+    let Verdict::Malformed(fault) = verdict else {
+        return page_without_memory(alloc, request);
+    };
+    match fault {
+        Fault::HistoryText(_) | Fault::HistoryMaps(_) => {
+            page_of_fault(alloc, request.history, history, fault)
+        }
+        Fault::CertificateText(_) | Fault::CertificateForms(_) => {
+            let path = request.certificates.unwrap_or("");
+            page_of_fault(alloc, path, certificates, fault)
+        }
     }
 }
 
-/// The page of a history that was judged by these certificates.
+/// The page of a history, from this text, that was judged by these certificates.
 fn page_of_history(
     alloc: Global,
-    sheet: &Sheet<'_>,
+    request: &Request<'_>,
+    text: &[u8],
     history: &History,
     certificates: &[Certificate],
     verdict: &Verdict,
-    lines: &str,
 ) -> Result<Vec<u8>, AllocError>
     ensures { IfOk result (λ v. ∥ IsMade v.items ∥₁) }
 {
     let refusal = match verdict {
         Verdict::Yes(_) => None,
         Verdict::No(refusal) => Some(refusal),
-        _ => return page_without_history(alloc, sheet, verdict, lines),
+        _ => return page_without_memory(alloc, request),
     };
-    let request = sheet.request;
-    let places = places_in(alloc, sheet.history)?;
+    let lines = lines_of(alloc, verdict)?;
+    let places = places_in(alloc, text)?;
     let texts = Texts {
         history: file_name(request.history),
         certificates: request.certificates.map(|name| file_name(name)),
-        lines,
+        lines: &lines,
         maps: places.maps,
         nemeses: &places.nemeses,
     };
@@ -111,7 +120,8 @@ fn page_of_history(
 /// The page of a history that was judged by certificates, and the status of the verdict.
 pub(crate) fn verdict_output(
     alloc: Global,
-    sheet: &Sheet<'_>,
+    request: &Request<'_>,
+    text: &[u8],
     history: &History,
     certificates: &[Certificate],
     verdict: &Verdict,
@@ -119,10 +129,10 @@ pub(crate) fn verdict_output(
     ensures { IfOk result (λ o. (o.status ≡ spec.status_of verdict.now)
         × ∥ IsMade o.text.items ∥₁) }
 {
-    let lines = lines_of(alloc, verdict)?;
+    let page = page_of_history(alloc, request, text, history, certificates, verdict)?;
     Ok(Output {
         status: status_of(verdict),
-        text: page_of_history(alloc, sheet, history, certificates, verdict, &lines)?,
+        text: page,
     })
 }
 
@@ -130,15 +140,17 @@ pub(crate) fn verdict_output(
 /// verdict.
 pub(crate) fn unread_output(
     alloc: Global,
-    sheet: &Sheet<'_>,
+    request: &Request<'_>,
+    history: &[u8],
+    certificates: &[u8],
     verdict: &Verdict,
 ) -> Result<Output, AllocError>
     ensures { IfOk result (λ o. (o.status ≡ spec.status_of verdict.now)
         × ∥ IsMade o.text.items ∥₁) }
 {
-    let lines = lines_of(alloc, verdict)?;
+    let page = page_of_texts(alloc, request, history, certificates, verdict)?;
     Ok(Output {
         status: status_of(verdict),
-        text: page_without_history(alloc, sheet, verdict, &lines)?,
+        text: page,
     })
 }

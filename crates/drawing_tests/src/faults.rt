@@ -94,11 +94,11 @@ static ROWS: [Row; 8] = [
         ],
     },
     Row {
-        text: "{:process 0, :type :ok, :f :read, :note \"</script><b>&amp;\u{1b}\"}",
+        text: "{:process 0, :type :ok, :f :read, :note \"</script><b>&amp;\u{1b}\u{202e}é\"}",
         is_of_certificates: HISTORY,
         texts: &[
             "Map 0 completes an operation of process 0, which has none outstanding.</p>",
-            ":note &quot;&lt;/script&gt;&lt;b&gt;&amp;amp;\\x1b&quot;}</mark>",
+            ":note &quot;&lt;/script&gt;&lt;b&gt;&amp;amp;\\x1b\\xe2\\x80\\xaeé&quot;}</mark>",
         ],
     },
     Row {

@@ -26,8 +26,21 @@ fn first_character(bytes: &[u8]) -> Option<&str> {
     None
 }
 
+/// Whether the character shows what it is: no control, and none that turns the direction of the
+/// text.
+fn is_plain(character: char) -> bool {
+    !matches!(
+        character,
+        '\0'..='\u{1f}'
+            | '\u{7f}'..='\u{9f}'
+            | '\u{200e}'..='\u{200f}'
+            | '\u{202a}'..='\u{202e}'
+            | '\u{2066}'..='\u{2069}'
+    )
+}
+
 fn is_shown(text: &str) -> bool {
-    text.chars().all(|it| it >= ' ' && it != '\u{7f}' && !('\u{80}'..='\u{9f}').contains(&it))
+    text.chars().all(|character| is_plain(character))
 }
 
 /// The bytes as text: a tab as an arrow, and a byte that is of no character, or of one that shows

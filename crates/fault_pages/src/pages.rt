@@ -89,6 +89,7 @@ pub fn memory_page(alloc: Global, name: &str, lines: &str) -> Result<Vec<u8>, Al
     ensures { IfOk result (λ v. ∥ IsMade v.items ∥₁) }
 {
     let title = format!(in alloc; "out of memory: {name}")?;
+    let lines = String::from_str(alloc, lines)?;
     let mut sentence = Vec::new(alloc);
     sentence.push(Span::Text("Memory was refused. This says nothing of the texts."))?;
     let mut sentences = Vec::new(alloc);
@@ -100,7 +101,7 @@ pub fn memory_page(alloc: Global, name: &str, lines: &str) -> Result<Vec<u8>, Al
             title: &title,
             facts: name,
             sentences: &sentences,
-            lines,
+            lines: &lines,
             objects: &[],
             drawings: &[],
             place: None,

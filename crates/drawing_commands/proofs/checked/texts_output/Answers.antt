@@ -8,11 +8,11 @@ use Rattle.drawing_commands.proofs.checked.texts_output.Goals as goal
 
 pub returns-in-Ok : goal.returns-in-Ok
 returns-in-Ok c =
-    let h = c.args.sheet.now.history.now in
-    let cs = c.args.sheet.now.certificates.now in
+    let h = c.args.history.now in
+    let cs = c.args.certificates.now in
     let e = c.verdict_alone-verdict.ensures in
     let v = c.verdict_alone-verdict.result in
-    let es = c.in-Ok.history in
+    let es = c.in-Ok.events in
     let texts : DenoteOnly h cs es c.deref.result.now = subst (DenoteOnly h cs es) (sym c.deref.ensures.value) c.in-Ok.ensures.texts in
     let holds : Holds h cs v = record {
       linearizable = linearizable_text _ _ _ _ texts _ e.linearizable;
@@ -23,7 +23,7 @@ returns-in-Ok c =
 
 pub returns-in-Err : goal.returns-in-Err
 returns-in-Err c =
-    let h = c.args.sheet.now.history.now in
-    let cs = c.args.sheet.now.certificates.now in
-    let holds = subst (Holds h cs) (sym c.verdict_on_failure.ensures) (unread_texts h cs c.in-Err.failure c.in-Err.ensures.stop c.in-Err.ensures.accepts) in
-    IfOk-weaker c.unread_output.result _ _ (λ o k. with_check h cs c.verdict_on_failure.result holds o.status o.text.items k.0 k.1) c.unread_output.ensures
+    let h = c.args.history.now in
+    let cs = c.args.certificates.now in
+    let holds = subst (Holds h cs) (sym c.verdict_on_failure-verdict.ensures) (unread_texts h cs c.in-Err.failure c.in-Err.ensures.stop c.in-Err.ensures.accepts) in
+    IfOk-weaker c.unread_output.result _ _ (λ o k. with_check h cs c.verdict_on_failure-verdict.result holds o.status o.text.items k.0 k.1) c.unread_output.ensures
