@@ -4,6 +4,7 @@ mod cells;
 mod random;
 mod rows;
 mod small;
+mod stacks;
 
 use checker::check_object;
 use events::{ObjectHistory, split};
