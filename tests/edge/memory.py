@@ -1,7 +1,9 @@
-"""Refuses each allocation of a run in turn. The run must say that it is out of memory, or answer as it does with ample memory."""
+"""Refuses each allocation of a run in turn. The run must say that it is out of memory, or answer as it does with ample memory. And
+measures how much memory a search takes at most."""
 import multiprocessing
 import os
 import re
+import subprocess
 from dataclasses import dataclass
 
 from . import reasons, rows, sentences, workloads
@@ -215,4 +217,74 @@ def refused_memory(program, report):
     return f"{tried} allocations refused"
 
 
-PARTS = (refused_memory,)
+# A search takes at most this much memory beyond its text and operations.
+MOST_KIB = 1 << 20
+# So many steps that a search which kept all it has seen would take several times that.
+STEPS = "200000"
+
+
+def events_of(*calls):
+    """The lines of calls that overlap: all are invoked, and then all return."""
+    lines = []
+    for kind in ("invoke", "ok"):
+        for process, (f, value, reply) in enumerate(calls):
+            said = value if kind == "invoke" else reply
+            lines.append(f"{{:process {process}, :type :{kind}, :f :{f}, :value {said}}}")
+    return lines
+
+
+def piled_up(put, take, lost):
+    """A history with much content: 1,900 calls that put a value of 13 digits each, 20 at once, and a last one that finds what never came.
+    Whatever order the 20 have, no order is valid."""
+    lines = []
+    for k in range(1900):
+        lines += events_of(put(k))
+    lines += events_of(*[put(k) for k in range(1900, 1920)])
+    for k in range(1920 if take else 0):
+        lines += events_of(take(k))
+    return "\n".join(lines + events_of(lost)) + "\n"
+
+
+def large(k):
+    return 1_000_000_000_000 + k
+
+
+def puts(name):
+    return lambda k: (name, large(k), large(k))
+
+
+# What a search of these histories keeps is content. The first has 7,682 maps.
+PILED_UP = {
+    "queue": (puts("enqueue"), lambda k: ("dequeue", "nil", large(k)), ("dequeue", "nil", 7)),
+    "stack": (puts("push"), None, ("pop", "nil", 7)),
+    "heap": (puts("insert"), None, ("extract-min", "nil", 7)),
+    "map": (lambda k: ("put", f"[{large(k)} {large(k)}]", "nil"), None, ("get", 7, 7)),
+}
+
+
+def peak_of(program, *words):
+    """The status of a run, and how much memory it had at most, in KiB."""
+    run = subprocess.Popen([program.path, *words], cwd=program.room, stdin=subprocess.DEVNULL, stdout=subprocess.DEVNULL, stderr=subprocess.DEVNULL)
+    _, status, usage = os.wait4(run.pid, 0)
+    run.returncode = os.waitstatus_to_exitcode(status)
+    return run.returncode, usage.ru_maxrss
+
+
+def bounded_memory(program, report):
+    """A search forgets some of what it has seen before it takes more memory than it may."""
+    highest = 0
+    for kind, (put, take, lost) in PILED_UP.items():
+        name = program.write(f"piled_up_{kind}.edn", piled_up(put, take, lost))
+        for first in ("number", "return"):
+            status, peak = peak_of(program, "search", "--first", first, "--steps", STEPS, name)
+            report.holds(f"memory: search of a {kind} by {first}: status {status}", status in (1, 3))
+            report.holds(f"memory: search of a {kind} by {first}: {peak} KiB", peak < MOST_KIB)
+            highest = max(highest, peak)
+        status, peak = peak_of(program, "judge", "--steps", STEPS, name)
+        report.holds(f"memory: judge of a {kind}: status {status}", status in (1, 3))
+        report.holds(f"memory: judge of a {kind}: {peak} KiB", peak < MOST_KIB)
+        highest = max(highest, peak)
+    return f"at most {highest >> 10} MiB"
+
+
+PARTS = (refused_memory, bounded_memory)

@@ -5,6 +5,7 @@ use cell_orders::order_of_cells;
 use events::{Invocation, ObjectHistory};
 use order_search::{Outcome, TryFirst, find_order};
 use seq_objects::Kind;
+use stack_search::searched_stack_order;
 use std::alloc::{AllocError, Global};
 use timed_calls::timeline_of;
 use value_orders::{other_values_order, values_order};
@@ -14,6 +15,9 @@ use value_orders::{other_values_order, values_order};
 pub enum Method {
     /// The one that is made for the kind of the object.
     OfTheKind,
+    /// For a stack a search of all that it may contain, where it can be chosen which pop takes which
+    /// value.
+    AllContents,
     /// The same for a queue, stack or heap in which it can be chosen which removal takes which
     /// value, with another choice.
     OtherPairs,
@@ -32,6 +36,18 @@ fn order_of_kind(
         Kind::Register | Kind::Map => order_of_cells(alloc, &timeline),
         Kind::Mutex => mutex_order(alloc, &timeline),
         Kind::Queue | Kind::Stack | Kind::Heap => values_order(alloc, kind, &timeline),
+    }
+}
+
+/// An order of the calls of a stack that may be valid, where there is something to be chosen.
+fn order_of_contents(
+    alloc: Global,
+    kind: Kind,
+    operations: &[Invocation],
+) -> Result<Option<Vec<i64>>, AllocError> {
+    match kind {
+        Kind::Stack => searched_stack_order(alloc, &timeline_of(alloc, operations)?),
+        _ => Ok(None),
     }
 }
 
@@ -75,6 +91,7 @@ pub fn order_by(
 ) -> Result<Option<Vec<i64>>, AllocError> {
     match method {
         Method::OfTheKind => order_of_kind(alloc, history.kind(), history.ops()),
+        Method::AllContents => order_of_contents(alloc, history.kind(), history.ops()),
         Method::OtherPairs => order_of_other_pairs(alloc, history.kind(), history.ops()),
         Method::Search => searched_order(alloc, history),
     }

@@ -40,17 +40,32 @@ fn find_by(
     }
 }
 
-/// Looks for a certificate of an object, first by the method that is made for its kind, for a queue,
-/// stack or heap with another choice of what each removal takes too, and then, among at most 4,096
-/// operations, by a bounded search of 20,000 steps and 20 more for each operation.
-pub fn find(alloc: Global, history: &ObjectHistory) -> Result<FindOutcome, AllocError>
+/// Looks for a certificate of an object by the methods that are made for its kind: for a stack also
+/// by a search of all that it may contain, and for a queue, stack or heap with another choice of
+/// what each removal takes.
+pub fn find_by_kind(alloc: Global, history: &ObjectHistory) -> Result<FindOutcome, AllocError>
     ensures valid { IfOk result (λ f. IfOrder f
         (IsFor history.now.object history.now.kind (calls_of history.now.ops))) }
 {
-    for method in [Method::OfTheKind, Method::OtherPairs, Method::Search] {
+    for method in [Method::OfTheKind, Method::AllContents, Method::OtherPairs] {
         if let Some(certificate) = find_by(alloc, method, history)? {
             return Ok(FindOutcome::Order(certificate));
         }
     }
     Ok(FindOutcome::Open)
+}
+
+/// Looks for a certificate of an object by the methods that are made for its kind, and then, among
+/// at most 4,096 operations, by a bounded search of 20,000 steps and 20 more for each operation.
+pub fn find(alloc: Global, history: &ObjectHistory) -> Result<FindOutcome, AllocError>
+    ensures valid { IfOk result (λ f. IfOrder f
+        (IsFor history.now.object history.now.kind (calls_of history.now.ops))) }
+{
+    if let FindOutcome::Order(certificate) = find_by_kind(alloc, history)? {
+        return Ok(FindOutcome::Order(certificate));
+    }
+    match find_by(alloc, Method::Search, history)? {
+        Some(certificate) => Ok(FindOutcome::Order(certificate)),
+        None => Ok(FindOutcome::Open),
+    }
 }

@@ -1,7 +1,7 @@
 //! A finder of certificates for long histories too. What it finds is checked before it is handed
 //! out, so nothing else of it is trusted; what it does not find is open.
 //!
-//! First it tries the method that `candidate_orders` has for the object's kind, then, on objects of
+//! First it tries the methods that `candidate_orders` has for the object's kind, then, on objects of
 //! at most 4,096 operations, a bounded search. What these do not find stays open.
 #![tactic(auto)]
 
@@ -9,4 +9,4 @@ mod all;
 mod finding;
 
 pub use all::find_all;
-pub use finding::{FindOutcome, find};
+pub use finding::{FindOutcome, find, find_by_kind};

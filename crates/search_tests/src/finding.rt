@@ -4,6 +4,7 @@ mod cells;
 mod random;
 mod rows;
 mod small;
+mod stacks;
 
 use events::{ObjectHistory, split};
 use history::read_history_text;

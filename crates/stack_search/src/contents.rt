@@ -1,0 +1,129 @@
+//! The contents of a stack, as a graph.
+
+use std::alloc::{AllocError, Global};
+
+/// The content without any value.
+pub(crate) const EMPTY: u32 = 0;
+
+/// How many contents are found again at most.
+const MOST_SLOTS: usize = 1 << 18;
+
+/// A number of 32 bits. There are never more.
+pub(crate) fn small(number: usize) -> u32 {
+    u32::try_from(number).unwrap_or(u32::MAX)
+}
+
+/// A content that may be below a value, and how many more pending calls were used for it than for
+/// the first one.
+#[derive(Clone, Copy, Debug, PartialEq, Eq)]
+pub(crate) struct Below {
+    pub(crate) content: u32,
+    pub(crate) cost: u32,
+    /// Of these the pops. It may be less than none: the numbers wrap.
+    pub(crate) pops: u32,
+}
+
+/// A value that is on top of one of some contents.
+#[derive(Clone, Copy, Debug)]
+struct Content {
+    value: i64,
+    first: usize,
+    count: usize,
+}
+
+/// Contents by their numbers, from 1 on.
+#[derive(Debug, Drop)]
+pub(crate) struct Contents {
+    contents: Vec<Content>,
+    belows: Vec<Below>,
+    /// Numbers of contents, each at the slot that its hash names: the last one that named it.
+    slots: Vec<u32>,
+}
+
+/// A number in which each bit depends on each bit of this one (the finalizer of SplitMix64).
+fn mixed(number: u64) -> u64 {
+    let once = (number ^ (number >> 30)).wrapping_mul(0xbf58_476d_1ce4_e5b9);
+    let twice = (once ^ (once >> 27)).wrapping_mul(0x94d0_49bb_1331_11eb);
+    twice ^ (twice >> 31)
+}
+
+fn hash_of(value: i64, belows: &[Below]) -> u64 {
+    let mut hash = mixed(u64::from_ne_bytes(value.to_ne_bytes()));
+    for below in belows {
+        let number = u64::from(below.content) | (u64::from(below.cost) << 32);
+        hash = mixed(hash.wrapping_add(number));
+    }
+    hash
+}
+
+impl Contents {
+    /// The empty content alone, of a stack on which there are this many calls.
+    pub(crate) fn new(alloc: Global, calls: usize) -> Result<Contents, AllocError> {
+        let slots = calls.saturating_mul(16).min(MOST_SLOTS);
+        Ok(Contents {
+            contents: Vec::new(alloc),
+            belows: Vec::new(alloc),
+            slots: vec![in alloc; EMPTY; slots]?,
+        })
+    }
+
+    /// How much is kept.
+    pub(crate) fn len(&self) -> usize {
+        self.contents.len().saturating_add(self.belows.len())
+    }
+
+    fn get(&self, number: u32) -> Option<&Content> {
+        self.contents.get((number as usize).checked_sub(1)?)
+    }
+
+    /// The value on top.
+    pub(crate) fn value(&self, number: u32) -> Option<i64> {
+        Some(self.get(number)?.value)
+    }
+
+    /// How many contents may be below the value on top.
+    pub(crate) fn count(&self, number: u32) -> usize {
+        self.get(number).map_or(0, |content| content.count)
+    }
+
+    /// One of the contents that may be below the value on top.
+    pub(crate) fn below(&self, number: u32, k: usize) -> Option<Below> {
+        let first = self.get(number)?.first;
+        self.belows.get(first.saturating_add(k)).copied()
+    }
+
+    /// Whether this is the content.
+    fn is(&self, number: u32, value: i64, belows: &[Below]) -> bool {
+        if self.value(number) != Some(value) || self.count(number) != belows.len() {
+            return false;
+        }
+        for (k, below) in belows.iter().enumerate() {
+            if self.below(number, k) != Some(*below) {
+                return false;
+            }
+        }
+        true
+    }
+
+    /// The number of a content, which may be a new one.
+    pub(crate) fn number(&mut self, value: i64, belows: &[Below]) -> Result<u32, AllocError> {
+        let slots = (self.slots.len() as u64).max(1);
+        let slot = (hash_of(value, belows) % slots) as usize;
+        let known = self.slots.get(slot).copied().unwrap_or(EMPTY);
+        if self.is(known, value, belows) {
+            return Ok(known);
+        }
+        let first = self.belows.len();
+        self.belows.extend_from_slice(belows)?;
+        self.contents.push(Content {
+            value,
+            first,
+            count: belows.len(),
+        })?;
+        let number = small(self.contents.len());
+        if let Some(known) = self.slots.get_mut(slot) {
+            *known = number;
+        }
+        Ok(number)
+    }
+}

@@ -1,0 +1,66 @@
+//! The states of a search.
+
+use crate::records::{Records, Step};
+use std::alloc::AllocError;
+
+/// What may have happened until now.
+#[derive(Clone, Copy, Debug)]
+pub(crate) struct State {
+    /// The bits of the running calls that are placed.
+    pub(crate) placed: u64,
+    pub(crate) content: u32,
+    /// The pending pushes that were used, and how many pending pops.
+    pub(crate) uses: u32,
+    pub(crate) pops: u32,
+    /// How many pending calls were used.
+    pub(crate) cost: u32,
+    /// The step that led here.
+    pub(crate) step: u32,
+}
+
+/// A state that a step leads to, before the step is recorded.
+#[derive(Clone, Copy, Debug)]
+pub(crate) struct Draft {
+    pub(crate) state: State,
+    pub(crate) step: Step,
+}
+
+/// Leaves one of the states that are alike, one that used the fewest pending calls.
+pub(crate) fn merge(states: &mut Vec<State>) {
+    states.sort_unstable_by_key(|it| (it.placed, it.content, it.uses, it.cost));
+    states.dedup_by_key(|it| (it.placed, it.content, it.uses));
+}
+
+/// Merges the drafts, records their steps, and adds their states.
+pub(crate) fn settle(
+    records: &mut Records,
+    mut drafts: Vec<Draft>,
+    states: &mut Vec<State>,
+) -> Result<(), AllocError> {
+    drafts.sort_unstable_by_key(|it| {
+        let state = it.state;
+        (state.placed, state.content, state.uses, state.cost)
+    });
+    drafts.dedup_by_key(|it| (it.state.placed, it.state.content, it.state.uses));
+    for draft in &drafts {
+        let mut state = draft.state;
+        state.step = records.add(draft.step)?;
+        states.push(state)?;
+    }
+    Ok(())
+}
+
+/// Leaves the states that used few pending calls, and of these at most this many: those in which
+/// the fewest calls are placed.
+pub(crate) fn narrow(states: &mut Vec<State>, slack: u32, most: usize) {
+    let mut least = u32::MAX;
+    for state in states.iter() {
+        least = least.min(state.cost);
+    }
+    let limit = least.saturating_add(slack);
+    states.retain(|state| state.cost <= limit);
+    if states.len() > most {
+        states.sort_unstable_by_key(|it| (it.cost, it.placed.count_ones(), it.placed, it.content));
+        states.truncate(most);
+    }
+}
