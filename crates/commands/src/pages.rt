@@ -3,6 +3,7 @@
 ghost use Rattle.std.specs.Prelude.{◌≡◌, false};
 ghost use Rattle.drawing_commands.specs.Drawings.{IsCheckedDrawing, IsDrawing};
 ghost use Rattle.outputs.specs.Outputs.{Leaves};
+ghost use Rattle.commands.specs.Performed.{IsDrawn};
 
 use command_line::DrawOptions;
 use drawing::Stretch;
@@ -22,7 +23,7 @@ fn drawn(options: DrawOptions) -> Options {
 }
 
 /// Judges the history in the text, and draws it.
-pub(crate) fn draw_judged<S: Sink>(
+fn draw_judged<S: Sink>(
     alloc: Global,
     name: &str,
     options: DrawOptions,
@@ -44,13 +45,13 @@ pub(crate) fn draw_judged<S: Sink>(
 
 /// The names of two files.
 #[derive(Clone, Copy)]
-pub(crate) struct Names<'a> {
-    pub(crate) history: &'a str,
-    pub(crate) certificates: &'a str,
+struct Names<'a> {
+    history: &'a str,
+    certificates: &'a str,
 }
 
 /// Checks the history in a text by the certificates in another, and draws it.
-pub(crate) fn draw_checked<S: Sink>(
+fn draw_checked<S: Sink>(
     alloc: Global,
     names: Names<'_>,
     options: DrawOptions,
@@ -69,4 +70,31 @@ pub(crate) fn draw_checked<S: Sink>(
         options: drawn(options),
     };
     report_checked_drawing(alloc, &request, history, certificates, sink)
+}
+
+/// Draws the history in a text: it is judged where no certificates are named, or else checked by
+/// those in the other text.
+pub(crate) fn draw<S: Sink>(
+    alloc: Global,
+    history: &str,
+    certs: &Option<String>,
+    options: DrawOptions,
+    first: &[u8],
+    second: &[u8],
+    sink: &mut S,
+) -> u8
+    requires working { S.broken sink.old ≡ false }
+    ensures leaves { Leaves (IsDrawn certs.now options first.now second.now)
+        (S.sent sink.old) result (S.sent sink.new) (S.broken sink.new) }
+{
+    match certs {
+        None => draw_judged(alloc, history, options, first, sink),
+        Some(certificates) => {
+            let names = Names {
+                history,
+                certificates,
+            };
+            draw_checked(alloc, names, options, first, second, sink)
+        }
+    }
 }

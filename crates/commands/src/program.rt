@@ -4,7 +4,7 @@ ghost use Rattle.std.specs.Prelude.{◌≡◌, false};
 ghost use Rattle.outputs.specs.Outputs.{Leaves};
 ghost use Rattle.commands.specs.Performed.{IsPerformed};
 
-use crate::pages::{Names, draw_checked, draw_judged};
+use crate::pages::draw;
 use crate::running::report_run;
 use crate::simulating::report_simulation;
 use command_line::Line;
@@ -52,20 +52,9 @@ pub fn perform<R: Threads + Wait + Sync, S: Sink>(
         } => report_refutation(alloc, first, second, *steps, sink),
         Line::Draw {
             history,
-            certs: None,
+            certs,
             options,
-        } => draw_judged(alloc, history, *options, first, sink),
-        Line::Draw {
-            history,
-            certs: Some(certificates),
-            options,
-        } => {
-            let names = Names {
-                history,
-                certificates,
-            };
-            draw_checked(alloc, names, *options, first, second, sink)
-        }
+        } => draw(alloc, history, certs, *options, first, second, sink),
         Line::Run(options) => report_run(rt, alloc, *options, sink),
         Line::Simulate { .. } => report_simulation(alloc, first, sink),
     }

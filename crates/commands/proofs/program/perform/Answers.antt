@@ -21,8 +21,5 @@ returns-in-Simulate g c = record { performs = rw c.in-Simulate.is c.report_simul
 pub returns-in-Refute : goal.returns-in-Refute
 returns-in-Refute g c = record { performs = rw c.in-Refute.is c.report_refutation.ensures.leaves }
 
-pub returns-in-Draw-None : goal.returns-in-Draw-None
-returns-in-Draw-None g c = record { performs = rw c.in-Draw-None.is c.draw_judged.ensures.leaves }
-
-pub returns-in-Draw-Some : goal.returns-in-Draw-Some
-returns-in-Draw-Some g c = record { performs = rw c.in-Draw-Some.is c.draw_checked.ensures.leaves }
+pub returns-in-Draw : goal.returns-in-Draw
+returns-in-Draw g c = record { performs = rw c.in-Draw.is c.draw.ensures.leaves }
