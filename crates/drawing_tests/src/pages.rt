@@ -120,10 +120,12 @@ static ROWS: [Row; 7] = [
     },
 ];
 
-/// The page of the drawing, of a file with a name that has markup in it.
-fn page_of(alloc: Global, answer: Answer, drawing: ObjectDrawing) -> Result<Vec<u8>, Fail> {
-    let mut drawings = Vec::new(alloc);
-    drawings.push(drawing)?;
+/// The page of the drawings, of a file with a name that has markup in it.
+fn html_with<'a>(
+    alloc: Global,
+    answer: Answer,
+    drawings: &'a [ObjectDrawing],
+) -> Result<Vec<u8>, Fail> {
     let page = Page {
         answer,
         title: "<script>",
@@ -131,11 +133,17 @@ fn page_of(alloc: Global, answer: Answer, drawing: ObjectDrawing) -> Result<Vec<
         sentences: &[],
         lines: "no: C5 object 0: 0 returned before 2 was invoked",
         objects: &[],
-        drawings: &drawings,
+        drawings,
         place: None,
         quoted: "",
     };
     Ok(html_of(alloc, &page)?)
+}
+
+fn page_of(alloc: Global, answer: Answer, drawing: ObjectDrawing) -> Result<Vec<u8>, Fail> {
+    let mut drawings = Vec::new(alloc);
+    drawings.push(drawing)?;
+    html_with(alloc, answer, &drawings)
 }
 
 #[test]
