@@ -108,8 +108,7 @@ find_command = on_history (codes "find")
 abbrev pub judging_commands : App
 judging_commands =
     with_subcommand (with_subcommand (with_subcommand (with_subcommand (with_subcommand
-    (on_top (λ s. record s { subcommand_required = true; has_version = true })
-    (new_app (codes "fcbench")))
+    (on_top (λ s. record s { subcommand_required = true }) (new_app (codes "fcbench")))
     judge_command.top) check.top) search_command.top) find_command.top) refute_command.top
 
 abbrev pub command : App

@@ -319,9 +319,6 @@ fn find_command<'a>(alloc: Global) -> Result<Command<'a>, AllocError>
     )
 }
 
-/// The version of the program, and the kit that proves it.
-const VERSION: &str = "1.1.0, proved by rattle-kit-13f";
-
 /// The program, with the commands that judge a history.
 fn judging_commands<'a>(alloc: Global) -> Result<Command<'a>, AllocError>
     ensures shape { IfOk result (λ c. app_of c ≡ spec.judging_commands) }
@@ -334,7 +331,6 @@ fn judging_commands<'a>(alloc: Global) -> Result<Command<'a>, AllocError>
     let refute = refute_command(alloc)?;
     Command::new(alloc, "fcbench")
         .about("judges histories of concurrent objects")
-        .version(VERSION)
         .subcommand_required(true)
         .subcommand(judge)?
         .subcommand(check)?

@@ -2,8 +2,8 @@
 #![tactic(auto)]
 
 use commands::{
-    FAILED, In, Line, LineFault, NO_MEMORY, NamedFile, ReadFault, Text, USAGE, check_sources, line,
-    perform, read_text, status_of_fault,
+    FAILED, In, Line, LineFault, NO_MEMORY, NamedFile, ReadFault, Text, USAGE, YES, check_sources,
+    line, perform, read_text, status_of_fault,
 };
 use edn::Out;
 use std::fs::OpenFile;
@@ -15,6 +15,9 @@ use std::sync::Wait;
 use std::sync::atomic::{AtomicBool, Ordering};
 use std::thread::{Threads, join, sleep};
 use std::time::{Clock, Duration};
+
+/// The version of the program, and the kit that proves it.
+const VERSION: &str = "fcbench 1.1.0, proved by rattle-kit-13f";
 
 /// How often it is looked whether the command is done, and how many milliseconds after each other:
 /// for a second in all.
@@ -127,7 +130,19 @@ fn run_line<R: Host>(rt: &R, line: &Line) -> io::Result<u8> {
     }
 }
 
+/// Whether the word after the program's name asks for the version, and is the only one.
+fn ask_for_version(words: &[String]) -> bool {
+    match words {
+        [_, word] => word.as_str() == "--version" || word.as_str() == "-V",
+        _ => false,
+    }
+}
+
 fn run_words<R: Host>(rt: &R, words: &[String]) -> io::Result<u8> {
+    if ask_for_version(words) {
+        rt.println(VERSION)?;
+        return Ok(YES);
+    }
     match line(rt.alloc(), words) {
         Ok(line) => run_line(rt, &line),
         Err(fault) => explain(rt, &fault),

@@ -9,7 +9,7 @@ use Rattle.command_line.proofs.parsing.judging_commands.Goals as goal
 pub returns-clause-shape : goal.returns-clause-shape
 returns-clause-shape c =
     let check_is : app_of c.in_ok-check.check ≡ spec.check = c.in_ok-check.ensures.shape in
-    let top_is : app_of c.subcommand_required.result ≡ on_top (λ s. record s { subcommand_required = true; has_version = true }) (new_app (codes "fcbench")) = search rules in
+    let top_is : app_of c.subcommand_required.result ≡ on_top (λ s. record s { subcommand_required = true }) (new_app (codes "fcbench")) = search rules in
     let search_is : app_of c.in_ok-search.search ≡ spec.search_command = c.in_ok-search.ensures.shape in
     let find_is : app_of c.in_ok-find.find ≡ spec.find_command = c.in_ok-find.ensures.shape in
     let refute_is : app_of c.in_ok-refute.refute ≡ spec.refute_command = c.in_ok-refute.ensures.shape in

@@ -1,4 +1,4 @@
-use Rattle.std.proofs.Common.{rules, ◌≡◌, ◌∙◌, subst, sym}
+use Rattle.std.proofs.Common.{rules, ◌≡◌, ◌∙◌}
 use Rattle.judging.specs.Texts.{IsLinearizableText}
 use Rattle.outputs.specs.Checked.{IsCheck}
 use Rattle.outputs.specs.Statuses.{yes_status}
