@@ -1,7 +1,7 @@
 //! The program's logic: it does what a command line asks for.
 #![tactic(auto)]
 
-mod drawing;
+mod pages;
 mod program;
 mod running;
 mod simulating;

@@ -4,7 +4,7 @@ ghost use Rattle.std.specs.Prelude.{◌≡◌, false};
 ghost use Rattle.outputs.specs.Outputs.{Leaves};
 ghost use Rattle.commands.specs.Performed.{IsPerformed};
 
-use crate::drawing::{Names, draw_checked, draw_judged};
+use crate::pages::{Names, draw_checked, draw_judged};
 use crate::running::report_run;
 use crate::simulating::report_simulation;
 use command_line::Line;
