@@ -4,7 +4,7 @@ use crate::excerpts::excerpt;
 use crate::places::{Place, element_at, elements_in, value_in};
 use crate::text_faults::Explained;
 use certificate::{CertFault, CertFaultKind};
-use drawing::{Faulty, FaultyDrawing, FaultyMap, Memory, Operation, Span, draw_up_to};
+use drawing::{Faulty, FaultyDrawing, FaultyMap, Memory, Nemesis, Operation, Span, draw_up_to};
 use events::{Action, Event, History, ObjectHistory, split};
 use history::{HistoryFault, HistoryFaultKind, read_history_text};
 use history_pages::places_in;
@@ -189,6 +189,32 @@ struct Before {
     kind: Kind,
 }
 
+/// The drawing of the history before a faulty map, whose type and function are these words.
+fn drawing_up_to<'a>(
+    alloc: Global,
+    history: &'a History,
+    objects: &'a [ObjectHistory],
+    nemeses: &'a [Nemesis],
+    words: &'a str,
+    map: &Map<'_>,
+    earlier: Option<u32>,
+) -> Result<FaultyDrawing, AllocError> {
+    let map = FaultyMap {
+        number: u32::try_from(map.fault.map).unwrap_or(u32::MAX),
+        fault: map.fault.kind.number(),
+        process: map.process,
+        words,
+    };
+    let faulty = Faulty {
+        history,
+        objects,
+        nemeses,
+        map,
+        earlier,
+    };
+    draw_up_to(alloc, &faulty)
+}
+
 fn draw_before(
     alloc: Global,
     text: &[u8],
@@ -200,21 +226,8 @@ fn draw_before(
     let number = earlier_of(history.events(), map);
     let (event, function) = (map.kind_of_event, map.function);
     let words = format!(in alloc; "{event} {function}")?;
-    let drawing = draw_up_to(
-        alloc,
-        &Faulty {
-            history,
-            objects: &objects,
-            nemeses: &places.nemeses,
-            map: FaultyMap {
-                number: u32::try_from(map.fault.map).unwrap_or(u32::MAX),
-                fault: map.fault.kind.number(),
-                process: map.process,
-                words: words.trim(),
-            },
-            earlier: number,
-        },
-    )?;
+    let nemeses = &places.nemeses;
+    let drawing = drawing_up_to(alloc, history, &objects, nemeses, words.trim(), map, number)?;
     Ok(Before {
         drawing,
         number,

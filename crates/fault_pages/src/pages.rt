@@ -6,7 +6,7 @@ ghost use Rattle.page.specs.Marks.{IsMade};
 use crate::map_faults::{explain_forms, explain_maps};
 use crate::text_faults::{Explained, Read, explain_text};
 use drawing::{FaultyDrawing, Memory, Span};
-use page::{Answer, Page, Place, html_of};
+use page::{Answer, Excerpt, Page, Place, html_of};
 use std::alloc::{AllocError, Global};
 use verdicts::Fault;
 
@@ -48,6 +48,78 @@ fn code_of(fault: &Fault) -> (&'static str, u8) {
     }
 }
 
+/// The page of a malformed text with this place.
+fn html_with_place<'a>(
+    alloc: Global,
+    title: &'a str,
+    facts: &'a str,
+    sentences: &'a [Vec<Span>],
+    lines: &'a str,
+    place: &'a Place<'a>,
+    quoted: &'a str,
+) -> Result<Vec<u8>, AllocError>
+    ensures { IfOk result (λ v. ∥ IsMade v.items ∥₁) }
+{
+    html_of(
+        alloc,
+        &Page {
+            answer: Answer::Malformed,
+            title,
+            facts,
+            sentences,
+            lines,
+            objects: &[],
+            drawings: &[],
+            place: Some(place),
+            quoted,
+        },
+    )
+}
+
+/// The page of a malformed text of which this is said.
+fn html_of_fault<'a>(
+    alloc: Global,
+    title: &'a str,
+    facts: &'a str,
+    lines: &'a str,
+    explained: &'a Explained,
+    before: Option<&'a FaultyDrawing>,
+) -> Result<Vec<u8>, AllocError>
+    ensures { IfOk result (λ v. ∥ IsMade v.items ∥₁) }
+{
+    let sentences: &'a [Vec<Span>] = &explained.sentences;
+    let quoted: &'a str = &explained.quoted;
+    let excerpts: &'a [Excerpt] = &explained.excerpts;
+    let place = Place { excerpts, before };
+    html_with_place(alloc, title, facts, sentences, lines, &place, quoted)
+}
+
+/// The page of texts for which memory was refused.
+fn html_of_memory<'a>(
+    alloc: Global,
+    title: &'a str,
+    facts: &'a str,
+    sentences: &'a [Vec<Span>],
+    lines: &'a str,
+) -> Result<Vec<u8>, AllocError>
+    ensures { IfOk result (λ v. ∥ IsMade v.items ∥₁) }
+{
+    html_of(
+        alloc,
+        &Page {
+            answer: Answer::NoMemory,
+            title,
+            facts,
+            sentences,
+            lines,
+            objects: &[],
+            drawings: &[],
+            place: None,
+            quoted: "",
+        },
+    )
+}
+
 /// The page of a text with this fault.
 pub fn fault_page(
     alloc: Global,
@@ -63,24 +135,11 @@ pub fn fault_page(
     let title = format!(in alloc; "malformed {letter}{number}: {name}")?;
     let (explained, before) = explain(&memory, faulty.text, fault);
     memory.whole(())?;
-    let place = Place {
-        excerpts: &explained.excerpts,
-        before: before.as_ref(),
-    };
-    html_of(
-        alloc,
-        &Page {
-            answer: Answer::Malformed,
-            title: &title,
-            facts: name,
-            sentences: &explained.sentences,
-            lines: faulty.lines,
-            objects: &[],
-            drawings: &[],
-            place: Some(&place),
-            quoted: &explained.quoted,
-        },
-    )
+    let (facts, lines) = (
+        String::from_str(alloc, name)?,
+        String::from_str(alloc, faulty.lines)?,
+    );
+    html_of_fault(alloc, &title, &facts, &lines, &explained, before.as_ref())
 }
 
 /// The page of a history of which nothing is known, since memory was refused.
@@ -89,23 +148,11 @@ pub fn memory_page(alloc: Global, name: &str, lines: &str) -> Result<Vec<u8>, Al
     ensures { IfOk result (λ v. ∥ IsMade v.items ∥₁) }
 {
     let title = format!(in alloc; "out of memory: {name}")?;
+    let facts = String::from_str(alloc, name)?;
     let lines = String::from_str(alloc, lines)?;
     let mut sentence = Vec::new(alloc);
     sentence.push(Span::Text("Memory was refused. This says nothing of the texts."))?;
     let mut sentences = Vec::new(alloc);
     sentences.push(sentence)?;
-    html_of(
-        alloc,
-        &Page {
-            answer: Answer::NoMemory,
-            title: &title,
-            facts: name,
-            sentences: &sentences,
-            lines: &lines,
-            objects: &[],
-            drawings: &[],
-            place: None,
-            quoted: "",
-        },
-    )
+    html_of_memory(alloc, &title, &facts, &sentences, &lines)
 }

@@ -150,6 +150,35 @@ fn say_absent(
     }
 }
 
+/// A page with these parts.
+fn html_with<'a>(
+    alloc: Global,
+    answer: Answer,
+    title: &'a str,
+    facts: &'a str,
+    sentences: &'a [Vec<Span>],
+    lines: &'a str,
+    objects: &'a [ObjectRow],
+    drawings: &'a [ObjectDrawing],
+) -> Result<Vec<u8>, AllocError>
+    ensures { IfOk result (λ v. ∥ IsMade v.items ∥₁) }
+{
+    html_of(
+        alloc,
+        &Page {
+            answer,
+            title,
+            facts,
+            sentences,
+            lines,
+            objects,
+            drawings,
+            place: None,
+            quoted: "",
+        },
+    )
+}
+
 fn page_of(
     alloc: Global,
     texts: &Texts<'_>,
@@ -159,25 +188,21 @@ fn page_of(
 ) -> Result<Vec<u8>, AllocError>
     ensures { IfOk result (λ v. ∥ IsMade v.items ∥₁) }
 {
+    let Parts {
+        answer,
+        word,
+        rows,
+        drawings,
+        mut sentences,
+    } = parts;
     let facts = facts_of(alloc, texts, objects)?;
-    let (word, history) = (parts.word, texts.history);
+    let history = texts.history;
     let title = format!(in alloc; "{word}: {history}")?;
-    let mut sentences = parts.sentences;
+    let lines = String::from_str(alloc, texts.lines)?;
     say_absent(&mut sentences, alloc, objects, options.object)?;
-    say_not_drawn(&mut sentences, alloc, &parts.rows, &parts.drawings)?;
-    html_of(
-        alloc,
-        &Page {
-            answer: parts.answer,
-            title: &title,
-            facts: &facts,
-            sentences: &sentences,
-            lines: texts.lines,
-            objects: &parts.rows,
-            drawings: &parts.drawings,
-            place: None,
-            quoted: "",
-        },
+    say_not_drawn(&mut sentences, alloc, &rows, &drawings)?;
+    html_with(
+        alloc, answer, &title, &facts, &sentences, &lines, &rows, &drawings,
     )
 }
 
