@@ -17,7 +17,7 @@ use Rattle.outputs.specs.Checked.{IsCheck}
 use Rattle.outputs.specs.Outputs.{IsExactly}
 use Rattle.outputs.specs.Statuses.{failed_status, no_memory_status, no_status, status_of, yes_status}
 use Rattle.outputs.proofs.Meanings.{is_check}
-use Rattle.outputs.proofs.Outputs.{verdict_is_written}
+use Rattle.outputs.proofs.Leaving.{verdict_is_written}
 use Rattle.drawing_commands.specs.Drawings.{IsCheckedDrawing, IsDrawing, IsPageOutput, IsPageWith}
 
 -- ---- a judgement

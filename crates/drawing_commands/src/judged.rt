@@ -14,11 +14,33 @@ use deciding::Decision;
 use edn::Sink;
 use history::History;
 use history_commands::{Judgement, judge_events};
-use history_pages::{Texts, judged_page, places_in};
+use history_pages::{Options, Places, Texts, judged_page, places_in};
 use judging::{history_in, verdict_on_failure};
 use outputs::{Output, send, send_out_of_memory};
 use report::Verdict;
 use std::alloc::{AllocError, Global};
+
+/// The page of a history of which some object has no certificate, with what its file gives.
+fn page_with<'a>(
+    alloc: Global,
+    history: &History,
+    answers: &[(u32, Decision)],
+    name: &'a str,
+    lines: &'a str,
+    places: &'a Places,
+    options: Options,
+) -> Result<Vec<u8>, AllocError>
+    ensures { IfOk result (λ v. ∥ IsMade v.items ∥₁) }
+{
+    let texts = Texts {
+        history: name,
+        certificates: None,
+        lines,
+        maps: places.maps,
+        nemeses: &places.nemeses,
+    };
+    judged_page(alloc, history, answers, &texts, options)
+}
 
 /// The page of a history of which some object has no certificate.
 fn open_page(
@@ -33,14 +55,16 @@ fn open_page(
 {
     let lines = text_of(alloc, lines)?;
     let places = places_in(alloc, text)?;
-    let texts = Texts {
-        history: file_name(request.history),
-        certificates: None,
-        lines: &lines,
-        maps: places.maps,
-        nemeses: &places.nemeses,
-    };
-    judged_page(alloc, history, answers, &texts, request.options)
+    let name = String::from_str(alloc, file_name(request.history))?;
+    page_with(
+        alloc,
+        history,
+        answers,
+        &name,
+        &lines,
+        &places,
+        request.options,
+    )
 }
 
 /// The page of a history that is judged, and the status of the judgement.

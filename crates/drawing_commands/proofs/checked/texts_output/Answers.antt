@@ -19,11 +19,11 @@ returns-in-Ok c =
       judges = judged _ _ _ _ texts _ e.judges;
       accepts = λ k. e.accepts (valid_here _ _ _ _ texts k);
     } in
-    IfOk-weaker c.verdict_output.result _ _ (λ o k. with_check h cs v holds o.status o.text.items k.0 k.1) c.verdict_output.ensures
+    record { drawn = IfOk-weaker c.verdict_output.result _ _ (λ o k. with_check h cs v holds o.status o.text.items k.0 k.1) c.verdict_output.ensures }
 
 pub returns-in-Err : goal.returns-in-Err
 returns-in-Err c =
     let h = c.args.history.now in
     let cs = c.args.certificates.now in
     let holds = subst (Holds h cs) (sym c.verdict_on_failure-verdict.ensures) (unread_texts h cs c.in-Err.failure c.in-Err.ensures.stop c.in-Err.ensures.accepts) in
-    IfOk-weaker c.unread_output.result _ _ (λ o k. with_check h cs c.verdict_on_failure-verdict.result holds o.status o.text.items k.0 k.1) c.unread_output.ensures
+    record { drawn = IfOk-weaker c.unread_output.result _ _ (λ o k. with_check h cs c.verdict_on_failure-verdict.result holds o.status o.text.items k.0 k.1) c.unread_output.ensures }
