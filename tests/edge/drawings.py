@@ -97,7 +97,7 @@ def reason_of(told):
         told_line = TOLD.fullmatch(line.removeprefix("; "))
         if told_line:
             shown.add(int(told_line[1]))
-        start = re.search(r":from (\d+)", line)
+        start = re.search(r"\{:from (\d+)\}", line)
         if start and "{:object" in line:
             shown.add(int(start[1]))
     return sorted(shown)
@@ -265,7 +265,7 @@ def hostile():
     said = '"</script><script>alert(1)</script>&amp;\u202e\u3042\U0001f600\\n"'
     note = f":note {said}, :error [:{'k' * 64} \"{'x' * 100_000}\"]"
     history = f"{{:process 0, :type :invoke, :f :enqueue, :value 9223372036854775807, {note}}}\n{{:process 0, :type :ok, :f :enqueue, :value 9223372036854775807}}\n"
-    history += "{:process 9223372036854775807, :type :invoke, :f :dequeue}\n{:process 9223372036854775807, :type :info, :f :dequeue}\n"
+    history += "{:process 999999, :type :invoke, :f :dequeue}\n{:process 999999, :type :info, :f :dequeue}\n"
     history += f"{{:process :{'n' * 64}, :type :info, :f :{'f' * 64}}}\n"
     yield Case("long strings and keywords in keys that are ignored", history, reads=False)
     shows = ("</script><script>alert(1)</script>&amp;", "あ", "\U0001f600", "\\x1b", "→")

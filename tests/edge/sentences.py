@@ -194,6 +194,9 @@ class Said:
         number, wanted, how = int(by[2]), int(by[1]), by[4]
         if how == "which the order leaves out":
             return number not in order
+        if number == call.number:
+            # A cas may be named as the one that put the value which it returned (DECISIONS 113).
+            return call.f == "cas"
         place = order.index(number) + 1 if number in order else None
         behind = re.fullmatch(r"which stands behind it, as entry (\d+)", how)
         if behind:
@@ -346,7 +349,7 @@ FORMS = {
     "twice_released": rf"Between map (\d+) and map (\d+) the mutex was released twice, by {REF} and {REF}, and no acquire ran in between.",
     "wrong_turn": rf"{REF} returned \(map (\d+)\) before {REF} was invoked, so (-?\d+) went in before (-?\d+). But {REF} took (-?\d+) out, "
     r"and nothing invoked before map (\d+) took (-?\d+) out.",
-    "too_often": r"(-?\d+) was \w+ (once|twice|[\d ]+ times), by (.*), \w+ (once|twice|[\d ]+ times), by (.*). No other ([\w-]+) of (-?\d+) "
+    "too_often": r"(-?\d+) was \w+ (once|twice|[\d ]+ times), by (.*), and \w+ (once|twice|[\d ]+ times), by (.*). No other ([\w-]+) of (-?\d+) "
     r"was invoked before map (\d+).",
 }
 # Of each form that has operations, which of the groups are labels: those are checked apart.
