@@ -1,9 +1,9 @@
 #!/usr/bin/env python3
 """Times the library: a call of fcbench_check and of fcbench_judge on a history of 20 operations, and on 1,000,000 maps beside the program.
 
-    embedding.py DIR PROGRAM
+    embedding.py DIR [PROGRAM]
 
-DIR is a folder for the texts. clients/build has made the library."""
+DIR is a folder for the texts. clients/build has made the library. Without PROGRAM only the library is timed."""
 import os
 import subprocess
 import sys
@@ -30,7 +30,7 @@ def seconds_of(words):
     return best
 
 
-def main(folder, program):
+def main(folder, program=None):
     timer = f"{folder}/embedding"
     os.makedirs(folder, exist_ok=True)
     source = [f"-I{TOP}/include", f"{HERE}/embedding.c", f"{TOP}/crates/embedding/out/libfcbench.a"]
@@ -38,15 +38,16 @@ def main(folder, program):
     print("| history | `fcbench_check` | `fcbench_judge` |\n|---|---|---|")
     for kind in KINDS:
         texts = generated(f"{folder}/{kind}", "--kind", kind, "--calls", "20", "--processes", "4", "--concurrency", "4")
-        check, judge = map(float, subprocess.run([timer, *texts, "20", "2000"], check=True, capture_output=True, text=True).stdout.split())
+        check, judge = map(float, subprocess.run([timer, *texts, "2000", "20"], check=True, capture_output=True, text=True).stdout.split())
         print(f"| {kind}, 20 operations | {check * 1e6:.1f} µs | {judge * 1e6:.1f} µs |", flush=True)
     texts = generated(f"{folder}/large", "--kind", "queue", "--maps", "1000000")
     check, judge = map(float, subprocess.run([timer, *texts, "3", "1"], check=True, capture_output=True, text=True).stdout.split())
     print(f"| queue, 1,000,000 maps | {check:.2f} s | {judge:.2f} s |")
-    print(f"| the program on its files | {seconds_of([program, 'check', *texts]):.2f} s | {seconds_of([program, 'judge', texts[0]]):.2f} s |")
+    if program:
+        print(f"| the program on its files | {seconds_of([program, 'check', *texts]):.2f} s | {seconds_of([program, 'judge', texts[0]]):.2f} s |")
 
 
 if __name__ == "__main__":
-    if len(sys.argv) != 3:
+    if len(sys.argv) not in (2, 3):
         sys.exit(__doc__)
     main(*sys.argv[1:])
