@@ -4,8 +4,8 @@
     decide.py PROGRAM DIR [--calls N..] [--kinds K..] [--values N..] [--at-once N..] [--seeds N] [--seconds S] [--beside JUDGE]
 
 All of these histories are linearizable, so a decision is a yes. For each kind there is a row for each number of values and of calls at
-once: how many of the seeds were decided, and the processor time of the middle one. A run that takes longer than S seconds counts as not
-decided. Rows are printed as Markdown. Histories have no failed and no pending calls, or 5 % and 2 % of them.
+once: how many of the seeds were decided, and the processor time of the middle one. A run that takes more than S seconds of processor time counts as
+not decided. Rows are printed as Markdown. Histories have no failed and no pending calls, or 5 % and 2 % of them.
 
 With JUDGE, the plain judge of judge_rs, each history is also searched by the algorithm of Wing, Gong and Lowe with memory, right after it is
 judged: `judge search --wgl-hash --any-size`, with at most a billion steps, S seconds and 6 GiB. A cell then has both, ours first."""
@@ -29,17 +29,15 @@ def history(room, kind, values, at_once, calls, faulty, seed):
     return f"{room}/history.edn"
 
 
-def limit_memory():
-    resource.setrlimit(resource.RLIMIT_AS, (6 << 30, 6 << 30))
-
-
 def ran(words, seconds):
-    """The status of a run, and its processor time."""
+    """The status of a run, and its processor time. A run that takes too much of it, or of memory, ends with a signal."""
+
+    def limit():
+        resource.setrlimit(resource.RLIMIT_CPU, (seconds, seconds))
+        resource.setrlimit(resource.RLIMIT_AS, (6 << 30, 6 << 30))
+
     before = resource.getrusage(resource.RUSAGE_CHILDREN)
-    try:
-        status = subprocess.run(words, stdout=subprocess.DEVNULL, stderr=subprocess.DEVNULL, timeout=seconds, preexec_fn=limit_memory).returncode
-    except subprocess.TimeoutExpired:
-        status = None
+    status = subprocess.run(words, stdout=subprocess.DEVNULL, stderr=subprocess.DEVNULL, preexec_fn=limit).returncode
     after = resource.getrusage(resource.RUSAGE_CHILDREN)
     return status, after.ru_utime - before.ru_utime + after.ru_stime - before.ru_stime
 

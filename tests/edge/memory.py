@@ -3,13 +3,14 @@ measures how much memory a search takes at most."""
 import multiprocessing
 import os
 import re
+import resource
 import subprocess
 from dataclasses import dataclass
 
 from . import reasons, rows, sentences, workloads
 from .answers import is_accepted
 from .pages import Drawn
-from .running import EXAMPLES, Program, Ran
+from .running import EXAMPLES, SECONDS, Program, Ran
 
 OUT = b"out of memory\n"
 NO_MEMORY = 3
@@ -220,7 +221,7 @@ def refused_memory(program, report):
 # A search takes at most this much memory beyond its text and operations.
 MOST_KIB = 1 << 20
 # So many steps that a search which kept all it has seen would take several times that.
-STEPS = "200000"
+STEPS = "150000"
 
 
 def events_of(*calls):
@@ -262,9 +263,14 @@ PILED_UP = {
 }
 
 
+def limit_time():
+    resource.setrlimit(resource.RLIMIT_CPU, (SECONDS, SECONDS))
+
+
 def peak_of(program, *words):
     """The status of a run, and how much memory it had at most, in KiB."""
-    run = subprocess.Popen([program.path, *words], cwd=program.room, stdin=subprocess.DEVNULL, stdout=subprocess.DEVNULL, stderr=subprocess.DEVNULL)
+    quiet = {"stdin": subprocess.DEVNULL, "stdout": subprocess.DEVNULL, "stderr": subprocess.DEVNULL}
+    run = subprocess.Popen([program.path, *words], cwd=program.room, preexec_fn=limit_time, **quiet)
     _, status, usage = os.wait4(run.pid, 0)
     run.returncode = os.waitstatus_to_exitcode(status)
     return run.returncode, usage.ru_maxrss
