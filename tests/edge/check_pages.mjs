@@ -256,7 +256,7 @@ async function lookAt(tab, wanted) {
   await tab.open(wanted.file);
   const bad = [...(await tab.evaluate(links)), ...(await tab.evaluate(points, wanted.code)), ...(await tab.evaluate(rooms)), ...(await tab.evaluate(parts, wanted))];
   const size = statSync(wanted.file).size;
-  if (size > MOST_BYTES) bad.push(`${size} bytes`);
+  if (size > (wanted.most ?? MOST_BYTES)) bad.push(`${size} bytes`);
   if (tab.requests.length !== 1) bad.push(`${tab.requests.length} requests`);
   for (const scheme of ['light', 'dark']) {
     await tab.scheme(scheme);

@@ -195,8 +195,8 @@ class Said:
         if how == "which the order leaves out":
             return number not in order
         if number == call.number:
-            # A cas may be named as the one that put the value which it returned (DECISIONS 113).
-            return call.f == "cas"
+            # A known flaw: a cas or a put may be named as the one that put the value which it found (DECISIONS 113).
+            return call.f in ("cas", "put")
         place = order.index(number) + 1 if number in order else None
         behind = re.fullmatch(r"which stands behind it, as entry (\d+)", how)
         if behind:
