@@ -352,7 +352,7 @@ def generated():
 
 
 def drawn_sentences(program, report):
-    """What pages of generated histories say of them is true: so many of each verdict that none is missed."""
+    """What pages of generated histories say of them is true, with at least OF_EACH of each verdict."""
     counts, answers, wrong = {}, {}, []
 
     def draw(case):

@@ -225,7 +225,7 @@ def refused_memory(program, report):
 
 # A search takes at most this much memory beyond its text and operations.
 MOST_KIB = 1 << 20
-# So many steps that a search which kept all it has seen would take several times that.
+# In this many steps a search that kept all it has seen would take several times that memory.
 STEPS = "150000"
 
 

@@ -1,5 +1,5 @@
 //! Histories of queues, stacks and heaps in which values repeat, or removals are pending that are
-//! needed: an order is found of each alone, and after so many calls that no search is made.
+//! needed: an order is found of each alone, and after more calls than a search accepts.
 
 use super::random::{behind_idle_calls, found, found_without_search, object_of, searched};
 use seq_objects::Kind;

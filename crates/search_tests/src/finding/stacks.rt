@@ -1,5 +1,5 @@
 //! Stacks at random in which values repeat: where the bounded search finds an order, the finder does,
-//! and after so many calls that no search is made it does too.
+//! and after more calls than a search accepts it does too.
 
 use super::random::{
     Random, Words, behind_idle_calls, found, found_without_search, history_text, object_of,
