@@ -16,7 +16,9 @@ ROOT = os.path.dirname(os.path.dirname(os.path.realpath(__file__)))
 WORD = re.compile(r"[^\s(){}\[\],;.λ]+")
 # What judge and judge_history say of a yes.
 CLAUSES = {"judge_history": ("model.Linearizable.IsLinearizable", "events.Events.denoted", "events.Events.kind_at", "model.Orders.events"),
-           "judge": ("judging.Texts.IsLinearizableText",)}
+           "judge": ("judging.Texts.IsLinearizableText",),
+           # What the lines of judge and of refute say of an object that is impossible.
+           "reason": ("reason_finder.Reasons.IsReasonFor",)}
 
 
 class Module:
@@ -114,4 +116,7 @@ def main(names):
             print(sorted(declared))
 
 
-main(sys.argv[1:])
+if __name__ == "__main__":
+    if sys.argv[1:2] in (["--help"], ["-h"]):
+        sys.exit(print(__doc__))
+    main(sys.argv[1:])
