@@ -12,6 +12,8 @@ mod bench;
 #[cfg(test)]
 mod desks;
 #[cfg(test)]
+mod drawn_turns;
+#[cfg(test)]
 mod lines;
 #[cfg(test)]
 mod listing;

@@ -228,9 +228,6 @@ fn run<R: Host + Env>(rt: &R) -> io::Result<()> {
     Ok(())
 }
 
-#[cfg(test)]
-mod tests;
-
 fn main(rt: HostRuntime) -> ExitCode {
     match run(&rt) {
         Ok(()) => ExitCode::from(0),

@@ -1,5 +1,5 @@
 use Rattle.std.proofs.Common.{◌≡◌, All, vec_len}
-use Rattle.desk_bench.proofs.tests.retire_all.Given as goal
+use Rattle.combiner_tests.proofs.drawn_turns.retire_all.Given as goal
 
 abbrev pub invariant-loop-client : goal.invariant-loop-client
 invariant-loop-client l = All (λ c. c.desk ≡ l.desk.id) l.clients.items

@@ -3,8 +3,8 @@ use Rattle.std.proofs.lemmas.List.Elements.{All-push}
 use Rattle.model.specs.Objects.{empty, kind_with}
 use Rattle.seq_objects.specs.declared.any_object.AnyObject.{AnyObject}
 use Rattle.seq_objects.specs.AnyContent.{content_of}
-use Rattle.desk_bench.proofs.Begun.{is_empty}
-use Rattle.desk_bench.proofs.tests.sixteen.Goals as goal
+use Rattle.combiner_tests.proofs.Begun.{is_empty}
+use Rattle.combiner_tests.proofs.drawn_turns.sixteen.Goals as goal
 
 pub loop-object-preserved : goal.loop-object-preserved
 loop-object-preserved c = let i = c.loop-object.invariant in let p = c.push_reserved.ensures in let n = p.len in let long = c.push_reserved.new.self.ok.0 in let len = i.1 in (
