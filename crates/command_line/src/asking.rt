@@ -10,7 +10,7 @@ use std::alloc::{AllocError, AllocFailed};
 use thiserror::Error as ErrorText;
 
 /// What a run is to be of.
-#[derive(Clone, Copy, Debug, PartialEq, Eq)]
+#[derive(Clone, Copy)]
 pub struct RunOptions {
     pub kinds: Kinds,
     /// How many objects, from 1 to 16.
@@ -27,7 +27,7 @@ pub struct RunOptions {
 }
 
 /// What of a history is to be drawn, and how it is judged.
-#[derive(Clone, Copy, Debug, PartialEq, Eq)]
+#[derive(Clone, Copy)]
 pub struct DrawOptions {
     /// The one object that is to be drawn.
     pub object: Option<u32>,
@@ -40,7 +40,7 @@ pub struct DrawOptions {
 }
 
 /// What the words ask for.
-#[derive(Debug, PartialEq, Eq, Drop)]
+#[derive(Drop)]
 pub enum Line {
     /// To judge the history in one file by the certificates in another, with this number of
     /// workers, from 1 to 16.

@@ -126,12 +126,12 @@ fn judge_command<'a>(alloc: Global) -> Result<Command<'a>, AllocError>
 {
     let steps = steps_option(
         alloc,
-        "the most steps for each object that is searched, 0 to 1000000000, else 1000000",
+        "the most steps for each object that is searched, 0 to 1000000000 (default 1000000)",
     );
     history_command(
         alloc,
         "judge",
-        "finds certificates of a history and judges it by them",
+        "decides whether a history is linearizable: finds and checks an order, or a reason",
     )?
     .arg(steps)
 }
@@ -147,7 +147,7 @@ fn refute_command<'a>(alloc: Global) -> Result<Command<'a>, AllocError>
     );
     let steps = steps_option(
         alloc,
-        "the most steps for each reason, 0 to 1000000000, else 1000000",
+        "the most steps for each reason, 0 to 1000000000 (default 1000000)",
     );
     history_command(
         alloc,
@@ -188,7 +188,7 @@ fn draw_object<'a>(alloc: Global) -> Result<Command<'a>, AllocError>
     );
     let steps = steps_option(
         alloc,
-        "the most steps for each object that is searched, 0 to 1000000000, else 1000000",
+        "the most steps for each object that is searched, 0 to 1000000000 (default 1000000)",
     );
     draw_files(alloc)?.arg(object)?.arg(steps)
 }
@@ -226,13 +226,17 @@ fn check_command<'a>(alloc: Global) -> Result<Command<'a>, AllocError>
     let workers = number_option(
         alloc,
         "workers",
-        "how many threads share the check, 1 to 16, else 1",
+        "how many threads share the check, 1 to 16 (default 1)",
         1,
         MAX_WORKERS as i64,
     );
-    history_command(alloc, "check", "judges a history by its certificates")?
-        .arg(certs)?
-        .arg(workers)
+    history_command(
+        alloc,
+        "check",
+        "checks a history by certificates, one order of operations for each object",
+    )?
+    .arg(certs)?
+    .arg(workers)
 }
 
 fn search_command<'a>(alloc: Global) -> Result<Command<'a>, AllocError>
@@ -241,14 +245,18 @@ fn search_command<'a>(alloc: Global) -> Result<Command<'a>, AllocError>
 {
     let steps = steps_option(
         alloc,
-        "the most steps for each object, 0 to 1000000000, else 1000000",
+        "the most steps for each object, 0 to 1000000000 (default 1000000)",
     );
     let first = Arg::new(alloc, "first").long("first").help(
-        "which operation is tried first: that of the least number, or of the least return, else number",
+        "which operation is tried first: that of the least number, or of the least return (default number)",
     );
-    history_command(alloc, "search", "searches for certificates of a history")?
-        .arg(steps)?
-        .arg(first)
+    history_command(
+        alloc,
+        "search",
+        "searches for an order for each object, or shows that there is none",
+    )?
+    .arg(steps)?
+    .arg(first)
 }
 
 /// `run` with its options on kinds, objects and clients.
@@ -257,19 +265,19 @@ fn run_on<'a>(alloc: Global) -> Result<Command<'a>, AllocError>
     ensures globals { IfOk result (λ c. (fields_of c).has_globals ≡ false) }
 {
     let kind = Arg::new(alloc, "kind").long("kind").help(
-        "the kind of all objects: queue, stack, heap, register, map or mutex; or mixed, which is the first five in turn; else queue",
+        "the kind of all objects: queue, stack, heap, register, map or mutex; or mixed, which is the first five in turn (default queue)",
     );
     let objects = number_option(
         alloc,
         "objects",
-        "how many objects, 1 to 16, else 1",
+        "how many objects, 1 to 16 (default 1)",
         1,
         MAX_OBJECTS as i64,
     );
     let clients = number_option(
         alloc,
         "clients",
-        "how many clients, 1 to 32, else 2",
+        "how many clients, 1 to 32 (default 2)",
         1,
         MAX_CLIENTS as i64,
     );
@@ -287,13 +295,13 @@ fn run_command<'a>(alloc: Global) -> Result<Command<'a>, AllocError>
     let calls = number_option(
         alloc,
         "calls",
-        "how many calls each client makes, 0 to 10000, else 100",
+        "how many calls each client makes, 0 to 10000 (default 100)",
         0,
         MAX_CALLS as i64,
     );
     let seed = Arg::new(alloc, "seed")
         .long("seed")
-        .help("what the calls are drawn from, else 0")
+        .help("what the calls are drawn from (default 0)")
         .value_parser(value_parser!(u64));
     run_on(alloc)?.arg(calls)?.arg(seed)
 }
@@ -315,7 +323,7 @@ fn find_command<'a>(alloc: Global) -> Result<Command<'a>, AllocError>
     history_command(
         alloc,
         "find",
-        "finds certificates of a history, also of a long one",
+        "finds an order for each object, also of a long history, or leaves it open",
     )
 }
 
