@@ -97,6 +97,40 @@ def as_the_program(program, report):
     return f"{len(every)} calls"
 
 
+# A value is dequeued that nobody enqueued.
+NEVER_ENQUEUED = b"""{:process 0, :type :invoke, :f :enqueue, :value 1}
+{:process 0, :type :ok, :f :enqueue, :value 1}
+{:process 0, :type :invoke, :f :dequeue}
+{:process 0, :type :ok, :f :dequeue, :value 2}"""
+PENDING = b"{:process 0, :type :invoke, :f :enqueue, :value 1}"
+# A command, its texts, and the status, the number of bytes of all lines where it is known, and their beginning.
+ANSWERS = (
+    ("check", (NEVER_ENQUEUED, b"{:object 0, :order [0 2]}"), 1, 27, b"no: C6 object 0: 2 gives 1\n"),
+    ("judge", (NEVER_ENQUEUED,), 1, None, b"; object 0: impossible\n"),
+    ("judge", (PENDING,), 0, 60, b"yes: 1 operations, 1 objects\nqueue: 1 objects, 1 operations\n"),
+    ("refute", (NEVER_ENQUEUED, b"{:object 0, :cuts [{:keep [2], :numbers [2]}]}"), 1, None, b"not linearizable: object 0: 1 of 2 operations "),
+    ("find", (NEVER_ENQUEUED,), 3, 17, b"; object 0: open\n"),
+    ("check", (b"{", b""), 2, 32, b"malformed history: E2 at byte 1\n"),
+)
+
+
+def answers_of_each_export(program, report):
+    """Each function of the library: its status and lines, and what of them is in a buffer of 3 bytes and of none."""
+    if missing("gcc"):
+        return missing("gcc")
+    answer = answering(program, report)
+    for command, texts, status, length, begins in ANSWERS:
+        for name, text in zip(("first.edn", "second.edn"), texts):
+            answer.write(name, text)
+        words = (command, *("first.edn", "second.edn")[: len(texts)])
+        whole, short, none = (answer.run(*words, *more) for more in ((), ("3",), ("0",)))
+        report.holds(f"embedding: {command} answers as it is to", whole.status == status and whole.out.startswith(begins), whole)
+        report.holds(f"embedding: {command} says how long its lines are", length in (None, len(whole.out)), whole)
+        report.equal(f"embedding: {command} into 3 bytes", Ran(status, begins[:3], b""), short)
+        report.equal(f"embedding: {command} into no bytes", Ran(status, b"", b""), none)
+    return None
+
+
 def is_without_memory(whole, ran):
     """Whether a call that lacked memory answered what it may: 3, with a line that says so or an object that stays open; or as with ample memory,
     where a no may have another reason, since the finder of the first one lacked memory."""
@@ -231,4 +265,4 @@ def manual(page, report):
         report.equal("embedding: groff says nothing of the manual", (0, ""), (ran.returncode, ran.stderr))
 
 
-PARTS = (library, as_the_program, refused_memory_of_calls, c_callers, cpp_callers, rust_callers, python_callers, go_callers, clojure_checker, installed)
+PARTS = (library, answers_of_each_export, as_the_program, refused_memory_of_calls, c_callers, cpp_callers, rust_callers, python_callers, go_callers, clojure_checker, installed)

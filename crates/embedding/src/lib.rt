@@ -10,5 +10,3 @@ mod check;
 mod find;
 mod judge;
 mod refute;
-#[cfg(test)]
-mod tests;
