@@ -11,7 +11,7 @@ use std::collections::BTreeMap;
 pub const NOTHING: usize = 0;
 
 /// What a call asks of what the cell contains before it.
-#[derive(Clone, Copy, PartialEq, Eq, Debug)]
+#[derive(Clone, Copy, PartialEq, Eq)]
 pub enum Need<C> {
     Any,
     Is(C),
@@ -19,7 +19,7 @@ pub enum Need<C> {
 }
 
 /// What a call asks and leaves, in values.
-#[derive(Clone, Copy, Debug)]
+#[derive(Clone, Copy)]
 struct Effect {
     key: Option<i64>,
     need: Need<Option<i64>>,
@@ -49,7 +49,7 @@ fn effect_of(call: &TimedCall) -> Option<Effect> {
 
 /// A call on one cell. Contents are told by their numbers in the cell. What sets the content that
 /// it asks for sets nothing.
-#[derive(Clone, Copy, Debug)]
+#[derive(Clone, Copy)]
 pub struct Access {
     pub call: TimedCall,
     pub need: Need<usize>,
@@ -68,7 +68,7 @@ impl Access {
 }
 
 /// The calls on one cell in the order of their invocations, and the contents by their numbers.
-#[derive(Debug, Drop)]
+#[derive(Drop)]
 pub struct CellCalls {
     /// The key of a map; nothing at a register.
     pub key: Option<i64>,
@@ -84,7 +84,7 @@ impl CellCalls {
 }
 
 /// The numbers of a cell's contents.
-#[derive(Debug, Drop)]
+#[derive(Drop)]
 struct Numbers {
     known: BTreeMap<i64, usize>,
     contents: Vec<Option<i64>>,
