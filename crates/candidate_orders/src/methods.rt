@@ -11,7 +11,7 @@ use timed_calls::timeline_of;
 use value_orders::{other_values_order, values_order};
 
 /// A method of looking for an order.
-#[derive(Clone, Copy, Debug, PartialEq, Eq)]
+#[derive(Clone, Copy)]
 pub enum Method {
     /// The one that is made for the kind of the object.
     OfTheKind,

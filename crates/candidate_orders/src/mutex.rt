@@ -8,7 +8,7 @@ use std::collections::BTreeSet;
 use timed_calls::{TimedCall, Timeline, moments_of};
 
 /// Calls that run and are not placed, by the moment of their return.
-#[derive(Debug, Drop)]
+#[derive(Drop)]
 struct Running {
     acquires: BTreeSet<(u32, usize)>,
     releases: BTreeSet<(u32, usize)>,

@@ -4,7 +4,7 @@ use projection::Counted;
 
 /// A fact about an object's whole history that no valid order allows. At a map the values are those
 /// under one key. A number is that of an operation's invocation.
-#[derive(Clone, Copy, Debug, PartialEq, Eq)]
+#[derive(Clone, Copy, PartialEq, Eq)]
 pub enum Pattern {
     /// The value is taken, or seen, and no operation puts it in, or sets it.
     NeverSet(i64),

@@ -5,7 +5,7 @@ use std::alloc::{AllocError, Global};
 use timed_calls::TimedCall;
 
 /// What a call does.
-#[derive(Clone, Copy, Debug, PartialEq, Eq)]
+#[derive(Clone, Copy, PartialEq, Eq)]
 pub(crate) enum Role {
     Pushes(i64),
     Pops(i64),
@@ -24,7 +24,7 @@ pub(crate) fn role_of(call: &TimedCall) -> Role {
 }
 
 /// A call that runs and will return.
-#[derive(Clone, Copy, Debug)]
+#[derive(Clone, Copy)]
 pub(crate) struct RunningCall {
     /// Its place among the calls.
     pub(crate) call: usize,
@@ -35,7 +35,7 @@ pub(crate) struct RunningCall {
 }
 
 /// The calls that run and will return.
-#[derive(Debug, Drop)]
+#[derive(Drop)]
 pub(crate) struct Running {
     /// In the order of their returns.
     pub(crate) calls: Vec<RunningCall>,

@@ -15,7 +15,7 @@ pub(crate) fn small(number: usize) -> u32 {
 
 /// A content that may be below a value, and how many more pending calls were used for it than for
 /// the first one.
-#[derive(Clone, Copy, Debug, PartialEq, Eq)]
+#[derive(Clone, Copy, PartialEq, Eq)]
 pub(crate) struct Below {
     pub(crate) content: u32,
     pub(crate) cost: u32,
@@ -24,7 +24,7 @@ pub(crate) struct Below {
 }
 
 /// A value that is on top of one of some contents.
-#[derive(Clone, Copy, Debug)]
+#[derive(Clone, Copy)]
 struct Content {
     value: i64,
     first: usize,
@@ -32,7 +32,7 @@ struct Content {
 }
 
 /// Contents by their numbers, from 1 on.
-#[derive(Debug, Drop)]
+#[derive(Drop)]
 pub(crate) struct Contents {
     contents: Vec<Content>,
     belows: Vec<Below>,

@@ -8,14 +8,14 @@ use std::collections::BTreeMap;
 pub(crate) const UNUSED: u32 = 0;
 
 /// The last pending push of a list that was used, by its value, and the list before.
-#[derive(Clone, Copy, Debug)]
+#[derive(Clone, Copy)]
 struct Use {
     value: i64,
     before: u32,
 }
 
 /// The pending calls that have begun, by their places, and lists of pushes that were used.
-#[derive(Debug, Drop)]
+#[derive(Drop)]
 pub(crate) struct Pending {
     pub(crate) pops: Vec<usize>,
     pushes: BTreeMap<i64, Vec<usize>>,

@@ -5,7 +5,7 @@ use std::alloc::{AllocError, Global};
 
 /// A step from one state to the next. States are told by the steps that led to them, calls by their
 /// places.
-#[derive(Clone, Copy, Debug)]
+#[derive(Clone, Copy)]
 pub(crate) enum Step {
     Begin,
     /// A push. It led there from `count` states, whose origins begin at `first`.
@@ -21,7 +21,7 @@ pub(crate) enum Step {
 }
 
 /// Where a push may have come from: the content, and the step that led to it; and the call.
-#[derive(Clone, Copy, Debug)]
+#[derive(Clone, Copy)]
 pub(crate) struct Origin {
     pub(crate) content: u32,
     pub(crate) step: u32,
@@ -29,7 +29,7 @@ pub(crate) struct Origin {
 }
 
 /// One place of an order.
-#[derive(Clone, Copy, Debug)]
+#[derive(Clone, Copy)]
 pub(crate) enum Placed {
     Call(u32),
     PendingPop,
@@ -37,7 +37,7 @@ pub(crate) enum Placed {
 }
 
 /// The steps by their numbers. The first one is the begin.
-#[derive(Debug, Drop)]
+#[derive(Drop)]
 pub(crate) struct Records {
     steps: Vec<Step>,
     origins: Vec<Origin>,

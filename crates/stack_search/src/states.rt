@@ -4,7 +4,7 @@ use crate::records::{Records, Step};
 use std::alloc::AllocError;
 
 /// What may have happened until now.
-#[derive(Clone, Copy, Debug)]
+#[derive(Clone, Copy)]
 pub(crate) struct State {
     /// The bits of the running calls that are placed.
     pub(crate) placed: u64,
@@ -19,7 +19,7 @@ pub(crate) struct State {
 }
 
 /// A state that a step leads to, before the step is recorded.
-#[derive(Clone, Copy, Debug)]
+#[derive(Clone, Copy)]
 pub(crate) struct Draft {
     pub(crate) state: State,
     pub(crate) step: Step,

@@ -11,7 +11,7 @@ use std::alloc::{AllocError, Global};
 const MOST_POPS: usize = 100;
 
 /// A push that is placed, and the state before it.
-#[derive(Clone, Copy, Debug)]
+#[derive(Clone, Copy)]
 struct Push {
     placed: u64,
     value: i64,
@@ -27,7 +27,7 @@ impl Push {
 }
 
 /// What a search knows.
-#[derive(Debug, Drop)]
+#[derive(Drop)]
 pub(crate) struct Search {
     pub(crate) running: Running,
     pub(crate) pending: Pending,

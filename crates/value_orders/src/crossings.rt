@@ -14,7 +14,7 @@ const MOST_VALUES: usize = 8;
 const MOST_CHANGES: usize = 200;
 
 /// When a value is in the stack.
-#[derive(Clone, Copy, Debug)]
+#[derive(Clone, Copy)]
 struct Span {
     /// When its push begins.
     begin: u32,
@@ -50,7 +50,7 @@ impl Span {
 }
 
 /// A value, by its place, that surely is in the stack for a while.
-#[derive(Clone, Copy, Debug)]
+#[derive(Clone, Copy)]
 struct Member {
     place: usize,
     span: Span,
@@ -61,14 +61,14 @@ struct Member {
 }
 
 /// Values that could not be ordered, and how many comparisons are left.
-#[derive(Debug, Drop)]
+#[derive(Drop)]
 struct Crossings {
     members: Vec<Member>,
     work: u64,
 }
 
 /// Two values that change their pops.
-#[derive(Clone, Copy, Debug)]
+#[derive(Clone, Copy)]
 struct Change {
     first: usize,
     second: usize,

@@ -3,7 +3,7 @@
 use std::alloc::{AllocError, Global};
 
 /// For each gap the next that is not covered, or one on the way there.
-#[derive(Debug, Drop)]
+#[derive(Drop)]
 pub(crate) struct Gaps {
     next: Vec<u32>,
 }

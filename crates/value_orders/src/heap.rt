@@ -16,14 +16,14 @@ use timed_calls::{PENDING, TimedCall, Timeline};
 
 /// What comes first in one gap: extracts by rising value, each after its insert where that is in
 /// the same gap, then calls that find nothing, then inserts of what is extracted later.
-#[derive(Clone, Copy, PartialEq, Eq, PartialOrd, Ord, Debug)]
+#[derive(Clone, Copy, PartialEq, Eq, PartialOrd, Ord)]
 enum Phase {
     Extracts,
     Empties,
     Inserts,
 }
 
-#[derive(Clone, Copy, Debug)]
+#[derive(Clone, Copy)]
 struct Placed {
     gap: u32,
     phase: Phase,
@@ -52,7 +52,7 @@ fn last_gap(call: &TimedCall) -> u32 {
 }
 
 /// The calls that are placed, and the gaps in which no value surely is in the heap.
-#[derive(Debug, Drop)]
+#[derive(Drop)]
 struct Placing {
     gaps: Gaps,
     placed: Vec<Placed>,

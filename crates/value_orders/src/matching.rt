@@ -16,7 +16,7 @@ use timed_calls::PENDING;
 const MOST_PAIRS: usize = 64;
 
 /// What happens at a gap, in the order in which it does.
-#[derive(Clone, Copy, PartialEq, Eq, PartialOrd, Ord, Debug)]
+#[derive(Clone, Copy, PartialEq, Eq, PartialOrd, Ord)]
 enum Event {
     /// A value that is in must be gone.
     MustBeGone,
@@ -58,7 +58,7 @@ fn events_of(
 }
 
 /// The calls that have no partner, by their returns, and the pairs.
-#[derive(Debug, Drop)]
+#[derive(Drop)]
 struct Matching {
     touches: Vec<Touch>,
     last_in: bool,

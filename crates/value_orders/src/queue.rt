@@ -22,7 +22,7 @@ use std::collections::{BTreeMap, BTreeSet};
 use timed_calls::{PENDING, TimedCall, Timeline};
 
 /// The puts, or the removals, and which of them are left.
-#[derive(Debug, Drop)]
+#[derive(Drop)]
 struct Side {
     /// By value, and those of a value by their returns.
     touches: Vec<Touch>,
@@ -169,7 +169,7 @@ const PLENTY: i64 = 0x1_0000_0000;
 
 /// For each removal how many more puts of its value begin before it returns than removals have to
 /// be lined up by then.
-#[derive(Debug, Drop)]
+#[derive(Drop)]
 struct Room {
     counts: Counts,
 }
@@ -226,7 +226,7 @@ impl Room {
 }
 
 /// Gaps for the calls that find nothing.
-#[derive(Debug, Drop)]
+#[derive(Drop)]
 struct Cuts {
     sure: Sure,
     /// A gap, the return and the number of a call that is left.
@@ -280,14 +280,14 @@ impl Cuts {
 }
 
 /// What comes first in one gap between two cuts.
-#[derive(Clone, Copy, PartialEq, Eq, PartialOrd, Ord, Debug)]
+#[derive(Clone, Copy, PartialEq, Eq, PartialOrd, Ord)]
 enum Rank {
     Puts,
     Takes,
     FindsNone,
 }
 
-#[derive(Clone, Copy, Debug)]
+#[derive(Clone, Copy)]
 struct Step {
     /// The number of cuts before it.
     phase: usize,
@@ -298,7 +298,7 @@ struct Step {
 }
 
 /// The calls that are lined up, each in the first gap that those before it leave.
-#[derive(Debug, Drop)]
+#[derive(Drop)]
 struct Line {
     steps: Vec<Step>,
     phase: usize,
@@ -352,7 +352,7 @@ impl Line {
 type Cut = (u32, u32, u32);
 
 /// What can be next, and what was.
-#[derive(Clone, Copy, Debug)]
+#[derive(Clone, Copy)]
 enum Next {
     /// A call that finds nothing.
     Cut,
@@ -373,7 +373,7 @@ enum Next {
 }
 
 /// What was lined up, and how far the walks over the returns had come before.
-#[derive(Clone, Copy, Debug)]
+#[derive(Clone, Copy)]
 struct Turn {
     next: Next,
     puts: usize,
@@ -381,7 +381,7 @@ struct Turn {
 }
 
 /// What is left to be lined up, and what is lined up.
-#[derive(Debug, Drop)]
+#[derive(Drop)]
 struct LineUp {
     puts: Side,
     takes: Side,

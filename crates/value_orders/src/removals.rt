@@ -7,7 +7,7 @@ use timed_calls::TimedCall;
 
 /// The removals that are pending, and the calls that need values to be gone: a value must be gone
 /// where its put returns before one of these begins.
-#[derive(Debug, Drop)]
+#[derive(Drop)]
 pub(crate) struct Removals {
     /// For each moment at which such a call begins the moment of its return.
     returns: Least,

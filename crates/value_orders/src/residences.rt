@@ -9,7 +9,7 @@ use timed_calls::{PENDING, TimedCall};
 pub(crate) const NEVER: u32 = 0xffff_ffff;
 
 /// A value, the call that puts it in, and the one that takes it.
-#[derive(Clone, Copy, Debug)]
+#[derive(Clone, Copy)]
 pub(crate) struct Residence {
     pub(crate) value: i64,
     pub(crate) put: TimedCall,
@@ -40,7 +40,7 @@ impl Residence {
 }
 
 /// Values that are paired with their puts and removals, in rising value.
-#[derive(Debug, Drop)]
+#[derive(Drop)]
 struct Pairs {
     residences: Vec<Residence>,
     /// The first residence of the last value that has no removal.

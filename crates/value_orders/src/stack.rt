@@ -20,7 +20,7 @@ use std::alloc::{AllocError, Global};
 use timed_calls::{TimedCall, Timeline};
 
 /// What is left to be done, the last first.
-#[derive(Clone, Copy, Debug)]
+#[derive(Clone, Copy)]
 enum Task {
     /// Order the values at these places.
     Order(usize, usize),
@@ -30,7 +30,7 @@ enum Task {
 }
 
 /// The call that is next in the order, and the first gap that it may stand at.
-#[derive(Clone, Copy, Debug)]
+#[derive(Clone, Copy)]
 struct Turn {
     call: TimedCall,
     from: u32,
@@ -38,7 +38,7 @@ struct Turn {
 
 /// The values that surely are in the stack for a while, by the gap from which on they are, and what
 /// is left of them.
-#[derive(Debug, Drop)]
+#[derive(Drop)]
 struct Values {
     residences: Vec<Residence>,
     /// The number of moments.
@@ -163,7 +163,7 @@ impl Values {
 }
 
 /// The walk that orders the values.
-#[derive(Debug, Drop)]
+#[derive(Drop)]
 pub(crate) struct Ordering {
     values: Values,
     tasks: Vec<Task>,
@@ -349,7 +349,7 @@ fn merged(alloc: Global, turns: &[Turn], short: &[Residence]) -> Result<Vec<i64>
 }
 
 /// How the pushes and pops of equal values are paired.
-#[derive(Clone, Copy, Debug, PartialEq, Eq)]
+#[derive(Clone, Copy, PartialEq, Eq)]
 pub(crate) enum Pairing {
     /// A pop takes a value that can be on top.
     OnTop,

@@ -21,7 +21,7 @@ const MOST_PAIRS: usize = 256;
 const MOST_GONE: usize = 1_000;
 
 /// The pushes and pops of one value that have no partner.
-#[derive(Debug, Drop)]
+#[derive(Drop)]
 struct Value {
     /// Pushes that have returned, in the order of their returns.
     open: Vec<usize>,
@@ -35,7 +35,7 @@ struct Value {
 }
 
 /// What happens to the stack.
-#[derive(Clone, Copy, Debug)]
+#[derive(Clone, Copy)]
 enum Event {
     Begins(usize),
     Returns(usize),
@@ -76,7 +76,7 @@ fn events_of(
 }
 
 /// The values without partners, the values in the stack, and the pairs.
-#[derive(Debug, Drop)]
+#[derive(Drop)]
 struct Contents {
     values: Vec<Value>,
     /// Of each call the place of its value.

@@ -7,7 +7,7 @@ use crate::trees::Least;
 use std::alloc::{AllocError, Global};
 
 /// The number of values for each gap.
-#[derive(Debug, Drop)]
+#[derive(Drop)]
 pub(crate) struct Sure {
     counts: Least,
 }

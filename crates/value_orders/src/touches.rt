@@ -25,7 +25,7 @@ fn role_of(call: &TimedCall) -> Role {
 }
 
 /// A put or a removal of a value.
-#[derive(Clone, Copy, Debug)]
+#[derive(Clone, Copy)]
 pub(crate) struct Touch {
     pub(crate) value: i64,
     pub(crate) takes: bool,
@@ -33,7 +33,7 @@ pub(crate) struct Touch {
 }
 
 /// The calls of a queue, stack or heap.
-#[derive(Debug, Drop)]
+#[derive(Drop)]
 pub(crate) struct Touches {
     /// In rising value; of each value the puts and then the removals, in the order of their begins.
     pub(crate) known: Vec<Touch>,

@@ -26,7 +26,7 @@ fn shape(leaves: usize) -> (usize, u32) {
 }
 
 /// Part of a tree: a node, how far it is from its leaves, and which leaves those are.
-#[derive(Clone, Copy, Debug)]
+#[derive(Clone, Copy)]
 struct Part {
     node: usize,
     from: usize,
@@ -61,7 +61,7 @@ impl Part {
 }
 
 /// A list of numbers, with the least of each part of a tree over it.
-#[derive(Debug, Drop)]
+#[derive(Drop)]
 pub(crate) struct Least {
     width: usize,
     depth: u32,
@@ -172,7 +172,7 @@ impl Least {
 }
 
 /// How often each place is covered.
-#[derive(Debug, Drop)]
+#[derive(Drop)]
 pub(crate) struct Counts {
     width: usize,
     depth: u32,

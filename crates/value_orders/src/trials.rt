@@ -71,7 +71,7 @@ fn left_over(alloc: Global, residences: &[Residence]) -> Result<usize, AllocErro
 }
 
 /// Two values, by their places, that change their pops.
-#[derive(Clone, Copy, Debug)]
+#[derive(Clone, Copy)]
 struct Trial {
     first: usize,
     second: usize,
