@@ -18,6 +18,8 @@ MOST_BYTES = 1_000_000
 # How many generated histories there are of each verdict.
 OF_EACH = 50
 HISTORY, CERTIFICATES = rows.HISTORY, rows.CERTIFICATES
+# The greatest value, and the greatest number of a process.
+GREATEST = 2**63 - 1
 
 
 @dataclass(frozen=True)
@@ -128,6 +130,9 @@ def why_wrong(case, drawn, told):
         return f"it is {page.answer}"
     if page.lines != told.out.decode().removesuffix("\n"):
         return f"its lines are {page.lines}"
+    lost = page.lost_links()
+    if lost:
+        return f"links lead nowhere: {lost}"
     history = text_of(case.history)
     if not case.reads or page.answer in ("malformed", "memory"):
         return None
@@ -209,6 +214,19 @@ def with_nemeses(history):
 WRONG_TURN = texts.one_process(("enqueue", 1, 1), ("enqueue", 2, 2), ("enqueue", 3, 3), ("dequeue", None, 1), ("dequeue", None, 3), ("dequeue", None, 2))
 WRONG_REPLY_OF_A_QUEUE = texts.one_process(*[("enqueue", it, it) for it in range(20)], ("dequeue", None, 7))
 WRONG_REPLY_OF_A_MAP = texts.one_process(("put", (1, 10), None), ("put", (2, 20), None), ("get", 1, 20))
+# The only one that puts in what the operation returned is the operation.
+OWN_VALUE_OF_A_CAS = texts.one_process(("write", 1, 1), ("cas", (5, 5), (5, 5)))
+OWN_VALUE_OF_A_PUT = texts.one_process(("put", (2, 5), None), ("put", (1, 5), 5))
+PUT_AGAIN = texts.one_process(("put", (1, 5), None), ("del", 1, 5), ("put", (1, 5), 5))
+# The second 5 is taken out by the pending one.
+TAKEN_BY_A_PENDING_ONE = texts.lines(
+    *texts.one_process(("enqueue", 5, 5), ("dequeue", None, 5), ("enqueue", 5, 5)).splitlines(),
+    texts.invoke(1, "dequeue"),
+    texts.info(1, "dequeue"),
+    texts.invoke(0, "dequeue"),
+    texts.ok(0, "dequeue", 5),
+)
+WRONG_REPLY_OF_AN_ENQUEUE = texts.one_process(("enqueue", 7, 7), ("enqueue", 1, 2))
 ACQUIRED_TWICE = texts.one_process(("acquire", None, None), ("release", None, None), ("acquire", None, None), ("acquire", None, None))
 BUSY = texts.lines(
     texts.invoke(0, "write", 1),
@@ -237,6 +255,11 @@ def situations():
     yield of_made("an entry that comes too late", on_objects("queue", calls=300), change=swapped_late)
     yield Case("a queue gives another value", WRONG_REPLY_OF_A_QUEUE, texts.order(*range(0, 42, 2)))
     yield Case("a map gives another value", WRONG_REPLY_OF_A_MAP, texts.order(0, 2, 4))
+    yield Case("a cas finds what it sets", OWN_VALUE_OF_A_CAS, texts.order(0, 2))
+    yield Case("a put finds what it puts", OWN_VALUE_OF_A_PUT, texts.order(0, 2))
+    yield Case("a put finds what was deleted", PUT_AGAIN, texts.order(0, 2, 4))
+    yield Case("a value that a pending operation took out", TAKEN_BY_A_PENDING_ONE, texts.order(0, 2, 4, 6, 8))
+    yield Case("an enqueue returns another value", WRONG_REPLY_OF_AN_ENQUEUE, texts.order(0, 2))
     yield Case("a mutex is acquired twice", ACQUIRED_TWICE, texts.order(0, 2, 4, 6))
     for stem in ("postgres_queue", "redis_lock", "redis_replica", "racy_stack", "larger_first", "lost_put", "never_enqueued"):
         yield example(stem, False)
@@ -256,6 +279,10 @@ def options_and_faults():
     yield example("wrong_reply", True, "--object", "3")
     yield example("redis_lock", False, "--from", "10", "--to", "30")
     yield example("racy_stack", False, "--object", "0", "--from", "0")
+    yield example("postgres_queue", False, "--to", "2")
+    yield example("postgres_queue", False, "--from", "1000000")
+    yield example("redis_lock", False, "--from", "0", "--to", "0")
+    yield example("wrong_reply", True, "--from", "1000000")
     for stem in ("bad_number", "failed", "pending", "heap", "map", "mutex", "queue", "register", "stack"):
         yield example(stem)
         yield example(stem, False)
@@ -268,11 +295,14 @@ def hostile():
     """Texts with markup, quotes, wide characters and control characters, in places where a text may have them."""
     said = '"</script><script>alert(1)</script>&amp;\u202e\u3042\U0001f600\\n"'
     note = f":note {said}, :error [:{'k' * 64} \"{'x' * 100_000}\"]"
-    history = f"{{:process 0, :type :invoke, :f :enqueue, :value 9223372036854775807, {note}}}\n{{:process 0, :type :ok, :f :enqueue, :value 9223372036854775807}}\n"
-    history += "{:process 999999, :type :invoke, :f :dequeue}\n{:process 999999, :type :info, :f :dequeue}\n"
+    history = f"{{:process 0, :type :invoke, :f :enqueue, :value {GREATEST}, {note}}}\n{{:process 0, :type :ok, :f :enqueue, :value {GREATEST}}}\n"
+    history += f"{{:process {GREATEST}, :type :invoke, :f :dequeue}}\n{{:process {GREATEST}, :type :info, :f :dequeue}}\n"
     history += f"{{:process :{'n' * 64}, :type :info, :f :{'f' * 64}}}\n"
     yield Case("long strings and keywords in keys that are ignored", history, reads=False)
     shows = ("</script><script>alert(1)</script>&amp;", "あ", "\U0001f600", "\\x1b", "→")
+    both = texts.lines(texts.invoke(GREATEST, "push", 1), texts.ok(GREATEST, "push", 1), texts.invoke(1_000_000, "pop"), texts.ok(1_000_000, "pop", 1))
+    yield Case("long numbers of processes", both, texts.order(0, 2))
+    yield Case("a faulty map of a process with a long number", both + texts.lines(texts.ok(GREATEST - 1, "pop", 1)))
     bad = f"; {said}\n{{:process 0, :type :invoke, :f :pop, :note {said[:-1]}\x1b\t<b>\"}}\n{{:process 0, :type :invoke, :f :pop, :note {said[:-1]}\x1b\t<b>\"}}\n"
     yield Case("a faulty map with markup", bad, shows=shows)
     yield Case("a fault in a line of markup", f"{{:process {said} <b>}}\n", shows=("</script><script>alert(1)</script>&amp;",))

@@ -53,6 +53,11 @@ class Drawn:
     def by_id(self, name):
         return next((it for it in self.body.iter() if it.get("id") == name), None)
 
+    def lost_links(self):
+        """The links that lead to no place of the page."""
+        places = {f"#{it.get('id')}" for it in self.body.iter() if it.get("id")}
+        return sorted({it.get("href") for it in found(self.body, "a")} - places)
+
     def bars(self, figure):
         """The numbers of the operations that have a bar in the figure with this name."""
         element = self.by_id(figure)

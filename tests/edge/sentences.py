@@ -177,7 +177,7 @@ class Said:
         is_so &= KIND_OF[call.f] == kind and text == content and given != call.reply
         giver = re.match(rf" (-?\d+) was put there by {REF}\.", rest)
         if giver:
-            is_so &= found == (int(giver[1]), int(giver[2]))
+            is_so &= found == (int(giver[1]), int(giver[2])) and call.f not in ("enqueue", "push", "insert", "write")
             rest = rest[giver.end() :]
         return bool(is_so and (not rest or self.source(call, order, int(k), walk, rest)))
 
@@ -185,18 +185,16 @@ class Said:
         """What is said of the value that the call returned."""
         live = [it for it in self.on(call.on) if it.is_live() and it.number < call.at]
         same_key = [it for it in live if key_of(it) == key_of(call) or it.f not in ("put", "get", "del")]
-        nothing = re.fullmatch(r" No operation that was invoked before map (\d+) put (-?\d+)\.", rest)
+        nothing = re.fullmatch(r" No (other )?operation that was invoked before map (\d+) put (-?\d+)\.", rest)
         if nothing:
-            return int(nothing[1]) == call.at and not any(value_put(it) == int(nothing[2]) for it in same_key)
+            putters = [it.number for it in same_key if value_put(it) == int(nothing[3])]
+            return int(nothing[2]) == call.at and putters == ([call.number] if nothing[1] else [])
         by = re.fullmatch(rf" (-?\d+) was put by {REF}, (.*)\.", rest)
-        if not by or value_put(self.calls[int(by[2])]) != int(by[1]):
+        if not by or value_put(self.calls[int(by[2])]) != int(by[1]) or int(by[2]) == call.number:
             return False
         number, wanted, how = int(by[2]), int(by[1]), by[4]
         if how == "which the order leaves out":
             return number not in order
-        if number == call.number:
-            # A known flaw: a cas or a put may be named as the one that put the value which it found (DECISIONS 113).
-            return call.f in ("cas", "put")
         place = order.index(number) + 1 if number in order else None
         behind = re.fullmatch(r"which stands behind it, as entry (\d+)", how)
         if behind:
@@ -205,13 +203,13 @@ class Said:
         if not entry or place != int(entry[1]) or place >= k:
             return False
         how = how[entry.end() :]
-        contents = [it[0] for it in self.walked(call.on, order, k).items]
         if how == ", and is not at its turn":
-            return wanted in contents
+            return (wanted, number) in self.walked(call.on, order, k).items
         taken = re.fullmatch(rf", and taken out by {REF}, entry (\d+)", how)
         if taken:
-            taker = self.calls[int(taken[1])]
-            return order[int(taken[3]) - 1] == taker.number and taker.reply == wanted and int(taken[3]) < k
+            taker, rank = self.calls[int(taken[1])], int(taken[3])
+            is_there = place < rank < k and order[rank - 1] == taker.number and taker.f in TAKES
+            return is_there and self.walked(call.on, order, rank).found(taker) == (wanted, number)
         return how == "" and call.f in ("read", "cas", "put", "get", "del")
 
     # ---- no order

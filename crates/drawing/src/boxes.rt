@@ -1,7 +1,7 @@
 //! What an object contains, as boxes: what it gives, and what was returned.
 
 use crate::content::{Content, Item};
-use crate::labels::{characters, count_text, value_text};
+use crate::labels::{characters, count_text, put_by, value_text};
 use crate::memory::Memory;
 use crate::numbers::{CHARACTER, SMALL_CHARACTER};
 use crate::operations::Operation;
@@ -53,7 +53,7 @@ impl Boxes<'_> {
             .saturating_mul(CHARACTER)
             .saturating_add(16);
         let by_words = match by {
-            Some(number) => crate::numbers::digits(number).saturating_add(3),
+            Some(number) => crate::numbers::digits(u64::from(number)).saturating_add(3),
             None => 0,
         };
         let words = characters(under[0]).max(characters(under[1])).max(by_words);
@@ -83,8 +83,14 @@ impl Boxes<'_> {
         self.add(BoxKind::Skip, text, ["", ""], None)
     }
 
-    /// The values of a list, of which that at the place `at` is given.
-    fn list(&mut self, items: &[Item], at: usize, is_stack: bool, returned: Option<i64>) -> bool {
+    /// The values of a list, of which that at the place `at` is given, if one is looked for.
+    fn list(
+        &mut self,
+        items: &[Item],
+        at: Option<usize>,
+        is_stack: bool,
+        returned: Option<i64>,
+    ) -> bool {
         let length = items.len();
         let from = if is_stack {
             length.saturating_sub(NEAR)
@@ -99,7 +105,8 @@ impl Boxes<'_> {
         let mut is_found = false;
         let mut skipped: usize = 0;
         for (place, item) in items.iter().enumerate() {
-            let is_returned = !is_found && place != at && returned == Some(item.value);
+            let is_given = at == Some(place);
+            let is_returned = !is_found && !is_given && returned == Some(item.value);
             let is_near = place >= from && place < from.saturating_add(NEAR);
             if !is_near && !is_returned && place != last && length > FEW {
                 skipped = skipped.saturating_add(1);
@@ -109,7 +116,7 @@ impl Boxes<'_> {
                 self.skipped(skipped);
                 skipped = 0;
             }
-            if place == at {
+            if is_given {
                 self.item(BoxKind::Gives, *item, ["gives", ""]);
             } else if is_returned {
                 is_found = true;
@@ -125,7 +132,10 @@ impl Boxes<'_> {
             let text = self
                 .memory
                 .text(String::from_str(self.memory.alloc, "empty"));
-            self.add(BoxKind::Gives, text, ["gives nil", ""], None);
+            match at {
+                Some(_) => self.add(BoxKind::Gives, text, ["gives nil", ""], None),
+                None => self.add(BoxKind::Plain, text, ["", ""], None),
+            }
         }
         is_found
     }
@@ -222,10 +232,10 @@ pub(crate) fn boxes_of(
         Content::Queue(_) | Content::Heap(_) | Content::Stack(_) => {
             let items = items_of(memory, content);
             let is_stack = matches!(content, Content::Stack(_));
-            let at = if is_stack {
-                items.len().saturating_sub(1)
-            } else {
-                0
+            let last = items.len().saturating_sub(1);
+            let at = match put_by(operation.op()) {
+                Some(_) => None,
+                None => Some(if is_stack { last } else { 0 }),
             };
             let is_found = boxes.list(&items, at, is_stack, returned);
             boxes.returned_of_list(returned, is_found);

@@ -1,6 +1,6 @@
 //! What an object contains, and which operation put it there.
 
-use crate::labels::{push_count, push_value};
+use crate::labels::{push_count, push_value, put_by};
 use crate::memory::Memory;
 use seq_objects::{AnyOp, AnyReply, Kind, Value};
 use std::collections::{BTreeMap, VecDeque};
@@ -51,8 +51,11 @@ impl Content {
         }
     }
 
-    /// The item that the operation finds, where it finds one.
+    /// The item that the operation finds, where it looks for one and there is one.
     pub fn found(&self, op: &AnyOp) -> Option<Item> {
+        if put_by(*op).is_some() {
+            return None;
+        }
         match self {
             Content::Queue(items) => items.front().copied(),
             Content::Stack(items) => items.back().copied(),
@@ -102,18 +105,6 @@ impl Content {
         match self {
             Content::Mutex { releaser, .. } => *releaser,
             _ => None,
-        }
-    }
-
-    /// Whether a value is in it.
-    pub fn has(&self, value: i64) -> bool {
-        match self {
-            Content::Queue(items) => items.iter().any(|item| item.value == value),
-            Content::Stack(items) => items.iter().any(|item| item.value == value),
-            Content::Heap(items) => items.keys().any(|key| key.0 == value),
-            Content::Register(item) => item.is_some_and(|item| item.value == value),
-            Content::Map(items) => items.values().any(|item| item.value == value),
-            Content::Mutex { .. } => false,
         }
     }
 

@@ -105,6 +105,8 @@ pub struct Cross {
 /// that is refused, is within the bar of its operation.
 #[derive(Debug, Drop)]
 pub struct Line {
+    /// The room for the names of its lanes.
+    pub left: u32,
     pub width: u32,
     pub height: u32,
     pub lanes: Vec<Lane>,

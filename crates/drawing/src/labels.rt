@@ -48,7 +48,7 @@ pub fn count_text(memory: &Memory, count: usize) -> String {
 }
 
 /// What an operation puts in, and returns.
-fn put_by(op: AnyOp) -> Option<i64> {
+pub(crate) fn put_by(op: AnyOp) -> Option<i64> {
     match op {
         AnyOp::Enqueue(value) => Some(value),
         AnyOp::Push(value) => Some(value),

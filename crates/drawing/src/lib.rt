@@ -34,7 +34,7 @@ pub use figure::{Arrow, Bar, Cross, Figure, Gap, Lane, Line, Mark, NemesisMark, 
 pub use labels::{count_text, label, value_text};
 pub use memory::Memory;
 pub use moments::Nemesis;
-pub use numbers::{LEFT, point_room};
+pub use numbers::point_room;
 pub use objects::{
     Extent, ObjectDrawing, Part, Stretch, Subject, draw_impossible, draw_refused, draw_uncertified,
     draw_valid,

@@ -5,8 +5,9 @@ use crate::figure::{Arrow, Bar, Cross, Figure, Lane, Line, NemesisMark};
 use crate::labels::{characters, fit};
 use crate::memory::Memory;
 use crate::numbers::{
-    CHARACTER, HEIGHT, HEIGHT_WITH_POINTS, LANE_GAP, LEFT, NEMESIS_HEIGHT, SMALL, TOP,
+    CHARACTER, HEIGHT, HEIGHT_WITH_POINTS, LANE_GAP, NEMESIS_HEIGHT, SMALL, TOP, digits, names_room,
 };
+use crate::operations::Operation;
 use crate::placing::{Layout, place};
 use crate::points::{Point, sound_points};
 use crate::scene::{Scene, label_of};
@@ -142,8 +143,8 @@ impl Sheet {
         };
         Bar {
             operation,
-            from: segment.from.saturating_add(LEFT),
-            to: segment.to.saturating_add(LEFT),
+            from: segment.from.saturating_add(layout.left),
+            to: segment.to.saturating_add(layout.left),
             top: self.top_of(operation.process),
             height: self.height,
             open_left: segment.open_left,
@@ -152,7 +153,7 @@ impl Sheet {
             mark: scene.mark(&operation),
             is_first: segment.is_first,
             info: match info {
-                Some(spot) if spot.line == self.line => Some(spot.x.saturating_add(LEFT)),
+                Some(spot) if spot.line == self.line => Some(spot.x.saturating_add(layout.left)),
                 _ => None,
             },
         }
@@ -176,7 +177,7 @@ impl Sheet {
     }
 
     /// Where a refused point is joined to its bar, if it is beyond the end of it.
-    fn tether(&self, scene: &Scene<'_, '_>, number: u32, x: u32) -> Option<u32> {
+    fn tether(&self, scene: &Scene<'_, '_>, number: u32, x: u32, left: u32) -> Option<u32> {
         if scene.dims {
             return None;
         }
@@ -185,9 +186,9 @@ impl Sheet {
             .iter()
             .find(|segment| segment.operation.number() == number);
         match own {
-            Some(segment) if x > segment.to => Some(segment.to.saturating_add(LEFT)),
+            Some(segment) if x > segment.to => Some(segment.to.saturating_add(left)),
             Some(_) => None,
-            None => Some(LEFT),
+            None => Some(left),
         }
     }
 
@@ -207,10 +208,10 @@ impl Sheet {
             memory.note(points.push(Point {
                 rank: placed.rank,
                 operation: placed.operation,
-                x: spot.x.saturating_add(LEFT),
+                x: spot.x.saturating_add(layout.left),
                 y: top.saturating_add(self.height).saturating_sub(9),
                 is_refused: placed.is_refused,
-                tether: self.tether(scene, placed.operation.number(), spot.x),
+                tether: self.tether(scene, placed.operation.number(), spot.x, layout.left),
                 content: memory.text(placed.content.clone()),
             }));
         }
@@ -228,8 +229,8 @@ impl Sheet {
             if from.line == self.line && to.line == self.line {
                 let (high, low) = (self.top_of(earlier.process), self.top_of(later.process));
                 memory.note(arrows.push(Arrow {
-                    from: (from.x.saturating_add(LEFT), high.saturating_add(9)),
-                    to: (to.x.saturating_add(LEFT), low.saturating_add(9)),
+                    from: (from.x.saturating_add(layout.left), high.saturating_add(9)),
+                    to: (to.x.saturating_add(layout.left), low.saturating_add(9)),
                     earlier: *earlier,
                     later: *later,
                 }));
@@ -249,7 +250,7 @@ impl Sheet {
         Some(Cross {
             number: faulty.number,
             fault: faulty.fault,
-            x: spot.x.saturating_add(LEFT),
+            x: spot.x.saturating_add(layout.left),
             y: top.saturating_add(self.height / 2),
             label: memory.text(String::from_str(memory.alloc, faulty.words)),
         })
@@ -263,7 +264,10 @@ impl Sheet {
         let ticks = ticks_of(memory, scene, layout, self.line, &gaps);
         let lanes = self.lanes(memory);
         let arrows = self.arrows(memory, scene, layout);
-        let mut width = layout.end_of(self.line).saturating_add(LEFT + 8);
+        let mut width = layout
+            .end_of(self.line)
+            .saturating_add(layout.left)
+            .saturating_add(8);
         let mut crosses = Vec::new(memory.alloc);
         if let Some(cross) = self.cross(memory, scene, layout) {
             width = width.max(cross_end(&cross));
@@ -272,6 +276,7 @@ impl Sheet {
         let count = u32::try_from(lanes.len()).unwrap_or(u32::MAX);
         let high = count.saturating_mul(self.height.saturating_add(LANE_GAP));
         Line {
+            left: layout.left,
             width,
             height: high.saturating_add(self.top).saturating_add(6),
             lanes,
@@ -292,11 +297,21 @@ fn cross_end(cross: &Cross) -> u32 {
     cross.x.saturating_add(room).saturating_add(24)
 }
 
+/// The room for the names of the lanes of these operations, and of the faulty map.
+fn room_for_names(scene: &Scene<'_, '_>, operations: &[Operation]) -> u32 {
+    let mut longest = scene.faulty.and_then(|faulty| faulty.process).unwrap_or(0);
+    for operation in operations {
+        longest = longest.max(operation.process);
+    }
+    names_room(digits(longest))
+}
+
 /// The figure of the scene.
 pub(crate) fn figure_of(memory: &Memory, scene: &Scene<'_, '_>) -> Figure {
     let columns = columns_of(memory, scene);
-    let layout = place(memory, scene, &columns);
+    let mut layout = place(memory, scene, &columns);
     let (operations, left_out) = shown_operations(memory, scene, &layout);
+    layout.left = room_for_names(scene, &operations);
     let segments = segments_of(memory, scene, &layout, &operations);
     let mut lines = Vec::new(memory.alloc);
     let mut widest = 0;

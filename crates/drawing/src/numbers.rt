@@ -2,8 +2,10 @@
 
 /// The widest line.
 pub(crate) const WIDEST: u32 = 920;
-/// The room for the names of the lanes.
-pub const LEFT: u32 = 56;
+/// The room for the names of the lanes, where no process has more than `NAME_DIGITS` digits.
+pub(crate) const LEFT: u32 = 56;
+
+pub(crate) const NAME_DIGITS: u32 = 6;
 /// The room for a character of a label, and of a small one.
 pub(crate) const CHARACTER: u32 = 7;
 
@@ -45,30 +47,27 @@ pub(crate) const ROWS: usize = 400;
 pub(crate) const TRIED_ROWS: usize = 24;
 
 /// The digits of a number.
-pub(crate) fn digits(number: u32) -> u32 {
-    let bounds: [u32; 9] = [
-        10,
-        100,
-        1_000,
-        10_000,
-        100_000,
-        1_000_000,
-        10_000_000,
-        100_000_000,
-        1_000_000_000,
-    ];
+pub(crate) fn digits(number: u64) -> u32 {
+    let mut rest = number;
     let mut digits: u32 = 1;
-    for bound in bounds {
-        if number >= bound {
+    for _ in 0..19 {
+        if rest >= 10 {
+            rest /= 10;
             digits = digits.saturating_add(1);
         }
     }
     digits
 }
 
+/// The room for the names of lanes of which the longest process has n digits.
+pub(crate) fn names_room(digits: u32) -> u32 {
+    let more = digits.saturating_sub(NAME_DIGITS);
+    LEFT.saturating_add(more.saturating_mul(CHARACTER))
+}
+
 /// The characters of a count, whose digits are in groups of three.
 pub(crate) fn grouped_digits(count: u32) -> u32 {
-    let digits = digits(count);
+    let digits = digits(u64::from(count));
     digits.saturating_add(digits.saturating_sub(1) / 3)
 }
 
@@ -89,12 +88,16 @@ pub(crate) fn gap_width(count: u32) -> u32 {
 
 /// The width of a point of this rank.
 pub fn point_room(rank: u32) -> u32 {
-    digits(rank).saturating_mul(CHARACTER).saturating_add(8)
+    digits(u64::from(rank))
+        .saturating_mul(CHARACTER)
+        .saturating_add(8)
 }
 
 /// The width of the column of a point of this rank.
 pub(crate) fn point_width(rank: u32) -> u32 {
-    digits(rank).saturating_mul(CHARACTER).saturating_add(14)
+    digits(u64::from(rank))
+        .saturating_mul(CHARACTER)
+        .saturating_add(14)
 }
 
 /// The width of the column of a nemesis whose label has n characters.
@@ -110,7 +113,7 @@ pub(crate) fn event_width(number: u32, has_room: bool) -> u32 {
         return EVENT_WIDTH;
     }
     EVENT_WIDTH.max(
-        digits(number)
+        digits(u64::from(number))
             .saturating_mul(SMALL_CHARACTER)
             .saturating_add(8),
     )

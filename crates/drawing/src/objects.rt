@@ -11,7 +11,7 @@ use crate::numbers::WHOLE;
 use crate::operations::{Operation, State, operation_at, operations_of};
 use crate::orders::{Placed, Row, rows_of, walk_along};
 use crate::scene::{Scene, numbers_of};
-use crate::sentences::{Explanation, Refused};
+use crate::sentences::{Alone, Explanation, Refused};
 use crate::shapes::Shape;
 use crate::spans::Span;
 use crate::tried::{Tried, try_orders};
@@ -117,10 +117,11 @@ pub(crate) fn drawn_numbers(
     numbers
 }
 
-/// The window of a figure.
+/// The window of a figure, and the focus alone, which is drawn whatever the window is.
 #[derive(Drop)]
 struct Window {
     moments: Vec<Moment>,
+    zoomed: Vec<Moment>,
     drawn: BTreeSet<u32>,
     extent: Extent,
 }
@@ -135,6 +136,11 @@ fn window_of(
     let events = focus_events(memory, operations, focus);
     choose(memory, &mut moments, &events, subject.stretch, WHOLE);
     let numbers = numbers_of(memory, focus);
+    let mut zoomed = Vec::new(memory.alloc);
+    if !focus.is_empty() {
+        zoomed = focus_moments(memory, operations, &moments, focus);
+        narrow(memory, operations, &mut zoomed, &numbers);
+    }
     let (without_lane, processes) = narrow(memory, operations, &mut moments, &numbers);
     let drawn = drawn_numbers(memory, operations, &moments);
     Window {
@@ -149,6 +155,7 @@ fn window_of(
             processes,
         },
         moments,
+        zoomed,
         drawn,
     }
 }
@@ -213,16 +220,17 @@ fn figures(
         names_objects: false,
         faulty: None,
     };
-    if explanation
-        .zoom_above
-        .is_none_or(|few| window.drawn.len() <= few)
-    {
+    let is_alone = match explanation.alone {
+        Alone::Never => false,
+        Alone::Above(few) => window.drawn.len() > few,
+        Alone::Always => true,
+    };
+    if !is_alone {
         return (None, figure_of(memory, &whole));
     }
-    let zoomed = focus_moments(memory, operations, &window.moments, focus);
     let zoom_points = focus_points(memory, points, focus);
     let zoom = Scene {
-        moments: &zoomed,
+        moments: &window.zoomed,
         points: &zoom_points,
         is_zoom: true,
         dims: false,
@@ -282,7 +290,7 @@ fn draw(
         because,
         focus: _,
         arrows: _,
-        zoom_above: _,
+        alone: _,
         content,
     } = explanation;
     let mut sentences = Vec::new(memory.alloc);
@@ -328,7 +336,7 @@ pub fn draw_valid(
 {
     let memory = Memory::new(alloc);
     let operations = all_operations(&memory, subject);
-    let nothing = Explanation::new(&memory, None, None);
+    let nothing = Explanation::new(&memory, None, Alone::Never);
     let drawing = draw(&memory, subject, &operations, order, nothing);
     memory.whole(drawing)
 }
@@ -341,7 +349,7 @@ pub fn draw_uncertified(alloc: Global, subject: &Subject<'_>) -> Result<ObjectDr
 {
     let memory = Memory::new(alloc);
     let operations = all_operations(&memory, subject);
-    let mut text = Explanation::new(&memory, None, None);
+    let mut text = Explanation::new(&memory, None, Alone::Never);
     text.say_uncertified(subject.object.object(), operations.len());
     let drawing = draw(&memory, subject, &operations, None, text);
     memory.whole(drawing)
@@ -458,7 +466,7 @@ pub fn draw_impossible(
         from: part.from,
     };
     let sentence = shape.sentence(&tried);
-    let mut text = Explanation::new(&memory, None, Some(0));
+    let mut text = Explanation::new(&memory, None, Alone::Always);
     for operation in &named {
         text.mark(*operation, Mark::Fault);
     }

@@ -2,7 +2,7 @@
 
 use crate::columns::{Column, Hole, What};
 use crate::memory::Memory;
-use crate::numbers::WIDEST;
+use crate::numbers::{LEFT, WIDEST};
 use crate::operations::Operation;
 use crate::scene::{Scene, label_of};
 use std::collections::BTreeMap;
@@ -45,6 +45,8 @@ pub(crate) struct Layout {
     /// The spots of the events, by their numbers.
     pub(crate) events: BTreeMap<u32, Spot>,
     pub(crate) ends: Vec<u32>,
+    /// The room for the names of the lanes.
+    pub(crate) left: u32,
     /// Where the next column begins at the least, and whether its line has none yet.
     x: u32,
     line: usize,
@@ -203,6 +205,7 @@ pub(crate) fn place(memory: &Memory, scene: &Scene<'_, '_>, columns: &[Column]) 
         columns: Vec::new(memory.alloc),
         events: BTreeMap::new(memory.alloc),
         ends: Vec::new(memory.alloc),
+        left: LEFT,
         x: 0,
         line: 0,
         is_new: true,

@@ -6,16 +6,24 @@ use crate::figure::Mark;
 use crate::memory::Memory;
 use crate::operations::{Operation, operation_at};
 use crate::orders::walk_along;
-use crate::sources::{key_of, puts, takes, wanted};
+use crate::sources::{key_of, puts, wanted};
 use crate::spans::Span;
 use checker::OrderFault;
 use events::{Action, Event};
 use seq_objects::{AnyOp, AnyReply, Kind};
 use std::collections::{BTreeMap, BTreeSet};
 
-/// The operations that a sentence on an order names are shown alone too, where more than these are
-/// drawn.
-const ZOOM: Option<usize> = Some(12);
+/// Whether the operations that a sentence names are shown alone too.
+#[derive(Clone, Copy)]
+pub(crate) enum Alone {
+    Never,
+    /// Where more operations than these are drawn.
+    Above(usize),
+    Always,
+}
+
+/// Those that a sentence on an order names.
+const ZOOM: Alone = Alone::Above(12);
 
 /// An order that is refused, and what it is an order of.
 #[derive(Clone, Copy)]
@@ -39,18 +47,13 @@ pub(crate) struct Explanation<'a> {
     pub(crate) because: Vec<Span>,
     pub(crate) focus: BTreeMap<u32, Mark>,
     pub(crate) arrows: Vec<(Operation, Operation)>,
-    /// The focus is shown alone too, where more operations than these are drawn.
-    pub(crate) zoom_above: Option<usize>,
+    pub(crate) alone: Alone,
     /// What the object contains before the refused entry, where that tells why.
     pub(crate) content: Option<Content>,
 }
 
 impl<'a> Explanation<'a> {
-    pub(crate) fn new(
-        memory: &'a Memory,
-        refused: Option<usize>,
-        zoom_above: Option<usize>,
-    ) -> Explanation<'a> {
+    pub(crate) fn new(memory: &'a Memory, refused: Option<usize>, alone: Alone) -> Explanation<'a> {
         Explanation {
             memory,
             refused,
@@ -58,7 +61,7 @@ impl<'a> Explanation<'a> {
             because: Vec::new(memory.alloc),
             focus: BTreeMap::new(memory.alloc),
             arrows: Vec::new(memory.alloc),
-            zoom_above,
+            alone,
             content: None,
         }
     }
@@ -175,7 +178,7 @@ impl<'a> Refused<'a> {
 
     fn unknown(&self, number: i64) -> Explanation<'a> {
         let place = place_in(self.order, number);
-        let mut text = Explanation::new(self.memory, place, None);
+        let mut text = Explanation::new(self.memory, place, Alone::Never);
         text.say(&[
             Span::Text("Entry "),
             Span::rank(place.unwrap_or(0)),
@@ -245,7 +248,7 @@ impl<'a> Refused<'a> {
     }
 
     fn omitted(&self, operation: Operation, at: u32) -> Explanation<'a> {
-        let mut text = Explanation::new(self.memory, None, None);
+        let mut text = Explanation::new(self.memory, None, Alone::Never);
         text.operation(operation, Mark::LeftOut);
         text.say(&[
             Span::Text(" returned at map "),
@@ -322,7 +325,7 @@ impl<'a> Refused<'a> {
             Span::Text("."),
         ]);
         self.say_giver(&mut text, &content, &operation);
-        self.say_source(&mut text, &content, &operation, returned);
+        self.say_source(&mut text, &operation, returned);
         text.because(&[
             Span::Text("gives "),
             Span::reply(gives),
@@ -348,22 +351,23 @@ impl<'a> Refused<'a> {
     }
 
     /// Who put what the operation returned, and where in the order that is.
-    fn say_source(
-        &self,
-        text: &mut Explanation<'_>,
-        content: &Content,
-        operation: &Operation,
-        returned: AnyReply,
-    ) {
+    fn say_source(&self, text: &mut Explanation<'_>, operation: &Operation, returned: AnyReply) {
         let (Some(value), Some(end)) = (wanted(returned), operation.returned()) else {
             return;
         };
         let key = key_of(operation.op());
         let mut latest_first = self.operations.iter().rev();
-        let source = latest_first.find(|other| other.number() < end && puts(other, key, value));
+        let source = latest_first.find(|other| other.number() < end
+            && other.number() != operation.number()
+            && puts(other, key, value));
         let Some(source) = source else {
+            let before = if puts(operation, key, value) {
+                " No other operation that was invoked before map "
+            } else {
+                " No operation that was invoked before map "
+            };
             return text.say(&[
-                Span::Text(" No operation that was invoked before map "),
+                Span::Text(before),
                 Span::number(end),
                 Span::Text(" put "),
                 Span::integer(value),
@@ -387,35 +391,42 @@ impl<'a> Refused<'a> {
             return text.say(&[behind, rank, stop]);
         }
         text.say(&[Span::Text(", entry "), rank]);
-        self.say_turn(text, content, value, refused)
+        self.say_turn(text, source, refused)
     }
 
-    /// Why a value that was put in before is not what is found.
-    fn say_turn(&self, text: &mut Explanation<'_>, content: &Content, value: i64, refused: usize) {
+    /// Why a value that this operation put in before is not what is found.
+    fn say_turn(&self, text: &mut Explanation<'_>, source: &Operation, refused: usize) {
         if matches!(self.kind, Kind::Register | Kind::Map) {
             return text.say(&[Span::Text(".")]);
         }
-        if content.has(value) {
+        let Some((place, taker)) = self.taker_of(source, refused) else {
             return text.say(&[Span::Text(", and is not at its turn.")]);
-        }
-        let mut taker = None;
-        for (place, number) in self.order.iter().enumerate().take(refused) {
-            match operation_at(self.operations, *number) {
-                Some(operation) if takes(&operation, value) => taker = Some((place, operation)),
-                _ => {}
-            }
-        }
-        let Some((place, taker)) = taker else {
-            return text.say(&[Span::Text(", and taken out since.")]);
         };
         text.say(&[Span::Text(", and taken out by ")]);
         text.operation(taker, Mark::Source);
         text.say(&[Span::Text(", entry "), Span::rank(place), Span::Text(".")])
     }
 
+    /// The operation before this place of the order that takes out what the source put in.
+    fn taker_of(&self, source: &Operation, refused: usize) -> Option<(usize, Operation)> {
+        let mut content = Content::empty(self.memory, self.kind);
+        for (place, number) in self.order.iter().enumerate().take(refused) {
+            let Some(operation) = operation_at(self.operations, *number) else {
+                continue;
+            };
+            let op = operation.op();
+            let found = content.found(&op);
+            if found.is_some_and(|item| item.by == source.number()) {
+                return Some((place, operation));
+            }
+            content.apply(self.memory, operation.number(), &op);
+        }
+        None
+    }
+
     /// The general sentence, where no fact is told.
     fn general(&self, refused: Option<usize>) -> Explanation<'a> {
-        let mut text = Explanation::new(self.memory, refused, None);
+        let mut text = Explanation::new(self.memory, refused, Alone::Never);
         text.say(&[
             Span::Text("The order for object "),
             Span::number(self.object),

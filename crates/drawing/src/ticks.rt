@@ -4,7 +4,7 @@ use crate::columns::What;
 use crate::figure::{Gap, NemesisMark, Tick};
 use crate::labels::fit;
 use crate::memory::Memory;
-use crate::numbers::{LABEL_LENGTH, LEFT, SMALL_CHARACTER, digits, gap_width};
+use crate::numbers::{LABEL_LENGTH, SMALL_CHARACTER, digits, gap_width};
 use crate::placing::Layout;
 use crate::scene::Scene;
 
@@ -19,7 +19,7 @@ pub(crate) fn gaps_of(memory: &Memory, layout: &Layout, line: usize) -> Vec<Gap>
             if spot.line == line {
                 let count = hole.count();
                 memory.note(gaps.push(Gap {
-                    x: spot.x.saturating_add(LEFT),
+                    x: spot.x.saturating_add(layout.left),
                     width: gap_width(count).saturating_sub(8),
                     count,
                 }));
@@ -47,7 +47,7 @@ pub(crate) fn nemeses_of(
         if spot.line == line {
             memory.note(marks.push(NemesisMark {
                 number: moment.number,
-                x: spot.x.saturating_add(LEFT),
+                x: spot.x.saturating_add(layout.left),
                 process: memory.text(nemesis.process.clone()),
                 function: memory.text(nemesis.function.clone()),
                 label: fit(memory, &nemesis.function, LABEL_LENGTH),
@@ -67,7 +67,7 @@ fn bare_ticks(memory: &Memory, scene: &Scene<'_, '_>, layout: &Layout, line: usi
         if spot.line == line {
             memory.note(ticks.push(Tick {
                 number: moment.number,
-                x: spot.x.saturating_add(LEFT),
+                x: spot.x.saturating_add(layout.left),
                 is_shown: false,
                 is_focus: scene.is_faulty(&moment)
                     || scene
@@ -107,7 +107,8 @@ fn show(
         if tick.is_focus != of_focus {
             continue;
         }
-        let half = (digits(tick.number).saturating_mul(SMALL_CHARACTER) / 2).saturating_add(3);
+        let width = digits(u64::from(tick.number)).saturating_mul(SMALL_CHARACTER);
+        let half = (width / 2).saturating_add(3);
         let room = (tick.x.saturating_sub(half), tick.x.saturating_add(half));
         if scene.is_zoom && of_focus || is_free(taken, room) {
             tick.is_shown = true;

@@ -4,7 +4,7 @@ use crate::html::Word;
 use crate::markup::{Name, Tag};
 use crate::writer::{Writer, number};
 use drawing::{
-    Arrow, Cross, Figure, Gap, LEFT, Lane, Line, NemesisMark, Point, Span, Tick, count_text, label,
+    Arrow, Cross, Figure, Gap, Lane, Line, NemesisMark, Point, Span, Tick, count_text, label,
 };
 
 /// A size at one and a half, where the figure is large.
@@ -44,11 +44,12 @@ impl Writer {
 
     fn lane(&mut self, line: &Line, lane: &Lane) {
         let name = [Word::Text("p"), Word::Number(lane.process)];
-        self.text_at("lane", LEFT - 8, lane.top.saturating_add(13), &name);
+        let (x, y) = (line.left.saturating_sub(8), lane.top.saturating_add(13));
+        self.text_at("lane", x, y, &name);
         let low = lane.top.saturating_add(lane.height).saturating_add(4);
         let d = [
             Word::Text("M"),
-            Word::At(LEFT),
+            Word::At(line.left),
             Word::Text(" "),
             Word::At(low),
             Word::Text("H"),
