@@ -1,43 +1,17 @@
 //! What an object contains, as boxes: what it gives, and what was returned.
 
-use crate::content::{Content, Item};
-use crate::labels::{characters, count_text, put_by, value_text};
-use crate::memory::Memory;
-use crate::numbers::{CHARACTER, SMALL_CHARACTER};
-use crate::operations::Operation;
+use crate::content::{Content, Item, value_reply};
 use crate::sources::key_of;
+use figures::{
+    CHARACTER, Memory, SMALL_CHARACTER, characters, count_text, digits, put_by, value_text,
+};
 use seq_objects::{AnyReply, Value, value_of_reply};
+use timeline::{BoxKind, ContentBox, Operation};
 
 /// An object that contains no more has a box for each.
 const FEW: usize = 10;
 /// How many boxes there are at the end where values are taken out.
 const NEAR: usize = 8;
-
-/// What a box shows.
-#[derive(Clone, Copy, Debug, PartialEq, Eq)]
-pub enum BoxKind {
-    Plain,
-    /// What the object gives.
-    Gives,
-    /// What was returned, and is in the object at another place.
-    Returned,
-    /// What was returned.
-    Absent,
-    /// How many are not shown.
-    Skip,
-}
-
-/// A box: its text, the words under it, and where it is.
-#[derive(Debug, Drop)]
-pub struct ContentBox {
-    pub kind: BoxKind,
-    pub text: String,
-    pub under: [&'static str; 2],
-    /// The operation that put it there.
-    pub by: Option<u32>,
-    pub x: u32,
-    pub width: u32,
-}
 
 /// Boxes in the making, from left to right.
 #[derive(Drop)]
@@ -53,7 +27,7 @@ impl Boxes<'_> {
             .saturating_mul(CHARACTER)
             .saturating_add(16);
         let by_words = match by {
-            Some(number) => crate::numbers::digits(u64::from(number)).saturating_add(3),
+            Some(number) => digits(u64::from(number)).saturating_add(3),
             None => 0,
         };
         let words = characters(under[0]).max(characters(under[1])).max(by_words);
@@ -147,10 +121,8 @@ impl Boxes<'_> {
             Some(_) => ["returned,", "not in it"],
             None => ["returned", ""],
         };
-        let text = value_text(
-            self.memory,
-            returned.map_or(Value::Nil, |value| Value::Int(value)),
-        );
+        let value = value_of_reply(&AnyReply::Value(returned));
+        let text = value_text(self.memory, value);
         self.add(BoxKind::Absent, text, under, None)
     }
 
@@ -197,19 +169,24 @@ impl Boxes<'_> {
 
 /// The items of a list.
 fn items_of(memory: &Memory, content: &Content) -> Vec<Item> {
+    let mut listed = Vec::new(memory.alloc);
     match content {
-        Content::Queue(items) => memory.list(items.iter().copied().collect(memory.alloc)),
-        Content::Stack(items) => memory.list(items.iter().copied().collect(memory.alloc)),
-        Content::Heap(items) => {
-            let keys = items.keys();
-            let items = keys.map(|key| Item {
-                value: key.0,
-                by: key.1,
-            });
-            memory.list(items.collect(memory.alloc))
+        Content::Queue(items) | Content::Stack(items) => {
+            for item in items.iter() {
+                memory.note(listed.push(*item));
+            }
         }
-        _ => Vec::new(memory.alloc),
+        Content::Heap(items) => {
+            for (value, by) in items.keys() {
+                memory.note(listed.push(Item {
+                    value: *value,
+                    by: *by,
+                }));
+            }
+        }
+        _ => {}
     }
+    listed
 }
 
 /// The boxes of what the object contains where this operation is refused.
@@ -241,14 +218,12 @@ pub(crate) fn boxes_of(
             boxes.returned_of_list(returned, is_found);
         }
         Content::Register(item) => {
-            let value = item.map_or(Value::Nil, |item| Value::Int(item.value));
-            let text = value_text(memory, value);
-            boxes.add(
-                BoxKind::Gives,
-                text,
-                ["contains", ""],
-                item.map(|item| item.by),
-            );
+            let text = value_text(memory, value_of_reply(&value_reply(*item)));
+            let by = match item {
+                Some(item) => Some(item.by),
+                None => None,
+            };
+            boxes.add(BoxKind::Gives, text, ["contains", ""], by);
             boxes.returned(reply);
         }
         Content::Map(_) => {

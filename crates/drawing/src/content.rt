@@ -1,13 +1,12 @@
 //! What an object contains, and which operation put it there.
 
-use crate::labels::{push_count, push_value, put_by};
-use crate::memory::Memory;
-use seq_objects::{AnyOp, AnyReply, Kind, Value};
+use figures::{Memory, push_count, push_value, put_by};
+use seq_objects::{AnyOp, AnyReply, Kind, value_of_reply};
 use std::collections::{BTreeMap, VecDeque};
 use std::fmt::Write;
 
 /// A value, and the number of the operation that put it there.
-#[derive(Clone, Copy, Debug, PartialEq, Eq)]
+#[derive(Clone, Copy)]
 pub struct Item {
     pub value: i64,
     pub by: u32,
@@ -32,8 +31,11 @@ pub enum Content {
 }
 
 /// The reply that a value is.
-fn value_reply(item: Option<Item>) -> AnyReply {
-    AnyReply::Value(item.map(|item| item.value))
+pub(crate) fn value_reply(item: Option<Item>) -> AnyReply {
+    match item {
+        Some(item) => AnyReply::Value(Some(item.value)),
+        None => AnyReply::Value(None),
+    }
 }
 
 impl Content {
@@ -158,7 +160,13 @@ impl Content {
             Content::Queue(items) => values_of(memory, items, 0, items.len()),
             Content::Stack(items) => values_of(memory, items, 0, items.len()),
             Content::Heap(items) => keys_of(memory, items, 0, items.len()),
-            Content::Register(item) => list_of(memory, item.map(|item| item.value)),
+            Content::Register(item) => {
+                let mut values = Vec::new(memory.alloc);
+                if let Some(item) = item {
+                    memory.note(values.push(item.value));
+                }
+                values
+            }
             Content::Map(items) => {
                 let mut values = Vec::new(memory.alloc);
                 for (key, item) in items.iter() {
@@ -166,7 +174,13 @@ impl Content {
                 }
                 values
             }
-            Content::Mutex { holder, .. } => list_of(memory, holder.map(|_| 1)),
+            Content::Mutex { holder, .. } => {
+                let mut values = Vec::new(memory.alloc);
+                if holder.is_some() {
+                    memory.note(values.push(1));
+                }
+                values
+            }
         }
     }
 
@@ -178,8 +192,7 @@ impl Content {
             Content::Stack(items) => push_list(memory, &mut text, &shown_items(memory, items, 2)),
             Content::Heap(items) => push_list(memory, &mut text, &shown_keys(memory, items, 8)),
             Content::Register(item) => {
-                let value = item.map_or(Value::Nil, |item| Value::Int(item.value));
-                push_value(memory, &mut text, value);
+                push_value(memory, &mut text, value_of_reply(&value_reply(*item)));
             }
             Content::Map(items) => push_map(memory, &mut text, items),
             Content::Mutex { holder, .. } => {
@@ -188,14 +201,6 @@ impl Content {
         }
         text
     }
-}
-
-fn list_of(memory: &Memory, value: Option<i64>) -> Vec<i64> {
-    let mut values = Vec::new(memory.alloc);
-    if let Some(value) = value {
-        memory.note(values.push(value));
-    }
-    values
 }
 
 /// What a register contains after the operation.
@@ -230,8 +235,11 @@ fn how_many(length: usize, first: usize) -> (usize, usize) {
 
 /// The values of the items at places from one on, as many as told.
 fn values_of(memory: &Memory, items: &VecDeque<Item>, from: usize, count: usize) -> Vec<i64> {
-    let some = items.iter().skip(from).take(count);
-    memory.list(some.map(|item| item.value).collect(memory.alloc))
+    let mut values = Vec::new(memory.alloc);
+    for item in items.iter().skip(from).take(count) {
+        memory.note(values.push(item.value));
+    }
+    values
 }
 
 fn keys_of(
@@ -240,8 +248,11 @@ fn keys_of(
     from: usize,
     count: usize,
 ) -> Vec<i64> {
-    let some = items.keys().skip(from).take(count);
-    memory.list(some.map(|key| key.0).collect(memory.alloc))
+    let mut values = Vec::new(memory.alloc);
+    for (value, _) in items.keys().skip(from).take(count) {
+        memory.note(values.push(*value));
+    }
+    values
 }
 
 fn shown_items(memory: &Memory, items: &VecDeque<Item>, first: usize) -> Shown {

@@ -1,18 +1,18 @@
 //! The drawing of a text that is no history: the maps before the faulty one, which are a history, and
 //! the faulty one as a cross.
 
-use crate::figure::{Figure, Mark};
-use crate::lines::figure_of;
-use crate::memory::Memory;
-use crate::moments::{Moment, Nemesis, moments_of};
-use crate::numbers::WHOLE_BEFORE_FAULT;
-use crate::objects::{Stretch, focus_events};
-use crate::operations::{Operation, completions_of, operations_of};
-use crate::scene::{FaultyMap, Scene, numbers_of};
-use crate::window::{choose, narrow};
+use crate::objects::focus_events;
 use events::{History, ObjectHistory};
+use figures::{
+    FaultyMap, Memory, Moment, Nemesis, Scene, Stretch, choose, figure_of, moments_of, narrow,
+    numbers_of,
+};
 use std::alloc::{AllocError, Global};
 use std::collections::BTreeMap;
+use timeline::{Figure, Mark, Operation, completions_of, operations_of};
+
+/// A history before a fault with at most as many events is drawn whole.
+const WHOLE: usize = 40;
 
 /// A faulty map, the history before it, and the number of an earlier map that it clashes with, if
 /// there is one.
@@ -52,10 +52,12 @@ fn operations_in(memory: &Memory, faulty: &Faulty<'_>) -> Vec<Operation> {
 /// The operation whose invocation or completion has this number.
 fn operation_with(operations: &[Operation], number: Option<u32>) -> Option<Operation> {
     let number = number?;
-    operations
-        .iter()
-        .find(|it| it.invocation.number == number || it.ended == Some(number))
-        .copied()
+    for operation in operations {
+        if operation.number() == number || operation.ended == Some(number) {
+            return Some(*operation);
+        }
+    }
+    None
 }
 
 /// The events before the faulty map, and the faulty map.
@@ -73,7 +75,7 @@ fn moments_up_to(
         from: None,
         to: None,
     };
-    choose(memory, &mut moments, &focus, all, WHOLE_BEFORE_FAULT);
+    choose(memory, &mut moments, &focus, all, WHOLE);
     moments
 }
 

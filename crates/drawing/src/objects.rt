@@ -2,33 +2,26 @@
 
 ghost use Rattle.std.specs.Prelude.{◌≡◌, IfOk};
 
-use crate::boxes::{ContentBox, boxes_of};
-use crate::figure::{Figure, Mark};
-use crate::lines::figure_of;
-use crate::memory::Memory;
-use crate::moments::{Moment, Nemesis, moments_of};
-use crate::numbers::WHOLE;
-use crate::operations::{Operation, State, operation_at, operations_of};
-use crate::orders::{Placed, Row, rows_of, walk_along};
-use crate::scene::{Scene, numbers_of};
+use crate::boxes::boxes_of;
+use crate::orders::{rows_of, walk_along};
 use crate::sentences::{Alone, Explanation, Refused};
 use crate::shapes::Shape;
-use crate::spans::Span;
-use crate::tried::{Tried, try_orders};
-use crate::window::{choose, narrow};
+use crate::tried::try_orders;
 use checker::OrderFault;
 use events::{End, History, Invocation, ObjectHistory};
+use figures::{
+    Memory, Moment, Nemesis, Placed, Scene, Stretch, choose, figure_of, moments_of, narrow,
+    numbers_of,
+};
 use seq_objects::Kind;
 use std::alloc::{AllocError, Global};
 use std::collections::{BTreeMap, BTreeSet};
+use timeline::{
+    Extent, Figure, Mark, ObjectDrawing, Operation, Span, State, operation_at, operations_of,
+};
 
-/// The events of a window, by the numbers of their maps: from one on, and below one. Without both
-/// the window is chosen.
-#[derive(Clone, Copy, Debug, PartialEq, Eq)]
-pub struct Stretch {
-    pub from: Option<u32>,
-    pub to: Option<u32>,
-}
+/// An object with at most as many events is drawn whole.
+const WHOLE: usize = 160;
 
 /// An object of a history with this many maps, and the stretch of it that is drawn.
 #[derive(Clone, Copy)]
@@ -41,45 +34,6 @@ pub struct Subject<'a> {
     /// Those of its maps whose process is a keyword, in rising number.
     pub nemeses: &'a [Nemesis],
     pub stretch: Stretch,
-}
-
-/// What a figure leaves out: operations of processes that have no lane, and those processes; and of
-/// all operations how many it shows.
-#[derive(Clone, Copy, Debug, PartialEq, Eq)]
-pub struct Extent {
-    pub operations: usize,
-    /// Those that did not fail.
-    pub live: usize,
-    pub drawn: usize,
-    pub without_lane: usize,
-    pub processes: usize,
-}
-
-/// The drawing of an object.
-#[derive(Drop)]
-pub struct ObjectDrawing {
-    pub object: u32,
-    pub kind: Kind,
-    pub sentences: Vec<Vec<Span>>,
-    /// Why an entry is refused, in a few words.
-    pub because: Vec<Span>,
-    /// What the object contains before the entry that is refused.
-    pub content: Option<String>,
-    /// The same as boxes.
-    pub boxes: Vec<ContentBox>,
-    /// The operations that the sentence speaks of, alone.
-    pub zoom: Option<Figure>,
-    pub figure: Figure,
-    pub extent: Extent,
-    /// The table of the order, if there is one.
-    pub rows: Vec<Row>,
-    /// The orders of a reason's operations that were tried.
-    pub tried: Option<Tried>,
-    /// The number at which a reason begins, where that is not the beginning.
-    pub from: Option<u32>,
-    /// The operations of a reason that returned, and of which it counts no return: they may have
-    /// taken effect outside of it.
-    pub outside: Vec<Operation>,
 }
 
 /// The numbers of the events of these operations.
@@ -126,6 +80,17 @@ struct Window {
     extent: Extent,
 }
 
+/// How many operations did not fail.
+fn live_in(operations: &[Operation]) -> usize {
+    let mut live: usize = 0;
+    for operation in operations {
+        if operation.state() != State::Failed {
+            live = live.saturating_add(1);
+        }
+    }
+    live
+}
+
 fn window_of(
     memory: &Memory,
     operations: &[Operation],
@@ -146,10 +111,7 @@ fn window_of(
     Window {
         extent: Extent {
             operations: operations.len(),
-            live: operations
-                .iter()
-                .filter(|operation| operation.state() != State::Failed)
-                .count(),
+            live: live_in(operations),
             drawn: drawn.len(),
             without_lane,
             processes,
@@ -169,9 +131,12 @@ fn focus_moments(
 ) -> Vec<Moment> {
     let mut zoomed = Vec::new(memory.alloc);
     for moment in moments {
-        let operation = moment.of(operations);
+        let is_drawn = match moment.of(operations) {
+            Some(operation) => focus.contains_key(&operation.number()),
+            None => false,
+        };
         memory.note(zoomed.push(Moment {
-            is_drawn: operation.is_some_and(|it| focus.contains_key(&it.number())),
+            is_drawn,
             ..*moment
         }));
     }
@@ -283,6 +248,10 @@ fn draw(
         (Some(content), Some(operation)) => boxes_of(memory, content, &operation),
         _ => Vec::new(memory.alloc),
     };
+    let mut drawing = ObjectDrawing::new(memory.alloc, subject.object, figure, window.extent);
+    drawing.zoom = zoom;
+    drawing.boxes = boxes;
+    drawing.rows = rows;
     let Explanation {
         memory: _,
         refused: _,
@@ -293,25 +262,14 @@ fn draw(
         alone: _,
         content,
     } = explanation;
-    let mut sentences = Vec::new(memory.alloc);
     if !sentence.is_empty() {
-        memory.note(sentences.push(sentence));
+        memory.note(drawing.sentences.push(sentence));
     }
-    ObjectDrawing {
-        object: subject.object.object(),
-        kind,
-        sentences,
-        because,
-        content: content.map(|content| content.text(memory)),
-        boxes,
-        zoom,
-        figure,
-        extent: window.extent,
-        rows,
-        tried: None,
-        from: None,
-        outside: Vec::new(memory.alloc),
+    drawing.because = because;
+    if let Some(content) = content {
+        drawing.content = Some(content.text(memory));
     }
+    drawing
 }
 
 /// The operations of the object, in memory that is noted.
@@ -382,6 +340,16 @@ pub fn draw_refused(
     memory.whole(drawing)
 }
 
+/// The invocation with this number.
+fn invocation_in(part: &[Invocation], number: u32) -> Option<Invocation> {
+    for invocation in part {
+        if invocation.number == number {
+            return Some(*invocation);
+        }
+    }
+    None
+}
+
 /// The operations of a part, as the history has them, and the one from which on it is a part.
 fn recorded(
     memory: &Memory,
@@ -391,8 +359,8 @@ fn recorded(
 ) -> Vec<Operation> {
     let mut recorded = Vec::new(memory.alloc);
     if let Some(from) = from {
-        let is_there = part.iter().any(|invocation| invocation.number == from);
-        if let (Some(first), false) = (operation_at(operations, i64::from(from)), is_there) {
+        let first = operation_at(operations, i64::from(from));
+        if let (Some(first), None) = (first, invocation_in(part, from)) {
             memory.note(recorded.push(first));
         }
     }
@@ -408,14 +376,24 @@ fn recorded(
 fn outside_of(memory: &Memory, operations: &[Operation], part: &[Invocation]) -> Vec<Operation> {
     let mut outside = Vec::new(memory.alloc);
     for operation in operations {
-        let is_pending = part.iter().any(|invocation| {
-            invocation.number == operation.number() && invocation.end == End::Pending
-        });
-        if is_pending && operation.state() == State::Done {
+        let Some(invocation) = invocation_in(part, operation.number()) else {
+            continue;
+        };
+        if invocation.end == End::Pending && operation.state() == State::Done {
             memory.note(outside.push(*operation));
         }
     }
     outside
+}
+
+/// The first of these operations that was invoked after this number.
+fn first_after(operations: &[Operation], number: u32) -> Option<Operation> {
+    for operation in operations {
+        if operation.number() > number {
+            return Some(*operation);
+        }
+    }
+    None
 }
 
 /// From each of these operations that returned to the next one that was invoked later.
@@ -425,8 +403,8 @@ fn arrows_in(memory: &Memory, operations: &[Operation]) -> Vec<(Operation, Opera
         let Some(at) = earlier.returned() else {
             continue;
         };
-        if let Some(later) = operations.iter().find(|other| other.number() > at) {
-            memory.note(arrows.push((*earlier, *later)));
+        if let Some(later) = first_after(operations, at) {
+            memory.note(arrows.push((*earlier, later)));
         }
     }
     arrows

@@ -1,57 +1,21 @@
 //! The walk along an order: what the object contains after each entry, up to the fault.
 
 use crate::content::Content;
-use crate::memory::Memory;
-use crate::numbers::ROWS;
-use crate::operations::{Operation, operation_at};
+use figures::{Memory, Placed};
 use seq_objects::Kind;
 use std::collections::BTreeSet;
+use timeline::{Entry, Operation, Row, operation_at};
 
 /// How many entries before a fault, and after it, have a row in each case.
 const BEFORE: usize = 12;
 
 const AFTER: usize = 3;
 
+/// The most rows of the table.
+const ROWS: usize = 400;
+
 /// An order with no more entries has a row for each.
 const SHORT: usize = 60;
-
-/// An entry that is drawn: its place in the order from 1, the greatest invocation among the entries
-/// up to it, and what the object contains after it, or before it where it is refused.
-#[derive(Debug, Drop)]
-pub(crate) struct Placed {
-    pub(crate) rank: u32,
-    pub(crate) operation: Operation,
-    pub(crate) anchor: u32,
-    pub(crate) is_refused: bool,
-    pub(crate) content: String,
-}
-
-/// How an entry is to the fault of the order.
-#[derive(Clone, Copy, Debug, PartialEq, Eq)]
-pub enum Entry {
-    /// It is valid where it is.
-    Valid,
-    /// It is refused.
-    Refused,
-    /// It comes after the refused one.
-    NotLookedAt,
-}
-
-/// A row of the table of an order.
-#[derive(Debug, Drop)]
-pub enum Row {
-    /// An entry with its place in the order, from 1. The content is what the object contains after
-    /// it.
-    Entry {
-        rank: usize,
-        number: i64,
-        operation: Option<Operation>,
-        content: Option<String>,
-        entry: Entry,
-    },
-    /// The number of entries that are not shown here.
-    Skipped(usize),
-}
 
 /// What the walk has come to.
 #[derive(Drop)]
@@ -112,7 +76,10 @@ fn rank_of(place: usize) -> u32 {
 }
 
 fn is_drawn(drawn: &BTreeSet<u32>, operation: Option<Operation>) -> bool {
-    operation.is_some_and(|operation| drawn.contains(&operation.number()))
+    match operation {
+        Some(operation) => drawn.contains(&operation.number()),
+        None => false,
+    }
 }
 
 /// Walks along the order up to its fault.
@@ -130,12 +97,14 @@ pub(crate) fn walk_along(
         rows: Vec::new(memory.alloc),
         anchor: 0,
     };
-    let length = refused.map_or(order.len(), |place| place.saturating_add(1));
+    let (length, first_near) = match refused {
+        Some(place) => (place.saturating_add(1), place.saturating_sub(BEFORE)),
+        None => (order.len(), usize::MAX),
+    };
     for (place, number) in order.iter().take(length).enumerate() {
         let operation = operation_at(operations, *number);
         let is_refused = refused == Some(place);
         let is_drawn = is_drawn(drawn, operation);
-        let is_near = refused.is_some_and(|refused| place.saturating_add(BEFORE) >= refused);
         let content = match operation {
             Some(operation) if !is_refused => walk.take(memory, place, operation, is_drawn),
             _ => {
@@ -143,7 +112,7 @@ pub(crate) fn walk_along(
                 None
             }
         };
-        if is_drawn || is_near || length <= SHORT {
+        if is_drawn || place >= first_near || length <= SHORT {
             memory.note(
                 walk.rows.push(Row::Entry {
                     rank: place.saturating_add(1),

@@ -2,16 +2,14 @@
 //! code that chooses it has looked the fact up.
 
 use crate::content::Content;
-use crate::figure::Mark;
-use crate::memory::Memory;
-use crate::operations::{Operation, operation_at};
 use crate::orders::walk_along;
 use crate::sources::{key_of, puts, wanted};
-use crate::spans::Span;
 use checker::OrderFault;
 use events::{Action, Event};
+use figures::Memory;
 use seq_objects::{AnyOp, AnyReply, Kind};
 use std::collections::{BTreeMap, BTreeSet};
+use timeline::{Mark, Operation, Span, event_place, operation_at};
 
 /// Whether the operations that a sentence names are shown alone too.
 #[derive(Clone, Copy)]
@@ -111,24 +109,36 @@ impl<'a> Explanation<'a> {
 
 /// The place of a number in an order.
 fn place_in(order: &[i64], number: i64) -> Option<usize> {
-    order.iter().position(|other| *other == number)
+    for (place, other) in order.iter().enumerate() {
+        if *other == number {
+            return Some(place);
+        }
+    }
+    None
 }
 
 fn place_of(order: &[i64], operation: &Operation) -> Option<usize> {
     place_in(order, i64::from(operation.number()))
 }
 
-/// The last invocation of the process before this number.
-fn invocation_before(events: &[Event], process: u64, number: u32) -> Option<u32> {
-    let next = events.partition_point(|event| event.number < number);
-    let mut before = events.get(..next).unwrap_or(events).iter().rev();
-    let own = before.find(|event| event.process == process)?;
-    Some(own.number)
+/// The last event of the process before this number.
+fn event_before(events: &[Event], process: u64, number: u32) -> Option<u32> {
+    let before = events.get(..event_place(events, number)).unwrap_or(events);
+    for event in before.iter().rev() {
+        if event.process == process {
+            return Some(event.number);
+        }
+    }
+    None
 }
 
 impl<'a> Refused<'a> {
     fn operation(&self, number: u32) -> Option<Operation> {
         operation_at(self.operations, i64::from(number))
+    }
+
+    fn operation_if(&self, number: Option<u32>) -> Option<Operation> {
+        self.operation(number?)
     }
 
     /// Why a number is that of no operation of the object that may be in an order.
@@ -142,7 +152,7 @@ impl<'a> Refused<'a> {
         if place >= self.maps {
             return text.say(&[Span::Text(there_are), count]);
         }
-        let next = self.events.partition_point(|event| event.number < place);
+        let next = event_place(self.events, place);
         let map = Span::number(place);
         match self.events.get(next) {
             Some(event) if event.number == place => self.why_event(text, event),
@@ -153,7 +163,7 @@ impl<'a> Refused<'a> {
     /// The same where the number is that of a client event.
     fn why_event(&self, text: &mut Explanation<'_>, event: &Event) {
         if !matches!(event.action, Action::Invoke(_)) {
-            let invoked = invocation_before(self.events, event.process, event.number);
+            let invoked = event_before(self.events, event.process, event.number);
             return text.say(&[
                 Span::Text("map "),
                 Span::number(event.number),
@@ -165,14 +175,18 @@ impl<'a> Refused<'a> {
             let object = Span::number(event.object);
             return text.say(&[Span::Text("it is an operation on object "), object]);
         }
-        let operation = self.operation(event.number);
-        match operation.and_then(|operation| operation.ended) {
-            Some(ended) => text.say(&[
+        match self.operation(event.number) {
+            Some(
+                Operation {
+                    ended: Some(ended),
+                    ..
+                },
+            ) => text.say(&[
                 Span::Text("it failed at map "),
                 Span::number(ended),
                 Span::Text(", so it did not happen"),
             ]),
-            None => text.say(&[Span::Text("it did not happen")]),
+            _ => text.say(&[Span::Text("it did not happen")]),
         }
     }
 
@@ -285,13 +299,11 @@ impl<'a> Refused<'a> {
 
     fn not_possible(&self, operation: Operation) -> Explanation<'a> {
         let (mut text, content) = self.as_entry(operation);
-        let holder = content.holder().and_then(|number| self.operation(number));
-        let releaser = content.releaser().and_then(|number| self.operation(number));
         text.say(&[Span::Text(" is not possible: the mutex is ")]);
-        if let Some(holder) = holder {
+        if let Some(holder) = self.operation_if(content.holder()) {
             text.say(&[Span::Text("held there, by ")]);
             text.operation(holder, Mark::Giver);
-        } else if let Some(releaser) = releaser {
+        } else if let Some(releaser) = self.operation_if(content.releaser()) {
             text.say(&[Span::Text("free there, since ")]);
             text.operation(releaser, Mark::Giver);
         } else {
@@ -350,16 +362,30 @@ impl<'a> Refused<'a> {
         text.say(&[Span::Text(".")])
     }
 
+    /// The last other operation that was invoked before this number and puts the value in.
+    fn last_putter(
+        &self,
+        operation: &Operation,
+        key: Option<i64>,
+        value: i64,
+        before: u32,
+    ) -> Option<Operation> {
+        for other in self.operations.iter().rev() {
+            let is_other = other.number() < before && other.number() != operation.number();
+            if is_other && puts(other, key, value) {
+                return Some(*other);
+            }
+        }
+        None
+    }
+
     /// Who put what the operation returned, and where in the order that is.
     fn say_source(&self, text: &mut Explanation<'_>, operation: &Operation, returned: AnyReply) {
         let (Some(value), Some(end)) = (wanted(returned), operation.returned()) else {
             return;
         };
         let key = key_of(operation.op());
-        let mut latest_first = self.operations.iter().rev();
-        let source = latest_first.find(|other| other.number() < end
-            && other.number() != operation.number()
-            && puts(other, key, value));
+        let source = self.last_putter(operation, key, value, end);
         let Some(source) = source else {
             let before = if puts(operation, key, value) {
                 " No other operation that was invoked before map "
@@ -380,9 +406,9 @@ impl<'a> Refused<'a> {
             Span::Text(" was put by "),
         ];
         text.say(&words);
-        text.operation(*source, Mark::Source);
+        text.operation(source, Mark::Source);
         let refused = text.refused.unwrap_or(0);
-        let Some(place) = place_of(self.order, source) else {
+        let Some(place) = place_of(self.order, &source) else {
             return text.say(&[Span::Text(", which the order leaves out.")]);
         };
         let (rank, stop) = (Span::rank(place), Span::Text("."));
@@ -391,7 +417,7 @@ impl<'a> Refused<'a> {
             return text.say(&[behind, rank, stop]);
         }
         text.say(&[Span::Text(", entry "), rank]);
-        self.say_turn(text, source, refused)
+        self.say_turn(text, &source, refused)
     }
 
     /// Why a value that this operation put in before is not what is found.
@@ -415,9 +441,10 @@ impl<'a> Refused<'a> {
                 continue;
             };
             let op = operation.op();
-            let found = content.found(&op);
-            if found.is_some_and(|item| item.by == source.number()) {
-                return Some((place, operation));
+            if let Some(item) = content.found(&op) {
+                if item.by == source.number() {
+                    return Some((place, operation));
+                }
             }
             content.apply(self.memory, operation.number(), &op);
         }

@@ -1,12 +1,10 @@
 //! Why an object has no valid order, in a sentence. A sentence of a shape is said only where all it
 //! says was checked on all operations of the object; else the general one is said.
 
-use crate::memory::Memory;
-use crate::operations::{Operation, Role, State};
 use crate::sources::{key_of, puts, takes, value_put};
-use crate::spans::Span;
-use crate::tried::Tried;
+use figures::Memory;
 use seq_objects::{AnyOp, AnyReply, Kind};
+use timeline::{Operation, Role, Span, State, Tried};
 
 /// The operations of an object, those of a part of which no order is valid, and where the part
 /// begins, if not at the beginning.
@@ -92,13 +90,14 @@ fn may_take(operation: &Operation, value: i64, before: u32) -> bool {
 
 /// Whether the operation ran at some moment between the two numbers.
 fn ran_between(operation: &Operation, from: u32, to: u32) -> bool {
-    operation.state() != State::Failed
-        && operation.number() < to
-        && operation.closed().is_none_or(|closed| closed > from)
+    let closed = operation.closed().unwrap_or(u32::MAX);
+    operation.state() != State::Failed && operation.number() < to && closed > from
 }
 
-fn returns_by(operation: &Operation, until: u32) -> bool {
-    operation.returned().is_some_and(|at| at <= until)
+/// When the operation returned, where that was before the other one was invoked.
+fn returned_before(operation: &Operation, other: &Operation) -> Option<u32> {
+    let at = operation.returned()?;
+    if at < other.number() { Some(at) } else { None }
 }
 
 fn puts_before(operation: &Operation, value: i64, until: u32) -> bool {
@@ -108,6 +107,16 @@ fn puts_before(operation: &Operation, value: i64, until: u32) -> bool {
 /// Whether the operation puts this value where another one was.
 fn sets_anew(operation: &Operation, key: Option<i64>, value: i64) -> bool {
     puts(operation, key, value) && operation.op() != AnyOp::Cas(value, value)
+}
+
+/// The first of these operations that took the value out.
+fn taker_in(operations: &[Operation], value: i64) -> Option<Operation> {
+    for operation in operations {
+        if takes(operation, value) {
+            return Some(*operation);
+        }
+    }
+    None
 }
 
 /// The two operations of a part that put something in, if there are just two.
@@ -132,9 +141,10 @@ fn last_taking(operations: &[Operation]) -> Option<(i64, u32)> {
     let mut last: Option<(i64, u32)> = None;
     for operation in operations {
         if let (Some(value), Some(at)) = (value_taken(operation), operation.returned()) {
-            if last.is_none_or(|last| last.1 < at) {
-                last = Some((value, at));
-            }
+            last = match last {
+                Some((_, latest)) if latest >= at => last,
+                _ => Some((value, at)),
+            };
         }
     }
     last
@@ -153,11 +163,7 @@ impl Shape<'_, '_, '_> {
         let (Some(value), Some(at)) = (value_taken(taker), taker.returned()) else {
             return None;
         };
-        let is_put = self
-            .operations
-            .iter()
-            .any(|other| puts_before(other, value, at));
-        if !is_container(self.kind) || is_put {
+        if !is_container(self.kind) || !self.putters(value, at).is_empty() {
             return None;
         }
         said(
@@ -177,17 +183,56 @@ impl Shape<'_, '_, '_> {
         )
     }
 
-    /// The operations that these are true of.
-    fn chosen<F: Fn(&Operation) -> bool>(&self, test: F) -> Vec<Operation>
-        requires { F.IsAlwaysCallable test }
-    {
-        let mut chosen = Vec::new(self.memory.alloc);
+    /// The operations that put the value in, and were invoked before this number.
+    fn putters(&self, value: i64, before: u32) -> Vec<Operation> {
+        let mut putters = Vec::new(self.memory.alloc);
         for operation in self.operations {
-            if test(operation) {
-                self.memory.note(chosen.push(*operation));
+            if puts_before(operation, value, before) {
+                self.memory.note(putters.push(*operation));
             }
         }
-        chosen
+        putters
+    }
+
+    /// The operations that took the value out, and returned by this number.
+    fn takers(&self, value: i64, until: u32) -> Vec<Operation> {
+        let mut takers = Vec::new(self.memory.alloc);
+        for operation in self.operations {
+            let at = operation.returned().unwrap_or(u32::MAX);
+            if at <= until && takes(operation, value) {
+                self.memory.note(takers.push(*operation));
+            }
+        }
+        takers
+    }
+
+    /// Whether an operation that was invoked before this number took the value out, or may have.
+    fn may_be_taken(&self, value: i64, before: u32) -> bool {
+        for operation in self.operations {
+            if may_take(operation, value, before) {
+                return true;
+            }
+        }
+        false
+    }
+
+    /// Whether an operation that ran between these numbers set the value anew.
+    fn is_set_between(&self, key: Option<i64>, value: i64, from: u32, to: u32) -> bool {
+        for operation in self.operations {
+            if sets_anew(operation, key, value) && ran_between(operation, from, to) {
+                return true;
+            }
+        }
+        false
+    }
+
+    fn is_acquired_between(&self, from: u32, to: u32) -> bool {
+        for operation in self.operations {
+            if operation.op() == AnyOp::Acquire && ran_between(operation, from, to) {
+                return true;
+            }
+        }
+        false
     }
 
     /// A value is taken out more often than it was put in.
@@ -195,8 +240,7 @@ impl Shape<'_, '_, '_> {
         let Some((value, until)) = last_taking(self.part) else {
             return None;
         };
-        let takers = self.chosen(|other| returns_by(other, until) && takes(other, value));
-        let putters = self.chosen(|other| puts_before(other, value, until));
+        let (takers, putters) = (self.takers(value, until), self.putters(value, until));
         if !is_container(self.kind) || putters.is_empty() || takers.len() <= putters.len() {
             return None;
         }
@@ -238,16 +282,12 @@ impl Shape<'_, '_, '_> {
         let (Some(value), Some(end)) = (value_put(putter), taker.returned()) else {
             return None;
         };
-        let Some(at) = putter.returned().filter(|at| *at < taker.number()) else {
+        let Some(at) = returned_before(putter, taker) else {
             return None;
         };
         let found_nothing = taker.role() == Role::Take
             && taker.reply() == Some(AnyReply::Value(None));
-        let is_taken = self
-            .operations
-            .iter()
-            .any(|other| may_take(other, value, end));
-        if !is_container(self.kind) || !found_nothing || is_taken {
+        if !is_container(self.kind) || !found_nothing || self.may_be_taken(value, end) {
             return None;
         }
         said(
@@ -281,16 +321,15 @@ impl Shape<'_, '_, '_> {
         let (Some(v), Some(w)) = (value_put(&first), value_put(&second)) else {
             return None;
         };
-        let Some(at) = first.returned().filter(|at| *at < second.number()) else {
+        let Some(at) = returned_before(&first, &second) else {
             return None;
         };
-        let Some(taker) = self.part.iter().find(|other| takes(other, w)) else {
+        let Some(taker) = taker_in(self.part, w) else {
             return None;
         };
         let end = taker.returned().unwrap_or(0);
-        let is_taken = self.operations.iter().any(|other| may_take(other, v, end));
-        let again = self.chosen(|other| puts_before(other, w, end)).len();
-        if self.kind != Kind::Queue || v == w || is_taken || again != 1 {
+        let is_alone = self.putters(w, end).len() == 1;
+        if self.kind != Kind::Queue || v == w || !is_alone || self.may_be_taken(v, end) {
             return None;
         }
         said(
@@ -306,7 +345,7 @@ impl Shape<'_, '_, '_> {
                 Span::Text(" went in before "),
                 Span::integer(w),
                 Span::Text(". But "),
-                Span::Operation(*taker),
+                Span::Operation(taker),
                 Span::Text(" took "),
                 Span::integer(w),
                 Span::Text(" out, and nothing invoked before map "),
@@ -333,8 +372,7 @@ impl Shape<'_, '_, '_> {
             return None;
         };
         let (from, to) = (writer.number(), end);
-        let is_set = self.operations.iter().any(|other| sets_anew(other, key, value)
-            && ran_between(other, from, to));
+        let is_set = self.is_set_between(key, value, from, to);
         let is_later = at < reader.number() && key_of(writer.op()) == key;
         if !is_read || !is_later || set == value || is_set {
             return None;
@@ -374,9 +412,7 @@ impl Shape<'_, '_, '_> {
         };
         let both = first.op() == AnyOp::Release && second.op() == AnyOp::Release;
         let (from, to) = (first.number().min(second.number()), one.max(other));
-        let is_acquired = self.operations.iter().any(|other| other.op() == AnyOp::Acquire
-            && ran_between(other, from, to));
-        if !both || is_acquired {
+        if !both || self.is_acquired_between(from, to) {
             return None;
         }
         said(
@@ -405,8 +441,9 @@ impl Shape<'_, '_, '_> {
         };
         let mut others = Vec::new(memory.alloc);
         for operation in self.part {
-            if last != Some(*operation) {
-                memory.note(others.push(*operation));
+            match last {
+                Some(last) if last.number() == operation.number() => {}
+                _ => memory.note(others.push(*operation)),
             }
         }
         let order = match (self.from, others.is_empty()) {
@@ -433,22 +470,24 @@ impl Shape<'_, '_, '_> {
 
     /// What is said of the operation at which each order ends.
     fn end(&self, last: Option<Operation>) -> [Span; 4] {
-        match (last, last.and_then(|last| last.reply())) {
-            (Some(last), Some(reply)) if self.kind != Kind::Mutex => [
+        let Some(last) = last else {
+            return [
+                Span::Text("one of them does not fit: "),
+                Span::Text("the table says where each order breaks."),
+                Span::Text(""),
+                Span::Text(""),
+            ];
+        };
+        match last.reply() {
+            Some(reply) if self.kind != Kind::Mutex => [
                 Span::Operation(last),
                 Span::Text(" could not return "),
                 Span::reply(reply),
                 Span::Text("."),
             ],
-            (Some(last), _) => [
+            _ => [
                 Span::Operation(last),
                 Span::Text(" is not possible."),
-                Span::Text(""),
-                Span::Text(""),
-            ],
-            (None, _) => [
-                Span::Text("one of them does not fit: "),
-                Span::Text("the table says where each order breaks."),
                 Span::Text(""),
                 Span::Text(""),
             ],

@@ -1,7 +1,7 @@
 //! Which operations put a value in, and take it out.
 
-use crate::operations::{Operation, Role, State};
 use seq_objects::{AnyOp, AnyReply};
+use timeline::{Operation, Role, State};
 
 /// The value that a reply tells was there.
 pub(crate) fn wanted(reply: AnyReply) -> Option<i64> {

@@ -1,47 +1,18 @@
 //! The orders of a part's operations that were tried, each up to the operation that does not fit.
 
 use crate::content::Content;
-use crate::memory::Memory;
-use crate::numbers::TRIED_ROWS;
-use crate::operations::{Operation, operation_at};
 use events::{End, Invocation};
+use figures::Memory;
 use seq_objects::{AnyReply, Kind};
+use timeline::{Attempt, Failure, Operation, Tried, operation_at};
 
 /// A part with more operations is not tried, and no more steps are taken.
 const MOST_OPERATIONS: usize = 64;
 
 const STEPS: usize = 2_000;
 
-/// Why an operation does not fit.
-#[derive(Clone, Copy, Debug, PartialEq, Eq)]
-pub enum Failure {
-    NotPossible,
-    /// It gives this, and returned that.
-    Gives(AnyReply, AnyReply),
-}
-
-/// An order up to an operation that does not fit: what comes before it, and what the object
-/// contains there.
-#[derive(Debug, Drop)]
-pub struct Attempt {
-    pub before: Vec<Operation>,
-    pub content: String,
-    pub next: Operation,
-    pub failure: Failure,
-}
-
-/// The ways to begin, and how many more there are.
-#[derive(Debug, Drop)]
-pub struct Tried {
-    pub attempts: Vec<Attempt>,
-    pub more: usize,
-    /// Whether all ways were tried.
-    pub is_complete: bool,
-    /// The operation at which each way ends, where that is the same one.
-    pub last: Option<Operation>,
-    /// The value that stands for all that the part does not keep, if one does.
-    pub other: Option<i64>,
-}
+/// The most rows of the table.
+const ROWS: usize = 24;
 
 /// A way to begin: the places of operations of the part in their order, these as a set, and the next
 /// one.
@@ -111,10 +82,25 @@ impl Trying<'_, '_> {
 
     /// Whether an operation that is not placed returned before this one began.
     fn is_preceded(&self, placed: u64, next: &Invocation) -> bool {
-        self.part.iter().enumerate().any(|(place, other)| match other.end {
-            End::Returned { at, .. } => at < next.number && placed & bit(place) == 0,
-            End::Pending | End::Failed => false,
-        })
+        for (place, other) in self.part.iter().enumerate() {
+            match other.end {
+                End::Returned { at, .. } if at < next.number && placed & bit(place) == 0 => {
+                    return true;
+                }
+                _ => {}
+            }
+        }
+        false
+    }
+
+    /// Whether these operations were placed before, with these values in the object.
+    fn is_known(&self, placed: u64, values: &[i64]) -> bool {
+        for (other, known) in &self.reached {
+            if *other == placed && known.as_slice() == values {
+                return true;
+            }
+        }
+        false
     }
 
     /// Adds the ways that go on after these operations, the first of them last.
@@ -146,12 +132,12 @@ impl Trying<'_, '_> {
         failure: Failure,
     ) {
         let is_first = self.tried.attempts.is_empty();
-        if is_first || self.tried.last == Some(next) {
-            self.tried.last = Some(next);
-        } else {
-            self.tried.last = None;
-        }
-        if self.tried.attempts.len() >= TRIED_ROWS {
+        let is_same = match self.tried.last {
+            Some(last) => last.number() == next.number(),
+            None => is_first,
+        };
+        self.tried.last = if is_same { Some(next) } else { None };
+        if self.tried.attempts.len() >= ROWS {
             self.tried.more = self.tried.more.saturating_add(1);
             return;
         }
@@ -183,11 +169,7 @@ impl Trying<'_, '_> {
         let after = content.values(memory);
         let is_needless = !invocation.end.has_returned() && before == after;
         let placed = way.placed | bit(way.next);
-        let is_known = self
-            .reached
-            .iter()
-            .any(|(other, values)| *other == placed && *values == after);
-        if is_needless || is_known {
+        if is_needless || self.is_known(placed, &after) {
             return;
         }
         memory.note(self.reached.push((placed, after)));

@@ -1,0 +1,23 @@
+//! Where a figure of a history has its events, bars and points: the window of events that is drawn,
+//! their columns, the lines and the lanes.
+#![tactic(auto)]
+
+mod columns;
+mod labels;
+mod lines;
+mod memory;
+mod moments;
+mod numbers;
+mod placing;
+mod scene;
+mod segments;
+mod ticks;
+mod window;
+
+pub use labels::{characters, count_text, label, push_count, push_value, put_by, value_text};
+pub use lines::figure_of;
+pub use memory::Memory;
+pub use moments::{Moment, Nemesis, moments_of};
+pub use numbers::{CHARACTER, SMALL_CHARACTER, digits, point_room};
+pub use scene::{FaultyMap, Placed, Scene, numbers_of};
+pub use window::{Stretch, choose, narrow};
