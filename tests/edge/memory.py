@@ -147,16 +147,13 @@ def told_by(ran):
 
 
 def is_other_page(program, words, whole, ran):
-    """Whether a page says no for another reason, which holds, has other orders, which are valid, or lacks a picture."""
+    """Whether a page says no for another reason, which holds, or has other orders, which are valid."""
     if ran.status != whole.status or not ran.out.startswith(b"<!DOCTYPE html>"):
         return False
-    if "--steps" not in words and len(words) > 2 and ran.status != 2:
+    if "--steps" not in words and len(words) > 2:
         return False
     if ran.status == 1:
         return is_other_reason(program, words, whole, told_by(ran))
-    if ran.status == 2:
-        # Without memory to draw the history before a faulty map, the page says what is wrong without that picture (DECISIONS 113).
-        return told_by(ran).out == told_by(whole).out
     with open(f"{program.room}/{words[-1]}") as file:
         return ran.status == 0 and sentences.why_order_false(Drawn(ran.out), file.read()) is None
 

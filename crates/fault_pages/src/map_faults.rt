@@ -5,8 +5,9 @@ use crate::places::{Place, element_at, elements_in, value_in};
 use crate::text_faults::Explained;
 use certificate::{CertFault, CertFaultKind};
 use drawing::{Faulty, FaultyDrawing, FaultyMap, Memory, Nemesis, Operation, Span, draw_up_to};
+use edn::FaultKind;
 use events::{Action, Event, History, ObjectHistory, split};
-use history::{HistoryFault, HistoryFaultKind, read_history_text};
+use history::{HistoryFault, HistoryFaultKind, TextFault, read_history_text};
 use history_pages::places_in;
 use seq_objects::{Kind, kind_name};
 use std::alloc::{AllocError, Global};
@@ -240,11 +241,22 @@ fn kind_at(objects: &[ObjectHistory], number: u32) -> Kind {
     own.map_or(Kind::Queue, |object| object.kind())
 }
 
+/// Whether a text was not read since memory was refused.
+fn was_refused(fault: &TextFault) -> bool {
+    match fault {
+        TextFault::Text(fault) => matches!(fault.kind, FaultKind::NoMemory),
+        TextFault::Maps(fault) => matches!(fault.kind, HistoryFaultKind::NoMemory),
+    }
+}
+
 /// The history before the map, drawn; none where it can't be read again.
-fn before_of(memory: &Memory, text: &[u8], map: &Map<'_>) -> Option<Before> {
+fn before_of(alloc: Global, text: &[u8], map: &Map<'_>) -> Result<Option<Before>, AllocError> {
     let prefix = text.get(..map.place.from).unwrap_or(text);
-    let history = read_history_text(memory.alloc, prefix).ok()?;
-    draw_before(memory.alloc, prefix, &history, map).ok()
+    match read_history_text(alloc, prefix) {
+        Ok(history) => Ok(Some(draw_before(alloc, prefix, &history, map)?)),
+        Err(fault) if was_refused(&fault) => Err(AllocError),
+        Err(_) => Ok(None),
+    }
 }
 
 fn caption_at(kind: HistoryFaultKind, map: usize) -> [Span; 4] {
@@ -261,7 +273,7 @@ pub(crate) fn explain_maps(
     memory: &Memory,
     text: &[u8],
     fault: HistoryFault,
-) -> (Explained, Option<FaultyDrawing>) {
+) -> Result<(Explained, Option<FaultyDrawing>), AllocError> {
     let mut explained = Explained::new(memory);
     let nowhere = Place {
         from: text.len(),
@@ -269,7 +281,7 @@ pub(crate) fn explain_maps(
     };
     let place = element_at(text, fault.map).unwrap_or(nowhere);
     let map = map_of(memory, text, fault, place);
-    let before = before_of(memory, text, &map);
+    let before = before_of(memory.alloc, text, &map)?;
     let earlier = before.as_ref().and_then(|it| match (it.number, it.drawing.earlier) {
         (Some(number), Some(operation)) => Some((number, operation, it.kind)),
         _ => None,
@@ -295,7 +307,7 @@ pub(crate) fn explain_maps(
         ];
         explained.show(memory, excerpt(memory, text, other, &caption, "here"));
     }
-    (explained, before.map(|it| it.drawing))
+    Ok((explained, before.map(|it| it.drawing)))
 }
 
 /// The first of these forms that has this object, and its number.

@@ -19,7 +19,11 @@ pub struct FaultyText<'a> {
 }
 
 /// What is said of the text, and the history before a faulty map.
-fn explain(memory: &Memory, text: &[u8], fault: &Fault) -> (Explained, Option<FaultyDrawing>) {
+fn explain(
+    memory: &Memory,
+    text: &[u8],
+    fault: &Fault,
+) -> Result<(Explained, Option<FaultyDrawing>), AllocError> {
     let (history, certificates) = (
         Read {
             word: "history",
@@ -30,12 +34,13 @@ fn explain(memory: &Memory, text: &[u8], fault: &Fault) -> (Explained, Option<Fa
             text,
         },
     );
-    match fault {
-        Fault::HistoryText(fault) => (explain_text(memory, history, *fault), None),
-        Fault::HistoryMaps(fault) => explain_maps(memory, text, *fault),
-        Fault::CertificateText(fault) => (explain_text(memory, certificates, *fault), None),
-        Fault::CertificateForms(fault) => (explain_forms(memory, text, *fault), None),
-    }
+    let explained = match fault {
+        Fault::HistoryText(fault) => explain_text(memory, history, *fault),
+        Fault::HistoryMaps(fault) => return explain_maps(memory, text, *fault),
+        Fault::CertificateText(fault) => explain_text(memory, certificates, *fault),
+        Fault::CertificateForms(fault) => explain_forms(memory, text, *fault),
+    };
+    Ok((explained, None))
 }
 
 /// The letter of the fault, and its number.
@@ -133,7 +138,7 @@ pub fn fault_page(
     let (letter, number) = code_of(fault);
     let name = faulty.name;
     let title = format!(in alloc; "malformed {letter}{number}: {name}")?;
-    let (explained, before) = explain(&memory, faulty.text, fault);
+    let (explained, before) = explain(&memory, faulty.text, fault)?;
     memory.whole(())?;
     let (facts, lines) = (
         String::from_str(alloc, name)?,
