@@ -2,7 +2,7 @@
 use Rattle.std.proofs.Common.{◌≡◌, ◌≢◌, ◌∙◌, ℕ, false, List, inl, inr, refl, subst, sym}
 use Rattle.edn_reader.specs.Sound.{IsShort}
 use Rattle.events.specs.declared.event.Event.{Event}
-use Rattle.page.specs.Marks.{IsMade}
+use Rattle.markup.specs.Marks.{IsMade}
 use Rattle.report.specs.Lines.{verdict_text}
 use Rattle.verdicts.specs.declared.verdict.Verdict.{Verdict}
 use Rattle.verdicts.specs.declared.verdict.Verdict.TheVariants as verdict

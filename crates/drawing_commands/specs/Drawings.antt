@@ -1,6 +1,6 @@
 -- What is put out of a drawing, and its exit status.
 use Rattle.std.specs.Prelude.{◌≡◌, ◌⊎◌, ℕ, List}
-use Rattle.page.specs.Marks.{IsMade}
+use Rattle.markup.specs.Marks.{IsMade}
 use Rattle.judging.specs.Texts.{IsLinearizableText}
 use Rattle.history_commands.specs.Judged.{IsJudgement}
 use Rattle.history_commands.specs.Searches.{IsNotLinearizableText}

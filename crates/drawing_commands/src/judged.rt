@@ -2,7 +2,7 @@
 
 ghost use Rattle.std.specs.Prelude.{◌≡◌, false, IfOk};
 ghost use Rattle.edn_reader.specs.Sound.{IsShort};
-ghost use Rattle.page.specs.Marks.{IsMade};
+ghost use Rattle.markup.specs.Marks.{IsMade};
 ghost use Rattle.judging.specs.Texts.{DenotesHistory};
 ghost use Rattle.history_commands.specs.Judged.{IsJudgement};
 ghost use Rattle.outputs.specs.Outputs.{Leaves};
@@ -16,6 +16,7 @@ use history::History;
 use history_commands::{Judgement, judge_events};
 use history_pages::{Options, Places, Texts, judged_page, places_in};
 use judging::{history_in, verdict_on_failure};
+use markup::Html;
 use outputs::{Output, send, send_out_of_memory};
 use report::Verdict;
 use std::alloc::{AllocError, Global};
@@ -29,9 +30,7 @@ fn page_with<'a>(
     lines: &'a str,
     places: &'a Places,
     options: Options,
-) -> Result<Vec<u8>, AllocError>
-    ensures { IfOk result (λ v. ∥ IsMade v.items ∥₁) }
-{
+) -> Result<Html, AllocError> {
     let texts = Texts {
         history: name,
         certificates: None,
@@ -56,15 +55,8 @@ fn open_page(
     let lines = text_of(alloc, lines)?;
     let places = places_in(alloc, text)?;
     let name = String::from_str(alloc, file_name(request.history))?;
-    page_with(
-        alloc,
-        history,
-        answers,
-        &name,
-        &lines,
-        &places,
-        request.options,
-    )
+    let options = request.options;
+    page_with(alloc, history, answers, &name, &lines, &places, options)?.into_text()
 }
 
 /// The page of a history that is judged, and the status of the judgement.

@@ -1,7 +1,7 @@
 //! The page of each thing that a judgement can come to.
 
 ghost use Rattle.std.specs.Prelude.{◌≡◌, IfOk};
-ghost use Rattle.page.specs.Marks.{IsMade};
+ghost use Rattle.markup.specs.Marks.{IsMade};
 ghost use Rattle.outputs.specs.Statuses as spec;
 
 use crate::request::{Request, file_name};
@@ -10,6 +10,7 @@ use edn::Out;
 use fault_pages::{FaultyText, fault_page, memory_page};
 use history::History;
 use history_pages::{Texts, checked_page, places_in};
+use markup::Html;
 use outputs::{Output, status_of};
 use report::{Fault, Verdict, write_verdict};
 use std::alloc::{AllocError, Global};
@@ -34,9 +35,7 @@ fn page_of_fault(
     path: &str,
     text: &[u8],
     fault: &Fault,
-) -> Result<Vec<u8>, AllocError>
-    ensures { IfOk result (λ v. ∥ IsMade v.items ∥₁) }
-{
+) -> Result<Html, AllocError> {
     let name = String::from_str(alloc, file_name(path))?;
     let lines = lines_of(alloc, &Verdict::Malformed(*fault))?;
     fault_page(
@@ -51,9 +50,7 @@ fn page_of_fault(
 }
 
 /// The page of a history of which memory was refused.
-fn page_without_memory(alloc: Global, request: &Request<'_>) -> Result<Vec<u8>, AllocError>
-    ensures { IfOk result (λ v. ∥ IsMade v.items ∥₁) }
-{
+fn page_without_memory(alloc: Global, request: &Request<'_>) -> Result<Html, AllocError> {
     let lines = lines_of(alloc, &Verdict::NoMemory)?;
     memory_page(alloc, file_name(request.history), &lines)
 }
@@ -65,9 +62,7 @@ fn page_of_texts(
     history: &[u8],
     certificates: &[u8],
     verdict: &Verdict,
-) -> Result<Vec<u8>, AllocError>
-    ensures { IfOk result (λ v. ∥ IsMade v.items ∥₁) }
-{
+) -> Result<Html, AllocError> {
     let Verdict::Malformed(fault) = verdict else {
         return page_without_memory(alloc, request);
     };
@@ -90,9 +85,7 @@ fn page_of_history(
     history: &History,
     certificates: &[Certificate],
     verdict: &Verdict,
-) -> Result<Vec<u8>, AllocError>
-    ensures { IfOk result (λ v. ∥ IsMade v.items ∥₁) }
-{
+) -> Result<Html, AllocError> {
     let refusal = match verdict {
         Verdict::Yes(_) => None,
         Verdict::No(refusal) => Some(refusal),
@@ -130,9 +123,10 @@ pub(crate) fn verdict_output(
         × ∥ IsMade o.text.items ∥₁) }
 {
     let page = page_of_history(alloc, request, text, history, certificates, verdict)?;
+    let text = page.into_text()?;
     Ok(Output {
         status: status_of(verdict),
-        text: page,
+        text,
     })
 }
 
@@ -149,8 +143,9 @@ pub(crate) fn unread_output(
         × ∥ IsMade o.text.items ∥₁) }
 {
     let page = page_of_texts(alloc, request, history, certificates, verdict)?;
+    let text = page.into_text()?;
     Ok(Output {
         status: status_of(verdict),
-        text: page,
+        text,
     })
 }

@@ -1,6 +1,6 @@
 //! Escapes.
 
-use page::push_escaped;
+use markup::push_escaped;
 use std::test::Fail;
 
 #[test]

@@ -152,7 +152,7 @@ fn places_of_faults_are_marked(rt: HostRuntime) -> Result<(), Fail> {
                 text: row.text.as_bytes(),
                 lines: "malformed",
             };
-            let page = fault_page(rt.alloc(), &fault, &faulty)?;
+            let page = fault_page(rt.alloc(), &fault, &faulty)?.into_text()?;
             let text = str::from_utf8(&page)?;
             assert!(rt;
                 text.contains("<p class=\"facts\">&lt;b&gt;</p>"),
@@ -168,7 +168,7 @@ fn places_of_faults_are_marked(rt: HostRuntime) -> Result<(), Fail> {
 
 #[test]
 fn refused_memory_has_a_page(rt: HostRuntime) -> Result<(), Fail> {
-    let page = memory_page(rt.alloc(), "h.edn", "out of memory")?;
+    let page = memory_page(rt.alloc(), "h.edn", "out of memory")?.into_text()?;
     let text = str::from_utf8(&page)?;
     assert!(rt; text.contains("<body class=\"memory\">") && text.contains(" Out of memory</h1>"));
     assert!(rt; !text.contains("<details"));

@@ -137,7 +137,7 @@ fn html_with<'a>(
         place: None,
         quoted: "",
     };
-    Ok(html_of(alloc, &page)?)
+    Ok(html_of(alloc, &page)?.into_text()?)
 }
 
 fn page_of(alloc: Global, answer: Answer, drawing: ObjectDrawing) -> Result<Vec<u8>, Fail> {

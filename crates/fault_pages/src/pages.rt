@@ -1,11 +1,9 @@
 //! The page of a malformed text, and that of texts for which memory was refused.
 
-ghost use Rattle.std.specs.Prelude.{IfOk};
-ghost use Rattle.page.specs.Marks.{IsMade};
-
 use crate::map_faults::{explain_forms, explain_maps};
 use crate::text_faults::{Explained, Read, explain_text};
 use drawing::{FaultyDrawing, Memory, Span};
+use markup::Html;
 use page::{Answer, Excerpt, Page, Place, html_of};
 use std::alloc::{AllocError, Global};
 use verdicts::Fault;
@@ -62,9 +60,7 @@ fn html_with_place<'a>(
     lines: &'a str,
     place: &'a Place<'a>,
     quoted: &'a str,
-) -> Result<Vec<u8>, AllocError>
-    ensures { IfOk result (λ v. ∥ IsMade v.items ∥₁) }
-{
+) -> Result<Html, AllocError> {
     html_of(
         alloc,
         &Page {
@@ -89,9 +85,7 @@ fn html_of_fault<'a>(
     lines: &'a str,
     explained: &'a Explained,
     before: Option<&'a FaultyDrawing>,
-) -> Result<Vec<u8>, AllocError>
-    ensures { IfOk result (λ v. ∥ IsMade v.items ∥₁) }
-{
+) -> Result<Html, AllocError> {
     let sentences: &'a [Vec<Span>] = &explained.sentences;
     let quoted: &'a str = &explained.quoted;
     let excerpts: &'a [Excerpt] = &explained.excerpts;
@@ -106,9 +100,7 @@ fn html_of_memory<'a>(
     facts: &'a str,
     sentences: &'a [Vec<Span>],
     lines: &'a str,
-) -> Result<Vec<u8>, AllocError>
-    ensures { IfOk result (λ v. ∥ IsMade v.items ∥₁) }
-{
+) -> Result<Html, AllocError> {
     html_of(
         alloc,
         &Page {
@@ -130,10 +122,7 @@ pub fn fault_page(
     alloc: Global,
     fault: &Fault,
     faulty: &FaultyText<'_>,
-) -> Result<Vec<u8>, AllocError>
-    // It is made of the page's own markup, of numbers, and of text that is escaped.
-    ensures { IfOk result (λ v. ∥ IsMade v.items ∥₁) }
-{
+) -> Result<Html, AllocError> {
     let memory = Memory::new(alloc);
     let (letter, number) = code_of(fault);
     let name = faulty.name;
@@ -148,10 +137,7 @@ pub fn fault_page(
 }
 
 /// The page of a history of which nothing is known, since memory was refused.
-pub fn memory_page(alloc: Global, name: &str, lines: &str) -> Result<Vec<u8>, AllocError>
-    // It is made of the page's own markup, of numbers, and of text that is escaped.
-    ensures { IfOk result (λ v. ∥ IsMade v.items ∥₁) }
-{
+pub fn memory_page(alloc: Global, name: &str, lines: &str) -> Result<Html, AllocError> {
     let title = format!(in alloc; "out of memory: {name}")?;
     let facts = String::from_str(alloc, name)?;
     let lines = String::from_str(alloc, lines)?;

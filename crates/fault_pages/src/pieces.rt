@@ -1,7 +1,7 @@
 //! A text in pieces: its brackets, and what is between them. A walk over its bytes finds them, where
 //! the text is well formed as far as it goes.
 
-#[derive(Clone, Copy, Debug, PartialEq, Eq)]
+#[derive(Clone, Copy, PartialEq, Eq)]
 pub(crate) enum PieceKind {
     Open,
     Close,
@@ -12,7 +12,7 @@ pub(crate) enum PieceKind {
 }
 
 /// A piece, from one byte on up to another, and how many brackets are open around it.
-#[derive(Clone, Copy, Debug, PartialEq, Eq)]
+#[derive(Clone, Copy)]
 pub(crate) struct Piece {
     pub(crate) kind: PieceKind,
     pub(crate) from: usize,

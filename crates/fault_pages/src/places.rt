@@ -4,7 +4,7 @@ use crate::pieces::{Piece, PieceKind, Walk, is_word_end};
 use drawing::Memory;
 
 /// From one byte on, up to another.
-#[derive(Clone, Copy, Debug, PartialEq, Eq)]
+#[derive(Clone, Copy)]
 pub(crate) struct Place {
     pub(crate) from: usize,
     pub(crate) to: usize,
@@ -96,7 +96,7 @@ pub(crate) fn value_in<'a>(memory: &Memory, map: &'a [u8], key: &[u8]) -> Option
 }
 
 /// What is open at a byte.
-#[derive(Clone, Copy, Debug, PartialEq, Eq)]
+#[derive(Clone, Copy)]
 pub(crate) enum Opened {
     Quote,
     Vector,

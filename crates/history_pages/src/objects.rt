@@ -5,7 +5,7 @@ use page::ObjectRow;
 use std::alloc::{AllocError, Global};
 
 /// How many operations of an object did not fail, are pending, and failed.
-#[derive(Clone, Copy, Debug, PartialEq, Eq)]
+#[derive(Clone, Copy)]
 pub(crate) struct Counts {
     pub(crate) operations: usize,
     pub(crate) pending: usize,

@@ -1,8 +1,5 @@
 //! The page of a history that was judged, or checked by certificates.
 
-ghost use Rattle.std.specs.Prelude.{IfOk};
-ghost use Rattle.page.specs.Marks.{IsMade};
-
 use crate::objects::{counts_in, object_at, one, row_of};
 use certificate::Certificate;
 use checker::{OrderFault, Refusal};
@@ -12,6 +9,7 @@ use drawing::{
     draw_impossible, draw_refused, draw_uncertified, draw_valid,
 };
 use events::{History, ObjectHistory, split};
+use markup::Html;
 use page::{Answer, ObjectRow, Page, html_of};
 use projection::Cut;
 use std::alloc::{AllocError, Global};
@@ -20,7 +18,7 @@ use std::alloc::{AllocError, Global};
 const BUDGET: usize = 600;
 
 /// Which object is drawn, and which stretch of it.
-#[derive(Clone, Copy, Debug, PartialEq, Eq)]
+#[derive(Clone, Copy)]
 pub struct Options {
     pub object: Option<u32>,
     pub stretch: Stretch,
@@ -160,9 +158,7 @@ fn html_with<'a>(
     lines: &'a str,
     objects: &'a [ObjectRow],
     drawings: &'a [ObjectDrawing],
-) -> Result<Vec<u8>, AllocError>
-    ensures { IfOk result (λ v. ∥ IsMade v.items ∥₁) }
-{
+) -> Result<Html, AllocError> {
     html_of(
         alloc,
         &Page {
@@ -185,9 +181,7 @@ fn page_of(
     objects: &[ObjectHistory],
     options: Options,
     parts: Parts,
-) -> Result<Vec<u8>, AllocError>
-    ensures { IfOk result (λ v. ∥ IsMade v.items ∥₁) }
-{
+) -> Result<Html, AllocError> {
     let Parts {
         answer,
         word,
@@ -247,9 +241,7 @@ fn valid_page(
     certificates: &[Certificate],
     texts: &Texts<'_>,
     options: Options,
-) -> Result<Vec<u8>, AllocError>
-    ensures { IfOk result (λ v. ∥ IsMade v.items ∥₁) }
-{
+) -> Result<Html, AllocError> {
     let completions = completions_of(alloc, history.events())?;
     let mut rows = Vec::new(alloc);
     let mut drawings = Vec::new(alloc);
@@ -379,9 +371,7 @@ fn refused_page(
     refusal: &Refusal,
     texts: &Texts<'_>,
     options: Options,
-) -> Result<Vec<u8>, AllocError>
-    ensures { IfOk result (λ v. ∥ IsMade v.items ∥₁) }
-{
+) -> Result<Html, AllocError> {
     let shown = options.object.or(object_of(refusal));
     let mut drawings = Vec::new(alloc);
     if let Some(object) = shown.and_then(|shown| object_at(objects, shown)) {
@@ -412,10 +402,7 @@ pub fn checked_page(
     refusal: Option<&Refusal>,
     texts: &Texts<'_>,
     options: Options,
-) -> Result<Vec<u8>, AllocError>
-    // It is made of the page's own markup, of numbers, and of text that is escaped.
-    ensures { IfOk result (λ v. ∥ IsMade v.items ∥₁) }
-{
+) -> Result<Html, AllocError> {
     let objects = split(alloc, history)?;
     match refusal {
         None => valid_page(alloc, history, &objects, certificates, texts, options),
@@ -522,9 +509,7 @@ fn faulty_page(
     answers: &[(u32, Decision)],
     texts: &Texts<'_>,
     options: Options,
-) -> Result<Vec<u8>, AllocError>
-    ensures { IfOk result (λ v. ∥ IsMade v.items ∥₁) }
-{
+) -> Result<Html, AllocError> {
     let faulty = faulty_object(answers).unwrap_or(0);
     let mut rows = Vec::new(alloc);
     let mut sentences = Vec::new(alloc);
@@ -568,10 +553,7 @@ pub fn judged_page(
     answers: &[(u32, Decision)],
     texts: &Texts<'_>,
     options: Options,
-) -> Result<Vec<u8>, AllocError>
-    // It is made of the page's own markup, of numbers, and of text that is escaped.
-    ensures { IfOk result (λ v. ∥ IsMade v.items ∥₁) }
-{
+) -> Result<Html, AllocError> {
     let objects = split(alloc, history)?;
     faulty_page(alloc, history, &objects, answers, texts, options)
 }

@@ -1,9 +1,8 @@
 //! The bars of a line.
 
-use crate::html::Word;
-use crate::markup::{Name, Tag};
 use crate::writer::{Writer, number};
 use drawing::{Bar, Mark, Operation, Role, State, label};
+use markup::{Name, Piece, Tag};
 
 fn role_class(operation: &Operation) -> &'static str {
     match operation.role() {
@@ -35,54 +34,57 @@ fn mark_class(mark: Mark) -> &'static str {
 }
 
 /// What became of the operation.
-fn became(operation: &Operation) -> [Word; 3] {
+fn became(operation: &Operation) -> [Piece; 3] {
     let at = match operation.ended {
         Some(ended) => number(ended),
-        None => Word::Text(""),
+        None => Piece::Text(""),
     };
     match (operation.state(), operation.ended) {
-        (State::Done, _) => [Word::Text("returned at map "), at, Word::Text("")],
+        (State::Done, _) => [Piece::Text("returned at map "), at, Piece::Text("")],
         (State::Failed, _) => {
             [
-                Word::Text("failed at map "),
+                Piece::Text("failed at map "),
                 at,
-                Word::Text(": it did not happen"),
+                Piece::Text(": it did not happen"),
             ]
         }
         (State::Pending, Some(_)) => [
-            Word::Text("pending: info at map "),
+            Piece::Text("pending: info at map "),
             at,
-            Word::Text(", it may have happened or not"),
+            Piece::Text(", it may have happened or not"),
         ],
-        (State::Pending, None) => [Word::Text("pending: it has no completion"), at, at],
+        (State::Pending, None) => [Piece::Text("pending: it has no completion"), at, at],
     }
 }
 
 impl Writer {
     fn bar_title(&mut self, operation: &Operation) {
         let text = label(&self.memory, operation);
-        self.html.open(Tag::Title);
+        let end = became(operation);
+        self.put(&[Piece::Open(Tag::Title)]);
         self.html.text(&text);
-        self.html.words(&[
-            Word::Text("\nmap "),
+        self.put(&[
+            Piece::Text("\nmap "),
             number(operation.number()),
-            Word::Text(", process "),
-            Word::Number(operation.process),
-            Word::Text(", object "),
+            Piece::Text(", process "),
+            Piece::Number(operation.process),
+            Piece::Text(", object "),
             number(operation.object),
-            Word::Text("\n"),
-        ]);
-        self.html.words(&became(operation));
-        self.html.close(Tag::Title)
+            Piece::Text("\n"),
+            end[0],
+            end[1],
+            end[2],
+            Piece::Close(Tag::Title),
+        ])
     }
 
     /// The edge of a bar, which has no line where it is open.
     fn edge(&mut self, bar: &Bar) {
         let (top, low) = (
-            Word::At(bar.top),
-            Word::At(bar.top.saturating_add(bar.height)),
+            Piece::At(bar.top),
+            Piece::At(bar.top.saturating_add(bar.height)),
         );
-        let (left, right) = (Word::At(bar.from), Word::At(bar.to));
+        let (left, right) = (Piece::At(bar.from), Piece::At(bar.to));
         let is_both = bar.open_left && bar.open_right;
         let (first, last) = if bar.open_right && !is_both {
             (right, left)
@@ -90,122 +92,134 @@ impl Writer {
             (left, right)
         };
         let turn = if is_both {
-            [Word::Text("M"), first, Word::Text(" ")]
+            [Piece::Text("M"), first, Piece::Text(" ")]
         } else {
-            [Word::Text("V"), Word::Text(""), Word::Text("")]
+            [Piece::Text("V"), Piece::Text(""), Piece::Text("")]
         };
         let is_closed = !bar.open_left && !bar.open_right;
-        let d = [
-            Word::Text("M"),
-            first,
-            Word::Text(" "),
-            top,
-            Word::Text("H"),
-            last,
-            turn[0],
-            turn[1],
-            turn[2],
-            low,
-            Word::Text("H"),
-            if is_both { last } else { first },
-            Word::Text(if is_closed { "Z" } else { "" }),
-        ];
-        let class = [Word::Text("edge")];
-        self.html.begin(Tag::Path);
-        self.html.attribute(Name::Class, &class);
-        self.html.attribute(Name::D, &d);
-        self.html.end_empty()
+        self.path(
+            "edge",
+            &[
+                Piece::Text("M"),
+                first,
+                Piece::Text(" "),
+                top,
+                Piece::Text("H"),
+                last,
+                turn[0],
+                turn[1],
+                turn[2],
+                low,
+                Piece::Text("H"),
+                if is_both { last } else { first },
+                Piece::Text(if is_closed { "Z" } else { "" }),
+            ],
+        )
+    }
+
+    /// That a bar goes on.
+    fn goes_on(&mut self, bar: &Bar) {
+        let (top, low) = (bar.top, bar.top.saturating_add(bar.height));
+        let left = Piece::At(bar.to.saturating_sub(5));
+        self.path(
+            "more",
+            &[
+                Piece::Text("M"),
+                left,
+                Piece::Text(" "),
+                Piece::At(top.saturating_add(4)),
+                Piece::Text("L"),
+                Piece::At(bar.to.saturating_sub(1)),
+                Piece::Text(" "),
+                Piece::At(top.saturating_add(bar.height / 2)),
+                Piece::Text("L"),
+                left,
+                Piece::Text(" "),
+                Piece::At(low.saturating_sub(4)),
+            ],
+        )
     }
 
     /// What shows that a bar is pending: that it goes on, and its `:info`.
     fn pending(&mut self, bar: &Bar) {
-        let (top, low) = (bar.top, bar.top.saturating_add(bar.height));
         if bar.operation.state() == State::Pending && bar.open_right {
-            let left = Word::At(bar.to.saturating_sub(5));
-            let d = [
-                Word::Text("M"),
-                left,
-                Word::Text(" "),
-                Word::At(top.saturating_add(4)),
-                Word::Text("L"),
-                Word::At(bar.to.saturating_sub(1)),
-                Word::Text(" "),
-                Word::At(top.saturating_add(bar.height / 2)),
-                Word::Text("L"),
-                left,
-                Word::Text(" "),
-                Word::At(low.saturating_sub(4)),
-            ];
-            let class = [Word::Text("more")];
-            self.html.begin(Tag::Path);
-            self.html.attribute(Name::Class, &class);
-            self.html.attribute(Name::D, &d);
-            self.html.end_empty();
+            self.goes_on(bar);
         }
         if let Some(info) = bar.info {
-            let (m, v) = (Word::Text("M"), Word::Text("V"));
-            let d = [
-                m,
-                Word::At(info),
-                Word::Text(" "),
-                Word::At(top),
-                v,
-                Word::At(low),
-            ];
-            let class = [Word::Text("info")];
-            self.html.begin(Tag::Path);
-            self.html.attribute(Name::Class, &class);
-            self.html.attribute(Name::D, &d);
-            self.html.end_empty();
+            self.path(
+                "info",
+                &[
+                    Piece::Text("M"),
+                    Piece::At(info),
+                    Piece::Text(" "),
+                    Piece::At(bar.top),
+                    Piece::Text("V"),
+                    Piece::At(bar.top.saturating_add(bar.height)),
+                ],
+            );
         }
     }
 
     fn bar_text(&mut self, bar: &Bar) {
         let x = bar.from.saturating_add(5);
         if !bar.label.is_empty() {
-            self.html.begin(Tag::Text);
-            self.html.attribute(Name::X, &[Word::At(x)]);
-            self.html
-                .attribute(Name::Y, &[Word::At(bar.top.saturating_add(13))]);
-            self.html.end();
+            self.put(&[
+                Piece::Begin(Tag::Text),
+                Piece::Set(Name::X, x),
+                Piece::Set(Name::Y, bar.top.saturating_add(13)),
+                Piece::End,
+            ]);
             self.html.text(&bar.label);
-            self.html.close(Tag::Text);
+            self.put(&[Piece::Close(Tag::Text)]);
         }
         if bar.mark == Mark::LeftOut && bar.height > 18 {
-            let words = [Word::Text("left out")];
-            self.text_at("tag", x, bar.top.saturating_add(28), &words);
+            let y = bar.top.saturating_add(28);
+            self.text_at("tag", x, y, &[Piece::Text("left out")]);
         }
+    }
+
+    /// The group of a bar, with its name where it is the first one of its operation.
+    fn open_bar(&mut self, bar: &Bar) {
+        let operation = &bar.operation;
+        let own = number(operation.number());
+        self.put(&[
+            Piece::Begin(Tag::Group),
+            Piece::Name(Name::Class),
+            Piece::Text(role_class(operation)),
+            Piece::Text(state_class(operation)),
+            Piece::Text(mark_class(bar.mark)),
+            Piece::ValueEnd,
+            Piece::Name(Name::DataOp),
+            own,
+            Piece::ValueEnd,
+        ]);
+        if self.is_first(bar) {
+            self.put(&[
+                Piece::Name(Name::Id),
+                Piece::Text("o"),
+                own,
+                Piece::ValueEnd,
+            ]);
+        }
+        self.put(&[Piece::End])
     }
 
     /// The bar of an operation, or its part in a line.
     pub(crate) fn bar(&mut self, bar: &Bar) {
-        let operation = &bar.operation;
-        let class = [
-            Word::Text(role_class(operation)),
-            Word::Text(state_class(operation)),
-            Word::Text(mark_class(bar.mark)),
-        ];
-        let own = number(operation.number());
-        let is_first = self.is_first(bar);
-        self.html.begin(Tag::Group);
-        self.html.attribute(Name::Class, &class);
-        self.html.attribute(Name::DataOp, &[own]);
-        if is_first {
-            self.html.attribute(Name::Id, &[Word::Text("o"), own]);
-        }
-        self.html.end();
-        self.bar_title(operation);
-        self.html.begin(Tag::Rect);
-        self.html.attribute(Name::Class, &[Word::Text("fill")]);
-        self.html.attribute(Name::X, &[Word::At(bar.from)]);
-        self.html.attribute(Name::Y, &[Word::At(bar.top)]);
-        self.html
-            .attribute(Name::Width, &[Word::At(bar.to.saturating_sub(bar.from))]);
-        self.html.attribute(Name::Height, &[Word::At(bar.height)]);
-        self.html.end_empty();
+        self.open_bar(bar);
+        self.bar_title(&bar.operation);
+        self.put(&[
+            Piece::Begin(Tag::Rect),
+            Piece::Class("fill"),
+            Piece::Set(Name::X, bar.from),
+            Piece::Set(Name::Y, bar.top),
+            Piece::Set(Name::Width, bar.to.saturating_sub(bar.from)),
+            Piece::Set(Name::Height, bar.height),
+            Piece::EndEmpty,
+        ]);
         self.edge(bar);
         self.pending(bar);
         self.bar_text(bar);
-        self.html.close(Tag::Group)
+        self.put(&[Piece::Close(Tag::Group)])
     }
 }

@@ -1,9 +1,8 @@
 //! What an object contains, as boxes.
 
-use crate::html::Word;
-use crate::markup::{Name, Tag};
 use crate::writer::{Writer, number};
 use drawing::{BoxKind, ContentBox, ObjectDrawing};
+use markup::{Name, Piece, Tag};
 use seq_objects::{Kind, kind_name};
 
 fn box_class(kind: BoxKind) -> &'static str {
@@ -27,41 +26,83 @@ fn left_end(kind: Kind) -> &'static str {
 }
 
 impl Writer {
-    fn under(&mut self, x: u32, line: u32, words: &[Word]) {
+    fn under(&mut self, x: u32, line: u32, words: &[Piece]) {
         let y = line.saturating_mul(12).saturating_add(44);
         self.text_at("under", x, y, words)
+    }
+
+    /// What is said under a box.
+    fn under_box(&mut self, it: &ContentBox, middle: u32) {
+        let mut line = 0;
+        for words in it.under {
+            if !words.is_empty() {
+                self.under(middle, line, &[Piece::Text(words)]);
+                line = line.saturating_add(1);
+            }
+        }
+        if let Some(by) = it.by {
+            self.under(middle, line, &[Piece::Text("by "), number(by)]);
+        }
     }
 
     fn content_box(&mut self, it: &ContentBox) {
         let middle = it.x.saturating_add(it.width / 2);
         if it.kind == BoxKind::Absent {
-            self.text_at("ne", it.x.saturating_sub(17), 20, &[Word::Text("≠")]);
+            self.text_at("ne", it.x.saturating_sub(17), 20, &[Piece::Text("≠")]);
         }
-        self.group(box_class(it.kind));
-        self.html.begin(Tag::Rect);
-        self.html.attribute(Name::X, &[Word::At(it.x)]);
-        self.html.attribute(Name::Y, &[Word::At(2)]);
-        self.html.attribute(Name::Width, &[Word::At(it.width)]);
-        self.html.attribute(Name::Height, &[Word::At(26)]);
-        self.html.end_empty();
-        let (x, y) = ([Word::At(middle)], [Word::At(19)]);
-        self.html.begin(Tag::Text);
-        self.html.attribute(Name::X, &x);
-        self.html.attribute(Name::Y, &y);
-        self.html.end();
+        self.put(&[
+            Piece::Begin(Tag::Group),
+            Piece::Class(box_class(it.kind)),
+            Piece::End,
+            Piece::Begin(Tag::Rect),
+            Piece::Set(Name::X, it.x),
+            Piece::Set(Name::Y, 2),
+            Piece::Set(Name::Width, it.width),
+            Piece::Set(Name::Height, 26),
+            Piece::EndEmpty,
+            Piece::Begin(Tag::Text),
+            Piece::Set(Name::X, middle),
+            Piece::Set(Name::Y, 19),
+            Piece::End,
+        ]);
         self.html.text(&it.text);
-        self.html.close(Tag::Text);
-        let mut line = 0;
-        for words in it.under {
-            if !words.is_empty() {
-                self.under(middle, line, &[Word::Text(words)]);
-                line = line.saturating_add(1);
-            }
-        }
-        if let Some(by) = it.by {
-            self.under(middle, line, &[Word::Text("by "), number(by)]);
-        }
-        self.html.close(Tag::Group)
+        self.put(&[Piece::Close(Tag::Text)]);
+        self.under_box(it, middle);
+        self.put(&[Piece::Close(Tag::Group)])
+    }
+
+    /// The beginning of the boxes, with this caption.
+    fn open_content(&mut self, width: u32, caption: &[Piece]) {
+        self.put(&[
+            Piece::Begin(Tag::Figure),
+            Piece::Name(Name::Id),
+            Piece::Text("content"),
+            Piece::ValueEnd,
+            Piece::End,
+            Piece::Open(Tag::FigCaption),
+        ]);
+        self.put(caption);
+        self.put(&[
+            Piece::Close(Tag::FigCaption),
+            Piece::Begin(Tag::Div),
+            Piece::Class("scroll"),
+            Piece::End,
+            Piece::Begin(Tag::Svg),
+            Piece::Class("content"),
+            Piece::Name(Name::ViewBox),
+            Piece::Text("0 0 "),
+            Piece::At(width),
+            Piece::Text(" 62"),
+            Piece::ValueEnd,
+            Piece::Set(Name::Width, width),
+            Piece::Set(Name::Height, 62),
+            Piece::Name(Name::Role),
+            Piece::Text("group"),
+            Piece::ValueEnd,
+            Piece::Name(Name::AriaLabel),
+        ]);
+        self.put(caption);
+        self.put(&[Piece::ValueEnd, Piece::End])
     }
 
     /// What the object contains before the entry that is refused, which has this rank.
@@ -70,38 +111,22 @@ impl Writer {
             return;
         };
         let width = last.x.saturating_add(last.width).saturating_add(4);
-        let name = [Word::Text("content")];
-        self.html.begin(Tag::Figure);
-        self.html.attribute(Name::Id, &name);
-        self.html.end();
         let caption = [
-            Word::Text("The "),
-            Word::Text(kind_name(drawing.kind)),
-            Word::Text(" before entry "),
-            Word::Number(rank),
-            Word::Text(left_end(drawing.kind)),
+            Piece::Text("The "),
+            Piece::Text(kind_name(drawing.kind)),
+            Piece::Text(" before entry "),
+            Piece::Number(rank),
+            Piece::Text(left_end(drawing.kind)),
         ];
-        self.html.open(Tag::FigCaption);
-        self.html.words(&caption);
-        self.html.close(Tag::FigCaption);
-        self.html.begin(Tag::Div);
-        self.html.attribute(Name::Class, &[Word::Text("scroll")]);
-        self.html.end();
-        let view = [Word::Text("0 0 "), Word::At(width), Word::Text(" 62")];
-        self.html.begin(Tag::Svg);
-        self.html.attribute(Name::Class, &[Word::Text("content")]);
-        self.html.attribute(Name::ViewBox, &view);
-        self.html.attribute(Name::Width, &[Word::At(width)]);
-        self.html.attribute(Name::Height, &[Word::At(62)]);
-        self.html.attribute(Name::Role, &[Word::Text("group")]);
-        self.html.attribute(Name::AriaLabel, &caption);
-        self.html.end();
+        self.open_content(width, &caption);
         for it in &drawing.boxes {
             self.content_box(it);
         }
-        self.html.close(Tag::Svg);
-        self.html.close(Tag::Div);
-        self.html.close(Tag::Figure);
-        self.html.text("\n")
+        self.put(&[
+            Piece::Close(Tag::Svg),
+            Piece::Close(Tag::Div),
+            Piece::Close(Tag::Figure),
+            Piece::Text("\n"),
+        ])
     }
 }

@@ -1,12 +1,11 @@
 //! Pieces of a malformed text, with its place marked.
 
-use crate::html::Word;
-use crate::markup::{Name, Tag};
 use crate::writer::Writer;
-use drawing::{Extent, FaultyDrawing, Span};
+use drawing::{Extent, FaultyDrawing, Figure, Span};
+use markup::{Name, Piece, Tag};
 
 /// A line of a text, with its number from 1.
-#[derive(Debug, Drop)]
+#[derive(Drop)]
 pub struct TextLine {
     pub number: usize,
     pub text: String,
@@ -14,7 +13,7 @@ pub struct TextLine {
 
 /// A line of a text with a part of it marked, and whether it is cut at its two ends. Where nothing
 /// is there to be marked, a word says what is missing.
-#[derive(Debug, Drop)]
+#[derive(Drop)]
 pub struct MarkedLine {
     pub number: usize,
     pub is_cut_before: bool,
@@ -41,86 +40,109 @@ pub struct Place<'a> {
     pub before: Option<&'a FaultyDrawing>,
 }
 
+/// Whether the faulty map is in the figure. One without a process has no lane.
+fn has_cross(figure: &Figure) -> bool {
+    for line in &figure.lines {
+        if !line.crosses.is_empty() {
+            return true;
+        }
+    }
+    false
+}
+
 impl Writer {
     fn line_number(&mut self, number: usize) {
-        self.html.open(Tag::TableHeader);
-        self.html.number(number as u64);
-        self.html.close(Tag::TableHeader)
+        self.put(&[
+            Piece::Open(Tag::TableHeader),
+            Piece::Number(number as u64),
+            Piece::Close(Tag::TableHeader),
+        ])
     }
 
     fn text_line(&mut self, line: &TextLine) {
-        self.html.open(Tag::TableRow);
+        self.put(&[Piece::Open(Tag::TableRow)]);
         self.line_number(line.number);
         self.html.whole(Tag::TableCell, &line.text);
-        self.html.close(Tag::TableRow)
+        self.put(&[Piece::Close(Tag::TableRow)])
+    }
+
+    fn text_lines(&mut self, lines: &[TextLine]) {
+        for line in lines {
+            self.text_line(line);
+        }
     }
 
     /// The part that is marked.
     fn mark(&mut self, line: &MarkedLine) {
         if line.marked.is_empty() {
-            self.html.begin(Tag::Mark);
-            self.html.attribute(Name::Class, &[Word::Text("end")]);
-            self.html.end();
-            self.html.text(line.missing);
+            self.open(Tag::Mark, "end");
+            self.put(&[Piece::Text(line.missing), Piece::Close(Tag::Mark)]);
         } else {
-            self.html.open(Tag::Mark);
-            self.html.text(&line.marked);
+            self.html.whole(Tag::Mark, &line.marked);
         }
-        self.html.close(Tag::Mark)
     }
 
     fn marked_line(&mut self, line: &MarkedLine) {
-        self.html.begin(Tag::TableRow);
-        self.html.attribute(Name::Class, &[Word::Text("at")]);
-        self.html.end();
+        self.open(Tag::TableRow, "at");
         self.line_number(line.number);
-        self.html.open(Tag::TableCell);
-        self.html.text(if line.is_cut_before { "…" } else { "" });
+        self.put(&[
+            Piece::Open(Tag::TableCell),
+            Piece::Text(if line.is_cut_before { "…" } else { "" }),
+        ]);
         self.html.text(&line.before);
         self.mark(line);
         self.html.text(&line.after);
-        self.html.text(if line.is_cut_after { "…" } else { "" });
-        self.html.close(Tag::TableCell);
-        self.html.close(Tag::TableRow)
+        self.put(&[
+            Piece::Text(if line.is_cut_after { "…" } else { "" }),
+            Piece::Close(Tag::TableCell),
+            Piece::Close(Tag::TableRow),
+        ])
     }
 
     fn excerpt(&mut self, excerpt: &Excerpt) {
-        self.html.begin(Tag::Figure);
-        self.html.attribute(Name::Class, &[Word::Text("text")]);
-        self.html.end();
-        self.html.open(Tag::FigCaption);
-        self.spans(&excerpt.caption, None);
-        self.html.close(Tag::FigCaption);
-        self.html.begin(Tag::Div);
-        self.html.attribute(Name::Class, &[Word::Text("scroll")]);
-        self.html.end();
-        self.html.begin(Tag::Table);
-        self.html.attribute(Name::Class, &[Word::Text("lines")]);
-        self.html.end();
-        self.html.open(Tag::TableBody);
-        for line in &excerpt.before {
-            self.text_line(line);
-        }
+        self.open(Tag::Figure, "text");
+        self.put(&[Piece::Open(Tag::FigCaption)]);
+        self.spans(&excerpt.caption);
+        self.put(&[
+            Piece::Close(Tag::FigCaption),
+            Piece::Begin(Tag::Div),
+            Piece::Class("scroll"),
+            Piece::End,
+            Piece::Begin(Tag::Table),
+            Piece::Class("lines"),
+            Piece::End,
+            Piece::Open(Tag::TableBody),
+        ]);
+        self.text_lines(&excerpt.before);
         self.marked_line(&excerpt.line);
-        for line in &excerpt.after {
-            self.text_line(line);
-        }
-        self.html.close(Tag::TableBody);
-        self.html.close(Tag::Table);
-        self.html.close(Tag::Div);
-        self.html.close(Tag::Figure);
-        self.html.text("\n")
+        self.text_lines(&excerpt.after);
+        self.put(&[
+            Piece::Close(Tag::TableBody),
+            Piece::Close(Tag::Table),
+            Piece::Close(Tag::Div),
+            Piece::Close(Tag::Figure),
+            Piece::Text("\n"),
+        ])
     }
 
     /// The history before a faulty map.
     fn before(&mut self, drawing: &FaultyDrawing) {
-        self.html.begin(Tag::Figure);
-        self.html.attribute(Name::Id, &[Word::Text("figm")]);
-        self.html.end();
-        self.html.open(Tag::FigCaption);
-        self.html.text("The maps before it are well formed. The cross is the faulty map.");
-        self.html.close(Tag::FigCaption);
-        let title = [Word::Text("The history up to the fault")];
+        self.put(&[
+            Piece::Begin(Tag::Figure),
+            Piece::Name(Name::Id),
+            Piece::Text("figm"),
+            Piece::ValueEnd,
+            Piece::End,
+            Piece::Open(Tag::FigCaption),
+            Piece::Text("The maps before it are well formed."),
+            Piece::Text(if has_cross(&drawing.figure) {
+                " The cross is the faulty map."
+            } else {
+                ""
+            }),
+            Piece::Close(Tag::FigCaption),
+        ]);
+        let title = [Piece::Text("The history up to the fault")];
         self.lines(0, &title, &drawing.figure, &[]);
         let extent = Extent {
             operations: 0,
@@ -130,23 +152,19 @@ impl Writer {
             processes: drawing.processes,
         };
         self.note(&extent, &drawing.figure);
-        self.html.close(Tag::Figure);
-        self.html.text("\n")
+        self.put(&[Piece::Close(Tag::Figure), Piece::Text("\n")])
     }
 
     /// The section on the place of a fault.
     pub(crate) fn place(&mut self, place: &Place<'_>) {
-        self.html.begin(Tag::Section);
-        self.html.attribute(Name::Id, &[Word::Text("text")]);
-        self.html.end();
-        self.heading("fault", &[Word::Text("The place")]);
+        self.section(&[Piece::Text("text")]);
+        self.heading("fault", &[Piece::Text("The place")]);
         for excerpt in place.excerpts {
             self.excerpt(excerpt);
         }
         if let Some(before) = place.before {
             self.before(before);
         }
-        self.html.close(Tag::Section);
-        self.html.text("\n")
+        self.put(&[Piece::Close(Tag::Section), Piece::Text("\n")])
     }
 }

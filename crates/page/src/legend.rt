@@ -1,10 +1,9 @@
 //! How to read the figures of a page: only what is on the page.
 
-use crate::html::Word;
-use crate::markup::{Name, Tag};
 use crate::pages::Page;
-use crate::writer::{Writer, figures_in};
-use drawing::{Bar, Figure, Line, Mark, ObjectDrawing, Role, State};
+use crate::writer::Writer;
+use drawing::{Bar, Figure, Line, Mark, ObjectDrawing, Point, Role, State};
+use markup::{Name, Piece, Tag};
 
 /// A rectangle: its left, top, width and height.
 type Rectangle = (u32, u32, u32, u32);
@@ -131,74 +130,100 @@ static SIGNS: [Sign; 13] = [
     },
 ];
 
-fn is_shown(place: usize, bar: &Bar) -> bool {
+/// Which signs are on a page, by their places.
+type Shown = [bool; 13];
+
+fn note_bar(shown: &mut Shown, bar: &Bar) {
     let operation = &bar.operation;
     let state = operation.state();
-    match place {
-        0 => operation.role() == Role::Put,
-        1 => operation.role() == Role::Take,
-        2 => operation.role() == Role::Read,
-        3 => operation.role() == Role::Swap,
-        4 => state == State::Pending,
-        5 => state == State::Failed,
-        6 => state != State::Pending && (bar.open_left || bar.open_right),
-        7 => bar.mark != Mark::Plain && bar.mark != Mark::Dim,
-        _ => false,
+    match operation.role() {
+        Role::Put => shown[0] = true,
+        Role::Take => shown[1] = true,
+        Role::Read => shown[2] = true,
+        Role::Swap => shown[3] = true,
+    }
+    match state {
+        State::Pending => shown[4] = true,
+        State::Failed => shown[5] = true,
+        State::Done => {}
+    }
+    if state != State::Pending && (bar.open_left || bar.open_right) {
+        shown[6] = true;
+    }
+    if bar.mark != Mark::Plain && bar.mark != Mark::Dim {
+        shown[7] = true;
     }
 }
 
-/// Whether the line has the sign at this place.
-fn has_sign(place: usize, line: &Line) -> bool {
-    match place {
-        8 => !line.points.is_empty(),
-        9 => line.points.iter().any(|point| point.is_refused),
-        10 => !line.arrows.is_empty(),
-        11 => !line.nemeses.is_empty(),
-        12 => !line.gaps.is_empty(),
-        _ => line.bars.iter().any(|bar| is_shown(place, bar)),
+fn note_points(shown: &mut Shown, points: &[Point]) {
+    for point in points {
+        shown[8] = true;
+        if point.is_refused {
+            shown[9] = true;
+        }
     }
 }
 
-fn figure_has(place: usize, figure: Option<&Figure>) -> bool {
-    match figure {
-        Some(figure) => figure.lines.iter().any(|line| has_sign(place, line)),
-        None => false,
+fn note_line(shown: &mut Shown, line: &Line) {
+    for bar in &line.bars {
+        note_bar(shown, bar);
+    }
+    note_points(shown, &line.points);
+    if !line.arrows.is_empty() {
+        shown[10] = true;
+    }
+    if !line.nemeses.is_empty() {
+        shown[11] = true;
+    }
+    if !line.gaps.is_empty() {
+        shown[12] = true;
     }
 }
 
-fn drawings_have(place: usize, drawings: &[ObjectDrawing]) -> bool {
-    drawings.iter().any(|drawing| {
-        let figures = figures_in(drawing);
-        figure_has(place, figures[0]) || figure_has(place, figures[1])
-    })
+fn note_figure(shown: &mut Shown, figure: &Figure) {
+    for line in &figure.lines {
+        note_line(shown, line);
+    }
 }
 
-/// Whether a figure of the page has the sign at this place.
-fn page_has(place: usize, page: &Page<'_>) -> bool {
-    let before = page.place.and_then(|it| it.before.map(|it| &it.figure));
-    drawings_have(place, page.drawings) || figure_has(place, before)
+fn note_drawing(shown: &mut Shown, drawing: &ObjectDrawing) {
+    if let Some(zoom) = &drawing.zoom {
+        note_figure(shown, zoom);
+    }
+    note_figure(shown, &drawing.figure);
 }
 
-/// Whether some sign is on the page.
-fn has_signs(page: &Page<'_>) -> bool {
-    (0..SIGNS.len()).any(|place| page_has(place, page))
+/// The signs that the figures of a page have.
+fn signs_of(page: &Page<'_>) -> Shown {
+    let mut shown = [false; 13];
+    for drawing in page.drawings {
+        note_drawing(&mut shown, drawing);
+    }
+    if let Some(place) = page.place {
+        if let Some(before) = place.before {
+            note_figure(&mut shown, &before.figure);
+        }
+    }
+    shown
 }
 
 impl Writer {
     fn sign_rectangle(&mut self, rectangle: Rectangle, is_point: bool) {
         let (x, y, width, height) = rectangle;
-        self.html.begin(Tag::Rect);
+        self.put(&[Piece::Begin(Tag::Rect)]);
         if !is_point {
-            self.html.attribute(Name::Class, &[Word::Text("fill")]);
+            self.put(&[Piece::Class("fill")]);
         }
-        self.html.attribute(Name::X, &[Word::At(x)]);
-        self.html.attribute(Name::Y, &[Word::At(y)]);
-        self.html.attribute(Name::Width, &[Word::At(width)]);
-        self.html.attribute(Name::Height, &[Word::At(height)]);
+        self.put(&[
+            Piece::Set(Name::X, x),
+            Piece::Set(Name::Y, y),
+            Piece::Set(Name::Width, width),
+            Piece::Set(Name::Height, height),
+        ]);
         if is_point {
-            self.html.attribute(Name::Round, &[Word::At(7)]);
+            self.put(&[Piece::Set(Name::Round, 7)]);
         }
-        self.html.end_empty();
+        self.put(&[Piece::EndEmpty])
     }
 
     fn sign_parts(&mut self, sign: &Sign) {
@@ -206,65 +231,82 @@ impl Writer {
             self.sign_rectangle(rectangle, sign.is_point);
         }
         if let Some((x, y, text)) = sign.text {
-            self.html.begin(Tag::Text);
-            self.html.attribute(Name::X, &[Word::At(x)]);
-            self.html.attribute(Name::Y, &[Word::At(y)]);
-            self.html.end();
-            self.html.text(text);
-            self.html.close(Tag::Text);
+            self.put(&[
+                Piece::Begin(Tag::Text),
+                Piece::Set(Name::X, x),
+                Piece::Set(Name::Y, y),
+                Piece::End,
+                Piece::Text(text),
+                Piece::Close(Tag::Text),
+            ]);
         }
         for (class, d) in sign.paths {
-            self.path(class, &[Word::Text(d)]);
+            self.path(class, &[Piece::Text(d)]);
         }
     }
 
     fn sign(&mut self, sign: &Sign) {
-        self.html.open(Tag::Item);
-        self.html.begin(Tag::Svg);
-        self.html
-            .attribute(Name::ViewBox, &[Word::Text("0 0 34 18")]);
-        self.html.attribute(Name::Width, &[Word::At(34)]);
-        self.html.attribute(Name::Height, &[Word::At(18)]);
-        self.html.attribute(Name::AriaHidden, &[Word::Text("true")]);
-        self.html.end();
-        self.html.begin(Tag::Group);
-        self.html.attribute(Name::Class, &[Word::Text(sign.class)]);
-        self.html.end();
+        self.put(&[
+            Piece::Open(Tag::Item),
+            Piece::Begin(Tag::Svg),
+            Piece::Name(Name::ViewBox),
+            Piece::Text("0 0 34 18"),
+            Piece::ValueEnd,
+            Piece::Set(Name::Width, 34),
+            Piece::Set(Name::Height, 18),
+            Piece::Name(Name::AriaHidden),
+            Piece::Text("true"),
+            Piece::ValueEnd,
+            Piece::End,
+            Piece::Begin(Tag::Group),
+            Piece::Class(sign.class),
+            Piece::End,
+        ]);
         self.sign_parts(sign);
-        self.html.close(Tag::Group);
-        self.html.close(Tag::Svg);
-        self.html.text(sign.meaning);
-        self.html.close(Tag::Item)
+        self.put(&[
+            Piece::Close(Tag::Group),
+            Piece::Close(Tag::Svg),
+            Piece::Text(sign.meaning),
+            Piece::Close(Tag::Item),
+        ])
     }
 
     /// What the signs mean that are on the page.
-    pub(crate) fn legend(&mut self, page: &Page<'_>) {
-        if !has_signs(page) {
-            return;
-        }
-        let class = [Word::Text("legend")];
-        self.html.begin(Tag::Details);
-        self.html.attribute(Name::Class, &class);
-        self.html.attribute(Name::Open, &[]);
-        self.html.end();
-        self.html.open(Tag::Summary);
-        self.html.words(&[Word::Text("How to read the picture")]);
-        self.html.close(Tag::Summary);
-        self.html.open(Tag::List);
-        for (place, sign) in SIGNS.iter().enumerate() {
-            if page_has(place, page) {
+    fn signs(&mut self, shown: &Shown) {
+        for (sign, is_shown) in SIGNS.iter().zip(shown.iter()) {
+            if *is_shown {
                 self.sign(sign);
             }
         }
-        self.html.close(Tag::List);
-        self.html.open(Tag::Paragraph);
-        self.html.words(&[
-            Word::Text("Numbers above are places of maps in the text. They are in order and "),
-            Word::Text("no time is meant: a bar is as long as its label needs. Point at a "),
-            Word::Text("bar or a point to read more; a point leads to its row in the table, "),
-            Word::Text("an operation in the text leads to its bar."),
+    }
+
+    /// How to read the figures, if the page has some.
+    pub(crate) fn legend(&mut self, page: &Page<'_>) {
+        let shown = signs_of(page);
+        if !shown.contains(&true) {
+            return;
+        }
+        self.put(&[
+            Piece::Begin(Tag::Details),
+            Piece::Class("legend"),
+            Piece::Name(Name::Open),
+            Piece::ValueEnd,
+            Piece::End,
+            Piece::Open(Tag::Summary),
+            Piece::Text("How to read the picture"),
+            Piece::Close(Tag::Summary),
+            Piece::Open(Tag::List),
         ]);
-        self.html.close(Tag::Paragraph);
-        self.html.close(Tag::Details)
+        self.signs(&shown);
+        self.put(&[
+            Piece::Close(Tag::List),
+            Piece::Open(Tag::Paragraph),
+            Piece::Text("Numbers above are places of maps in the text. They are in order and "),
+            Piece::Text("no time is meant: a bar is as long as its label needs. Point at a "),
+            Piece::Text("bar or a point to read more; a point leads to its row in the table, "),
+            Piece::Text("an operation in the text leads to its bar."),
+            Piece::Close(Tag::Paragraph),
+            Piece::Close(Tag::Details),
+        ])
     }
 }

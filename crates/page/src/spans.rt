@@ -1,9 +1,8 @@
 //! Sentences.
 
-use crate::html::Word;
-use crate::markup::{Name, Tag};
 use crate::writer::{Writer, number};
 use drawing::{Operation, Span, count_text, label, value_text};
+use markup::{Name, Piece, Tag};
 use seq_objects::{Value, kind_name};
 
 impl Writer {
@@ -11,38 +10,41 @@ impl Writer {
     pub(crate) fn operation(&mut self, operation: &Operation) {
         let text = label(&self.memory, operation);
         let own = operation.number();
-        let is_shown = self.shown.contains(&own);
-        let tag = if is_shown { Tag::A } else { Tag::Span };
-        self.html.begin(tag);
-        self.html.attribute(Name::Class, &[Word::Text("ref")]);
-        if is_shown {
-            self.html
-                .attribute(Name::Place, &[Word::Text("o"), number(own)]);
+        if self.shown.contains(&own) {
+            self.put(&[
+                Piece::Begin(Tag::A),
+                Piece::Class("ref"),
+                Piece::Name(Name::Place),
+                Piece::Text("o"),
+                number(own),
+                Piece::ValueEnd,
+                Piece::End,
+            ]);
+            self.operation_text(own, &text, Tag::A)
+        } else {
+            self.open(Tag::Span, "ref");
+            self.operation_text(own, &text, Tag::Span)
         }
-        self.html.end();
-        self.html.open(Tag::Bold);
-        self.html.words(&[number(own)]);
-        self.html.close(Tag::Bold);
-        self.html.text(" ");
-        self.html.open(Tag::Code);
-        self.html.text(&text);
-        self.html.close(Tag::Code);
-        self.html.close(tag)
+    }
+
+    fn operation_text(&mut self, own: u32, label: &str, tag: Tag) {
+        self.put(&[
+            Piece::Open(Tag::Bold),
+            number(own),
+            Piece::Close(Tag::Bold),
+            Piece::Text(" "),
+        ]);
+        self.html.whole(Tag::Code, label);
+        self.put(&[Piece::Close(tag)])
     }
 
     pub(crate) fn code(&mut self, text: &str) {
-        self.html.open(Tag::Code);
-        self.html.text(text);
-        self.html.close(Tag::Code)
+        self.html.whole(Tag::Code, text)
     }
 
-    pub(crate) fn aside(&mut self, text: &str) {
-        let class = [Word::Text("aside")];
-        self.html.begin(Tag::Span);
-        self.html.attribute(Name::Class, &class);
-        self.html.end();
-        self.html.text(text);
-        self.html.close(Tag::Span)
+    fn aside(&mut self, text: &'static str) {
+        self.open(Tag::Span, "aside");
+        self.put(&[Piece::Text(text), Piece::Close(Tag::Span)])
     }
 
     pub(crate) fn count(&mut self, count: usize) {
@@ -56,17 +58,16 @@ impl Writer {
     }
 
     fn certificate(&mut self, object: u32) {
-        let words = [
-            Word::Text("{:object "),
+        self.put(&[
+            Piece::Open(Tag::Code),
+            Piece::Text("{:object "),
             number(object),
-            Word::Text(", :order [..]}"),
-        ];
-        self.html.open(Tag::Code);
-        self.html.words(&words);
-        self.html.close(Tag::Code)
+            Piece::Text(", :order [..]}"),
+            Piece::Close(Tag::Code),
+        ])
     }
 
-    fn span(&mut self, span: Span, content: Option<&str>) {
+    fn span(&mut self, span: Span, content: &str) {
         match span {
             Span::Text(text) => self.html.text(text),
             Span::Number(number) => self.html.number(number),
@@ -78,28 +79,29 @@ impl Writer {
             Span::Value(value) => self.value(value),
             Span::Kind(kind) => self.html.text(kind_name(kind)),
             Span::Operation(operation) => self.operation(&operation),
-            Span::Content => self.code(content.unwrap_or("")),
-            Span::Quoted => self.html.text(content.unwrap_or("")),
+            Span::Content => self.code(content),
+            Span::Quoted => self.html.text(content),
             Span::Certificate(object) => self.certificate(object),
             Span::Command(text) => self.code(text),
             Span::Aside(text) => self.aside(text),
         }
     }
 
-    pub(crate) fn spans(&mut self, spans: &[Span], content: Option<&str>) {
+    /// Spans, with what is quoted among them.
+    pub(crate) fn spans_with(&mut self, spans: &[Span], content: &str) {
         for span in spans {
             self.span(*span, content);
         }
     }
 
+    pub(crate) fn spans(&mut self, spans: &[Span]) {
+        self.spans_with(spans, "")
+    }
+
     /// A sentence at the head of the page.
-    pub(crate) fn sentence(&mut self, spans: &[Span], content: Option<&str>) {
-        let class = [Word::Text("say")];
-        self.html.begin(Tag::Paragraph);
-        self.html.attribute(Name::Class, &class);
-        self.html.end();
-        self.spans(spans, content);
-        self.html.close(Tag::Paragraph);
-        self.html.text("\n")
+    pub(crate) fn sentence(&mut self, spans: &[Span], content: &str) {
+        self.open(Tag::Paragraph, "say");
+        self.spans_with(spans, content);
+        self.put(&[Piece::Close(Tag::Paragraph), Piece::Text("\n")])
     }
 }

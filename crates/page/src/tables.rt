@@ -1,12 +1,11 @@
 //! Tables: of the objects, of an order, and of the orders of a reason's operations.
 
-use crate::html::Word;
-use crate::markup::{Name, Tag};
 use crate::pages::ObjectRow;
 use crate::writer::{Writer, number};
 use drawing::{
     Attempt, Entry, Failure, ObjectDrawing, Operation, Row, Span, Tried, label, value_text,
 };
+use markup::{Name, Piece, Tag};
 use seq_objects::{AnyReply, Kind, kind_name, value_of_reply};
 
 /// The characters of the longest row of a table that is beside its figure.
@@ -49,161 +48,188 @@ fn digits(n: u64) -> usize {
 /// or else the next.
 fn last_row(rows: &[ObjectRow]) -> Option<&ObjectRow> {
     let others = rows.get(MOST_OBJECTS - 1..).unwrap_or(&[]);
-    others
-        .iter()
-        .find(|row| row.is_faulty)
-        .or_else(|| others.first())
+    for row in others {
+        if row.is_faulty {
+            return Some(row);
+        }
+    }
+    others.first()
 }
 
 fn is_drawn(row: &ObjectRow, drawings: &[ObjectDrawing]) -> bool {
-    drawings.iter().any(|drawing| drawing.object == row.object)
+    for drawing in drawings {
+        if drawing.object == row.object {
+            return true;
+        }
+    }
+    false
 }
 
 impl Writer {
-    /// Opens a table with its heading: of this class, with this name if it has one.
-    fn table(
-        &mut self,
-        class: &'static str,
-        name: &[Word],
-        title: &[Word],
-        heads: &[&'static str],
-    ) {
-        self.html.begin(Tag::Div);
-        self.html
-            .attribute(Name::Class, &[Word::Text("tbl "), Word::Text(class)]);
-        self.html.attribute(Name::TabIndex, &[Word::At(0)]);
-        self.html.attribute(Name::Role, &[Word::Text("region")]);
-        self.html.attribute(Name::AriaLabel, title);
-        self.html.end();
-        self.html.begin(Tag::Table);
-        self.html.attribute(Name::Id, name);
-        self.html.attribute(Name::Class, &[Word::Text(class)]);
-        self.html.end();
-        self.html.open(Tag::Caption);
-        self.html.words(title);
-        self.html.close(Tag::Caption);
-        self.html.open(Tag::TableHead);
-        self.html.open(Tag::TableRow);
+    /// Opens a table: of this class, with this name.
+    fn open_table(&mut self, class: &'static str, name: &[Piece], title: &[Piece]) {
+        self.put(&[
+            Piece::Begin(Tag::Div),
+            Piece::Name(Name::Class),
+            Piece::Text("tbl "),
+            Piece::Text(class),
+            Piece::ValueEnd,
+            Piece::Set(Name::TabIndex, 0),
+            Piece::Name(Name::Role),
+            Piece::Text("region"),
+            Piece::ValueEnd,
+            Piece::Name(Name::AriaLabel),
+        ]);
+        self.put(title);
+        self.put(&[
+            Piece::ValueEnd,
+            Piece::End,
+            Piece::Begin(Tag::Table),
+            Piece::Name(Name::Id),
+        ]);
+        self.put(name);
+        self.put(&[
+            Piece::ValueEnd,
+            Piece::Class(class),
+            Piece::End,
+            Piece::Open(Tag::Caption),
+        ]);
+        self.put(title);
+        self.put(&[Piece::Close(Tag::Caption)])
+    }
+
+    /// The heading of a table, and the beginning of its rows.
+    fn heads(&mut self, heads: &[&'static str]) {
+        self.put(&[Piece::Open(Tag::TableHead), Piece::Open(Tag::TableRow)]);
         for head in heads {
-            self.html.begin(Tag::TableHeader);
-            self.html.attribute(Name::Scope, &[Word::Text("col")]);
-            self.html.end();
-            self.html.text(head);
-            self.html.close(Tag::TableHeader);
+            self.put(&[
+                Piece::Begin(Tag::TableHeader),
+                Piece::Name(Name::Scope),
+                Piece::Text("col"),
+                Piece::ValueEnd,
+                Piece::End,
+                Piece::Text(head),
+                Piece::Close(Tag::TableHeader),
+            ]);
         }
-        self.html.close(Tag::TableRow);
-        self.html.close(Tag::TableHead);
-        self.html.open(Tag::TableBody);
+        self.put(&[
+            Piece::Close(Tag::TableRow),
+            Piece::Close(Tag::TableHead),
+            Piece::Open(Tag::TableBody),
+        ])
     }
 
     fn end_table(&mut self) {
-        self.html.close(Tag::TableBody);
-        self.html.close(Tag::Table);
-        self.html.close(Tag::Div);
-        self.html.text("\n")
-    }
-
-    fn cell(&mut self, words: &[Word]) {
-        self.html.open(Tag::TableCell);
-        self.html.words(words);
-        self.html.close(Tag::TableCell)
+        self.put(&[
+            Piece::Close(Tag::TableBody),
+            Piece::Close(Tag::Table),
+            Piece::Close(Tag::Div),
+            Piece::Text("\n"),
+        ])
     }
 
     fn operation_cell(&mut self, operation: &Operation) {
-        self.html.open(Tag::TableCell);
+        self.put(&[Piece::Open(Tag::TableCell)]);
         self.operation(operation);
-        self.html.close(Tag::TableCell)
+        self.put(&[Piece::Close(Tag::TableCell)])
     }
 
     fn code_cell(&mut self, text: &str) {
-        self.html.open(Tag::TableCell);
+        self.put(&[Piece::Open(Tag::TableCell)]);
         self.code(text);
-        self.html.close(Tag::TableCell)
+        self.put(&[Piece::Close(Tag::TableCell)])
+    }
+
+    fn spans_cell(&mut self, spans: &[Span]) {
+        self.put(&[Piece::Open(Tag::TableCell)]);
+        self.spans(spans);
+        self.put(&[Piece::Close(Tag::TableCell)])
     }
 
     fn row_head(&mut self, n: u64) {
-        let scope = [Word::Text("row")];
-        self.html.begin(Tag::TableHeader);
-        self.html.attribute(Name::Scope, &scope);
-        self.html.end();
-        self.html.words(&[Word::Number(n)]);
-        self.html.close(Tag::TableHeader)
+        self.put(&[
+            Piece::Begin(Tag::TableHeader),
+            Piece::Name(Name::Scope),
+            Piece::Text("row"),
+            Piece::ValueEnd,
+            Piece::End,
+            Piece::Number(n),
+            Piece::Close(Tag::TableHeader),
+        ])
     }
 
     /// A row that says how many are not shown.
-    fn skipped(&mut self, columns: u32, count: usize, what: &str) {
-        let class = [Word::Text("skip")];
-        self.html.begin(Tag::TableRow);
-        self.html.attribute(Name::Class, &class);
-        self.html.end();
-        self.html.begin(Tag::TableCell);
-        self.html.attribute(Name::ColSpan, &[Word::At(columns)]);
-        self.html.end();
+    fn skipped(&mut self, columns: u32, count: usize, what: &'static str) {
+        self.open(Tag::TableRow, "skip");
+        self.put(&[
+            Piece::Begin(Tag::TableCell),
+            Piece::Set(Name::ColSpan, columns),
+            Piece::End,
+        ]);
         self.count(count);
-        self.html.text(what);
-        self.html.close(Tag::TableCell);
-        self.html.close(Tag::TableRow)
+        self.put(&[
+            Piece::Text(what),
+            Piece::Close(Tag::TableCell),
+            Piece::Close(Tag::TableRow),
+        ])
     }
 
     /// What a row says of the content, or of the fault.
-    fn content_cell(&mut self, drawing: &ObjectDrawing, entry: Entry, content: Option<&str>) {
+    fn content_cell(&mut self, drawing: &ObjectDrawing, entry: Entry, content: Option<&String>) {
         match (entry, content) {
             (Entry::Valid, Some(content)) => self.code_cell(content),
-            (Entry::Valid, None) => self.cell(&[]),
-            (Entry::NotLookedAt, _) => self.cell(&[Word::Text("not looked at")]),
-            (Entry::Refused, _) => {
-                self.html.open(Tag::TableCell);
-                self.spans(&drawing.because, None);
-                self.html.close(Tag::TableCell)
-            }
+            (Entry::Valid, None) => self.spans_cell(&[]),
+            (Entry::NotLookedAt, _) => self.spans_cell(&[Span::Text("not looked at")]),
+            (Entry::Refused, _) => self.spans_cell(&drawing.because),
         }
     }
 
+    /// The beginning of the row of an entry, with its rank.
+    fn open_row(&mut self, object: u32, rank: u64, entry: Entry) {
+        self.put(&[
+            Piece::Begin(Tag::TableRow),
+            Piece::Name(Name::Id),
+            Piece::Text("r"),
+            number(object),
+            Piece::Text("-"),
+            Piece::Number(rank),
+            Piece::ValueEnd,
+        ]);
+        if entry != Entry::Valid {
+            self.put(&[Piece::Class(row_class(entry))]);
+        }
+        self.put(&[Piece::End]);
+        self.row_head(rank)
+    }
+
     fn row(&mut self, drawing: &ObjectDrawing, row: &Row) {
-        let (rank, entry, operation, content, entry_number) = match row {
-            Row::Skipped(1) => return self.skipped(3, 1, " entry not shown"),
-            Row::Skipped(count) => return self.skipped(3, *count, " entries not shown"),
+        match row {
+            Row::Skipped(1) => self.skipped(3, 1, " entry not shown"),
+            Row::Skipped(count) => self.skipped(3, *count, " entries not shown"),
             Row::Entry {
                 rank,
                 number,
                 operation,
                 content,
                 entry,
-            } => (*rank as u64, *entry, operation, content, *number),
-        };
-        let name = [
-            Word::Text("r"),
-            number(drawing.object),
-            Word::Text("-"),
-            Word::Number(rank),
-        ];
-        self.html.begin(Tag::TableRow);
-        self.html.attribute(Name::Id, &name);
-        if entry != Entry::Valid {
-            self.html
-                .attribute(Name::Class, &[Word::Text(row_class(entry))]);
-        }
-        self.html.end();
-        self.row_head(rank);
-        match operation {
-            Some(operation) => self.operation_cell(operation),
-            None => {
-                self.html.open(Tag::TableCell);
-                self.spans(&[Span::Entry(entry_number)], None);
-                self.html.close(Tag::TableCell);
+            } => {
+                self.open_row(drawing.object, *rank as u64, *entry);
+                match operation {
+                    Some(operation) => self.operation_cell(operation),
+                    None => self.spans_cell(&[Span::Entry(*number)]),
+                }
+                self.content_cell(drawing, *entry, content.as_ref());
+                self.put(&[Piece::Close(Tag::TableRow), Piece::Text("\n")])
             }
         }
-        self.content_cell(drawing, entry, content.as_ref().map(|text| text.as_str()));
-        self.html.close(Tag::TableRow);
-        self.html.text("\n")
     }
 
     /// The table of the order.
     pub(crate) fn order(&mut self, drawing: &ObjectDrawing) {
         let object = number(drawing.object);
-        let title = [Word::Text("The order of object "), object];
-        let heads = ["rank", "operation", content_title(drawing.kind)];
-        self.table("order", &[Word::Text("t"), object], &title, &heads);
+        let title = [Piece::Text("The order of object "), object];
+        self.open_table("order", &[Piece::Text("t"), object], &title);
+        self.heads(&["rank", "operation", content_title(drawing.kind)]);
         for row in &drawing.rows {
             self.row(drawing, row);
         }
@@ -267,65 +293,63 @@ impl Writer {
     /// A reply, or that it is any that the part does not keep.
     fn reply(&mut self, reply: AnyReply, other: Option<i64>) {
         match reply {
-            AnyReply::Value(Some(value)) if Some(value) == other => self.html.text("other"),
+            AnyReply::Value(Some(value)) if Some(value) == other => {
+                self.put(&[Piece::Text("other")])
+            }
             _ => self.value(value_of_reply(&reply)),
         }
     }
 
     fn failure(&mut self, failure: Failure, other: Option<i64>) {
-        self.html.open(Tag::TableCell);
+        self.put(&[Piece::Open(Tag::TableCell)]);
         match failure {
-            Failure::NotPossible => self.html.text("is not possible"),
+            Failure::NotPossible => self.put(&[Piece::Text("is not possible")]),
             Failure::Gives(gives, returned) => {
-                self.html.text("gives ");
+                self.put(&[Piece::Text("gives ")]);
                 self.reply(gives, other);
-                self.html.text(", returned ");
+                self.put(&[Piece::Text(", returned ")]);
                 self.reply(returned, other);
             }
         }
-        self.html.close(Tag::TableCell)
+        self.put(&[Piece::Close(Tag::TableCell)])
+    }
+
+    /// The cell of the operations, one after the other.
+    fn operations_cell(&mut self, operations: &[Operation]) {
+        self.put(&[Piece::Open(Tag::TableCell)]);
+        self.operations(operations);
+        self.put(&[Piece::Close(Tag::TableCell)])
     }
 
     fn attempt(&mut self, place: usize, attempt: &Attempt, other: Option<i64>) {
-        self.html.open(Tag::TableRow);
+        self.put(&[Piece::Open(Tag::TableRow)]);
         self.row_head(place.saturating_add(1) as u64);
-        self.html.open(Tag::TableCell);
-        for (k, operation) in attempt.before.iter().enumerate() {
-            if k > 0 {
-                self.html.text(", ");
-            }
-            self.operation(operation);
-        }
-        self.html.close(Tag::TableCell);
+        self.operations_cell(&attempt.before);
         self.code_cell(&attempt.content);
         self.operation_cell(&attempt.next);
         self.failure(attempt.failure, other);
-        self.html.close(Tag::TableRow);
-        self.html.text("\n")
+        self.put(&[Piece::Close(Tag::TableRow), Piece::Text("\n")])
     }
 
     /// The table of the orders that were tried.
     pub(crate) fn tried(&mut self, tried: &Tried) {
         let ways = tried.attempts.len().saturating_add(tried.more) as u64;
-        let end = " ways to begin, each up to the operation that does not fit";
+        let empty = Piece::Text("");
         let title = if !tried.is_complete {
-            [Word::Text("Ways to begin"), Word::Text(""), Word::Text("")]
+            [Piece::Text("Ways to begin"), empty, empty]
         } else if ways == 1 {
             let one = "There is one way to begin, up to the operation that does not fit";
-            [
-                Word::Text("Every order breaks. "),
-                Word::Text(one),
-                Word::Text(""),
-            ]
+            [Piece::Text("Every order breaks. "), Piece::Text(one), empty]
         } else {
+            let end = " ways to begin, each up to the operation that does not fit";
             [
-                Word::Text("Every order breaks. All "),
-                Word::Number(ways),
-                Word::Text(end),
+                Piece::Text("Every order breaks. All "),
+                Piece::Number(ways),
+                Piece::Text(end),
             ]
         };
-        let heads = ["", "order up to there", "content there", "next", "which"];
-        self.table("tried", &[Word::Text("tried")], &title, &heads);
+        self.open_table("tried", &[Piece::Text("tried")], &title);
+        self.heads(&["", "order up to there", "content there", "next", "which"]);
         for (place, attempt) in tried.attempts.iter().enumerate() {
             self.attempt(place, attempt, tried.other);
         }
@@ -335,53 +359,74 @@ impl Writer {
         self.end_table()
     }
 
-    fn object_row(&mut self, row: &ObjectRow, is_drawn: bool) {
-        self.html.begin(Tag::TableRow);
-        if row.is_faulty {
-            self.html.attribute(Name::Class, &[Word::Text("bad")]);
-        }
-        self.html.end();
-        let words = [Word::Text("object "), number(row.object)];
-        self.html.open(Tag::TableCell);
+    fn count_cell(&mut self, count: usize) {
+        self.put(&[Piece::Open(Tag::TableCell)]);
+        self.count(count);
+        self.put(&[Piece::Close(Tag::TableCell)])
+    }
+
+    /// The cell of an object, which is a link where it is drawn.
+    fn object_cell(&mut self, object: u32, is_drawn: bool) {
+        let object = number(object);
+        self.put(&[Piece::Open(Tag::TableCell)]);
         if is_drawn {
-            let place = [Word::Text("object-"), number(row.object)];
-            self.html.begin(Tag::A);
-            self.html.attribute(Name::Place, &place);
-            self.html.end();
-            self.html.words(&words);
-            self.html.close(Tag::A);
-        } else {
-            self.html.words(&words);
+            self.put(&[
+                Piece::Begin(Tag::A),
+                Piece::Name(Name::Place),
+                Piece::Text("object-"),
+                object,
+                Piece::ValueEnd,
+                Piece::End,
+            ]);
         }
-        self.html.close(Tag::TableCell);
-        self.cell(&[Word::Text(kind_name(row.kind))]);
-        for count in [row.operations, row.pending, row.failed] {
-            self.html.open(Tag::TableCell);
-            self.count(count);
-            self.html.close(Tag::TableCell);
+        self.put(&[Piece::Text("object "), object]);
+        if is_drawn {
+            self.put(&[Piece::Close(Tag::A)]);
         }
-        self.cell(&[Word::Text(row.answer)]);
-        self.html.close(Tag::TableRow);
-        self.html.text("\n")
+        self.put(&[Piece::Close(Tag::TableCell)])
+    }
+
+    fn object_row(&mut self, row: &ObjectRow, drawings: &[ObjectDrawing]) {
+        self.put(&[Piece::Begin(Tag::TableRow)]);
+        if row.is_faulty {
+            self.put(&[Piece::Class("bad")]);
+        }
+        self.put(&[Piece::End]);
+        self.object_cell(row.object, is_drawn(row, drawings));
+        self.put(&[
+            Piece::Open(Tag::TableCell),
+            Piece::Text(kind_name(row.kind)),
+            Piece::Close(Tag::TableCell),
+        ]);
+        self.count_cell(row.operations);
+        self.count_cell(row.pending);
+        self.count_cell(row.failed);
+        self.put(&[
+            Piece::Open(Tag::TableCell),
+            Piece::Text(row.answer),
+            Piece::Close(Tag::TableCell),
+            Piece::Close(Tag::TableRow),
+            Piece::Text("\n"),
+        ])
     }
 
     /// The table of the objects, of which those that are drawn are links.
     pub(crate) fn objects(&mut self, rows: &[ObjectRow], drawings: &[ObjectDrawing]) {
-        let heads = [
+        let title = [Piece::Text("Objects")];
+        self.open_table("overview", &[Piece::Text("objects")], &title);
+        self.heads(&[
             "object",
             "kind",
             "operations",
             "pending",
             "failed",
             "answer",
-        ];
-        let title = [Word::Text("Objects")];
-        self.table("overview", &[Word::Text("objects")], &title, &heads);
+        ]);
         for row in rows.iter().take(MOST_OBJECTS - 1) {
-            self.object_row(row, is_drawn(row, drawings));
+            self.object_row(row, drawings);
         }
         if let Some(row) = last_row(rows) {
-            self.object_row(row, is_drawn(row, drawings));
+            self.object_row(row, drawings);
         }
         match rows.len().saturating_sub(MOST_OBJECTS) {
             0 => {}

@@ -1,11 +1,8 @@
 //! What the parts of a page are written with.
 
-ghost use Rattle.std.specs.Prelude.{IfOk};
-ghost use Rattle.page.specs.Marks.{IsMade};
-
-use crate::html::{Html, Word};
 use crate::pages::Page;
 use drawing::{Bar, Figure, Memory, ObjectDrawing};
+use markup::{Html, Piece, Tag};
 use std::alloc::{AllocError, Global};
 use std::collections::BTreeSet;
 
@@ -15,12 +12,7 @@ pub(crate) struct Writer {
     pub(crate) memory: Memory,
     pub(crate) html: Html,
     pub(crate) shown: BTreeSet<u32>,
-    pub(crate) named: BTreeSet<u32>,
-}
-
-/// The figures of an object, the one of the focus first.
-pub(crate) fn figures_in(drawing: &ObjectDrawing) -> [Option<&Figure>; 2] {
-    [drawing.zoom.as_ref(), Some(&drawing.figure)]
+    named: BTreeSet<u32>,
 }
 
 /// Adds the operations whose bars are in the figure.
@@ -32,19 +24,25 @@ pub(crate) fn add_bars(memory: &Memory, shown: &mut BTreeSet<u32>, figure: &Figu
     }
 }
 
+/// Adds the operations that are drawn of an object.
+fn add_drawing(memory: &Memory, shown: &mut BTreeSet<u32>, drawing: &ObjectDrawing) {
+    if let Some(zoom) = &drawing.zoom {
+        add_bars(memory, shown, zoom);
+    }
+    add_bars(memory, shown, &drawing.figure);
+}
+
 impl Writer {
     pub(crate) fn new(alloc: Global, page: &Page<'_>) -> Writer {
         let memory = Memory::new(alloc);
         let mut shown = BTreeSet::new(alloc);
         for drawing in page.drawings {
-            for figure in figures_in(drawing) {
-                if let Some(figure) = figure {
-                    add_bars(&memory, &mut shown, figure);
-                }
-            }
+            add_drawing(&memory, &mut shown, drawing);
         }
-        if let Some(before) = page.place.and_then(|place| place.before) {
-            add_bars(&memory, &mut shown, &before.figure);
+        if let Some(place) = page.place {
+            if let Some(before) = place.before {
+                add_bars(&memory, &mut shown, &before.figure);
+            }
         }
         Writer {
             memory,
@@ -54,18 +52,24 @@ impl Writer {
         }
     }
 
-    /// The text of the page, where no memory was refused.
-    pub(crate) fn into_text(self) -> Result<Vec<u8>, AllocError>
-        ensures { IfOk result (λ v. ∥ IsMade v.items ∥₁) }
-    {
+    /// The page, where no memory was refused.
+    pub(crate) fn into_html(self) -> Result<Html, AllocError> {
         let Writer {
             memory,
             html,
             shown: _,
             named: _,
         } = self;
-        memory.whole(())?;
-        html.into_text()
+        memory.whole(html)
+    }
+
+    pub(crate) fn put(&mut self, pieces: &[Piece]) {
+        self.html.put(pieces)
+    }
+
+    /// Opens an element of this class.
+    pub(crate) fn open(&mut self, tag: Tag, class: &'static str) {
+        self.put(&[Piece::Begin(tag), Piece::Class(class), Piece::End])
     }
 
     /// Whether the bar is the first one of its operation on the page.
@@ -78,6 +82,6 @@ impl Writer {
 }
 
 /// A number of operations.
-pub(crate) fn number(n: u32) -> Word {
-    Word::Number(u64::from(n))
+pub(crate) fn number(n: u32) -> Piece {
+    Piece::Number(u64::from(n))
 }
