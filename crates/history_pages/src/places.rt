@@ -5,7 +5,7 @@ use drawing::{Memory, Nemesis};
 use std::alloc::{AllocError, Global};
 
 /// How many maps a text has, and those of nemeses.
-#[derive(Debug, Drop)]
+#[derive(Drop)]
 pub struct Places {
     pub maps: u32,
     pub nemeses: Vec<Nemesis>,
@@ -106,6 +106,21 @@ impl<'m, 'a> Walk<'m, 'a> {
         }
     }
 
+    /// Takes in the byte at a place, or the map that begins there, and returns its length.
+    fn advance(&mut self, place: usize) -> usize {
+        let text = self.text;
+        let rest = text.get(place..).unwrap_or(&[]);
+        let is_outside = self.mode == Mode::Between && self.depth == 0;
+        if let (true, Some(length)) = (is_outside, client_map(rest)) {
+            self.places.maps = self.places.maps.saturating_add(1);
+            return length;
+        }
+        if let Some(byte) = rest.first() {
+            self.step(place, *byte);
+        }
+        1
+    }
+
     fn step(&mut self, place: usize, byte: u8) {
         match self.mode {
             Mode::Between => self.between(place, byte),
@@ -135,6 +150,26 @@ impl<'m, 'a> Walk<'m, 'a> {
     }
 }
 
+/// What most maps of clients begin with.
+const BEGINNING: &[u8] = b"{:process ";
+
+/// The length of the map that the text begins with, where it is plainly one of a client: its process
+/// comes first and is a number, and nothing in it is a string, a map or a comment.
+fn client_map(text: &[u8]) -> Option<usize> {
+    let rest = text.strip_prefix(BEGINNING)?;
+    if !rest.first()?.is_ascii_digit() {
+        return None;
+    }
+    let length = rest
+        .iter()
+        .position(|byte| matches!(*byte, b'"' | b';' | b'{' | b'}'))?;
+    if rest.get(length) == Some(&b'}') {
+        Some(BEGINNING.len().saturating_add(length).saturating_add(1))
+    } else {
+        None
+    }
+}
+
 /// How many maps the text has, and those whose process is a keyword.
 pub fn places_in(alloc: Global, text: &[u8]) -> Result<Places, AllocError> {
     let memory = Memory::new(alloc);
@@ -152,8 +187,12 @@ pub fn places_in(alloc: Global, text: &[u8]) -> Result<Places, AllocError> {
             nemeses: Vec::new(alloc),
         },
     };
-    for (place, byte) in text.iter().enumerate() {
-        walk.step(place, *byte);
+    let mut place: usize = 0;
+    for _ in 0..text.len() {
+        if place >= text.len() {
+            break;
+        }
+        place = place.saturating_add(walk.advance(place));
     }
     let places = walk.places;
     memory.whole(places)
