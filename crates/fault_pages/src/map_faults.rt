@@ -264,7 +264,7 @@ fn caption_at(kind: HistoryFaultKind, map: usize) -> [Span; 4] {
         Span::Text("H"),
         Span::Number(u64::from(kind.number())),
         Span::Text(" at map "),
-        Span::Count(map),
+        Span::Number(map as u64),
     ]
 }
 
@@ -292,7 +292,11 @@ pub(crate) fn explain_maps(
         Some(said) => memory.note(sentence.extend_from_slice(&said)),
         None => {
             let (begin, end) = general(fault.kind);
-            let said = [Span::Text(begin), Span::Count(fault.map), Span::Text(end)];
+            let said = [
+                Span::Text(begin),
+                Span::Number(fault.map as u64),
+                Span::Text(end),
+            ];
             memory.note(sentence.extend_from_slice(&said));
         }
     }
