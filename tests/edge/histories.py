@@ -125,3 +125,19 @@ def spoilt(kind, seed):
         reply = False if call.reply is not False else call.argument
     maps[call.at] = texts.ok(call.process, call.f, reply, call.on)
     return maps
+
+
+def long_search(seed):
+    """The maps of a history with an order that takes a long search: of writes at once the one that returned first is the last, since
+    none of the other values was found afterwards. Other objects may have other calls."""
+    rng = random.Random(f"long search {seed}")
+    others = made(rng.choice(tuple(FUNCTIONS)), f"beside {seed}", calls=rng.choice((0, 0, 5, 12)), on=0).maps
+    on, writers = (1 if others else 0), rng.sample(range(100, 200), rng.randrange(12, 15))
+    maps = [texts.invoke(it, "write", it, on) for it in writers]
+    maps += [texts.ok(it, "write", it, on) for it in writers]
+    checks = rng.sample(writers[1:], len(writers) - 1)
+    maps += [it for of in checks for it in (texts.invoke(200, "cas", (of, 7), on), texts.ok(200, "cas", False, on))]
+    if rng.random() < 0.5:
+        maps += [texts.invoke(201, "read", None, on), texts.info(201, "read", None, on)]
+    place = rng.randrange(len(maps) + 1)
+    return maps[:place] + others + maps[place:]

@@ -48,6 +48,7 @@ class Drawn:
         self.answer = self.body.get("class")
         self.title = self.root.find("head/title").text
         self.said = [spelled(it) for it in found(self.body, "p", "say")]
+        self.facts = "".join(found(self.body, "p", "facts")[0].itertext())
         self.lines = "".join(found(self.body, "pre", "verdict")[0].itertext())
 
     def by_id(self, name):

@@ -3,14 +3,16 @@ import itertools
 import re
 
 from .histories import KIND_OF, calls_of
-from .pages import REF
-from .reasons import NEXT, has_order, value_of
+from .pages import REF, found
+from .reasons import NEXT, OPEN, has_order, value_of
 from .texts import value
 
 PUT = {"queue": "enqueue", "stack": "push", "heap": "insert", "register": "write", "map": "put", "mutex": "acquire"}
 PUTS = ("enqueue", "push", "insert", "write", "put", "cas")
 TAKES = ("dequeue", "pop", "extract-min")
 TIMES = {"once": 1, "twice": 2}
+ROLES = {f: "put" for f in PUT.values()} | {f: "take" for f in (*TAKES, "del", "release")} | {f: "read" for f in ("read", "get")} | {"cas": "swap"}
+STATES = {"ok": "done", "fail": "failed", "info": "pending", "open": "pending"}
 
 
 def number_in(text):
@@ -261,6 +263,9 @@ class Said:
         is_so &= {it.number for it in by} == {it.number for it in puts}
         return is_so and all((it.reply, it.end) == (int(v), "ok") and it.at <= int(until) for it in of)
 
+    def left_open(self, x, why):
+        return bool(self.on(int(x))) and why in ("out of steps", "too large", "out of memory")
+
     def contents(self, calls, has_window):
         """What the object may have contained before the part: nothing, or, where it is a window, any small content."""
         if not has_window:
@@ -347,6 +352,7 @@ FORMS = {
     "twice_released": rf"Between map (\d+) and map (\d+) the mutex was released twice, by {REF} and {REF}, and no acquire ran in between.",
     "wrong_turn": rf"{REF} returned \(map (\d+)\) before {REF} was invoked, so (-?\d+) went in before (-?\d+). But {REF} took (-?\d+) out, "
     r"and nothing invoked before map (\d+) took (-?\d+) out.",
+    "left_open": r"No order was found for object (\d+), and none was excluded: ([\w ]+). Nothing is said of the history.",
     "too_often": r"(-?\d+) was \w+ (once|twice|[\d ]+ times), by (.*), and \w+ (once|twice|[\d ]+ times), by (.*). No other ([\w-]+) of (-?\d+) "
     r"was invoked before map (\d+).",
 }
@@ -362,7 +368,6 @@ ASIDES = (
     r"Not drawn: (?:object \d+|[\d ]+ objects). `--object `\d+ draws object \d+.",
     r"The history is linearizable: it has no operations.",
     r"The history has no object \d+.",
-    r"No order was found for object \d+, and none was excluded: [\w ]+. Nothing is said of the history.",
     VALID,
 )
 
@@ -399,6 +404,64 @@ def why_sentence_false(page, said, sentence):
         return "no known sentence"
     is_so = said.general(page.bars("zoom"), match[1], match[2] or match[4], match[3])
     return None if is_so else "false (general)"
+
+
+def became(call):
+    """What a bar says of how its call ended."""
+    return {
+        "ok": f"returned at map {call.at}",
+        "fail": f"failed at map {call.at}: it did not happen",
+        "info": f"pending: info at map {call.at}, it may have happened or not",
+        "open": "pending: it has no completion",
+    }[call.end]
+
+
+def why_bars_false(figure, calls):
+    """What is false of the bars of a figure, or None."""
+    for bar in found(figure, "g", "op"):
+        call = calls[int(bar.get("data-op"))]
+        if bar.get("class").split()[1:3] != [ROLES[call.f], STATES[call.end]]:
+            return f"the bar of operation {call.number} is {bar.get('class')}"
+        said = bar.find("title").text
+        if said != f"{label_of(call)}\nmap {call.number}, process {call.process}, object {call.on}\n{became(call)}":
+            return f"the bar of operation {call.number} says {said}"
+    return None
+
+
+def counts_of(calls):
+    """How many of the calls did not fail, are pending, and failed."""
+    failed = sum(it.end == "fail" for it in calls)
+    return len(calls) - failed, sum(it.end in ("info", "open") for it in calls), failed
+
+
+def why_counts_false(page, history):
+    """What is false of the counts of a page, or None."""
+    calls, maps = calls_of(history)
+    objects = sorted({it.on for it in calls.values()})
+    live, pending, failed = counts_of(calls.values())
+    ending = [f"{count} {word}" for count, word in ((pending, "pending"), (failed, "failed")) if count]
+    wanted = [f"{count} {word}{'' if count == 1 else 's'}" for count, word in ((maps, "map"), (live, "operation"), (len(objects), "object"))]
+    if page.facts.replace("\u00a0", " ").split(" · ")[1:] != wanted + ending:
+        return f"the facts are {page.facts}"
+    for _, cells in page.rows("objects"):
+        own = [it for it in calls.values() if f"object {it.on}" == cells[0]]
+        if cells[1] != KIND_OF[own[0].f] or [number_in(it) for it in cells[2:5]] != list(counts_of(own)):
+            return f"the row of {cells[0]} is {cells}"
+    return None
+
+
+def why_open_false(page, history, told):
+    """What is false of a page that says that a history is open, by what judge told, or None."""
+    objects = [OPEN.fullmatch(it) for it in told.splitlines()]
+    x, why = next((int(it[1]), it[2]) for it in objects if it)
+    said = f"No order was found for object {x}, and none was excluded: {re.sub(' after .*', '', why)}. Nothing is said of the history."
+    if page.said[0] != said:
+        return f"it says {page.said[0]}"
+    calls, _ = calls_of(history)
+    bars = page.bars(f"fig{x}")
+    if not bars or any(calls[it].on != x for it in bars):
+        return f"bars of {bars}"
+    return "an order is there" if page.rows(f"t{x}") or found(page.body, "a", "pt") else None
 
 
 def why_order_false(page, history):
