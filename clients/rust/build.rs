@@ -2,6 +2,7 @@
 
 use std::env;
 use std::path::PathBuf;
+use std::process;
 
 fn main() {
     let here = PathBuf::from(env::var("CARGO_MANIFEST_DIR").expect("cargo sets it"));
@@ -9,8 +10,12 @@ fn main() {
         Ok(folder) => PathBuf::from(folder),
         Err(_) => here.join("../../crates/embedding/out"),
     };
-    println!("cargo:rustc-link-search=native={}", folder.display());
-    println!("cargo:rustc-link-lib=static=fcbench");
     println!("cargo:rerun-if-changed={}", folder.join("libfcbench.a").display());
     println!("cargo:rerun-if-env-changed=FCBENCH_LIB");
+    if !folder.join("libfcbench.a").exists() {
+        eprintln!("libfcbench.a is not in {}: run clients/build, or set FCBENCH_LIB", folder.display());
+        process::exit(1);
+    }
+    println!("cargo:rustc-link-search=native={}", folder.display());
+    println!("cargo:rustc-link-lib=static=fcbench");
 }

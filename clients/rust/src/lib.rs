@@ -1,11 +1,14 @@
 //! The proved judge of fcbench, for tests of concurrent objects, and a recorder of what threads do.
 //!
 //! ```ignore
-//! let answer = fcbench::judge(history);
-//! assert_eq!(answer.verdict, fcbench::Verdict::Yes, "{}", answer.lines);
+//! let answer = fcbench::judge(recorder.history(&journals));
+//! assert!(answer.is_yes(), "{answer}");
 //! ```
+#![warn(missing_docs)]
 
 pub mod recorder;
+
+use std::fmt::{self, Display};
 
 /// The program's number of steps where it is given none.
 pub const STEPS: u32 = 1_000_000;
@@ -76,24 +79,68 @@ impl Verdict {
     }
 }
 
+impl Display for Verdict {
+    fn fmt(&self, f: &mut fmt::Formatter) -> fmt::Result {
+        f.write_str(match self {
+            Verdict::Yes => "yes",
+            Verdict::No => "no",
+            Verdict::Malformed => "malformed",
+            Verdict::Open => "not decided",
+        })
+    }
+}
+
 /// A verdict, and the lines that say why.
 #[derive(Clone, Debug, PartialEq, Eq)]
+#[must_use]
 pub struct Answer {
+    /// What is answered.
     pub verdict: Verdict,
+    /// The lines of the program's command.
     pub lines: String,
 }
 
-/// Judges a history: certificates are found, or a reason why there are none. A search takes at most `STEPS` steps.
-pub fn judge(history: impl AsRef<[u8]>) -> Answer {
-    judge_in(history, STEPS)
+impl Answer {
+    /// Whether the verdict is `Verdict::Yes`.
+    #[must_use]
+    pub fn is_yes(&self) -> bool {
+        self.verdict == Verdict::Yes
+    }
+
+    /// Whether the verdict is `Verdict::No`.
+    #[must_use]
+    pub fn is_no(&self) -> bool {
+        self.verdict == Verdict::No
+    }
+
+    /// The reasons among the lines, as `refute` reads them: of each line that begins with `; {` what follows the `; `.
+    #[must_use]
+    pub fn reasons(&self) -> String {
+        let lines = self.lines.lines().filter(|line| line.starts_with("; {"));
+        lines.map(|line| format!("{}\n", &line[2..])).collect()
+    }
 }
 
-/// The same with at most `steps` steps for each object.
-pub fn judge_in(history: impl AsRef<[u8]>, steps: u32) -> Answer {
+/// The verdict in a line, and then the lines.
+impl Display for Answer {
+    fn fmt(&self, f: &mut fmt::Formatter) -> fmt::Result {
+        write!(f, "{}\n{}", self.verdict, self.lines)
+    }
+}
+
+/// Judges a history: certificates are found, or a reason why there are none. A search takes at most `STEPS` steps for each object.
+pub fn judge(history: impl AsRef<[u8]>) -> Answer {
+    judge_with_steps(history, STEPS)
+}
+
+/// Judges a history, where a search takes at most `steps` steps for each object.
+pub fn judge_with_steps(history: impl AsRef<[u8]>, steps: u32) -> Answer {
     whole(|out| judge_into(history.as_ref(), steps, out))
 }
 
-/// The same, where the lines are written into a buffer, and cut where it is too small. Also gives how long they are.
+/// Judges a history, where a search takes at most `steps` steps for each object, and writes the lines into `out`. Where it is too
+/// small they are cut. Also gives how long all lines are.
+#[must_use]
 pub fn judge_into(history: &[u8], steps: u32, out: &mut [u8]) -> (Verdict, usize) {
     // SAFETY: each pointer is of a slice that is lent for the call, with its length.
     answered(out, |at, capacity, needed| unsafe {
@@ -101,11 +148,14 @@ pub fn judge_into(history: &[u8], steps: u32, out: &mut [u8]) -> (Verdict, usize
     })
 }
 
-/// Judges a history by certificates.
+/// Judges a history by certificates: `Verdict::No` says that these are refused.
 pub fn check(history: impl AsRef<[u8]>, certificates: impl AsRef<[u8]>) -> Answer {
     whole(|out| check_into(history.as_ref(), certificates.as_ref(), out))
 }
 
+/// Judges a history by certificates, and writes the lines into `out`. Where it is too small they are cut. Also gives how long all lines
+/// are.
+#[must_use]
 pub fn check_into(history: &[u8], certificates: &[u8], out: &mut [u8]) -> (Verdict, usize) {
     let (orders, length) = (certificates.as_ptr(), certificates.len());
     // SAFETY: as above.
@@ -119,6 +169,8 @@ pub fn find(history: impl AsRef<[u8]>) -> Answer {
     whole(|out| find_into(history.as_ref(), out))
 }
 
+/// Finds certificates, and writes their text into `out`. Where it is too small they are cut. Also gives how long the text is.
+#[must_use]
 pub fn find_into(history: &[u8], out: &mut [u8]) -> (Verdict, usize) {
     // SAFETY: as above.
     answered(out, |at, capacity, needed| unsafe {
@@ -126,11 +178,19 @@ pub fn find_into(history: &[u8], out: &mut [u8]) -> (Verdict, usize) {
     })
 }
 
-/// Checks reasons why a history is not linearizable. It never answers yes.
+/// Checks reasons why a history is not linearizable. It never answers yes. The search of a part takes at most `STEPS` steps.
 pub fn refute(history: impl AsRef<[u8]>, reasons: impl AsRef<[u8]>) -> Answer {
-    whole(|out| refute_into(history.as_ref(), reasons.as_ref(), STEPS, out))
+    refute_with_steps(history, reasons, STEPS)
 }
 
+/// Checks reasons why a history is not linearizable, where the search of a part takes at most `steps` steps.
+pub fn refute_with_steps(history: impl AsRef<[u8]>, reasons: impl AsRef<[u8]>, steps: u32) -> Answer {
+    whole(|out| refute_into(history.as_ref(), reasons.as_ref(), steps, out))
+}
+
+/// Checks reasons why a history is not linearizable, where the search of a part takes at most `steps` steps, and writes the lines into
+/// `out`. Where it is too small they are cut. Also gives how long all lines are.
+#[must_use]
 pub fn refute_into(history: &[u8], reasons: &[u8], steps: u32, out: &mut [u8]) -> (Verdict, usize) {
     let (first, length) = (reasons.as_ptr(), reasons.len());
     // SAFETY: as above.

@@ -2,46 +2,148 @@
 //!
 //! ```ignore
 //! let recorder = Recorder::new();
-//! let mut journal = recorder.journal(); // one for each thread
-//! journal.call("enqueue", 7, || { queue.enqueue(7); 7 });
-//! let text = recorder.history(&journals); // after the threads have ended
+//! let mut journals = [recorder.journal(), recorder.journal()]; // before the threads, one for each
+//! // in a thread, which borrows its journal:
+//! journal.call("enqueue", value, || queue.enqueue(value));
+//! journal.call("dequeue", (), || queue.dequeue());
+//! // after the threads have ended:
+//! let text = recorder.history(&journals);
 //! ```
 //!
 //! An atomic counter gives a ticket before each call and one after it. A thread writes into its own journal and takes no lock.
 //! The events in the order of their tickets are the history: where one call returned before another was invoked in the history,
 //! it did so in fact. So a history that is not linearizable shows that the object is not.
 //!
+//! A journal that is dropped, or not handed to `history`, takes its calls with it: `history` panics then.
+//!
+//! The reply of `enqueue`, `push`, `insert` and `write` is their argument: where the call gives nothing, it is written.
+//!
 //! A call that does not return, as one that panics or times out, may have happened: its operation ends with `:info`, and the
-//! journal goes on as a new process, as Jepsen's threads do.
+//! journal goes on as a new process, as Jepsen's threads do. Use `failed` and an error of `try_call` only where the call surely
+//! did not happen: if a call that timed out is written as failed, a correct queue gets a no.
+//!
+//! Threads that are not scoped take a recorder that is `static` or leaked:
+//!
+//! ```ignore
+//! let recorder: &'static Recorder = Box::leak(Box::new(Recorder::new()));
+//! ```
+
+// A test that copies this file calls only some of it.
+#![allow(dead_code)]
 
 use std::fmt::{self, Display, Write};
+use std::ptr;
 use std::sync::atomic::{AtomicU64, Ordering};
 
 /// An argument or a reply.
 #[derive(Clone, Copy, Debug, PartialEq, Eq)]
 pub enum Value {
+    /// Nothing, as the argument of `dequeue`, and its reply where the queue is empty.
     Nil,
-    /// The reply of a compare-and-set that found another value.
+    /// The reply of a `cas` that found another value.
     False,
+    /// What is enqueued, read, written and so on.
     Number(i64),
+    /// The argument of `put`, a key and a value, and that of `cas`.
     Pair(i64, i64),
 }
 
-impl From<i64> for Value {
-    fn from(number: i64) -> Value {
-        Value::Number(number)
+impl Value {
+    /// A number of a type that may not fit in `i64`, as `usize`.
+    ///
+    /// # Panics
+    ///
+    /// Where the number does not fit.
+    #[must_use]
+    pub fn number(number: impl TryInto<i64>) -> Value {
+        Value::Number(fitting(number))
+    }
+
+    /// The argument of `put`, a key and a value; or that of `cas`, what is expected and what is new.
+    ///
+    /// The reply of a `cas` is this pair where it swapped, else `Value::False`. So for a compare-and-set `swap` that gives a `bool`:
+    ///
+    /// ```ignore
+    /// let pair = Value::pair(expected, new);
+    /// journal.call_as(0, "cas", pair, || register.swap(expected, new), |swapped| if *swapped { pair } else { Value::False });
+    /// ```
+    ///
+    /// # Panics
+    ///
+    /// Where a number does not fit in `i64`.
+    #[must_use]
+    pub fn pair(first: impl TryInto<i64>, second: impl TryInto<i64>) -> Value {
+        Value::Pair(fitting(first), fitting(second))
     }
 }
 
-impl From<Option<i64>> for Value {
-    fn from(number: Option<i64>) -> Value {
-        number.map_or(Value::Nil, Value::Number)
-    }
+/// What a call gives, and the value that is written of it. Implement it for a type of your own, or use `call_as`.
+pub trait Reply {
+    /// The value that is written.
+    fn value(&self) -> Value;
 }
+
+fn fitting(number: impl TryInto<i64>) -> i64 {
+    number.try_into().unwrap_or_else(|_| panic!("a number does not fit in i64"))
+}
+
+macro_rules! numbers {
+    ($($number:ty)*) => { $(
+        impl From<$number> for Value {
+            fn from(number: $number) -> Value {
+                Value::Number(i64::from(number))
+            }
+        }
+
+        impl Reply for $number {
+            fn value(&self) -> Value {
+                Value::from(*self)
+            }
+        }
+    )* };
+}
+
+numbers!(i8 i16 i32 i64 u8 u16 u32);
 
 impl From<()> for Value {
     fn from(_nothing: ()) -> Value {
         Value::Nil
+    }
+}
+
+impl<T: Into<Value>> From<Option<T>> for Value {
+    fn from(number: Option<T>) -> Value {
+        number.map_or(Value::Nil, T::into)
+    }
+}
+
+impl Reply for () {
+    fn value(&self) -> Value {
+        Value::Nil
+    }
+}
+
+impl Reply for Value {
+    fn value(&self) -> Value {
+        *self
+    }
+}
+
+impl<T: Reply> Reply for Option<T> {
+    fn value(&self) -> Value {
+        self.as_ref().map_or(Value::Nil, T::value)
+    }
+}
+
+impl<T: Reply + ?Sized> Reply for &T {
+    fn value(&self) -> Value {
+        T::value(self)
+    }
+}
+
+impl<T: Reply + ?Sized> Reply for Box<T> {
+    fn value(&self) -> Value {
+        T::value(self)
     }
 }
 
@@ -85,6 +187,16 @@ struct Event {
     value: Value,
 }
 
+impl Event {
+    /// The reply of a function that puts a value in is its argument.
+    fn reply(&self, reply: Value) -> Value {
+        if reply == Value::Nil && matches!(self.function, "enqueue" | "push" | "insert" | "write") {
+            return self.value;
+        }
+        reply
+    }
+}
+
 impl Display for Event {
     fn fmt(&self, f: &mut fmt::Formatter) -> fmt::Result {
         let Event { ticket: _, process, object, kind, function, value } = self;
@@ -92,7 +204,7 @@ impl Display for Event {
     }
 }
 
-/// Gives the tickets, and the numbers of processes.
+/// Gives the tickets, and the numbers of processes. One recorder makes one history.
 #[derive(Debug, Default)]
 pub struct Recorder {
     tickets: AtomicU64,
@@ -100,6 +212,8 @@ pub struct Recorder {
 }
 
 /// What one thread did.
+///
+/// Make the journals before the threads and lend each to its thread: a journal that is dropped takes its calls with it.
 #[derive(Debug)]
 pub struct Journal<'a> {
     recorder: &'a Recorder,
@@ -110,17 +224,30 @@ pub struct Journal<'a> {
 }
 
 impl Recorder {
-    pub fn new() -> Recorder {
-        Recorder::default()
+    /// A recorder that gave no ticket yet. It may be a `static`.
+    #[must_use]
+    pub const fn new() -> Recorder {
+        Recorder { tickets: AtomicU64::new(0), processes: AtomicU64::new(0) }
     }
 
+    /// A journal for one thread, or one task.
+    #[must_use]
     pub fn journal(&self) -> Journal<'_> {
         Journal { recorder: self, process: next(&self.processes), outstanding: None, events: Vec::new() }
     }
 
     /// The history, after all threads have ended: each event at the place of its ticket.
+    ///
+    /// # Panics
+    ///
+    /// Where it is not handed all journals of this recorder: without the calls of one of them a correct object could get a no.
+    #[must_use]
     pub fn history(&self, journals: &[Journal]) -> String {
+        let is_own = journals.iter().all(|journal| ptr::eq(journal.recorder, self));
+        assert!(is_own, "a journal of another recorder was handed in");
         let mut events: Vec<Event> = journals.iter().flat_map(|journal| journal.events.iter().copied()).collect();
+        let missing = self.tickets.load(Ordering::SeqCst) - events.len() as u64;
+        assert!(missing == 0, "{missing} events are missing: a journal was not handed in");
         events.sort_by_key(|event| event.ticket);
         let pending = journals.iter().filter_map(|journal| journal.outstanding);
         events.extend(pending.map(|call| Event { kind: Kind::Info, ..call }));
@@ -134,31 +261,42 @@ impl Recorder {
 
 impl Journal<'_> {
     /// Makes a call on object 0, and records it.
-    pub fn call<R: Copy + Into<Value>>(
-        &mut self,
-        function: &'static str,
-        argument: impl Into<Value>,
-        act: impl FnOnce() -> R,
-    ) -> R {
+    pub fn call<R: Reply>(&mut self, function: &'static str, argument: impl Into<Value>, act: impl FnOnce() -> R) -> R {
         self.call_on(0, function, argument, act)
     }
 
     /// Makes a call on an object, and records it.
-    pub fn call_on<R: Copy + Into<Value>>(
+    pub fn call_on<R: Reply>(&mut self, object: u16, function: &'static str, argument: impl Into<Value>, act: impl FnOnce() -> R) -> R {
+        self.call_as(object, function, argument, act, R::value)
+    }
+
+    /// Makes a call on an object, and records it with the reply that `value` makes of what the call gave.
+    pub fn call_as<R>(
         &mut self,
         object: u16,
         function: &'static str,
         argument: impl Into<Value>,
         act: impl FnOnce() -> R,
+        value: impl FnOnce(&R) -> Value,
     ) -> R {
         self.invoke(object, function, argument);
         let reply = act();
-        self.end(Kind::Ok, reply.into());
+        self.end(Kind::Ok, value(&reply));
         reply
     }
 
-    /// The same of a call that may fail, so that it surely did not happen: then `act` gives an error.
-    pub fn try_call_on<R: Copy + Into<Value>, E>(
+    /// Makes a call on object 0 that may fail, and records it. `act` gives an error only where the call surely did not happen.
+    pub fn try_call<R: Reply, E>(
+        &mut self,
+        function: &'static str,
+        argument: impl Into<Value>,
+        act: impl FnOnce() -> Result<R, E>,
+    ) -> Result<R, E> {
+        self.try_call_on(0, function, argument, act)
+    }
+
+    /// Makes a call on an object that may fail, and records it. `act` gives an error only where the call surely did not happen.
+    pub fn try_call_on<R: Reply, E>(
         &mut self,
         object: u16,
         function: &'static str,
@@ -168,17 +306,19 @@ impl Journal<'_> {
         self.invoke(object, function, argument);
         let reply = act();
         match &reply {
-            Ok(value) => self.end(Kind::Ok, (*value).into()),
-            Err(_) => self.end(Kind::Fail, Value::Nil),
+            Ok(value) => self.end(Kind::Ok, value.value()),
+            Err(_) => self.failed(),
         }
         reply
     }
 
-    /// The room is made before the ticket of an invocation is drawn.
-    fn invoke(&mut self, object: u16, function: &'static str, argument: impl Into<Value>) {
-        if let Some(call) = self.outstanding.take() {
-            self.give_up(call);
+    /// Call it just before a call, where `call` does not suit, as in async code. Then call one of `returned`, `failed` and `gave_up`;
+    /// where there is none before the next `invoke`, it is `gave_up`.
+    pub fn invoke(&mut self, object: u16, function: &'static str, argument: impl Into<Value>) {
+        if self.outstanding.is_some() {
+            self.gave_up();
         }
+        // The room is made before the ticket of an invocation is drawn.
         self.events.reserve(2);
         let (process, value) = (self.process, argument.into());
         let ticket = next(&self.recorder.tickets);
@@ -187,19 +327,45 @@ impl Journal<'_> {
         self.outstanding = Some(call);
     }
 
-    /// The ticket of a return is drawn first.
-    fn end(&mut self, kind: Kind, value: Value) {
-        let ticket = next(&self.recorder.tickets);
-        if let Some(call) = self.outstanding.take() {
-            self.events.push(Event { ticket, kind, value, ..call });
-        }
+    /// Call it just after the call returned.
+    ///
+    /// # Panics
+    ///
+    /// Where no call is outstanding.
+    pub fn returned(&mut self, reply: impl Into<Value>) {
+        self.end(Kind::Ok, reply.into());
     }
 
-    /// The operation that did not return ends with `:info`, and what follows is of another process.
-    fn give_up(&mut self, call: Event) {
-        let ticket = next(&self.recorder.tickets);
-        self.events.push(Event { ticket, kind: Kind::Info, ..call });
+    /// Call it only where the call surely did not happen: it is written with `:fail`. A timeout is `gave_up`.
+    ///
+    /// # Panics
+    ///
+    /// Where no call is outstanding.
+    pub fn failed(&mut self) {
+        self.end(Kind::Fail, Value::Nil);
+    }
+
+    /// Call it where the call may have happened, or may still happen, as after a timeout: it is written with `:info`, and what
+    /// follows is of another process.
+    ///
+    /// # Panics
+    ///
+    /// Where no call is outstanding.
+    pub fn gave_up(&mut self) {
+        self.end(Kind::Info, Value::Nil);
         self.process = next(&self.recorder.processes);
+    }
+
+    /// The ticket of a return is drawn first.
+    fn end(&mut self, kind: Kind, reply: Value) {
+        let call = self.outstanding.take().expect("no call is outstanding");
+        let ticket = next(&self.recorder.tickets);
+        let value = match kind {
+            Kind::Ok => call.reply(reply),
+            Kind::Fail => Value::Nil,
+            Kind::Info | Kind::Invoke => call.value,
+        };
+        self.events.push(Event { ticket, kind, value, ..call });
     }
 }
 

@@ -1,6 +1,6 @@
 //! Calls the library: a yes, a no, a malformed text, and a buffer that is too small.
 
-use fcbench::{check, find, judge, judge_into, refute, Verdict, STEPS};
+use fcbench::{check, find, judge, judge_into, judge_with_steps, refute, refute_with_steps, Verdict, STEPS};
 
 const QUEUE: &str = "{:process 0, :type :invoke, :f :enqueue, :value 1}
 {:process 0, :type :ok, :f :enqueue, :value 1}
@@ -37,6 +37,36 @@ fn a_no() {
     assert_eq!(refute(QUEUE, reason).verdict, Verdict::Open);
     let refused = check(QUEUE, "");
     assert_eq!((refused.verdict, refused.lines.as_str()), (Verdict::No, "no: C1 object 0 has no certificate\n"));
+}
+
+/// The reasons of a judgement, as `refute` reads them.
+#[test]
+fn the_reasons_of_a_no() {
+    let two = format!("{OLD_READ}{}", OLD_READ.replace(":process 0", ":process 1").replace('}', ", :object 1}"));
+    let answer = judge_with_steps(&two, STEPS);
+    let reasons = answer.reasons();
+    assert!(answer.is_no() && !answer.is_yes(), "{answer}");
+    assert_eq!(reasons.lines().filter(|line| line.starts_with("{:object ")).count(), 2, "{reasons}");
+    assert_eq!(reasons.lines().count(), 2, "{reasons}");
+    assert!(refute(&two, &reasons).is_no());
+    assert!(refute_with_steps(&two, &reasons, STEPS).is_no());
+    assert!(refute(QUEUE, judge(OLD_READ).reasons()).verdict == Verdict::Open);
+    assert_eq!(judge(QUEUE).reasons(), "");
+}
+
+#[test]
+fn an_answer_in_a_message() {
+    assert!(judge(QUEUE).is_yes());
+    assert_eq!(judge(QUEUE).to_string(), format!("yes\n{YES_LINES}"));
+    assert!(judge(OLD_READ).to_string().starts_with("no\n; object 0: impossible\n"));
+    assert_eq!(judge("{:process 0").to_string(), "malformed\nmalformed history: E2 at byte 11\n");
+    assert!(refute(QUEUE, "").to_string().starts_with("not decided\n"));
+}
+
+/// A history without a map is a yes of no operations.
+#[test]
+fn an_empty_history() {
+    assert_eq!(judge("").lines, "yes: 0 operations, 0 objects\n");
 }
 
 #[test]

@@ -1,8 +1,9 @@
 //! Drives a right queue and one with a race by 4 threads, records them, and judges the histories. FCBENCH_RUNS says how many
 //! runs of each are made.
 
-use fcbench::recorder::{Journal, Recorder, Value};
+use fcbench::recorder::{Journal, Recorder, Reply, Value};
 use fcbench::{judge, Verdict};
+use std::collections::{BTreeMap, VecDeque};
 use std::panic::{catch_unwind, AssertUnwindSafe};
 use std::sync::atomic::{AtomicI64, AtomicUsize, Ordering::SeqCst};
 use std::sync::{Barrier, Mutex};
@@ -135,4 +136,159 @@ fn pending_and_failed_calls() {
 {:process 2, :type :fail, :f :cas, :value nil, :object 3}
 ";
     assert_eq!(recorder.history(&journals), wanted);
+}
+
+fn message_of(panics: impl FnOnce() -> String) -> String {
+    let payload = catch_unwind(AssertUnwindSafe(panics)).expect_err("it panics");
+    payload.downcast_ref::<String>().cloned().or_else(|| payload.downcast_ref::<&str>().map(|text| text.to_string())).expect("a message")
+}
+
+/// Without the calls of the lost journal the history says that 7 is dequeued and was never enqueued.
+#[test]
+fn a_journal_that_is_not_handed_in() {
+    let (recorder, other) = (Recorder::new(), Recorder::new());
+    let mut kept = recorder.journal();
+    let lost = catch_unwind(AssertUnwindSafe(|| {
+        let mut own = recorder.journal();
+        own.call("enqueue", 7, || ());
+        own.call("enqueue", 8, || -> () { std::panic::resume_unwind(Box::new("a fault of the thread")) });
+    }));
+    assert!(lost.is_err());
+    kept.call("dequeue", (), || 7);
+    let journals = [kept];
+    assert_eq!(message_of(|| recorder.history(&journals)), "3 events are missing: a journal was not handed in");
+    assert_eq!(message_of(|| other.history(&journals)), "a journal of another recorder was handed in");
+}
+
+/// The reply of a function that puts a value in is its argument, also where the call gives nothing.
+#[test]
+fn replies_of_calls_that_give_nothing() {
+    let recorder = Recorder::new();
+    let mut journal = recorder.journal();
+    for (object, function) in (0..).zip(["enqueue", "push", "insert", "write"]) {
+        journal.call_on(object, function, 7, || ());
+        let done: Result<(), ()> = journal.try_call_on(object, function, 8, || Ok(()));
+        assert!(done.is_ok());
+    }
+    journal.call_on(4, "acquire", (), || ());
+    journal.call_on(4, "release", (), || ());
+    let text = recorder.history(&[journal]);
+    for (object, function) in ["enqueue", "push", "insert", "write"].iter().enumerate() {
+        for value in [7, 8] {
+            let reply = format!("{{:process 0, :type :ok, :f :{function}, :value {value}, :object {object}}}\n");
+            assert!(text.contains(&reply), "{text}");
+        }
+    }
+    assert_eq!(text.matches(":value nil").count(), 4, "{text}");
+    let answer = judge(&text);
+    assert!(answer.lines.starts_with("yes: 10 operations"), "{answer}");
+}
+
+/// A call in steps, as in async code: one that timed out, one that failed, and one that returned.
+#[test]
+fn the_four_steps() {
+    let recorder = Recorder::new();
+    let mut journal = recorder.journal();
+    journal.invoke(0, "enqueue", 7);
+    journal.gave_up();
+    journal.invoke(0, "enqueue", 8);
+    journal.failed();
+    journal.invoke(0, "dequeue", ());
+    journal.returned(Some(7));
+    journal.invoke(0, "enqueue", 9);
+    journal.returned(());
+    journal.invoke(0, "enqueue", 10);
+    let wanted = "{:process 0, :type :invoke, :f :enqueue, :value 7, :object 0}
+{:process 0, :type :info, :f :enqueue, :value 7, :object 0}
+{:process 1, :type :invoke, :f :enqueue, :value 8, :object 0}
+{:process 1, :type :fail, :f :enqueue, :value nil, :object 0}
+{:process 1, :type :invoke, :f :dequeue, :value nil, :object 0}
+{:process 1, :type :ok, :f :dequeue, :value 7, :object 0}
+{:process 1, :type :invoke, :f :enqueue, :value 9, :object 0}
+{:process 1, :type :ok, :f :enqueue, :value 9, :object 0}
+{:process 1, :type :invoke, :f :enqueue, :value 10, :object 0}
+{:process 1, :type :info, :f :enqueue, :value 10, :object 0}
+";
+    let mut journals = [journal];
+    let text = recorder.history(&journals);
+    assert_eq!(text, wanted);
+    assert!(judge(text).is_yes());
+    // Written as failed, the call that timed out makes a no of it.
+    assert!(judge(wanted.replace(":type :info, :f :enqueue, :value 7", ":type :fail, :f :enqueue, :value 7")).is_no());
+    journals[0].gave_up();
+    let after = || {
+        journals[0].failed();
+        String::new()
+    };
+    assert_eq!(message_of(after), "no call is outstanding");
+}
+
+#[derive(Debug, PartialEq)]
+struct Job(String);
+
+impl Reply for Job {
+    fn value(&self) -> Value {
+        Value::number(self.0.len())
+    }
+}
+
+/// Replies that are no numbers, and are not copied.
+#[test]
+fn replies_of_other_types() {
+    let recorder = Recorder::new();
+    let mut journal = recorder.journal();
+    let mut jobs = VecDeque::new();
+    journal.call("enqueue", Value::number("seven".len()), || jobs.push_back(Job("seven".to_string())));
+    assert_eq!(journal.call("dequeue", (), || jobs.pop_front()), Some(Job("seven".to_string())));
+    let names = || vec!["one".to_string()];
+    let got = journal.call_as(1, "read", (), names, |names| names.first().map_or(Value::Nil, |name| Value::number(name.len())));
+    assert_eq!(got, names());
+    let boxed: Box<u32> = journal.call_on(1, "read", (), || Box::new(3));
+    assert_eq!(*boxed, 3);
+    let text = recorder.history(&[journal]);
+    let values: Vec<&str> = text.lines().filter(|line| line.contains(":type :ok")).filter_map(|line| line.split(":value ").nth(1)).collect();
+    assert_eq!(values, ["5, :object 0}", "5, :object 0}", "3, :object 1}", "3, :object 1}"]);
+}
+
+#[test]
+fn a_map() {
+    let recorder = Recorder::new();
+    let mut journal = recorder.journal();
+    let mut map = BTreeMap::new();
+    let (k, v) = (1i64, 2i64);
+    journal.call("put", Value::pair(k, v), || map.insert(k, v));
+    journal.call("get", k, || map.get(&k).copied());
+    journal.call("del", k, || map.remove(&k));
+    journal.call("get", k, || map.get(&k).copied());
+    let answer = judge(recorder.history(&[journal]));
+    assert!(answer.lines.starts_with("yes: 4 operations, 1 objects\nmap: "), "{answer}");
+}
+
+/// A compare-and-set replies its pair where it swapped, else `false`.
+#[test]
+fn a_compare_and_set() {
+    let recorder = Recorder::new();
+    let mut journal = recorder.journal();
+    let register = AtomicI64::new(0);
+    journal.call("write", 1, || register.store(1, SeqCst));
+    for (expected, new) in [(1, 2), (1, 3)] {
+        let pair = Value::pair(expected, new);
+        let swap = || register.compare_exchange(expected, new, SeqCst, SeqCst).is_ok();
+        journal.call_as(0, "cas", pair, swap, |swapped| if *swapped { pair } else { Value::False });
+    }
+    journal.call("read", (), || register.load(SeqCst));
+    let text = recorder.history(&[journal]);
+    assert!(text.contains(":type :ok, :f :cas, :value [1 2]") && text.contains(":type :ok, :f :cas, :value false"), "{text}");
+    let answer = judge(&text);
+    assert!(answer.lines.starts_with("yes: 4 operations"), "{answer}");
+}
+
+#[test]
+fn numbers_of_each_type() {
+    let seven = Value::Number(7);
+    assert_eq!([Value::from(7i8), Value::from(7i16), Value::from(7i32), Value::from(7i64)], [seven; 4]);
+    assert_eq!([Value::from(7u8), Value::from(7u16), Value::from(7u32), Value::from(Some(7))], [seven; 4]);
+    assert_eq!([Value::number(7u64), Value::number(7usize), Value::number(7isize), Value::number(7i128)], [seven; 4]);
+    assert_eq!(Value::pair(u64::from(1u8), 2usize), Value::Pair(1, 2));
+    assert_eq!(message_of(|| Value::number(u64::MAX).to_string()), "a number does not fit in i64");
 }
