@@ -6,6 +6,7 @@
 #define FCBENCH_HPP
 
 #include "fcbench.h"
+#include <algorithm>
 #include <cstddef>
 #include <cstdint>
 #include <string>
@@ -22,7 +23,7 @@ enum class Verdict : std::uint32_t {
 };
 
 // A verdict and all of its lines. It owns the lines, and gives their memory back at its end.
-class Answer {
+class [[nodiscard]] Answer {
 public:
     // Calls with more room until all lines fit. `call` takes a buffer, its capacity, and the length that is needed.
     template <class Call>
@@ -43,6 +44,19 @@ public:
     bool is_yes() const noexcept { return verdict_ == Verdict::Yes; }
     bool is_no() const noexcept { return verdict_ == Verdict::No; }
     const std::string &lines() const noexcept { return lines_; }
+
+    // The reasons among the lines, as `refute` reads them: of each line that begins with `; {` what follows the `; `.
+    std::string reasons() const {
+        std::string reasons;
+        for (std::size_t at = 0; at < lines_.size();) {
+            const std::size_t end = std::min(lines_.find('\n', at), lines_.size() - 1) + 1;
+            if (lines_.compare(at, 3, "; {") == 0) {
+                reasons.append(lines_, at + 2, end - at - 2);
+            }
+            at = end;
+        }
+        return reasons;
+    }
 
 private:
     Answer(Verdict verdict, std::string lines) : verdict_(verdict), lines_(std::move(lines)) {}

@@ -1,24 +1,38 @@
 // Records the calls of threads on concurrent objects, as a history for fcbench. Copy this file. Needs C++17.
 //
 //     fcbench::Recorder recorder;
-//     fcbench::Journal journal = recorder.journal();          // one for each thread
-//     journal.call("enqueue", 7, [&] { queue.enqueue(7); return 7; });
-//     std::string text = recorder.history(journals);          // after the threads have ended
+//     std::vector<fcbench::Journal> journals; // before the threads, one for each
+//     journals.push_back(recorder.journal());
+//     // in a thread, which borrows its journal:
+//     fcbench::Journal &journal = journals[0];
+//     journal.call("enqueue", 7, [&] { queue.enqueue(7); });
+//     journal.call("dequeue", std::nullopt, [&] { return queue.dequeue(); });
+//     // after the threads have ended:
+//     const std::string text = recorder.history(journals);
 //
 // An atomic counter gives a ticket before each call and one after it. A thread writes into its own journal and takes no
 // lock. The events in the order of their tickets are the history: where one call returned before another was invoked in the
 // history, it did so in fact. So a history that is not linearizable shows that the object is not.
 //
-// A call that does not return, as one that throws, may have happened: its operation ends with :info, and the journal goes on
-// as a new process, as Jepsen's threads do.
+// A journal that is destroyed, or not handed to `history`, takes its calls with it: `history` throws std::logic_error then.
+//
+// The reply of enqueue, push, insert and write is their argument: where the call gives nothing, it is written. The reply of
+// cas is its pair where it swapped, else Value::no().
+//
+// A call that does not return, as one that throws or times out, may have happened: its operation ends with :info, and the
+// journal goes on as a new process, as Jepsen's threads do. Use `failed` and the false of `try_call` only where the call surely
+// did not happen: if a call that timed out is written as failed, a correct queue gets a no.
 #ifndef FCBENCH_RECORDER_HPP
 #define FCBENCH_RECORDER_HPP
 
+#include <algorithm>
 #include <atomic>
 #include <cstddef>
 #include <cstdint>
 #include <optional>
+#include <stdexcept>
 #include <string>
+#include <type_traits>
 #include <utility>
 #include <vector>
 
@@ -26,12 +40,25 @@ namespace fcbench {
 
 // An argument or a reply: nil, false, a number, or a pair of numbers.
 class Value {
+    template <class T>
+    using if_bool = std::enable_if_t<std::is_same_v<T, bool>, int>;
+    template <class T>
+    using if_number = std::enable_if_t<std::is_integral_v<T> && !std::is_same_v<T, bool>, int>;
+
 public:
     Value(std::nullopt_t = std::nullopt) : text_("nil") {}
-    Value(std::int64_t number) : text_(std::to_string(number)) {}
-    Value(std::optional<std::int64_t> number) : text_(number ? std::to_string(*number) : "nil") {}
-    Value(bool) = delete; // `no` says false
-    Value(std::int64_t first, std::int64_t second) : text_("[" + std::to_string(first) + " " + std::to_string(second) + "]") {}
+
+    template <class T, if_number<T> = 0>
+    Value(T number) : text_(std::to_string(number)) {}
+
+    template <class T, if_number<T> = 0>
+    Value(std::optional<T> number) : text_(number ? std::to_string(*number) : "nil") {}
+
+    template <class T, if_bool<T> = 0>
+    Value(T) = delete; // `no` says false
+
+    template <class T, class U, if_number<T> = 0, if_number<U> = 0>
+    Value(T first, U second) : text_("[" + std::to_string(first) + " " + std::to_string(second) + "]") {}
 
     // A compare-and-set that found another value.
     static Value no() {
@@ -40,6 +67,7 @@ public:
         return value;
     }
 
+    bool is_nil() const noexcept { return text_ == "nil"; }
     const std::string &text() const noexcept { return text_; }
 
 private:
@@ -57,21 +85,86 @@ struct Event {
 
 class Recorder;
 
-// What one thread did. Only that thread uses it.
+// What one thread did. Only that thread uses it. It is moved and not copied, since each call is written once.
 class Journal {
 public:
-    // Makes the call, and records it: `act` makes it and gives its reply.
+    Journal(Journal &&) = default;
+    Journal &operator=(Journal &&) = default;
+
+    // Makes the call, and records it: `act` makes it and gives its reply, or nothing.
     template <class Act>
     auto call_on(std::uint16_t object, const char *function, Value argument, Act act) {
         invoke(object, function, std::move(argument));
-        auto reply = act();
-        end(reply);
-        return reply;
+        if constexpr (std::is_void_v<decltype(act())>) {
+            act();
+            returned();
+        } else {
+            auto reply = act();
+            returned(reply);
+            return reply;
+        }
     }
 
+    // The same on object 0.
     template <class Act>
     auto call(const char *function, Value argument, Act act) {
         return call_on(0, function, std::move(argument), act);
+    }
+
+    // Makes a call that may fail, and records it. `act` gives what is false only where the call surely did not happen: a bool, or a
+    // std::optional of the reply, or a pointer to it.
+    template <class Act>
+    auto try_call_on(std::uint16_t object, const char *function, Value argument, Act act) {
+        invoke(object, function, std::move(argument));
+        auto reply = act();
+        if (!reply) {
+            failed();
+        } else if constexpr (std::is_same_v<decltype(reply), bool>) {
+            returned();
+        } else {
+            returned(*reply);
+        }
+        return reply;
+    }
+
+    // The same on object 0.
+    template <class Act>
+    auto try_call(const char *function, Value argument, Act act) {
+        return try_call_on(0, function, std::move(argument), act);
+    }
+
+    // Call it just before a call, where `call` does not suit, as in asynchronous code. Then call one of `returned`, `failed` and
+    // `gave_up`; where there is none before the next `invoke`, it is `gave_up`.
+    void invoke(std::uint16_t object, const char *function, Value argument) {
+        if (is_pending_) {
+            gave_up();
+        }
+        // What takes time and memory is done before the ticket of an invocation is drawn.
+        events_.push_back({0, process_, object, "invoke", function, std::move(argument)});
+        is_pending_ = true;
+        events_.back().ticket = (*tickets_)++;
+    }
+
+    // Call it just after the call returned.
+    template <class Reply>
+    void returned(const Reply &reply) {
+        const std::uint64_t ticket = ended();
+        const Event &call = events_.back();
+        Value value(reply);
+        end(ticket, "ok", value.is_nil() && is_put(call.function) ? call.value : std::move(value));
+    }
+
+    void returned() { returned(std::nullopt); }
+
+    // Call it only where the call surely did not happen: it is written with :fail. A timeout is `gave_up`.
+    void failed() { end(ended(), "fail", std::nullopt); }
+
+    // Call it where the call may have happened, or may still happen, as after a timeout: it is written with :info, and what
+    // follows is of another process.
+    void gave_up() {
+        const std::uint64_t ticket = ended();
+        end(ticket, "info", Value(events_.back().value));
+        process_ = (*processes_)++;
     }
 
 private:
@@ -79,59 +172,62 @@ private:
     Journal(std::atomic<std::uint64_t> &tickets, std::atomic<std::uint64_t> &processes)
         : tickets_(&tickets), processes_(&processes), process_(processes++) {}
 
-    // What takes time and memory is done before the ticket of an invocation is drawn.
-    void invoke(std::uint16_t object, const char *function, Value argument) {
-        if (pending_) {
-            give_up();
-        }
-        events_.push_back({0, process_, object, "invoke", function, std::move(argument)});
-        pending_ = true;
-        events_.back().ticket = (*tickets_)++;
+    // Whether the reply of a function is its argument.
+    static bool is_put(const std::string &function) {
+        return function == "enqueue" || function == "push" || function == "insert" || function == "write";
     }
 
     // The ticket of a return is drawn first.
-    void end(Value reply) {
-        const std::uint64_t ticket = (*tickets_)++;
-        const Event call = events_.back();
-        events_.push_back({ticket, process_, call.object, "ok", call.function, std::move(reply)});
-        pending_ = false;
+    std::uint64_t ended() {
+        if (!is_pending_) {
+            throw std::logic_error("no call is outstanding");
+        }
+        return (*tickets_)++;
     }
 
-    // The operation that did not return ends with :info, and what follows is of another process.
-    void give_up() {
-        const Event call = events_.back();
-        events_.push_back({(*tickets_)++, process_, call.object, "info", call.function, call.value});
-        process_ = (*processes_)++;
-        pending_ = false;
+    void end(std::uint64_t ticket, const char *type, Value value) {
+        const Event &call = events_.back();
+        Event event{ticket, process_, call.object, type, call.function, std::move(value)};
+        events_.push_back(std::move(event));
+        is_pending_ = false;
     }
 
     std::atomic<std::uint64_t> *tickets_;
     std::atomic<std::uint64_t> *processes_;
     std::uint64_t process_;
-    bool pending_ = false;
+    bool is_pending_ = false;
     std::vector<Event> events_;
 };
 
+// Gives the tickets, and the numbers of processes. One recorder makes one history.
 class Recorder {
 public:
     Journal journal() { return Journal(tickets_, processes_); }
 
-    // The history, after all threads have ended: each event at the place of its ticket.
+    // The history, after all threads have ended: each event at the place of its ticket. It takes all journals: without the calls
+    // of one of them a correct object could get a no.
     std::string history(std::vector<Journal> &journals) {
-        std::vector<const Event *> events(tickets_ + journals.size(), nullptr);
         for (Journal &journal : journals) {
-            if (journal.pending_) {
-                journal.give_up();
+            if (journal.tickets_ != &tickets_) {
+                throw std::logic_error("a journal of another recorder was handed in");
             }
+            if (journal.is_pending_) {
+                journal.gave_up();
+            }
+        }
+        std::vector<const Event *> events(tickets_, nullptr);
+        for (const Journal &journal : journals) {
             for (const Event &event : journal.events_) {
                 events[event.ticket] = &event;
             }
         }
+        const auto missing = std::count(events.begin(), events.end(), nullptr);
+        if (missing != 0) {
+            throw std::logic_error(std::to_string(missing) + " events are missing: a journal was not handed in");
+        }
         std::string text;
         for (const Event *event : events) {
-            if (event != nullptr) {
-                text += line(*event);
-            }
+            text += line(*event);
         }
         return text;
     }

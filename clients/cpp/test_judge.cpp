@@ -34,8 +34,22 @@ static void answers() {
     const auto at = no.lines().find("; {:object 0, :cuts ");
     want(at != std::string::npos, "it comes with a reason");
     want(fcbench::refute(old_read, no.lines().substr(at + 2)).is_no(), "the reason is accepted");
+    want(no.reasons() == no.lines().substr(at + 2), "the reasons are its last line");
+    want(fcbench::refute(old_read, no.reasons()).is_no() && yes.reasons().empty(), "and are accepted");
+    want(fcbench::judge("").lines() == "yes: 0 operations, 0 objects\n", "a history without a map is a yes");
     const auto malformed = fcbench::judge("{:process 0");
     want(malformed.verdict() == fcbench::Verdict::Malformed && malformed.lines() == "malformed history: E2 at byte 11\n", "a text that ends early");
+}
+
+// The reasons of two objects are two lines.
+static void reasons_of_two_objects() {
+    std::string other;
+    for (const char at : old_read) {
+        other += at == '0' ? std::string("1") : at == '}' ? std::string(", :object 1}") : std::string(1, at);
+    }
+    const auto reasons = fcbench::judge(old_read + other).reasons();
+    want(std::count(reasons.begin(), reasons.end(), '\n') == 2 && reasons.rfind("{:object 0, ", 0) == 0, "a reason for each object");
+    want(fcbench::refute(old_read + other, reasons).is_no(), "both are accepted");
 }
 
 static void certificates() {
@@ -63,6 +77,7 @@ static void a_buffer_too_small() {
 
 int main() {
     answers();
+    reasons_of_two_objects();
     certificates();
     a_buffer_too_small();
     std::cout << "test_judge: passed\n";

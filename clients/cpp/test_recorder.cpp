@@ -67,7 +67,7 @@ static void work(Queue &queue, fcbench::Journal &journal, std::int64_t first) {
     for (std::int64_t i = 0; i < calls; i++) {
         const std::int64_t value = first + i;
         if (i % 2 == 0) {
-            journal.call("enqueue", value, [&] { queue.enqueue(value); return value; });
+            journal.call("enqueue", value, [&] { queue.enqueue(value); });
         } else {
             journal.call("dequeue", std::nullopt, [&] { return queue.dequeue(); });
         }
@@ -137,9 +137,129 @@ static void pending_calls() {
          "a call that did not return is written with :info", text);
 }
 
+static void the_example_at_the_head() {
+    Queue queue(false);
+    fcbench::Recorder recorder;
+    std::vector<fcbench::Journal> journals; // before the threads, one for each
+    journals.push_back(recorder.journal());
+    std::thread client([&] {
+        fcbench::Journal &journal = journals[0];
+        journal.call("enqueue", 7, [&] { queue.enqueue(7); });
+        journal.call("dequeue", std::nullopt, [&] { return queue.dequeue(); });
+    });
+    client.join();
+    const std::string text = recorder.history(journals);
+    want(text == "{:process 0, :type :invoke, :f :enqueue, :value 7, :object 0}\n"
+                 "{:process 0, :type :ok, :f :enqueue, :value 7, :object 0}\n"
+                 "{:process 0, :type :invoke, :f :dequeue, :value nil, :object 0}\n"
+                 "{:process 0, :type :ok, :f :dequeue, :value 7, :object 0}\n",
+         "the example at the head of recorder.hpp", text);
+}
+
+template <class Act>
+static std::string message_of(Act act) {
+    try {
+        act();
+    } catch (const std::logic_error &error) {
+        return error.what();
+    }
+    return "nothing is thrown";
+}
+
+// Without the calls of the lost journal the history says that 7 is dequeued and was never enqueued.
+static void a_journal_that_is_not_handed_in() {
+    fcbench::Recorder recorder, another;
+    std::vector<fcbench::Journal> journals;
+    journals.push_back(recorder.journal());
+    std::thread([&] {
+        fcbench::Journal lost = recorder.journal();
+        lost.call("enqueue", 7, [] {});
+        lost.invoke(0, "enqueue", 8);
+    }).join();
+    journals[0].call("dequeue", std::nullopt, [] { return 7; });
+    const std::string missing = message_of([&] { return recorder.history(journals); });
+    want(missing == "3 events are missing: a journal was not handed in", "a journal was not handed in", missing);
+    const std::string foreign = message_of([&] { return another.history(journals); });
+    want(foreign == "a journal of another recorder was handed in", "a journal of another recorder", foreign);
+    static_assert(!std::is_copy_constructible_v<fcbench::Journal>, "a copy would take calls with it");
+}
+
+// The reply of a function that puts a value in is its argument, also where the call gives nothing.
+static void replies_of_calls_that_give_nothing() {
+    fcbench::Recorder recorder;
+    std::vector<fcbench::Journal> journals;
+    journals.push_back(recorder.journal());
+    std::uint16_t object = 0;
+    for (const char *function : {"enqueue", "push", "insert", "write"}) {
+        journals[0].call_on(object, function, 7, [] {});
+        journals[0].try_call_on(object, function, 8, [] { return true; });
+        object++;
+    }
+    journals[0].call_on(object, "acquire", std::nullopt, [] {});
+    journals[0].call_on(object, "release", std::nullopt, [] {});
+    const auto answer = fcbench::judge(recorder.history(journals));
+    want(answer.lines().rfind("yes: 10 operations", 0) == 0, "calls that give nothing", answer.lines());
+}
+
+// A call that surely failed, and one in steps that timed out, failed or returned.
+static void failed_calls_and_steps() {
+    fcbench::Recorder recorder;
+    std::vector<fcbench::Journal> journals;
+    journals.push_back(recorder.journal());
+    fcbench::Journal &journal = journals[0];
+    want(!journal.try_call("enqueue", 6, [] { return false; }), "a call fails", "");
+    const auto none = journal.try_call_on(1, "read", std::nullopt, [] { return std::optional<std::int64_t>(); });
+    want(!none.has_value(), "another call fails", "");
+    journal.invoke(0, "enqueue", 7);
+    journal.gave_up();
+    journal.invoke(0, "enqueue", 8);
+    journal.failed();
+    want(*journal.try_call("dequeue", std::nullopt, [] { return std::optional<int>(7); }) == 7, "a call does not fail", "");
+    journal.invoke(0, "enqueue", 9);
+    journal.returned();
+    want(message_of([&] { journal.returned(9); }) == "no call is outstanding", "a return too much", "");
+    journal.invoke(0, "enqueue", 10);
+    const std::string text = recorder.history(journals);
+    want(text == "{:process 0, :type :invoke, :f :enqueue, :value 6, :object 0}\n"
+                 "{:process 0, :type :fail, :f :enqueue, :value nil, :object 0}\n"
+                 "{:process 0, :type :invoke, :f :read, :value nil, :object 1}\n"
+                 "{:process 0, :type :fail, :f :read, :value nil, :object 1}\n"
+                 "{:process 0, :type :invoke, :f :enqueue, :value 7, :object 0}\n"
+                 "{:process 0, :type :info, :f :enqueue, :value 7, :object 0}\n"
+                 "{:process 1, :type :invoke, :f :enqueue, :value 8, :object 0}\n"
+                 "{:process 1, :type :fail, :f :enqueue, :value nil, :object 0}\n"
+                 "{:process 1, :type :invoke, :f :dequeue, :value nil, :object 0}\n"
+                 "{:process 1, :type :ok, :f :dequeue, :value 7, :object 0}\n"
+                 "{:process 1, :type :invoke, :f :enqueue, :value 9, :object 0}\n"
+                 "{:process 1, :type :ok, :f :enqueue, :value 9, :object 0}\n"
+                 "{:process 1, :type :invoke, :f :enqueue, :value 10, :object 0}\n"
+                 "{:process 1, :type :info, :f :enqueue, :value 10, :object 0}\n",
+         "calls that failed, and calls in steps", text);
+    want(fcbench::judge(text).is_yes(), "they are linearizable", text);
+}
+
+// Numbers of each type but bool, and pairs of them.
+static void values() {
+    const fcbench::Value all[] = {7, 7u, 7l, 7ul, 7ll, 7ull, short{7}, std::uint8_t{7}, std::size_t{7}, std::optional<int>(7),
+                                  std::optional<std::size_t>(7)};
+    for (const fcbench::Value &value : all) {
+        want(value.text() == "7", "a number", value.text());
+    }
+    want(fcbench::Value(std::size_t{1}, -2).text() == "[1 -2]", "a pair", "");
+    want(fcbench::Value(std::optional<int>()).text() == "nil" && fcbench::Value().text() == "nil", "nil", "");
+    using fcbench::Value;
+    static_assert(!std::is_constructible_v<Value, bool> && !std::is_constructible_v<Value, std::optional<bool>>, "`no` says false");
+    static_assert(!std::is_constructible_v<Value, double> && !std::is_constructible_v<Value, int, bool>, "integers alone");
+}
+
 int main(int count, char **words) {
     const int runs = count > 1 ? std::atoi(words[1]) : 100;
+    the_example_at_the_head();
+    a_journal_that_is_not_handed_in();
+    replies_of_calls_that_give_nothing();
     pending_calls();
+    failed_calls_and_steps();
+    values();
     for (int run = 0; run < runs; run++) {
         judge_run(false);
         judge_run(true);
