@@ -1,12 +1,14 @@
 /* Records the calls of threads on concurrent objects, as a history for fcbench. Copy this file.
  *
  *     struct recorder recorder;
- *     recorder_open(&recorder, 4);                                  one journal for each of 4 threads
- *     struct journal *journal = &recorder.journals[thread];         in the thread
+ *     recorder_open(&recorder, 4); // one journal for each of 4 threads
+ *     // in a thread, which uses its own journal:
+ *     struct journal *journal = &recorder.journals[thread];
  *     size_t call = journal_invoke(journal, 0, "enqueue", fcbench_number(7));
  *     enqueue(queue, 7);
- *     journal_return(journal, call, fcbench_number(7));
- *     char *text = recorder_text(&recorder, &length);                after the threads have ended
+ *     journal_return(journal, call, fcbench_nil());
+ *     // after the threads have ended:
+ *     char *text = recorder_text(&recorder, &length); // NULL where events are missing
  *     recorder_close(&recorder);
  *
  * An atomic counter gives a ticket before each call and one after it. A thread writes into its own
@@ -14,9 +16,16 @@
  * returned before another was invoked in the history, it did so in fact. So a history that is not
  * linearizable shows that the object is not.
  *
+ * The recorder owns the journals, so use them by their addresses: a copy of one takes its calls with
+ * it, and recorder_text gives NULL then.
+ *
+ * The reply of enqueue, push, insert and write is their argument: where the reply is nil, the argument
+ * is written. The reply of cas is its pair where it swapped, else fcbench_false().
+ *
  * A call that does not return, as one that timed out, may have happened or may still happen: its
  * operation ends with :info. A thread that goes on after such a call does so as a new process, as
- * Jepsen's threads do. Calls that failed, so that they surely did not happen, end with journal_fail.
+ * Jepsen's threads do, and says so with journal_give_up. Use journal_fail only where the call surely
+ * did not happen: if a call that timed out is written as failed, a correct queue gets a no.
  *
  * Needs C11. Where memory is refused the program ends: a history with a gap would be worth nothing. */
 #ifndef FCBENCH_RECORDER_H
@@ -117,14 +126,38 @@ static inline void journal_return(struct journal *journal, size_t call, struct f
     journal_end(journal, call, RECORDED_OK, reply);
 }
 
-/* Call it where the call surely did not happen. */
+/* Call it only where the call surely did not happen. A timeout is journal_give_up. */
 static inline void journal_fail(struct journal *journal, size_t call) {
     journal_end(journal, call, RECORDED_FAIL, fcbench_nil());
 }
 
-/* Call it where the call did not return and the thread goes on: it does so as another process. */
+/* Call it where the call may have happened, or may still happen, as after a timeout, and the thread goes on: it does so as another
+ * process. */
 static inline void journal_give_up(struct journal *journal) {
     journal->process += journal->recorder->threads;
+}
+
+/* Makes a call on an object, and records it: `act` makes it with `own` and gives its reply. */
+static inline struct fcbench_value journal_call(struct journal *journal, uint16_t object, const char *function, struct fcbench_value argument,
+                                                struct fcbench_value (*act)(void *own), void *own) {
+    size_t call = journal_invoke(journal, object, function, argument);
+    struct fcbench_value reply = act(own);
+    journal_return(journal, call, reply);
+    return reply;
+}
+
+/* Makes a call that may fail, and records it: `act` gives 0 only where the call surely did not happen, else it writes the reply, which is
+ * nil before. It gives what `act` gives. */
+static inline int journal_try_call(struct journal *journal, uint16_t object, const char *function, struct fcbench_value argument,
+                                   int (*act)(void *own, struct fcbench_value *reply), void *own) {
+    struct fcbench_value reply = fcbench_nil();
+    size_t call = journal_invoke(journal, object, function, argument);
+    int is_done = act(own, &reply);
+    if (is_done)
+        journal_return(journal, call, reply);
+    else
+        journal_fail(journal, call);
+    return is_done;
 }
 
 /* ---- the text */
@@ -161,12 +194,9 @@ struct recorder_event {
     int is_end;
 };
 
-/* The history, after all threads have ended: each event at the place of its ticket, and a zero byte after the text. The
- * caller frees it. */
-static inline char *recorder_text(struct recorder *recorder, size_t *length) {
-    uint64_t tickets = atomic_load(&recorder->tickets);
+/* The events, each at the place of its ticket; in `*missing` how many tickets have none. */
+static inline struct recorder_event *recorder_events(struct recorder *recorder, uint64_t tickets, size_t *missing) {
     struct recorder_event *events = recorder_memory(NULL, (tickets + 1) * sizeof *events);
-    struct recorder_text text = {NULL, 0, 0};
     memset(events, 0, (tickets + 1) * sizeof *events);
     for (size_t i = 0; i < recorder->threads; i++) {
         for (size_t j = 0; j < recorder->journals[i].count; j++) {
@@ -176,13 +206,41 @@ static inline char *recorder_text(struct recorder *recorder, size_t *length) {
                 events[call->ended] = (struct recorder_event){call, 1};
         }
     }
+    *missing = 0;
+    for (uint64_t ticket = 0; ticket < tickets; ticket++)
+        *missing += events[ticket].call == NULL;
+    return events;
+}
+
+/* Whether the reply of a function is its argument. */
+static inline int recorded_is_put(const char *function) {
+    return strcmp(function, "enqueue") == 0 || strcmp(function, "push") == 0 || strcmp(function, "insert") == 0
+        || strcmp(function, "write") == 0;
+}
+
+/* The reply as it is written: nil of a function that puts a value in is its argument. */
+static inline struct fcbench_value recorded_reply(const struct recorded_call *call) {
+    return call->end == RECORDED_OK && call->reply.shape == FCBENCH_NIL && recorded_is_put(call->function) ? call->argument : call->reply;
+}
+
+/* The history, after all threads have ended: each event at the place of its ticket, and a zero byte after the text. The
+ * caller frees it. Where events are missing, since a journal was copied, the text is NULL and `*length` is how many: without them a
+ * correct object could get a no. */
+static inline char *recorder_text(struct recorder *recorder, size_t *length) {
+    uint64_t tickets = atomic_load(&recorder->tickets);
+    struct recorder_event *events = recorder_events(recorder, tickets, length);
+    struct recorder_text text = {NULL, 0, 0};
+    if (*length != 0) {
+        free(events);
+        return NULL;
+    }
     recorder_print(&text, "%s", "");
     for (uint64_t ticket = 0; ticket < tickets; ticket++) {
         const struct recorded_call *call = events[ticket].call;
-        if (call != NULL && !events[ticket].is_end)
+        if (!events[ticket].is_end)
             recorder_map(&text, call, "invoke", call->argument);
-        else if (call != NULL)
-            recorder_map(&text, call, call->end == RECORDED_OK ? "ok" : "fail", call->reply);
+        else
+            recorder_map(&text, call, call->end == RECORDED_OK ? "ok" : "fail", recorded_reply(call));
     }
     for (size_t i = 0; i < recorder->threads; i++)
         for (size_t j = 0; j < recorder->journals[i].count; j++)

@@ -1,5 +1,6 @@
 /* Calls the library: a yes, a no, a malformed text, and a buffer that is too small. */
 #include "fcbench.h"
+#include "reasons.h"
 #include <stdio.h>
 #include <stdlib.h>
 #include <string.h>
@@ -57,9 +58,45 @@ static void answers(void) {
     status = fcbench_refute(bytes(queue), strlen(queue), bytes(reason + 2), strlen(reason + 2), FCBENCH_STEPS, NULL, 0, &needed);
     want(status == FCBENCH_OPEN, "it shows nothing of the other history");
     free(lines);
+    lines = judged("", &status);
+    want(status == FCBENCH_YES && strcmp(lines, "yes: 0 operations, 0 objects\n") == 0, "a history without a map is a yes");
+    free(lines);
     lines = judged("{:process 0", &status);
     want(status == FCBENCH_MALFORMED && strcmp(lines, "malformed history: E2 at byte 11\n") == 0, "a text that ends early");
     free(lines);
+}
+
+/* The reasons among the lines, into a block of their own and in place, are refuted again. */
+static void reasons(void) {
+    uint32_t status;
+    size_t needed;
+    char *lines = judged(old_read, &status);
+    uint8_t *taken = malloc(strlen(lines));
+    want(taken != NULL, "out of memory");
+    size_t length = fcbench_reasons(bytes(lines), strlen(lines), taken);
+    const char *reason = strstr(lines, "; {:object 0, :cuts ") + 2;
+    want(length == strlen(reason) && memcmp(taken, reason, length) == 0, "the reason is the last line");
+    status = fcbench_refute(bytes(old_read), strlen(old_read), taken, length, FCBENCH_STEPS, NULL, 0, &needed);
+    want(status == FCBENCH_NO, "the reasons are accepted");
+    want(fcbench_reasons(bytes(lines), strlen(lines), (uint8_t *)lines) == length && memcmp(lines, taken, length) == 0, "the same in place");
+    free(taken);
+    free(lines);
+    static const char two[] = "; object 0: impossible\n; {:object 0}\n; {:object 1}\n{:object 2}\n; {";
+    uint8_t out[sizeof two];
+    length = fcbench_reasons(bytes(two), strlen(two), out);
+    want(length == 24 && memcmp(out, "{:object 0}\n{:object 1}\n", 24) == 0, "two reasons, and one that is cut");
+    want(fcbench_reasons(bytes(yes_lines), strlen(yes_lines), out) == 0, "a yes has none");
+}
+
+/* The lines into a buffer, as docs/embedding.md does it. */
+static void as_the_page_does(const char *text) {
+    const uint8_t *history = bytes(text);
+    size_t length = strlen(text);
+    uint8_t lines[512];
+    size_t needed;
+    if (fcbench_judge(history, length, FCBENCH_STEPS, lines, sizeof lines, &needed) != FCBENCH_YES)
+        fwrite(lines, 1, needed < sizeof lines ? needed : sizeof lines, stderr);
+    want(needed == strlen(yes_lines) && memcmp(lines, yes_lines, needed) == 0, "a queue is judged as the page does");
 }
 
 static void certificates(void) {
@@ -85,6 +122,8 @@ static void a_buffer_too_small(void) {
 
 int main(void) {
     answers();
+    reasons();
+    as_the_page_does(queue);
     certificates();
     a_buffer_too_small();
     puts("test_judge: passed");

@@ -78,7 +78,7 @@ static void *work(void *own) {
         if (i % 2 == 0) {
             size_t call = journal_invoke(client->journal, 0, "enqueue", fcbench_number(value));
             enqueue(client->queue, value);
-            journal_return(client->journal, call, fcbench_number(value));
+            journal_return(client->journal, call, fcbench_nil());
         } else {
             size_t call = journal_invoke(client->journal, 0, "dequeue", fcbench_nil());
             bool is_some = dequeue(client->queue, &value);
@@ -88,19 +88,24 @@ static void *work(void *own) {
     return NULL;
 }
 
-static void record(bool has_race, struct recorder *recorder) {
+static struct queue *queue_with(bool has_race) {
     static struct queue queue;
-    pthread_t threads[THREADS];
-    struct client clients[THREADS];
-    pthread_barrier_t begin;
     queue.has_race = has_race;
     queue.head = queue.tail = queue.inside = 0;
     pthread_mutex_init(&queue.enqueuing, NULL);
     pthread_mutex_init(&queue.dequeuing, NULL);
+    return &queue;
+}
+
+static void record(bool has_race, struct recorder *recorder) {
+    struct queue *queue = queue_with(has_race);
+    pthread_t threads[THREADS];
+    struct client clients[THREADS];
+    pthread_barrier_t begin;
     pthread_barrier_init(&begin, NULL, THREADS);
     recorder_open(recorder, THREADS);
     for (int i = 0; i < THREADS; i++) {
-        clients[i] = (struct client){&queue, &recorder->journals[i], &begin};
+        clients[i] = (struct client){queue, &recorder->journals[i], &begin};
         want(pthread_create(&threads[i], NULL, work, &clients[i]) == 0, "a thread is started", "");
     }
     for (int i = 0; i < THREADS; i++)
@@ -127,6 +132,7 @@ static void judge_run(bool has_race) {
     size_t length, needed;
     record(has_race, &recorder);
     char *text = recorder_text(&recorder, &length);
+    want(text != NULL, "no event is missing", "");
     recorder_close(&recorder);
     uint32_t status = fcbench_judge((const uint8_t *)text, length, FCBENCH_STEPS, (uint8_t *)lines, sizeof lines - 1, &needed);
     lines[needed < sizeof lines ? needed : sizeof lines - 1] = 0;
@@ -160,9 +166,109 @@ static void pending_calls(void) {
     recorder_close(&recorder);
 }
 
+/* The text of a recorder is as wanted, and a yes. It closes the recorder. */
+static void want_text(struct recorder *recorder, const char *wanted, const char *what) {
+    size_t length, needed;
+    char *text = recorder_text(recorder, &length);
+    want(text != NULL && length == strlen(wanted) && memcmp(text, wanted, length) == 0, what, text);
+    want(fcbench_judge((const uint8_t *)text, length, FCBENCH_STEPS, NULL, 0, &needed) == FCBENCH_YES, what, text);
+    free(text);
+    recorder_close(recorder);
+}
+
+static void the_example_at_the_head(void) {
+    struct queue *queue = queue_with(false);
+    size_t thread = 0, length;
+    struct recorder recorder;
+    recorder_open(&recorder, 4); // one journal for each of 4 threads
+    struct journal *journal = &recorder.journals[thread];
+    size_t call = journal_invoke(journal, 0, "enqueue", fcbench_number(7));
+    enqueue(queue, 7);
+    journal_return(journal, call, fcbench_nil());
+    char *text = recorder_text(&recorder, &length); // NULL where events are missing
+    recorder_close(&recorder);
+    static const char wanted[] = "{:process 0, :type :invoke, :f :enqueue, :value 7, :object 0}\n"
+                                 "{:process 0, :type :ok, :f :enqueue, :value 7, :object 0}\n";
+    want(text != NULL && length == strlen(wanted) && memcmp(text, wanted, length) == 0, "the example at the head of recorder.h", text);
+    free(text);
+}
+
+/* Without the calls of the copy the history says that 7 is dequeued and was never enqueued. */
+static void a_journal_that_is_lost(void) {
+    struct recorder recorder;
+    size_t length;
+    recorder_open(&recorder, 2);
+    struct journal copy = recorder.journals[0];
+    journal_return(&copy, journal_invoke(&copy, 0, "enqueue", fcbench_number(7)), fcbench_nil());
+    journal_invoke(&copy, 0, "enqueue", fcbench_number(8));
+    struct journal *kept = &recorder.journals[1];
+    journal_return(kept, journal_invoke(kept, 0, "dequeue", fcbench_nil()), fcbench_number(7));
+    want(recorder_text(&recorder, &length) == NULL && length == 3, "3 events are missing: a journal was not handed in", "");
+    free(copy.calls);
+    recorder_close(&recorder);
+}
+
+static struct fcbench_value gives_nothing(void *own) {
+    ++*(int *)own;
+    return fcbench_nil();
+}
+
+static int fails_at_first(void *own, struct fcbench_value *reply) {
+    (void)reply;
+    return (*(int *)own)++ > 0;
+}
+
+static int gives_seven(void *own, struct fcbench_value *reply) {
+    (void)own;
+    *reply = fcbench_number(7);
+    return 1;
+}
+
+/* The reply of a function that puts a value in is its argument, also where the call gives nothing. */
+static void replies_of_calls_that_give_nothing(void) {
+    static const char *const functions[] = {"enqueue", "push", "insert", "write"};
+    struct recorder recorder;
+    int calls = 0;
+    char wanted[2048] = "";
+    recorder_open(&recorder, 1);
+    for (uint16_t object = 0; object < 4; object++) {
+        journal_call(&recorder.journals[0], object, functions[object], fcbench_number(7), gives_nothing, &calls);
+        for (int end = 0; end < 2; end++) {
+            static const char map[] = "{:process 0, :type :%s, :f :%s, :value 7, :object %d}\n";
+            snprintf(wanted + strlen(wanted), 100, map, end ? "ok" : "invoke", functions[object], object);
+        }
+    }
+    journal_call(&recorder.journals[0], 4, "acquire", fcbench_nil(), gives_nothing, &calls);
+    strcat(wanted, "{:process 0, :type :invoke, :f :acquire, :value nil, :object 4}\n"
+                   "{:process 0, :type :ok, :f :acquire, :value nil, :object 4}\n");
+    want(calls == 5, "each call is made once", "");
+    want_text(&recorder, wanted, "calls that give nothing");
+}
+
+static void calls_that_may_fail(void) {
+    struct recorder recorder;
+    int calls = 0;
+    recorder_open(&recorder, 1);
+    struct journal *journal = &recorder.journals[0];
+    want(!journal_try_call(journal, 0, "enqueue", fcbench_number(7), fails_at_first, &calls), "a call fails", "");
+    want(journal_try_call(journal, 0, "enqueue", fcbench_number(7), fails_at_first, &calls), "and then it does not", "");
+    want(journal_try_call(journal, 0, "dequeue", fcbench_nil(), gives_seven, NULL), "nor does this", "");
+    static const char wanted[] = "{:process 0, :type :invoke, :f :enqueue, :value 7, :object 0}\n"
+                                 "{:process 0, :type :fail, :f :enqueue, :value nil, :object 0}\n"
+                                 "{:process 0, :type :invoke, :f :enqueue, :value 7, :object 0}\n"
+                                 "{:process 0, :type :ok, :f :enqueue, :value 7, :object 0}\n"
+                                 "{:process 0, :type :invoke, :f :dequeue, :value nil, :object 0}\n"
+                                 "{:process 0, :type :ok, :f :dequeue, :value 7, :object 0}\n";
+    want_text(&recorder, wanted, "calls that may fail");
+}
+
 int main(int count, char **words) {
     int runs = count > 1 ? atoi(words[1]) : 100;
     pending_calls();
+    the_example_at_the_head();
+    a_journal_that_is_lost();
+    replies_of_calls_that_give_nothing();
+    calls_that_may_fail();
     for (int run = 0; run < runs; run++) {
         judge_run(false);
         judge_run(true);
