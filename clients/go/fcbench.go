@@ -10,7 +10,10 @@ package fcbench
 */
 import "C"
 
-import "unsafe"
+import (
+	"strings"
+	"unsafe"
+)
 
 // Steps is the program's number of steps where it is given none.
 const Steps = 1000000
@@ -38,6 +41,20 @@ type Answer struct {
 	Lines   string
 }
 
+// IsYes says whether the verdict is Yes.
+func (a Answer) IsYes() bool { return a.Verdict == Yes }
+
+// Reasons gives the reasons among the lines, as Refute reads them: of each line that begins with "; {" what follows the "; ".
+func (a Answer) Reasons() string {
+	var reasons strings.Builder
+	for _, line := range strings.SplitAfter(a.Lines, "\n") {
+		if strings.HasPrefix(line, "; {") {
+			reasons.WriteString(line[2:])
+		}
+	}
+	return reasons.String()
+}
+
 func bytesOf(text []byte) (*C.uint8_t, C.size_t) {
 	if len(text) == 0 {
 		return nil, 0
@@ -59,11 +76,16 @@ func whole(call func(out []byte) (Verdict, int)) Answer {
 
 // Judge judges a history: certificates are found, or a reason why there are none.
 func Judge(history string) Answer {
-	return whole(func(out []byte) (Verdict, int) { return JudgeInto([]byte(history), Steps, out) })
+	return JudgeWithSteps(history, Steps)
 }
 
-// JudgeInto does so with at most this many steps for each object, and writes the lines into a buffer. They are cut where it is
-// too small. It also gives how long they are.
+// JudgeWithSteps judges a history, where a search takes at most this many steps for each object.
+func JudgeWithSteps(history string, steps uint32) Answer {
+	return whole(func(out []byte) (Verdict, int) { return JudgeInto([]byte(history), steps, out) })
+}
+
+// JudgeInto judges a history, where a search takes at most this many steps for each object, and writes the lines into a buffer.
+// They are cut where it is too small. It also gives how long they are.
 func JudgeInto(history []byte, steps uint32, out []byte) (Verdict, int) {
 	var needed C.size_t
 	text, length := bytesOf(history)
@@ -97,12 +119,17 @@ func Find(history string) Answer {
 
 // Refute checks reasons why a history is not linearizable. It never answers Yes.
 func Refute(history, reasons string) Answer {
+	return RefuteWithSteps(history, reasons, Steps)
+}
+
+// RefuteWithSteps checks reasons, where the search of a part takes at most this many steps.
+func RefuteWithSteps(history, reasons string, steps uint32) Answer {
 	text, length := bytesOf([]byte(history))
 	why, count := bytesOf([]byte(reasons))
 	return whole(func(out []byte) (Verdict, int) {
 		var needed C.size_t
 		at, room := bytesOf(out)
-		status := C.fcbench_refute(text, length, why, count, Steps, at, room, &needed)
+		status := C.fcbench_refute(text, length, why, count, C.uint32_t(steps), at, room, &needed)
 		return Verdict(status), int(needed)
 	})
 }

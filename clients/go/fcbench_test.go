@@ -48,6 +48,25 @@ func TestNo(t *testing.T) {
 	want(t, Check(queueHistory, ""), No, "no: C1 object 0 has no certificate\n")
 }
 
+// The reasons of two objects are two lines.
+func TestReasons(t *testing.T) {
+	two := oldRead + strings.NewReplacer(":process 0", ":process 1", "}", ", :object 1}").Replace(oldRead)
+	reasons := JudgeWithSteps(two, Steps).Reasons()
+	if strings.Count(reasons, "\n") != 2 || strings.Count(reasons, "{:object ") != 2 {
+		t.Fatal(reasons)
+	}
+	if Refute(two, reasons).Verdict != No || RefuteWithSteps(two, reasons, Steps).Verdict != No || Refute(queueHistory, reasons).IsYes() {
+		t.Fatal(reasons)
+	}
+	if answer := Judge(queueHistory); !answer.IsYes() || answer.Reasons() != "" {
+		t.Fatal(answer)
+	}
+}
+
+func TestEmptyHistory(t *testing.T) {
+	want(t, Judge(""), Yes, "yes: 0 operations, 0 objects\n")
+}
+
 func TestMalformed(t *testing.T) {
 	want(t, Judge("{:process 0"), Malformed, "malformed history: E2 at byte 11\n")
 }

@@ -26,12 +26,11 @@ type queue struct {
 	enqueuing, dequeuing sync.Mutex
 }
 
-func (q *queue) enqueue(value int64) Value {
+func (q *queue) enqueue(value int64) {
 	q.enqueuing.Lock()
 	defer q.enqueuing.Unlock()
 	atomic.StoreInt64(&q.values[atomic.LoadInt64(&q.tail)], value)
 	atomic.AddInt64(&q.tail, 1)
-	return Number(value)
 }
 
 // The race: another goroutine may come in here and take the same value. One waits a while for it, so that each run has the
@@ -64,7 +63,7 @@ func work(q *queue, journal *Journal, client int64) {
 	for i := int64(0); i < calls; i++ {
 		value := client*calls + i
 		if i%2 == 0 {
-			journal.Call("enqueue", Number(value), func() Value { return q.enqueue(value) })
+			journal.Call("enqueue", Number(value), func() Value { q.enqueue(value); return Nil })
 		} else {
 			journal.Call("dequeue", Nil, q.dequeue)
 		}
@@ -77,13 +76,14 @@ func record(hasRace bool) string {
 	var all sync.WaitGroup
 	begin := make(chan struct{})
 	for client := int64(0); client < clients; client++ {
-		journal := recorder.Journal()
-		journals = append(journals, journal)
+		journals = append(journals, recorder.Journal())
+	}
+	for client := range journals {
 		all.Add(1)
-		go func(client int64) {
+		go func(client int) {
 			defer all.Done()
 			<-begin
-			work(q, journal, client)
+			work(q, journals[client], int64(client))
 		}(client)
 	}
 	close(begin)
@@ -132,5 +132,82 @@ func TestPendingAndFailedCalls(t *testing.T) {
 `
 	if text := recorder.History([]*Journal{journal}); err == nil || text != wanted {
 		t.Fatal(text)
+	}
+}
+
+func messageOf(act func()) (message interface{}) {
+	defer func() { message = recover() }()
+	act()
+	return nil
+}
+
+func wantMessage(t *testing.T, wanted string, act func()) {
+	t.Helper()
+	if message := messageOf(act); message != wanted {
+		t.Fatalf("wanted %q, and not %v", wanted, message)
+	}
+}
+
+// Without the calls of the lost journal the history says that 7 is dequeued and was never enqueued.
+func TestJournalThatIsNotHandedIn(t *testing.T) {
+	recorder := &Recorder{}
+	lost, kept := recorder.Journal(), recorder.Journal()
+	lost.Call("enqueue", Number(7), func() Value { return Nil })
+	lost.Invoke(0, "enqueue", Number(8))
+	kept.Call("dequeue", Nil, func() Value { return Number(7) })
+	wantMessage(t, "3 events are missing: a journal was not handed in", func() { recorder.History([]*Journal{kept}) })
+	wantMessage(t, "a journal was handed in twice", func() { recorder.History([]*Journal{kept, kept}) })
+	wantMessage(t, "a journal of another recorder was handed in", func() { (&Recorder{}).History([]*Journal{kept}) })
+	if answer := Judge(recorder.History([]*Journal{kept, lost})); !answer.IsYes() {
+		t.Fatal(answer)
+	}
+}
+
+// The reply of a function that puts a value in is its argument, also where the call gives nothing.
+func TestRepliesOfCallsThatGiveNothing(t *testing.T) {
+	recorder := &Recorder{}
+	journal := recorder.Journal()
+	for object, function := range []string{"enqueue", "push", "insert", "write"} {
+		journal.CallOn(uint16(object), function, Number(7), func() Value { return Nil })
+		_, _ = journal.TryCallOn(uint16(object), function, Number(8), func() (none Value, err error) { return })
+	}
+	journal.CallOn(4, "acquire", Nil, func() Value { return Nil })
+	journal.CallOn(4, "release", Nil, func() (none Value) { return })
+	text := recorder.History([]*Journal{journal})
+	if answer := Judge(text); !strings.HasPrefix(answer.Lines, "yes: 10 operations") || strings.Count(text, ":value nil") != 4 {
+		t.Fatal(answer, text)
+	}
+}
+
+// A call in steps: one that timed out, one that failed, and one that returned.
+func TestSteps(t *testing.T) {
+	recorder := &Recorder{}
+	journal := recorder.Journal()
+	journal.Invoke(0, "enqueue", Number(7))
+	journal.GaveUp()
+	_, err := journal.TryCall("enqueue", Number(8), func() (Value, error) { return Nil, errors.New("refused") })
+	journal.Invoke(0, "enqueue", Number(8))
+	journal.Failed()
+	journal.Invoke(0, "dequeue", Nil)
+	journal.Returned(Number(7))
+	wantMessage(t, "no call is outstanding", func() { journal.Returned(Number(7)) })
+	journal.Invoke(0, "enqueue", Number(9))
+	wanted := `{:process 0, :type :invoke, :f :enqueue, :value 7, :object 0}
+{:process 0, :type :info, :f :enqueue, :value 7, :object 0}
+{:process 1, :type :invoke, :f :enqueue, :value 8, :object 0}
+{:process 1, :type :fail, :f :enqueue, :value nil, :object 0}
+{:process 1, :type :invoke, :f :enqueue, :value 8, :object 0}
+{:process 1, :type :fail, :f :enqueue, :value nil, :object 0}
+{:process 1, :type :invoke, :f :dequeue, :value nil, :object 0}
+{:process 1, :type :ok, :f :dequeue, :value 7, :object 0}
+{:process 1, :type :invoke, :f :enqueue, :value 9, :object 0}
+{:process 1, :type :info, :f :enqueue, :value 9, :object 0}
+`
+	text := recorder.History([]*Journal{journal})
+	if err == nil || text != wanted {
+		t.Fatal(text)
+	}
+	if answer := Judge(text); !answer.IsYes() {
+		t.Fatal(answer)
 	}
 }

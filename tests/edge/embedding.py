@@ -206,7 +206,7 @@ def go_callers(program, report):
         return missing("go", "gcc")
     env = {"CGO_CFLAGS": f"-O2 -I{ROOT}/include", "CGO_LDFLAGS": LIBRARY, "GOCACHE": f"{program.room}/go", "GOFLAGS": "-mod=mod", "FCBENCH_RUNS": str(RUNS)}
     said = done(report, "Go: the tests of the package", ["go", "test", "-count=1", "-v", "."], "\nok ", FOLDER=f"{CLIENTS}/go", **env)
-    report.equal("embedding: Go: how many tests passed", 7, said.count("--- PASS"), said[-2000:])
+    report.equal("embedding: Go: how many tests passed", 13, said.count("--- PASS"), said[-2000:])
     return None
 
 
