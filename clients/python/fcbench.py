@@ -1,7 +1,7 @@
 """The proved judge of fcbench, by ctypes over libfcbench.so. Copy this file.
 
     answer = fcbench.judge(history)
-    assert answer.verdict is fcbench.Verdict.YES, answer.lines
+    assert answer.is_yes(), answer.lines
 
 A text is bytes or a str. The library is the file that FCBENCH_SO names, or libfcbench.so where the loader or clients/build has it."""
 import ctypes
@@ -26,14 +26,26 @@ class Verdict(enum.IntEnum):
 
 
 class Answer(typing.NamedTuple):
+    """A verdict, and the lines that say why."""
+
     verdict: Verdict
     lines: str
+
+    def is_yes(self):
+        return self.verdict is Verdict.YES
+
+    def reasons(self):
+        """The reasons among the lines, as refute reads them: of each line that begins with `; {` what follows the `; `."""
+        return "".join(line[2:] for line in self.lines.splitlines(keepends=True) if line.startswith("; {"))
 
 
 def _library():
     named = os.environ.get("FCBENCH_SO")
-    there = [named] if named else [place for place in PLACES if os.path.exists(place)]
-    library = ctypes.CDLL(there[0] if there else "libfcbench.so")
+    there = [named] if named else [place for place in PLACES if os.path.exists(place)] or ["libfcbench.so"]
+    try:
+        library = ctypes.CDLL(there[0])
+    except OSError as error:
+        raise ImportError(f"{error}: run clients/build, or set FCBENCH_SO to the file libfcbench.so") from None
     text = [ctypes.c_char_p, ctypes.c_size_t]
     room = [ctypes.c_char_p, ctypes.c_size_t, ctypes.POINTER(ctypes.c_size_t)]
     steps = [ctypes.c_uint32]
@@ -70,7 +82,7 @@ def _whole(call, *words):
 
 
 def judge(history, steps=STEPS):
-    """Judges a history: certificates are found, or a reason why there are none."""
+    """Judges a history: certificates are found, or a reason why there are none. A search takes at most this many steps for each object."""
     text = _bytes(history)
     return _whole(_C.fcbench_judge, text, len(text), steps)
 
@@ -88,6 +100,6 @@ def find(history):
 
 
 def refute(history, reasons, steps=STEPS):
-    """Checks reasons why a history is not linearizable. It never answers YES."""
+    """Checks reasons why a history is not linearizable. It never answers YES. The search of a part takes at most this many steps."""
     text, why = _bytes(history), _bytes(reasons)
     return _whole(_C.fcbench_refute, text, len(text), why, len(why), steps)

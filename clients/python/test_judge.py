@@ -1,5 +1,8 @@
 #!/usr/bin/env python3
 """Calls the library: a yes, a no, a malformed text, and a buffer that is too small."""
+import os
+import subprocess
+import sys
 import threading
 import unittest
 
@@ -37,6 +40,30 @@ class Calls(unittest.TestCase):
         self.assertEqual(fcbench.refute(OLD_READ, reason).verdict, Verdict.NO)
         self.assertEqual(fcbench.refute(QUEUE, reason).verdict, Verdict.OPEN)
         self.assertEqual(fcbench.check(QUEUE, b""), (Verdict.NO, "no: C1 object 0 has no certificate\n"))
+
+    def test_reasons(self):
+        two = OLD_READ + OLD_READ.replace(":process 0", ":process 1").replace("}", ", :object 1}")
+        answer = fcbench.judge(two, steps=fcbench.STEPS)
+        reasons = answer.reasons()
+        self.assertFalse(answer.is_yes())
+        self.assertEqual([line[:11] for line in reasons.splitlines()], ["{:object 0,", "{:object 1,"], reasons)
+        self.assertEqual(fcbench.refute(two, reasons, steps=fcbench.STEPS).verdict, Verdict.NO)
+        self.assertEqual(fcbench.refute(QUEUE, fcbench.judge(OLD_READ).reasons()).verdict, Verdict.OPEN)
+        self.assertTrue(fcbench.judge(QUEUE).is_yes())
+        self.assertEqual(fcbench.judge(QUEUE).reasons(), "")
+
+    def test_empty_history(self):
+        self.assertEqual(fcbench.judge(""), (Verdict.YES, "yes: 0 operations, 0 objects\n"))
+
+    def test_missing_library(self):
+        """The last line of the error says what to do."""
+        here = os.path.dirname(os.path.abspath(__file__))
+        env = {**os.environ, "FCBENCH_SO": f"{here}/no.so"}
+        ran = subprocess.run([sys.executable, "-c", "import fcbench"], env=env, cwd=here, capture_output=True, text=True)
+        self.assertEqual(ran.returncode, 1)
+        last = ran.stderr.splitlines()[-1]
+        self.assertTrue(last.startswith("ImportError: ") and f"{here}/no.so" in last, last)
+        self.assertTrue(last.endswith(": run clients/build, or set FCBENCH_SO to the file libfcbench.so"), last)
 
     def test_malformed(self):
         self.assertEqual(fcbench.judge("{:process 0"), (Verdict.MALFORMED, "malformed history: E2 at byte 11\n"))

@@ -2,6 +2,7 @@
 """Drives a right queue and one with a race by 4 threads, records them, and judges the histories. FCBENCH_RUNS says how many runs of
 each are made."""
 import os
+import queue as queues
 import sys
 import threading
 import time
@@ -26,7 +27,6 @@ class Queue:
     def enqueue(self, value):
         with self.enqueuing:
             self.values.append(value)
-        return value
 
     def dequeue(self):
         if self.has_race:
@@ -114,6 +114,87 @@ class Queues(unittest.TestCase):
 {:process 1, :type :ok, :f :cas, :value false, :object 3}
 """
         self.assertEqual(recorder.history([journal]), wanted)
+
+    def test_the_example_at_the_head(self):
+        queue = queues.SimpleQueue()
+        recorder = Recorder()
+        journals = [recorder.journal(), recorder.journal()]  # before the threads, one for each
+        journal = journals[0]
+        journal.call("enqueue", 7, lambda: queue.put(7))
+        journal.call("dequeue", None, lambda: queue.get(block=False))
+        text = recorder.history(journals)
+        wanted = """{:process 0, :type :invoke, :f :enqueue, :value 7, :object 0}
+{:process 0, :type :ok, :f :enqueue, :value 7, :object 0}
+{:process 0, :type :invoke, :f :dequeue, :value nil, :object 0}
+{:process 0, :type :ok, :f :dequeue, :value 7, :object 0}
+"""
+        self.assertEqual(text, wanted)
+        self.assertEqual(recorder.history(journals), wanted)
+
+    def test_journal_that_is_not_handed_in(self):
+        """Without the calls of the lost journal the history says that 7 is dequeued and was never enqueued."""
+        recorder = Recorder()
+        lost, kept = recorder.journal(), recorder.journal()
+        lost.call("enqueue", 7, lambda: None)
+        lost.invoke("enqueue", 8)
+        kept.call("dequeue", None, lambda: 7)
+        for _ in range(2):
+            with self.assertRaisesRegex(ValueError, "^3 events are missing: a journal was not handed in$"):
+                recorder.history([kept])
+        with self.assertRaisesRegex(ValueError, "^a journal was handed in twice$"):
+            recorder.history([kept, lost, kept])
+        with self.assertRaisesRegex(ValueError, "^a journal of another recorder was handed in$"):
+            Recorder().history([kept])
+        self.assertTrue(fcbench.judge(recorder.history([kept, lost])).is_yes())
+
+    def test_replies_of_calls_that_give_nothing(self):
+        recorder = Recorder()
+        journal = recorder.journal()
+        for number, function in enumerate(["enqueue", "push", "insert", "write"]):
+            journal.call(function, 7, lambda: None, number)
+            journal.try_call(function, 8, lambda: None, [queues.Full], number)
+        journal.call("acquire", None, lambda: None, 4)
+        journal.call("release", None, lambda: None, 4)
+        text = recorder.history([journal])
+        self.assertEqual(text.count(":value nil"), 4, text)
+        self.assertTrue(fcbench.judge(text).lines.startswith("yes: 10 operations"), text)
+
+    def test_steps(self):
+        """A call in steps: one that timed out, one that failed, and one that returned."""
+        recorder, full = Recorder(), queues.Queue(maxsize=1)
+        journal = recorder.journal()
+        journal.try_call("enqueue", 6, lambda: full.put(6, block=False), [queues.Full])
+        with self.assertRaises(queues.Full):
+            journal.try_call("enqueue", 7, lambda: full.put(7, block=False), [queues.Full])
+        journal.invoke("enqueue", 7)
+        journal.gave_up()
+        journal.invoke("enqueue", 8)
+        journal.failed()
+        journal.invoke("dequeue", None)
+        journal.returned(6)
+        with self.assertRaisesRegex(ValueError, "^no call is outstanding$"):
+            journal.returned(6)
+        journal.invoke("enqueue", 9)
+        journal.returned()
+        journal.invoke("enqueue", 10)
+        wanted = """{:process 0, :type :invoke, :f :enqueue, :value 6, :object 0}
+{:process 0, :type :ok, :f :enqueue, :value 6, :object 0}
+{:process 0, :type :invoke, :f :enqueue, :value 7, :object 0}
+{:process 0, :type :fail, :f :enqueue, :value 7, :object 0}
+{:process 0, :type :invoke, :f :enqueue, :value 7, :object 0}
+{:process 0, :type :info, :f :enqueue, :value 7, :object 0}
+{:process 1, :type :invoke, :f :enqueue, :value 8, :object 0}
+{:process 1, :type :fail, :f :enqueue, :value 8, :object 0}
+{:process 1, :type :invoke, :f :dequeue, :value nil, :object 0}
+{:process 1, :type :ok, :f :dequeue, :value 6, :object 0}
+{:process 1, :type :invoke, :f :enqueue, :value 9, :object 0}
+{:process 1, :type :ok, :f :enqueue, :value 9, :object 0}
+{:process 1, :type :invoke, :f :enqueue, :value 10, :object 0}
+{:process 1, :type :info, :f :enqueue, :value 10, :object 0}
+"""
+        text = recorder.history([journal])
+        self.assertEqual(text, wanted)
+        self.assertTrue(fcbench.judge(text).is_yes())
 
 
 if __name__ == "__main__":

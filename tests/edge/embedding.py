@@ -196,8 +196,10 @@ def rust_callers(program, report):
 
 def python_callers(program, report):
     """The same in Python, by ctypes."""
+    said = ""
     for name in ("judge", "recorder"):
-        done(report, f"Python: test_{name}.py", [f"{CLIENTS}/python/test_{name}.py"], "\nOK", FCBENCH_SO=SHARED, FCBENCH_RUNS=str(RUNS), PYTHONDONTWRITEBYTECODE="1")
+        said += done(report, f"Python: test_{name}.py", [f"{CLIENTS}/python/test_{name}.py"], "\nOK", FCBENCH_SO=SHARED, FCBENCH_RUNS=str(RUNS), PYTHONDONTWRITEBYTECODE="1")
+    report.equal("embedding: Python: how many tests ran", ["9", "7"], re.findall(r"Ran (\d+) tests", said), said[-2000:])
 
 
 def go_callers(program, report):
