@@ -223,6 +223,55 @@ fn the_four_steps() {
     assert_eq!(message_of(after), "no call is outstanding");
 }
 
+/// Why a store did not enqueue.
+enum Refusal {
+    Closed,
+    TimedOut,
+}
+
+/// A store that refuses its first call, and times out in the second one, which happens.
+#[derive(Default)]
+struct Store {
+    calls: usize,
+    values: VecDeque<i64>,
+}
+
+impl Store {
+    fn enqueue(&mut self, value: i64) -> Result<(), Refusal> {
+        self.calls += 1;
+        if self.calls == 1 {
+            return Err(Refusal::Closed);
+        }
+        self.values.push_back(value);
+        if self.calls == 2 {
+            return Err(Refusal::TimedOut);
+        }
+        Ok(())
+    }
+}
+
+#[test]
+fn a_store_that_refuses_and_times_out() {
+    let (recorder, mut store) = (Recorder::new(), Store::default());
+    let mut journal = recorder.journal();
+    for _ in 0..3 {
+        journal.invoke(0, "enqueue", 8);
+        match store.enqueue(8) {
+            Ok(()) => journal.returned(()),
+            Err(Refusal::Closed) => journal.failed(), // it surely did not happen
+            Err(Refusal::TimedOut) => journal.gave_up(), // it may have happened
+        }
+    }
+    for _ in 0..3 {
+        journal.call("dequeue", (), || store.values.pop_front());
+    }
+    let text = recorder.history(&[journal]);
+    let ends = [":fail", ":info", ":ok"].map(|end| text.matches(&format!(":type {end}, :f :enqueue")).count());
+    assert_eq!(ends, [1; 3], "{text}");
+    let answer = judge(&text);
+    assert!(answer.is_yes(), "{answer}");
+}
+
 #[derive(Debug, PartialEq)]
 struct Job(String);
 
@@ -264,19 +313,26 @@ fn a_map() {
     assert!(answer.lines.starts_with("yes: 4 operations, 1 objects\nmap: "), "{answer}");
 }
 
+struct Register(AtomicI64);
+
+impl Register {
+    fn swap(&self, expected: i64, new: i64) -> bool {
+        self.0.compare_exchange(expected, new, SeqCst, SeqCst).is_ok()
+    }
+}
+
 /// A compare-and-set replies its pair where it swapped, else `false`.
 #[test]
 fn a_compare_and_set() {
     let recorder = Recorder::new();
     let mut journal = recorder.journal();
-    let register = AtomicI64::new(0);
-    journal.call("write", 1, || register.store(1, SeqCst));
+    let register = Register(AtomicI64::new(0));
+    journal.call("write", 1, || register.0.store(1, SeqCst));
     for (expected, new) in [(1, 2), (1, 3)] {
         let pair = Value::pair(expected, new);
-        let swap = || register.compare_exchange(expected, new, SeqCst, SeqCst).is_ok();
-        journal.call_as(0, "cas", pair, swap, |swapped| if *swapped { pair } else { Value::False });
+        journal.call_as(0, "cas", pair, || register.swap(expected, new), |swapped| if *swapped { pair } else { Value::False });
     }
-    journal.call("read", (), || register.load(SeqCst));
+    journal.call("read", (), || register.0.load(SeqCst));
     let text = recorder.history(&[journal]);
     assert!(text.contains(":type :ok, :f :cas, :value [1 2]") && text.contains(":type :ok, :f :cas, :value false"), "{text}");
     let answer = judge(&text);
