@@ -74,4 +74,35 @@ def plain_words(program, report):
         report.equal(f"plain_words: nobody writes '{word}'", [], found)
 
 
-PARTS = (documents, links, plain_words)
+# Of each recorder how a line of the example in its comments begins, and its tests.
+RECORDERS = {
+    "c/recorder.h": (r" \*     (.+)", ["c/test_recorder.c"]),
+    "cpp/recorder.hpp": (r"//     (.+)", ["cpp/test_recorder.cpp"]),
+    "rust/src/recorder.rs": (r" *//[/!] ((?:let |journal\.).+)", ["rust/tests/copied.rs", "rust/tests/recorder.rs"]),
+    "go/recorder.go": (r"//\t(.+)", ["go/example_test.go"]),
+    "python/recorder.py": (r"    ((?:recorder|journals?|text)\b.+)", ["python/test_recorder.py"]),
+}
+
+
+def code(text):
+    """The lines of a text without the space around them."""
+    return [line.strip() for line in text.strip("\n").split("\n")]
+
+
+def snippets(program, report):
+    """The snippets of docs/embedding.md, and the examples of the recorders, are code that the gate compiles and runs."""
+    found = re.findall(r"^```(c|cpp|rust|go|python)\n(.*?)^```$", read(f"{ROOT}/docs/embedding.md"), re.M | re.S)
+    report.holds("snippets: docs/embedding.md has some", len(found) >= 5)
+    for language, snippet in found:
+        folder = f"{ROOT}/clients/{language}"
+        files = ["\n".join(code(read(f"{base}/{file}"))) for base, _, files in os.walk(folder) for file in files if "test" in f"{base}/{file}"[len(ROOT) :]]
+        report.holds(f"snippets: a test in {language} has {code(snippet)[0]}", any("\n".join(code(snippet)) in it for it in files), snippet)
+    for recorder, (line, tests) in RECORDERS.items():
+        example = re.findall(f"^{line}$", read(f"{ROOT}/clients/{recorder}").partition("\nclass ")[0], re.M)
+        own = {it for test in tests for it in code(read(f"{ROOT}/clients/{test}"))}
+        lacks = [it for it in example if it.strip() not in own and not it.startswith(("//", "#"))]
+        report.holds(f"snippets: {recorder} has an example", len(example) >= 5, example)
+        report.equal(f"snippets: lines of {recorder} that no test has", [], lacks)
+
+
+PARTS = (documents, links, plain_words, snippets)
