@@ -102,8 +102,22 @@ static inline void recorder_close(struct recorder *recorder) {
     free(recorder->journals);
 }
 
-/* Call it just before the call. It gives the number of the call in this journal. */
+/* Call it where the call may have happened, or may still happen, as after a timeout, and the thread goes on: it does so as another
+ * process. */
+static inline void journal_give_up(struct journal *journal) {
+    journal->process += journal->recorder->threads;
+}
+
+/* Whether the last call of this process has not returned. */
+static inline int journal_is_pending(const struct journal *journal) {
+    const struct recorded_call *last = journal->count == 0 ? NULL : &journal->calls[journal->count - 1];
+    return last != NULL && last->end == RECORDED_PENDING && last->process == journal->process;
+}
+
+/* Call it just before the call. It gives the number of the call in this journal. Where the call before is not ended, it is given up. */
 static inline size_t journal_invoke(struct journal *journal, uint16_t object, const char *function, struct fcbench_value argument) {
+    if (journal_is_pending(journal))
+        journal_give_up(journal);
     if (journal->count == journal->room) {
         journal->room = journal->room == 0 ? 256 : 2 * journal->room;
         journal->calls = recorder_memory(journal->calls, journal->room * sizeof *journal->calls);
@@ -129,12 +143,6 @@ static inline void journal_return(struct journal *journal, size_t call, struct f
 /* Call it only where the call surely did not happen. A timeout is journal_give_up. */
 static inline void journal_fail(struct journal *journal, size_t call) {
     journal_end(journal, call, RECORDED_FAIL, fcbench_nil());
-}
-
-/* Call it where the call may have happened, or may still happen, as after a timeout, and the thread goes on: it does so as another
- * process. */
-static inline void journal_give_up(struct journal *journal) {
-    journal->process += journal->recorder->threads;
 }
 
 /* Makes a call on an object, and records it: `act` makes it with `own` and gives its reply. */

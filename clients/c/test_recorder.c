@@ -146,6 +146,16 @@ static void judge_run(bool has_race) {
     want(0 < operations && operations <= MOST_OPERATIONS, "by a reason of few operations", lines);
 }
 
+/* The text of a recorder is as wanted, and a yes. It closes the recorder. */
+static void want_text(struct recorder *recorder, const char *wanted, const char *what) {
+    size_t length, needed;
+    char *text = recorder_text(recorder, &length);
+    want(text != NULL && length == strlen(wanted) && memcmp(text, wanted, length) == 0, what, text);
+    want(fcbench_judge((const uint8_t *)text, length, FCBENCH_STEPS, NULL, 0, &needed) == FCBENCH_YES, what, text);
+    free(text);
+    recorder_close(recorder);
+}
+
 /* A call that did not return ends with :info, and its thread goes on as a new process. */
 static void pending_calls(void) {
     struct recorder recorder;
@@ -155,25 +165,21 @@ static void pending_calls(void) {
     journal_give_up(&recorder.journals[1]);
     size_t call = journal_invoke(&recorder.journals[1], 3, "dequeue", fcbench_nil());
     journal_fail(&recorder.journals[1], call);
+    journal_invoke(&recorder.journals[1], 3, "enqueue", fcbench_number(8));
+    call = journal_invoke(&recorder.journals[1], 3, "dequeue", fcbench_nil());
+    journal_return(&recorder.journals[1], call, fcbench_number(8));
     char *text = recorder_text(&recorder, &length);
     want(length == strlen(text), "a zero byte is after the text", "");
     static const char wanted[] = "{:process 1, :type :invoke, :f :enqueue, :value 7, :object 3}\n"
                                  "{:process 3, :type :invoke, :f :dequeue, :value nil, :object 3}\n"
                                  "{:process 3, :type :fail, :f :dequeue, :value nil, :object 3}\n"
-                                 "{:process 1, :type :info, :f :enqueue, :value 7, :object 3}\n";
-    want(length == strlen(wanted) && memcmp(text, wanted, length) == 0, "a call that did not return is written with :info", "");
+                                 "{:process 3, :type :invoke, :f :enqueue, :value 8, :object 3}\n"
+                                 "{:process 5, :type :invoke, :f :dequeue, :value nil, :object 3}\n"
+                                 "{:process 5, :type :ok, :f :dequeue, :value 8, :object 3}\n"
+                                 "{:process 1, :type :info, :f :enqueue, :value 7, :object 3}\n"
+                                 "{:process 3, :type :info, :f :enqueue, :value 8, :object 3}\n";
     free(text);
-    recorder_close(&recorder);
-}
-
-/* The text of a recorder is as wanted, and a yes. It closes the recorder. */
-static void want_text(struct recorder *recorder, const char *wanted, const char *what) {
-    size_t length, needed;
-    char *text = recorder_text(recorder, &length);
-    want(text != NULL && length == strlen(wanted) && memcmp(text, wanted, length) == 0, what, text);
-    want(fcbench_judge((const uint8_t *)text, length, FCBENCH_STEPS, NULL, 0, &needed) == FCBENCH_YES, what, text);
-    free(text);
-    recorder_close(recorder);
+    want_text(&recorder, wanted, "a call that did not return is written with :info");
 }
 
 static void the_example_at_the_head(void) {
