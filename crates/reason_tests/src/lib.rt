@@ -1,16 +1,10 @@
-//! Tests of the public calls of `reason_finder`: planted bugs, small histories, all there are or
-//! drawn, and long ones.
+//! Tests of the public calls of the crates of reasons that no command reaches. What the commands
+//! reach is tested on the built program.
 #![tactic(auto)]
 
 #[cfg(test)]
-mod drawing;
+mod answers;
 #[cfg(test)]
-mod every;
+mod finding;
 #[cfg(test)]
-mod histories;
-#[cfg(test)]
-mod long;
-#[cfg(test)]
-mod planted;
-#[cfg(test)]
-mod small;
+mod texts;

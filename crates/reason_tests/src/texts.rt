@@ -1,0 +1,146 @@
+//! The lines of reasons and of their operations, where no command writes them, and where memory is
+//! refused.
+
+use candidate_reasons::Pattern;
+use edn::{Out, WriteFault, read_forms};
+use events::split;
+use history::read_history_text;
+use projection::{Counted, Cut, part_by};
+use reason_report::{push_operations, push_reason, push_sentence};
+use reason_text::{ReasonFault, ReasonFaultKind, read_reasons, write_reasons};
+use refutation::Reason;
+use seq_objects::Kind;
+use std::alloc::Global;
+use std::test::Fail;
+
+/// The reasons of a text, or the fault of its forms.
+fn read(alloc: Global, text: &[u8]) -> Result<Result<Vec<Reason>, ReasonFault>, Fail> {
+    let Ok(forms) = read_forms(alloc, text) else {
+        return Err(Fail::new("a text of forms is refused"));
+    };
+    Ok(read_reasons(alloc, forms.as_slice()))
+}
+
+/// Each kind of cut and of count, with its least and greatest numbers. What a cut or a count means
+/// as it is read is tested on the built program.
+const LINES: [&str; 21] = [
+    "{:object 0, :cuts [{:from 17}]}\n",
+    "{:object 0, :cuts [{:from 0}]}\n",
+    "{:object 0, :cuts [{:until 120}]}\n",
+    "{:object 0, :cuts [{:until 4294967295}]}\n",
+    "{:object 0, :cuts [{:without 7, :before 120}]}\n",
+    "{:object 0, :cuts [{:without -9223372036854775808, :before 4294967295}]}\n",
+    "{:object 0, :cuts [{:keep [1 2], :numbers [4 7]}]}\n",
+    "{:object 0, :cuts [{:keep :all, :numbers [3]}]}\n",
+    "{:object 0, :cuts [{:keep []}]}\n",
+    "{:object 0, :cuts [{:keep [-9223372036854775808 -1 9223372036854775807], :numbers [0 4294967295]}]}\n",
+    "{:object 0, :cuts [{:cell [1], :other 9, :numbers [4]}]}\n",
+    "{:object 0, :cuts [{:cell :all, :other -3}]}\n",
+    "{:object 0, :cuts [{:cell [1], :key 5, :other 9}]}\n",
+    "{:object 0, :cuts [{:cell :all, :key -5, :other 0, :numbers [1 2 3]}]}\n",
+    "{:object 65535, :cuts [], :count {:value 7, :from 0}}\n",
+    "{:object 65535, :cuts [], :count {:value -7, :from 12}}\n",
+    "{:object 65535, :cuts [], :count {:key 5, :value 7, :from 0}}\n",
+    "{:object 65535, :cuts [], :count {:key 5, :from 3}}\n",
+    "{:object 65535, :cuts [], :count {:held true, :from 0}}\n",
+    "{:object 65535, :cuts [], :count {:free true, :from 4294967295}}\n",
+    "{:object 2, :cuts [{:until 120} {:from 17} {:keep [1 2]}], :count {:value 7, :from 17}}\n",
+];
+
+#[test]
+fn reasons_that_were_read_are_written_as_they_were(rt: HostRuntime) -> Result<(), Fail> {
+    for line in LINES.iter() {
+        let Ok(reasons) = read(rt.alloc(), line.as_bytes())? else {
+            return Err(Fail::new("a reason is refused"));
+        };
+        let mut sink = Out::new(Vec::new(rt.alloc()));
+        write_reasons(reasons.as_slice(), &mut sink)?;
+        assert!(rt; sink.into_inner().as_slice() == line.as_bytes(), "{line}");
+    }
+    Ok(())
+}
+
+#[test]
+fn a_sink_that_fails_has_a_beginning_of_the_reasons(rt: HostRuntime) -> Result<(), Fail> {
+    let text =
+        b"{:object 0, :cuts [{:cell [-2], :other 9, :numbers [4]}]}\n{:object 3, :cuts []}\n";
+    let Ok(reasons) = read(rt.alloc(), text)? else {
+        return Err(Fail::new("reasons are refused"));
+    };
+    for left in 0..text.len() + 1 {
+        let mut room = vec![in rt.alloc(); 0; left]?;
+        let mut sink = Out::new(room.as_mut_slice());
+        let wrote = write_reasons(reasons.as_slice(), &mut sink);
+        let wanted = if left < text.len() {
+            Err(WriteFault::Device)
+        } else {
+            Ok(())
+        };
+        assert!(rt; wrote == wanted);
+        assert!(rt; room.as_slice() == &text[..left]);
+    }
+    Ok(())
+}
+
+/// Passes whichever allocation is refused: reading answers that memory ran out, or as ever.
+#[test]
+fn where_memory_is_refused_reasons_are_read_or_the_fault_says_so(
+    rt: HostRuntime,
+) -> Result<(), Fail> {
+    let text = "{:object 0, :cuts [{:keep [1 2], :numbers [4 7]} {:until 9}]} {:object 3}";
+    let Ok(forms) = read_forms(rt.alloc(), text.as_bytes()) else {
+        return Ok(());
+    };
+    match read_reasons(rt.alloc(), forms.as_slice()) {
+        Ok(reasons) => assert!(rt; reasons.len() == 2),
+        Err(fault) => {
+            assert!(rt; fault.kind == ReasonFaultKind::NoMemory);
+            assert!(rt; fault.kind.number() == 2);
+        }
+    }
+    Ok(())
+}
+
+/// A sentence that no small history is known to lead to.
+#[test]
+fn that_an_entry_was_taken_too_often_is_told(rt: HostRuntime) -> Result<(), Fail> {
+    let pattern = Pattern::CountExceeded(Counted::Entry { key: 3, value: 5 });
+    let mut text = Vec::new(rt.alloc());
+    push_sentence(&mut text, Kind::Map, pattern, Some(3))?;
+    let wanted: &[u8] = b"; key 3: value 5 was taken away more often than it can have been there\n";
+    assert!(rt; text.as_slice() == wanted);
+    Ok(())
+}
+
+#[test]
+fn a_line_of_a_reason_is_a_comment_or_not(rt: HostRuntime) -> Result<(), Fail> {
+    let line = b"{:object 2, :cuts [{:until 40}], :count {:value 7, :from 0}}\n";
+    let Ok(reasons) = read(rt.alloc(), line)? else {
+        return Err(Fail::new("a reason is refused"));
+    };
+    for (commented, before) in [(false, "before\n"), (true, "before\n; ")] {
+        let mut wanted = Vec::from_slice(rt.alloc(), before.as_bytes())?;
+        wanted.extend_from_slice(line)?;
+        let mut text = Vec::from_slice(rt.alloc(), b"before\n")?;
+        push_reason(rt.alloc(), &mut text, commented, &reasons[0])?;
+        assert!(rt; text.as_slice() == wanted.as_slice());
+    }
+    Ok(())
+}
+
+#[test]
+fn of_a_part_without_operations_nothing_is_told(rt: HostRuntime) -> Result<(), Fail> {
+    let text = b"{:process 0 :type :invoke :f :pop} {:process 0 :type :ok :f :pop}";
+    let Ok(history) = read_history_text(rt.alloc(), text) else {
+        return Err(Fail::new("a history is refused"));
+    };
+    let objects = split(rt.alloc(), &history)?;
+    let cuts = vec![in rt.alloc(); Cut::Until(0)]?;
+    let Some(part) = part_by(rt.alloc(), &objects[0], &cuts)? else {
+        return Err(Fail::new("no part"));
+    };
+    let mut text = Vec::from_slice(rt.alloc(), b"before\n")?;
+    push_operations(&mut text, false, &history, &part)?;
+    assert!(rt; text.as_slice() == b"before\n".as_slice());
+    Ok(())
+}

@@ -1,0 +1,408 @@
+"""Histories in which values repeat, or that need a pending call: an order is found of each alone, and after more calls than a search
+takes."""
+from . import force
+from .idle import IDLE, PAIRS
+from .reasons import maps_of, value_of
+from .rows import HISTORY
+from .texts import invoke, lines, ok
+
+# Queues, stacks and heaps that have an order, and why it is not easily found.
+VALUES = (
+    (
+        "stack",
+        "each pending pop takes what has to be gone next",
+        lines(
+            invoke(0, "push", 1),
+            ok(0, "push", 1),
+            invoke(0, "push", 2),
+            ok(0, "push", 2),
+            invoke(0, "push", 3),
+            ok(0, "push", 3),
+            invoke(0, "push", 4),
+            ok(0, "push", 4),
+            invoke(1, "pop"),
+            invoke(0, "pop"),
+            ok(0, "pop", 3),
+            invoke(2, "pop"),
+            invoke(0, "pop"),
+            ok(0, "pop", 1),
+        ),
+    ),
+    (
+        "heap",
+        "each pending extract takes what has to be gone next",
+        lines(
+            invoke(0, "insert", 100),
+            ok(0, "insert", 100),
+            invoke(0, "insert", 1),
+            ok(0, "insert", 1),
+            invoke(0, "insert", 50),
+            ok(0, "insert", 50),
+            invoke(0, "insert", 200),
+            ok(0, "insert", 200),
+            invoke(1, "extract-min"),
+            invoke(0, "extract-min"),
+            ok(0, "extract-min", 50),
+            invoke(2, "extract-min"),
+            invoke(0, "extract-min"),
+            ok(0, "extract-min", 200),
+        ),
+    ),
+    (
+        "queue",
+        "a pending dequeue takes a value before the queue is found empty",
+        lines(
+            invoke(0, "enqueue", 1),
+            ok(0, "enqueue", 1),
+            invoke(1, "dequeue"),
+            invoke(2, "enqueue", 2),
+            ok(2, "enqueue", 2),
+            invoke(3, "dequeue"),
+            invoke(0, "dequeue"),
+            ok(0, "dequeue", 1),
+            ok(1, "dequeue"),
+        ),
+    ),
+    (
+        "heap",
+        "an insert that runs all the time comes after an equal one",
+        lines(
+            invoke(0, "insert", 5),
+            invoke(1, "insert", 5),
+            ok(1, "insert", 5),
+            invoke(1, "insert", 9),
+            ok(1, "insert", 9),
+            invoke(1, "extract-min"),
+            ok(1, "extract-min", 5),
+            invoke(1, "extract-min"),
+            ok(1, "extract-min", 9),
+            invoke(1, "extract-min"),
+            ok(1, "extract-min", 5),
+            ok(0, "insert", 5),
+        ),
+    ),
+    (
+        "queue",
+        "an enqueue that runs all the time comes after an equal one",
+        lines(
+            invoke(0, "enqueue", 5),
+            invoke(1, "enqueue", 5),
+            ok(1, "enqueue", 5),
+            invoke(1, "enqueue", 9),
+            ok(1, "enqueue", 9),
+            invoke(1, "dequeue"),
+            ok(1, "dequeue", 5),
+            invoke(1, "dequeue"),
+            ok(1, "dequeue", 9),
+            invoke(1, "dequeue"),
+            ok(1, "dequeue", 5),
+            ok(0, "enqueue", 5),
+        ),
+    ),
+    (
+        "stack",
+        "a pop takes the value whose push runs, since an equal one is below another value",
+        lines(
+            invoke(0, "push", 1),
+            ok(0, "push", 1),
+            invoke(0, "push", 2),
+            ok(0, "push", 2),
+            invoke(1, "push", 1),
+            invoke(2, "pop"),
+            ok(2, "pop", 1),
+            ok(1, "push", 1),
+            invoke(0, "pop"),
+            ok(0, "pop", 2),
+            invoke(0, "pop"),
+            ok(0, "pop", 1),
+        ),
+    ),
+    (
+        "queue",
+        "a dequeue that runs long leaves the value to one that has no other",
+        lines(
+            invoke(0, "enqueue", 7),
+            invoke(1, "dequeue"),
+            ok(0, "enqueue", 7),
+            invoke(2, "dequeue"),
+            invoke(3, "dequeue"),
+            ok(2, "dequeue"),
+            ok(3, "dequeue", 7),
+            invoke(0, "enqueue", 7),
+            ok(1, "dequeue", 7),
+            ok(0, "enqueue", 7),
+        ),
+    ),
+    (
+        "queue",
+        "a pending dequeue takes the first of two equal values",
+        lines(
+            invoke(0, "enqueue", 1),
+            ok(0, "enqueue", 1),
+            invoke(1, "dequeue"),
+            invoke(0, "dequeue"),
+            ok(0, "dequeue"),
+            invoke(0, "enqueue", 1),
+            ok(0, "enqueue", 1),
+            invoke(0, "dequeue"),
+            ok(0, "dequeue", 1),
+            invoke(0, "dequeue"),
+            ok(0, "dequeue"),
+        ),
+    ),
+    (
+        "heap",
+        "a pending extract takes the first of two equal values",
+        lines(
+            invoke(0, "insert", 1),
+            ok(0, "insert", 1),
+            invoke(1, "extract-min"),
+            invoke(0, "extract-min"),
+            ok(0, "extract-min"),
+            invoke(0, "insert", 1),
+            ok(0, "insert", 1),
+            invoke(0, "extract-min"),
+            ok(0, "extract-min", 1),
+            invoke(0, "extract-min"),
+            ok(0, "extract-min"),
+        ),
+    ),
+    (
+        "stack",
+        "a pending pop takes the first of two equal values",
+        lines(
+            invoke(0, "push", 1),
+            ok(0, "push", 1),
+            invoke(1, "pop"),
+            invoke(0, "pop"),
+            ok(0, "pop"),
+            invoke(0, "push", 1),
+            ok(0, "push", 1),
+            invoke(0, "pop"),
+            ok(0, "pop", 1),
+            invoke(0, "pop"),
+            ok(0, "pop"),
+        ),
+    ),
+    (
+        "stack",
+        "a pop that runs long takes the value that was there before the stack was empty",
+        lines(
+            invoke(0, "push", 2),
+            ok(0, "push", 2),
+            invoke(1, "pop"),
+            invoke(2, "pop"),
+            ok(2, "pop"),
+            invoke(0, "push", 2),
+            ok(0, "push", 2),
+            invoke(0, "push", 3),
+            ok(1, "pop", 2),
+            ok(0, "push", 3),
+        ),
+    ),
+    (
+        "heap",
+        "an extract that runs long leaves the value to one that has no other",
+        lines(
+            invoke(1, "extract-min"),
+            invoke(0, "insert", 1),
+            ok(0, "insert", 1),
+            invoke(2, "extract-min"),
+            ok(2, "extract-min", 1),
+            invoke(0, "insert", 2),
+            ok(0, "insert", 2),
+            invoke(2, "extract-min"),
+            ok(2, "extract-min", 2),
+            invoke(0, "insert", 1),
+            ok(0, "insert", 1),
+            ok(1, "extract-min", 1),
+        ),
+    ),
+)
+
+# Registers and maps, and whether they have an order.
+CELLS = (
+    # The compare-and-set fails only where the write of 1 is the later one.
+    (
+        "register",
+        True,
+        lines(
+            invoke(0, "write", 1),
+            invoke(1, "write", 2),
+            ok(0, "write", 1),
+            ok(1, "write", 2),
+            invoke(0, "cas", (2, 9)),
+            ok(0, "cas", False),
+        ),
+    ),
+    # It fails only where the pending write took effect.
+    (
+        "register",
+        True,
+        lines(
+            invoke(0, "write", 1),
+            ok(0, "write", 1),
+            invoke(1, "write", 2),
+            invoke(0, "cas", (1, 9)),
+            ok(0, "cas", False),
+        ),
+    ),
+    # The same without the pending write.
+    (
+        "register",
+        False,
+        lines(
+            invoke(0, "write", 1),
+            ok(0, "write", 1),
+            invoke(0, "cas", (1, 9)),
+            ok(0, "cas", False),
+        ),
+    ),
+    # It fails before 10 is read, of two values that are written meanwhile.
+    (
+        "register",
+        True,
+        lines(
+            invoke(0, "write", 5),
+            ok(0, "write", 5),
+            invoke(0, "cas", (5, 12)),
+            invoke(1, "write", 10),
+            invoke(2, "write", 4),
+            ok(0, "cas", False),
+            invoke(0, "read"),
+            ok(0, "read", 10),
+            ok(2, "write", 4),
+            invoke(0, "read"),
+            ok(0, "read", 4),
+        ),
+    ),
+    (
+        "register",
+        True,
+        lines(
+            invoke(0, "write", 1),
+            ok(0, "write", 1),
+            invoke(0, "write", 1),
+            ok(0, "write", 1),
+            invoke(0, "read"),
+            ok(0, "read", 1),
+        ),
+    ),
+    # Both writes of 1 are over before that of 2, which is read before 1.
+    (
+        "register",
+        False,
+        lines(
+            invoke(0, "write", 1),
+            invoke(1, "write", 1),
+            ok(0, "write", 1),
+            ok(1, "write", 1),
+            invoke(0, "write", 2),
+            invoke(1, "read"),
+            ok(1, "read", 2),
+            invoke(1, "read"),
+            ok(1, "read", 1),
+            ok(0, "write", 2),
+        ),
+    ),
+    # A pending put that is read.
+    (
+        "map",
+        True,
+        lines(
+            invoke(0, "put", (1, 7)),
+            invoke(1, "get", 1),
+            ok(1, "get", 7),
+        ),
+    ),
+    # The value is gone only where the pending del took effect.
+    (
+        "map",
+        True,
+        lines(
+            invoke(0, "put", (1, 7)),
+            ok(0, "put"),
+            invoke(1, "del", 1),
+            invoke(0, "get", 1),
+            ok(0, "get"),
+        ),
+    ),
+    (
+        "map",
+        True,
+        lines(
+            invoke(0, "put", (1, 7)),
+            ok(0, "put"),
+            invoke(0, "del", 1),
+            ok(0, "del", 7),
+            invoke(0, "put", (1, 7)),
+            ok(0, "put"),
+        ),
+    ),
+    # The same beside another key, which is read before and after its put.
+    (
+        "map",
+        True,
+        lines(
+            invoke(0, "put", (1, 7)),
+            invoke(1, "put", (2, 7)),
+            invoke(2, "get", 2),
+            ok(0, "put"),
+            invoke(0, "del", 1),
+            ok(2, "get"),
+            invoke(2, "get", 2),
+            ok(0, "del", 7),
+            ok(2, "get", 7),
+            invoke(0, "put", (1, 7)),
+            ok(1, "put"),
+            ok(0, "put"),
+        ),
+    ),
+    # The second put finds nothing, though nothing was taken away.
+    (
+        "map",
+        False,
+        lines(
+            invoke(0, "put", (1, 7)),
+            ok(0, "put"),
+            invoke(0, "put", (1, 7)),
+            ok(0, "put"),
+        ),
+    ),
+)
+
+
+def idle_calls(kind):
+    """4,098 calls of a process of its own that leave a new object as it is."""
+    return lines(*[it for f, argument in IDLE[kind] for it in (invoke(100, f, argument), ok(100, f))]) * PAIRS
+
+
+def is_valid(history):
+    """Whether some order of a history is valid, by force."""
+    return force.has_order([(it["process"], it["type"][1:], it["f"][1:], value_of(it.get("value"))) for it in maps_of(history)])
+
+
+def repeated_values(program, report):
+    """Each row is searched, and find finds an order where there is one."""
+    rows = [(kind, True, why, history) for kind, why, history in VALUES]
+    rows += [(kind, valid, f"row {number}", history) for number, (kind, valid, history) in enumerate(CELLS)]
+    for kind, valid, why, history in rows:
+        report.equal(f"by force: a {kind}: {why}", valid, is_valid(history))
+        program.write(HISTORY, history)
+        is_answered(program, report, f"search: a {kind}: {why}", ("search",), valid, "impossible", 1)
+        is_answered(program, report, f"find: a {kind}: {why}", ("find",), valid, "open", 3)
+        program.write(HISTORY, idle_calls(kind) + history)
+        is_answered(program, report, f"find: a {kind}: {why}, after idle calls", ("find",), valid, "open", 3)
+
+
+def is_answered(program, report, name, words, valid, said, status):
+    """Whether an order is put out that check accepts, or else this is said."""
+    if valid:
+        told = force.of_orders(program, name, words, HISTORY, 1)
+    else:
+        told = force.of_each(program, name, words, HISTORY, 1, said, status)
+    for it in told:
+        report.equal(*it)
+
+
+PARTS = (repeated_values,)
