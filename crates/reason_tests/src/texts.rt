@@ -118,11 +118,14 @@ fn a_line_of_a_reason_is_a_comment_or_not(rt: HostRuntime) -> Result<(), Fail> {
     let Ok(reasons) = read(rt.alloc(), line)? else {
         return Err(Fail::new("a reason is refused"));
     };
+    let Some(reason) = reasons.first() else {
+        return Err(Fail::new("no reason is read"));
+    };
     for (commented, before) in [(false, "before\n"), (true, "before\n; ")] {
         let mut wanted = Vec::from_slice(rt.alloc(), before.as_bytes())?;
         wanted.extend_from_slice(line)?;
         let mut text = Vec::from_slice(rt.alloc(), b"before\n")?;
-        push_reason(rt.alloc(), &mut text, commented, &reasons[0])?;
+        push_reason(rt.alloc(), &mut text, commented, reason)?;
         assert!(rt; text.as_slice() == wanted.as_slice());
     }
     Ok(())
@@ -135,8 +138,11 @@ fn of_a_part_without_operations_nothing_is_told(rt: HostRuntime) -> Result<(), F
         return Err(Fail::new("a history is refused"));
     };
     let objects = split(rt.alloc(), &history)?;
+    let Some(object) = objects.first() else {
+        return Err(Fail::new("no object"));
+    };
     let cuts = vec![in rt.alloc(); Cut::Until(0)]?;
-    let Some(part) = part_by(rt.alloc(), &objects[0], &cuts)? else {
+    let Some(part) = part_by(rt.alloc(), object, &cuts)? else {
         return Err(Fail::new("no part"));
     };
     let mut text = Vec::from_slice(rt.alloc(), b"before\n")?;
