@@ -5,9 +5,9 @@ import re
 from dataclasses import dataclass
 
 from . import histories, texts
-from .histories import FUNCTIONS, KIND_OF, calls_of
-from .pages import REF, found, spelled
-from .sentences import label_of, why_bars_false
+from .histories import FUNCTIONS, calls_of
+from .pages import found, spelled
+from .sentences import grouped, label_of, why_bars_false
 
 # How many bytes of a line are shown before and after the mark, of the mark, and of another line.
 BESIDE, MARKED, LINE = 80, 160, 160
@@ -187,11 +187,6 @@ def after_info(rng, made):
 
 
 # ---- faults of the text
-
-
-def grouped(number):
-    """A number of bytes as a sentence has it."""
-    return f"{number:,}".replace(",", " ")
 
 
 def in_map(rng, made, before, token, after, goes_on=True):

@@ -19,6 +19,11 @@ def number_in(text):
     return int(text.replace(" ", ""))
 
 
+def grouped(number):
+    """A count as a page has it."""
+    return f"{number:,}".replace(",", " ")
+
+
 def label_of(call):
     """The label of a call: its function, its argument, and what it returned where that says more."""
     text = call.f + ("" if call.argument is None else f" {value(call.argument)}")
@@ -439,9 +444,9 @@ def why_counts_false(page, history):
     calls, maps = calls_of(history)
     objects = sorted({it.on for it in calls.values()})
     live, pending, failed = counts_of(calls.values())
-    ending = [f"{count} {word}" for count, word in ((pending, "pending"), (failed, "failed")) if count]
-    wanted = [f"{count} {word}{'' if count == 1 else 's'}" for count, word in ((maps, "map"), (live, "operation"), (len(objects), "object"))]
-    if page.facts.replace("\u00a0", " ").split(" · ")[1:] != wanted + ending:
+    ending = [f"{grouped(count)} {word}" for count, word in ((pending, "pending"), (failed, "failed")) if count]
+    wanted = [f"{grouped(count)} {word}{'' if count == 1 else 's'}" for count, word in ((maps, "map"), (live, "operation"), (len(objects), "object"))]
+    if page.facts.split(" · ")[1:] != wanted + ending:
         return f"the facts are {page.facts}"
     for _, cells in page.rows("objects"):
         own = [it for it in calls.values() if f"object {it.on}" == cells[0]]

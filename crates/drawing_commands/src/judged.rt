@@ -53,7 +53,7 @@ fn open_page(
     ensures { IfOk result (λ v. ∥ IsMade v.items ∥₁) }
 {
     let lines = text_of(alloc, lines)?;
-    let places = places_in(alloc, text)?;
+    let places = places_in(alloc, history, text)?;
     let name = String::from_str(alloc, file_name(request.history))?;
     let options = request.options;
     page_with(alloc, history, answers, &name, &lines, &places, options)?.into_text()

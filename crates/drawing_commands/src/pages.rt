@@ -92,7 +92,7 @@ fn page_of_history(
         _ => return page_without_memory(alloc, request),
     };
     let lines = lines_of(alloc, verdict)?;
-    let places = places_in(alloc, text)?;
+    let places = places_in(alloc, history, text)?;
     let texts = Texts {
         history: file_name(request.history),
         certificates: request.certificates.map(|name| file_name(name)),

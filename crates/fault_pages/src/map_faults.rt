@@ -223,7 +223,7 @@ fn draw_before(
     map: &Map<'_>,
 ) -> Result<Before, AllocError> {
     let objects = split(alloc, history)?;
-    let places = places_in(alloc, text)?;
+    let places = places_in(alloc, history, text)?;
     let number = earlier_of(history.events(), map);
     let (event, function) = (map.kind_of_event, map.function);
     let words = format!(in alloc; "{event} {function}")?;

@@ -2,6 +2,7 @@
 //! is a keyword. The text is one that was read.
 
 use drawing::{Memory, Nemesis};
+use events::History;
 use std::alloc::{AllocError, Global};
 
 /// How many maps a text has, and those of nemeses.
@@ -106,21 +107,6 @@ impl<'m, 'a> Walk<'m, 'a> {
         }
     }
 
-    /// Takes in the byte at a place, or the map that begins there, and returns its length.
-    fn advance(&mut self, place: usize) -> usize {
-        let text = self.text;
-        let rest = text.get(place..).unwrap_or(&[]);
-        let is_outside = self.mode == Mode::Between && self.depth == 0;
-        if let (true, Some(length)) = (is_outside, client_map(rest)) {
-            self.places.maps = self.places.maps.saturating_add(1);
-            return length;
-        }
-        if let Some(byte) = rest.first() {
-            self.step(place, *byte);
-        }
-        1
-    }
-
     fn step(&mut self, place: usize, byte: u8) {
         match self.mode {
             Mode::Between => self.between(place, byte),
@@ -153,9 +139,9 @@ impl<'m, 'a> Walk<'m, 'a> {
 /// What most maps of clients begin with.
 const BEGINNING: &[u8] = b"{:process ";
 
-/// The length of the map that the text begins with, where it is plainly one of a client: its process
+/// What is after the map that the text begins with, where it is plainly one of a client: its process
 /// comes first and is a number, and nothing in it is a string, a map or a comment.
-fn client_map(text: &[u8]) -> Option<usize> {
+fn after_client_map(text: &[u8]) -> Option<&[u8]> {
     let rest = text.strip_prefix(BEGINNING)?;
     if !rest.first()?.is_ascii_digit() {
         return None;
@@ -163,15 +149,72 @@ fn client_map(text: &[u8]) -> Option<usize> {
     let length = rest
         .iter()
         .position(|byte| matches!(*byte, b'"' | b';' | b'{' | b'}'))?;
-    if rest.get(length) == Some(&b'}') {
-        Some(BEGINNING.len().saturating_add(length).saturating_add(1))
+    rest.get(length..)?.strip_prefix(b"}")
+}
+
+/// Whether the text is plainly one map of a client.
+fn is_client_map(text: &[u8]) -> bool {
+    let Some(rest) = after_client_map(text) else {
+        return false;
+    };
+    for byte in rest {
+        if !b" \t\r\n,".contains(byte) {
+            return false;
+        }
+    }
+    true
+}
+
+/// Whether a comment may begin in the last line.
+fn is_in_comment(text: &[u8]) -> bool {
+    for byte in text.iter().rev() {
+        match *byte {
+            b'\n' => return false,
+            b';' => return true,
+            _ => {}
+        }
+    }
+    false
+}
+
+/// Whether the text plainly ends with a map of a client. What begins with the last brace is in no
+/// comment, where its line has no semicolon before it; and in no string or other map, where it is
+/// closed and nothing is after it.
+fn ends_with_client_map(text: &[u8]) -> bool {
+    for (back, byte) in text.iter().rev().enumerate() {
+        if *byte == b'{' {
+            let at = text.len().saturating_sub(back).saturating_sub(1);
+            let (before, last) = (text.get(..at).unwrap_or(&[]), text.get(at..).unwrap_or(&[]));
+            return !is_in_comment(before) && is_client_map(last);
+        }
+    }
+    false
+}
+
+/// How many maps the history's text has, where each of them is plainly one of a client.
+fn plain_maps(history: &History, text: &[u8]) -> Option<u32> {
+    let events = history.events();
+    let maps = events.last()?.number.saturating_add(1);
+    if maps as usize == events.len() && ends_with_client_map(text) {
+        Some(maps)
     } else {
         None
     }
 }
 
-/// How many maps the text has, and those whose process is a keyword.
-pub fn places_in(alloc: Global, text: &[u8]) -> Result<Places, AllocError> {
+/// How many maps the history's text has, and those whose process is a keyword.
+pub fn places_in(alloc: Global, history: &History, text: &[u8]) -> Result<Places, AllocError> {
+    if let Some(maps) = plain_maps(history, text) {
+        return Ok(Places {
+            maps,
+            nemeses: Vec::new(alloc),
+        });
+    }
+    walk_over(alloc, text)
+}
+
+/// What a walk over the text finds.
+fn walk_over(alloc: Global, text: &[u8]) -> Result<Places, AllocError> {
     let memory = Memory::new(alloc);
     let mut walk = Walk {
         memory: &memory,
@@ -187,12 +230,8 @@ pub fn places_in(alloc: Global, text: &[u8]) -> Result<Places, AllocError> {
             nemeses: Vec::new(alloc),
         },
     };
-    let mut place: usize = 0;
-    for _ in 0..text.len() {
-        if place >= text.len() {
-            break;
-        }
-        place = place.saturating_add(walk.advance(place));
+    for (place, byte) in text.iter().enumerate() {
+        walk.step(place, *byte);
     }
     let places = walk.places;
     memory.whole(places)
