@@ -1,5 +1,5 @@
 ;; Tests the converter and the checker on histories as a Jepsen store has them. They are written by hand after Jepsen's
-;; documents: no Jepsen is here, and jepsen.checker below has the shape of its protocol alone.
+;; documents: no Jepsen is here. jepsen.checker below has the shape of its protocol alone.
 ;;
 ;;   clojure -cp clients/clojure clients/clojure/fcbench_test.clj PROGRAM
 
@@ -9,7 +9,9 @@
   (check [checker test history opts]))
 
 (ns fcbench-test
-  (:require [clojure.test :refer [deftest is run-tests]]
+  (:require [clojure.java.io :as io]
+            [clojure.string :as string]
+            [clojure.test :refer [deftest is run-tests]]
             [fcbench]
             [jepsen.checker])
   (:import (clojure.lang MapEntry)))
@@ -19,14 +21,38 @@
 (defn judged [history & [options]]
   (fcbench/check (merge {:program program} options) {:name "test"} history {}))
 
+(defn tuple [k v]
+  (MapEntry/create k v))
+
+(defn op
+  ([process type f value] {:process process, :type type, :f f, :value value})
+  ([process type f value object] (assoc (op process type f value) :object object)))
+
+(defn done
+  "A call and its reply."
+  [process f argument reply & object]
+  [(apply op process :invoke f argument object) (apply op process :ok f reply object)])
+
+(defn with-file
+  "What the function gives of a file with this text."
+  [ending text function]
+  (let [file (java.io.File/createTempFile "history" ending)]
+    (try
+      (spit file text)
+      (function (.getPath file))
+      (finally (.delete file)))))
+
 (defn stored
   "The operations of this text of a store."
   [text]
-  (let [file (java.io.File/createTempFile "history" ".edn")]
-    (try
-      (spit file text)
-      (fcbench/read-history (.getPath file))
-      (finally (.delete file)))))
+  (with-file ".edn" text fcbench/read-history))
+
+(defn refused
+  "Why a history is not judged."
+  [history & [options]]
+  (let [{:keys [valid? reason]} (judged history options)]
+    (is (= :unknown valid?))
+    (first reason)))
 
 (def register "
 {:type :invoke, :f :write, :value 3, :process 0, :time 3291485317, :index 0}
@@ -74,9 +100,7 @@
     (is (some #(re-find #"^maps 4 and 5: process 1, :read nil, :ok 1" %) reason))))
 
 (deftest keys-of-independent
-  (let [tuple (fn [k v] (MapEntry/create k v))
-        op (fn [process type f value] {:process process, :type type, :f f, :value value})
-        history [(op 0 :invoke :write (tuple "x" 1))
+  (let [history [(op 0 :invoke :write (tuple "x" 1))
                  (op 1 :invoke :write (tuple :y 2))
                  (op 0 :ok :write (tuple "x" 1))
                  (op 1 :info :write nil)
@@ -86,26 +110,231 @@
     (is (= {0 "x", 1 :y} keys))
     (is (.contains text "{:process 1, :type :info, :f :write, :value nil, :object 1}\n"))
     (is (= {:valid? false, :keys {0 "x", 1 :y}} (dissoc (judged history) :reason)))
-    (is (= "object 1: impossible" (first (:reason (judged history)))))
+    (is (= "object 1, which is key :y: impossible" (first (:reason (judged history)))))
     ;; As the same history is in a file: the tuples are vectors.
     (let [written (mapv #(update % :value (fn [value] (when value (vec value)))) history)]
       (is (= text (:text (fcbench/profile written {:independent? true}))))
       (is (= :unknown (:valid? (judged written)))))))
 
 (deftest a-lock-with-tokens
-  (let [op (fn [process type f value] {:process process, :type type, :f f, :value value})]
-    (is (true? (:valid? (judged [(op 0 :invoke :acquire nil) (op 0 :ok :acquire {:token 17})
-                                 (op 0 :invoke :release 17) (op 0 :ok :release "OK")]))))
-    (is (false? (:valid? (judged [(op 0 :invoke :acquire nil) (op 0 :ok :acquire 1)
-                                  (op 1 :invoke :acquire nil) (op 1 :ok :acquire 2)]))))))
+  (is (true? (:valid? (judged (concat (done 0 :acquire nil {:token 17}) (done 0 :release 17 "OK"))))))
+  (is (false? (:valid? (judged (concat (done 0 :acquire nil 1) (done 1 :acquire nil 2)))))))
 
 (deftest what-the-profile-lacks
   (is (= {:valid? :unknown, :reason ["operation 0: :txn is no function of the profile"]}
          (judged [{:process 0, :type :invoke, :f :txn, :value [[:r 1 nil]]}])))
-  (is (= {:valid? :unknown, :reason ["operation 1: no reply of :read: #{1}"]}
+  (is (= {:valid? :unknown, :reason ["operation 1: #{1} can't be the reply of :read, which is an integer, string or keyword, or nil"]}
          (judged [{:process 0, :type :invoke, :f :read, :value nil} {:process 0, :type :ok, :f :read, :value #{1}}])))
   (is (= :unknown (:valid? (judged [{:process 0, :type :ok, :f :read, :value 1}]))))
   (is (= :unknown (:valid? (judged [] {:program "/there/is/none"})))))
+
+(deftest objects-with-names
+  ;; "3" is not 3, and a name gets a number that is not in use.
+  (let [history (concat (done 0 :write 1 1 "3") (done 0 :read nil nil 3) (done 0 :read nil 1 "3")
+                        (done 0 :read nil nil) (done 0 :write 2 2 70000) (done 0 :write 2 2 -1) (done 0 :write 2 2 false))]
+    (is (= {1 "3", 2 70000, 4 -1, 5 false} (:keys (fcbench/profile history))))
+    (is (= {:valid? true, :keys {1 "3", 2 70000, 4 -1, 5 false}} (dissoc (judged history) :reason))))
+  (is (true? (:valid? (judged (concat (done 0 :write 1 1 "x y}") (done 0 :read nil nil :x))))))
+  (is (empty? (:keys (fcbench/profile (done 0 :write 1 1 65535)))))
+  ;; A completion may leave its object out. Another one is no completion of it.
+  (is (true? (:valid? (judged [(op 0 :invoke :write 1 "x") (op 0 :ok :write 1)]))))
+  (is (= "operation 1: object 4 is not that of its invocation, operation 0: object 3"
+         (refused [(op 0 :invoke :write 1 3) (op 0 :ok :write 1 4)])))
+  (let [many (mapcat #(done 0 :write 1 1 (str %)) (range 65536))]
+    (is (= 65536 (count (:keys (fcbench/profile many)))))
+    (is (= "there are more than 65,536 objects" (refused (concat many (done 0 :write 1 1 0)))))))
+
+(deftest what-a-cas-replies
+  (let [swap (fn [reply] (concat (done 0 :write 1 1) (done 0 :cas [5 2] reply) (done 0 :read nil 1)))
+        odd (fn [text] (str "operation 3: " text " can't be the reply of :cas, "
+                            "which is true or its argument where it has set, and false where it has not"))]
+    (is (true? (:valid? (judged (swap false)))))
+    (is (false? (:valid? (judged (swap true)))))
+    (is (false? (:valid? (judged (swap '(5 2))))))
+    (doseq [[reply text] [[:not-equal ":not-equal"] [nil "nil"] ["OK" "\"OK\""] [0 "0"] [1 "1"] [{} "{}"]]]
+      (is (= (odd text) (refused (swap reply)))))
+    (is (string/starts-with? (refused (swap [5 3])) (odd "[5 3]")))))
+
+(deftest what-others-reply
+  (doseq [f [:write :enqueue :push :insert]]
+    (doseq [reply [7 nil true "OK" :ok]]
+      (is (true? (:valid? (judged (done 0 f 7 reply))))))
+    (doseq [reply [false :full 8 "error" [7] {} 7.0]]
+      (is (= (str "operation 1: " (pr-str reply) " can't be the reply of " f ", which is its argument, true, \"OK\" or nil")
+             (refused (done 0 f 7 reply))))))
+  (doseq [f [:dequeue :pop :read :extract-min]
+          reply [[1] #{} 1.5 {:empty true}]]
+    (is (string/starts-with? (refused (done 0 f nil reply)) (str "operation 1: " (pr-str reply) " can't be the reply of " f ", which is an integer"))))
+  (doseq [f [:acquire :release]
+          reply [false :busy "busy" 0 -1 [1] {} {:token nil} {:acquired false} 'no]]
+    (is (string/starts-with? (refused (done 0 f nil reply)) (str "operation 1: " (pr-str reply) " can't be the reply of " f ", which is nil, true"))))
+  (is (string/starts-with? (refused (done 0 :put [1 2] [1 2])) "operation 1: [1 2] can't be the reply of :put, which is an integer")))
+
+(deftest what-arguments-are
+  (is (= "operation 0: 1.0 can't be the argument of :write, which is an integer, string or keyword" (refused (done 0 :write 1.0 1.0))))
+  (is (= "operation 0: nil can't be the argument of :enqueue, which is an integer, string or keyword" (refused (done 0 :enqueue nil nil))))
+  (is (= "operation 0: [1] can't be the argument of :cas, which is a pair of integers, strings or keywords" (refused (done 0 :cas [1] true))))
+  (is (= "operation 0: 3 can't be the argument of :acquire, which is nil" (refused (done 0 :acquire 3 nil))))
+  ;; Locks of several keys are not one lock.
+  (is (= (str "operation 0: [1 nil] can't be the argument of :acquire, which is nil. "
+              "Where it is a tuple of jepsen.independent, say {:independent? true}")
+         (refused (concat (done 0 :acquire [1 nil] [1 nil]) (done 1 :acquire [2 nil] [2 nil])))))
+  (is (= "operation 0: -1 can't be a :process, which is an integer of at least 0, or a keyword" (refused (done -1 :read nil nil))))
+  (is (= "operation 0: :done can't be a :type, which is :invoke, :ok, :fail or :info" (refused [(op 0 :done :read nil)])))
+  (is (= "operation 0 is no map: 7" (refused [7])))
+  (is (= "operation 0: process 0 has no operation to complete" (refused [(op 0 :info :read nil)])))
+  (is (= "operation 1: :read can't complete :write, operation 0" (refused [(op 0 :invoke :write 1) (op 0 :ok :read 1)]))))
+
+(deftest keys-of-completions
+  (let [independent {:independent? true}]
+    (is (= "operation 1: key 2 is not that of its invocation, operation 0: key 1"
+           (refused [(op 0 :invoke :read [1 nil]) (op 0 :ok :read [2 5])] independent)
+           (refused [(op 0 :invoke :read (tuple 1 nil)) (op 0 :ok :read (tuple 2 5))])))
+    (is (= "operation 1: key 2 is not that of its invocation, operation 0: key 1"
+           (refused [(op 0 :invoke :read [1 nil]) (op 0 :fail :read [2 nil])] independent)))
+    (is (= "operation 1: nil is no tuple [key value] of jepsen.independent, as other values are"
+           (refused [(op 0 :invoke :read (tuple 1 nil)) (op 0 :ok :read nil)])))
+    (is (= "operation 2: 3 is no tuple [key value] of jepsen.independent, as other values are"
+           (refused (concat (done 0 :write (tuple 1 1) (tuple 1 1)) (done 0 :write 3 3)))))
+    (is (= "operation 0: it has a key, and an :object too" (refused [(op 0 :invoke :read [1 nil] 4)] independent)))
+    (is (true? (:valid? (judged [(op 0 :invoke :read [1 nil]) (op 0 :fail :read nil) (op 0 :invoke :read [2 nil]) (op 0 :info :read nil)]
+                                independent))))))
+
+(deftest programs-that-are-none
+  (is (= {:valid? :unknown, :reason ["/bin/true ended with status 0 and without a verdict: is it fcbench?"]} (judged [] {:program "/bin/true"})))
+  (is (= {:valid? :unknown, :reason ["/bin/false ended with status 1 and without a verdict: is it fcbench?"]} (judged [] {:program "/bin/false"})))
+  (is (string/starts-with? (refused [] {:program "/there/is/none"}) "/there/is/none was not run: "))
+  (is (true? (:valid? (judged (stored register) {:program (io/file program)}))))
+  (let [it (fcbench/checker {:program (io/file program), :fail-is-reply #(= :empty (:error %))})]
+    (is (true? (:valid? (jepsen.checker/check it {:name "test"} (stored register) {}))))))
+
+(deftest keys-and-indices-in-reasons
+  (let [write (concat (done 0 :write (tuple 7 5) (tuple 7 5)) (done 0 :write (tuple 16 1) (tuple 16 1)) (done 0 :write (tuple 16 2) (tuple 16 2)))
+        history (concat write (done 1 :read (tuple 16 nil) (tuple 16 1)))
+        at (fn [indices] (map #(assoc %1 :index %2) history indices))
+        {:keys [reason] :as answer} (judged (at (range)))]
+    (is (= ["object 1, which is key 16: impossible"
+            "value 1 was read after another content had replaced it"
+            "maps 4 and 5: process 0, :write 2, :ok 2, counted as :write 0, :ok 0"
+            "maps 6 and 7: process 1, :read nil, :ok 1"]
+           (butlast reason)))
+    (is (= {0 7, 1 16} (:keys answer)))
+    (is (= ["maps 4 and 5 (:index 104 and 105): process 0, :write 2, :ok 2, counted as :write 0, :ok 0"
+            "maps 6 and 7 (:index 106 and 107): process 1, :read nil, :ok 1"]
+           (subvec (:reason (judged (at (range 100 200)))) 2 4)))
+    (is (= (last reason) (last (:reason (judged (at (range 100 200)))))))
+    (is (= "operation 1 (:index 9): 1.5 can't be the reply of :read, which is an integer, string or keyword, or nil"
+           (refused [(op 0 :invoke :read nil) (assoc (op 0 :ok :read 1.5) :index 9)]))))
+  (let [history (concat (done 0 :enqueue 1 1) (done 0 :dequeue nil nil) (done 0 :dequeue nil 1))]
+    (is (= "the queue was surely not empty when map 2 (:index 12) found nothing"
+           (second (:reason (judged (map #(assoc %1 :index %2) history (range 10 20))))))))
+  (is (= ["malformed history: H5 at map 1 (:index 8)"]
+         (:reason (judged [(assoc (op 0 :invoke :read nil) :index 7) (assoc (op 0 :invoke :read nil) :index 8)])))))
+
+(deftest values-with-names
+  (let [queue (concat (done 0 :enqueue "a" "a") (done 0 :enqueue :a nil) (done 0 :enqueue 0 0) (done 0 :enqueue 18446744073709551615 nil))]
+    (is (= {1 "a", 2 :a, 3 18446744073709551615N} (:values (fcbench/profile queue))))
+    (is (true? (:valid? (judged (concat queue (mapcat #(done 1 :dequeue nil %) ["a" :a 0 18446744073709551615N nil]))))))
+    (is (= ["object 0: impossible"
+            "value \"a\" was enqueued before value :a and dequeued after it"
+            "maps 0 and 1: process 0, :enqueue \"a\", :ok \"a\""
+            "maps 2 and 3: process 0, :enqueue :a, :ok :a"
+            "maps 8 and 9: process 1, :dequeue nil, :ok :a"]
+           (butlast (:reason (judged (concat queue (mapcat #(done 1 :dequeue nil %) [:a "a"]))))))))
+  (is (true? (:valid? (judged (concat (done 0 :write "x" "x") (done 0 :cas ["x" false] true) (done 0 :cas ["x" "y"] false) (done 0 :read nil false))))))
+  (is (true? (:valid? (judged (concat (done 0 :put ["k" 1] nil) (done 0 :put ["l" "v"] nil) (done 0 :get "k" 1) (done 0 :del "l" "v") (done 0 :get "l" nil))))))
+  (is (false? (:valid? (judged (concat (done 0 :put ["k" 1] nil) (done 0 :get "k" 2))))))
+  ;; The order of a heap counts.
+  (is (= "operation 0: \"a\" can't be the argument of :insert, which is an integer of 64 bits" (refused (done 0 :insert "a" nil))))
+  ;; A message is no value, and the string of a value is not the value.
+  (let [odd "is the reply of :dequeue, and no operation puts it in: it may be a message, or another form of a value"]
+    (is (= (str "operation 1: :empty " odd) (refused (done 0 :dequeue nil :empty))))
+    (is (= (str "operation 3: \"3\" " odd) (refused (concat (done 0 :enqueue 3 3) (done 0 :dequeue nil "3")))))
+    (is (= (str "operation 3: \"a\" " odd) (refused (concat (done 0 :enqueue :a :a) (done 0 :dequeue nil "a")))))
+    (is (= (str "operation 3: 3 " odd) (refused (concat (done 0 :enqueue "3" "3") (done 0 :dequeue nil 3)))))))
+
+(deftest failed-operations-that-reply
+  (let [empty-one [(op 0 :invoke :dequeue nil) (assoc (op 0 :fail :dequeue nil) :error :empty)]
+        history (concat (done 0 :enqueue 1 1) empty-one (done 0 :dequeue nil 1))]
+    (is (true? (:valid? (judged history))))
+    (is (= ["object 0: impossible" "the queue was surely not empty when map 2 found nothing"]
+           (take 2 (:reason (judged history {:fail-is-reply true})))))
+    (is (true? (:valid? (judged (map #(dissoc % :error) history) {:fail-is-reply true}))))
+    (is (false? (:valid? (judged (map #(dissoc % :error) history) {:fail-is-reply #(= :dequeue (:f %))})))))
+  (let [refused-swap [(op 0 :invoke :cas [1 2]) (assoc (op 0 :fail :cas [1 2]) :error :not-equal)]
+        history (concat (done 0 :write 1 1) refused-swap)]
+    (is (true? (:valid? (judged history {:fail-is-reply true}))))
+    (is (false? (:valid? (judged history {:fail-is-reply #(= :not-equal (:error %))})))))
+  ;; A failed :put has no such reply, and with tuples the key may be missing.
+  (is (true? (:valid? (judged (concat (done 0 :put [1 1] nil) [(op 0 :invoke :put [1 2]) (op 0 :fail :put [1 2])]) {:fail-is-reply some?}))))
+  (is (false? (:valid? (judged (concat (done 0 :push [5 1] [5 1]) [(op 0 :invoke :pop [5 nil]) (assoc (op 0 :fail :pop nil) :error :empty)])
+                               {:fail-is-reply true, :independent? true})))))
+
+(deftest initial-values
+  (let [read-of (fn [value & object] (apply done 3 :read nil value object))]
+    (is (false? (:valid? (judged (read-of 0)))))
+    (is (= ["yes: 2 operations, 1 objects" "register: 1 objects, 2 operations"] (:reason (judged (read-of 0) {:initial 0}))))
+    (is (true? (:valid? (judged (concat (read-of 0 1) (read-of 5 "x") (read-of nil)) {:initial {1 0, "x" 5}}))))
+    (is (true? (:valid? (judged (done 3 :read [8 nil] [8 "none"]) {:independent? true, :initial {8 "none"}}))))
+    (is (true? (:valid? (judged (read-of false) {:initial false}))))
+    (is (false? (:valid? (judged (read-of nil) {:initial 0}))))
+    ;; Other objects have none, and numbers of maps are those of the history.
+    (is (true? (:valid? (judged (concat (read-of 0 1) (done 0 :dequeue nil nil 2)) {:initial 0}))))
+    (is (= "object 2 is no register, and has an initial value" (refused (done 0 :dequeue nil nil 2) {:initial {2 0}})))
+    (is (= "1.5 can't be an initial value, which is an integer, string or keyword" (refused (read-of 0) {:initial 1.5})))
+    (is (= ["these operations have no valid order"
+            "the initial value: :write 9, :ok 9"
+            "maps 0 and 1: process 0, :cas [9 2], :ok false"]
+           (rest (butlast (:reason (judged (done 0 :cas [9 2] false) {:initial 9}))))))
+    (is (= ["malformed history: H5 at map 1"] (:reason (judged [(op 0 :invoke :read nil) (op 0 :invoke :read nil)] {:initial 0}))))))
+
+(defn of-key
+  "What jepsen.independent/checker hands to the checker of a key, after its document: the operations on the key and those without
+  one, without their keys."
+  [k history]
+  (for [{:keys [value] :as op} history
+        :let [is-tuple? (instance? MapEntry value)]
+        :when (or (not is-tuple?) (= k (key value)))]
+    (if is-tuple? (assoc op :value (val value)) op)))
+
+(deftest within-independent
+  (let [history (map-indexed #(assoc %2 :index %1)
+                             (concat (done 0 :write (tuple "x" 1) (tuple "x" 1)) [(op :nemesis :info :start nil)]
+                                     (done 0 :write (tuple "y" 1) (tuple "y" 1)) (done 0 :read (tuple "y" nil) (tuple "y" 2))))]
+    (is (true? (:valid? (judged (of-key "x" history)))))
+    (is (= {:valid? false} (dissoc (judged (of-key "y" history)) :reason)))
+    (is (= ["object 0: impossible" "value 2 was read and never written" "maps 3 and 4 (:index 5 and 6): process 0, :read nil, :ok 2"]
+           (butlast (:reason (judged (of-key "y" history))))))
+    ;; The same in one run, where it is given tuples.
+    (is (= ["object 1, which is key \"y\": impossible" "value 2 was read and never written" "maps 5 and 6: process 0, :read nil, :ok 2"]
+           (butlast (:reason (judged history)))))))
+
+(def expected "; expected are maps as {:process 0, :type :invoke, :f :read, :value nil}")
+
+(defn unread [ending text]
+  (with-file ending text
+    (fn [file]
+      (try (fcbench/read-history file)
+           (catch clojure.lang.ExceptionInfo error
+             (string/replace (.getMessage error) file "FILE"))))))
+
+(deftest files-of-a-store
+  (let [operations (done 0 :read nil nil)]
+    (is (= operations (stored (pr-str operations)) (stored (apply str (map prn-str operations))) (stored (pr-str (vec operations)))
+           (stored (str "#jepsen.history.DenseHistory [" (string/join " " (map #(str "#jepsen.history.Op" (pr-str %)) operations)) "]")))))
+  ;; What a store has in keys that are ignored.
+  (let [history (stored "{:process 0, :type :invoke, :f :read, :time 1.5, :node n1, :seen #{1 \"a\"}}
+    {:process 0, :type :info, :f :read, :error [:x #inst \"2026-11-26\"], :at #object[java.net.Socket 0x6f \"Socket[]\"], :ratio 1/3,
+     :exception {:via [{:type java.net.SocketException, :message \"reset\", :at [a.b$c invoke \"b.clj\" 12]}], :trace [[a.b$c <init> nil -1]]}}")]
+    (is (= 2 (count history)))
+    (is (true? (:valid? (judged history)))))
+  (let [text ":nemesis\t:info\t:start\tnil\n0\t:invoke\t:dequeue\tnil\n0\t:fail\t:dequeue\tnil\t:empty\n1\t:invoke\t:enqueue\t[1 2]\t:a: b\n"]
+    (is (= [{:process :nemesis} (op 0 :invoke :dequeue nil) (assoc (op 0 :fail :dequeue nil) :error :empty) (op 1 :invoke :enqueue [1 2])]
+           (map #(if (= 1 (:process %)) (dissoc % :error) %) (with-file ".txt" text fcbench/read-history))))
+    (is (string/starts-with? (unread ".txt" (str text "0\t:ok")) "FILE, line 5: no operation: 0\t:ok; expected are maps")))
+  (is (string/starts-with? (unread ".json" "[{\"process\": 0, \"type\": \"invoke\"}]") (str "FILE, line 1: Invalid token: :" expected)))
+  (is (re-find #"^FILE, line \d: EOF while reading" (unread ".edn" "{:process 0}\n{:process ")))
+  (is (string/starts-with? (unread ".edn" "a history") (str "FILE, form 0: no map: a" expected))))
 
 (deftest as-a-checker-of-jepsen
   (let [checker (fcbench/checker {:program program})]
