@@ -20,7 +20,8 @@
     :initial        what registers contain at first: {object value}, or one value for all
   Options of check and checker:
     :program        the program, else fcbench on the path
-    :steps          the most steps of a search for each object"
+    :steps          the most steps of a search for each object
+    :draw, :always  a file for the page of fcbench draw, written where :valid? is not true, or always"
   (:require [clojure.edn :as edn]
             [clojure.java.io :as io]
             [clojure.java.shell :as shell]
@@ -478,15 +479,30 @@
         strange (when (nil? valid?) [(str (or program "fcbench") " ended with status " exit " and without a verdict: is it fcbench?")])]
     {:valid? (if (nil? valid?) :unknown valid?), :reason (into (vec strange) (lines-told how (str out err)))}))
 
+(defn- with-page
+  "The answer, and the page where one is asked for."
+  [{:keys [draw always] :as options} path answer]
+  (if (and draw (or always (not (true? (:valid? answer)))))
+    (let [{:keys [exit out]} (run options "draw" path)]
+      (try
+        (when-not (string/starts-with? out "<!DOCTYPE html>")
+          (throw (IOException. (str "status " exit " of draw"))))
+        (io/make-parents draw)
+        (spit draw out)
+        (assoc answer :drawn (str draw))
+        (catch IOException error
+          (update answer :reason conj (str "there is no page: " (.getMessage error))))))
+    answer))
+
 (defn check
   "What a checker says of a history: :valid? is true, false or :unknown, and :reason the lines that say why. :keys and :values
-  have what has got a number. Where an operation of a line has an :index that is not its place
+  have what has got a number, and :drawn is the file of the page. Where an operation of a line has an :index that is not its place
   in the history, the line says it too."
   [{:keys [program] :as options} _test history _opts]
   (try
     (let [{:keys [text] :as made} (profile history options)
           how (assoc made :history (vec history))
-          answer (with-file text #(judged options how %))]
+          answer (with-file text #(with-page options % (judged options how %)))]
       (into answer (remove #(empty? (val %))) (select-keys made [:keys :values])))
     (catch ExceptionInfo error
       (if (::refused (ex-data error))
@@ -506,11 +522,20 @@
   [it]
   (try (requiring-resolve it) (catch IOException _ nil)))
 
+(defn- in-store
+  "The options with the page in the test's folder of Jepsen's store, where there is one."
+  [{:keys [draw] :as options} test {:keys [subdirectory]}]
+  (let [path (when (and draw (not (.isAbsolute (io/file draw)))) (resolved 'jepsen.store/path))]
+    (if path
+      (assoc options :draw (try (path test subdirectory (str draw))
+                                (catch AssertionError _ draw)))
+      options)))
+
 (defn checker
-  "A checker: of jepsen.checker/Checker where Jepsen is on the path, else of Checker above."
+  "A checker: of jepsen.checker/Checker where Jepsen is on the path, else of Checker above. A page is drawn in the store of the test."
   ([] (checker {}))
   ([options]
-   (let [ask (fn [test history opts] (check options test history opts))]
+   (let [ask (fn [test history opts] (check (in-store options test opts) test history opts))]
      (if (resolved 'jepsen.checker/check)
        ((eval '(fn [ask]
                  (reify jepsen.checker/Checker

@@ -1,5 +1,5 @@
 ;; Tests the converter and the checker on histories as a Jepsen store has them. They are written by hand after Jepsen's
-;; documents: no Jepsen is here. jepsen.checker below has the shape of its protocol alone.
+;; documents: no Jepsen is here. jepsen.checker and jepsen.store below have the shape of what is called of them, and no more.
 ;;
 ;;   clojure -cp clients/clojure clients/clojure/fcbench_test.clj PROGRAM
 
@@ -8,12 +8,20 @@
 (defprotocol Checker
   (check [checker test history opts]))
 
+(ns jepsen.store
+  (:require [clojure.java.io :as io]))
+
+(defn path [test & parts]
+  (assert (:store test))
+  (apply io/file (:store test) (map str (remove nil? (flatten parts)))))
+
 (ns fcbench-test
   (:require [clojure.java.io :as io]
             [clojure.string :as string]
             [clojure.test :refer [deftest is run-tests]]
             [fcbench]
-            [jepsen.checker])
+            [jepsen.checker]
+            [jepsen.store])
   (:import (clojure.lang MapEntry)))
 
 (def program (or (first *command-line-args*) "fcbench"))
@@ -230,6 +238,33 @@
            (second (:reason (judged (map #(assoc %1 :index %2) history (range 10 20))))))))
   (is (= ["malformed history: H5 at map 1 (:index 8)"]
          (:reason (judged [(assoc (op 0 :invoke :read nil) :index 7) (assoc (op 0 :invoke :read nil) :index 8)])))))
+
+(deftest a-page
+  (let [file (io/file (System/getProperty "java.io.tmpdir") (str "fcbench" (System/nanoTime)) "page.html")
+        page #(when (.exists file) (try (slurp file) (finally (.delete file))))
+        draw {:draw (.getPath file)}]
+    (is (not (contains? (judged (stored register) draw) :drawn)))
+    (is (nil? (page)))
+    (is (= (.getPath file) (:drawn (judged (stored register) (assoc draw :always true)))))
+    (is (string/starts-with? (page) "<!DOCTYPE html>"))
+    (is (= {:valid? false, :drawn (.getPath file)} (dissoc (judged (stored old-read) draw) :reason)))
+    (is (string/includes? (page) "impossible"))
+    ;; In the store of the test, and as it is said where the test has none.
+    (let [store (.getParentFile file)
+          it (fcbench/checker {:program program, :draw "page.html"})
+          absolute (fcbench/checker {:program program, :draw (io/file file)})]
+      (is (= (.getPath (io/file store "independent" "16" "page.html"))
+             (:drawn (jepsen.checker/check it {:store store} (stored old-read) {:subdirectory ["independent" 16]}))))
+      (is (= (.getPath file) (:drawn (jepsen.checker/check it {:store store} (stored old-read) {}))))
+      (is (some? (page)))
+      (is (= (.getPath file) (:drawn (jepsen.checker/check absolute {} (stored old-read) {}))))
+      (is (some? (page)))
+      (doseq [it [(io/file store "independent" "16" "page.html") (io/file store "independent" "16") (io/file store "independent") store]]
+        (io/delete-file it)))
+    ;; No page, and the verdict all the same.
+    (let [{:keys [valid? reason drawn]} (judged (stored old-read) {:draw "/dev/null/page.html"})]
+      (is (= [false nil] [valid? drawn]))
+      (is (string/starts-with? (last reason) "there is no page: ")))))
 
 (deftest values-with-names
   (let [queue (concat (done 0 :enqueue "a" "a") (done 0 :enqueue :a nil) (done 0 :enqueue 0 0) (done 0 :enqueue 18446744073709551615 nil))]
