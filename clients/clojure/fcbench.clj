@@ -6,6 +6,8 @@
     (fcbench/check {} test history opts)                      ; {:valid? .., :reason [..]}
     (fcbench/profile (fcbench/read-history \"history.edn\"))    ; {:text .., :keys ..}
 
+    clojure -cp FOLDER -m fcbench history.edn > profile.edn   ; the text alone
+
   A history is a sequence of operation maps, as Jepsen has it in memory or in history.edn of its store. Each operation becomes
   one map of the text, in its place. Of the nemesis, and of others whose process is a keyword, only the process is
   written. Of a client's operation :process, :type, :f, :value and :object are written, and all else is left out.
@@ -543,3 +545,53 @@
         ask)
        (reify Checker
          (check-history [_ test history opts] (ask test history opts)))))))
+
+;; The command
+
+(def usage
+  (str "usage: clojure -cp FOLDER -m fcbench [--independent] [--fail-is-reply] [--initial VALUE] FILE\n"
+       "writes the history of FILE, history.edn or history.txt of a Jepsen store, as a text that fcbench judges\n"))
+
+(defn- words-read
+  "The options and the file of a command, or nil."
+  [words]
+  (loop [options {}, [word & more] words]
+    (case word
+      "--independent" (recur (assoc options :independent? true) more)
+      "--fail-is-reply" (recur (assoc options :fail-is-reply true) more)
+      "--initial" (when (seq more) (recur (assoc options :initial (read-or-text (first more))) (rest more)))
+      (when (and word (empty? more) (not (string/starts-with? word "-")))
+        [options word]))))
+
+(defn- in-ascii
+  "A key or a value in one line of ASCII, so that the text is UTF-8 whatever the terminal speaks."
+  [thing]
+  (string/replace (pr-str thing) #"[^ -~]" #(format "\\u%04x" (int (first %)))))
+
+(defn- comments
+  "What has got a number, in comments, which number no map."
+  [{key-of :keys, :keys [values before]}]
+  (concat
+   (for [[number k] key-of] (str "; object " number " is key " (in-ascii k) "\n"))
+   (for [[number value] values] (str "; value " number " is " (in-ascii value) "\n"))
+   (when (pos? before) [(str "; the first " before " maps are initial values: map N is operation N - " before "\n")])))
+
+(defn command
+  "What the command with these words writes and says, and its status: that of fcbench for a malformed text, an unreadable file and
+  strange words."
+  [words]
+  (if-let [[options file] (words-read words)]
+    (try
+      (let [{:keys [text] :as made} (profile (read-history file) options)]
+        {:out (str (apply str (comments made)) text), :err "", :status 0})
+      (catch ExceptionInfo error {:out "", :err (str (.getMessage error) "\n"), :status 2})
+      (catch IOException error {:out "", :err (str "cannot read " (.getMessage error) "\n"), :status 4}))
+    {:out "", :err usage, :status 64}))
+
+(defn -main [& words]
+  (let [{:keys [out err status]} (command words)]
+    (print out)
+    (flush)
+    (binding [*out* *err*] (print err) (flush))
+    (when-not (zero? status)
+      (System/exit status))))

@@ -371,6 +371,27 @@
   (is (re-find #"^FILE, line \d: EOF while reading" (unread ".edn" "{:process 0}\n{:process ")))
   (is (string/starts-with? (unread ".edn" "a history") (str "FILE, form 0: no map: a" expected))))
 
+(deftest the-command
+  (let [tuples "{:process 0, :type :invoke, :f :write, :value [\"k\" \"caf\\u00e9\"]}\n{:process 0, :type :ok, :f :write, :value [\"k\" \"caf\\u00e9\"]}"
+        command (fn [text & words] (with-file ".edn" text #(fcbench/command (concat words [%]))))
+        {:keys [out status]} (command tuples "--independent" "--initial" "5")]
+    (is (= 0 status))
+    (is (= "; object 0 is key \"k\"
+; value 0 is \"caf\\u00e9\"
+; the first 2 maps are initial values: map N is operation N - 2
+{:process 1, :type :invoke, :f :write, :value 5, :object 0}
+{:process 1, :type :ok, :f :write, :value 5, :object 0}
+{:process 0, :type :invoke, :f :write, :value 0, :object 0}
+{:process 0, :type :ok, :f :write, :value 0, :object 0}
+" out))
+    (is (true? (:valid? (judged (stored out)))))
+    (is (= (:text (fcbench/profile (stored register))) (with-file ".edn" register #(with-out-str (fcbench/-main %)))))
+    (is (string/includes? (:out (command "0\t:invoke\t:pop\tnil\n0\t:fail\t:pop\tnil\t:empty\n" "--fail-is-reply")) ":type :ok, :f :pop"))
+    (is (= 2 (:status (command tuples))))
+    (is (string/starts-with? (:err (command tuples)) "operation 0: [\"k\" \"café\"] can't be the argument of :write"))
+    (is (= 4 (:status (fcbench/command ["/there/is/none"]))))
+    (is (= [64 64 64 64] (map #(:status (fcbench/command %)) [[] ["--strange" "a"] ["a" "b"] ["--initial"]])))))
+
 (deftest as-a-checker-of-jepsen
   (let [checker (fcbench/checker {:program program})]
     (is (satisfies? jepsen.checker/Checker checker))
