@@ -334,7 +334,7 @@
   ([history] (profile history {}))
   ([history {:keys [initial] :as options}]
    (let [events (events-of history options)
-         before (vec (initial-events initial events))
+         before (if (some? initial) (vec (initial-events initial events)) [])
          all (into before events)
          objects (object-numbers events)
          values (value-numbers all)]

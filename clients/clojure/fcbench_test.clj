@@ -148,9 +148,7 @@
   (is (true? (:valid? (judged [(op 0 :invoke :write 1 "x") (op 0 :ok :write 1)]))))
   (is (= "operation 1: object 4 is not that of its invocation, operation 0: object 3"
          (refused [(op 0 :invoke :write 1 3) (op 0 :ok :write 1 4)])))
-  (let [many (mapcat #(done 0 :write 1 1 (str %)) (range 65536))]
-    (is (= 65536 (count (:keys (fcbench/profile many)))))
-    (is (= "there are more than 65,536 objects" (refused (concat many (done 0 :write 1 1 0)))))))
+  (is (= "there are more than 65,536 objects" (refused (mapcat #(done 0 :write 1 1 (str %)) (range 65537))))))
 
 (deftest what-a-cas-replies
   (let [swap (fn [reply] (concat (done 0 :write 1 1) (done 0 :cas [5 2] reply) (done 0 :read nil 1)))
