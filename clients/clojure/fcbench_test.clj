@@ -277,6 +277,10 @@
   (is (true? (:valid? (judged (concat (done 0 :write "x" "x") (done 0 :cas ["x" false] true) (done 0 :cas ["x" "y"] false) (done 0 :read nil false))))))
   (is (true? (:valid? (judged (concat (done 0 :put ["k" 1] nil) (done 0 :put ["l" "v"] nil) (done 0 :get "k" 1) (done 0 :del "l" "v") (done 0 :get "l" nil))))))
   (is (false? (:valid? (judged (concat (done 0 :put ["k" 1] nil) (done 0 :get "k" 2))))))
+  ;; An integer is the same of each class.
+  (is (true? (:valid? (judged (concat (done 0 :write 3N nil 4N) (done 0 :read nil (biginteger 3) (int 4)))))))
+  (is (true? (:valid? (judged (concat (done 0 :write [3N 1] [3 1]) (done 0 :read [(int 3) nil] [3 1])) {:independent? true}))))
+  (is (true? (:valid? (judged (concat (done 0 :write (biginteger 18446744073709551615N) nil) (done 0 :read nil 18446744073709551615N))))))
   ;; The order of a heap counts.
   (is (= "operation 0: \"a\" can't be the argument of :insert, which is an integer of 64 bits" (refused (done 0 :insert "a" nil))))
   ;; A message is no value, and the string of a value is not the value.
