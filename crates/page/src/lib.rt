@@ -5,13 +5,13 @@
 mod bars;
 mod boxes;
 mod excerpts;
-mod figures;
 mod legend;
 mod pages;
 mod points;
 mod sections;
 mod spans;
 mod style;
+mod svg;
 mod tables;
 mod writer;
 
