@@ -434,17 +434,6 @@ SENTENCES = (
         "key 3: value 5 was put once and taken away twice",
     ),
     (
-        lines(
-            invoke(0, "put", (3, 5)),
-            invoke(1, "put", (3, 5)),
-            ok(0, "put"),
-            ok(1, "put", 5),
-            *[invoke(it, "del", 3) for it in (0, 1, 2)],
-            *[ok(it, "del", 5) for it in (0, 1, 2)],
-        ),
-        "key 3: value 5 was taken away more often than it can have been there",
-    ),
-    (
         lines(invoke(0, "put", (3, 1)), invoke(1, "put", (3, 2)), ok(0, "put"), ok(1, "put")),
         "key 3: no value was found more often than there can have been none",
     ),
