@@ -2,35 +2,8 @@
 looked at in a browser."""
 import re
 
-from .rows import CERTIFICATES
-from .texts import fail, invoke, lines, ok, order
-
-OVERLAPPING = lines(
-    invoke(0, "enqueue", 1),
-    invoke(1, "enqueue", 2),
-    ok(0, "enqueue", 1),
-    ok(1, "enqueue", 2),
-    invoke(0, "dequeue"),
-    ok(0, "dequeue", 2),
-)
-ONE_BY_ONE = lines(
-    invoke(0, "enqueue", 1),
-    ok(0, "enqueue", 1),
-    invoke(1, "enqueue", 2),
-    ok(1, "enqueue", 2),
-    invoke(0, "dequeue"),
-    ok(0, "dequeue", 2),
-)
-ONE_VALUE = lines(
-    invoke(0, "enqueue", 1),
-    ok(0, "enqueue", 1),
-    invoke(0, "dequeue"),
-    ok(0, "dequeue", 1),
-)
-FAILED = lines(
-    invoke(0, "enqueue", 5),
-    fail(0, "enqueue", 5),
-)
+from .rows import CERTIFICATES, ENQUEUE_DEQUEUE, FAILED, OUT_OF_ORDER, OVERLAPPING
+from .texts import invoke, lines, ok, order
 
 # A history, the order of its object or none, the class of the page, and some of the texts that it has.
 PAGES = (
@@ -48,7 +21,7 @@ PAGES = (
         ),
     ),
     (
-        ONE_BY_ONE,
+        OUT_OF_ORDER,
         (2, 0, 4),
         "no",
         (
@@ -60,7 +33,7 @@ PAGES = (
         ),
     ),
     (
-        ONE_VALUE,
+        ENQUEUE_DEQUEUE,
         None,
         "no",
         (
@@ -68,7 +41,7 @@ PAGES = (
         ),
     ),
     (
-        ONE_VALUE,
+        ENQUEUE_DEQUEUE,
         (0, 0, 2),
         "no",
         (
@@ -78,7 +51,7 @@ PAGES = (
         ),
     ),
     (
-        ONE_VALUE,
+        ENQUEUE_DEQUEUE,
         (0,),
         "no",
         (
@@ -96,7 +69,7 @@ PAGES = (
         ),
     ),
     (
-        ONE_VALUE,
+        ENQUEUE_DEQUEUE,
         (2, 0),
         "no",
         (
@@ -110,9 +83,9 @@ PAGES = (
 # A history, the order of its object or none, the width and height of its line, its bars (operation, from, to, top), and its points (rank, x, y).
 FIGURES = (
     (OVERLAPPING, (1, 0, 4), (272, 112), ((0, 62, 139, 26), (4, 163, 254, 26), (1, 74, 151, 68),), ((1, 90, 93), (2, 111, 51), (3, 179, 51),)),
-    (ONE_BY_ONE, (2, 0, 4), (395, 112), ((0, 62, 139, 26), (4, 286, 377, 26), (2, 197, 274, 68),), ((1, 213, 93), (2, 234, 51),)),
-    (ONE_VALUE, None, (260, 54), ((0, 62, 139, 26), (2, 151, 242, 26),), ()),
-    (ONE_VALUE, (0,), (260, 70), ((0, 62, 139, 26), (2, 151, 242, 26),), ((1, 78, 51),)),
+    (OUT_OF_ORDER, (2, 0, 4), (395, 112), ((0, 62, 139, 26), (4, 286, 377, 26), (2, 197, 274, 68),), ((1, 213, 93), (2, 234, 51),)),
+    (ENQUEUE_DEQUEUE, None, (260, 54), ((0, 62, 139, 26), (2, 151, 242, 26),), ()),
+    (ENQUEUE_DEQUEUE, (0,), (260, 70), ((0, 62, 139, 26), (2, 151, 242, 26),), ((1, 78, 51),)),
     (FAILED, (0,), (157, 70), ((0, 62, 139, 26),), ((1, 78, 51),)),
 )
 

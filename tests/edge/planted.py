@@ -2,7 +2,7 @@
 
 A number in a sentence is that of a map. What the part says is checked by all orders, and by refute."""
 from .reasons import explained_in, why_not_explained
-from .rows import HISTORY
+from .rows import HISTORY, OUT_OF_ORDER
 from .texts import invoke, lines, ok, one_process
 
 # Value 7 is taken twice, and put in once.
@@ -61,16 +61,6 @@ WRONG_ORDER = lines(
     ok(0, "dequeue", 2),
     invoke(0, "dequeue"),
     ok(0, "dequeue", 1),
-)
-
-# Value 1 is put in before 2, and is there when 2 is taken.
-LEFT_BEHIND = lines(
-    invoke(0, "enqueue", 1),
-    ok(0, "enqueue", 1),
-    invoke(1, "enqueue", 2),
-    ok(1, "enqueue", 2),
-    invoke(0, "dequeue"),
-    ok(0, "dequeue", 2),
 )
 
 # Nothing is found while 1 is in the queue.
@@ -341,7 +331,7 @@ SMALL = (
     (TAKEN_TOO_EARLY, "value 5 was dequeued before it was enqueued", 1),
     (TAKEN_TOO_OFTEN, "value 5 was popped 3 times and by then pushed 2 times", 5),
     (WRONG_ORDER, "value 1 was enqueued before value 2 and dequeued after it", 3),
-    (LEFT_BEHIND, "value 2 was dequeued while value 1, which was enqueued before it, was still in the queue", 3),
+    (OUT_OF_ORDER, "value 2 was dequeued while value 1, which was enqueued before it, was still in the queue", 3),
     (NOT_EMPTY, "the queue was surely not empty when map 2 found nothing", 2),
     (LOWER_FIRST, "value 1 was popped before value 2, which was pushed on it", 3),
     (LEFT_ABOVE, "value 1 was popped while value 2, which was pushed on it, was still in the stack", 3),
