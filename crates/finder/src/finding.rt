@@ -40,14 +40,14 @@ fn find_by(
     }
 }
 
-/// Looks for a certificate of an object by the methods that are made for its kind: for a stack also
-/// by a search of all that it may contain, and for a queue, stack or heap with another choice of
-/// what each removal takes.
+/// Looks for a certificate of an object by the methods that are made for its kind: for a queue,
+/// stack or heap also with another choice of what each removal takes, and for a stack by a search of
+/// all that it may contain.
 pub fn find_by_kind(alloc: Global, history: &ObjectHistory) -> Result<FindOutcome, AllocError>
     ensures valid { IfOk result (λ f. IfOrder f
         (IsFor history.now.object history.now.kind (calls_of history.now.ops))) }
 {
-    for method in [Method::OfTheKind, Method::AllContents, Method::OtherPairs] {
+    for method in [Method::OfTheKind, Method::OtherPairs, Method::AllContents] {
         if let Some(certificate) = find_by(alloc, method, history)? {
             return Ok(FindOutcome::Order(certificate));
         }
