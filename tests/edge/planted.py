@@ -346,7 +346,7 @@ SMALL = (
     (NEVER_STORED, "key 7: value 5 was seen and never put", 1),
     (REMOVED, "key 7: value 1 was seen after another content had replaced it", 1),
     (REMOVED_TWICE, "key 7: value 1 was put once and taken away twice", 3),
-    (FOUND_NONE, "key 7: no value was found more often than there can have been none", 2),
+    (FOUND_NONE, "key 7: it was found without a value more often than it can have been without one", 2),
     (TWO_HOLD, "the lock was acquired more often than it can have been free", 2),
     (RELEASED_TWICE, "the lock was released more often than it can have been held", 1),
 )
@@ -423,9 +423,17 @@ SENTENCES = (
         ),
         "key 3: value 5 was put once and taken away twice",
     ),
+    # The second put replaces 5 by 5, so 5 was put twice.
+    (
+        lines(
+            *[invoke(0, "put", (3, 5)), ok(0, "put"), invoke(0, "put", (3, 5)), ok(0, "put", 5)],
+            *[invoke(0, "del", 3), invoke(1, "del", 3), ok(0, "del", 5), ok(1, "del", 5)],
+        ),
+        "key 3: value 5 was taken away more often than it can have been there",
+    ),
     (
         lines(invoke(0, "put", (3, 1)), invoke(1, "put", (3, 2)), ok(0, "put"), ok(1, "put")),
-        "key 3: no value was found more often than there can have been none",
+        "key 3: it was found without a value more often than it can have been without one",
     ),
 )
 # Histories that are linearizable.

@@ -6,6 +6,7 @@ use crate::patterns::Pattern;
 use crate::windows::{CountStart, shortest_window, starts_in, takers_in};
 use projection::{Count, Counted};
 use refutation::Evidence;
+use seq_objects::AnyOp;
 use std::alloc::{AllocError, Global};
 use timed_calls::{Access, CellCalls, NOTHING, Need, TimedCall};
 
@@ -95,6 +96,33 @@ fn excess(scene: &Scene, content: usize, takers: &[TimedCall]) -> Option<usize> 
     None
 }
 
+/// Whether a put or a swap replaced this content by the same.
+fn is_set_again(cell: &CellCalls, content: usize) -> bool {
+    for access in &cell.accesses {
+        let sets_again = matches!(access.call.op, AnyOp::Put(_, _) | AnyOp::Cas(_, _));
+        if let (Need::Is(held), None) = (access.need, access.sets)
+            && held == content
+            && sets_again
+        {
+            return true;
+        }
+    }
+    false
+}
+
+/// What these calls, one more than have set the content, are said to do.
+fn excess_pattern(scene: &Scene, content: usize, taken: usize, counted: Counted) -> Pattern {
+    let set = taken.saturating_sub(1);
+    match scene.value(content) {
+        Some(_) if is_set_again(scene.cell, content) => Pattern::CountExceeded(counted),
+        Some(value) if taken == 2 && scene.setters.count(content) == 1 => {
+            Pattern::TakenTwice(value)
+        }
+        Some(value) => Pattern::TakenTooOften { value, taken, set },
+        None => Pattern::CountExceeded(counted),
+    }
+}
+
 /// The candidate of a content that these calls take away, one more than have set it.
 fn excess_candidate(
     alloc: Global,
@@ -107,14 +135,7 @@ fn excess_candidate(
     plan.until = takers.last().map(|taker| taker.until());
     plan.evidence = evidence_of(counted, 0);
     let taken = takers.len();
-    let set = taken.saturating_sub(1);
-    let pattern = match scene.value(content) {
-        Some(value) if taken == 2 && scene.setters.count(content) == 1 => {
-            Pattern::TakenTwice(value)
-        }
-        Some(value) => Pattern::TakenTooOften { value, taken, set },
-        None => Pattern::CountExceeded(counted),
-    };
+    let pattern = excess_pattern(scene, content, taken, counted);
     Ok(of_cell(scene.cell, pattern, plan, taken.saturating_mul(2)))
 }
 
