@@ -143,7 +143,7 @@ abbrev pub exceeded_text : Kind → Counted → List ℕ
 exceeded_text kind (counted.Value v) = exceeded_value_text kind v
 exceeded_text kind (counted.Entry key v) = exceeded_value_text kind v
 exceeded_text kind (counted.NoEntry key) =
-    codes "no value was found more often than there can have been none"
+    codes "it was found without a value more often than it can have been without one"
 exceeded_text kind counted.Held =
     codes "the lock was released more often than it can have been held"
 exceeded_text kind counted.Free =

@@ -248,7 +248,9 @@ fn push_exceeded(text: &mut Vec<u8>, kind: Kind, counted: Counted) -> Result<(),
         Counted::Value(value) => push_exceeded_value(text, kind, value),
         Counted::Entry { value, .. } => push_exceeded_value(text, kind, value),
         Counted::NoEntry(_) => {
-            text.extend_from_slice(b"no value was found more often than there can have been none")
+            text.extend_from_slice(
+                b"it was found without a value more often than it can have been without one",
+            )
         }
         Counted::Held => {
             text.extend_from_slice(b"the lock was released more often than it can have been held")
