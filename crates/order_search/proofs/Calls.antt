@@ -17,7 +17,7 @@ use Rattle.events.specs.declared.operations.End.TheVariants.{Returned, Pending, 
 use Rattle.events.specs.declared.operations.Invocation.{Invocation}
 use Rattle.events.specs.Operations.{call_with, call_of, calls_of, return_of, EndsAfter, IsObjectHistory, ObjectCalls}
 use Rattle.order_search.specs.Arranged.{as_call, call_at, owes, count_below, AreFloors, IsArranged}
-use Rattle.order_search.specs.Outcomes.{max_operations}
+use Rattle.order_search.specs.Outcomes.{max_places}
 
 -- whether an operation may have happened
 abbrev pub happens : Invocation → Bool
@@ -52,7 +52,7 @@ all_items P ops items p h = All-permutation P (filter happens ops) items p (all_
 pub items_few : (ops items : List Invocation) → IsPermutation (filter happens ops) items → length items ≡ length (calls_of ops)
 items_few ops items p = length_permutation (filter happens ops) items p ∙ length-calls ops
 
-pub arranged : (h : ObjectCalls) (items : List Invocation) (floors : List ℕ) → IsObjectHistory h → length (calls_of h.ops) ≤ max_operations
+pub arranged : (h : ObjectCalls) (items : List Invocation) (floors : List ℕ) → IsObjectHistory h → length (calls_of h.ops) ≤ max_places
     → IsPermutation (filter happens h.ops) items → AreFloors items floors → IsArranged h.kind items floors
 arranged h items floors is few p f = record {
   few = let e = items_few h.ops items p in omega arith;

@@ -9,7 +9,7 @@ use Rattle.model.specs.Orders.{Call, Return}
 use Rattle.events.specs.declared.operations.Invocation.{Invocation}
 use Rattle.events.specs.declared.operations.End.TheVariants.{Pending}
 use Rattle.events.specs.Operations.{return_of}
-use Rattle.order_search.specs.Outcomes.{max_operations}
+use Rattle.order_search.specs.Outcomes.{max_places}
 
 -- the number of a return that is not there: greater than each number of a map
 abbrev pub no_return : ℕ
@@ -38,7 +38,7 @@ pub record AreFloors (items : List Invocation) (floors : List ℕ) : Type 0 wher
 
 -- there are not too many, they are of the kind, and each returned after it was invoked
 pub record IsArranged (kind : Kind) (items : List Invocation) (floors : List ℕ) : Type 0 where
-  pub few : length items ≤ max_operations
+  pub few : length items ≤ max_places
   pub floors_right : AreFloors items floors
   pub of_kind : (k : ℕ) → k < length items → kind_of (call_at items k).op ≡ kind
   pub ends : (k : ℕ) (r : Return) → k < length items → (call_at items k).returned ≡ Some r

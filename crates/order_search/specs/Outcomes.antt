@@ -6,9 +6,14 @@ use Rattle.order_search.specs.declared.finding.Outcome.{Outcome}
 use Rattle.order_search.specs.declared.finding.Outcome.TheVariants.{Found, Impossible, OutOfSteps}
 use Rattle.order_search.specs.declared.finding.Outcome.TheVariants.{TooLarge, NoMemory}
 
--- the most operations that a search takes on, those that failed apart
+-- the most operations that `find_order` takes on, those that failed apart
 abbrev pub max_operations : ℕ
 max_operations = 4096
+
+-- The most operations that any search takes on, those that failed apart: a place, and the one after
+-- it, are numbers of 32 bits. No history within the limits of its form has as many.
+abbrev pub max_places : ℕ
+max_places = 4294967294
 
 -- where an order was found, this holds of it
 abbrev pub IfFound : Outcome → (List ℤ → Type 0) → Type 0

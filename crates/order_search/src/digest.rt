@@ -93,7 +93,7 @@ impl Digest {
     }
 
     /// After one more operation, with what it replied.
-    pub fn after(&self, place: u16, op: &AnyOp, reply: &AnyReply) -> Digest {
+    pub fn after(&self, place: u32, op: &AnyOp, reply: &AnyReply) -> Digest {
         let digest = Digest {
             done: self.done.wrapping_add(mixed(place as u64, 7)),
             ..*self

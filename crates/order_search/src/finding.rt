@@ -5,7 +5,7 @@ ghost use Rattle.std.specs.Prelude.{map, pos, count_by, is_some};
 ghost use Rattle.model.specs.Orders.{IsValidOrder};
 ghost use Rattle.events.specs.Operations.{calls_of, return_of};
 ghost use Rattle.order_search.specs.Arranged.{call_at};
-ghost use Rattle.order_search.specs.Outcomes.{IfFound, IsNoneValid, max_operations};
+ghost use Rattle.order_search.specs.Outcomes.{IfFound, IsNoneValid, max_operations, max_places};
 ghost use Rattle.order_search.specs.Searching.{AreTrials, AreOwed, IsNoOrder, IsOrderOf};
 
 use crate::level::Level;
@@ -35,8 +35,11 @@ pub struct Attempt {
     pub steps: u64,
 }
 
-/// How many operations a search takes on.
+/// How many operations `find_order` takes on.
 const MOST: usize = 4096;
+
+/// How many operations have places, so that the one after the last is a number of 32 bits.
+const MOST_PLACES: usize = 4_294_967_294;
 
 /// The numbers of the operations at the places of the levels.
 fn order_of(alloc: Global, items: &[Invocation], levels: &[Level]) -> Result<Vec<i64>, AllocError>
@@ -87,7 +90,7 @@ fn search_operations(
     limit: u64,
     steps: &mut u64,
 ) -> Result<Outcome, AllocError>
-    requires few { length (calls_of history.now.ops) ≤ max_operations }
+    requires few { length (calls_of history.now.ops) ≤ max_places }
     requires counts { left ≡ count_by (λ o. is_some (return_of o.«end»)) history.now.ops }
     requires owed { 0 < left }
     requires steps { steps.old ≤ limit }
@@ -107,7 +110,7 @@ fn search_operations(
 
 /// Searches for an order of the operations that is valid, depth first, in at most n steps. A step
 /// is one operation tried. Pairs of operations done and content from which nothing goes on are
-/// remembered.
+/// remembered. More than 4,096 operations are too large.
 ///
 /// That a limit is enough is not promised.
 pub fn find_order(alloc: Global, history: &ObjectHistory, first: TryFirst, limit: u64) -> Attempt
@@ -123,11 +126,39 @@ pub fn find_order(alloc: Global, history: &ObjectHistory, first: TryFirst, limit
     ensures memory { result.outcome ≡ Outcome.NoMemory
         → Any (λ call. IsSome call.returned) (calls_of history.now.ops) }
 {
-    let operations = history.ops();
-    if call_count(operations) > MOST {
+    if call_count(history.ops()) > MOST {
         return Attempt {
             outcome: Outcome::TooLarge,
             steps: 0,
+        };
+    }
+    find_order_of_any_size(alloc, history, first, limit)
+}
+
+/// The same, of any number of operations: none is too many. Where there are more than 4,294,967,294,
+/// which no history within the limits of its form has, the answer is that the steps are not enough.
+pub fn find_order_of_any_size(
+    alloc: Global,
+    history: &ObjectHistory,
+    first: TryFirst,
+    limit: u64,
+) -> Attempt
+    ensures found { IfFound result.outcome
+        (IsValidOrder history.now.kind (calls_of history.now.ops)) }
+    ensures impossible { result.outcome ≡ Outcome.Impossible
+        → IsNoneValid history.now.kind (calls_of history.now.ops) }
+    ensures steps { result.steps ≤ limit }
+    ensures out_of_steps { result.outcome ≡ Outcome.OutOfSteps → result.steps ≡ limit }
+    ensures any_size { result.outcome ≢ Outcome.TooLarge }
+    // Memory is asked for only where some operation returned.
+    ensures memory { result.outcome ≡ Outcome.NoMemory
+        → Any (λ call. IsSome call.returned) (calls_of history.now.ops) }
+{
+    let operations = history.ops();
+    if call_count(operations) > MOST_PLACES {
+        return Attempt {
+            outcome: Outcome::OutOfSteps,
+            steps: limit,
         };
     }
     let left = return_count(operations);

@@ -7,11 +7,11 @@ use reversible::Undo;
 /// operation.
 #[derive(Clone, Copy, Drop)]
 pub(crate) struct Level {
-    pub place: u16,
+    pub place: u32,
     pub undo: Undo,
     /// The least return among the operations that were not in the order.
     pub least: u32,
     /// All places in the order lie below.
-    pub high: u16,
+    pub high: u32,
     pub digest: Digest,
 }

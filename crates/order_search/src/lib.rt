@@ -11,5 +11,5 @@ mod trials;
 mod undone;
 mod walk;
 
-pub use finding::{Attempt, Outcome, find_order};
+pub use finding::{Attempt, Outcome, find_order, find_order_of_any_size};
 pub use trials::TryFirst;

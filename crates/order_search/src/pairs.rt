@@ -13,8 +13,8 @@ use std::alloc::{AllocError, Global};
 #[derive(Drop)]
 pub(crate) struct Pair {
     pub hash: u64,
-    pub high: u16,
-    pub undone: Vec<u16>,
+    pub high: u32,
+    pub undone: Vec<u32>,
     pub content: Kept,
 }
 
@@ -41,7 +41,7 @@ fn number_at(numbers: &[u32], k: usize) -> u32 {
 }
 
 /// Whether this is the pair.
-fn is_pair(pair: &Pair, hash: u64, high: u16, undone: &Undone, object: &Reversible) -> bool
+fn is_pair(pair: &Pair, hash: u64, high: u32, undone: &Undone, object: &Reversible) -> bool
     ensures high { IsTrue result → pair.now.high ≡ high }
     ensures undone { IsTrue result → Lists undone.now.next.items 0 pair.now.undone.items high }
     ensures same { IsTrue result → content_kept pair.now.content ≡ content_of object.now }
@@ -68,7 +68,7 @@ impl Pairs {
     }
 
     /// Whether a pair is remembered.
-    pub fn holds(&self, hash: u64, high: u16, undone: &Undone, object: &Reversible) -> bool
+    pub fn holds(&self, hash: u64, high: u32, undone: &Undone, object: &Reversible) -> bool
         ensures { IsTrue result →
             HasPair self.now.pairs.items undone.now.next.items high (content_of object.now) }
     {

@@ -6,7 +6,7 @@ ghost use Rattle.std.specs.List.Sorted.{IsPermutation};
 ghost use Rattle.model.specs.Objects.{kind_of};
 ghost use Rattle.events.specs.Operations.{call_of, calls_of, return_of, IsObjectHistory};
 ghost use Rattle.order_search.specs.Arranged.{AreFloors, IsArranged};
-ghost use Rattle.order_search.specs.Outcomes.{max_operations};
+ghost use Rattle.order_search.specs.Outcomes.{max_places};
 
 use events::{End, Invocation, ObjectHistory};
 use seq_objects::Kind;
@@ -103,7 +103,7 @@ impl Trials {
         history: &ObjectHistory,
         first: TryFirst,
     ) -> Result<Trials, AllocError>
-        requires few { length (calls_of history.now.ops) ≤ max_operations }
+        requires few { length (calls_of history.now.ops) ≤ max_places }
         ensures kind { IfOk result (λ t. t.kind ≡ history.now.kind) }
         ensures items { IfOk result (λ t.
             IsPermutation (filter (λ o. is_some (call_of o)) history.now.ops) t.items.items) }

@@ -3,6 +3,7 @@
 ghost use Rattle.std.specs.Prelude.{◌≡◌, ℕ, ◌+◌, ◌<◌, ◌≤◌, List, [], IfOk, IsTrue, length, get_or};
 ghost use Rattle.order_search.specs.Links.{Linked, AreWithin, Lists, next_with, next_without};
 ghost use Rattle.order_search.specs.Links.{before_with, before_without};
+ghost use Rattle.order_search.specs.Outcomes.{max_places};
 
 use std::alloc::{AllocError, Global};
 
@@ -15,12 +16,12 @@ use std::alloc::{AllocError, Global};
 /// Knuth, "Dancing Links", 2000.
 #[derive(Drop)]
 pub(crate) struct Undone {
-    pub next: Vec<u16>,
-    pub before: Vec<u16>,
+    pub next: Vec<u32>,
+    pub before: Vec<u32>,
 }
 
 /// The numbers from 0 to `n`.
-fn numbers(alloc: Global, n: u16) -> Result<Vec<u16>, AllocError>
+fn numbers(alloc: Global, n: u32) -> Result<Vec<u32>, AllocError>
     ensures len { IfOk result (λ v. length v.items ≡ n + 1) }
     ensures each { IfOk result (λ v. (k : ℕ) → k ≤ n → get_or v.items k 0 ≡ k) }
 {
@@ -34,7 +35,7 @@ fn numbers(alloc: Global, n: u16) -> Result<Vec<u16>, AllocError>
 
 impl Undone {
     /// All places below `n`.
-    pub fn all(alloc: Global, n: u16) -> Result<Undone, AllocError>
+    pub fn all(alloc: Global, n: u32) -> Result<Undone, AllocError>
         ensures { IfOk result (λ u. Linked n [] u.next.items u.before.items) }
     {
         Ok(Undone {
@@ -44,7 +45,7 @@ impl Undone {
     }
 
     /// Takes a place out of the list. What it knows of its neighbours stays.
-    pub fn take_out(&mut self, place: u16)
+    pub fn take_out(&mut self, place: u32)
         requires { AreWithin self.old.next.items self.old.before.items place }
         ensures next { self.new.next.items
             ≡ next_without self.old.next.items self.old.before.items place }
@@ -58,8 +59,8 @@ impl Undone {
     }
 
     /// Puts back the place that was taken out last.
-    pub fn put_back(&mut self, place: u16)
-        requires small { place < 65535 }
+    pub fn put_back(&mut self, place: u32)
+        requires small { place < max_places }
         requires within { AreWithin self.old.next.items self.old.before.items place }
         ensures next { self.new.next.items
             ≡ next_with self.old.next.items self.old.before.items place }
@@ -73,7 +74,7 @@ impl Undone {
     }
 
     /// The places in the list below `high`.
-    pub fn below(&self, alloc: Global, high: u16) -> Result<Vec<u16>, AllocError>
+    pub fn below(&self, alloc: Global, high: u32) -> Result<Vec<u32>, AllocError>
         requires { (n : ℕ) × (done : List ℕ)
             × Linked n done self.now.next.items self.now.before.items }
         ensures { IfOk result (λ v. Lists self.now.next.items 0 v.items high) }
@@ -94,7 +95,7 @@ impl Undone {
     }
 
     /// Whether the places in the list below `high` are these.
-    pub fn is_below(&self, high: u16, places: &[u16]) -> bool
+    pub fn is_below(&self, high: u32, places: &[u32]) -> bool
         ensures { IsTrue result → Lists self.now.next.items 0 places.now high }
     {
         let mut slot = 0;

@@ -9,6 +9,7 @@ ghost use Rattle.events.specs.Operations.{return_of, Agrees};
 ghost use Rattle.reversible.specs.Undoing.{content_of};
 ghost use Rattle.order_search.specs.Arranged.{call_at};
 ghost use Rattle.order_search.specs.Links.{Linked};
+ghost use Rattle.order_search.specs.Outcomes.{max_places};
 ghost use Rattle.order_search.specs.Searching.{places, content_before, AreTrials, AreOwed, IsLeast};
 ghost use Rattle.order_search.specs.Searching.{IsOrder, IsNoOrder, IsDeadHere, IsDeadAtPlace};
 ghost use Rattle.order_search.specs.Searching.{IsSearching, IsSearchingAt};
@@ -74,7 +75,7 @@ fn one_less(left: usize, end: &End) -> usize
 
 /// With this operation no longer in the order, how many are owed.
 fn one_more(left: usize, end: &End) -> usize
-    requires { left < 65536 }
+    requires { left ≤ max_places }
     ensures { result ≡ (if is_some (return_of end.now) then left + 1 else left) }
 {
     if end.has_returned() { left + 1 } else { left }
@@ -89,8 +90,8 @@ pub(crate) struct State {
     pub dead: Dead,
     pub digest: Digest,
     /// All places in the order lie below.
-    pub high: u16,
-    pub at: u16,
+    pub high: u32,
+    pub at: u32,
     /// The least return of the operations that are not in the order.
     pub least: u32,
     /// How many operations returned and are not in the order.
@@ -106,7 +107,7 @@ impl State {
         ensures search { IfOk result (λ s. IsSearching trials.now s) }
         ensures levels { IfOk result (λ s. s.levels.items ≡ []) }
     {
-        let undone = Undone::all(alloc, trials.items.len() as u16)?;
+        let undone = Undone::all(alloc, trials.items.len() as u32)?;
         let least = least_return(trials, &undone);
         let at = undone.next[0];
         Ok(State {

@@ -1,53 +1,15 @@
-use Rattle.std.proofs.Common.{count_by, refl, ap, sym, ◌∙◌, subst, arith}
-use Rattle.model.specs.Orders.{IsValidOrder}
-use Rattle.events.specs.Operations.{calls_of}
-use Rattle.order_search.proofs.Calls.{happens, returns, count-calls, some_returned, none_returned}
-use Rattle.order_search.proofs.Orders.{nothing_valid}
-use Rattle.order_search.proofs.finding.find_order.Goals.{in-Ok, in-Err}
+use Rattle.std.proofs.Common.{count_by, refl, ap, ◌∙◌, arith}
+use Rattle.order_search.proofs.Calls.{happens, count-calls}
 use Rattle.order_search.proofs.finding.find_order.Goals as goal
 
 pub returns-then-call_count-gt-MOST-clause-too_large : goal.returns-then-call_count-gt-MOST-clause-too_large
 returns-then-call_count-gt-MOST-clause-too_large c =
-    let n = c.call_count.ensures ∙ ap (count_by happens) c.ops-operations.ensures.ops ∙ count-calls c.args.history.now.ops in
+    let n = c.call_count.ensures ∙ ap (count_by happens) c.ops.ensures.ops ∙ count-calls c.args.history.now.ops in
     let m = c.if-call_count-gt-MOST.true in
     (λ u. omega arith, λ l. refl)
 
-pub returns-then-left-eq0-clause-found : goal.returns-then-left-eq0-clause-found
-returns-then-left-eq0-clause-found c =
-    let h = c.args.history.now in
-    let none = sym (c.return_count-left.ensures ∙ ap (count_by returns) c.ops-operations.ensures.ops) ∙ c.if-left-eq0.true in
-    subst (IsValidOrder h.kind (calls_of h.ops)) (sym c.new.ensures.items) (nothing_valid h.kind (calls_of h.ops) (none_returned h.ops none))
-
-pub returns-then-left-eq0-clause-too_large : goal.returns-then-left-eq0-clause-too_large
-returns-then-left-eq0-clause-too_large c =
-    let n = c.call_count.ensures ∙ ap (count_by happens) c.ops-operations.ensures.ops ∙ count-calls c.args.history.now.ops in
-    let m = c.if-call_count-gt-MOST.false in
-    (λ u. absurd (cc u), λ l. absurd (omega arith))
-
-pub search_operations-requires-clause-few : goal.search_operations-requires-clause-few
-search_operations-requires-clause-few c =
-    let n = c.call_count.ensures ∙ ap (count_by happens) c.ops-operations.ensures.ops ∙ count-calls c.args.history.now.ops in
-    let m = c.if-call_count-gt-MOST.false in
-    omega arith
-
-pub returns-clause-impossible : goal.returns-clause-impossible
-returns-clause-impossible c u = elim c.match-search_operations.branch [
-  | in-Ok w ↦ w.in-Ok.ensures.impossible (sym w.outcome-is ∙ u)
-  | in-Err w ↦ (let e = w.outcome-is in absurd (cc (e, u)))
-]
-
 pub returns-clause-too_large : goal.returns-clause-too_large
 returns-clause-too_large c =
-    let n = c.call_count.ensures ∙ ap (count_by happens) c.ops-operations.ensures.ops ∙ count-calls c.args.history.now.ops in
-    let m = c.if-call_count-gt-MOST.false in (
-      λ u. elim c.match-search_operations.branch [
-        | in-Ok w ↦ absurd (w.in-Ok.ensures.decided.0 (sym w.outcome-is ∙ u))
-        | in-Err w ↦ (let e = w.outcome-is in absurd (cc (e, u)))
-      ],
-      λ l. absurd (omega arith),
-    )
-
-pub returns-clause-memory : goal.returns-clause-memory
-returns-clause-memory c u =
-    let some = c.return_count-left.ensures ∙ ap (count_by returns) c.ops-operations.ensures.ops in
-    some_returned c.args.history.now.ops (λ e. c.if-left-eq0.false (some ∙ e))
+    let n = c.call_count.ensures ∙ ap (count_by happens) c.ops.ensures.ops ∙ count-calls c.args.history.now.ops in
+    let m = c.if-call_count-gt-MOST.false in
+    (λ u. absurd (c.find_order_of_any_size.ensures.any_size u), λ l. absurd (omega arith))
