@@ -12,4 +12,4 @@ mod undone;
 mod walk;
 
 pub use finding::{Attempt, Outcome, find_order, find_order_of_any_size};
-pub use trials::TryFirst;
+pub use trials::{TryFirst, call_count};

@@ -42,8 +42,8 @@ fn may_have_happened(operation: &Invocation) -> bool
 }
 
 /// How many operations did not fail.
-pub(crate) fn call_count(operations: &[Invocation]) -> usize
-    ensures { result ≡ count_by (λ o. is_some (call_of o)) operations.now }
+pub fn call_count(operations: &[Invocation]) -> usize
+    ensures { result ≡ length (calls_of operations.now) }
 {
     operations.iter().filter(|o| may_have_happened(o)).count()
 }

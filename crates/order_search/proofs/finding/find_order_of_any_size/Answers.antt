@@ -1,7 +1,8 @@
-use Rattle.std.proofs.Common.{count_by, ap, sym, ◌∙◌, subst, arith}
+use Rattle.std.proofs.Common.{List, length, count_by, ap, sym, ◌∙◌, subst, arith}
 use Rattle.model.specs.Orders.{IsValidOrder}
+use Rattle.events.specs.declared.operations.Invocation.{Invocation}
 use Rattle.events.specs.Operations.{calls_of}
-use Rattle.order_search.proofs.Calls.{happens, returns, count-calls, some_returned, none_returned}
+use Rattle.order_search.proofs.Calls.{returns, some_returned, none_returned}
 use Rattle.order_search.proofs.Orders.{nothing_valid}
 use Rattle.order_search.proofs.finding.find_order_of_any_size.Goals.{in-Ok, in-Err}
 use Rattle.order_search.proofs.finding.find_order_of_any_size.Goals as goal
@@ -14,7 +15,7 @@ returns-then-left-eq0-clause-found c =
 
 pub search_operations-requires-clause-few : goal.search_operations-requires-clause-few
 search_operations-requires-clause-few c =
-    let n = c.call_count.ensures ∙ ap (count_by happens) c.ops-operations.ensures.ops ∙ count-calls c.args.history.now.ops in
+    let n = c.call_count.ensures ∙ ap (λ (ops : List Invocation). length (calls_of ops)) c.ops-operations.ensures.ops in
     let m = c.if-call_count-gt-MOST_PLACES.false in
     omega arith
 
