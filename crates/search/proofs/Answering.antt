@@ -1,65 +1,51 @@
 -- How a search of an order answers for an object.
-use Rattle.std.proofs.Common.{◌≡◌, ℕ, ◌<◌, ◌≤◌, List, length, Any, IsSome, refl, sym, subst}
+use Rattle.std.proofs.Common.{◌≡◌, ◌≢◌, ℕ, ◌<◌, ◌≤◌, List, length, Any, IsSome, refl}
 use Rattle.std.specs.Prelude.{◌↔◌}
 use Rattle.model.specs.declared.Kind.{Kind}
 use Rattle.model.specs.Orders.{Call, IsValidOrder}
+use Rattle.order_search.specs.declared.finding.Attempt.{Attempt}
 use Rattle.order_search.specs.declared.finding.Outcome.{Outcome}
 use Rattle.order_search.specs.declared.finding.Outcome.TheVariants as outcome
 use Rattle.order_search.specs.Outcomes.{max_operations}
 use Rattle.order_search.specs.Outcomes as order
 use Rattle.order_search.specs.Outcomes.{IsNoneValid}
-use Rattle.search.specs.declared.found.SearchOutcome.{SearchOutcome}
-use Rattle.search.specs.Answers.{IsAnswer, found_in}
+use Rattle.search.specs.declared.found.SearchOutcome.TheVariants.{TooLarge}
+use Rattle.search.specs.Answers.{IsAnswer, IsAnswerOfAnySize, IsSound, answer_in, found_in}
 
-pub answer_from : (object : ℕ) (kind : Kind) (calls : List Call) (limit : ℕ) (o : Outcome) (found : SearchOutcome) (steps : ℕ) → found ≡ found_in object o →
-    order.IfFound o (IsValidOrder kind calls) → (o ≡ outcome.Impossible → IsNoneValid kind calls) → steps ≤ limit
-    → (o ≡ outcome.OutOfSteps → steps ≡ limit) → ((o ≡ outcome.TooLarge) ↔ (max_operations < length calls)) → (o ≡ outcome.NoMemory → Any (λ call. IsSome call.returned) calls) →
-    IsAnswer object kind calls limit (record { found = found; steps = steps })
-answer_from object kind calls limit o found steps e f i s out large memory =
-    subst (λ (x : SearchOutcome). IsAnswer object kind calls limit (record { found = x; steps = steps })) (sym e) (go o f i out large memory)
-  where
-    go : (o : Outcome) → order.IfFound o (IsValidOrder kind calls) → (o ≡ outcome.Impossible → IsNoneValid kind calls)
-        → (o ≡ outcome.OutOfSteps → steps ≡ limit) → ((o ≡ outcome.TooLarge) ↔ (max_operations < length calls))
-        → (o ≡ outcome.NoMemory → Any (λ call. IsSome call.returned) calls) → IsAnswer object kind calls limit (record { found = found_in object o; steps = steps })
-    go (outcome.Found order) f i out large memory =
-        record {
-          found = (refl, f);
-          impossible = λ e. absurd (cc e);
-          steps = s;
-          out_of_steps = λ e. absurd (cc e);
-          too_large =
-              (λ e. absurd (cc e), λ l. let q = large.1 l in absurd (cc q));
-          memory = λ e. absurd (cc e);
-        }
-    go outcome.Impossible f i out large memory =
-        record {
-          found = tt;
-          impossible = λ e. i refl;
-          steps = s;
-          out_of_steps = λ e. absurd (cc e);
-          too_large =
-              (λ e. absurd (cc e), λ l. let q = large.1 l in absurd (cc q));
-          memory = λ e. absurd (cc e);
-        }
-    go outcome.OutOfSteps f i out large memory =
-        record {
-          found = tt;
-          impossible = λ e. absurd (cc e);
-          steps = s;
-          out_of_steps = λ e. out refl;
-          too_large =
-              (λ e. absurd (cc e), λ l. let q = large.1 l in absurd (cc q));
-          memory = λ e. absurd (cc e);
-        }
-    go outcome.TooLarge f i out large memory =
-        record { found = tt; impossible = λ e. absurd (cc e); steps = s; out_of_steps = λ e. absurd (cc e); too_large = (λ e. large.0 refl, λ l. refl); memory = λ e. absurd (cc e) }
-    go outcome.NoMemory f i out large memory =
-        record {
-          found = tt;
-          impossible = λ e. absurd (cc e);
-          steps = s;
-          out_of_steps = λ e. absurd (cc e);
-          too_large =
-              (λ e. absurd (cc e), λ l. let q = large.1 l in absurd (cc q));
-          memory = λ e. memory refl;
-        }
+sound_from : (object : ℕ) (kind : Kind) (calls : List Call) (limit : ℕ) (o : Outcome) (steps : ℕ) → order.IfFound o (IsValidOrder kind calls)
+    → (o ≡ outcome.Impossible → IsNoneValid kind calls) → steps ≤ limit → (o ≡ outcome.OutOfSteps → steps ≡ limit)
+    → (o ≡ outcome.NoMemory → Any (λ call. IsSome call.returned) calls) → IsSound object kind calls limit (answer_in object (record { outcome = o; steps = steps }))
+sound_from object kind calls limit (outcome.Found order) steps f i s out memory =
+    record { found = (refl, f); impossible = λ e. absurd (cc e); steps = s; out_of_steps = λ e. absurd (cc e); memory = λ e. absurd (cc e) }
+sound_from object kind calls limit outcome.Impossible steps f i s out memory =
+    record { found = tt; impossible = λ e. i refl; steps = s; out_of_steps = λ e. absurd (cc e); memory = λ e. absurd (cc e) }
+sound_from object kind calls limit outcome.OutOfSteps steps f i s out memory =
+    record { found = tt; impossible = λ e. absurd (cc e); steps = s; out_of_steps = λ e. out refl; memory = λ e. absurd (cc e) }
+sound_from object kind calls limit outcome.TooLarge steps f i s out memory =
+    record { found = tt; impossible = λ e. absurd (cc e); steps = s; out_of_steps = λ e. absurd (cc e); memory = λ e. absurd (cc e) }
+sound_from object kind calls limit outcome.NoMemory steps f i s out memory =
+    record { found = tt; impossible = λ e. absurd (cc e); steps = s; out_of_steps = λ e. absurd (cc e); memory = λ e. memory refl }
+
+-- what is too large is so in both words
+large_in : (object : ℕ) (o : Outcome) → (found_in object o ≡ TooLarge) ↔ (o ≡ outcome.TooLarge)
+large_in object (outcome.Found order) = (λ e. absurd (cc e), λ e. absurd (cc e))
+large_in object outcome.Impossible = (λ e. absurd (cc e), λ e. absurd (cc e))
+large_in object outcome.OutOfSteps = (λ e. absurd (cc e), λ e. absurd (cc e))
+large_in object outcome.TooLarge = (λ e. refl, λ e. refl)
+large_in object outcome.NoMemory = (λ e. absurd (cc e), λ e. absurd (cc e))
+
+pub answer_from : (object : ℕ) (kind : Kind) (calls : List Call) (limit : ℕ) (a : Attempt) → order.IfFound a.outcome (IsValidOrder kind calls)
+    → (a.outcome ≡ outcome.Impossible → IsNoneValid kind calls) → a.steps ≤ limit → (a.outcome ≡ outcome.OutOfSteps → a.steps ≡ limit)
+    → ((a.outcome ≡ outcome.TooLarge) ↔ (max_operations < length calls)) → (a.outcome ≡ outcome.NoMemory → Any (λ call. IsSome call.returned) calls)
+    → IsAnswer object kind calls limit (answer_in object a)
+answer_from object kind calls limit a f i s out large memory = record {
+  sound = sound_from object kind calls limit a.outcome a.steps f i s out memory;
+  too_large = (λ l. large.0 ((large_in object a.outcome).0 l), λ l. (large_in object a.outcome).1 (large.1 l));
+}
+
+pub answer_of_any_size : (object : ℕ) (kind : Kind) (calls : List Call) (limit : ℕ) (a : Attempt) → order.IfFound a.outcome (IsValidOrder kind calls)
+    → (a.outcome ≡ outcome.Impossible → IsNoneValid kind calls) → a.steps ≤ limit → (a.outcome ≡ outcome.OutOfSteps → a.steps ≡ limit)
+    → a.outcome ≢ outcome.TooLarge → (a.outcome ≡ outcome.NoMemory → Any (λ call. IsSome call.returned) calls)
+    → IsAnswerOfAnySize object kind calls limit (answer_in object a)
+answer_of_any_size object kind calls limit a f i s out small memory =
+    record { sound = sound_from object kind calls limit a.outcome a.steps f i s out memory; any_size = λ l. small ((large_in object a.outcome).0 l) }

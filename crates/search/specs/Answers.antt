@@ -1,5 +1,5 @@
 -- What a search answers of an object, and of all objects of a history.
-use Rattle.std.specs.Prelude.{◌≡◌, ℕ, ◌<◌, ◌≤◌, ◌↔◌, ⊤, List, length, Option, Some, None, IsSome}
+use Rattle.std.specs.Prelude.{◌≡◌, ◌≢◌, ℕ, ◌<◌, ◌≤◌, ◌↔◌, ⊤, List, length, Option, Some, None, IsSome}
 use Rattle.std.specs.Prelude.{Any}
 use Rattle.std.specs.List.{filter_map}
 use Rattle.model.specs.declared.Kind.{Kind}
@@ -9,6 +9,7 @@ use Rattle.events.specs.Events.{kind_at, denoted}
 use Rattle.certificate.specs.declared.Certificate.{Certificate}
 use Rattle.order_search.specs.Outcomes.{max_operations}
 use Rattle.order_search.specs.Outcomes.{IsNoneValid}
+use Rattle.order_search.specs.declared.finding.Attempt.{Attempt}
 use Rattle.order_search.specs.declared.finding.Outcome.{Outcome}
 use Rattle.order_search.specs.declared.finding.Outcome.TheVariants as outcome
 use Rattle.search.specs.declared.found.Search.{Search}
@@ -33,6 +34,10 @@ found_in object outcome.OutOfSteps = OutOfSteps
 found_in object outcome.TooLarge = TooLarge
 found_in object outcome.NoMemory = NoMemory
 
+-- what a search for an order is for that object
+abbrev pub answer_in : ℕ → Attempt → Search
+answer_in object a = record { found = found_in object a.outcome; steps = a.steps }
+
 -- where a certificate was found, this holds of it
 abbrev pub IfFound : SearchOutcome → (Certificate → Type 0) → Type 0
 IfFound (found.Found c) P = P c
@@ -48,8 +53,8 @@ IsFound s = IsSome (certificate_in s.found)
 abbrev pub IsFor : ℕ → Kind → List Call → Certificate → Type 0
 IsFor object kind calls c = (c.object ≡ object) × IsValidOrder kind calls c.order.items
 
--- what a search within a limit may answer of the calls of an object
-pub record IsAnswer (object : ℕ) (kind : Kind) (calls : List Call) (limit : ℕ) (s : Search) : Type 0
+-- what a search within a limit may answer of the calls of an object, however many they are
+pub record IsSound (object : ℕ) (kind : Kind) (calls : List Call) (limit : ℕ) (s : Search) : Type 0
   where
     -- what was found is valid
     pub found : IfFound s.found (IsFor object kind calls)
@@ -58,9 +63,20 @@ pub record IsAnswer (object : ℕ) (kind : Kind) (calls : List Call) (limit : �
     -- at most n operations were tried, and just this many where that was not enough
     pub steps : s.steps ≤ limit
     pub out_of_steps : s.found ≡ OutOfSteps → s.steps ≡ limit
-    pub too_large : (s.found ≡ TooLarge) ↔ (max_operations < length calls)
     -- memory is asked for only where some operation returned
     pub memory : s.found ≡ NoMemory → Any (λ call. IsSome call.returned) calls
+
+-- what a search that takes on some calls alone may answer
+pub record IsAnswer (object : ℕ) (kind : Kind) (calls : List Call) (limit : ℕ) (s : Search) : Type 0
+  where
+    pub sound : IsSound object kind calls limit s
+    pub too_large : (s.found ≡ TooLarge) ↔ (max_operations < length calls)
+
+-- what a search that takes on any calls may answer
+pub record IsAnswerOfAnySize (object : ℕ) (kind : Kind) (calls : List Call) (limit : ℕ) (s : Search)
+    : Type 0 where
+  pub sound : IsSound object kind calls limit s
+  pub any_size : s.found ≢ TooLarge
 
 -- an answer on the object with this number, in the history that the events denote
 abbrev pub IsAnswerOn : List Event → ℕ → ℕ → Search → Type 0

@@ -8,5 +8,5 @@ mod object;
 
 pub use all::{search_all, search_all_by};
 pub use found::{Search, SearchOutcome};
-pub use object::{search, search_by};
+pub use object::{search, search_by, search_of_any_size};
 pub use order_search::TryFirst;

@@ -3,12 +3,13 @@
 ghost use Rattle.std.specs.Prelude.{◌≡◌, ◌<◌, ◌≤◌, ◌↔◌, length, Any, IsSome};
 ghost use Rattle.events.specs.Operations.{calls_of};
 ghost use Rattle.order_search.specs.Outcomes.{IsNoneValid, max_operations};
-ghost use Rattle.search.specs.Answers.{IfFound, IsFor, IsAnswer, found_in};
+ghost use Rattle.search.specs.Answers.{IfFound, IsFor, IsAnswer, IsAnswerOfAnySize};
+ghost use Rattle.search.specs.Answers.{answer_in, found_in};
 
 use crate::found::{Search, SearchOutcome};
 use certificate::Certificate;
 use events::ObjectHistory;
-use order_search::{Attempt, Outcome, TryFirst, find_order};
+use order_search::{Attempt, Outcome, TryFirst, find_order, find_order_of_any_size};
 use std::alloc::Global;
 
 /// What was found, for the object with this number.
@@ -22,6 +23,15 @@ fn found_of(object: u32, outcome: Outcome) -> SearchOutcome
         Outcome::TooLarge => SearchOutcome::TooLarge,
         Outcome::NoMemory => SearchOutcome::NoMemory,
     }
+}
+
+/// The answer for the object with this number.
+fn answer_of(object: u32, attempt: Attempt) -> Search
+    ensures { result ≡ answer_in object attempt }
+{
+    let Attempt { outcome, steps } = attempt;
+    let found = found_of(object, outcome);
+    Search { found, steps }
 }
 
 /// Searches for a certificate of an object, depth first, in at most n steps: a step is one
@@ -50,7 +60,19 @@ pub fn search(alloc: Global, history: &ObjectHistory, limit: u64) -> Search
 pub fn search_by(alloc: Global, history: &ObjectHistory, first: TryFirst, limit: u64) -> Search
     ensures { IsAnswer history.now.object history.now.kind (calls_of history.now.ops) limit result }
 {
-    let Attempt { outcome, steps } = find_order(alloc, history, first, limit);
-    let found = found_of(history.object(), outcome);
-    Search { found, steps }
+    answer_of(history.object(), find_order(alloc, history, first, limit))
+}
+
+/// The same, however many operations there are: none is too large.
+pub fn search_of_any_size(
+    alloc: Global,
+    history: &ObjectHistory,
+    first: TryFirst,
+    limit: u64,
+) -> Search
+    ensures { IsAnswerOfAnySize history.now.object history.now.kind
+        (calls_of history.now.ops) limit result }
+{
+    let attempt = find_order_of_any_size(alloc, history, first, limit);
+    answer_of(history.object(), attempt)
 }

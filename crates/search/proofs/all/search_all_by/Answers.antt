@@ -17,12 +17,12 @@ loop-object-preserved c =
 pub returns : goal.returns
 returns c =
     let all = on_all _ (IsWithin c.args.limit) _ _ _ c.loop-object-test.false c.loop-object.invariant in
-    let own = certifies (IsWithin c.args.limit) (λ x kind calls s h. h.found) in
+    let own = certifies (IsWithin c.args.limit) (λ x kind calls s h. h.sound.found) in
     record {
       rising = all.rising;
       named = all.named;
       answers = all.each;
-      impossible = not_linearizable _ (IsWithin c.args.limit) _ (λ x kind calls s h. h.impossible) c.linearizable_has_orders.ensures c.events.ensures.history all;
+      impossible = not_linearizable _ (IsWithin c.args.limit) _ (λ x kind calls s h. h.sound.impossible) c.linearizable_has_orders.ensures c.events.ensures.history all;
       distinct = distinct (λ s. certificate_in s.found) _ (IsWithin c.args.limit) _ own all;
       valid = valid (λ s. certificate_in s.found) _ (IsWithin c.args.limit) _ own all;
     }

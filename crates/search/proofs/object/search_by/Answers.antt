@@ -1,13 +1,14 @@
-use Rattle.std.proofs.Common.{ℕ, ap, ◌∙◌}
+use Rattle.std.proofs.Common.{ℕ, ap, sym, subst, ◌∙◌}
 use Rattle.events.specs.Operations.{calls_of}
-use Rattle.search.specs.Answers.{found_in}
+use Rattle.search.specs.Answers.{IsAnswer, answer_in}
 use Rattle.search.proofs.Answering.{answer_from}
 use Rattle.search.proofs.object.search_by.Goals as goal
 
 pub returns : goal.returns
 returns c =
     let h = c.args.history.now in
-    let r = c.find_order-outcome.result in
-    let e = c.find_order-outcome.ensures in
-    answer_from h.object h.kind (calls_of h.ops) c.args.limit r.outcome c.found_of-found.result r.steps
-    (c.found_of-found.ensures ∙ ap (λ (x : ℕ). found_in x r.outcome) c.object.ensures) e.found e.impossible e.steps e.out_of_steps e.too_large e.memory
+    let calls = calls_of h.ops in
+    let r = c.find_order.result in
+    let e = c.find_order.ensures in
+    subst (IsAnswer h.object h.kind calls c.args.limit) (sym (c.answer_of.ensures ∙ ap (λ (x : ℕ). answer_in x r) c.object.ensures))
+    (answer_from h.object h.kind calls c.args.limit r e.found e.impossible e.steps e.out_of_steps e.too_large e.memory)
