@@ -52,11 +52,15 @@ all_items P ops items p h = All-permutation P (filter happens ops) items p (all_
 pub items_few : (ops items : List Invocation) → IsPermutation (filter happens ops) items → length items ≡ length (calls_of ops)
 items_few ops items p = length_permutation (filter happens ops) items p ∙ length-calls ops
 
-pub arranged : (h : ObjectCalls) (items : List Invocation) (floors : List ℕ) → IsObjectHistory h → length (calls_of h.ops) ≤ max_places
-    → IsPermutation (filter happens h.ops) items → AreFloors items floors → IsArranged h.kind items floors
-arranged h items floors is few p f = record {
+pub arranged : (h : ObjectCalls) (items : List Invocation) (floors return_floors : List ℕ) (pending : ℕ) → IsObjectHistory h → length (calls_of h.ops) ≤ max_places
+    → IsPermutation (filter happens h.ops) items → AreFloors true items floors → AreFloors false items return_floors → pending ≤ length items
+    → ((k : ℕ) → k < pending → IsSome (call_at items k).returned) → IsArranged h.kind items floors return_floors pending
+arranged h items floors return_floors pending is few p f g within returned = record {
   few = let e = items_few h.ops items p in omega arith;
   floors_right = f;
+  return_floors_right = g;
+  within = within;
+  returned = returned;
   of_kind = λ k l. all_items (λ o. kind_of o.op ≡ h.kind) h.ops items p is.of_kind k _ l;
   ends = λ k r l q. all_items (λ o. (r : Return) → return_of o.«end» ≡ Some r → o.number < r.at) h.ops items p (λ k d l r q. returns_after _ h.ops _ r (is.ends k d l) q) k _ l r q;
 }

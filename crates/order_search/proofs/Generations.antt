@@ -1,18 +1,19 @@
 -- The pairs that are remembered stay dead, whichever are forgotten.
-use Rattle.std.proofs.Common.{◌≡◌, ℕ, ◌<◌, ◌≤◌, ◌⊎◌, inl, inr, List, [], ◌∷◌, Some, length, sym, subst, arith}
+use Rattle.std.proofs.Common.{◌≡◌, ℕ, ◌<◌, ◌≤◌, ◌⊎◌, inl, inr, List, [], ◌∷◌, Option, Some, None, IfSome, length, sym, subst, arith}
 use Rattle.std.proofs.lemmas.List.Elements.{All-push}
 use Rattle.model.specs.declared.AnyReply.{AnyReply}
 use Rattle.model.specs.Objects.{Content, next}
 use Rattle.reversible.specs.Undoing.{content_kept}
 use Rattle.order_search.specs.declared.level.Level.{Level}
+use Rattle.order_search.specs.declared.level.Window.{Window}
 use Rattle.order_search.specs.declared.trials.Trials.{Trials}
 use Rattle.order_search.specs.declared.pairs.Pair.{Pair}
 use Rattle.order_search.specs.declared.dead.Dead.{Dead}
 use Rattle.order_search.specs.Arranged.{call_at}
 use Rattle.order_search.specs.Continuations.{IsDeadPair, IsDeadAt}
 use Rattle.order_search.specs.Links.{next_without}
-use Rattle.order_search.specs.Remembered.{HasPair, IsKept, IsRemembered}
-use Rattle.order_search.specs.Searching.{places, AreDead, AreAllDead, IsWalk}
+use Rattle.order_search.specs.Remembered.{HasPair, IsKept, IsRemembered, IsRememberedIfSome}
+use Rattle.order_search.specs.Searching.{places, IsPairDead, AreDead, AreAllDead, IsWalk}
 use Rattle.order_search.proofs.Steps.{hit}
 
 pub none_dead : (t : Trials) (pairs : List Pair) → pairs ≡ [] → AreDead t pairs
@@ -36,22 +37,27 @@ remembered_dead t before pair after all dead r =
           (All-push (λ p. IsDeadPair (length t.items.items) (call_at t.items.items) p.high p.undone.items (content_kept p.content)) r.kept.younger.pairs.items pair k.younger dead);
     }
 
+pub remembered_some : (t : Trials) (before : Dead) (pair : Option Pair) (after : Dead) → AreAllDead t before → IfSome pair (IsPairDead t)
+    → IsRememberedIfSome before pair after → AreAllDead t after
+remembered_some t before (Some pair) after all dead r = remembered_dead t before pair after all dead r
+remembered_some t before None after all dead r = subst (AreAllDead t) (sym r) all
+
 -- one of these pairs is met
-pub hit_one : (t : Trials) (start : Content) (ls : List Level) (bs : List Content) (c after : Content) (nx pv nx2 : List ℕ) (high at least left high2 : ℕ)
-    (gives : AnyReply) (pairs : List Pair) → IsWalk (length t.items.items) (call_at t.items.items) start ls bs c nx pv high at least left → at < length t.items.items
+pub hit_one : (t : Trials) (start : Content) (ls : List Level) (bs : List Content) (c after : Content) (nx pv nx2 : List ℕ) (high at : ℕ) (window : Window) (left high2 : ℕ)
+    (gives : AnyReply) (pairs : List Pair) → IsWalk (length t.items.items) (call_at t.items.items) start ls bs c nx pv high at window left → at < length t.items.items
     → next c (call_at t.items.items at).op ≡ Some (after, gives) → nx2 ≡ next_without nx pv at → high ≤ high2 → at < high2 → AreDead t pairs
     → HasPair pairs nx2 high2 after → Pair → IsDeadAt (length t.items.items) (call_at t.items.items) (places ls) c at
-hit_one t start ls bs c after nx pv nx2 high at least left high2 gives pairs w l does en hi hat dead h d =
+hit_one t start ls bs c after nx pv nx2 high at window left high2 gives pairs w l does en hi hat dead h d =
     let q = h.2 d in
-    hit (length t.items.items) (call_at t.items.items) start ls bs c after _ nx pv nx2 high at least left high2 _ _ gives w l does en q.1 hi hat (dead h.0 d h.1) q.0 q.2
+    hit (length t.items.items) (call_at t.items.items) start ls bs c after _ nx pv nx2 high at window left high2 _ _ gives w l does en q.1 hi hat (dead h.0 d h.1) q.0 q.2
 
 -- one of either generation is met
-pub hit_any : (t : Trials) (start : Content) (ls : List Level) (bs : List Content) (c after : Content) (nx pv nx2 : List ℕ) (high at least left high2 : ℕ)
-    (gives : AnyReply) (d : Dead) → IsWalk (length t.items.items) (call_at t.items.items) start ls bs c nx pv high at least left → at < length t.items.items
+pub hit_any : (t : Trials) (start : Content) (ls : List Level) (bs : List Content) (c after : Content) (nx pv nx2 : List ℕ) (high at : ℕ) (window : Window) (left high2 : ℕ)
+    (gives : AnyReply) (d : Dead) → IsWalk (length t.items.items) (call_at t.items.items) start ls bs c nx pv high at window left → at < length t.items.items
     → next c (call_at t.items.items at).op ≡ Some (after, gives) → nx2 ≡ next_without nx pv at → high ≤ high2 → at < high2 → AreAllDead t d
     → HasPair d.older.pairs.items nx2 high2 after ⊎ HasPair d.younger.pairs.items nx2 high2 after → Pair
     → IsDeadAt (length t.items.items) (call_at t.items.items) (places ls) c at
-hit_any t start ls bs c after nx pv nx2 high at least left high2 gives d w l does en hi hat all h p = elim h [
-  | inl a ↦ hit_one t start ls bs c after nx pv nx2 high at least left high2 gives d.older.pairs.items w l does en hi hat all.older a p
-  | inr b ↦ hit_one t start ls bs c after nx pv nx2 high at least left high2 gives d.younger.pairs.items w l does en hi hat all.younger b p
+hit_any t start ls bs c after nx pv nx2 high at window left high2 gives d w l does en hi hat all h p = elim h [
+  | inl a ↦ hit_one t start ls bs c after nx pv nx2 high at window left high2 gives d.older.pairs.items w l does en hi hat all.older a p
+  | inr b ↦ hit_one t start ls bs c after nx pv nx2 high at window left high2 gives d.younger.pairs.items w l does en hi hat all.younger b p
 ]

@@ -1,5 +1,5 @@
 -- Levels that come and go, as the lists of a search are written.
-use Rattle.std.proofs.Common.{◌≡◌, ℕ, ◌<◌, ◌≤◌, ◌+◌, Bool, true, false, cond, List, [], ◌∷◌, ◌++◌, append_assoc, Some, is_some, length, reverse, get_or, refl, ap, sym, ◌∙◌, subst, arith}
+use Rattle.std.proofs.Common.{◌≡◌, ◌≢◌, ℕ, ◌<◌, ◌≤◌, ◌+◌, Bool, true, false, cond, List, [], ◌∷◌, ◌++◌, append_assoc, Some, is_some, length, reverse, get_or, refl, ap, sym, ◌∙◌, subst, arith}
 use Rattle.std.proofs.lemmas.List.{reverse-append, reverse-reverse, map-append, append-nil}
 use Rattle.model.specs.declared.AnyReply.{AnyReply}
 use Rattle.model.specs.Objects.{Content, next}
@@ -8,35 +8,36 @@ use Rattle.events.specs.declared.operations.Invocation.{Invocation}
 use Rattle.events.specs.Operations.{return_of, Agrees}
 use Rattle.reversible.specs.Undoing.{undone}
 use Rattle.order_search.specs.declared.level.Level.{Level}
+use Rattle.order_search.specs.declared.level.Window.{Window}
 use Rattle.order_search.specs.Arranged.{as_call, call_at, owes, count_below}
 use Rattle.order_search.specs.Continuations.{Continues}
 use Rattle.order_search.specs.Links.{Linked, next_without, before_without}
-use Rattle.order_search.specs.Searching.{places, befores, IsLeast, Stack, IsWalk}
+use Rattle.order_search.specs.Searching.{places, befores, IsLeast, IsWindow, Stack, IsWalk}
 use Rattle.order_search.proofs.Owed.{none_owed, owes_placed, owes_pending}
-use Rattle.order_search.proofs.Stack.{onto, continued, placed, placed_frame, candidate_now, linked_now, walk_linked, walk_left}
+use Rattle.order_search.proofs.Stack.{onto, continued, placed, placed_frame, candidate_now, walk_linked, walk_left, window_moved}
 use Rattle.order_search.proofs.Links.{linked_without}
 use Rattle.order_search.proofs.Steps.{reverse_push}
 
 -- ---- the first level
 
-pub begun : (n : ℕ) (call : ℕ → Call) (start c : Content) (ls : List Level) (nx pv : List ℕ) (at least left : ℕ) → ls ≡ [] → c ≡ start
-    → Linked n [] nx pv → at ≡ get_or nx 0 0 → IsLeast n call [] least → left ≡ count_below (owes call []) n → 0 < left
-    → IsWalk n call start (reverse ls) (befores (reverse ls) c) c nx pv 0 at least left
-begun n call start c ls nx pv at least left el ec link ea m counts owed =
-    subst (λ (x : ℕ). IsWalk n call start (reverse ls) (befores (reverse ls) c) c nx pv 0 x least left) (sym ea)
-    (subst (λ (x : List Level). IsWalk n call start (reverse x) (befores (reverse x) c) c nx pv 0 (get_or nx 0 0) least left) (sym el)
-    (placed n call start [] [] c nx pv 0 least left (ec, link) m counts owed))
+pub begun : (n : ℕ) (call : ℕ → Call) (start c : Content) (ls : List Level) (nx pv : List ℕ) (at : ℕ) (window : Window) (left : ℕ) → ls ≡ [] → c ≡ start
+    → Linked n [] nx pv → at ≡ get_or nx 0 0 → IsWindow n call [] window → left ≡ count_below (owes call []) n → 0 < left
+    → IsWalk n call start (reverse ls) (befores (reverse ls) c) c nx pv 0 at window left
+begun n call start c ls nx pv at window left el ec link ea m counts owed =
+    subst (λ (x : ℕ). IsWalk n call start (reverse ls) (befores (reverse ls) c) c nx pv 0 x window left) (sym ea)
+    (subst (λ (x : List Level). IsWalk n call start (reverse x) (befores (reverse x) c) c nx pv 0 (get_or nx 0 0) window left) (sym el)
+    (placed n call start [] [] c nx pv 0 window left (ec, link) m counts owed))
 
 -- ---- one level more
 
 pub stepped : (n : ℕ) (call : ℕ → Call) (start : Content) (olds news : List Level) (lv : Level) (oldb newb : List Content) (c after : Content)
-    (nx pv nx2 pv2 : List ℕ) (high at least left high2 : ℕ) (gives : AnyReply) → IsWalk n call start (reverse olds) oldb c nx pv high at least left
-    → at < n → (call at).number ≤ least → next c (call at).op ≡ Some (after, gives) → Agrees (call at).returned gives → high ≤ high2 → at < high2 →
-    lv.place ≡ at → lv.least ≡ least → lv.high ≡ high → news ≡ olds ++ lv ∷ [] → newb ≡ c ∷ oldb → nx2 ≡ next_without nx pv at → pv2 ≡ before_without nx pv at →
+    (nx pv nx2 pv2 : List ℕ) (high at : ℕ) (window : Window) (left high2 : ℕ) (gives : AnyReply) → IsWalk n call start (reverse olds) oldb c nx pv high at window left
+    → at < n → (call at).number ≤ window.least → next c (call at).op ≡ Some (after, gives) → Agrees (call at).returned gives → high ≤ high2 → at < high2 →
+    lv.place ≡ at → lv.window ≡ window → lv.high ≡ high → news ≡ olds ++ lv ∷ [] → newb ≡ c ∷ oldb → nx2 ≡ next_without nx pv at → pv2 ≡ before_without nx pv at →
     Stack n call start (reverse news) newb after nx2 pv2 high2
-stepped n call start olds news lv oldb newb c after nx pv nx2 pv2 high at least left high2 gives w l low does agrees hi hat ep el eh en eb ex ev =
-    let s = placed_frame n call start (reverse olds) oldb c after nx pv high at least left high2 lv ep el eh w
-    (candidate_now n call (places (reverse olds)) at least w.is_least low) l (record { reply = gives; does = does; agrees = agrees }) hi hat in
+stepped n call start olds news lv oldb newb c after nx pv nx2 pv2 high at window left high2 gives w l low does agrees hi hat ep el eh en eb ex ev =
+    let s = placed_frame n call start (reverse olds) oldb c after nx pv high at window left high2 lv ep el eh w
+    (candidate_now n call (places (reverse olds)) at window.least w.is_window.is_least low) l (record { reply = gives; does = does; agrees = agrees }) hi hat in
     let rl : reverse news ≡ lv ∷ reverse olds = ap reverse en ∙ reverse_push olds lv in
     subst (λ (x : List ℕ). Stack n call start (reverse news) newb after x pv2 high2) (sym ex)
     (subst (λ (x : List ℕ). Stack n call start (reverse news) newb after (next_without nx pv at) x high2) (sym ev)
@@ -44,17 +45,17 @@ stepped n call start olds news lv oldb newb c after nx pv nx2 pv2 high at least 
     (subst (λ (x : List Content). Stack n call start (lv ∷ reverse olds) x after (next_without nx pv at) (before_without nx pv at) high2) (sym eb) s)))
 
 pub taken_out : (n : ℕ) (call : ℕ → Call) (start : Content) (ls : List Level) (bs : List Content) (c : Content) (nx pv nx2 pv2 : List ℕ)
-    (high at least left : ℕ) → IsWalk n call start ls bs c nx pv high at least left → at < n → nx2 ≡ next_without nx pv at → pv2 ≡ before_without nx pv at → Linked n (at ∷ places ls) nx2 pv2
-taken_out n call start ls bs c nx pv nx2 pv2 high at least left w l ex ev =
+    (high at : ℕ) (window : Window) (left : ℕ) → IsWalk n call start ls bs c nx pv high at window left → at < n → nx2 ≡ next_without nx pv at → pv2 ≡ before_without nx pv at → Linked n (at ∷ places ls) nx2 pv2
+taken_out n call start ls bs c nx pv nx2 pv2 high at window left w l ex ev =
     subst (λ (x : List ℕ). Linked n (at ∷ places ls) x pv2) (sym ex) (subst (λ (y : List ℕ). Linked n (at ∷ places ls) (next_without nx pv at) y) (sym ev)
-    (linked_without n (places ls) nx pv at (walk_linked n call start ls bs c nx pv high at least left w) (walk_left n call start ls bs c nx pv high at least left w l)))
+    (linked_without n (places ls) nx pv at (walk_linked n call start ls bs c nx pv high at window left w) (walk_left n call start ls bs c nx pv high at window left w l)))
 
 -- what is owed with one level more
 pub owed_less : (items : List Invocation) (o : Invocation) (start : Content) (olds news : List Level) (lv : Level) (bs : List Content) (c : Content)
-    (nx pv : List ℕ) (high at least left left2 : ℕ) → IsWalk (length items) (call_at items) start (reverse olds) bs c nx pv high at least left
+    (nx pv : List ℕ) (high at : ℕ) (window : Window) (left left2 : ℕ) → IsWalk (length items) (call_at items) start (reverse olds) bs c nx pv high at window left
     → at < length items → as_call o ≡ call_at items at → lv.place ≡ at → news ≡ olds ++ lv ∷ [] →
     left ≡ (cond (is_some (return_of o.«end»)) (left2 + 1) left2) → left2 ≡ count_below (owes (call_at items) (places (reverse news))) (length items)
-owed_less items o start olds news lv bs c nx pv high at least left left2 w l eo ep en e =
+owed_less items o start olds news lv bs c nx pv high at window left left2 w l eo ep en e =
     let n : ℕ = length items in
     let done : List ℕ = places (reverse olds) in
     let rl : places (reverse news) ≡ at ∷ done = ap (λ (x : List Level). places (reverse x)) en ∙ ap places (reverse_push olds lv) ∙ ap (λ (x : ℕ). x ∷ done) ep in
@@ -65,12 +66,24 @@ owed_less items o start olds news lv bs c nx pv high at least left left2 w l eo 
     go true q h = let z = owes_placed (length items) (call_at items) (places (reverse olds)) at (l, w.stop.left l) q in let y = w.counts in omega arith
     go false q h = let z = owes_pending (length items) (call_at items) (places (reverse olds)) at q in let y = w.counts in omega arith
 
-pub onward : (n : ℕ) (call : ℕ → Call) (start : Content) (ls : List Level) (bs : List Content) (c : Content) (nx pv : List ℕ) (high at least left : ℕ)
-    → Stack n call start ls bs c nx pv high → at ≡ get_or nx 0 0 → ((done : List ℕ) → Linked n done nx pv → IsLeast n call done least)
-    → left ≡ count_below (owes call (places ls)) n → (left ≡ 0 → ⊥) → IsWalk n call start ls bs c nx pv high at least left
-onward n call start ls bs c nx pv high at least left s ea m counts some =
-    subst (λ (x : ℕ). IsWalk n call start ls bs c nx pv high x least left) (sym ea)
-    (placed n call start ls bs c nx pv high least left s (m (places ls) (linked_now n call start ls bs c nx pv high s)) counts (omega arith))
+-- what can come next, with one level more
+pub window_onward : (n : ℕ) (call : ℕ → Call) (start : Content) (olds news : List Level) (lv : Level) (bs : List Content) (c : Content) (nx pv : List ℕ)
+    (high at : ℕ) (window : Window) (left least pending : ℕ) → IsWalk n call start (reverse olds) bs c nx pv high at window left → at < n → lv.place ≡ at
+    → news ≡ olds ++ lv ∷ [] → (at ≡ window.pending → pending ≡ get_or nx (at + 1) 0) → (at ≢ window.pending → pending ≡ window.pending)
+    → IsLeast n call (places (reverse news)) least → IsWindow n call (places (reverse news)) (record { least = least; pending = pending })
+window_onward n call start olds news lv bs c nx pv high at window left least pending w l ep en same other m =
+    let done : List ℕ = places (reverse olds) in
+    let rl : places (reverse news) ≡ at ∷ done = ap (λ (x : List Level). places (reverse x)) en ∙ ap places (reverse_push olds lv) ∙ ap (λ (x : ℕ). x ∷ done) ep in
+    subst (λ (x : List ℕ). IsWindow n call x (record { least = least; pending = pending })) (sym rl)
+    (window_moved n call done nx pv at window least pending (walk_linked n call start (reverse olds) bs c nx pv high at window left w)
+    (walk_left n call start (reverse olds) bs c nx pv high at window left w l) w.is_window same other (subst (λ (x : List ℕ). IsLeast n call x least) rl m))
+
+pub onward : (n : ℕ) (call : ℕ → Call) (start : Content) (ls : List Level) (bs : List Content) (c : Content) (nx pv : List ℕ) (high at : ℕ) (window : Window) (left : ℕ)
+    → Stack n call start ls bs c nx pv high → at ≡ get_or nx 0 0 → IsWindow n call (places ls) window
+    → left ≡ count_below (owes call (places ls)) n → (left ≡ 0 → ⊥) → IsWalk n call start ls bs c nx pv high at window left
+onward n call start ls bs c nx pv high at window left s ea m counts some =
+    subst (λ (x : ℕ). IsWalk n call start ls bs c nx pv high x window left) (sym ea)
+    (placed n call start ls bs c nx pv high window left s m counts (omega arith))
 
 -- ---- the last level
 

@@ -1,14 +1,15 @@
 -- What one step of a search keeps, and what its end says.
-use Rattle.std.proofs.Common.{◌≡◌, ◌≢◌, ℕ, suc, ◌<◌, ◌≤◌, ◌⊎◌, inl, inr, List, [], ◌∷◌, Some, get_or, refl, ap, sym, ◌∙◌, subst, arith}
-use Rattle.std.proofs.lemmas.Bool.{cases_order}
+use Rattle.std.proofs.Common.{◌≡◌, ◌≢◌, ℕ, suc, ◌+◌, ◌<◌, ◌≤◌, ◌⊎◌, inl, inr, List, [], ◌∷◌, Some, get_or, add-one, refl, ap, sym, ◌∙◌, subst, arith}
+use Rattle.std.proofs.lemmas.Bool.{cases_eq, cases_order}
 use Rattle.model.specs.Objects.{Content}
 use Rattle.model.specs.Orders.{Call, Return}
 use Rattle.model.proofs.Lists.{In}
 use Rattle.order_search.specs.declared.level.Level.{Level}
+use Rattle.order_search.specs.declared.level.Window.{Window}
 use Rattle.order_search.specs.Arranged.{owes, count_below}
 use Rattle.order_search.specs.Continuations.{IsLeft, IsCandidate, Places, Continues, IsDead, IsDeadAt, IsTried}
-use Rattle.order_search.specs.Links.{Linked, AreWithin, next_without, before_without, next_with, before_with}
-use Rattle.order_search.specs.Searching.{places, IsLeast, Frame, IsBound, Stack, IsWalk}
+use Rattle.order_search.specs.Links.{Linked, IsStop, AreWithin, next_without, before_without, next_with, before_with}
+use Rattle.order_search.specs.Searching.{places, IsLeast, IsWindow, Frame, IsBound, Stack, IsWalk}
 use Rattle.order_search.proofs.Deadness.{dead_placed, dead_late, dead_child, dead_all, tried_more}
 use Rattle.order_search.proofs.Links.{around, linked_without, next_again, before_again, within_after}
 use Rattle.order_search.proofs.Owed.{count_some, owes_left}
@@ -47,8 +48,8 @@ candidate_now n call done at least m low j jl ne b = let g = m.below j b.0 jl b.
 
 -- a walk that has no place left to try
 pub dead_now : (n : ℕ) (call : ℕ → Call) (start : Content) (ls : List Level) (bs : List Content) (c : Content) (nx pv : List ℕ)
-    (high at least left : ℕ) → IsWalk n call start ls bs c nx pv high at least left → ((k : ℕ) → IsDeadAt n call (places ls) c k) → IsDead n call (places ls) c
-dead_now n call start ls bs c nx pv high at least left w d =
+    (high at : ℕ) (window : Window) (left : ℕ) → IsWalk n call start ls bs c nx pv high at window left → ((k : ℕ) → IsDeadAt n call (places ls) c k) → IsDead n call (places ls) c
+dead_now n call start ls bs c nx pv high at window left w d =
     let some = count_some (owes call (places ls)) n (subst (λ (x : ℕ). 0 < x) w.counts w.owed) in
     let o = owes_left n call (places ls) some.0 some.1 some.2 in
     dead_all n call (places ls) c some.0 o.1.0 o.0 o.1.1 d
@@ -85,6 +86,49 @@ least_of_all n call done at least m later = record {
   stands = m.stands;
 }
 
+-- ---- the first place that is pending
+
+-- one that returned, or is not left, up to a place: with one place more in the order
+pub window_moved : (n : ℕ) (call : ℕ → Call) (done nx pv : List ℕ) (at : ℕ) (window : Window) (least pending : ℕ) → Linked n done nx pv → IsLeft n done at
+    → IsWindow n call done window → (at ≡ window.pending → pending ≡ get_or nx (at + 1) 0) → (at ≢ window.pending → pending ≡ window.pending)
+    → IsLeast n call (at ∷ done) least → IsWindow n call (at ∷ done) (record { least = least; pending = pending })
+window_moved n call done nx pv at window least pending link l w same other m = elim (cases_eq at window.pending) [
+  | inl e ↦
+      let f = link.forth (suc at) (let b = l.0 in omega arith) l in
+      let is : pending ≡ get_or nx (suc at) 0 = same e ∙ ap (λ (x : ℕ). get_or nx x 0) (add-one at) in
+      let up = f.rises in
+      record {
+        is_least = m;
+        returned = λ k b i. elim (cases_order k at) [
+          | inl q ↦ absurd (i.1 (inl q))
+          | inr o ↦ elim o [
+            | inl lo ↦ w.returned k (let e' : at ≡ window.pending = e in omega arith) (i.0, λ z. i.1 (inr z))
+            | inr hi ↦ absurd (i.1 (inr (f.gap k (omega arith) (omega arith))))
+          ]
+        ];
+        stop = record {
+          within = let q = f.stop.within in omega arith;
+          left = λ b i. elim i [
+            | inl q ↦ (let q' : pending ≡ at = q in absurd (omega arith))
+            | inr z ↦ f.stop.left (omega arith) (subst (λ (x : ℕ). In x done) is z)
+          ];
+        };
+      }
+  | inr ne ↦
+      let is : pending ≡ window.pending = other ne in
+      record {
+        is_least = m;
+        returned = λ k b i. w.returned k (omega arith) (i.0, λ z. i.1 (inr z));
+        stop = record {
+          within = let q = w.stop.within in omega arith;
+          left = λ b i. elim i [
+            | inl q ↦ ne (sym q ∙ is)
+            | inr z ↦ w.stop.left (omega arith) (subst (λ (x : ℕ). In x done) is z)
+          ];
+        };
+      }
+]
+
 -- ---- steps
 
 pub linked_now : (n : ℕ) (call : ℕ → Call) (start : Content) (ls : List Level) (bs : List Content) (c : Content) (nx pv : List ℕ) (high : ℕ)
@@ -102,28 +146,28 @@ bound_now n call start (l ∷ ls) [] c nx pv high s = absurd s
 bound_now n call start (l ∷ ls) (b ∷ bs) c nx pv high s = s.2
 
 pub walk_linked : (n : ℕ) (call : ℕ → Call) (start : Content) (ls : List Level) (bs : List Content) (c : Content) (nx pv : List ℕ)
-    (high at least left : ℕ) → IsWalk n call start ls bs c nx pv high at least left → Linked n (places ls) nx pv
-walk_linked n call start ls bs c nx pv high at least left w = linked_now n call start ls bs c nx pv high w.stack
+    (high at : ℕ) (window : Window) (left : ℕ) → IsWalk n call start ls bs c nx pv high at window left → Linked n (places ls) nx pv
+walk_linked n call start ls bs c nx pv high at window left w = linked_now n call start ls bs c nx pv high w.stack
 
 pub walk_bound : (n : ℕ) (call : ℕ → Call) (start : Content) (ls : List Level) (bs : List Content) (c : Content) (nx pv : List ℕ)
-    (high at least left : ℕ) → IsWalk n call start ls bs c nx pv high at least left → IsBound (places ls) high
-walk_bound n call start ls bs c nx pv high at least left w = bound_now n call start ls bs c nx pv high w.stack
+    (high at : ℕ) (window : Window) (left : ℕ) → IsWalk n call start ls bs c nx pv high at window left → IsBound (places ls) high
+walk_bound n call start ls bs c nx pv high at window left w = bound_now n call start ls bs c nx pv high w.stack
 
 pub walk_left : (n : ℕ) (call : ℕ → Call) (start : Content) (ls : List Level) (bs : List Content) (c : Content) (nx pv : List ℕ)
-    (high at least left : ℕ) → IsWalk n call start ls bs c nx pv high at least left → at < n → IsLeft n (places ls) at
-walk_left n call start ls bs c nx pv high at least left w l = (l, w.stop.left l)
+    (high at : ℕ) (window : Window) (left : ℕ) → IsWalk n call start ls bs c nx pv high at window left → at < n → IsLeft n (places ls) at
+walk_left n call start ls bs c nx pv high at window left w l = (l, w.stop.left l)
 
 -- on to the next place that is left
-pub passed : (n : ℕ) (call : ℕ → Call) (start : Content) (ls : List Level) (bs : List Content) (c : Content) (nx pv : List ℕ) (high at least left : ℕ)
-    → IsWalk n call start ls bs c nx pv high at least left → at < n → IsDeadAt n call (places ls) c at → IsWalk n call start ls bs c nx pv high (get_or nx (suc at) 0) least left
-passed n call start ls bs c nx pv high at least left w l d =
-    let here = walk_left n call start ls bs c nx pv high at least left w l in
+pub passed : (n : ℕ) (call : ℕ → Call) (start : Content) (ls : List Level) (bs : List Content) (c : Content) (nx pv : List ℕ) (high at : ℕ) (window : Window) (left : ℕ)
+    → IsWalk n call start ls bs c nx pv high at window left → at < n → IsDeadAt n call (places ls) c at → IsWalk n call start ls bs c nx pv high (get_or nx (suc at) 0) window left
+passed n call start ls bs c nx pv high at window left w l d =
+    let here = walk_left n call start ls bs c nx pv high at window left w l in
     let f = (linked_now n call start ls bs c nx pv high w.stack).forth (suc at) (omega arith) here in
     let up = f.rises in
     record {
       stack = w.stack;
       tried = tried_more n call (places ls) c at (get_or nx (suc at) 0) w.tried d (λ j a b. f.gap j (omega arith) b);
-      is_least = w.is_least;
+      is_window = w.is_window;
       stop = f.stop;
       counts = w.counts;
       owed = w.owed;
@@ -131,39 +175,39 @@ passed n call start ls bs c nx pv high at least left w l d =
 
 -- one more level
 pub placed_frame : (n : ℕ) (call : ℕ → Call) (start : Content) (ls : List Level) (bs : List Content) (c after : Content) (nx pv : List ℕ)
-    (high at least left new_high : ℕ) (lv : Level) → lv.place ≡ at → lv.least ≡ least → lv.high ≡ high →
-    IsWalk n call start ls bs c nx pv high at least left → IsCandidate n call (places ls) at → at < n → Places call at c after → high ≤ new_high → at < new_high →
+    (high at : ℕ) (window : Window) (left new_high : ℕ) (lv : Level) → lv.place ≡ at → lv.window ≡ window → lv.high ≡ high →
+    IsWalk n call start ls bs c nx pv high at window left → IsCandidate n call (places ls) at → at < n → Places call at c after → high ≤ new_high → at < new_high →
     Stack n call start (lv ∷ ls) (c ∷ bs) after (next_without nx pv at) (before_without nx pv at) new_high
-placed_frame n call start ls bs c after nx pv high at least left new_high lv ep el eh w cand l p hi hat =
-    let here = walk_left n call start ls bs c nx pv high at least left w l in
+placed_frame n call start ls bs c after nx pv high at window left new_high lv ep el eh w cand l p hi hat =
+    let here = walk_left n call start ls bs c nx pv high at window left w l in
     let link = linked_now n call start ls bs c nx pv high w.stack in
     let bound = bound_now n call start ls bs c nx pv high w.stack in
     let a = around n (places ls) nx pv at link here in
     let new_link = linked_without n (places ls) nx pv at link here in
     let en : next_with (next_without nx pv at) (before_without nx pv at) at ≡ nx = next_again n (places ls) nx pv at a in
     let eb : before_with (next_without nx pv at) (before_without nx pv at) at ≡ pv = before_again n (places ls) nx pv at a in
-    let frame : Frame n call (places ls) c after at least = record { left = here; candidate = cand; placed = p; tried = w.tried; is_least = w.is_least } in
+    let frame : Frame n call (places ls) c after at window = record { left = here; candidate = cand; placed = p; tried = w.tried; is_window = w.is_window } in
     let old : Stack n call start ls bs c (next_with (next_without nx pv at) (before_without nx pv at) at) (before_with (next_without nx pv at) (before_without nx pv at) at) high =
     subst (λ (x : List ℕ). Stack n call start ls bs c x (before_with (next_without nx pv at) (before_without nx pv at) at) high) (sym en)
     (subst (λ (y : List ℕ). Stack n call start ls bs c nx y high) (sym eb) w.stack) in
     let nb : IsBound (at ∷ places ls) new_high = λ k i. elim i [ inl e ↦ (let e' : k ≡ at = e in omega arith) | inr m ↦ (let b = bound k m in omega arith) ] in
-    let M : ℕ → ℕ → ℕ → Type 0 = λ x y z. Frame n call (places ls) c after x y
+    let M : ℕ → Window → ℕ → Type 0 = λ x y z. Frame n call (places ls) c after x y
     × Linked n (x ∷ places ls) (next_without nx pv at) (before_without nx pv at) × IsBound (x ∷ places ls) new_high
     × AreWithin (next_without nx pv at) (before_without nx pv at) x
     × Stack n call start ls bs c (next_with (next_without nx pv at) (before_without nx pv at) x) (before_with (next_without nx pv at) (before_without nx pv at) x) z in
-    subst (λ (x : ℕ). M x lv.least lv.high) (sym ep)
-    (subst (λ (y : ℕ). M at y lv.high) (sym el) (subst (λ (z : ℕ). M at least z) (sym eh) (frame, new_link, nb, within_after n (places ls) nx pv at a link, old)))
+    subst (λ (x : ℕ). M x lv.window lv.high) (sym ep)
+    (subst (λ (y : Window). M at y lv.high) (sym el) (subst (λ (z : ℕ). M at window z) (sym eh) (frame, new_link, nb, within_after n (places ls) nx pv at a link, old)))
 
 -- and the walk starts anew at the first place that is left
-pub placed : (n : ℕ) (call : ℕ → Call) (start : Content) (ls : List Level) (bs : List Content) (c : Content) (nx pv : List ℕ) (high least left : ℕ)
-    → Stack n call start ls bs c nx pv high → IsLeast n call (places ls) least → left ≡ count_below (owes call (places ls)) n → 0 < left
-    → IsWalk n call start ls bs c nx pv high (get_or nx 0 0) least left
-placed n call start ls bs c nx pv high least left s least_is counts owed =
+pub placed : (n : ℕ) (call : ℕ → Call) (start : Content) (ls : List Level) (bs : List Content) (c : Content) (nx pv : List ℕ) (high : ℕ) (window : Window) (left : ℕ)
+    → Stack n call start ls bs c nx pv high → IsWindow n call (places ls) window → left ≡ count_below (owes call (places ls)) n → 0 < left
+    → IsWalk n call start ls bs c nx pv high (get_or nx 0 0) window left
+placed n call start ls bs c nx pv high window left s is_window counts owed =
     let f = (linked_now n call start ls bs c nx pv high s).forth 0 (omega arith) tt in
     record {
       stack = s;
       tried = λ k l. dead_placed n call (places ls) c k (f.gap k (omega arith) l);
-      is_least = least_is;
+      is_window = is_window;
       stop = f.stop;
       counts = counts;
       owed = owed;
@@ -172,13 +216,13 @@ placed n call start ls bs c nx pv high least left s least_is counts owed =
 -- back to the level before, whose place is dead
 pub came_back : (n : ℕ) (call : ℕ → Call) (start : Content) (lv : Level) (ls : List Level) (b : Content) (bs : List Content) (c : Content)
     (nx pv : List ℕ) (high left : ℕ) → Stack n call start (lv ∷ ls) (b ∷ bs) c nx pv high → IsDead n call (lv.place ∷ places ls) c → left ≡ count_below (owes call (places ls)) n → 0 < left →
-    IsWalk n call start ls bs b (next_with nx pv lv.place) (before_with nx pv lv.place) lv.high (get_or (next_with nx pv lv.place) (suc lv.place) 0) lv.least left
+    IsWalk n call start ls bs b (next_with nx pv lv.place) (before_with nx pv lv.place) lv.high (get_or (next_with nx pv lv.place) (suc lv.place) 0) lv.window left
 came_back n call start lv ls b bs c nx pv high left s d counts owed =
     let f = s.0 in
     let l = f.left.0 in
-    let w : IsWalk n call start ls bs b (next_with nx pv lv.place) (before_with nx pv lv.place) lv.high lv.place lv.least left =
-    record { stack = s.4; tried = f.tried; is_least = f.is_least; stop = record { within = omega arith; left = λ m. f.left.1 }; counts = counts; owed = owed } in
-    passed n call start ls bs b (next_with nx pv lv.place) (before_with nx pv lv.place) lv.high lv.place lv.least left w l (dead_child n call (places ls) b c lv.place f.placed.reply f.placed.does d)
+    let w : IsWalk n call start ls bs b (next_with nx pv lv.place) (before_with nx pv lv.place) lv.high lv.place lv.window left =
+    record { stack = s.4; tried = f.tried; is_window = f.is_window; stop = record { within = omega arith; left = λ m. f.left.1 }; counts = counts; owed = owed } in
+    passed n call start ls bs b (next_with nx pv lv.place) (before_with nx pv lv.place) lv.high lv.place lv.window left w l (dead_child n call (places ls) b c lv.place f.placed.reply f.placed.does d)
 
 -- ---- what is done
 

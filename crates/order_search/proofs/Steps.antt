@@ -1,6 +1,7 @@
 -- Steps of a search, as its lists are written.
 use Rattle.std.proofs.Common.{◌≡◌, ℕ, zero, suc, add-one, ◌<◌, ◌≤◌, ◌+◌, Bool, true, false, cond, ◌⊎◌, inl, inr, List, [], ◌∷◌, ◌++◌, append_assoc}
 use Rattle.std.proofs.Common.{Option, Some, IsSome, is_some, length, reverse, get_or, slice_get, take, refl, ap, sym, ◌∙◌, subst, arith}
+use Rattle.std.proofs.lemmas.Bool.{cases_order}
 use Rattle.std.proofs.lemmas.List.{reverse-append, get_or_default, append-nil, take_all}
 use Rattle.model.specs.declared.Kind.{Kind}
 use Rattle.model.specs.Objects.{Content, next}
@@ -11,6 +12,7 @@ use Rattle.model.proofs.Lists.{In}
 use Rattle.events.specs.declared.operations.Invocation.{Invocation}
 use Rattle.events.specs.Operations.{return_of}
 use Rattle.order_search.specs.declared.level.Level.{Level}
+use Rattle.order_search.specs.declared.level.Window.{Window}
 use Rattle.order_search.specs.Continuations.{IsLeft, IsDead, IsDeadAt, IsDeadPair}
 use Rattle.order_search.specs.Links.{Linked, IsSlot, IsStop, IsForth, Lists, AreWithin, next_with, before_with, next_without, before_without}
 use Rattle.order_search.specs.Searching.{places, IsBound, IsLeast, Stack, IsWalk}
@@ -46,20 +48,20 @@ popped_within n call start olds news lv oldb newb b c nx pv high e f s =
 
 -- what is left to remember where a walk is dead
 pub dead_pair : (n : ℕ) (call : ℕ → Call) (start : Content) (ls : List Level) (bs : List Content) (c : Content) (nx pv : List ℕ)
-    (high at least left : ℕ) (undone : List ℕ) → IsWalk n call start ls bs c nx pv high at least left → IsDead n call (places ls) c → Lists nx 0 undone high → IsDeadPair n call high undone c
-dead_pair n call start ls bs c nx pv high at least left undone w d h = record {
+    (high at : ℕ) (window : Window) (left : ℕ) (undone : List ℕ) → IsWalk n call start ls bs c nx pv high at window left → IsDead n call (places ls) c → Lists nx 0 undone high → IsDeadPair n call high undone c
+dead_pair n call start ls bs c nx pv high at window left undone w d h = record {
   done = places ls;
-  describes = listed n (places ls) nx pv undone high (walk_linked n call start ls bs c nx pv high at least left w) (walk_bound n call start ls bs c nx pv high at least left w) h;
+  describes = listed n (places ls) nx pv undone high (walk_linked n call start ls bs c nx pv high at window left w) (walk_bound n call start ls bs c nx pv high at window left w) h;
   dead = d;
 }
 
 -- back to the level before
 pub back_step : (n : ℕ) (call : ℕ → Call) (start : Content) (olds news : List Level) (lv : Level) (oldb newb : List Content) (b c : Content)
-    (nx pv : List ℕ) (high at least left new_left : ℕ) → olds ≡ news ++ lv ∷ [] → oldb ≡ b ∷ newb →
-    IsWalk n call start (reverse olds) oldb c nx pv high at least left → IsDead n call (places (reverse olds)) c →
+    (nx pv : List ℕ) (high at : ℕ) (window : Window) (left new_left : ℕ) → olds ≡ news ++ lv ∷ [] → oldb ≡ b ∷ newb →
+    IsWalk n call start (reverse olds) oldb c nx pv high at window left → IsDead n call (places (reverse olds)) c →
     new_left ≡ (cond (is_some (call lv.place).returned) (left + 1) left) →
-    IsWalk n call start (reverse news) newb b (next_with nx pv lv.place) (before_with nx pv lv.place) lv.high (get_or (next_with nx pv lv.place) (suc lv.place) 0) lv.least new_left
-back_step n call start olds news lv oldb newb b c nx pv high at least left new_left e f w d el =
+    IsWalk n call start (reverse news) newb b (next_with nx pv lv.place) (before_with nx pv lv.place) lv.high (get_or (next_with nx pv lv.place) (suc lv.place) 0) lv.window new_left
+back_step n call start olds news lv oldb newb b c nx pv high at window left new_left e f w d el =
     let s = popped n call start olds news lv oldb newb b c nx pv high e f w.stack in
     let rl : reverse olds ≡ lv ∷ reverse news = ap reverse e ∙ reverse_push news lv in
     let counts : left ≡ count_below (owes call (lv.place ∷ places (reverse news))) n = w.counts ∙ ap (λ (ls : List Level). count_below (owes call (places ls)) n) rl in
@@ -83,36 +85,36 @@ pub call_read : (items : List Invocation) (k : ℕ) (d : Invocation) → k < len
 call_read items k d l = ap as_call (get_or_default items k d _ l)
 
 pub back_walk : (items : List Invocation) (o : Invocation) (start : Content) (olds news : List Level) (lv : Level) (oldb newb : List Content)
-    (b b2 c : Content) (nx pv nx2 pv2 : List ℕ) (high at least left at2 new_left : ℕ) → olds ≡ news ++ lv ∷ [] → oldb ≡ b ∷ newb →
-    IsWalk (length items) (call_at items) start (reverse olds) oldb c nx pv high at least left → IsDead (length items) (call_at items) (places (reverse olds)) c →
+    (b b2 c : Content) (nx pv nx2 pv2 : List ℕ) (high at : ℕ) (window : Window) (left at2 new_left : ℕ) → olds ≡ news ++ lv ∷ [] → oldb ≡ b ∷ newb →
+    IsWalk (length items) (call_at items) start (reverse olds) oldb c nx pv high at window left → IsDead (length items) (call_at items) (places (reverse olds)) c →
     b2 ≡ b → nx2 ≡ next_with nx pv lv.place → pv2 ≡ before_with nx pv lv.place → at2 ≡ get_or nx2 (lv.place + 1) 0 → as_call o ≡ call_at items lv.place →
     new_left ≡ (cond (is_some (return_of o.«end»)) (left + 1) left) →
-    IsWalk (length items) (call_at items) start (reverse news) newb b2 nx2 pv2 lv.high at2 lv.least new_left
-back_walk items o start olds news lv oldb newb b b2 c nx pv nx2 pv2 high at least left at2 new_left e f w dead eb en ep ea eo el =
+    IsWalk (length items) (call_at items) start (reverse news) newb b2 nx2 pv2 lv.high at2 lv.window new_left
+back_walk items o start olds news lv oldb newb b b2 c nx pv nx2 pv2 high at window left at2 new_left e f w dead eb en ep ea eo el =
     let n : ℕ = length items in
     let call : ℕ → Call = call_at items in
     let ret : return_of o.«end» ≡ (call lv.place).returned = ap (λ (x : Call). x.returned) eo in
-    let r = back_step n call start olds news lv oldb newb b c nx pv high at least left new_left e f w dead
+    let r = back_step n call start olds news lv oldb newb b c nx pv high at window left new_left e f w dead
     (subst (λ (o : Option Return). new_left ≡ cond (is_some o) (left + 1) left) ret el) in
     let at_is : at2 ≡ get_or (next_with nx pv lv.place) (suc lv.place) 0 = ea ∙ ap (λ (x : ℕ). get_or nx2 x 0) (add-one lv.place) ∙ ap (λ (x : List ℕ). get_or x (suc lv.place) 0) en in
-    subst (λ (x : Content). IsWalk n call start (reverse news) newb x nx2 pv2 lv.high at2 lv.least new_left) (sym eb)
-    (subst (λ (x : List ℕ). IsWalk n call start (reverse news) newb b x pv2 lv.high at2 lv.least new_left) (sym en)
-    (subst (λ (x : List ℕ). IsWalk n call start (reverse news) newb b (next_with nx pv lv.place) x lv.high at2 lv.least new_left) (sym ep)
-    (subst (λ (x : ℕ). IsWalk n call start (reverse news) newb b (next_with nx pv lv.place) (before_with nx pv lv.place) lv.high x lv.least new_left) (sym at_is) r)))
+    subst (λ (x : Content). IsWalk n call start (reverse news) newb x nx2 pv2 lv.high at2 lv.window new_left) (sym eb)
+    (subst (λ (x : List ℕ). IsWalk n call start (reverse news) newb b x pv2 lv.high at2 lv.window new_left) (sym en)
+    (subst (λ (x : List ℕ). IsWalk n call start (reverse news) newb b (next_with nx pv lv.place) x lv.high at2 lv.window new_left) (sym ep)
+    (subst (λ (x : ℕ). IsWalk n call start (reverse news) newb b (next_with nx pv lv.place) (before_with nx pv lv.place) lv.high x lv.window new_left) (sym at_is) r)))
 
 pub pass_walk : (n : ℕ) (call : ℕ → Call) (start : Content) (ls : List Level) (bs : List Content) (c : Content) (nx pv : List ℕ)
-    (high at least left at2 : ℕ) → IsWalk n call start ls bs c nx pv high at least left → at < n → IsDeadAt n call (places ls) c at → at2 ≡ get_or nx (at + 1) 0 →
-    IsWalk n call start ls bs c nx pv high at2 least left
-pass_walk n call start ls bs c nx pv high at least left at2 w l dead ea =
-    let r = passed n call start ls bs c nx pv high at least left w l dead in
+    (high at : ℕ) (window : Window) (left at2 : ℕ) → IsWalk n call start ls bs c nx pv high at window left → at < n → IsDeadAt n call (places ls) c at → at2 ≡ get_or nx (at + 1) 0 →
+    IsWalk n call start ls bs c nx pv high at2 window left
+pass_walk n call start ls bs c nx pv high at window left at2 w l dead ea =
+    let r = passed n call start ls bs c nx pv high at window left w l dead in
     let at_is : at2 ≡ get_or nx (suc at) 0 = ea ∙ ap (λ (x : ℕ). get_or nx x 0) (add-one at) in
-    subst (λ (x : ℕ). IsWalk n call start ls bs c nx pv high x least left) (sym at_is) r
+    subst (λ (x : ℕ). IsWalk n call start ls bs c nx pv high x window left) (sym at_is) r
 
 pub pass_rises : (n : ℕ) (call : ℕ → Call) (start : Content) (ls : List Level) (bs : List Content) (c : Content) (nx pv : List ℕ)
-    (high at least left : ℕ) → IsWalk n call start ls bs c nx pv high at least left → at < n → (at < get_or nx (at + 1) 0) × (at + 1 < length nx)
-pass_rises n call start ls bs c nx pv high at least left w l =
-    let link = walk_linked n call start ls bs c nx pv high at least left w in
-    let f = (link.forth (suc at) (omega arith) (walk_left n call start ls bs c nx pv high at least left w l)).rises in
+    (high at : ℕ) (window : Window) (left : ℕ) → IsWalk n call start ls bs c nx pv high at window left → at < n → (at < get_or nx (at + 1) 0) × (at + 1 < length nx)
+pass_rises n call start ls bs c nx pv high at window left w l =
+    let link = walk_linked n call start ls bs c nx pv high at window left w in
+    let f = (link.forth (suc at) (omega arith) (walk_left n call start ls bs c nx pv high at window left w l)).rises in
     let long = link.long_next in
     let e : get_or nx (at + 1) 0 ≡ get_or nx (suc at) 0 = ap (λ (x : ℕ). get_or nx x 0) (add-one at) in
     (omega arith, omega arith)
@@ -128,23 +130,45 @@ pub listed_end : (nx us : List ℕ) (slot high place : ℕ) → ((rest : List �
 listed_end nx us slot high place front l e end = subst (λ (x : List ℕ). Lists nx 0 x high) (append-nil us) (front [] (l, elim end [ inl a ↦ inl (omega arith) | inr b ↦ inr (omega arith) ]))
 
 -- nothing goes on where each place that was not tried is invoked after the least return
-pub dead_here : (kind : Kind) (items : List Invocation) (floors : List ℕ) (start : Content) (ls : List Level) (bs : List Content) (c : Content)
-    (nx pv : List ℕ) (high at least left : ℕ) → IsArranged kind items floors
-    → IsWalk (length items) (call_at items) start ls bs c nx pv high at least left
-    → ((length items ≤ at) ⊎ ((least < 4294967295) × (least < get_or floors at 0))) → IsDead (length items) (call_at items) (places ls) c
-dead_here kind items floors start ls bs c nx pv high at least left t w o = dead_now (length items) (call_at items) start ls bs c nx pv high at least left w (elim o [
+pub dead_here : (kind : Kind) (items : List Invocation) (floors return_floors : List ℕ) (pending : ℕ) (start : Content) (ls : List Level) (bs : List Content) (c : Content)
+    (nx pv : List ℕ) (high at : ℕ) (window : Window) (left : ℕ) → IsArranged kind items floors return_floors pending
+    → IsWalk (length items) (call_at items) start ls bs c nx pv high at window left
+    → ((length items ≤ at) ⊎ ((window.least < 4294967295) × (window.least < get_or floors at 0))) → IsDead (length items) (call_at items) (places ls) c
+dead_here kind items floors return_floors pending start ls bs c nx pv high at window left t w o = dead_now (length items) (call_at items) start ls bs c nx pv high at window left w (elim o [
   | inl e ↦ dead_at_end (length items) (call_at items) (places ls) c at w.tried e
-  | inr r ↦ let l = r.1 in dead_behind (length items) (call_at items) (places ls) c at least w.tried w.is_least r.0 (λ k a b. let f = t.floors_right.below at k a b in omega arith) t.ends
+  | inr r ↦ let l = r.1 in dead_behind (length items) (call_at items) (places ls) c at window.least w.tried w.is_window.is_least r.0 (λ k a b. let f = t.floors_right.below at k a b (inl refl) in omega arith) t.ends
 ])
 
 -- and so is a place whose call is
-pub dead_too_late : (kind : Kind) (items : List Invocation) (floors : List ℕ) (o : Invocation) (start : Content) (ls : List Level) (bs : List Content)
-    (c : Content) (nx pv : List ℕ) (high at least left : ℕ) → IsArranged kind items floors
-    → IsWalk (length items) (call_at items) start ls bs c nx pv high at least left → at < length items → as_call o ≡ call_at items at
-    → least < 4294967295 → least < o.number → IsDeadAt (length items) (call_at items) (places ls) c at
-dead_too_late kind items floors o start ls bs c nx pv high at least left t w l eo small late =
+pub dead_too_late : (kind : Kind) (items : List Invocation) (floors return_floors : List ℕ) (pending : ℕ) (o : Invocation) (start : Content) (ls : List Level) (bs : List Content)
+    (c : Content) (nx pv : List ℕ) (high at : ℕ) (window : Window) (left : ℕ) → IsArranged kind items floors return_floors pending
+    → IsWalk (length items) (call_at items) start ls bs c nx pv high at window left → at < length items → as_call o ≡ call_at items at
+    → window.least < 4294967295 → window.least < o.number → IsDeadAt (length items) (call_at items) (places ls) c at
+dead_too_late kind items floors return_floors pending o start ls bs c nx pv high at window left t w l eo small late =
     let e = ap (λ (x : Call). x.number) eo in
-    dead_after (length items) (call_at items) (places ls) c least at w.is_least small (omega arith) (λ r q. t.ends at r l q)
+    dead_after (length items) (call_at items) (places ls) c window.least at w.is_window.is_least small (omega arith) (λ r q. t.ends at r l q)
+
+-- on to the first pending place, where all that come before it and returned were invoked after the least return
+pub skipped : (kind : Kind) (items : List Invocation) (floors return_floors : List ℕ) (pending : ℕ) (start : Content) (ls : List Level) (bs : List Content)
+    (c : Content) (nx pv : List ℕ) (high at : ℕ) (window : Window) (left : ℕ) → IsArranged kind items floors return_floors pending
+    → IsWalk (length items) (call_at items) start ls bs c nx pv high at window left → window.least < 4294967295 → window.least < get_or return_floors at 0
+    → IsWalk (length items) (call_at items) start ls bs c nx pv high window.pending window left
+skipped kind items floors return_floors pending start ls bs c nx pv high at window left t w small late = record {
+  stack = w.stack;
+  tried = λ k l. elim (cases_order k at) [
+    | inl e ↦ let e' : k ≡ at = e in here k (omega arith) l
+    | inr o ↦ elim o [ inl lo ↦ w.tried k lo | inr hi ↦ here k (omega arith) l ]
+  ];
+  is_window = w.is_window;
+  stop = w.is_window.stop;
+  counts = w.counts;
+  owed = w.owed;
+}
+  where
+    here : (k : ℕ) → at ≤ k → k < window.pending → IsDeadAt (length items) (call_at items) (places ls) c k
+    here k a b rest h =
+        let f = t.return_floors_right.below at k a h.0.0 (inr (w.is_window.returned k b h.0)) in
+        dead_after (length items) (call_at items) (places ls) c window.least k w.is_window.is_least small (omega arith) (λ r q. t.ends k r h.0.0 q) rest h
 
 -- an operation that is not possible, by the invocation as it was read
 pub dead_impossible : (items : List Invocation) (o : Invocation) (done : List ℕ) (c : Content) (at : ℕ) → as_call o ≡ call_at items at
@@ -153,39 +177,39 @@ dead_impossible items o done c at e never = dead_not_possible (length items) (ca
 
 -- a remembered pair is met: the place that leads to it is dead
 pub hit : (n : ℕ) (call : ℕ → Call) (start : Content) (ls : List Level) (bs : List Content) (c after cp : Content) (nx pv nx2 : List ℕ)
-    (high at least left high2 hp : ℕ) (us : List ℕ) (gives : AnyReply) → IsWalk n call start ls bs c nx pv high at least left → at < n → next c (call at).op ≡ Some (after, gives) →
+    (high at : ℕ) (window : Window) (left high2 hp : ℕ) (us : List ℕ) (gives : AnyReply) → IsWalk n call start ls bs c nx pv high at window left → at < n → next c (call at).op ≡ Some (after, gives) →
     nx2 ≡ next_without nx pv at → Lists nx2 0 us high2 → high ≤ high2 → at < high2 → IsDeadPair n call hp us cp → hp ≡ high2 → cp ≡ after → IsDeadAt n call (places ls) c at
-hit n call start ls bs c after cp nx pv nx2 high at least left high2 hp us gives w l does en lists hi hat pair eh ec =
-    let link = walk_linked n call start ls bs c nx pv high at least left w in
-    let bound = walk_bound n call start ls bs c nx pv high at least left w in
-    let new_link = linked_without n (places ls) nx pv at link (walk_left n call start ls bs c nx pv high at least left w l) in
+hit n call start ls bs c after cp nx pv nx2 high at window left high2 hp us gives w l does en lists hi hat pair eh ec =
+    let link = walk_linked n call start ls bs c nx pv high at window left w in
+    let bound = walk_bound n call start ls bs c nx pv high at window left w in
+    let new_link = linked_without n (places ls) nx pv at link (walk_left n call start ls bs c nx pv high at window left w l) in
     let nb : IsBound (at ∷ places ls) high2 = λ k i. elim i [ inl e ↦ (let e' : k ≡ at = e in omega arith) | inr m ↦ (let b = bound k m in omega arith) ] in
     let des = listed n (at ∷ places ls) (next_without nx pv at) (before_without nx pv at) us high2 new_link nb (subst (λ (x : List ℕ). Lists x 0 us high2) en lists) in
     let here : IsDeadPair n call high2 us after = subst (λ (x : ℕ). IsDeadPair n call x us after) eh (subst (λ (x : Content). IsDeadPair n call hp us x) ec pair) in
     dead_child n call (places ls) c after at gives does (dead_again n call high2 us (at ∷ places ls) after here des)
 
 pub walk_within : (n : ℕ) (call : ℕ → Call) (start : Content) (ls : List Level) (bs : List Content) (c : Content) (nx pv : List ℕ)
-    (high at least left : ℕ) → IsWalk n call start ls bs c nx pv high at least left → at < n → AreWithin nx pv at
-walk_within n call start ls bs c nx pv high at least left w l =
-    within_before n (places ls) nx pv at (walk_linked n call start ls bs c nx pv high at least left w) (walk_left n call start ls bs c nx pv high at least left w l)
+    (high at : ℕ) (window : Window) (left : ℕ) → IsWalk n call start ls bs c nx pv high at window left → at < n → AreWithin nx pv at
+walk_within n call start ls bs c nx pv high at window left w l =
+    within_before n (places ls) nx pv at (walk_linked n call start ls bs c nx pv high at window left w) (walk_left n call start ls bs c nx pv high at window left w l)
 
 pub without_within : (n : ℕ) (call : ℕ → Call) (start : Content) (ls : List Level) (bs : List Content) (c : Content) (nx pv nx2 pv2 : List ℕ)
-    (high at least left : ℕ) → IsWalk n call start ls bs c nx pv high at least left → at < n → nx2 ≡ next_without nx pv at → pv2 ≡ before_without nx pv at → AreWithin nx2 pv2 at
-without_within n call start ls bs c nx pv nx2 pv2 high at least left w l en ep =
-    let link = walk_linked n call start ls bs c nx pv high at least left w in
-    let a = around n (places ls) nx pv at link (walk_left n call start ls bs c nx pv high at least left w l) in
+    (high at : ℕ) (window : Window) (left : ℕ) → IsWalk n call start ls bs c nx pv high at window left → at < n → nx2 ≡ next_without nx pv at → pv2 ≡ before_without nx pv at → AreWithin nx2 pv2 at
+without_within n call start ls bs c nx pv nx2 pv2 high at window left w l en ep =
+    let link = walk_linked n call start ls bs c nx pv high at window left w in
+    let a = around n (places ls) nx pv at link (walk_left n call start ls bs c nx pv high at window left w l) in
     subst (λ (x : List ℕ). AreWithin x pv2 at) (sym en) (subst (λ (y : List ℕ). AreWithin (next_without nx pv at) y at) (sym ep) (within_after n (places ls) nx pv at a link))
 
 -- taken out and put back
 pub walk_again : (n : ℕ) (call : ℕ → Call) (start : Content) (ls : List Level) (bs : List Content) (c : Content) (nx pv nx2 pv2 nx3 pv3 : List ℕ)
-    (high at least left : ℕ) → IsWalk n call start ls bs c nx pv high at least left → at < n → nx2 ≡ next_without nx pv at
-    → pv2 ≡ before_without nx pv at → nx3 ≡ next_with nx2 pv2 at → pv3 ≡ before_with nx2 pv2 at → IsWalk n call start ls bs c nx3 pv3 high at least left
-walk_again n call start ls bs c nx pv nx2 pv2 nx3 pv3 high at least left w l en ep fn fp =
-    let link = walk_linked n call start ls bs c nx pv high at least left w in
-    let a = around n (places ls) nx pv at link (walk_left n call start ls bs c nx pv high at least left w l) in
+    (high at : ℕ) (window : Window) (left : ℕ) → IsWalk n call start ls bs c nx pv high at window left → at < n → nx2 ≡ next_without nx pv at
+    → pv2 ≡ before_without nx pv at → nx3 ≡ next_with nx2 pv2 at → pv3 ≡ before_with nx2 pv2 at → IsWalk n call start ls bs c nx3 pv3 high at window left
+walk_again n call start ls bs c nx pv nx2 pv2 nx3 pv3 high at window left w l en ep fn fp =
+    let link = walk_linked n call start ls bs c nx pv high at window left w in
+    let a = around n (places ls) nx pv at link (walk_left n call start ls bs c nx pv high at window left w l) in
     let e : nx3 ≡ nx = fn ∙ ap (λ (x : List ℕ). next_with x pv2 at) en ∙ ap (λ (y : List ℕ). next_with (next_without nx pv at) y at) ep ∙ next_again n (places ls) nx pv at a in
     let f : pv3 ≡ pv = fp ∙ ap (λ (x : List ℕ). before_with x pv2 at) en ∙ ap (λ (y : List ℕ). before_with (next_without nx pv at) y at) ep ∙ before_again n (places ls) nx pv at a in
-    subst (λ (x : List ℕ). IsWalk n call start ls bs c x pv3 high at least left) (sym e) (subst (λ (y : List ℕ). IsWalk n call start ls bs c nx y high at least left) (sym f) w)
+    subst (λ (x : List ℕ). IsWalk n call start ls bs c x pv3 high at window left) (sym e) (subst (λ (y : List ℕ). IsWalk n call start ls bs c nx y high at window left) (sym f) w)
 
 pub below_end : (nx nx2 us : List ℕ) (i slot high place : ℕ) → nx2 ≡ nx
     → ((rest : List ℕ) → Lists nx slot rest high → Lists nx 0 (take i us ++ rest) high) → length us ≤ i → (slot < length nx2)
@@ -224,11 +248,11 @@ least_first items done nx pv at link ea =
     subst (λ (x : ℕ). IsLeastBelow (length items) (call_at items) done x 4294967295 × IsStop (length items) done x) (sym ea)
     (record { below = λ j r l jl q. absurd (jl.1 (f.gap j (omega arith) l)); stands = inl refl }, f.stop)
 
-pub least_last : (kind : Kind) (items : List Invocation) (floors done : List ℕ) (at least : ℕ) → IsArranged kind items floors
-    → IsLeastBelow (length items) (call_at items) done at least → ((length items ≤ at) ⊎ (least < get_or floors at 0)) → IsLeast (length items) (call_at items) done least
-least_last kind items floors done at least t m o = least_of_all (length items) (call_at items) done at least m (λ j r a b q. elim o [
+pub least_last : (kind : Kind) (items : List Invocation) (floors return_floors done : List ℕ) (pending at least : ℕ) → IsArranged kind items floors return_floors pending
+    → IsLeastBelow (length items) (call_at items) done at least → ((length items ≤ at) ⊎ (least < get_or return_floors at 0)) → IsLeast (length items) (call_at items) done least
+least_last kind items floors return_floors done pending at least t m o = least_of_all (length items) (call_at items) done at least m (λ j r a b q. elim o [
   | inl e ↦ absurd (omega arith)
-  | inr e ↦ let f = t.floors_right.below at j a b in let g = t.ends j r b q in omega arith
+  | inr e ↦ let f = t.return_floors_right.below at j a b (inr (subst IsSome (sym q) refl)) in let g = t.ends j r b q in omega arith
 ])
 
 -- one more place of those below `high`

@@ -1,6 +1,6 @@
 -- The operations of a search, in the order in which it tries them.
-use Rattle.std.specs.Prelude.{◌≡◌, ℕ, zero, suc, ◌<◌, ◌≤◌, ◌==◌, ◌&&◌, not, Bool, Some, List}
-use Rattle.std.specs.Prelude.{length, is_some, get_or, if◌then◌else◌}
+use Rattle.std.specs.Prelude.{◌≡◌, ℕ, zero, suc, ◌<◌, ◌≤◌, ◌==◌, ◌&&◌, ◌⊎◌, not, Bool, true, false}
+use Rattle.std.specs.Prelude.{Some, IsSome, List, length, is_some, get_or, if◌then◌else◌}
 use Rattle.std.specs.List.{list_any}
 use Rattle.model.specs.declared.Kind.{Kind}
 use Rattle.model.specs.declared.AnyOp.TheVariants.{Dequeue}
@@ -31,15 +31,22 @@ abbrev pub count_below : (ℕ → Bool) → ℕ → ℕ
 count_below f zero = 0
 count_below f (suc k) = if f k then suc (count_below f k) else count_below f k
 
--- no call from place j on was invoked before the floor at j
-pub record AreFloors (items : List Invocation) (floors : List ℕ) : Type 0 where
+-- no call from place j on was invoked before the floor at j: of all calls, or of those that returned
+pub record AreFloors (of_all : Bool) (items : List Invocation) (floors : List ℕ) : Type 0 where
   pub long : length floors ≡ length items
-  pub below : (j k : ℕ) → j ≤ k → k < length items → get_or floors j 0 ≤ (call_at items k).number
+  pub below : (j k : ℕ) → j ≤ k → k < length items
+      → (of_all ≡ true) ⊎ IsSome (call_at items k).returned
+      → get_or floors j 0 ≤ (call_at items k).number
 
--- there are not too many, they are of the kind, and each returned after it was invoked
-pub record IsArranged (kind : Kind) (items : List Invocation) (floors : List ℕ) : Type 0 where
+-- There are not too many, they are of the kind, and each returned after it was invoked. All below
+-- the place `pending` returned.
+pub record IsArranged (kind : Kind) (items : List Invocation) (floors return_floors : List ℕ)
+    (pending : ℕ) : Type 0 where
   pub few : length items ≤ max_places
-  pub floors_right : AreFloors items floors
+  pub floors_right : AreFloors true items floors
+  pub return_floors_right : AreFloors false items return_floors
+  pub within : pending ≤ length items
+  pub returned : (k : ℕ) → k < pending → IsSome (call_at items k).returned
   pub of_kind : (k : ℕ) → k < length items → kind_of (call_at items k).op ≡ kind
   pub ends : (k : ℕ) (r : Return) → k < length items → (call_at items k).returned ≡ Some r
       → (call_at items k).number < r.at

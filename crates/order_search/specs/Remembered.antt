@@ -1,5 +1,6 @@
 -- The pairs that a search remembers as dead.
-use Rattle.std.specs.Prelude.{◌≡◌, ℕ, ◌<◌, ◌⊎◌, List, [], ◌∷◌, ◌++◌, length}
+use Rattle.std.specs.Prelude.{◌≡◌, ℕ, ◌<◌, ◌⊎◌, List, [], ◌∷◌, ◌++◌, Option, Some, None}
+use Rattle.std.specs.Prelude.{length}
 use Rattle.std.specs.List.{HoldsAt}
 use Rattle.model.specs.Objects.{Content}
 use Rattle.reversible.specs.Undoing.{content_kept}
@@ -29,3 +30,8 @@ pub record IsRemembered (before : Dead) (pair : Pair) (after : Dead) : Type 0 wh
   pub is_kept : IsKept before kept
   pub older : after.older.pairs.items ≡ kept.older.pairs.items
   pub younger : after.younger.pairs.items ≡ kept.younger.pairs.items ++ pair ∷ []
+
+-- a pair is remembered, if there is one
+abbrev pub IsRememberedIfSome : Dead → Option Pair → Dead → Type 0
+IsRememberedIfSome before (Some pair) after = IsRemembered before pair after
+IsRememberedIfSome before None after = after ≡ before

@@ -1,5 +1,5 @@
 -- What holds between any two steps of a search.
-use Rattle.std.specs.Prelude.{◌≡◌, ℕ, ℤ, pos, ◌<◌, ◌≤◌, ◌⊎◌, List, [], ◌∷◌, Some, All, length, map}
+use Rattle.std.specs.Prelude.{◌≡◌, ℕ, ℤ, pos, ◌<◌, ◌≤◌, ◌⊎◌, List, [], ◌∷◌, Some, IsSome, All, length, map}
 use Rattle.std.specs.Prelude.{reverse}
 use Rattle.model.specs.Objects.{Content, empty}
 use Rattle.model.specs.Orders.{Call, Return}
@@ -7,6 +7,7 @@ use Rattle.model.proofs.Lists.{In}
 use Rattle.reversible.specs.Undoing.{content_of, content_kept, undone}
 use Rattle.reversible.specs.declared.step.Step.{Step}
 use Rattle.order_search.specs.declared.level.Level.{Level}
+use Rattle.order_search.specs.declared.level.Window.{Window}
 use Rattle.order_search.specs.declared.trials.Trials.{Trials}
 use Rattle.order_search.specs.declared.pairs.Pair.{Pair}
 use Rattle.order_search.specs.declared.dead.Dead.{Dead}
@@ -26,14 +27,20 @@ pub record IsLeast (n : ℕ) (call : ℕ → Call) (done : List ℕ) (least : �
   pub stands : (least ≡ no_return)
       ⊎ ((j : ℕ) × (r : Return) × IsLeft n done j × ((call j).returned ≡ Some r) × (least ≡ r.at))
 
+-- the least return, and a place that is left, or the end: all that are left below it have returned
+pub record IsWindow (n : ℕ) (call : ℕ → Call) (done : List ℕ) (window : Window) : Type 0 where
+  pub is_least : IsLeast n call done window.least
+  pub returned : (k : ℕ) → k < window.pending → IsLeft n done k → IsSome (call k).returned
+  pub stop : IsStop n done window.pending
+
 -- one level: what was placed, from which content to which
 pub record Frame (n : ℕ) (call : ℕ → Call) (done : List ℕ) (before after : Content)
-    (place least : ℕ) : Type 0 where
+    (place : ℕ) (window : Window) : Type 0 where
   pub left : IsLeft n done place
   pub candidate : IsCandidate n call done place
   pub placed : Places call place before after
   pub tried : IsTried n call done before place
-  pub is_least : IsLeast n call done least
+  pub is_window : IsWindow n call done window
 
 -- the contents before the levels, the last one first, by what undoes each
 abbrev pub befores : List Level → Content → List Content
@@ -53,7 +60,7 @@ Stack n call start [] [] now next back high = (now ≡ start) × Linked n [] nex
 Stack n call start [] (b ∷ before) now next back high = ⊥
 Stack n call start (l ∷ levels) [] now next back high = ⊥
 Stack n call start (l ∷ levels) (b ∷ before) now next back high =
-    Frame n call (places levels) b now l.place l.least
+    Frame n call (places levels) b now l.place l.window
     × Linked n (l.place ∷ places levels) next back
     × IsBound (l.place ∷ places levels) high × AreWithin next back l.place
     × Stack n call start levels before b (next_with next back l.place)
@@ -61,17 +68,18 @@ Stack n call start (l ∷ levels) (b ∷ before) now next back high =
 
 -- ls and bs: the levels and the contents before them, the last one first
 pub record IsWalk (n : ℕ) (call : ℕ → Call) (start : Content) (ls : List Level) (bs : List Content)
-    (c : Content) (nx pv : List ℕ) (high at least left : ℕ) : Type 0 where
+    (c : Content) (nx pv : List ℕ) (high at : ℕ) (window : Window) (left : ℕ) : Type 0 where
   pub stack : Stack n call start ls bs c nx pv high
   pub tried : IsTried n call (places ls) c at
-  pub is_least : IsLeast n call (places ls) least
+  pub is_window : IsWindow n call (places ls) window
   pub stop : IsStop n (places ls) at
   pub counts : left ≡ count_below (owes call (places ls)) n
   pub owed : 0 < left
 
 -- the operations are arranged for a search
 abbrev pub AreTrials : Trials → Type 0
-AreTrials t = IsArranged t.kind t.items.items t.floors.items
+AreTrials t =
+    IsArranged t.kind t.items.items t.floors.items t.return_floors.items t.pending
 
 -- the places make an order of all calls that returned, from the empty content
 abbrev pub IsOrder : Trials → List ℕ → Type 0
@@ -97,10 +105,13 @@ abbrev pub AreOwed : Trials → ℕ → Type 0
 AreOwed t left = left ≡ count_below (owes (call_at t.items.items) []) (length t.items.items)
 
 -- each remembered pair is dead
+abbrev pub IsPairDead : Trials → Pair → Type 0
+IsPairDead t p =
+    IsDeadPair (length t.items.items) (call_at t.items.items) p.high p.undone.items
+    (content_kept p.content)
+
 abbrev pub AreDead : Trials → List Pair → Type 0
-AreDead t pairs =
-    All (λ p. IsDeadPair (length t.items.items) (call_at t.items.items) p.high p.undone.items
-    (content_kept p.content)) pairs
+AreDead t pairs = All (IsPairDead t) pairs
 
 -- and so are those of both generations
 pub record AreAllDead (t : Trials) (d : Dead) : Type 0 where
@@ -111,7 +122,7 @@ pub record AreAllDead (t : Trials) (d : Dead) : Type 0 where
 pub record IsSearchingAt (t : Trials) (s : State) (c : Content) : Type 0 where
   pub walk : IsWalk (length t.items.items) (call_at t.items.items) (empty t.kind)
       (reverse s.levels.items) (befores (reverse s.levels.items) c) c s.undone.next.items
-      s.undone.before.items s.high s.at s.least s.left
+      s.undone.before.items s.high s.at s.window s.left
   pub dead : AreAllDead t s.dead
 
 abbrev pub IsSearching : Trials → State → Type 0

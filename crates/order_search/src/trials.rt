@@ -1,11 +1,11 @@
 //! The operations that a search is to order, in the order in which it tries them.
 
-ghost use Rattle.std.specs.Prelude.{◌≡◌, ◌<◌, ◌≤◌, length, IfOk, OnOk, All, AllPairs, filter};
-ghost use Rattle.std.specs.Prelude.{count_by, is_some};
+ghost use Rattle.std.specs.Prelude.{◌≡◌, ℕ, ◌<◌, ◌≤◌, length, IfOk, OnOk, IsSome, All, AllPairs};
+ghost use Rattle.std.specs.Prelude.{filter, count_by, is_some};
 ghost use Rattle.std.specs.List.Sorted.{IsPermutation};
 ghost use Rattle.model.specs.Objects.{kind_of};
 ghost use Rattle.events.specs.Operations.{call_of, calls_of, return_of, IsObjectHistory};
-ghost use Rattle.order_search.specs.Arranged.{AreFloors, IsArranged};
+ghost use Rattle.order_search.specs.Arranged.{AreFloors, IsArranged, call_at};
 ghost use Rattle.order_search.specs.Outcomes.{max_places};
 
 use events::{End, Invocation, ObjectHistory};
@@ -29,6 +29,10 @@ pub(crate) struct Trials {
     pub items: Vec<Invocation>,
     /// For each place the least number from there on.
     pub floors: Vec<u32>,
+    /// The same of the operations that returned.
+    pub return_floors: Vec<u32>,
+    /// All operations below this place have returned.
+    pub pending: u32,
 }
 
 /// Whether the operation may have happened.
@@ -55,17 +59,35 @@ pub(crate) fn return_count(operations: &[Invocation]) -> usize
     operations.iter().filter(|o| o.end.has_returned()).count()
 }
 
-/// For each place the least number from there on.
-fn floors_of(alloc: Global, items: &[Invocation]) -> Result<Vec<u32>, AllocError>
-    ensures { IfOk result (λ v. AreFloors items.now v.items) }
+/// For each place the least number from there on, of all operations or of those that returned.
+fn floors_of(alloc: Global, items: &[Invocation], of_all: bool) -> Result<Vec<u32>, AllocError>
+    ensures { IfOk result (λ v. AreFloors of_all items.now v.items) }
 {
-    let mut floors = vec![in alloc; 0u32; items.len()]?;
+    let mut floors = vec![in alloc; u32::MAX; items.len()]?;
     let mut least = u32::MAX;
     for k in (0..items.len()).rev() {
-        least = least.min(items[k].number);
+        if of_all || items[k].end.has_returned() {
+            least = least.min(items[k].number);
+        }
         floors[k] = least;
     }
     Ok(floors)
+}
+
+/// A place below which all operations have returned: the first one that has not, or the end.
+fn first_pending(items: &[Invocation]) -> u32
+    requires { length items.now ≤ max_places }
+    ensures within { result ≤ length items.now }
+    ensures returned { (k : ℕ) → k < result → IsSome (call_at items.now k).returned }
+{
+    let mut place: u32 = 0;
+    for item in items {
+        if !item.end.has_returned() {
+            break;
+        }
+        place += 1;
+    }
+    place
 }
 
 /// The number of the return, or one after all.
@@ -107,16 +129,21 @@ impl Trials {
         ensures kind { IfOk result (λ t. t.kind ≡ history.now.kind) }
         ensures items { IfOk result (λ t.
             IsPermutation (filter (λ o. is_some (call_of o)) history.now.ops) t.items.items) }
-        ensures arranged { IfOk result (λ t. IsArranged t.kind t.items.items t.floors.items) }
+        ensures arranged { IfOk result (λ t. IsArranged t.kind t.items.items t.floors.items
+            t.return_floors.items t.pending) }
     {
         let mut items = items_of(alloc, history.ops())?;
         arrange(&mut items, first)?;
-        let floors = floors_of(alloc, &items)?;
+        let floors = floors_of(alloc, &items, true)?;
+        let return_floors = floors_of(alloc, &items, false)?;
+        let pending = first_pending(&items);
         let kind = history.kind();
         Ok(Trials {
             kind,
             items,
             floors,
+            return_floors,
+            pending,
         })
     }
 }

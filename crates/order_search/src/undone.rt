@@ -1,6 +1,6 @@
 //! The operations that are not yet in the order, as a linked list.
 
-ghost use Rattle.std.specs.Prelude.{◌≡◌, ℕ, ◌+◌, ◌<◌, ◌≤◌, List, [], IfOk, IsTrue, length, get_or};
+ghost use Rattle.std.specs.Prelude.{◌≡◌, ◌≢◌, ℕ, ◌+◌, ◌<◌, ◌≤◌, List, [], IfOk, IsTrue, length, get_or};
 ghost use Rattle.order_search.specs.Links.{Linked, AreWithin, Lists, next_with, next_without};
 ghost use Rattle.order_search.specs.Links.{before_with, before_without};
 ghost use Rattle.order_search.specs.Outcomes.{max_places};
@@ -56,6 +56,19 @@ impl Undone {
         let next = self.next[place as usize + 1];
         self.next[slot as usize] = next;
         self.before[next as usize] = slot;
+    }
+
+    /// The place `pending` as it is once `place` is taken out: then it is the next one in the list.
+    pub fn pending_after(&self, pending: u32, place: u32) -> u32
+        requires { place + 1 < length self.now.next.items }
+        ensures same { place ≡ pending → result ≡ get_or self.now.next.items (place + 1) 0 }
+        ensures other { place ≢ pending → result ≡ pending }
+    {
+        if place == pending {
+            self.next[place as usize + 1]
+        } else {
+            pending
+        }
     }
 
     /// Puts back the place that was taken out last.

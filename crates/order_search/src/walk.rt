@@ -2,21 +2,22 @@
 
 ghost use Rattle.std.specs.Prelude.{◌≡◌, ℕ, ◌+◌, ◌<◌, ◌≤◌, ◌⊎◌, List, length, [], Some, None};
 ghost use Rattle.std.specs.Prelude.{IsSome, IfSome, IfOk, OnOk, map, reverse, is_some, true, false};
-ghost use Rattle.std.specs.Prelude.{if◌then◌else◌};
+ghost use Rattle.std.specs.Prelude.{if◌then◌else◌, get_or};
 ghost use Rattle.model.specs.Objects.{next};
 ghost use Rattle.model.specs.Orders.{Return};
 ghost use Rattle.events.specs.Operations.{return_of, Agrees};
 ghost use Rattle.reversible.specs.Undoing.{content_of};
-ghost use Rattle.order_search.specs.Arranged.{call_at};
+ghost use Rattle.order_search.specs.Arranged.{call_at, no_return};
 ghost use Rattle.order_search.specs.Links.{Linked};
 ghost use Rattle.order_search.specs.Outcomes.{max_places};
 ghost use Rattle.order_search.specs.Searching.{places, content_before, AreTrials, AreOwed, IsLeast};
 ghost use Rattle.order_search.specs.Searching.{IsOrder, IsNoOrder, IsDeadHere, IsDeadAtPlace};
+ghost use Rattle.order_search.specs.Searching.{IsPairDead};
 ghost use Rattle.order_search.specs.Searching.{IsSearching, IsSearchingAt};
 
 use crate::dead::Dead;
 use crate::digest::Digest;
-use crate::level::Level;
+use crate::level::{Level, Window};
 use crate::pairs::Pair;
 use crate::trials::Trials;
 use crate::undone::Undone;
@@ -58,7 +59,7 @@ fn least_return(trials: &Trials, undone: &Undone) -> u32
 {
     let mut least = u32::MAX;
     let mut at = undone.next[0] as usize;
-    while at < trials.items.len() && trials.floors[at] <= least {
+    while at < trials.items.len() && trials.return_floors[at] <= least {
         least = earlier(&trials.items[at].end, least);
         at = undone.next[at + 1] as usize;
     }
@@ -81,6 +82,9 @@ fn one_more(left: usize, end: &End) -> usize
     if end.has_returned() { left + 1 } else { left }
 }
 
+/// How many operations a pair that is remembered lists, where it lists all that are to return.
+const MOST_LISTED: usize = 4096;
+
 /// Where a search stands: the order that has begun, and the place that is looked at next.
 #[derive(Drop)]
 pub(crate) struct State {
@@ -92,8 +96,8 @@ pub(crate) struct State {
     /// All places in the order lie below.
     pub high: u32,
     pub at: u32,
-    /// The least return of the operations that are not in the order.
-    pub least: u32,
+    /// What can come next.
+    pub window: Window,
     /// How many operations returned and are not in the order.
     pub left: usize,
 }
@@ -109,6 +113,7 @@ impl State {
     {
         let undone = Undone::all(alloc, trials.items.len() as u32)?;
         let least = least_return(trials, &undone);
+        let pending = trials.pending;
         let at = undone.next[0];
         Ok(State {
             levels: Vec::new(alloc),
@@ -118,7 +123,7 @@ impl State {
             digest: Digest::new(),
             high: 0,
             at,
-            least,
+            window: Window { least, pending },
             left,
         })
     }
@@ -138,13 +143,30 @@ impl State {
         self.at = self.undone.next[self.at as usize + 1];
     }
 
+    /// Goes on to the first pending place, where all others that come before it were invoked too
+    /// late.
+    fn skip(&mut self, trials: &Trials)
+        requires trials { AreTrials trials.now }
+        requires search { IsSearching trials.now self.old }
+        requires before { self.old.at < self.old.window.pending }
+        requires small { self.old.window.least < no_return }
+        requires late { self.old.window.least < get_or trials.now.return_floors.items self.old.at 0 }
+        ensures search { IsSearching trials.now self.new }
+        ensures rises { self.old.at < self.new.at }
+        ensures levels { self.new.levels ≡ self.old.levels }
+    {
+        // The trials are there for the contract alone.
+        let _ = trials;
+        self.at = self.window.pending;
+    }
+
     /// Puts the operation, which was done, into the order, if that leads to no pair that is dead;
     /// else undoes it. Whether the order is done.
     fn go_on(&mut self, trials: &Trials, step: Step) -> Result<bool, AllocError>
         requires trials { AreTrials trials.now }
         requires search { IsSearchingAt trials.now self.old (content_before self.old step) }
         requires at { self.old.at < length trials.now.items.items }
-        requires in_time { (call_at trials.now.items.items self.old.at).number ≤ self.old.least }
+        requires in_time { (call_at trials.now.items.items self.old.at).number ≤ self.old.window.least }
         requires does { next (content_before self.old step)
             (call_at trials.now.items.items self.old.at).op
             ≡ Some (content_of self.old.object, step.reply) }
@@ -158,6 +180,7 @@ impl State {
         let item = &trials.items[place as usize];
         let digest = self.digest.after(place, &item.op, &step.reply);
         let high = self.high.max(place + 1);
+        let pending = self.undone.pending_after(self.window.pending, place);
         self.undone.take_out(place);
         if self
             .dead
@@ -171,7 +194,7 @@ impl State {
         self.levels.push(Level {
             place,
             undo: step.undo,
-            least: self.least,
+            window: self.window,
             high: self.high,
             digest: self.digest,
         })?;
@@ -181,7 +204,8 @@ impl State {
         }
         self.digest = digest;
         self.high = high;
-        self.least = least_return(trials, &self.undone);
+        let least = least_return(trials, &self.undone);
+        self.window = Window { least, pending };
         self.at = self.undone.next[0];
         Ok(false)
     }
@@ -191,7 +215,7 @@ impl State {
         requires trials { AreTrials trials.now }
         requires search { IsSearching trials.now self.old }
         requires at { self.old.at < length trials.now.items.items }
-        requires in_time { (call_at trials.now.items.items self.old.at).number ≤ self.old.least }
+        requires in_time { (call_at trials.now.items.items self.old.at).number ≤ self.old.window.least }
         requires possible { IsSome
             (next (content_of self.old.object) (call_at trials.now.items.items self.old.at).op) }
         ensures search { IfOk result (λ over. over ≡ false → IsSearching trials.now self.new) }
@@ -209,6 +233,25 @@ impl State {
         self.go_on(trials, step)
     }
 
+    /// The pair at which the search stands, where it lists few operations. Once a pending one is in
+    /// the order, all that are to return are listed.
+    fn pair_here(&self, alloc: Global, trials: &Trials) -> Result<Option<Pair>, AllocError>
+        requires trials { AreTrials trials.now }
+        requires search { IsSearching trials.now self.now }
+        requires dead_here { IsDeadHere trials.now self.now }
+        ensures { IfOk result (λ o. IfSome o (IsPairDead trials.now)) }
+    {
+        if self.high > trials.pending && self.left > MOST_LISTED {
+            return Ok(None);
+        }
+        Ok(Some(Pair {
+            hash: self.digest.hash(),
+            high: self.high,
+            undone: self.undone.below(alloc, self.high)?,
+            content: Kept::of(alloc, &self.object)?,
+        }))
+    }
+
     /// Remembers where the search stands as dead, and goes back to the level before. Whether there
     /// is one.
     fn come_back(&mut self, alloc: Global, trials: &Trials) -> Result<bool, AllocError>
@@ -220,22 +263,17 @@ impl State {
         ensures back { IfOk result (λ more. more ≡ true →
             length self.old.levels.items ≡ length self.new.levels.items + 1) }
     {
+        let pair = self.pair_here(alloc, trials)?;
         let Some(level) = self.levels.pop() else {
             return Ok(false);
         };
-        let pair = Pair {
-            hash: self.digest.hash(),
-            high: self.high,
-            undone: self.undone.below(alloc, self.high)?,
-            content: Kept::of(alloc, &self.object)?,
-        };
-        self.dead.remember(alloc, pair)?;
+        self.dead.remember_if_some(alloc, pair)?;
         self.object.undo(level.undo)?;
         self.undone.put_back(level.place);
         self.left = one_more(self.left, &trials.items[level.place as usize].end);
         self.digest = level.digest;
         self.high = level.high;
-        self.least = level.least;
+        self.window = level.window;
         self.at = self.undone.next[level.place as usize + 1];
         Ok(true)
     }
@@ -261,14 +299,18 @@ impl State {
     {
         loop {
             let at = self.at as usize;
-            if at >= trials.items.len() || trials.floors[at] > self.least {
+            if at >= trials.items.len() || trials.floors[at] > self.window.least {
                 if !self.come_back(alloc, trials)? {
                     return Ok(Ending::Impossible);
                 }
                 continue;
             }
+            if self.at < self.window.pending && trials.return_floors[at] > self.window.least {
+                self.skip(trials);
+                continue;
+            }
             let item = &trials.items[at];
-            if item.number > self.least || !self.object.is_possible(&item.op) {
+            if item.number > self.window.least || !self.object.is_possible(&item.op) {
                 self.pass(trials);
                 continue;
             }

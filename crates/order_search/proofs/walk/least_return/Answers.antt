@@ -37,17 +37,17 @@ loop-at-preserved c = λ done link.
 pub returns-else-index-least : goal.returns-else-index-least
 returns-else-index-least c = λ done link.
     let t = c.requires.trials in
-    let floors = c.args.trials.now.floors.items in
+    let floors = c.args.trials.now.return_floors.items in
     let at = c.loop-at.at in
     let l = c.loop-at-test.true in
-    let long = t.floors_right.long in
+    let long = t.return_floors_right.long in
     let inside : at < length floors = omega arith in
     let e = c.index-in-loop-at.ensures ∙ get_or_default floors at _ 0 inside in
     let f = c.if-index-least.false in
-    least_last c.args.trials.now.kind c.args.trials.now.items.items floors done at c.loop-at.least t (c.loop-at.invariant done link).0 (inr (omega arith))
+    least_last c.args.trials.now.kind c.args.trials.now.items.items c.args.trials.now.floors.items floors done c.args.trials.now.pending at c.loop-at.least t (c.loop-at.invariant done link).0 (inr (omega arith))
 
 pub returns-after-loop-at : goal.returns-after-loop-at
 returns-after-loop-at c = λ done link.
     let t = c.requires.trials in
     let l = c.loop-at-test.false in
-    least_last c.args.trials.now.kind c.args.trials.now.items.items c.args.trials.now.floors.items done c.loop-at.at c.loop-at.least t (c.loop-at.invariant done link).0 (inl (omega arith))
+    least_last c.args.trials.now.kind c.args.trials.now.items.items c.args.trials.now.floors.items c.args.trials.now.return_floors.items done c.args.trials.now.pending c.loop-at.at c.loop-at.least t (c.loop-at.invariant done link).0 (inl (omega arith))

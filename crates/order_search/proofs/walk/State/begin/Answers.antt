@@ -3,6 +3,7 @@ use Rattle.std.proofs.lemmas.List.{get_or_default}
 use Rattle.model.specs.Objects.{empty}
 use Rattle.order_search.specs.Arranged.{call_at}
 use Rattle.order_search.specs.Links.{Linked}
+use Rattle.order_search.specs.Searching.{IsWindow}
 use Rattle.order_search.proofs.Levels.{begun}
 use Rattle.order_search.proofs.Generations.{none_dead}
 use Rattle.order_search.proofs.walk.State.begin.Goals as goal
@@ -15,10 +16,15 @@ returns-clause-search c =
     let len : c.len.result ≡ length items = omega (arith, c.len.ensures) in
     let link = subst (λ n. Linked n [] u.next.items u.before.items) len c.in_ok-undone.ensures in
     let long = link.long_next in
+    let window : IsWindow (length items) (call_at items) [] (record { least = c.least_return-least.result; pending = t.pending }) = record {
+      is_least = c.least_return-least.ensures [] link;
+      returned = λ k b i. c.requires.trials.returned k b;
+      stop = record { within = c.requires.trials.within; left = λ m i. absurd i };
+    } in
     record {
       walk = begun (length items) (call_at items) (empty t.kind) _ c.new.result.items u.next.items u.before.items c.index-at.result.now
-          c.least_return-least.result c.args.left c.new.ensures.items c.empty.ensures link
-          (c.index-at.ensures ∙ get_or_default u.next.items 0 _ 0 (omega arith)) (c.least_return-least.ensures [] link) c.requires.counts c.requires.owed;
+          (record { least = c.least_return-least.result; pending = t.pending }) c.args.left c.new.ensures.items c.empty.ensures link
+          (c.index-at.ensures ∙ get_or_default u.next.items 0 _ 0 (omega arith)) window c.requires.counts c.requires.owed;
       dead = record {
         older = none_dead t c.in_ok-new.field-0.older.pairs.items c.in_ok-new.ensures.older;
         younger = none_dead t c.in_ok-new.field-0.younger.pairs.items c.in_ok-new.ensures.younger;

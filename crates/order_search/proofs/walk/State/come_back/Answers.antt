@@ -3,11 +3,10 @@ use Rattle.std.proofs.lemmas.List.{get_or_default, length-set}
 use Rattle.model.specs.Objects.{empty}
 use Rattle.reversible.specs.Undoing.{content_of, undone}
 use Rattle.order_search.specs.Arranged.{as_call, call_at, owes}
-use Rattle.order_search.specs.Continuations.{IsDeadPair}
 use Rattle.order_search.specs.Searching.{places, befores, IsWalk}
-use Rattle.order_search.proofs.Steps.{popped_within, call_read, back_walk, dead_pair, count_le}
+use Rattle.order_search.proofs.Steps.{popped_within, call_read, back_walk, count_le}
 use Rattle.order_search.proofs.Levels.{befores_more}
-use Rattle.order_search.proofs.Generations.{remembered_dead}
+use Rattle.order_search.proofs.Generations.{remembered_some}
 use Rattle.order_search.proofs.walk.State.come_back.Goals as goal
 
 pub one_more-self-requires : goal.one_more-self-requires
@@ -41,19 +40,15 @@ returns-clause-search c = λ e.
     let ln = ap length c.put_back.ensures.next ∙ length-set a.undone.next.items _ _ in
     let w = p.0.here_next in
     let inside : level.place + 1 < length c.put_back.new.self.next.items = omega arith in
-    let d = dead_pair (length t.items.items) (call_at t.items.items) (empty t.kind) (reverse a.levels.items)
-    (befores (reverse a.levels.items) (content_of a.object)) (content_of a.object) a.undone.next.items a.undone.before.items a.high a.at a.least
-    a.left c.in_ok-below.field-0.items c.requires.search.walk c.requires.dead_here c.in_ok-below.ensures in
     let walk = back_walk t.items.items c.index.result.now (empty t.kind) a.levels.items c.pop.new.self.items level _
     (befores (reverse c.pop.new.self.items) before) before before (content_of a.object) a.undone.next.items a.undone.before.items
-    c.put_back.new.self.next.items c.put_back.new.self.before.items a.high a.at a.least a.left c.index-2.result.now c.one_more-self.result
+    c.put_back.new.self.next.items c.put_back.new.self.before.items a.high a.at a.window a.left c.index-2.result.now c.one_more-self.result
     c.in-Some.ensures.items befores_are c.requires.search.walk c.requires.dead_here
     refl c.put_back.ensures.next c.put_back.ensures.before (c.index-2.ensures ∙ get_or_default c.put_back.new.self.next.items (level.place + 1) _ 0 inside)
     (ap as_call c.index.ensures ∙ call_read t.items.items level.place _ p.1) c.one_more-self.ensures in
     record {
       walk = subst (λ x. IsWalk (length t.items.items) (call_at t.items.items) (empty t.kind) (reverse c.pop.new.self.items)
           (befores (reverse c.pop.new.self.items) x) x c.put_back.new.self.next.items c.put_back.new.self.before.items level.high c.index-2.result.now
-          level.least c.one_more-self.result) (sym c.in_ok-undo.ensures) walk;
-      dead = remembered_dead t a.dead _ _ c.requires.search.dead
-          (subst (λ o. IsDeadPair (length t.items.items) (call_at t.items.items) a.high c.in_ok-below.field-0.items o) (sym c.in_ok-of.ensures) d) c.in_ok-remember.ensures;
+          level.window c.one_more-self.result) (sym c.in_ok-undo.ensures) walk;
+      dead = remembered_some t a.dead _ _ c.requires.search.dead c.in_ok-pair.ensures c.in_ok-remember_if_some.ensures;
     }

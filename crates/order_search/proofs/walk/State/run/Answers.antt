@@ -14,8 +14,8 @@ pub come_back-requires-clause-dead_here : goal.come_back-requires-clause-dead_he
 come_back-requires-clause-dead_here c =
     let s = c.loop-self.self in
     let t = c.args.trials.now in
-    dead_here t.kind t.items.items t.floors.items (empty t.kind) (reverse s.levels.items) (befores (reverse s.levels.items) (content_of s.object))
-    (content_of s.object) s.undone.next.items s.undone.before.items s.high s.at s.least s.left c.requires.trials c.loop-self.invariant.search.walk
+    dead_here t.kind t.items.items t.floors.items t.return_floors.items t.pending (empty t.kind) (reverse s.levels.items) (befores (reverse s.levels.items) (content_of s.object))
+    (content_of s.object) s.undone.next.items s.undone.before.items s.high s.at s.window s.left c.requires.trials c.loop-self.invariant.search.walk
     (elim c.then-at-len.branch [
       | then-at-len-via-then-at-len w ↦ inl (omega (arith, w.if-at-len.true))
       | then-at-len-via-else-at-len+then-index-self w ↦
@@ -31,9 +31,9 @@ pass-requires-clause-dead_at c =
     let l : s.at < length t.items.items = omega (arith, c.if-at-len.false) in
     let here = ap as_call c.index-item.ensures ∙ call_read t.items.items s.at _ l in
     elim c.then-item-self.branch [
-      | then-item-self-via-then-item-self w ↦ dead_too_late t.kind t.items.items t.floors.items c.index-item.result.now (empty t.kind)
+      | then-item-self-via-then-item-self w ↦ dead_too_late t.kind t.items.items t.floors.items t.return_floors.items t.pending c.index-item.result.now (empty t.kind)
           (reverse s.levels.items) (befores (reverse s.levels.items) (content_of s.object)) (content_of s.object) s.undone.next.items
-          s.undone.before.items s.high s.at s.least s.left c.requires.trials c.loop-self.invariant.search.walk l here (omega (arith, w.if-item-self.true)) w.if-item-self.true
+          s.undone.before.items s.high s.at s.window s.left c.requires.trials c.loop-self.invariant.search.walk l here (omega (arith, w.if-item-self.true)) w.if-item-self.true
       | then-item-self-via-else-item-self+then-not-is_possible w ↦ dead_impossible t.items.items c.index-item.result.now
           (places (reverse s.levels.items)) (content_of s.object) s.at here (λ h. let p = w.is_possible.ensures.1 h in let f = w.if-not-is_possible.true in absurd (cc (p, f)))
     ]
