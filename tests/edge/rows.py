@@ -654,7 +654,7 @@ REFUTATIONS = [
     refute("no step", THREE_VALUES, TWO_OF_THREE, "object 0: not shown: out of steps after 0\n", 3, "--steps", "0"),
     refute("the whole, and no step", THREE_VALUES, "{:object 0}", "object 0: not shown: out of steps after 0\n", 3, "--steps", "0"),
     refute("a history that is linearizable", OVERLAPPING, "{:object 0}", "object 0: not shown: the part has a valid order\n", 3),
-    refute("too many to search", TOO_MANY_TO_SEARCH, "{:object 0}", "object 0: not shown: too large\n", 3),
+    refute("more than `search` takes", TOO_MANY_TO_SEARCH, "{:object 0}", "object 0: not shown: the part has a valid order\n", 3),
     refute("a malformed history", AFTER_INFO, "{:object 0}", "malformed history: H8 at map 2\n", 2),
     refute("reasons that spell no forms", THREE_VALUES, "{:object 0", "malformed reasons: E2 at byte 10\n", 2),
     refute("a form that is no reason", THREE_VALUES, "{:object 0} 7", "malformed reasons: N1 at form 1\n", 2),

@@ -3,7 +3,7 @@
 use crate::mutex::mutex_order;
 use cell_orders::order_of_cells;
 use events::{Invocation, ObjectHistory};
-use order_search::{Outcome, TryFirst, find_order};
+use order_search::{Outcome, TryFirst, find_order_of_any_size};
 use seq_objects::Kind;
 use stack_search::searched_stack_order;
 use std::alloc::{AllocError, Global};
@@ -21,7 +21,7 @@ pub enum Method {
     /// The same for a queue, stack or heap in which it can be chosen which removal takes which
     /// value, with another choice.
     OtherPairs,
-    /// The bounded search, where there are few enough operations for it.
+    /// The bounded search.
     Search,
 }
 
@@ -75,7 +75,7 @@ fn most_steps(operations: usize) -> u64 {
 /// The order that the bounded search finds, if it finds one.
 fn searched_order(alloc: Global, history: &ObjectHistory) -> Result<Option<Vec<i64>>, AllocError> {
     let limit = most_steps(history.ops().len());
-    match find_order(alloc, history, TryFirst::LeastReturn, limit).outcome {
+    match find_order_of_any_size(alloc, history, TryFirst::LeastReturn, limit).outcome {
         Outcome::Found(order) => Ok(Some(order)),
         Outcome::NoMemory => Err(AllocError),
         Outcome::Impossible | Outcome::OutOfSteps | Outcome::TooLarge => Ok(None),

@@ -55,8 +55,8 @@ pub fn find_by_kind(alloc: Global, history: &ObjectHistory) -> Result<FindOutcom
     Ok(FindOutcome::Open)
 }
 
-/// Looks for a certificate of an object by the methods that are made for its kind, and then, among
-/// at most 4,096 operations, by a bounded search of 20,000 steps and 20 more for each operation.
+/// Looks for a certificate of an object by the methods that are made for its kind, and then by a
+/// bounded search of 20,000 steps and 20 more for each operation.
 pub fn find(alloc: Global, history: &ObjectHistory) -> Result<FindOutcome, AllocError>
     ensures valid { IfOk result (λ f. IfOrder f
         (IsFor history.now.object history.now.kind (calls_of history.now.ops))) }

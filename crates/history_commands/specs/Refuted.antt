@@ -78,7 +78,6 @@ doubt_text limit Possible = codes ": not shown: the part has a valid order\n"
 doubt_text limit NotOverdrawn = codes ": not shown: the count is not exceeded\n"
 doubt_text limit OutOfSteps =
     codes ": not shown: out of steps after " ++ (decimal limit ++ codes "\n")
-doubt_text limit doubt.TooLarge = codes ": not shown: too large\n"
 doubt_text limit doubt.NoMemory = codes ": not shown: out of memory\n"
 
 -- the lines of an answer on an object of this many calls: where no order is valid, with the

@@ -157,7 +157,6 @@ fn push_doubt(text: &mut Vec<u8>, steps: u32, doubt: Doubt) -> Result<(), AllocE
             push_decimal(text, u64::from(steps))?;
             text.extend_from_slice(b"\n")
         }
-        Doubt::TooLarge => text.extend_from_slice(b": not shown: too large\n"),
         Doubt::NoMemory => text.extend_from_slice(b": not shown: out of memory\n"),
     }
 }

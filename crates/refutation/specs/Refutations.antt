@@ -1,11 +1,11 @@
 -- What is answered of a reason why no order of an object's operations is valid.
-use Rattle.std.specs.Prelude.{◌≡◌, ◌≢◌, ℕ, ℤ, ◌<◌, Bool, true, false, ⊤, List, Any, IsSome, length}
+use Rattle.std.specs.Prelude.{◌≡◌, ◌≢◌, ℕ, ℤ, Bool, true, false, ⊤, List, Any, IsSome}
 use Rattle.model.specs.declared.Kind.{Kind}
 use Rattle.model.specs.Orders.{Call, IsValidOrder, calls_on}
 use Rattle.events.specs.declared.event.Event.{Event}
 use Rattle.events.specs.Events.{kind_at, denoted, IsNamed}
 use Rattle.events.specs.Operations.{ObjectCalls, calls_of}
-use Rattle.order_search.specs.Outcomes.{max_operations, IsNoneValid}
+use Rattle.order_search.specs.Outcomes.{IsNoneValid}
 use Rattle.projection.specs.declared.cutting.Cut.{Cut}
 use Rattle.projection.specs.Counts.{IsOverdrawn}
 use Rattle.projection.specs.Cuts.{NamesPart, part_kind}
@@ -14,7 +14,7 @@ use Rattle.refutation.specs.declared.reason.Evidence.TheVariants.{Search, Counti
 use Rattle.refutation.specs.declared.reason.Reason.{Reason}
 use Rattle.refutation.specs.declared.refuting.Doubt.{Doubt}
 use Rattle.refutation.specs.declared.refuting.Doubt.TheVariants.{Possible, NotOverdrawn, OutOfSteps}
-use Rattle.refutation.specs.declared.refuting.Doubt.TheVariants.{TooLarge, NoMemory}
+use Rattle.refutation.specs.declared.refuting.Doubt.TheVariants.{NoMemory}
 use Rattle.refutation.specs.declared.refuting.Refutation.{Refutation}
 use Rattle.refutation.specs.declared.refuting.Refutation.TheVariants as refutation
 
@@ -55,8 +55,6 @@ IsDoubt evidence part Possible =
     IsSearch evidence × (order : List ℤ) × IsValidOrder part.kind (calls_of part.ops) order
 IsDoubt evidence part NotOverdrawn = IsNotOverdrawn evidence part
 IsDoubt evidence part OutOfSteps = IsSearch evidence
-IsDoubt evidence part TooLarge =
-    IsSearch evidence × (max_operations < length (calls_of part.ops))
 IsDoubt evidence part NoMemory =
     IsSearch evidence × Any (λ call. IsSome call.returned) (calls_of part.ops)
 

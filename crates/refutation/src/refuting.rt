@@ -10,7 +10,7 @@ ghost use Rattle.refutation.specs.Refutations.{IsNamedPart};
 
 use crate::reason::{Evidence, Reason};
 use events::ObjectHistory;
-use order_search::{Attempt, Outcome, TryFirst, find_order};
+use order_search::{Attempt, Outcome, TryFirst, find_order_of_any_size};
 use projection::{Count, is_overdrawn, part_by};
 use std::alloc::{AllocError, Global};
 
@@ -21,10 +21,8 @@ pub enum Doubt {
     Possible,
     /// In the part the content was not taken away more often than it can have been there.
     NotOverdrawn,
-    /// One more step of the search was wanted.
+    /// The search reached its limit of steps.
     OutOfSteps,
-    /// The part has more than 4,096 operations that did not fail.
-    TooLarge,
     /// The search was refused memory.
     NoMemory,
 }
@@ -47,12 +45,12 @@ fn doubt_of_search(alloc: Global, part: &ObjectHistory, limit: u64) -> Option<Do
     ensures shown { result ≡ None → IsNoneValid part.now.kind (calls_of part.now.ops) }
     ensures doubt { IfSome result (IsDoubt Evidence.Search part.now) }
 {
-    let Attempt { outcome, .. } = find_order(alloc, part, TryFirst::LeastNumber, limit);
+    let Attempt { outcome, .. } =
+        find_order_of_any_size(alloc, part, TryFirst::LeastNumber, limit);
     match outcome {
         Outcome::Found(_) => Some(Doubt::Possible),
         Outcome::Impossible => None,
-        Outcome::OutOfSteps => Some(Doubt::OutOfSteps),
-        Outcome::TooLarge => Some(Doubt::TooLarge),
+        Outcome::OutOfSteps | Outcome::TooLarge => Some(Doubt::OutOfSteps),
         Outcome::NoMemory => Some(Doubt::NoMemory),
     }
 }
