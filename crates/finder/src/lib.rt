@@ -1,8 +1,8 @@
 //! A finder of certificates for long histories too. What it finds is checked before it is handed
 //! out, so nothing else of it is trusted; what it does not find is open.
 //!
-//! First it tries the methods that `candidate_orders` has for the object's kind, then, on objects of
-//! at most 4,096 operations, a bounded search. What these do not find stays open.
+//! First it tries the methods that `candidate_orders` has for the object's kind, then a bounded
+//! search. What these do not find stays open.
 #![tactic(auto)]
 
 mod all;
