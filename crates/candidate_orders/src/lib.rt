@@ -7,7 +7,9 @@
 //! not find each.
 #![tactic(auto)]
 
+mod keys;
 mod methods;
 mod mutex;
 
+pub use keys::open_keys;
 pub use methods::{Method, order_by};

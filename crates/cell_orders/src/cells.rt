@@ -37,3 +37,22 @@ pub fn order_of_cells(alloc: Global, timeline: &Timeline) -> Result<Option<Vec<i
         .collect(alloc)?;
     Ok(Some(order))
 }
+
+/// The most keys that are named as open.
+const MOST_OPEN: usize = 16;
+
+/// The keys of a map for whose calls no order was found: the first 16 of them.
+pub fn open_keys(alloc: Global, timeline: &Timeline) -> Result<Vec<i64>, AllocError> {
+    let mut open = Vec::new(alloc);
+    for cell in &cells_of(alloc, &timeline.calls)? {
+        if open.len() >= MOST_OPEN {
+            break;
+        }
+        if let Some(key) = cell.key
+            && searched_order(alloc, &cell.accesses)?.is_none()
+        {
+            open.push(key)?;
+        }
+    }
+    Ok(open)
+}

@@ -14,4 +14,4 @@ mod demands;
 mod search;
 mod waiting;
 
-pub use cells::order_of_cells;
+pub use cells::{open_keys, order_of_cells};

@@ -7,11 +7,13 @@ ghost use Rattle.projection.specs.Cuts.{IsPart, NamesPart, part_kind};
 ghost use Rattle.reason_finder.specs.Reasons.{IsReasonFor, IsShownBy};
 
 use candidate_reasons::{Pattern, propose};
-use events::ObjectHistory;
-use order_search::{Outcome, TryFirst, find_order};
-use projection::{is_overdrawn, part_by};
+use events::{End, Invocation, ObjectHistory};
+use order_search::{Outcome, TryFirst, find_order_of_any_size};
+use projection::{Cut, Values, is_overdrawn, part_by};
 use refutation::{Evidence, Reason};
+use seq_objects::AnyOp;
 use std::alloc::{AllocError, Global};
+use std::collections::BTreeSet;
 
 /// A reason that was found and checked.
 #[derive(Drop)]
@@ -33,7 +35,7 @@ fn is_shown(alloc: Global, evidence: Evidence, part: &ObjectHistory, limit: u64)
 {
     match evidence {
         Evidence::Search => {
-            let attempt = find_order(alloc, part, TryFirst::LeastNumber, limit);
+            let attempt = find_order_of_any_size(alloc, part, TryFirst::LeastReturn, limit);
             matches!(attempt.outcome, Outcome::Impossible)
         }
         Evidence::Counting(count) => is_overdrawn(part, count),
@@ -93,4 +95,63 @@ pub fn find_reason(
         pattern: proposal.pattern,
         key: proposal.key,
     }))
+}
+
+/// Whether an operation of a map is on this key, and did not fail.
+fn is_on(operation: &Invocation, key: i64) -> bool {
+    let own = match operation.op {
+        AnyOp::Put(own, _) => own,
+        AnyOp::Get(own) => own,
+        AnyOp::Del(own) => own,
+        _ => return false,
+    };
+    let has_failed = matches!(operation.end, End::Failed);
+    own == key && !has_failed
+}
+
+/// The cut that keeps the operations on one key of a map.
+fn cut_of(alloc: Global, operations: &[Invocation], key: i64) -> Result<Cut, AllocError> {
+    let mut values = BTreeSet::new(alloc);
+    values.insert(key)?;
+    let mut numbers = BTreeSet::new(alloc);
+    for operation in operations {
+        if is_on(operation, key) {
+            numbers.insert(operation.number)?;
+        }
+    }
+    Ok(Cut::Keep {
+        values: Values::Only(values),
+        numbers,
+    })
+}
+
+/// The reason that the operations on one key of a map have no valid order, if a search that tries
+/// at most `limit` operations shows it. `None`: they may have one, or none.
+///
+/// An error: the allocator refused memory.
+pub fn find_reason_on(
+    alloc: Global,
+    history: &ObjectHistory,
+    key: i64,
+    limit: u64,
+) -> Result<Option<FoundReason>, AllocError>
+    ensures reason { IfOk result (λ o. IfSome o (IsReasonFor
+        history.now.object history.now.kind (calls_of history.now.ops))) }
+{
+    let mut cuts = Vec::new(alloc);
+    cuts.push(cut_of(alloc, history.ops(), key)?)?;
+    let reason = Reason {
+        object: history.object(),
+        cuts,
+        evidence: Evidence::Search,
+    };
+    match checked_part(alloc, history, &reason, limit)? {
+        Some(part) => Ok(Some(FoundReason {
+            reason,
+            part,
+            pattern: Pattern::General,
+            key: Some(key),
+        })),
+        None => Ok(None),
+    }
 }

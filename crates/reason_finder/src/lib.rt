@@ -6,4 +6,4 @@ mod all;
 mod finding;
 
 pub use all::find_reasons;
-pub use finding::{FoundReason, find_reason};
+pub use finding::{FoundReason, find_reason, find_reason_on};

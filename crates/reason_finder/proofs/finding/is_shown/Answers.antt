@@ -4,7 +4,7 @@ use Rattle.reason_finder.specs.Reasons.{IsShownBy}
 use Rattle.reason_finder.proofs.finding.is_shown.Goals as goal
 
 pub returns-in-Impossible-clause-shown : goal.returns-in-Impossible-clause-shown
-returns-in-Impossible-clause-shown c e = subst (λ (v : Evidence). IsShownBy v c.args.part.now) (sym c.in-Search.is) (c.find_order-attempt.ensures.impossible c.in-Impossible.is)
+returns-in-Impossible-clause-shown c e = subst (λ (v : Evidence). IsShownBy v c.args.part.now) (sym c.in-Search.is) (c.find_order_of_any_size-attempt.ensures.impossible c.in-Impossible.is)
 
 pub returns-in-Impossible-clause-impossible : goal.returns-in-Impossible-clause-impossible
-returns-in-Impossible-clause-impossible c e = c.find_order-attempt.ensures.impossible c.in-Impossible.is
+returns-in-Impossible-clause-impossible c e = c.find_order_of_any_size-attempt.ensures.impossible c.in-Impossible.is
