@@ -298,6 +298,22 @@ PENDING_ENTRY = lines(
     ok(0, "get", 1),
 )
 
+# A put of 2 and a get overlap the put of 1, which the get does not see; 2 is found, and then 5, which both puts have replaced.
+OVERLAPPING_PUTS = lines(
+    invoke(0, "put", (7, 5)),
+    ok(0, "put"),
+    invoke(1, "put", (7, 2)),
+    invoke(2, "get", 7),
+    invoke(0, "put", (7, 1)),
+    ok(0, "put", 5),
+    ok(2, "get", 5),
+    ok(1, "put", 1),
+    invoke(0, "get", 7),
+    ok(0, "get", 2),
+    invoke(0, "get", 7),
+    ok(0, "get", 5),
+)
+
 # No value is found under key 7, and then value 1, which was put there before.
 SEEN_AFTER_NONE = lines(
     invoke(0, "put", (7, 1)),
@@ -406,6 +422,8 @@ PROJECTIONS = (
     (REMOVED, "{:keep [7], :numbers [0 4 8]}", IMPOSSIBLE),
     (REMOVED, "{:until 8}", POSSIBLE),
     (REMOVED, "{:until 8} {:keep [7], :numbers [0]}", NO_PART),
+    (GONE, "{:keep [7], :numbers [0 4]}", NO_PART),
+    (GONE, "{:keep [7], :numbers [0 2 4]}", POSSIBLE),
     (CROSSED, "", POSSIBLE),
     (CROSSED, "{:keep :all, :numbers [2 4]}", NO_PART),
 )
@@ -426,6 +444,10 @@ REGISTERS = (
     (SWAPPED, "{:cell [], :other 0, :numbers [6]}", POSSIBLE),
     (PENDING_SWAP, "", POSSIBLE),
     (PENDING_SWAP, "{:keep [3 12], :numbers [3]}", NO_PART),
+    # The pending swap expects 2, which is left out.
+    (PENDING_SWAP, "{:keep [3 12], :numbers [2 3]}", NO_PART),
+    (PENDING_SWAP, "{:keep [3 12], :numbers [0 2 3]}", NO_PART),
+    (PENDING_SWAP, "{:keep [2 3 12], :numbers [0 2 3]}", POSSIBLE),
     (PENDING_SWAP, "{:cell [3 12], :other 0}", POSSIBLE),
     # The read of 7 shows that 1 was over; the write of 7 is not needed.
     (SEEN_AFTER_ANOTHER, "{:cell [1], :other 0, :numbers [3 5]}", IMPOSSIBLE),
@@ -489,6 +511,12 @@ WINDOWS = (
     # A suffix of a map is on one key.
     (REMOVED, "{:from 4}", NO_PART),
     (REMOVED, "{:keep [7], :numbers [0 4 8]} {:from 4}", IMPOSSIBLE),
+    # A put and a get that overlap the first call may be left out, and the put may also be done after it, whatever it found.
+    (OVERLAPPING_PUTS, "{:until 10}", POSSIBLE),
+    (OVERLAPPING_PUTS, "{:from 4} {:until 10}", POSSIBLE),
+    (OVERLAPPING_PUTS, "{:from 4}", IMPOSSIBLE),
+    (OVERLAPPING_PUTS, "{:from 3} {:until 10}", POSSIBLE),
+    (OVERLAPPING_PUTS, "{:from 3}", IMPOSSIBLE),
     # The same with no cut at all.
     (TWO_HOLD, "", IMPOSSIBLE),
 )
