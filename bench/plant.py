@@ -1,16 +1,15 @@
 """Plants bugs into histories that gen.py makes.
 
-    plant.py DIR --kind K [--calls N] [--concurrency C] [--rounds R] [--values V] [--type T] [--seed S]
+    plant.py DIR --kind K [--calls N] [--concurrency C] [--rounds R] [--values V] [--type T] [--most M] [--seed S]
 
-For each round one history is made, and each type of bug is planted into a copy of it. Each copy is
-an object of its own. Writes DIR/history.edn, with one object after another, and DIR/planted.txt,
-with a line for each object: its number and the type of its bug. Values are put in, or set, once
-each; with --values they are drawn below V.
+For each round one history is made, and each type of bug is planted into a copy of it; with --most, only M
+types, which are drawn. Writes DIR/N.edn, a history for each bug, and DIR/planted.txt, with a line for each:
+its number N and the type of its bug. Values are put in, or set, once each; with --values they are drawn
+below V. The types that begin with `break` are those of `gen.py --break`.
 
 A planted bug can be invisible: the history may be linearizable all the same.
 """
 import argparse
-import copy
 import os
 import random
 import re
@@ -42,19 +41,20 @@ class Call:
 
 
 def read(path):
-    """The calls of a history without failed ones."""
+    """The lines of a history without failed calls, and its calls."""
     calls, open_calls = [], {}
-    with open(path) as lines:
-        for place, line in enumerate(lines):
-            process, kind, f, value = LINE.match(line).groups()
-            if kind == "invoke":
-                call = Call(int(process), f, value, place)
-                calls.append(call)
-                open_calls[process] = call
-            else:
-                call = open_calls.pop(process)
-                call.end, call.reply = place, value
-    return calls
+    with open(path) as text:
+        lines = text.readlines()
+    for place, line in enumerate(lines):
+        process, kind, f, value = LINE.match(line).groups()
+        if kind == "invoke":
+            call = Call(int(process), f, value, place)
+            calls.append(call)
+            open_calls[process] = call
+        else:
+            call = open_calls.pop(process)
+            call.end, call.reply = place, value
+    return lines, calls
 
 
 class Planter:
@@ -187,6 +187,24 @@ class Planter:
                 return True
         return False
 
+    def late_reply(self, broken):
+        """What `gen.py --break` does."""
+        ended = sorted((c for c in self.calls if c.end is not None), key=lambda c: c.end)
+        change = gen.changed_reply(broken, 0.9, [(c.end, 0, c.f, c.reply) for c in ended])
+        if change is None:
+            return False
+        next(c for c in ended if c.end == change[0]).reply = str(change[2])
+        return True
+
+    def break_dup(self):
+        return self.late_reply("dup")
+
+    def break_lost(self):
+        return self.late_reply("lost")
+
+    def break_old(self):
+        return self.late_reply("old")
+
     def renamed(self, f, name):
         """One call of this function is another one."""
         self.rng.choice([c for c in self.calls if c.f == f]).f = name
@@ -199,14 +217,15 @@ class Planter:
         return self.renamed("release", "acquire")
 
 
+BREAK = {"break dup": Planter.break_dup, "break lost": Planter.break_lost, "break old": Planter.break_old}
 CONTAINER = {
     "never put": Planter.never_put, "twice": Planter.twice, "swap near": Planter.swap_near,
     "swap far": Planter.swap_far, "lost": Planter.nothing, "false empty": Planter.false_empty,
-    "future": Planter.future,
+    "future": Planter.future, **BREAK,
 }
 CELL = {
     "never set": Planter.never_put, "stale near": Planter.stale_near, "stale far": Planter.stale_far,
-    "future": Planter.future_value, "false nil": Planter.nothing,
+    "future": Planter.future_value, "false nil": Planter.nothing, **BREAK,
 }
 TYPES = {
     "queue": CONTAINER, "stack": CONTAINER, "heap": CONTAINER,
@@ -220,26 +239,40 @@ TYPES = {
 
 
 def base(o, seed):
-    """The calls of a history that gen.py makes."""
+    """The lines and the calls of a history that gen.py makes."""
     words = SimpleNamespace(
         dir=o.dir, kind=o.kind, objects=1, processes=o.concurrency, concurrency=o.concurrency,
         maps=None, calls=o.calls, fail=0.0, info=0.0, nemesis=0.0, values=o.values or 100,
         keys=o.keys, unique=o.values is None, fill=0.5, time=False, index=False, broken=None, seed=seed)
     gen.history(words)
-    return read(os.path.join(o.dir, "history.edn"))
+    path = os.path.join(o.dir, "history.edn")
+    lines, calls = read(path)
+    for name in (path, os.path.join(o.dir, "certs.edn"), os.path.join(o.dir, "expect.json")):
+        os.remove(name)
+    return lines, calls
 
 
-def lines_of(calls, number, processes):
-    """The lines of an object's calls."""
-    events = []
-    for call in calls:
-        process = call.process + number * processes
-        events.append((call.begin, "invoke", process, call.f, call.arg))
-        if call.end is not None:
-            events.append((call.end, "ok", process, call.f, call.reply))
-    events.sort(key=lambda e: e[0])
-    for _, kind, process, f, value in events:
-        yield "{:process %d, :type :%s, :f :%s, :value %s, :object %d}\n" % (process, kind, f, value, number)
+def words_of(call):
+    """What a bug may change of a call."""
+    return call.f, call.arg, call.end, call.reply
+
+
+def write_changed(path, lines, calls, before):
+    """Writes a history in which some calls have changed, and puts them back."""
+    own, more = list(lines), {}
+    for call, old in zip(calls, before):
+        if words_of(call) != old:
+            own[call.begin] = "{:process %d, :type :invoke, :f :%s, :value %s}\n" % (call.process, call.f, call.arg)
+            if call.end is not None:
+                own[old[2]] = ""
+                # A return that comes earlier is half a place before an invocation.
+                at = int(call.end + 0.5)
+                more[at] = "{:process %d, :type :ok, :f :%s, :value %s}\n" % (call.process, call.f, call.reply)
+            call.f, call.arg, call.end, call.reply = old
+    for at, line in more.items():
+        own[at] = line + own[at]
+    with open(path, "w") as history:
+        history.writelines(own)
 
 
 def plant(o):
@@ -247,18 +280,16 @@ def plant(o):
     types = {t: p for t, p in TYPES[o.kind].items() if o.type in (None, t)}
     if not types:
         raise SystemExit("plant.py: no type of bug of a %s: %s" % (o.kind, o.type))
-    objects, names = [], []
+    names = []
     for turn in range(o.rounds):
-        calls = base(o, o.seed * 1000 + turn)
-        for name, bug in types.items():
-            own = copy.deepcopy(calls) if len(types) > 1 else calls
-            planter = Planter(own, rng)
-            if (planter.at is not None or o.kind == "mutex") and bug(planter):
-                objects.append(list(lines_of(own, len(objects), o.concurrency)))
+        lines, calls = base(o, o.seed * 1000 + turn)
+        before = [words_of(c) for c in calls]
+        drawn = rng.sample(sorted(types), min(o.most, len(types))) if o.most else types
+        for name in drawn:
+            planter = Planter(calls, rng)
+            if (planter.at is not None or o.kind == "mutex") and types[name](planter):
+                write_changed(os.path.join(o.dir, "%d.edn" % len(names)), lines, calls, before)
                 names.append(name)
-    with open(os.path.join(o.dir, "history.edn"), "w") as history:
-        for lines in objects:
-            history.writelines(lines)
     with open(os.path.join(o.dir, "planted.txt"), "w") as planted:
         planted.writelines("%d %s\n" % pair for pair in enumerate(names))
 
@@ -273,6 +304,7 @@ def main():
     p.add_argument("--values", type=int, help="values are below this; default: each is put in once")
     p.add_argument("--keys", type=int, default=32, help="keys of a map are below this")
     p.add_argument("--type", help="the only type of bug")
+    p.add_argument("--most", type=int, help="how many types are drawn for a round; default: all")
     p.add_argument("--seed", type=int, default=0)
     o = p.parse_args()
     os.makedirs(o.dir, exist_ok=True)

@@ -1,86 +1,134 @@
-"""Compares a finder of reasons with the plain one on histories of plant.py.
+#!/usr/bin/env python3
+"""Compares `judge` from start to end with a plain finder of reasons on histories of plant.py.
 
-    reasons.py PROGRAM PLAIN DIR..
+    reasons.py PROGRAM PLAIN DIR.. [--runs N] [--seconds S] [--together]
 
-PROGRAM reads a history from standard input and writes a line for each object: its number, the
-number of operations of the part, or `none`, the microseconds, and what the reason is. PLAIN is the
-plain finder: `PLAIN find FILE` says nothing of an object for which it finds an order. Broken is an
-object of which one of the two finds a reason; of others it is not known. Each program runs three
-times on each history, and the least time counts.
-"""
+DIR is a folder of plant.py with the name KIND-CALLS-ATONCE-VALUES, where VALUES is `once` or a number. `PROGRAM judge FILE` and
+`PLAIN find FILE` run in turn, N times, and the least processor time of each counts. Each may take S seconds. Answers are kept in DIR/answers.json, so that
+a run that was stopped can go on.
+
+What `judge` says is checked by tests/edge/reasons.py: the operations are of the history and have no valid order, or the count is exceeded.
+Broken are the histories of which one of the two gives a reason; linearizable those for which one of the two found an order; of the others
+nothing is known. The size is the number of operations that `judge` tells; that of a count is two. A row is printed for each
+DIR; with --together for all numbers of calls at once together. The ratio is the middle of those of the histories for which both gave a reason."""
+import argparse
+import json
+import os
 import re
+import resource
+import statistics
 import subprocess
 import sys
 from collections import Counter
 
-PLAIN = re.compile(r"; object (\d+): (?:(\d+) operations of|no reason).*?([\d.]+) ms")
+sys.dont_write_bytecode = True
+HERE = os.path.dirname(os.path.realpath(__file__))
+sys.path.insert(0, os.path.join(HERE, os.pardir, "tests"))
+
+from edge.reasons import explained_in, why_not_shown  # noqa: E402
+
+MAPS = re.compile(r"maps? (\d+)(?: and (\d+))?:")
 
 
-def plain_answers(program, path):
-    """The operations of the part, if there is one, and the milliseconds, of each object without an
-    order."""
-    words = [program, "find", path, "--seconds", "2"]
-    run = subprocess.run(words, capture_output=True, text=True)
-    answers = {}
-    for line in run.stdout.splitlines():
-        match = PLAIN.match(line)
-        if match:
-            number, size, time = match.groups()
-            answers[int(number)] = (int(size) if size else None, float(time))
-    return answers
+def ran(words, seconds):
+    """The status of a run, what it wrote, and its processor time."""
+    limit = lambda: resource.setrlimit(resource.RLIMIT_CPU, (seconds, seconds))
+    run = subprocess.Popen(words, stdout=subprocess.PIPE, stderr=subprocess.DEVNULL, preexec_fn=limit)
+    out = run.stdout.read()
+    _, status, usage = os.wait4(run.pid, 0)
+    run.returncode = os.waitstatus_to_exitcode(status)
+    return run.returncode, out, usage.ru_utime + usage.ru_stime
 
 
-def answers(program, path):
-    """The same of the other program, with what the reason is."""
+def size_of(path, out):
+    """The size of the reason that `judge` gives, which is checked."""
+    explained, others = explained_in(out)
+    if len(explained) != 1 or others:
+        raise SystemExit("reasons.py: %s: no judgement: %r" % (path, out[:200]))
+    on, operations, reason = explained[0]
+    named = {int(it) for line in operations for it in MAPS.match(line).groups() if it}
     with open(path) as text:
-        run = subprocess.run([program], stdin=text, capture_output=True, text=True)
-    found = {}
-    for line in run.stdout.splitlines():
-        words = line.split(maxsplit=3)
-        size = None if words[1] == "none" else int(words[1])
-        found[int(words[0])] = (size, int(words[2]) / 1000, words[3] if len(words) > 3 else "")
+        history = "".join(line if place in named else "{}" for place, line in enumerate(text))
+    wrong = why_not_shown(history, on, operations, reason)
+    if wrong:
+        raise SystemExit("reasons.py: %s: %s" % (path, wrong))
+    return 2 if ":count " in reason else len(operations)
+
+
+def answers_on(asked, path):
+    """What the two say of a history: the status and the seconds of each, and the size of the reason."""
+    ours, plain = [], []
+    for _ in range(asked.runs):
+        ours.append(ran([asked.program, "judge", path], asked.seconds))
+        plain.append(ran([asked.plain, "find", path, "--seconds", str(asked.seconds)], asked.seconds + 5))
+    status, out, _ = ours[0]
+    if status == 0 and plain[0][0] == 1:
+        raise SystemExit("reasons.py: %s: judge says yes, and the plain finder gives a reason" % path)
+    return {
+        "judge": status, "plain": plain[0][0], "size": size_of(path, out) if status == 1 else None,
+        "seconds": min(it[2] for it in ours), "plain seconds": min(it[2] for it in plain),
+    }
+
+
+def answers(asked, folder):
+    """The answers on all histories of a folder, each with the type of its bug."""
+    kept = os.path.join(folder, "answers.json")
+    if os.path.exists(kept):
+        with open(kept) as text:
+            return json.load(text)
+    with open(os.path.join(folder, "planted.txt")) as text:
+        names = [line.rstrip().split(" ", 1) for line in text]
+    found = [{"type": name, **answers_on(asked, os.path.join(folder, number + ".edn"))} for number, name in names]
+    with open(kept, "w") as text:
+        json.dump(found, text)
     return found
 
 
-def size_of(answer):
-    """The size of a part; that of a count is two: its two numbers."""
-    return 2 if answer[2].startswith("Counting") else answer[0]
+def seconds(time):
+    return "%.0f ms" % (time * 1000) if time < 1 else "%.2f s" % time
 
 
-def middle(values):
-    return sorted(values)[len(values) // 2] if values else 0
-
-
-def least(of, program, path):
-    """The answers, with the least times of three runs."""
-    runs = [of(program, path) for _ in range(3)]
-    return {n: (a[0], min(run[n][1] for run in runs), *a[2:]) for n, a in runs[0].items()}
-
-
-def compare(program, plain, folder):
-    history = folder + "/history.edn"
-    with open(folder + "/planted.txt") as text:
-        names = dict(line.rstrip().split(" ", 1) for line in text)
-    known = least(plain_answers, plain, history)
-    own = least(answers, program, history)
-    refuted = [n for n, a in known.items() if a[0] is not None]
-    broken = sorted({*refuted, *(n for n, a in own.items() if a[0] is not None)})
-    found = [n for n in broken if own[n][0] is not None]
-    missed = Counter(names[str(n)] for n in broken if own[n][0] is None)
-    sizes = [size_of(own[n]) for n in found]
-    times = [own[n][1] for n in broken]
-    both = [n for n in found if n in known]
-    ratio = middle([own[n][1] / max(known[n][1], 0.001) for n in both])
-    print("%s: planted %d broken %d plain %d found %d; size %d..%d; ms %.1f..%.1f; ratio %.1f; missed %s" % (
-        folder.rsplit("/", 1)[-1], len(names), len(broken), len(refuted),
-        len(found), middle(sizes), max(sizes, default=0), middle(times), max(times, default=0), ratio,
-        dict(missed)), flush=True)
+def row(name, found):
+    """A row of the table."""
+    broken = [it for it in found if 1 in (it["judge"], it["plain"])]
+    refuted = [it for it in broken if it["judge"] == 1]
+    linearizable = sum(0 in (it["judge"], it["plain"]) for it in found)
+    sizes = [it["size"] for it in refuted]
+    times = [it["seconds"] for it in broken]
+    ratios = [it["seconds"] / it["plain seconds"] for it in refuted if it["plain"] == 1]
+    missed = Counter(it["type"] for it in broken if it["judge"] != 1)
+    cells = [
+        *name, len(found), linearizable, len(found) - linearizable - len(broken), len(broken), len(refuted),
+        "%.0f %%" % (100 * len(refuted) / len(broken)) if broken else "-",
+        "%g, %d" % (statistics.median(sizes), max(sizes)) if sizes else "-",
+        "%s, %s" % (seconds(statistics.median(times)), seconds(max(times))) if times else "-",
+        "%.1f" % statistics.median(ratios) if ratios else "-",
+        ", ".join("%s %d" % it for it in missed.items()) or "-",
+    ]
+    return "| %s |" % " | ".join(str(it) for it in cells)
 
 
 def main():
-    program, plain, *folders = sys.argv[1:]
-    for folder in folders:
-        compare(program, plain, folder)
+    words = argparse.ArgumentParser(description=__doc__, formatter_class=argparse.RawDescriptionHelpFormatter)
+    words.add_argument("program")
+    words.add_argument("plain")
+    words.add_argument("dir", nargs="+")
+    words.add_argument("--runs", type=int, default=3)
+    words.add_argument("--seconds", type=int, default=20)
+    words.add_argument("--together", action="store_true")
+    asked = words.parse_args()
+    rows = {}
+    for folder in asked.dir:
+        kind, calls, at_once, values = os.path.basename(folder.rstrip("/")).split("-")
+        values = "each once" if values == "once" else values
+        name = (kind, "{:,}".format(int(calls)), values) if asked.together else (kind, "{:,}".format(int(calls)), at_once, values)
+        rows.setdefault(name, []).extend(answers(asked, folder))
+        if not asked.together:
+            print(row(name, rows[name]), flush=True)
+    if asked.together:
+        for name, found in rows.items():
+            print(row(name, found))
 
 
-main()
+if __name__ == "__main__":
+    main()
