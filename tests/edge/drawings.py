@@ -269,7 +269,7 @@ def situations():
     yield Case("a value that a pending operation took out", TAKEN_BY_A_PENDING_ONE, texts.order(0, 2, 4, 6, 8))
     yield Case("an enqueue returns another value", WRONG_REPLY_OF_AN_ENQUEUE, texts.order(0, 2))
     yield Case("a mutex is acquired twice", ACQUIRED_TWICE, texts.order(0, 2, 4, 6))
-    for stem in ("postgres_queue", "redis_lock", "redis_replica", "racy_stack", "larger_first", "lost_put", "never_enqueued"):
+    for stem in ("postgres_queue", "sharded_queue", "redis_lock", "redis_replica", "racy_stack", "larger_first", "lost_put", "never_enqueued"):
         yield example(stem, False)
     yield Case("a queue gives the later value first", WRONG_TURN)
     yield Case("a process that is busy", BUSY)
