@@ -9,7 +9,6 @@ use Rattle.edn_fields.specs.Fields.{value_at, natural_in, object_in}
 use Rattle.edn_fields.specs.Values.{IsValueIn, natural_first}
 use Rattle.edn_fields.proofs.Truncation.{value_of_truncated, natural_of_truncated, integer_vector_of_value}
 use Rattle.edn_fields.proofs.Shapes.{natural_is}
-use Rattle.certificate.specs.Denotes as spec
 use Rattle.certificate.specs.Denotes.{reading_with, certificate_of}
 use Rattle.certificate.specs.TokenBuffers.{IsKept, object_of}
 

@@ -1,8 +1,6 @@
 -- The elements of a text of certificates, one by one: what was found stays found, whatever follows.
 use Rattle.std.proofs.Common.{◌≡◌, ℕ, Bool, true, Option, Some, None, List, [], ◌∷◌, ◌++◌, length, refl, sym, ap, subst, ◌∙◌, append_assoc}
-use Rattle.std.specs.Ordering.{nat_cmp}
 use Rattle.std.specs.Prelude.{is_some}
-use Rattle.std.specs.BTreeSet.{contains}
 use Rattle.std.proofs.lemmas.List.{length-map}
 use Rattle.edn_reader.specs.Datum.{Datum}
 use Rattle.certificate.specs.declared.Certificate.{Certificate}
@@ -11,7 +9,7 @@ use Rattle.certificate.specs.declared.fault.CertFaultKind.{CertFaultKind}
 use Rattle.certificate.specs.declared.text_reader.Reading.{Reading}
 use Rattle.certificate.specs.Denotes.{certificate_of, reading_of, Denotes}
 use Rattle.certificate.specs.Faults.{IsSoundAt}
-use Rattle.certificate.specs.Inside.{IsFaultAmong, AreRead}
+use Rattle.certificate.specs.Inside.{IsFaultAmong, AreRead, has}
 use Rattle.certificate.specs.Texts.{IsFoundIn, IsReadOrFaulty, IsReading}
 use Rattle.certificate.proofs.Reading.{no_fault, fault_here, only_fault, nothing_here}
 use Rattle.edn_fields.proofs.FirstFaults.{first_more}
@@ -30,8 +28,8 @@ sound_more ds d n h = record {
 
 faulty_more : (r : Reading) (f : CertFault) (ds : List Datum) (d : Datum) → r.fault ≡ Some f → IsReading r ds → IsReading r (ds ++ d ∷ [])
 faulty_more r f ds d e h =
-    let a : IsFoundIn ds f = subst (λ (o : Option CertFault). IsReadOrFaulty o ds r.certificates.items (contains nat_cmp r.objects)) e h in
-    subst (λ (o : Option CertFault). IsReadOrFaulty o (ds ++ d ∷ []) r.certificates.items (contains nat_cmp r.objects)) (sym e)
+    let a : IsFoundIn ds f = subst (λ (o : Option CertFault). IsReadOrFaulty o ds r.certificates.items (has r.objects)) e h in
+    subst (λ (o : Option CertFault). IsReadOrFaulty o (ds ++ d ∷ []) r.certificates.items (has r.objects)) (sym e)
     (λ n. first_more ds d f.form f.kind (a.0 n), λ m. sound_more ds d f.form (a.1 m))
 
 pub still_faulty : (r : Reading) (ds : List Datum) (d : Datum) → is_some r.fault ≡ true → IsReading r ds → IsReading r (ds ++ d ∷ [])
@@ -41,8 +39,8 @@ still_faulty r ds d e h = by_fault r.fault refl
     by_fault None q = absurd cc
     by_fault (Some f) q = faulty_more r f ds d q h
 
-pub are_read : (r : Reading) (ds : List Datum) → r.fault ≡ None → IsReading r ds → AreRead ds r.certificates.items (contains nat_cmp r.objects)
-are_read r ds e h = subst (λ (o : Option CertFault). IsReadOrFaulty o ds r.certificates.items (contains nat_cmp r.objects)) e h
+pub are_read : (r : Reading) (ds : List Datum) → r.fault ≡ None → IsReading r ds → AreRead ds r.certificates.items (has r.objects)
+are_read r ds e h = subst (λ (o : Option CertFault). IsReadOrFaulty o ds r.certificates.items (has r.objects)) e h
 
 one_each : (ds : List Datum) (cs : List Certificate) → Denotes ds cs → length ds ≡ length cs
 one_each ds cs h = sym (length-map ds certificate_of) ∙ ap length h.each ∙ length-map cs (λ c. Some (reading_of c))

@@ -1,13 +1,19 @@
 -- How the reader judges a form by the objects of the forms before it. No public clause speaks of
 -- it.
-use Rattle.std.specs.Prelude.{◌≡◌, ◌==◌, ℕ, Bool, true, false, Some, None, List}
+use Rattle.std.specs.Prelude.{◌≡◌, ◌==◌, ℕ, Bool, true, false, Some, None, is_some, List}
 use Rattle.std.specs.List.{list_any}
 use Rattle.edn_reader.specs.Datum.{Datum}
+use Rattle.number_map.specs.Lookup.{value_of}
+use Rattle.number_map.specs.declared.NumberMap.{NumberMap}
 use Rattle.certificate.specs.Denotes.{Reading, certificate_of, Denotes}
 use Rattle.certificate.specs.declared.Certificate.{Certificate}
 use Rattle.certificate.specs.declared.fault.CertFaultKind.{CertFaultKind}
 use Rattle.certificate.specs.declared.fault.CertFaultKind.TheVariants.{NotACertificate}
 use Rattle.certificate.specs.declared.fault.CertFaultKind.TheVariants.{TwoForOneObject, NoMemory}
+
+-- whether the map has a value for the number
+abbrev pub has : {V : Type 0} → NumberMap V → ℕ → Bool
+has m x = is_some (value_of m x)
 
 -- what is wrong with a form, or that nothing is where memory was refused, by whether an object is
 -- that of an earlier form

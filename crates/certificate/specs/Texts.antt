@@ -1,7 +1,5 @@
 -- What is wrong with a text of certificates, and how far it is read.
 use Rattle.std.specs.Prelude.{◌≡◌, ◌≢◌, ℕ, Bool, List, Option, Some, None}
-use Rattle.std.specs.Ordering.{nat_cmp}
-use Rattle.std.specs.BTreeSet.{contains}
 use Rattle.edn_reader.specs.Datum.{Datum}
 use Rattle.edn_reader.specs.Sound as edn_sound
 use Rattle.edn_reader.specs.Sound.{IsShort, IsUnreadable}
@@ -14,7 +12,7 @@ use Rattle.certificate.specs.declared.fault.CertTextFault.{CertTextFault}
 use Rattle.certificate.specs.declared.fault.CertTextFault.TheVariants.{Text, Forms}
 use Rattle.certificate.specs.declared.text_reader.Reading.{Reading}
 use Rattle.certificate.specs.Faults.{IsFirstFault, IsSoundAt}
-use Rattle.certificate.specs.Inside.{AreRead}
+use Rattle.certificate.specs.Inside.{AreRead, has}
 
 -- The first fault of the forms; or memory was refused for one of them, and up to it and with it
 -- there is none.
@@ -37,4 +35,4 @@ IsReadOrFaulty None ds cs among = AreRead ds cs among
 IsReadOrFaulty (Some f) ds cs among = IsFoundIn ds f
 
 abbrev pub IsReading : Reading → List Datum → Type 0
-IsReading r ds = IsReadOrFaulty r.fault ds r.certificates.items (contains nat_cmp r.objects)
+IsReading r ds = IsReadOrFaulty r.fault ds r.certificates.items (has r.objects)

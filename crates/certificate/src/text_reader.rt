@@ -2,8 +2,6 @@
 
 ghost use Rattle.std.specs.Prelude.{◌≡◌, ◌==◌, if◌then◌else◌, ◌++◌, ◌∷◌, [], ℕ, List, Some, None};
 ghost use Rattle.std.specs.Prelude.{true, false, IfOk, IfErr, OnOk, MatchResult};
-ghost use Rattle.std.specs.Ordering.{nat_cmp};
-ghost use Rattle.std.specs.BTreeSet.{contains};
 ghost use Rattle.edn_reader.specs.Truncation.{truncated};
 ghost use Rattle.edn_reader.specs.Datum.{Datum};
 ghost use Rattle.edn_reader.specs.Pieces.{token_buffer_tokens};
@@ -12,15 +10,15 @@ ghost use Rattle.edn_reader.specs.Spells.{Spells};
 ghost use Rattle.edn_reader.specs.Token.{tokens_of};
 ghost use Rattle.certificate.specs.Denotes as spec;
 ghost use Rattle.certificate.specs.Denotes.{Denotes, AreDistinct};
-ghost use Rattle.certificate.specs.Inside.{IsFaultAmong};
+ghost use Rattle.certificate.specs.Inside.{IsFaultAmong, has};
 ghost use Rattle.certificate.specs.TokenBuffers.{IsKept, numbers_of, object_of};
 ghost use Rattle.certificate.specs.Texts.{IsFoundIn, IsTextFault};
 
 use crate::Certificate;
 use crate::fault::{CertFault, CertFaultKind, CertTextFault};
 use edn::{Elements, Piece};
+use number_map::NumberMap;
 use std::alloc::Global;
-use std::collections::BTreeSet;
 
 /// The object of a certificate, of whose values these are the beginnings.
 fn object_on(pieces: &[Piece]) -> Option<u32>
@@ -38,24 +36,24 @@ fn object_on(pieces: &[Piece]) -> Option<u32>
 fn next_certificate(
     pieces: &[Piece],
     integer_vector: Option<Vec<i64>>,
-    objects: &mut BTreeSet<u32>,
+    objects: &mut NumberMap<()>,
 ) -> Result<Certificate, CertFaultKind>
     ensures own { IfOk result (λ c. (d : Datum) → IsKept pieces.now (numbers_of integer_vector) d
         → spec.certificate_of d ≡ Some (spec.reading_of c)) }
-    ensures new { IfOk result (λ c. contains nat_cmp objects.old c.object ≡ false) }
+    ensures new { IfOk result (λ c. has objects.old c.object ≡ false) }
     ensures among { IfOk result (λ c. (x : ℕ) →
-        contains nat_cmp objects.new x
-        ≡ (if c.object == x then true else contains nat_cmp objects.old x)) }
+        has objects.new x
+        ≡ (if c.object == x then true else has objects.old x)) }
     ensures fault { IfErr result (λ k. (d : Datum) → IsKept pieces.now (numbers_of integer_vector) d
-        → IsFaultAmong (contains nat_cmp objects.old) d k) }
+        → IsFaultAmong (has objects.old) d k) }
 {
     let (Some(object), Some(order)) = (object_on(pieces), integer_vector) else {
         return Err(CertFaultKind::NotACertificate);
     };
-    if objects.contains(&object) {
+    if objects.get(object as u64).is_some() {
         return Err(CertFaultKind::TwoForOneObject);
     }
-    match objects.insert(object) {
+    match objects.insert(object as u64, ()) {
         Ok(_) => Ok(Certificate { object, order }),
         Err(_) => Err(CertFaultKind::NoMemory),
     }
@@ -66,7 +64,7 @@ fn next_certificate(
 #[derive(Drop)]
 struct Reading {
     certificates: Vec<Certificate>,
-    objects: BTreeSet<u32>,
+    objects: NumberMap<()>,
     fault: Option<CertFault>,
 }
 
@@ -78,7 +76,7 @@ impl Reading {
     {
         Reading {
             certificates: Vec::new(alloc),
-            objects: BTreeSet::new(alloc),
+            objects: NumberMap::new(alloc),
             fault: None,
         }
     }

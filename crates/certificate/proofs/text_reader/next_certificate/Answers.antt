@@ -1,4 +1,4 @@
-use Rattle.std.proofs.Common.{Some, ap, ◌∙◌}
+use Rattle.std.proofs.Common.{ap, ◌∙◌}
 use Rattle.certificate.specs.TokenBuffers.{numbers_of}
 use Rattle.certificate.proofs.Orders.{certificate_by, no_integer_vector, no_object}
 use Rattle.certificate.proofs.text_reader.next_certificate.Goals as goal
@@ -12,8 +12,8 @@ returns-in_default-clause-fault c = λ d h.
       | in_default-via-in_default w ↦ no_object c.args.pieces.now (numbers_of c.args.integer_vector) c.object_on.result d h (c.object_on.ensures d h.0) w.in_default.is-0
     ]
 
-pub returns-then-contains-clause-fault : goal.returns-then-contains-clause-fault
-returns-then-contains-clause-fault c = λ d h. (
+pub returns-then-is_some-clause-fault : goal.returns-then-is_some-clause-fault
+returns-then-is_some-clause-fault c = λ d h. (
   record { object = c.in-Some-Some.object; order = c.in-Some-Some.order.items },
   certificate_by c.args.pieces.now (numbers_of c.args.integer_vector) c.object_on.result d h (c.object_on.ensures d h.0) ∙ cc,
   cc,
