@@ -1,14 +1,11 @@
 -- Checking one object after the other.
 use Rattle.std.proofs.Common.{◌≡◌, ◌≢◌, ℕ, zero, suc, ◌+◌, ◌<◌, ◌≤◌, ◌⊎◌, ◌↔◌, ◌++◌, ◌∷◌, [], List, Option, Some, None, IsSome, All, AllPairs}
 use Rattle.std.proofs.Common.{Contains, map, length, get_or, take, drop, OnOk, IfErr, Result, Ok, Err, inl, inr, refl, ap, sym, ◌∙◌, subst, arith}
-use Rattle.std.proofs.Common.{false}
+use Rattle.std.specs.Prelude.{min, IfSome, IfNone}
+use Rattle.std.specs.Option.{option_map_or}
 use Rattle.std.proofs.lemmas.Option.{same_Some}
-use Rattle.std.specs.BTreeMap.{BTreeMap, get, is_at, btree_map_len}
-use Rattle.std.specs.Map.{lookup}
-use Rattle.std.specs.Ordering.{nat_cmp, is_gt, MatchOrdering}
-use Rattle.std.specs.Cmp.{ranked}
-use Rattle.std.specs.declared.cmp.Ordering.{Ordering}
-use Rattle.std.specs.declared.cmp.Ordering.TheVariants.{Less, Equal, Greater}
+use Rattle.number_map.specs.Lookup.{value_of}
+use Rattle.number_map.specs.declared.NumberMap.{NumberMap}
 use Rattle.std.proofs.lemmas.Bool.{cases_order}
 use Rattle.std.proofs.lemmas.List.{get_or_default, take_more, take_all}
 use Rattle.model.specs.declared.Kind.{Kind}
@@ -23,7 +20,7 @@ use Rattle.checker.specs.declared.refusal.Refusal.{Refusal}
 use Rattle.checker.specs.declared.refusal.Refusal.TheVariants.{NoCertificate, StrangeObject, BadOrder, NoMemory}
 use Rattle.checker.specs.Faults.{IsFirstFault}
 use Rattle.checker.specs.Refusals.{RefusesOrder, HasCertificate, AreValid, IsRefusalAt, IsLeastStrange, IsFirstRefusal}
-use Rattle.checker.specs.Checking.{IsPlace, ArePlaces, AreAllPlaces, IsFine, IsRefused, AreForThese, IsLeastBesides}
+use Rattle.checker.specs.Checking.{IsPlace, ArePlaces, AreAllPlaces, IsFine, IsRefused, AreForThese, IsLeastBesides, IsLeastPlaced}
 
 apart_or_same : (x y : ℕ) → (x ≡ y) ⊎ (x ≢ y)
 apart_or_same x y = elim (cases_order x y) [
@@ -35,20 +32,20 @@ apart_or_same x y = elim (cases_order x y) [
 ]
 
 -- one more certificate has its place
-pub one_placed : (certificates : List Certificate) (m n : BTreeMap ℕ ℕ) (k : ℕ) (d : Certificate) → k < length certificates
-    → d ≡ get_or certificates k d → ArePlaces m certificates → ((c : Certificate) → In c (take k certificates) → IsSome (get nat_cmp m c.object))
-    → get nat_cmp n d.object ≡ Some k → ((x : ℕ) → x ≢ d.object → get nat_cmp n x ≡ get nat_cmp m x) → ArePlaces n certificates
-    × ((c : Certificate) → In c (take (k + 1) certificates) → IsSome (get nat_cmp n c.object))
+pub one_placed : (certificates : List Certificate) (m n : NumberMap ℕ) (k : ℕ) (d : Certificate) → k < length certificates
+    → d ≡ get_or certificates k d → ArePlaces m certificates → ((c : Certificate) → In c (take k certificates) → IsSome (value_of m c.object))
+    → value_of n d.object ≡ Some k → ((x : ℕ) → x ≢ d.object → value_of n x ≡ value_of m x) → ArePlaces n certificates
+    × ((c : Certificate) → In c (take (k + 1) certificates) → IsSome (value_of n c.object))
 one_placed certificates m n k d l is places some own others = (
   λ x j q. elim (apart_or_same x d.object) [
     | inl e ↦ (
-        let same : k ≡ j = same_Some k j (sym own ∙ (ap (get nat_cmp n) (sym e) ∙ q)) in
+        let same : k ≡ j = same_Some k j (sym own ∙ (ap (value_of n) (sym e) ∙ q)) in
         subst (IsPlace certificates x) same (record { inside = l; for_object = λ c. ap (λ (z : Certificate). z.object) (get_or_default certificates k c d l ∙ sym is) ∙ sym e })
         )
     | inr ne ↦ places x j (sym (others x ne) ∙ q)
   ],
   λ c i. elim (apart_or_same c.object d.object) [
-    | inl e ↦ subst IsSome (sym (ap (get nat_cmp n) e ∙ own)) refl
+    | inl e ↦ subst IsSome (sym (ap (value_of n) e ∙ own)) refl
     | inr ne ↦ subst IsSome (sym (others c.object ne)) (elim (in_append c (take k certificates) (get_or certificates k d ∷ []) (subst (In c) (take_more certificates k d l) i)) [
       | inl j ↦ some c j
       | inr j ↦ elim j [
@@ -59,9 +56,9 @@ one_placed certificates m n k d l is places some own others = (
   ],
 )
 
-pub all_placed : (certificates : List Certificate) (m : BTreeMap ℕ ℕ) (k : ℕ) → length certificates ≤ k
-    → ((c : Certificate) → In c (take k certificates) → IsSome (get nat_cmp m c.object)) → All (λ c. IsSome (get nat_cmp m c.object)) certificates
-all_placed certificates m k l some = all_from_in (λ (c : Certificate). IsSome (get nat_cmp m c.object)) certificates (λ c i. some c (subst (In c) (sym (take_all k certificates l)) i))
+pub all_placed : (certificates : List Certificate) (m : NumberMap ℕ) (k : ℕ) → length certificates ≤ k
+    → ((c : Certificate) → In c (take k certificates) → IsSome (value_of m c.object)) → All (λ c. IsSome (value_of m c.object)) certificates
+all_placed certificates m k l some = all_from_in (λ (c : Certificate). IsSome (value_of m c.object)) certificates (λ c i. some c (subst (In c) (sym (take_all k certificates l)) i))
 
 -- a history's objects, in rising number, each with its kind and calls
 pub record AreObjects (es : List Event) (os : List ObjectCalls) : Type 0 where
@@ -78,10 +75,10 @@ abbrev pub AreFine : List Event → List Certificate → List ObjectCalls → Ty
 AreFine es certificates os = (o : ObjectCalls) → In o os → IsFineAt es certificates o.object
 
 -- the places that are left once those of these objects are taken out
-pub record AreLeft (certificates : List Certificate) (os : List ObjectCalls) (left : BTreeMap ℕ ℕ) : Type 0 where
+pub record AreLeft (certificates : List Certificate) (os : List ObjectCalls) (left : NumberMap ℕ) : Type 0 where
   pub places : ArePlaces left certificates
-  pub apart : (o : ObjectCalls) → In o os → get nat_cmp left o.object ≡ None
-  pub gone : (c : Certificate) → In c certificates → get nat_cmp left c.object ≡ None → (o : ObjectCalls) × In o os × (o.object ≡ c.object)
+  pub apart : (o : ObjectCalls) → In o os → value_of left o.object ≡ None
+  pub gone : (c : Certificate) → In c certificates → value_of left c.object ≡ None → (o : ObjectCalls) × In o os × (o.object ≡ c.object)
 
 -- ---- the next object
 
@@ -111,10 +108,10 @@ has_some None q s = cc s
 has_some (Some k) q s = cc q
 
 -- an object that has no place has no certificate
-pub no_certificate : (certificates : List Certificate) (m : BTreeMap ℕ ℕ) (x : ℕ) → AreAllPlaces m certificates → get nat_cmp m x ≡ None → HasCertificate certificates x → ⊥
+pub no_certificate : (certificates : List Certificate) (m : NumberMap ℕ) (x : ℕ) → AreAllPlaces m certificates → value_of m x ≡ None → HasCertificate certificates x → ⊥
 no_certificate certificates m x h none c =
-    let some = all_at (λ (c : Certificate). IsSome (get nat_cmp m c.object)) certificates h.all c.certificate (in_from_contains certificates c.certificate c.stands) in
-    has_some (get nat_cmp m c.certificate.object) (ap (get nat_cmp m) c.for_object ∙ none) some
+    let some = all_at (λ (c : Certificate). IsSome (value_of m c.object)) certificates h.all c.certificate (in_from_contains certificates c.certificate c.stands) in
+    has_some (value_of m c.certificate.object) (ap (value_of m) c.for_object ∙ none) some
 
 -- ---- one after the other
 
@@ -128,27 +125,27 @@ one_more_fine es certificates os o h fine = λ p i. elim (in_append p os (o ∷ 
   ]
 ]
 
-pub all_left : (certificates : List Certificate) (m : BTreeMap ℕ ℕ) → AreAllPlaces m certificates → AreLeft certificates [] m
+pub all_left : (certificates : List Certificate) (m : NumberMap ℕ) → AreAllPlaces m certificates → AreLeft certificates [] m
 all_left certificates m h = record {
   places = h.places;
   apart = λ o i. absurd i;
-  gone = λ c i q. absurd (has_some (get nat_cmp m c.object) q (all_at (λ c. IsSome (get nat_cmp m c.object)) certificates h.all c i));
+  gone = λ c i q. absurd (has_some (value_of m c.object) q (all_at (λ c. IsSome (value_of m c.object)) certificates h.all c i));
 }
 
-pub one_taken : (certificates : List Certificate) (os : List ObjectCalls) (o : ObjectCalls) (left new : BTreeMap ℕ ℕ) → AreLeft certificates os left
-    → get nat_cmp new o.object ≡ None → ((x : ℕ) → x ≢ o.object → get nat_cmp new x ≡ get nat_cmp left x) → AreLeft certificates (os ++ o ∷ []) new
+pub one_taken : (certificates : List Certificate) (os : List ObjectCalls) (o : ObjectCalls) (left new : NumberMap ℕ) → AreLeft certificates os left
+    → value_of new o.object ≡ None → ((x : ℕ) → x ≢ o.object → value_of new x ≡ value_of left x) → AreLeft certificates (os ++ o ∷ []) new
 one_taken certificates os o left new h own others = record {
   places = λ x k q. elim (apart_or_same x o.object) [
-    | inl e ↦ (let n : None ≡ Some k = sym own ∙ (ap (get nat_cmp new) (sym e) ∙ q) in cc n)
+    | inl e ↦ (let n : None ≡ Some k = sym own ∙ (ap (value_of new) (sym e) ∙ q) in cc n)
     | inr ne ↦ h.places x k (sym (others x ne) ∙ q)
   ];
   apart = λ p i. elim (in_append p os (o ∷ []) i) [
     | inl j ↦ elim (apart_or_same p.object o.object) [
-      | inl e ↦ ap (get nat_cmp new) e ∙ own
+      | inl e ↦ ap (value_of new) e ∙ own
       | inr ne ↦ others p.object ne ∙ h.apart p j
     ]
     | inr j ↦ elim j [
-      | inl e ↦ ap (λ (q : ObjectCalls). get nat_cmp new q.object) e ∙ own
+      | inl e ↦ ap (λ (q : ObjectCalls). value_of new q.object) e ∙ own
       | inr n ↦ absurd n
     ]
   ];
@@ -173,38 +170,101 @@ one_taken certificates os o left new h own others = record {
 number_stands : (os : List ObjectCalls) (o : ObjectCalls) → In o os → Contains (map (λ o. o.object) os) o.object
 number_stands os o i = contains_from_in (map (λ (o : ObjectCalls). o.object) os) o.object (in_map_from (λ (o : ObjectCalls). o.object) o os i)
 
--- where no place is left, each certificate is for one of these
-pub none_besides : (certificates : List Certificate) (os : List ObjectCalls) (left : BTreeMap ℕ ℕ) → AreLeft certificates os left
-    → ((x : ℕ) → get nat_cmp left x ≡ None) → AreForThese (map (λ o. o.object) os) certificates
-none_besides certificates os left h empty = all_from_in (λ (c : Certificate). Contains (map (λ o. o.object) os) c.object) certificates
-    (λ c i. let g = h.gone c i (empty c.object) in subst (Contains (map (λ o. o.object) os)) g.2 (number_stands os g.0 g.1))
+-- where no certificate has a place that is left, each is for one of these
+none_besides : (certificates : List Certificate) (os : List ObjectCalls) (left : NumberMap ℕ) → AreLeft certificates os left
+    → IsLeastPlaced left certificates None → AreForThese (map (λ o. o.object) os) certificates
+none_besides certificates os left h none = all_from_in (λ (c : Certificate). Contains (map (λ o. o.object) os) c.object) certificates (λ c i.
+    let g = h.gone c i (all_at (λ (c : Certificate). value_of left c.object ≡ None) certificates none c i) in
+    subst (Contains (map (λ o. o.object) os)) g.2 (number_stands os g.0 g.1))
 
 -- what stands at a place
 pub element : {X : Type 0} (xs : List X) (k : ℕ) → k < length xs → (d : X) × (d ≡ get_or xs k d)
 element [] k l = absurd (omega arith)
 element (x ∷ xs) k l = let d = get_or (x ∷ xs) k x in (d, get_or_default (x ∷ xs) k x d l)
 
--- the least place that is left is that of the least object besides
-pub least_besides : (certificates : List Certificate) (os : List ObjectCalls) (left : BTreeMap ℕ ℕ) (x k : ℕ) → AreLeft certificates os left
-    → get nat_cmp left x ≡ Some k → ((q : ℕ) → IsSome (get nat_cmp left q) → is_gt (nat_cmp x q) ≡ false) → IsLeastBesides (map (λ o. o.object) os) certificates x
-least_besides certificates os left x k h there lower = record {
-  certified = let p = h.places x k there in let e = element certificates k p.inside in has_here certificates x k e.0 p e.1;
+-- the least object of a place that is left is the least object besides
+least_besides : (certificates : List Certificate) (os : List ObjectCalls) (left : NumberMap ℕ) (x : ℕ) → AreLeft certificates os left
+    → IsLeastPlaced left certificates (Some x) → IsLeastBesides (map (λ o. o.object) os) certificates x
+least_besides certificates os left x h is = record {
+  certified = (let p = h.places x there.0 there.1 in let e = element certificates there.0 p.inside in has_here certificates x there.0 e.0 p e.1);
   besides = λ stands. let o = in_map (λ (o : ObjectCalls). o.object) x os (in_from_contains (map (λ (o : ObjectCalls). o.object) os) x stands) in
-      let n : None ≡ Some k = sym (h.apart o.0 o.1) ∙ (ap (get nat_cmp left) (sym o.2) ∙ there) in cc n;
-  least = all_from_in (λ (c : Certificate). c.object < x → Contains (map (λ o. o.object) os) c.object) certificates (λ c i l. below c i l (get nat_cmp left c.object) refl);
+      let n : None ≡ Some there.0 = sym (h.apart o.0 o.1) ∙ (ap (value_of left) (sym o.2) ∙ there.1) in cc n;
+  least = all_from_in (λ (c : Certificate). c.object < x → Contains (map (λ o. o.object) os) c.object) certificates (λ c i l. below c i l (value_of left c.object) refl);
 }
   where
-    greater : (a b : ℕ) → b < a → is_gt (nat_cmp a b) ≡ false → ⊥
-    greater a b l q = go (nat_cmp a b) (ranked a b _ refl) q
-      where
-        go : (r : Ordering) → MatchOrdering r (a < b) (a ≡ b) (b < a) → is_gt r ≡ false → ⊥
-        go Less m q = omega arith
-        go Equal m q = let m' : a ≡ b = m in omega arith
-        go Greater m q = cc q
+    the : (o : Option ℕ) → IsSome o → (k : ℕ) × (o ≡ Some k)
+    the None s = cc s
+    the (Some k) s = (k, refl)
 
-    below : (c : Certificate) → In c certificates → c.object < x → (o : Option ℕ) → get nat_cmp left c.object ≡ o → Contains (map (λ o. o.object) os) c.object
+    there : (k : ℕ) × (value_of left x ≡ Some k)
+    there = the (value_of left x) is.0
+
+    below : (c : Certificate) → In c certificates → c.object < x → (o : Option ℕ) → value_of left c.object ≡ o → Contains (map (λ o. o.object) os) c.object
     below c i l None q = let g = h.gone c i q in subst (Contains (map (λ o. o.object) os)) g.2 (number_stands os g.0 g.1)
-    below c i l (Some j) q = absurd (greater x c.object l (lower c.object (subst IsSome (sym q) refl)))
+    below c i l (Some j) q =
+        let least = all_at (λ (c : Certificate). IsSome (value_of left c.object) → x ≤ c.object) certificates is.1 c i (subst IsSome (sym q) refl) in
+        absurd (omega (arith, l, least))
+
+pub strange : (certificates : List Certificate) (os : List ObjectCalls) (left : NumberMap ℕ) (r : Option ℕ) → AreLeft certificates os left
+    → IsLeastPlaced left certificates r → IfNone r (AreForThese (map (λ o. o.object) os) certificates) × IfSome r (IsLeastBesides (map (λ o. o.object) os) certificates)
+strange certificates os left None h is = (none_besides certificates os left h is, tt)
+strange certificates os left (Some x) h is = (tt, least_besides certificates os left x h is)
+
+-- ---- one certificate after the other
+
+pub placed_none : (m : NumberMap ℕ) → IsLeastPlaced m [] None
+placed_none m = all_from_in (λ (c : Certificate). value_of m c.object ≡ None) [] (λ c i. absurd i)
+
+-- one more certificate, whose object has a place or none
+pub placed_more : (m : NumberMap ℕ) (certificates : List Certificate) (least : Option ℕ) (d : Certificate) → IsLeastPlaced m certificates least
+    → IsSome (value_of m d.object) → IsLeastPlaced m (certificates ++ d ∷ []) (Some (option_map_or (λ x. min x d.object) least d.object))
+placed_more m certificates None d h has = (
+  has,
+  all_from_in (λ (c : Certificate). IsSome (value_of m c.object) → d.object ≤ c.object) (certificates ++ d ∷ []) (λ c i s.
+      elim (in_append c certificates (d ∷ []) i) [
+        | inl j ↦ absurd (has_some (value_of m c.object) (all_at (λ (c : Certificate). value_of m c.object ≡ None) certificates h c j) s)
+        | inr j ↦ elim j [
+          | inl e ↦ (let same = ap (λ (c : Certificate). c.object) e in omega (arith, same))
+          | inr n ↦ absurd n
+        ]
+      ]),
+)
+placed_more m certificates (Some x) d h has = (
+  elim (cases_order x d.object) [
+    | inl e ↦ (let same : min x d.object ≡ x = omega (arith, e) in subst (λ z. IsSome (value_of m z)) (sym same) h.0)
+    | inr r ↦ elim r [
+      | inl l ↦ (let same : min x d.object ≡ x = omega (arith, l) in subst (λ z. IsSome (value_of m z)) (sym same) h.0)
+      | inr l ↦ (let same : min x d.object ≡ d.object = omega (arith, l) in subst (λ z. IsSome (value_of m z)) (sym same) has)
+    ]
+  ],
+  all_from_in (λ (c : Certificate). IsSome (value_of m c.object) → min x d.object ≤ c.object) (certificates ++ d ∷ []) (λ c i s.
+      elim (in_append c certificates (d ∷ []) i) [
+        | inl j ↦ (let old = all_at (λ (c : Certificate). IsSome (value_of m c.object) → x ≤ c.object) certificates h.1 c j s in omega (arith, old))
+        | inr j ↦ elim j [
+          | inl e ↦ (let same = ap (λ (c : Certificate). c.object) e in omega (arith, same))
+          | inr n ↦ absurd n
+        ]
+      ]),
+)
+
+pub placed_other : (m : NumberMap ℕ) (certificates : List Certificate) (least : Option ℕ) (d : Certificate) → IsLeastPlaced m certificates least
+    → value_of m d.object ≡ None → IsLeastPlaced m (certificates ++ d ∷ []) least
+placed_other m certificates None d h none = all_from_in (λ (c : Certificate). value_of m c.object ≡ None) (certificates ++ d ∷ []) (λ c i.
+    elim (in_append c certificates (d ∷ []) i) [
+      | inl j ↦ all_at (λ (c : Certificate). value_of m c.object ≡ None) certificates h c j
+      | inr j ↦ elim j [ inl e ↦ ap (λ (c : Certificate). value_of m c.object) e ∙ none | inr n ↦ absurd n ]
+    ])
+placed_other m certificates (Some x) d h none = (
+  h.0,
+  all_from_in (λ (c : Certificate). IsSome (value_of m c.object) → x ≤ c.object) (certificates ++ d ∷ []) (λ c i s.
+      elim (in_append c certificates (d ∷ []) i) [
+        | inl j ↦ all_at (λ (c : Certificate). IsSome (value_of m c.object) → x ≤ c.object) certificates h.1 c j s
+        | inr j ↦ elim j [
+          | inl e ↦ absurd (has_some (value_of m c.object) (ap (λ (c : Certificate). value_of m c.object) e ∙ none) s)
+          | inr n ↦ absurd n
+        ]
+      ]),
+)
 
 -- ---- what has been checked
 
@@ -361,10 +421,3 @@ next_is_first es certificates fs i o r d objects fine l is h =
       first_refusal es certificates fs (take i fs) o (drop (suc i) fs) r d objects parts fine refused,
       refused_are_not_valid es certificates fs (take i fs) o (drop (suc i) fs) r d objects parts fine refused,
     )
-
-pub none_left : (left : BTreeMap ℕ ℕ) → (0 < btree_map_len left → ⊥) → (x : ℕ) → get nat_cmp left x ≡ None
-none_left left h x = go left.entries h
-  where
-    go : (es : List (ℕ × ℕ)) → (0 < length es → ⊥) → lookup (is_at (nat_cmp x)) es ≡ None
-    go [] n = refl
-    go (p ∷ ps) n = absurd (n (omega arith))

@@ -1,7 +1,8 @@
 -- What holds while a list of certificates is checked.
-use Rattle.std.specs.Prelude.{◌≡◌, ℕ, ◌<◌, ⊤, List, Some, IsSome, All, Contains, length, get_or}
-use Rattle.std.specs.BTreeMap.{BTreeMap, get}
-use Rattle.std.specs.Ordering.{nat_cmp}
+use Rattle.std.specs.Prelude.{◌≡◌, ℕ, ◌<◌, ◌≤◌, ⊤, List, Option, Some, None, IsSome, All, Contains}
+use Rattle.std.specs.Prelude.{length, get_or}
+use Rattle.number_map.specs.Lookup.{value_of}
+use Rattle.number_map.specs.declared.NumberMap.{NumberMap}
 use Rattle.model.specs.declared.Kind.{Kind}
 use Rattle.model.specs.Orders.{Call, IsValidOrder}
 use Rattle.certificate.specs.declared.Certificate.{Certificate}
@@ -18,8 +19,8 @@ pub record IsPlace (certificates : List Certificate) (x k : ℕ) : Type 0 where
   pub for_object : (c : Certificate) → (get_or certificates k c).object ≡ x
 
 -- each key is an object whose certificate stands at the value
-abbrev pub ArePlaces : BTreeMap ℕ ℕ → List Certificate → Type 0
-ArePlaces m certificates = (x k : ℕ) → get nat_cmp m x ≡ Some k → IsPlace certificates x k
+abbrev pub ArePlaces : NumberMap ℕ → List Certificate → Type 0
+ArePlaces m certificates = (x k : ℕ) → value_of m x ≡ Some k → IsPlace certificates x k
 
 -- the object has a certificate, and its order is valid, and so without a fault
 pub record IsFine (kind : Kind) (calls : List Call) (certificates : List Certificate) (x : ℕ) : Type
@@ -30,9 +31,15 @@ pub record IsFine (kind : Kind) (calls : List Call) (certificates : List Certifi
       → ⊥
 
 -- each certificate of the list has a place
-pub record AreAllPlaces (m : BTreeMap ℕ ℕ) (certificates : List Certificate) : Type 0 where
+pub record AreAllPlaces (m : NumberMap ℕ) (certificates : List Certificate) : Type 0 where
   pub places : ArePlaces m certificates
-  pub all : All (λ c. IsSome (get nat_cmp m c.object)) certificates
+  pub all : All (λ c. IsSome (value_of m c.object)) certificates
+
+-- the least object of these certificates that has a place, if there is one
+abbrev pub IsLeastPlaced : NumberMap ℕ → List Certificate → Option ℕ → Type 0
+IsLeastPlaced m certificates None = All (λ c. value_of m c.object ≡ None) certificates
+IsLeastPlaced m certificates (Some x) =
+    IsSome (value_of m x) × All (λ c. IsSome (value_of m c.object) → x ≤ c.object) certificates
 
 -- why an object is refused: it has no certificate, or its order has a first fault and is not valid
 abbrev pub IsRefused : Kind → List Call → List Certificate → ℕ → Refusal → Type 0

@@ -1,29 +1,27 @@
 //! The check of all certificates.
 
-ghost use Rattle.std.specs.Prelude.{◌≡◌, OnOk, IfOk, IfErr, IfSome, IfNone, map};
+ghost use Rattle.std.specs.Prelude.{◌≡◌, OnOk, IfOk, IfErr, IfSome, IfNone, map, min};
+ghost use Rattle.std.specs.Option.{option_map_or};
 ghost use Rattle.events.specs.Operations.{calls_of};
 ghost use Rattle.certificate.specs.Denotes.{AreDistinct};
 ghost use Rattle.checker.specs.Refusals.{AreValid, IsCheckAnswer, IsFirstRefusal};
 ghost use Rattle.checker.specs.Checking.{AreAllPlaces, IsFine, IsRefused, AreForThese};
-ghost use Rattle.checker.specs.Checking.{IsLeastBesides};
+ghost use Rattle.checker.specs.Checking.{IsLeastBesides, IsLeastPlaced};
 
 use crate::object::check_object;
 use crate::refusal::Refusal;
 use certificate::Certificate;
 use events::{History, ObjectHistory, split};
+use number_map::NumberMap;
 use std::alloc::{AllocError, Global};
-use std::collections::BTreeMap;
 
 /// Where the certificate of each object stands.
-pub fn places(
-    alloc: Global,
-    certificates: &[Certificate],
-) -> Result<BTreeMap<u32, usize>, AllocError>
+pub fn places(alloc: Global, certificates: &[Certificate]) -> Result<NumberMap<usize>, AllocError>
     ensures { IfOk result (λ m. AreAllPlaces m certificates.now) }
 {
-    let mut places = BTreeMap::new(alloc);
+    let mut places = NumberMap::new(alloc);
     for k in 0..certificates.len() {
-        places.insert(certificates[k].object, k)?;
+        places.insert(certificates[k].object as u64, k)?;
     }
     Ok(places)
 }
@@ -32,7 +30,7 @@ pub fn places(
 pub fn check_piece(
     alloc: Global,
     object: &ObjectHistory,
-    places: &BTreeMap<u32, usize>,
+    places: &NumberMap<usize>,
     certificates: &[Certificate],
 ) -> Result<(), Refusal>
     requires { AreAllPlaces places.now certificates.now }
@@ -41,17 +39,41 @@ pub fn check_piece(
     ensures refused { IfErr result
         (IsRefused object.now.kind (calls_of object.now.ops) certificates.now object.now.object) }
 {
-    let Some(place) = places.get(&object.object()).copied() else {
+    let Some(place) = places.get(object.object() as u64) else {
         let object = object.object();
         return Err(Refusal::NoCertificate { object });
     };
     check_object(alloc, object, &certificates[place])
 }
 
+/// The least number, with one more.
+fn lesser(least: Option<u32>, object: u32) -> u32
+    ensures { result ≡ option_map_or (λ x. min x object) least object }
+{
+    match least {
+        Some(x) => x.min(object),
+        None => object,
+    }
+}
+
+/// The least object of these certificates that has a place, if there is one.
+fn least_placed(places: &NumberMap<usize>, certificates: &[Certificate]) -> Option<u32>
+    ensures { IsLeastPlaced places.now certificates.now result }
+{
+    let mut least = None;
+    for certificate in certificates {
+        let object = certificate.object;
+        if places.get(object as u64).is_some() {
+            least = Some(lesser(least, object));
+        }
+    }
+    least
+}
+
 /// The least object that has a certificate and is none of these, if there is one.
 pub fn strange_object(
     objects: &[ObjectHistory],
-    mut places: BTreeMap<u32, usize>,
+    mut places: NumberMap<usize>,
     certificates: &[Certificate],
 ) -> Option<u32>
     requires { AreAllPlaces places certificates.now }
@@ -60,10 +82,9 @@ pub fn strange_object(
         (map (λ o. o.object) objects.now) certificates.now) }
 {
     for object in objects {
-        places.remove(&object.object());
+        places.remove(object.object() as u64);
     }
-    let (object, _) = places.first_key_value()?;
-    Some(*object)
+    least_placed(&places, certificates)
 }
 
 /// Checks the certificates of a history's objects. `Ok` exactly where each named object has a valid

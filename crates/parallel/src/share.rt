@@ -12,9 +12,9 @@ ghost use Rattle.parallel.specs.Shares.{max_workers};
 use certificate::Certificate;
 use checker::{Refusal, check_piece};
 use events::ObjectHistory;
+use number_map::NumberMap;
 use seq_objects::Gate;
 use std::alloc::Global;
-use std::collections::BTreeMap;
 
 /// A refusal, and the place of its object among those of the history.
 #[derive(Clone, Copy, Debug, PartialEq, Eq)]
@@ -37,7 +37,7 @@ fn piece_number(objects: &[ObjectHistory], piece: usize) -> u32
 pub(crate) fn check_share<G: Gate>(
     alloc: Global,
     objects: &[ObjectHistory],
-    places: &BTreeMap<u32, usize>,
+    places: &NumberMap<usize>,
     certificates: &[Certificate],
     worker: usize,
     workers: usize,

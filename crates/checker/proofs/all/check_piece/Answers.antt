@@ -1,6 +1,5 @@
 use Rattle.std.proofs.Common.{ap, sym, ◌∙◌, ◌≡◌, None}
-use Rattle.std.specs.BTreeMap.{get}
-use Rattle.std.specs.Ordering.{nat_cmp}
+use Rattle.number_map.specs.Lookup.{value_of}
 use Rattle.events.specs.Operations.{calls_of}
 use Rattle.certificate.specs.declared.Certificate.{Certificate}
 use Rattle.checker.specs.Checking.{IsPlace}
@@ -10,7 +9,7 @@ use Rattle.checker.proofs.all.check_piece.Goals.{In-Some}
 
 -- the certificate of the object stands at the place that is found
 here : (c : In-Some) → IsPlace c.args.certificates.now c.args.object.now.object c.in-Some.place
-here c = c.requires.places c.args.object.now.object c.in-Some.place (ap (get nat_cmp c.args.places.now) (sym c.object.ensures) ∙ (sym c.get.ensures.value ∙ (sym c.copied.ensures ∙ c.in-Some.is)))
+here c = c.requires.places c.args.object.now.object c.in-Some.place (ap (value_of c.args.places.now) (sym c.object.ensures) ∙ (sym c.get.ensures ∙ c.in-Some.is))
 
 pub bounds-certificates-place : goal.bounds-certificates-place
 bounds-certificates-place c = (here (goal.at.bounds-certificates-place c).In-Some).inside
@@ -23,7 +22,7 @@ check_object-requires c =
 pub returns-in_default-clause-refused : goal.returns-in_default-clause-refused
 returns-in_default-clause-refused c =
     let x = c.args.object.now.object in
-    let none : get nat_cmp c.args.places.now x ≡ None = ap (get nat_cmp c.args.places.now) (sym c.object.ensures) ∙ (sym c.get.ensures.value ∙ (sym c.copied.ensures ∙ c.in_default.is)) in
+    let none : value_of c.args.places.now x ≡ None = ap (value_of c.args.places.now) (sym c.object.ensures) ∙ (sym c.get.ensures ∙ c.in_default.is) in
     (c.object-object.ensures, no_certificate c.args.certificates.now c.args.places.now x c.requires none)
 
 pub returns-clause-fine : goal.returns-clause-fine

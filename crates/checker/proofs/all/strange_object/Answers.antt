@@ -1,6 +1,6 @@
 use Rattle.std.proofs.Common.{rules, ◌++◌, ◌∷◌, [], take, sym, ap, ◌∙◌, subst}
 use Rattle.std.proofs.lemmas.List.{take_more, take_all}
-use Rattle.checker.proofs.Certificates.{AreLeft, all_left, one_taken, none_besides, least_besides, none_left}
+use Rattle.checker.proofs.Certificates.{AreLeft, all_left, one_taken, strange}
 use Rattle.checker.proofs.all.strange_object.Goals as goal
 
 pub loop-object-init : goal.loop-object-init
@@ -15,17 +15,16 @@ loop-object-preserved c =
     subst (λ xs. AreLeft certificates xs c.remove.new.self) (sym whole)
     (one_taken certificates (take i os) c.object-item.result c.loop-object.places c.remove.new.self c.loop-object.invariant (search rules) (search rules))
 
-pub returns-in_err-object-clause-none : goal.returns-in_err-object-clause-none
-returns-in_err-object-clause-none c =
+pub returns-clause-none : goal.returns-clause-none
+returns-clause-none c =
     let os = c.args.objects.now in
     let l = c.loop-object in
     let left = subst (λ xs. AreLeft c.args.certificates.now xs l.places) (take_all l.object-index os c.loop-object-test.false) l.invariant in
-    let none = none_besides c.args.certificates.now os l.places left (none_left l.places (λ more. let some = c.in_err-object.ensures.variant.1 more in cc some)) in
-    rw c.from_residual.ensures none
+    (strange c.args.certificates.now os l.places c.least_placed.result left c.least_placed.ensures).0
 
 pub returns-clause-least : goal.returns-clause-least
 returns-clause-least c =
     let os = c.args.objects.now in
     let l = c.loop-object in
     let left = subst (λ xs. AreLeft c.args.certificates.now xs l.places) (take_all l.object-index os c.loop-object-test.false) l.invariant in
-    least_besides c.args.certificates.now os l.places c.in_ok-object.object.now c.in_ok-object.field-0-1.now left c.in_ok-object.ensures.value c.in_ok-object.ensures.least
+    (strange c.args.certificates.now os l.places c.least_placed.result left c.least_placed.ensures).1
