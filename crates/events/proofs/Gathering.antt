@@ -1,12 +1,6 @@
 -- Operations gathered by object, from the last event back.
 use Rattle.std.proofs.Common.{◌≡◌, ◌≢◌, ℕ, pos, ◌==◌, ◌+◌, ◌-◌, ◌<◌, ◌≤◌, Bool, true, false, cond, List, [], ◌∷◌, ◌++◌, length, drop, reverse}
 use Rattle.std.proofs.Common.{unwrap_or, Option, Some, None, get_or, refl, ap, sym, ◌∙◌, subst, arith}
-use Rattle.std.specs.Ordering.{nat_cmp, is_eq, MatchOrdering}
-use Rattle.std.specs.Cmp.{ranked}
-use Rattle.std.specs.declared.cmp.Ordering.{Ordering}
-use Rattle.std.specs.declared.cmp.Ordering.TheVariants.{Less, Equal, Greater}
-use Rattle.std.specs.BTreeMap.{BTreeMap, get, is_at}
-use Rattle.std.specs.Map.{lookup}
 use Rattle.std.proofs.lemmas.List.{reverse-append, drop_more}
 use Rattle.std.proofs.lemmas.Bool.{eqb-true, eqb-false}
 use Rattle.model.specs.declared.AnyOp.{AnyOp}
@@ -85,17 +79,6 @@ drop_back es k d some fits =
     let l : k - 1 < length es = omega arith in
     let same : k - 1 + 1 ≡ k = omega arith in
     drop_more es (k - 1) d l ∙ ap (λ i. get_or es (k - 1) d ∷ drop i es) same
-
-pub apart_keys : (k q : ℕ) → q ≢ k → is_eq (nat_cmp k q) ≡ false
-apart_keys k q ne = go (nat_cmp k q) (ranked k q _ refl)
-  where
-    go : (r : Ordering) → MatchOrdering r (k < q) (k ≡ q) (q < k) → is_eq r ≡ false
-    go Less h = refl
-    go Equal h = absurd (ne (sym h))
-    go Greater h = refl
-
-pub empty_get : {X : Type 0} (m : BTreeMap ℕ X) → m.entries ≡ [] → (q : ℕ) → get nat_cmp m q ≡ None
-empty_get m e q = ap (lookup (is_at (nat_cmp q))) e
 
 pub begins_nothing : (n : ℕ) (a : Action) (how : End) → ((op : AnyOp) → a ≡ Invoke op → ⊥) → begun n a how ≡ []
 begins_nothing n (Invoke op) how h = absurd (h op refl)

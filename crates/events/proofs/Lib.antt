@@ -4,5 +4,4 @@ pub mod Calls
 pub mod Parts
 pub mod Gathering
 pub mod Splitting
-pub mod Sorting
 pub mod Owned

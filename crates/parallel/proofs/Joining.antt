@@ -1,12 +1,18 @@
 -- The parts that workers gather, joined.
-use Rattle.std.proofs.Common.{◌≡◌, ◌≢◌, ℕ, ◌+◌, ◌%◌, ◌<◌, inl, inr, List, [], ◌∷◌, ◌++◌, length, map, get_or, Option, Some, None, Result, Ok, IfOk}
-use Rattle.std.proofs.Common.{Contains, refl, ap, sym, ◌∙◌, subst, append_assoc, arith}
-use Rattle.std.specs.Ordering.{nat_cmp}
-use Rattle.std.specs.Cmp.{nat_cmp_total}
-use Rattle.std.specs.BTreeMap.{BTreeMap, IsOrdered, Updates, get, keys}
+use Rattle.std.proofs.Common.{◌≡◌, ◌≢◌, ℕ, ◌+◌, ◌%◌, ◌<◌, inl, inr, List, [], ◌∷◌, ◌++◌, length, map, get_or, Option, Some, None, Result, Ok, Err, IfOk, All, AllPairs, ◌↔◌}
+use Rattle.std.proofs.Common.{false, Contains, refl, ap, sym, ◌∙◌, subst, append_assoc, arith}
+use Rattle.std.specs.Ordering.{nat_cmp, is_eq, MatchOrdering}
+use Rattle.std.specs.Cmp.{ranked, nat_cmp_total}
+use Rattle.std.specs.declared.cmp.Ordering.{Ordering}
+use Rattle.std.specs.declared.cmp.Ordering.TheVariants.{Less, Equal, Greater}
+use Rattle.std.specs.List.{AllByRecursion}
+use Rattle.std.specs.List.Sorted.{IsStrictlySortedBy}
+use Rattle.std.specs.BTreeMap.{BTreeMap, IsOrdered, Updates, get, keys, is_at}
+use Rattle.std.specs.Map.{lookup}
 use Rattle.std.proofs.Math.Nat.{mod-lt}
 use Rattle.std.proofs.lemmas.Bool.{cases_eq}
 use Rattle.std.proofs.lemmas.List.{append-nil}
+use Rattle.std.proofs.lemmas.Map.Keys.{sorted_head, sorted_tail}
 use Rattle.std.proofs.lemmas.Map.Lookups.{exact_unsigned}
 use Rattle.std.proofs.lemmas.Map.Views.{All-found, btree_map_get_iff}
 use Rattle.model.specs.Orders.{calls_on}
@@ -15,9 +21,28 @@ use Rattle.model.proofs.Lists.{in_from_contains, contains_from_in, all_at, all_f
 use Rattle.events.specs.declared.event.Event.{Event}
 use Rattle.events.specs.Events.{IsNamed, kind_at, denoted}
 use Rattle.events.specs.Operations.{ObjectCalls, operations_on, calls_of}
-use Rattle.events.proofs.Gathering.{apart_keys, empty_get}
-use Rattle.events.proofs.Splitting.{keys_rising}
 use Rattle.parallel.specs.Parts.{IsPart, ArePartsOf, IsPutIn, IsObjectOf, IsWhole, AreAll}
+
+-- ---- the keys of a map
+
+apart_keys : (k q : ℕ) → q ≢ k → is_eq (nat_cmp k q) ≡ false
+apart_keys k q ne = go (nat_cmp k q) (ranked k q _ refl)
+  where
+    go : (r : Ordering) → MatchOrdering r (k < q) (k ≡ q) (q < k) → is_eq r ≡ false
+    go Less h = refl
+    go Equal h = absurd (ne (sym h))
+    go Greater h = refl
+
+empty_get : {X : Type 0} (m : BTreeMap ℕ X) → m.entries ≡ [] → (q : ℕ) → get nat_cmp m q ≡ None
+empty_get m e q = ap (lookup (is_at (nat_cmp q))) e
+
+key_below : (k : ℕ) (ks : List ℕ) → AllByRecursion (λ y. nat_cmp k y ≡ Less) ks → (y : ℕ) → In y ks → k < y
+key_below k [] h y i = absurd i
+key_below k (z ∷ ks) h y i = elim i [ inl e ↦ subst (λ n. k < n) (sym e) (ranked k z Less (sym h.0)) | inr j ↦ key_below k ks h.1 y j ]
+
+keys_rising : (ks : List ℕ) → IsStrictlySortedBy nat_cmp ks → Pairs (λ a b. a < b) ks
+keys_rising [] h = tt
+keys_rising (k ∷ ks) h = (key_below k ks (sorted_head nat_cmp k ks h), keys_rising ks (sorted_tail nat_cmp k ks h))
 
 -- ---- the objects of one part
 
@@ -155,6 +180,16 @@ all_joined items all rest given m is over some h es parts =
       right = k.right;
       whole = λ x named. k.whole x named (subst (λ n. x % length all < n) long (mod-lt x more));
     }
+
+-- ---- by one worker
+
+-- what a split of a history gives
+pub all_split : {V E : Type 0} (items : V → List ObjectCalls) (es : List Event) (r : Result V E) → IfOk r (λ v. AllPairs (λ a b. a.object < b.object) (items v))
+    → IfOk r (λ v. (x : ℕ) → Contains (map (λ o. o.object) (items v)) x ↔ IsNamed es x) → IfOk r (λ v. All (λ o. o.kind ≡ kind_at es o.object) (items v))
+    → IfOk r (λ v. All (λ o. o.ops ≡ operations_on o.object es) (items v)) → IfOk r (λ v. All (λ o. calls_of o.ops ≡ calls_on o.object (denoted es)) (items v))
+    → IfOk r (λ v. AreAll es (items v))
+all_split items es (Ok v) rising named kinds operations calls = record { rising = rising; named = named; kinds = kinds; operations = operations; calls = calls }
+all_split items es (Err e) rising named kinds operations calls = tt
 
 -- ---- in a list
 

@@ -6,7 +6,7 @@ ghost use Rattle.std.specs.BTreeMap.{get};
 ghost use Rattle.events.specs.declared.event.Event.{Event};
 ghost use Rattle.parallel.specs.Parts.{IsPart, ArePartsOf, IsPutIn, IsWhole, AreAll};
 
-use events::{History, ObjectHistory, split_part};
+use events::{History, ObjectHistory, split, split_part};
 use std::alloc::{AllocError, Global};
 use std::collections::BTreeMap;
 use std::thread::{Threads, map_indices};
@@ -47,7 +47,7 @@ fn join_parts(
 ///
 /// Worker `w` gathers the objects whose numbers leave the remainder `w` by the number of workers.
 /// So the work is shared where the objects' numbers are spread over the remainders; each worker
-/// also looks once at each event.
+/// also looks once at each event. A lone worker's part is the whole.
 pub(crate) fn split_by_workers<R: Threads + Sync>(
     rt: &R,
     alloc: Global,
@@ -57,6 +57,9 @@ pub(crate) fn split_by_workers<R: Threads + Sync>(
     requires { 0 < workers }
     ensures { IfOk result (λ v. AreAll history.now v.items) }
 {
+    if workers == 1 {
+        return split(alloc, history);
+    }
     let found = map_indices(
         rt,
         alloc,

@@ -1,7 +1,11 @@
 use Rattle.std.proofs.Common.{◌≡◌, ◌<◌, length, get_or, IfOk, refl, sym, subst, arith}
 use Rattle.parallel.specs.Parts.{IsPart, ArePartsOf}
-use Rattle.parallel.proofs.Joining.{AreListed, list_more, all_listed}
+use Rattle.parallel.proofs.Joining.{AreListed, list_more, all_listed, all_split}
 use Rattle.parallel.proofs.gathering.split_by_workers.Goals as goal
+
+pub returns-then-workers-eq1 : goal.returns-then-workers-eq1
+returns-then-workers-eq1 g c =
+    all_split (λ v. v.items) c.args.history.now c.split.result c.split.ensures.rising c.split.ensures.named c.split.ensures.kinds c.split.ensures.operations c.split.ensures.calls
 
 pub join_parts-requires : goal.join_parts-requires
 join_parts-requires g c =
