@@ -7,11 +7,21 @@ from .reasons import why_not_explained
 from .running import EXAMPLES
 
 FOLDER = f"{EXAMPLES}/recorded"
-# How many operations each has; none of them failed.
-LINEARIZABLE = {"redis_register": 100_000, "redis_map": 100_000, "postgres_register": 1_000, "redis_map_paused": 1_000}
+# What each is, and how many operations it has, of which none failed.
+LINEARIZABLE = {
+    "redis_register": ("register", 100_000),
+    "redis_map": ("map", 100_000),
+    "postgres_register": ("register", 1_000),
+    "redis_map_paused": ("map", 1_000),
+}
 NOT_LINEARIZABLE = ("redis_replica_long", "sharded_queue")
 SHORT = ("postgres_queue", "redis_lock", "redis_replica", "racy_stack")
 MOST_SECONDS = 2
+
+
+def yes(kind, count):
+    """What is said of a history of one object."""
+    return f"yes: {count} operations, 1 objects\n{kind}: 1 objects, {count} operations\n"
 
 
 def recorded_histories(program, report):
@@ -29,7 +39,7 @@ def recorded_histories(program, report):
         ran = program.run("judge", file)
         report.holds(f"recorded {name}: decided in {MOST_SECONDS} s", seconds <= MOST_SECONDS, seconds)
         if name in LINEARIZABLE:
-            report.answers(f"recorded {name}: linearizable", ran, f"yes: {LINEARIZABLE[name]} operations, 1 objects\n", 0)
+            report.answers(f"recorded {name}: linearizable", ran, yes(*LINEARIZABLE[name]), 0)
             found = program.run("find", file)
             again = program.run("check", file, program.write("found.edn", found.out))
             report.equal(f"recorded {name}: check accepts the order", (0, ran.out), (again.status, again.out))
