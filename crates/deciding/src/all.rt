@@ -14,20 +14,21 @@ use events::{History, split};
 use locality::linearizable_has_orders;
 use std::alloc::{AllocError, Global};
 
-/// Decides on each object of a history, with a search of at most `limit` steps for each, and answers
-/// in rising number of the objects.
+/// Decides on each object of a history, as `decide` does, with a search of at most `steps` steps for
+/// each, or the default number of them, and answers in rising number of the objects.
 ///
 /// An error: memory was refused for the split, for the list of answers, or for a reason.
 pub fn decide_all(
     alloc: Global,
     history: &History,
-    limit: u64,
+    steps: Option<u32>,
 ) -> Result<Vec<(u32, Decision)>, AllocError>
     ensures rising { IfOk result (λ v. AllPairs (λ a b. a.0 < b.0) v.items) }
     // the objects that some invocation names, and no others
     ensures named { IfOk result (λ v. (x : ℕ)
         → Contains (map (λ a. a.0) v.items) x ↔ IsNamed history.now x) }
-    ensures decisions { IfOk result (λ v. All (λ a. IsDecisionOn history.now a.0 a.1) v.items) }
+    ensures decisions { IfOk result (λ v.
+        All (λ a. IsDecisionOn history.now steps a.0 a.1) v.items) }
     // Where one is impossible the history is not linearizable.
     ensures impossible { IfOk result (λ v. Any (λ a. is_impossible a.1 ≡ true) v.items
         → IsLinearizable (kind_at history.now) (events (denoted history.now)) → ⊥) }
@@ -43,7 +44,7 @@ pub fn decide_all(
     let objects = split(alloc, history)?;
     let mut answers = Vec::new(alloc);
     for object in &objects {
-        let answer = decide(alloc, object, limit)?;
+        let answer = decide(alloc, object, steps)?;
         answers.push((object.object(), answer))?;
     }
     Ok(answers)

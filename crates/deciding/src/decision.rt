@@ -10,10 +10,8 @@ pub enum Decision {
     Order(Certificate),
     /// No order of the operations is valid, and this shows it.
     Impossible(FoundReason),
-    /// The search wanted one more step than it may take.
-    OutOfSteps,
-    /// There are more than 4,096 operations that did not fail, so they are not searched.
-    TooLarge,
+    /// The search wanted one more step than this many, which are all that it may take.
+    OutOfSteps(u64),
     /// The search was refused memory.
     NoMemory,
 }

@@ -1,24 +1,32 @@
 //! The decision on one object.
 
-ghost use Rattle.std.specs.Prelude.{◌≡◌, ◌<◌, length, Any, IfOk, IfSome, IsSome};
+ghost use Rattle.std.specs.Prelude.{◌≡◌, ℕ, length, Any, IfOk, IfSome, IsSome, Option};
 ghost use Rattle.events.specs.Operations.{calls_of};
-ghost use Rattle.order_search.specs.Outcomes.{IsNoneValid, max_operations};
+ghost use Rattle.order_search.specs.Outcomes.{IsNoneValid};
 ghost use Rattle.search.specs.Answers.{IsFor};
 ghost use Rattle.reason_finder.specs.Reasons.{IsReasonFor};
-ghost use Rattle.deciding.specs.Decisions.{IfImpossible, IfOrder, IsDecision};
+ghost use Rattle.deciding.specs.Decisions.{IfImpossible, IfOrder, IfOutOfSteps};
+ghost use Rattle.deciding.specs.Decisions.{IsDecision, limit_of};
 
 use crate::decision::Decision;
 use candidate_reasons::Pattern;
 use events::ObjectHistory;
 use finder::{FindOutcome, find_by_kind};
+use order_search::call_count;
 use projection::part_by;
 use reason_finder::{FoundReason, find_reason};
 use refutation::{Evidence, Reason};
-use search::{SearchOutcome, TryFirst, search, search_by};
+use search::{Search, SearchOutcome, TryFirst, search_of_any_size};
 use std::alloc::{AllocError, Global};
 
 /// How many operations the search for an order of one part of a reason may try.
 const STEPS_OF_A_PART: u64 = 10_000;
+
+/// How many steps the last search has of an object of few operations, where no number is given.
+const DEFAULT_STEPS: u64 = 1_000_000;
+
+/// How many steps it has for each operation of many.
+const STEPS_OF_A_CALL: u64 = 100;
 
 /// The reason that keeps all operations.
 fn whole_reason(alloc: Global, history: &ObjectHistory) -> Result<FoundReason, AllocError>
@@ -60,16 +68,29 @@ fn first_steps(operations: usize) -> u64 {
     20_000_u64.saturating_add((operations as u64).saturating_mul(20))
 }
 
+/// The most steps of the last search among this many operations that did not fail, where this
+/// number of steps is given, or none.
+fn limit_of(steps: Option<u32>, calls: usize) -> u64
+    ensures { result ≡ limit_of steps calls }
+{
+    match steps {
+        Some(steps) => u64::from(steps),
+        None => (calls as u64)
+            .saturating_mul(STEPS_OF_A_CALL)
+            .max(DEFAULT_STEPS),
+    }
+}
+
 /// What a first search decides, which is short: it tries first what returns first.
 fn decide_by_first_search(
     alloc: Global,
     history: &ObjectHistory,
 ) -> Result<Option<Decision>, AllocError>
-    ensures { IfOk result (λ o. IfSome o
-        (IsDecision history.now.object history.now.kind (calls_of history.now.ops))) }
+    ensures { (steps : Option ℕ) → IfOk result (λ o. IfSome o
+        (IsDecision history.now.object history.now.kind (calls_of history.now.ops) steps)) }
 {
     let steps = first_steps(history.ops().len());
-    match search_by(alloc, history, TryFirst::LeastReturn, steps).found {
+    match search_of_any_size(alloc, history, TryFirst::LeastReturn, steps).found {
         SearchOutcome::Found(certificate) => Ok(Some(Decision::Order(certificate))),
         SearchOutcome::Impossible => {
             Ok(Some(Decision::Impossible(reason_where_none(alloc, history)?)))
@@ -78,45 +99,47 @@ fn decide_by_first_search(
     }
 }
 
-/// What a search of at most `limit` steps decides.
+/// What a search of all operations decides.
 fn decide_by_search(
     alloc: Global,
     history: &ObjectHistory,
-    limit: u64,
+    steps: Option<u32>,
 ) -> Result<Decision, AllocError>
-    ensures order { IfOk result (λ d. IfOrder d
-        (IsFor history.now.object history.now.kind (calls_of history.now.ops))) }
-    ensures impossible { IfOk result (λ d. IfImpossible d
-        (IsReasonFor history.now.object history.now.kind (calls_of history.now.ops))) }
-    ensures too_large { IfOk result (λ d. d ≡ Decision.TooLarge
-        → max_operations < length (calls_of history.now.ops)) }
-    ensures memory { IfOk result (λ d. d ≡ Decision.NoMemory
-        → Any (λ call. IsSome call.returned) (calls_of history.now.ops)) }
+    ensures { IfOk result (IsDecision
+        history.now.object history.now.kind (calls_of history.now.ops) steps) }
 {
-    match search(alloc, history, limit).found {
+    let limit = limit_of(steps, call_count(history.ops()));
+    let Search { found, steps } = search_of_any_size(alloc, history, TryFirst::LeastNumber, limit);
+    match found {
         SearchOutcome::Found(certificate) => Ok(Decision::Order(certificate)),
         SearchOutcome::Impossible => Ok(Decision::Impossible(whole_reason(alloc, history)?)),
-        SearchOutcome::OutOfSteps => Ok(Decision::OutOfSteps),
-        SearchOutcome::TooLarge => Ok(Decision::TooLarge),
+        SearchOutcome::OutOfSteps => Ok(Decision::OutOfSteps(steps)),
+        SearchOutcome::TooLarge => unreachable!(),
         SearchOutcome::NoMemory => Ok(Decision::NoMemory),
     }
 }
 
 /// Looks for a certificate of an object, or for a reason why it has none: first the methods that
-/// are made for its kind, and among at most 4,096 operations a first search of 20,000 steps and 20
-/// more for each operation; where these decide nothing, the finder of reasons; and else a search of
-/// at most `limit` steps, which may find either. What comes before takes none of these steps.
+/// are made for its kind, and a first search of 20,000 steps and 20 more for each operation; where
+/// these decide nothing, the finder of reasons; and else a search of at most `steps` steps, which
+/// may find either. Where no number of steps is given these are 1,000,000, or 100 for each operation
+/// that did not fail if that is more. What comes before takes none of them.
 ///
 /// That a limit is enough is not promised. An error: memory was refused for a reason.
-pub fn decide(alloc: Global, history: &ObjectHistory, limit: u64) -> Result<Decision, AllocError>
+pub fn decide(
+    alloc: Global,
+    history: &ObjectHistory,
+    steps: Option<u32>,
+) -> Result<Decision, AllocError>
     // The order of a certificate is valid.
     ensures order { IfOk result (λ d. IfOrder d
         (IsFor history.now.object history.now.kind (calls_of history.now.ops))) }
     // Impossible comes with a reason, which shows that no order is valid.
     ensures impossible { IfOk result (λ d. IfImpossible d
         (IsReasonFor history.now.object history.now.kind (calls_of history.now.ops))) }
-    ensures too_large { IfOk result (λ d. d ≡ Decision.TooLarge
-        → max_operations < length (calls_of history.now.ops)) }
+    // Out of steps comes with their number: all that the search may take.
+    ensures out_of_steps { IfOk result (λ d. IfOutOfSteps d
+        (λ n. n ≡ limit_of steps (length (calls_of history.now.ops)))) }
     // The search asks for memory only where some operation returned.
     ensures memory { IfOk result (λ d. d ≡ Decision.NoMemory
         → Any (λ call. IsSome call.returned) (calls_of history.now.ops)) }
@@ -130,5 +153,5 @@ pub fn decide(alloc: Global, history: &ObjectHistory, limit: u64) -> Result<Deci
     if let Ok(Some(found)) = find_reason(alloc, history, STEPS_OF_A_PART) {
         return Ok(Decision::Impossible(found));
     }
-    decide_by_search(alloc, history, limit)
+    decide_by_search(alloc, history, steps)
 }

@@ -39,8 +39,7 @@ fn words_of(alloc: Global, decision: &Decision) -> Result<String, Fail> {
             let numbers: Vec<u32> = found.part.ops().iter().map(|o| o.number).collect(alloc)?;
             format!(in alloc; "impossible by {numbers:?}")?
         }
-        Decision::OutOfSteps => format!(in alloc; "out of steps")?,
-        Decision::TooLarge => format!(in alloc; "too large")?,
+        Decision::OutOfSteps(steps) => format!(in alloc; "out of steps after {steps}")?,
         Decision::NoMemory => format!(in alloc; "no memory")?,
     })
 }
@@ -58,18 +57,23 @@ fn is_accepted(alloc: Global, object: &ObjectHistory, decision: &Decision) -> bo
 
 /// Compares the decisions on all objects of the history, and those on each alone, with what they
 /// must be.
-fn decisions(alloc: Global, text: &str, limit: u64, wanted: &[(u32, &str)]) -> Result<(), Fail> {
+fn decisions(
+    alloc: Global,
+    text: &str,
+    steps: Option<u32>,
+    wanted: &[(u32, &str)],
+) -> Result<(), Fail> {
     let Ok(history) = read_history_text(alloc, text.as_bytes()) else {
         return Err(Fail::new("a history is refused"));
     };
     let objects = split(alloc, &history)?;
-    let all = decide_all(alloc, &history, limit)?;
+    let all = decide_all(alloc, &history, steps)?;
     if all.len() != wanted.len() || objects.len() != wanted.len() {
         return Err(Fail::new("another number of objects"));
     }
     for (k, (number, words)) in wanted.iter().enumerate() {
         let (object, decision) = &all[k];
-        let alone = decide(alloc, &objects[k], limit)?;
+        let alone = decide(alloc, &objects[k], steps)?;
         if object != number
             || words_of(alloc, decision)?.as_str() != *words
             || words_of(alloc, &alone)?.as_str() != *words
@@ -92,6 +96,6 @@ fn an_object_is_found_or_impossible(rt: HostRuntime) -> Result<(), Fail> {
         (9, "[7, 6, 10]"),
         (12, "[13, 12, 16]"),
     ];
-    decisions(rt.alloc(), HISTORY, 100, &wanted)?;
-    decisions(rt.alloc(), HISTORY, 0, &wanted)
+    decisions(rt.alloc(), HISTORY, None, &wanted)?;
+    decisions(rt.alloc(), HISTORY, Some(0), &wanted)
 }

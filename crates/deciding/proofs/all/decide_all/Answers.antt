@@ -12,17 +12,17 @@ loop-object-init c = no_answers _ _ _ _
 pub loop-object-preserved : goal.loop-object-preserved
 loop-object-preserved c =
     let e = c.in_ok-answer.ensures in
-    one_more_answer _ IsDecided _ _ _ _ _ _ c.in_ok-answer.answer c.loop-object-test.true c.object-item.is c.object.ensures c.in_ok-push.ensures.items
-    (record { order = e.order; impossible = e.impossible; too_large = e.too_large; memory = e.memory }) c.loop-object.invariant
+    one_more_answer _ (IsDecided c.args.steps) _ _ _ _ _ _ c.in_ok-answer.answer c.loop-object-test.true c.object-item.is c.object.ensures c.in_ok-push.ensures.items
+    (record { order = e.order; impossible = e.impossible; out_of_steps = e.out_of_steps; memory = e.memory }) c.loop-object.invariant
 
 pub returns : goal.returns
 returns c =
-    let all = on_all _ IsDecided _ _ _ c.loop-object-test.false c.loop-object.invariant in
+    let all = on_all _ (IsDecided c.args.steps) _ _ _ c.loop-object-test.false c.loop-object.invariant in
     record {
       rising = all.rising;
       named = all.named;
       decisions = all.each;
-      impossible = not_linearizable _ _ c.linearizable_has_orders.ensures c.events.ensures.history all;
-      distinct = distinct certificate_in _ IsDecided _ certifies all;
-      valid = valid certificate_in _ IsDecided _ certifies all;
+      impossible = not_linearizable _ c.args.steps _ c.linearizable_has_orders.ensures c.events.ensures.history all;
+      distinct = distinct certificate_in _ (IsDecided c.args.steps) _ (certifies c.args.steps) all;
+      valid = valid certificate_in _ (IsDecided c.args.steps) _ (certifies c.args.steps) all;
     }

@@ -1,8 +1,8 @@
-use Rattle.std.proofs.Common.{◌≡◌, ◌∙◌, List, [], sym, subst}
+use Rattle.std.proofs.Common.{◌≡◌, ◌∙◌, List, sym, subst}
 use Rattle.std.specs.Prelude.{IfSome}
 use Rattle.model.specs.declared.Kind.{Kind}
 use Rattle.model.specs.Orders.{Call}
-use Rattle.events.specs.Operations.{ObjectCalls, calls_of}
+use Rattle.events.specs.Operations.{calls_of}
 use Rattle.order_search.specs.Outcomes.{IsNoneValid}
 use Rattle.projection.specs.declared.cutting.Cut.{Cut}
 use Rattle.projection.specs.Cuts.{IsPart, NamesPart, part_kind}
