@@ -9,12 +9,13 @@ ghost use Rattle.deciding.specs.Decisions.{IfImpossible, IfOrder, IfOutOfSteps};
 ghost use Rattle.deciding.specs.Decisions.{IsDecision, limit_of};
 
 use crate::decision::Decision;
+use candidate_orders::open_keys;
 use candidate_reasons::Pattern;
 use events::ObjectHistory;
 use finder::{FindOutcome, find_by_kind};
 use order_search::call_count;
 use projection::part_by;
-use reason_finder::{FoundReason, find_reason};
+use reason_finder::{FoundReason, find_reason, find_reason_on};
 use refutation::{Evidence, Reason};
 use search::{Search, SearchOutcome, TryFirst, search_of_any_size};
 use std::alloc::{AllocError, Global};
@@ -27,6 +28,9 @@ const DEFAULT_STEPS: u64 = 1_000_000;
 
 /// How many steps it has for each operation of many.
 const STEPS_OF_A_CALL: u64 = 100;
+
+/// Among how many operations at most the last search tries first that of the least number.
+const MOST_BY_NUMBER: usize = 4096;
 
 /// The reason that keeps all operations.
 fn whole_reason(alloc: Global, history: &ObjectHistory) -> Result<FoundReason, AllocError>
@@ -99,6 +103,33 @@ fn decide_by_first_search(
     }
 }
 
+/// A reason on one key of a map, of those for which no order was found. Each is searched alone.
+fn reason_on_a_key(
+    alloc: Global,
+    history: &ObjectHistory,
+) -> Result<Option<FoundReason>, AllocError>
+    ensures { IfOk result (λ o. IfSome o (IsReasonFor
+        history.now.object history.now.kind (calls_of history.now.ops))) }
+{
+    let steps = first_steps(history.ops().len());
+    for key in &open_keys(alloc, history)? {
+        if let Some(found) = find_reason_on(alloc, history, *key, steps)? {
+            return Ok(Some(found));
+        }
+    }
+    Ok(None)
+}
+
+/// Which operation the last search among this many tries first. Where there are many it goes by
+/// their returns, since it then looks at those alone that can come next.
+fn last_first(calls: usize) -> TryFirst {
+    if calls > MOST_BY_NUMBER {
+        TryFirst::LeastReturn
+    } else {
+        TryFirst::LeastNumber
+    }
+}
+
 /// What a search of all operations decides.
 fn decide_by_search(
     alloc: Global,
@@ -108,8 +139,9 @@ fn decide_by_search(
     ensures { IfOk result (IsDecision
         history.now.object history.now.kind (calls_of history.now.ops) steps) }
 {
-    let limit = limit_of(steps, call_count(history.ops()));
-    let Search { found, steps } = search_of_any_size(alloc, history, TryFirst::LeastNumber, limit);
+    let calls = call_count(history.ops());
+    let limit = limit_of(steps, calls);
+    let Search { found, steps } = search_of_any_size(alloc, history, last_first(calls), limit);
     match found {
         SearchOutcome::Found(certificate) => Ok(Decision::Order(certificate)),
         SearchOutcome::Impossible => Ok(Decision::Impossible(whole_reason(alloc, history)?)),
@@ -121,8 +153,8 @@ fn decide_by_search(
 
 /// Looks for a certificate of an object, or for a reason why it has none: first the methods that
 /// are made for its kind, and a first search of 20,000 steps and 20 more for each operation; where
-/// these decide nothing, the finder of reasons; and else a search of at most `steps` steps, which
-/// may find either. Where no number of steps is given these are 1,000,000, or 100 for each operation
+/// these decide nothing, the finder of reasons; then, at a map, a search of each key that is open;
+/// and else a search of at most `steps` steps, which may find either. Where no number of steps is given these are 1,000,000, or 100 for each operation
 /// that did not fail if that is more. What comes before takes none of them.
 ///
 /// That a limit is enough is not promised. An error: memory was refused for a reason.
@@ -151,6 +183,9 @@ pub fn decide(
         return Ok(decision);
     }
     if let Ok(Some(found)) = find_reason(alloc, history, STEPS_OF_A_PART) {
+        return Ok(Decision::Impossible(found));
+    }
+    if let Ok(Some(found)) = reason_on_a_key(alloc, history) {
         return Ok(Decision::Impossible(found));
     }
     decide_by_search(alloc, history, steps)
