@@ -2,6 +2,8 @@
 kind of the object is left to find an order.
 
 The numbers by chance are those of a generator whose multiplier and increment are told, so that the histories are always the same."""
+import itertools
+
 from . import force
 from .rows import HISTORY
 from .small import find_both_sorts
@@ -75,15 +77,11 @@ def calls_in_order(chance, kind, count):
     return calls
 
 
-def stack_calls(chance, count, bound):
-    """Calls on a stack, whose values are below this bound."""
+def calls_below(chance, kind, count, bound):
+    """Calls on a queue, stack or heap, whose values are below this bound."""
     values, calls = [], []
     for _ in range(count):
-        if chance.below(2) == 0:
-            values.append(chance.below(bound))
-            calls.append(("push", values[-1], values[-1]))
-        else:
-            calls.append(("pop", None, values.pop() if values else None))
+        calls.append(call_of_values(chance, values, kind, chance.below(bound)))
     return calls
 
 
@@ -148,10 +146,12 @@ def each_value_once(kind, chance):
         yield history_of(chance, first_comes_last(chance, calls_in_order(chance, kind, 3 + turn % 6)))
 
 
-def stacks_of_two_values():
+def of_two_values(kind, pending):
+    """Histories over two values; of the calls some do not return, if they may be pending."""
     chance = force.Chance(37)
     for turn in range(100):
-        yield history_of(chance, first_comes_last(chance, stack_calls(chance, 4 + turn % 8, 2)))
+        events = history_of(chance, first_comes_last(chance, calls_below(chance, kind, 4 + turn % 8, 2)))
+        yield some_pending(chance, events) if pending else events
 
 
 def sorted_of(those):
@@ -167,6 +167,10 @@ def has_between(report, name, histories, least, most):
     report.holds(f"{name}: some have an order, and some have none", least < count - impossible < most, (count, impossible))
 
 
+def two_values(kind, pending):
+    return f"find: drawn {kind}s over two values{', with pending calls' if pending else ''}"
+
+
 def drawn_are_found(program, report):
     """Where a short history that is drawn has an order, find finds it."""
     chance = force.Chance(2026)
@@ -174,16 +178,18 @@ def drawn_are_found(program, report):
         histories = sorted_of(each_value_once(kind, chance))
         has_between(report, f"find: drawn histories of a {kind}", histories, 40, 150)
         find_both_sorts(program, report, f"find: drawn histories of a {kind}", histories)
-    histories = sorted_of(stacks_of_two_values())
-    has_between(report, "find: drawn stacks over two values", histories, 30, 100)
-    find_both_sorts(program, report, "find: drawn stacks over two values", histories)
+    for kind, pending in itertools.product(NAMES, (False, True)):
+        name, histories = two_values(kind, pending), sorted_of(of_two_values(kind, pending))
+        has_between(report, name, histories, 25, 100)
+        find_both_sorts(program, report, name, histories)
 
 
 def found_after_idle_calls(program, report):
     """The same after more calls than a search takes, and where values repeat."""
     sorts = [(it, "", each_value_once(it, force.Chance(2026)), 40, 150) for it in KINDS]
     sorts += [(it, ", where values repeat", repeated_values(it), 40, 150) for it in ("register", "map")]
-    sorts.append(("stack", " over two values", stacks_of_two_values(), 30, 100))
+    sorts += [(it, " over two values", of_two_values(it, False), 25, 100) for it in NAMES]
+    sorts += [(it, " over two values with pending calls", of_two_values(it, True), 25, 100) for it in NAMES]
     for kind, more, those, least, most in sorts:
         name, histories = f"find: drawn histories of a {kind}{more}, after idle calls", sorted_of(those)
         has_between(report, name, histories, least, most)
@@ -200,7 +206,7 @@ def long_ones_are_found(program, report):
     chance = force.Chance(2026)
     long = [(kind, history_of(chance, calls_in_order(chance, kind, 5000))) for kind in KINDS]
     chance = force.Chance(37)
-    long.append(("stack over five values", history_of(chance, stack_calls(chance, 5000, 5))))
+    long.append(("stack over five values", history_of(chance, calls_below(chance, "stack", 5000, 5))))
     for kind, events in long:
         text = lines(*[{"invoke": invoke, "ok": ok}[of](process, f, value) for process, of, f, value in events])
         look = lambda history, _, count: force.of_orders(program, f"find: five thousand calls of a {kind}", ("find",), history, count)

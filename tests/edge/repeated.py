@@ -391,8 +391,16 @@ def repeated_values(program, report):
         program.write(HISTORY, history)
         is_answered(program, report, f"search: a {kind}: {why}", ("search",), valid, "impossible", 1)
         is_answered(program, report, f"find: a {kind}: {why}", ("find",), valid, "open", 3)
+        is_judged(program, report, f"judge: a {kind}: {why}", valid)
         program.write(HISTORY, idle_calls(kind) + history)
         is_answered(program, report, f"find: a {kind}: {why}, after idle calls", ("find",), valid, "open", 3)
+        is_judged(program, report, f"judge: a {kind}: {why}, after idle calls", valid)
+
+
+def is_judged(program, report, name, valid):
+    """Whether judge decides as it should."""
+    ran = program.run("judge", HISTORY)
+    report.equal(name, 0 if valid else 1, ran.status, ran)
 
 
 def is_answered(program, report, name, words, valid, said, status):
