@@ -45,8 +45,7 @@ fn doubt_of_search(alloc: Global, part: &ObjectHistory, limit: u64) -> Option<Do
     ensures shown { result ≡ None → IsNoneValid part.now.kind (calls_of part.now.ops) }
     ensures doubt { IfSome result (IsDoubt Evidence.Search part.now) }
 {
-    let Attempt { outcome, .. } =
-        find_order_of_any_size(alloc, part, TryFirst::LeastNumber, limit);
+    let Attempt { outcome, .. } = find_order_of_any_size(alloc, part, TryFirst::LeastNumber, limit);
     match outcome {
         Outcome::Found(_) => Some(Doubt::Possible),
         Outcome::Impossible => None,
