@@ -42,8 +42,9 @@ extern "C" {
 /* Not decided: the lines say why, as an object that stays open, or `out of memory`. */
 #define FCBENCH_OPEN 3u
 
-/* The program's number of steps where it is given none. */
-#define FCBENCH_STEPS 1000000u
+/* As many steps as the program takes where it is given none: 1,000,000; of fcbench_judge 100 for each
+ * operation of the object if that is more. */
+#define FCBENCH_STEPS UINT32_MAX
 
 /* Judges a history by certificates, an order of operations for each object. */
 uint32_t fcbench_check(const uint8_t *history, size_t history_length,

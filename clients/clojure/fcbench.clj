@@ -473,7 +473,7 @@
     (and (= 0 exit) (string/starts-with? out "yes: ")) true
     (and (= 1 exit) (string/includes? out ": impossible\n")) false
     (and (= 2 exit) (string/starts-with? out "malformed history: ")) :unknown
-    (and (= 3 exit) (re-find #"(?m)^(; object \d+: (out of|too large)|out of memory)" out)) :unknown))
+    (and (= 3 exit) (re-find #"(?m)^(; object \d+: out of|out of memory)" out)) :unknown))
 
 (defn- judged [{:keys [program] :as options} how path]
   (let [{:keys [exit out err]} (run options "judge" path)

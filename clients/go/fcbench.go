@@ -15,8 +15,9 @@ import (
 	"unsafe"
 )
 
-// Steps is the program's number of steps where it is given none.
-const Steps = 1000000
+// Steps stands for as many steps as the program takes where it is given none: 1,000,000; of a judgement 100 for each operation of the
+// object if that is more.
+const Steps = 1<<32 - 1
 
 // capacity is how much room there is for lines at first.
 const capacity = 512

@@ -9,7 +9,8 @@ import enum
 import os
 import typing
 
-STEPS = 1_000_000
+# As many steps as the program takes where it is given none: 1,000,000; of a judgement 100 for each operation of the object if that is more.
+STEPS = 2**32 - 1
 CAPACITY = 512
 HERE = os.path.dirname(os.path.abspath(__file__))
 PLACES = (f"{HERE}/../../crates/embedding/out/libfcbench.so", f"{HERE}/../../lib/libfcbench.so")

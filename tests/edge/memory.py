@@ -132,7 +132,7 @@ def is_out_of_memory(command, whole, ran):
         return is_out_of_memory("judge", whole, told_by(ran))
     if command == "judge":
         # It tells only the objects that have no certificate. Where no memory is left to look for a reason it searches.
-        lines = rb"(; object \d+: (out of memory|out of steps after \d+|too large)\n)+"
+        lines = rb"(; object \d+: (out of memory|out of steps after \d+)\n)+"
         return ran.status == NO_MEMORY and re.fullmatch(lines, ran.out) is not None
     if command == "refute":
         return ran.status == NO_MEMORY and b": not shown: out of memory\n" in ran.out

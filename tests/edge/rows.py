@@ -200,15 +200,31 @@ LARGEST, LEAST = 9223372036854775807, -9223372036854775808
 PENDING_4096, PENDING_4097 = [FAILED + lines(*[invoke(1 + it, "dequeue") for it in range(count)]) for count in (4096, 4097)]
 TOO_MANY_TO_SEARCH = one_process(*[("enqueue", 1, 1)] * 4097)
 
-# Two swaps are refused after two writes that overlap, though one of the two values is there. After 4,100 other writes no reason
-# is found for that.
-TOO_MANY_AND_NO_REASON = one_process(*[("write", 1, 1)] * 4100) + lines(
-    invoke(0, "write", 1),
-    invoke(1, "write", 2),
-    ok(0, "write", 1),
-    ok(1, "write", 2),
-    *[it for of in (1, 2) for it in (invoke(0, "cas", (of, 9)), ok(0, "cas", False))],
+
+
+def refused_swaps(before, writers):
+    """Swaps are refused after writes that overlap, though one of their values is there. After many other writes no reason is found for
+    that."""
+    return one_process(*[("write", 1, 1)] * before) + lines(
+        *[invoke(it, "write", it + 1) for it in range(writers)],
+        *[ok(it, "write", it + 1) for it in range(writers)],
+        *[it for of in range(writers) for it in (invoke(0, "cas", (of + 1, 99)), ok(0, "cas", False))],
+    )
+
+
+# What a judgement says of swaps that are refused after 4,100 writes and two that overlap: a search finds that no order is valid.
+ALL_OF_MANY = lines(
+    "; object 0: impossible",
+    "; these operations have no valid order",
+    *[f"; maps {2 * it} and {2 * it + 1}: process 0, :write 1, :ok 1" for it in range(4100)],
+    "; maps 8200 and 8202: process 0, :write 1, :ok 1",
+    "; maps 8201 and 8203: process 1, :write 2, :ok 2",
+    "; maps 8204 and 8205: process 0, :cas [1 99], :ok false",
+    "; maps 8206 and 8207: process 0, :cas [2 99], :ok false",
+    "; {:object 0, :cuts []}",
 )
+# Of 16 writes that overlap a search would take some millions of steps. There are 10,032 operations.
+MANY_SWAPS = refused_swaps(10_000, 16)
 
 # Schedules.
 
@@ -520,7 +536,15 @@ JUDGEMENTS = [
     judge("a mutex is passed on", MUTEX, MUTEX_YES, 0),
     judge("an order that takes a search", FIRST_WRITE_LAST, "; object 0: out of steps after 0\n", 3, "--steps", "0"),
     judge("an order that a search finds", FIRST_WRITE_LAST, yes(23, 1, "register: 1 objects, 23 operations"), 0),
-    judge("no reason, and too many to search", TOO_MANY_AND_NO_REASON, "; object 0: too large\n", 3, "--steps", "1000"),
+    judge(
+        "an order of many that a search finds",
+        one_process(*[("write", 1, 1)] * 4100) + FIRST_WRITE_LAST,
+        yes(4123, 1, "register: 1 objects, 4123 operations"),
+        0,
+    ),
+    judge("no order of many, and no reason", refused_swaps(4100, 2), ALL_OF_MANY, 1, "--steps", "0"),
+    judge("100 steps for each operation of many", MANY_SWAPS, "; object 0: out of steps after 1003200\n", 3),
+    judge("fewer steps for many operations", MANY_SWAPS, "; object 0: out of steps after 1000\n", 3, "--steps", "1000"),
     judge("a malformed history", AFTER_INFO, "malformed history: H8 at map 2\n", 2),
 ]
 

@@ -269,7 +269,7 @@ class Said:
         return is_so and all((it.reply, it.end) == (int(v), "ok") and it.at <= int(until) for it in of)
 
     def left_open(self, x, why):
-        return bool(self.on(int(x))) and why in ("out of steps", "too large", "out of memory")
+        return bool(self.on(int(x))) and why in ("out of steps", "out of memory")
 
     def contents(self, calls, has_window):
         """What the object may have contained before the part: nothing, or, where it is a window, any small content."""

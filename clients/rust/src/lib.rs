@@ -10,8 +10,9 @@ pub mod recorder;
 
 use std::fmt::{self, Display};
 
-/// The program's number of steps where it is given none.
-pub const STEPS: u32 = 1_000_000;
+/// As many steps as the program takes where it is given none: 1,000,000; of a judgement 100 for each operation of the object if that is
+/// more.
+pub const STEPS: u32 = u32::MAX;
 
 /// How much room there is for lines at first.
 const CAPACITY: usize = 512;

@@ -5,13 +5,13 @@ use Rattle.clap.specs.Kinds.{or_else}
 use Rattle.clap.specs.Walk.{Row, Text, Walk, settled, finished, first_of, nothing_held, rows_after, walked}
 use Rattle.clap.proofs.OnLiterals.{clap_on_literals}
 use Rattle.command_line.specs.declared.asking.DrawOptions.{DrawOptions}
-use Rattle.command_line.specs.Limits.{default_steps}
-use Rattle.command_line.specs.Words.{AreSteps, HasDraw, IsChosen, IsPlain, command}
+use Rattle.command_line.specs.Limits.{max_number, max_steps}
+use Rattle.command_line.specs.Words.{HasDraw, IsChosen, IsPlain, command}
 use Rattle.command_line.proofs.Walks.{certs_state, drawn, drawn_state, history_is, names, plain_word, state0, top}
 
 -- where no option is given, a drawing is of this
 abbrev pub plain_draw : DrawOptions
-plain_draw = record { object = None; from = None; to = None; steps = default_steps }
+plain_draw = record { object = None; from = None; to = None; steps = None }
 
 -- ---- one file
 
@@ -33,10 +33,10 @@ drawn_values h ph =
       history_first = ap (first_of (codes "HISTORY")) last;
       certs_first = ap (first_of (codes "CERTS")) last;
       options = record {
-        object = subst (λ o. IsChosen o None) (sym (ap (first_of (codes "object")) last)) refl;
-        from = subst (λ o. IsChosen o None) (sym (ap (first_of (codes "from")) last)) refl;
-        to = subst (λ o. IsChosen o None) (sym (ap (first_of (codes "to")) last)) refl;
-        steps = subst (λ o. AreSteps o default_steps) (sym (ap (first_of (codes "steps")) last)) refl;
+        object = subst (λ o. IsChosen max_number o None) (sym (ap (first_of (codes "object")) last)) refl;
+        from = subst (λ o. IsChosen max_number o None) (sym (ap (first_of (codes "from")) last)) refl;
+        to = subst (λ o. IsChosen max_number o None) (sym (ap (first_of (codes "to")) last)) refl;
+        steps = subst (λ o. IsChosen max_steps o None) (sym (ap (first_of (codes "steps")) last)) refl;
       };
     }
 
@@ -67,10 +67,10 @@ both_values h c ph pc =
       history_first = ap (first_of (codes "HISTORY")) last;
       certs_first = ap (first_of (codes "CERTS")) last;
       options = record {
-        object = subst (λ o. IsChosen o None) (sym (ap (first_of (codes "object")) last)) refl;
-        from = subst (λ o. IsChosen o None) (sym (ap (first_of (codes "from")) last)) refl;
-        to = subst (λ o. IsChosen o None) (sym (ap (first_of (codes "to")) last)) refl;
-        steps = subst (λ o. AreSteps o default_steps) (sym (ap (first_of (codes "steps")) last)) refl;
+        object = subst (λ o. IsChosen max_number o None) (sym (ap (first_of (codes "object")) last)) refl;
+        from = subst (λ o. IsChosen max_number o None) (sym (ap (first_of (codes "from")) last)) refl;
+        to = subst (λ o. IsChosen max_number o None) (sym (ap (first_of (codes "to")) last)) refl;
+        steps = subst (λ o. IsChosen max_steps o None) (sym (ap (first_of (codes "steps")) last)) refl;
       };
     }
 

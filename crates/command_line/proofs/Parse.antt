@@ -24,8 +24,8 @@ use Rattle.clap.specs.Simple.{App, HasMatchesOf, subcommand_rows_of, built, ente
 use Rattle.clap.specs.Walk.{Row, Text, Walk, settled, finished, first_of, nothing_held, rows_after, rows_of, walk, walked}
 use Rattle.clap.proofs.OnLiterals.{clap_on_literals}
 use Rattle.order_search.specs.declared.trials.TryFirst.TheVariants.{LeastNumber}
-use Rattle.command_line.specs.Limits.{max_workers, default_steps}
-use Rattle.command_line.specs.Words.{AreNoOptions, AreRunOptions, AreSteps, IsFirst, AskFor, AskOnFile, AskToCheck, Finds, HasCheck, HasJudge}
+use Rattle.command_line.specs.Limits.{max_workers, max_steps, default_steps}
+use Rattle.command_line.specs.Words.{AreNoOptions, AreRunOptions, AreSteps, IsChosen, IsFirst, AskFor, AskOnFile, AskToCheck, Finds, HasCheck, HasJudge}
 use Rattle.command_line.specs.Words.{HasNoCheck, HasNoDraw, HasNoJudge, HasNoRefute, HasNoRun, HasNoSearch, HasRefute, HasSearch, HasDraw, IsCheckFound, IsCommand, IsFault, IsFileFound, IsFor}
 use Rattle.command_line.specs.Words.{IsNumber, IsPlain, IsPlainCheck, IsPlainRun, IsPlainSearch, IsPlainSimulate, IsPlainFind, IsPlainJudge, IsPlainRefute, IsPlainDraw, IsPlainCheckedDraw, Lacks}
 use Rattle.command_line.specs.Words.{LacksFor, command, values}
@@ -238,11 +238,11 @@ sought_values h p =
       first_first = subst (λ o. IsFirst o LeastNumber) (sym (ap (first_of (codes "first")) last)) refl;
     }
 
-judged_values : (h : Text) → IsPlain h → HasJudge (rows_after judged.rules [] (h ∷ [])) h default_steps
+judged_values : (h : Text) → IsPlain h → HasJudge (rows_after judged.rules [] (h ∷ [])) h None
 unfolding clap_on_literals
 judged_values h p =
     let last = ap (λ (v : Walk). finished judged.rules v.held) (file_walked judged (codes "HISTORY") judged_takes h p) in
-    record { history_first = ap (first_of (codes "HISTORY")) last; steps_first = subst (λ o. AreSteps o default_steps) (sym (ap (first_of (codes "steps")) last)) refl }
+    record { history_first = ap (first_of (codes "HISTORY")) last; steps_first = subst (λ o. IsChosen max_steps o None) (sym (ap (first_of (codes "steps")) last)) refl }
 
 simple : is_simple_and_free command ≡ true
 unfolding clap_on_literals
@@ -370,7 +370,7 @@ only_memory_judge words f p =
       search = other (codes "judge") (codes "search") _ refl;
       run = other (codes "judge") (codes "run") _ refl;
       check = other (codes "judge") (codes "check") _ refl;
-      judge = λ is none. none p.history default_steps (judged_values p.history p.history_plain);
+      judge = λ is none. none p.history None (judged_values p.history p.history_plain);
       refute = other (codes "judge") (codes "refute") _ refl;
       draw = other (codes "judge") (codes "draw") _ refl;
     } in

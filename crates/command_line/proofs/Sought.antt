@@ -7,8 +7,8 @@ use Rattle.clap.proofs.WalkLemmas.{first_value-rows}
 use Rattle.order_search.specs.declared.trials.TryFirst.{TryFirst}
 use Rattle.command_line.specs.declared.asking.DrawOptions.{DrawOptions}
 use Rattle.command_line.specs.declared.asking.RunOptions.{RunOptions}
-use Rattle.command_line.specs.Limits.{max_workers}
-use Rattle.command_line.specs.Words.{AreDrawOptions, AreRunOptions, AreSteps, HasCheck, HasDraw, HasJudge, HasNoCheck, HasNoDraw, HasNoJudge, HasNoRefute, HasNoRun, HasNoSearch, HasRefute, HasSearch, IsFirst, IsNumber}
+use Rattle.command_line.specs.Limits.{max_steps, max_workers}
+use Rattle.command_line.specs.Words.{AreDrawOptions, AreRunOptions, AreSteps, HasCheck, HasDraw, HasJudge, HasNoCheck, HasNoDraw, HasNoJudge, HasNoRefute, HasNoRun, HasNoSearch, HasNoSteps, HasRefute, HasSearch, HasSteps, IsChosen, IsFirst, IsNumber}
 
 absent : {X : Type 0} {o p : Option X} {x : X} → o ≡ None → o ≡ p → p ≡ Some x → ⊥
 absent e f g = cc
@@ -31,22 +31,34 @@ module _ (inner : Found) where
     workers_first = subst (λ o. IsNumber 1 max_workers 1 o n) (first_value-rows inner (codes "workers")) w;
   }
 
-  pub no_file : first_value inner (codes "HISTORY") ≡ None → HasNoJudge (rows_of inner)
+  pub no_file : first_value inner (codes "HISTORY") ≡ None → HasNoSteps (rows_of inner)
   no_file e h n v = absent e (first_value-rows inner (codes "HISTORY")) v.history_first
 
-  pub no_steps : ((n : ℕ) → AreSteps (first_value inner (codes "steps")) n → ⊥) → HasNoJudge (rows_of inner)
+  pub no_steps : ((n : ℕ) → AreSteps (first_value inner (codes "steps")) n → ⊥) → HasNoSteps (rows_of inner)
   no_steps none h n v = none n (subst (λ o. AreSteps o n) (sym (first_value-rows inner (codes "steps"))) v.steps_first)
 
-  pub has_judge : (h : Text) (n : ℕ) → first_value inner (codes "HISTORY") ≡ Some h → AreSteps (first_value inner (codes "steps")) n → HasJudge (rows_of inner) h n
-  has_judge h n e s = record {
+  pub has_steps : (h : Text) (n : ℕ) → first_value inner (codes "HISTORY") ≡ Some h → AreSteps (first_value inner (codes "steps")) n → HasSteps (rows_of inner) h n
+  has_steps h n e s = record {
     history_first = sym (first_value-rows inner (codes "HISTORY")) ∙ e;
     steps_first = subst (λ o. AreSteps o n) (first_value-rows inner (codes "steps")) s;
+  }
+
+  pub no_judged_file : first_value inner (codes "HISTORY") ≡ None → HasNoJudge (rows_of inner)
+  no_judged_file e h n v = absent e (first_value-rows inner (codes "HISTORY")) v.history_first
+
+  pub no_judged_steps : ((n : Option ℕ) → IsChosen max_steps (first_value inner (codes "steps")) n → ⊥) → HasNoJudge (rows_of inner)
+  no_judged_steps none h n v = none n (subst (λ o. IsChosen max_steps o n) (sym (first_value-rows inner (codes "steps"))) v.steps_first)
+
+  pub has_judge : (h : Text) (n : Option ℕ) → first_value inner (codes "HISTORY") ≡ Some h → IsChosen max_steps (first_value inner (codes "steps")) n → HasJudge (rows_of inner) h n
+  has_judge h n e s = record {
+    history_first = sym (first_value-rows inner (codes "HISTORY")) ∙ e;
+    steps_first = subst (λ o. IsChosen max_steps o n) (first_value-rows inner (codes "steps")) s;
   }
 
   pub no_reasons : first_value inner (codes "REASONS") ≡ None → HasNoRefute (rows_of inner)
   no_reasons e h r n v = absent e (first_value-rows inner (codes "REASONS")) v.reasons_first
 
-  pub has_refute : (h r : Text) (n : ℕ) → HasJudge (rows_of inner) h n → first_value inner (codes "REASONS") ≡ Some r → HasRefute (rows_of inner) h r n
+  pub has_refute : (h r : Text) (n : ℕ) → HasSteps (rows_of inner) h n → first_value inner (codes "REASONS") ≡ Some r → HasRefute (rows_of inner) h r n
   has_refute h r n j e = record {
     history_first = j.history_first;
     reasons_first = sym (first_value-rows inner (codes "REASONS")) ∙ e;
@@ -56,7 +68,7 @@ module _ (inner : Found) where
   pub no_order : ((first : TryFirst) → IsFirst (first_value inner (codes "first")) first → ⊥) → HasNoSearch (rows_of inner)
   no_order none h n first v = none first (subst (λ o. IsFirst o first) (sym (first_value-rows inner (codes "first"))) v.first_first)
 
-  pub has_search : (h : Text) (n : ℕ) (first : TryFirst) → HasJudge (rows_of inner) h n → IsFirst (first_value inner (codes "first")) first → HasSearch (rows_of inner) h n first
+  pub has_search : (h : Text) (n : ℕ) (first : TryFirst) → HasSteps (rows_of inner) h n → IsFirst (first_value inner (codes "first")) first → HasSearch (rows_of inner) h n first
   has_search h n first j f = record {
     history_first = j.history_first;
     steps_first = j.steps_first;

@@ -9,7 +9,7 @@ max_workers = 16
 abbrev pub max_steps : ℕ
 max_steps = 1000000000
 
--- the steps of a search where the words name no number of them
+-- the steps of a search or a refutation where the words name no number of them
 abbrev pub default_steps : ℕ
 default_steps = 1000000
 

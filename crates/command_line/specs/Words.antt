@@ -148,6 +148,12 @@ IsNumber least most default (Some t) n =
 abbrev pub AreSteps : Option Text → ℕ → Type 0
 AreSteps o n = IsNumber 0 max_steps default_steps o n
 
+-- a number that is given, at most the greatest; none where none is
+abbrev pub IsChosen : ℕ → Option Text → Option ℕ → Type 0
+IsChosen most None o = o ≡ None
+IsChosen most (Some t) None = ⊥
+IsChosen most (Some t) (Some n) = IsNumber 0 most 0 (Some t) n
+
 -- these are the values of a check
 pub record HasCheck (rows : List Row) (history certs : Text) (workers : ℕ) : Type 0 where
   pub history_first : first_of (codes "HISTORY") rows ≡ Some history
@@ -201,6 +207,11 @@ IsFirst None first = first ≡ LeastNumber
 IsFirst (Some t) first =
     ((t ≡ codes "number") × (first ≡ LeastNumber)) ⊎ ((t ≡ codes "return") × (first ≡ LeastReturn))
 
+-- these are the values of a command on a history that takes a number of steps
+pub record HasSteps (rows : List Row) (history : Text) (steps : ℕ) : Type 0 where
+  pub history_first : first_of (codes "HISTORY") rows ≡ Some history
+  pub steps_first : AreSteps (first_of (codes "steps") rows) steps
+
 -- these are the values of a search
 pub record HasSearch (rows : List Row) (history : Text) (steps : ℕ) (first : TryFirst) : Type 0
   where
@@ -216,15 +227,16 @@ pub record IsSearchFound (m : Option (Text × List Row)) (history : Text) (steps
   pub values : HasSearch rows history steps first
 
 -- these are the values of a judgement
-pub record HasJudge (rows : List Row) (history : Text) (steps : ℕ) : Type 0 where
+pub record HasJudge (rows : List Row) (history : Text) (steps : Option ℕ) : Type 0 where
   pub history_first : first_of (codes "HISTORY") rows ≡ Some history
-  pub steps_first : AreSteps (first_of (codes "steps") rows) steps
+  pub steps_first : IsChosen max_steps (first_of (codes "steps") rows) steps
 
 -- The parse has found `judge`, with these values.
-pub record IsJudgeFound (m : Option (Text × List Row)) (history : Text) (steps : ℕ) : Type 0 where
-  pub rows : List Row
-  pub entered : m ≡ Some (codes "judge", rows)
-  pub values : HasJudge rows history steps
+pub record IsJudgeFound (m : Option (Text × List Row)) (history : Text) (steps : Option ℕ) : Type 0
+  where
+    pub rows : List Row
+    pub entered : m ≡ Some (codes "judge", rows)
+    pub values : HasJudge rows history steps
 
 -- these are the values of a refutation
 pub record HasRefute (rows : List Row) (history reasons : Text) (steps : ℕ) : Type 0 where
@@ -239,18 +251,12 @@ pub record IsRefuteFound (m : Option (Text × List Row)) (history reasons : Text
   pub entered : m ≡ Some (codes "refute", rows)
   pub values : HasRefute rows history reasons steps
 
--- a number that is given, at most the greatest; none where none is
-abbrev pub IsChosen : Option Text → Option ℕ → Type 0
-IsChosen None o = o ≡ None
-IsChosen (Some t) None = ⊥
-IsChosen (Some t) (Some n) = IsNumber 0 max_number 0 (Some t) n
-
 -- this is what a drawing is asked to be of, by the options' values
 pub record AreDrawOptions (value : Text → Option Text) (o : DrawOptions) : Type 0 where
-  pub object : IsChosen (value (codes "object")) o.object
-  pub from : IsChosen (value (codes "from")) o.from
-  pub to : IsChosen (value (codes "to")) o.to
-  pub steps : AreSteps (value (codes "steps")) o.steps
+  pub object : IsChosen max_number (value (codes "object")) o.object
+  pub from : IsChosen max_number (value (codes "from")) o.from
+  pub to : IsChosen max_number (value (codes "to")) o.to
+  pub steps : IsChosen max_steps (value (codes "steps")) o.steps
 
 -- these are the values of a drawing
 pub record HasDraw (rows : List Row) (history : Text) (certs : Option Text) (o : DrawOptions)
@@ -506,9 +512,13 @@ abbrev pub HasNoSearch : List Row → Type 0
 HasNoSearch rows =
     (history : Text) (steps : ℕ) (first : TryFirst) → HasSearch rows history steps first → ⊥
 
--- the rows of a judgement name no file, or no number of steps that a search may take
+-- the rows of a command on a history name no file, or no number of steps that a search may take
+abbrev pub HasNoSteps : List Row → Type 0
+HasNoSteps rows = (history : Text) (steps : ℕ) → HasSteps rows history steps → ⊥
+
+-- the rows of a judgement name no file, or a number of steps that no search may take
 abbrev pub HasNoJudge : List Row → Type 0
-HasNoJudge rows = (history : Text) (steps : ℕ) → HasJudge rows history steps → ⊥
+HasNoJudge rows = (history : Text) (steps : Option ℕ) → HasJudge rows history steps → ⊥
 
 -- the rows of a refutation name not both files, or no number of steps that a search may take
 abbrev pub HasNoRefute : List Row → Type 0

@@ -36,7 +36,7 @@ pub struct DrawOptions {
     /// The map after that stretch.
     pub to: Option<u32>,
     /// The most steps of a search for each object, where no certificates are given.
-    pub steps: u32,
+    pub steps: Option<u32>,
 }
 
 /// What the words ask for.
@@ -61,10 +61,11 @@ pub enum Line {
         history: String,
     },
     /// To find certificates of the history in a file, with a search of at most this number of
-    /// steps for each object where that finds none, and to judge it by them.
+    /// steps for each object where that finds none, or of a number by its operations, and to judge
+    /// it by them.
     Judge {
         history: String,
-        steps: u32,
+        steps: Option<u32>,
     },
     /// To check the reasons in another file why the history in a file is not linearizable, each
     /// with a search of at most this number of steps.

@@ -12,6 +12,7 @@ ghost use Rattle.order_search.specs.declared.trials.TryFirst.{TryFirst};
 ghost use Rattle.seq_objects.specs.declared.kinds.Kinds.{Kinds};
 ghost use Rattle.command_line.specs.declared.asking.DrawOptions.{DrawOptions};
 ghost use Rattle.command_line.specs.declared.asking.RunOptions.{RunOptions};
+ghost use Rattle.command_line.specs.Limits.{max_number};
 ghost use Rattle.command_line.specs.Words as spec;
 
 use crate::asking::{DrawOptions, Line, LineFault, RunOptions};
@@ -24,7 +25,7 @@ use seq_objects::{Kinds, kinds_named};
 use std::alloc::{AllocError, Global};
 use std::convert::AsStr;
 
-/// The steps of a search where the words name no number of them.
+/// The steps of a search or a refutation where the words name no number of them.
 const DEFAULT_STEPS: u64 = 1_000_000;
 
 /// The most steps of a search.
@@ -49,6 +50,10 @@ const MAX_CALLS: u64 = 10_000;
 
 const DEFAULT_CALLS: u64 = 100;
 
+/// What `--steps` of a judgement is.
+const STEPS_OF_A_JUDGEMENT: &str =
+    "the most steps for each object that is searched, 0 to 1000000000 (default 1000000, or 100 for each operation if that is more)";
+
 /// Said of a search that lacks a value. Of its file and its steps clap never lets it come to this.
 const NO_SEARCH: &str = "error: a search has no file, or no number of steps\n";
 
@@ -65,7 +70,7 @@ const NO_RUN: &str = "error: a run has a number outside its bounds\n";
 /// Said of a judgement that lacks a value. Of its file and its steps clap never lets it come to
 /// this.
 const NO_JUDGEMENT: &str =
-    "error: a judgement has no file, or no number of steps from 0 to 1000000000\n";
+    "error: a judgement has no file, or a number of steps that is not from 0 to 1000000000\n";
 
 /// Said of a refutation that lacks a value. Of its files and its steps clap never lets it come to
 /// this.
@@ -124,10 +129,7 @@ fn judge_command<'a>(alloc: Global) -> Result<Command<'a>, AllocError>
     ensures shape { IfOk result (λ c. app_of c ≡ spec.judge_command) }
     ensures globals { IfOk result (λ c. (fields_of c).has_globals ≡ false) }
 {
-    let steps = steps_option(
-        alloc,
-        "the most steps for each object that is searched, 0 to 1000000000 (default 1000000)",
-    );
+    let steps = steps_option(alloc, STEPS_OF_A_JUDGEMENT);
     history_command(
         alloc,
         "judge",
@@ -186,10 +188,7 @@ fn draw_object<'a>(alloc: Global) -> Result<Command<'a>, AllocError>
         0,
         MAX_NUMBER as i64,
     );
-    let steps = steps_option(
-        alloc,
-        "the most steps for each object that is searched, 0 to 1000000000 (default 1000000)",
-    );
+    let steps = steps_option(alloc, STEPS_OF_A_JUDGEMENT);
     draw_files(alloc)?.arg(object)?.arg(steps)
 }
 
@@ -480,10 +479,10 @@ fn history_and_steps(
     matches: &ArgMatches<'_>,
     reason: &str,
 ) -> Result<(String, u32), LineFault>
-    ensures found { IfOk result (λ r. spec.HasJudge (rows_of (found_of matches.now))
+    ensures found { IfOk result (λ r. spec.HasSteps (rows_of (found_of matches.now))
         (string_bytes r.0) r.1) }
     ensures lacks { IfErr result (λ f. f ≢ LineFault.NoMemory →
-        spec.IsRefused f × spec.HasNoJudge (rows_of (found_of matches.now))) }
+        spec.IsRefused f × spec.HasNoSteps (rows_of (found_of matches.now))) }
 {
     let Some(history) = matches.get_str("HISTORY") else {
         return Err(refusal(alloc, reason));
@@ -512,13 +511,36 @@ fn search_found(alloc: Global, matches: &ArgMatches<'_>) -> Result<Line, LineFau
     })
 }
 
+/// The value of an option that is a number up to this one, if it is given.
+fn chosen_in(matches: &ArgMatches<'_>, name: &str, most: u64) -> Option<Option<u32>>
+    requires { most ≤ max_number }
+    ensures some { IfSome result (spec.IsChosen most
+        (first_value (found_of matches.now) name.now)) }
+    ensures none { IfNone result ((n : Option ℕ) →
+        spec.IsChosen most (first_value (found_of matches.now) name.now) n → ⊥) }
+{
+    match matches.get_str(name) {
+        None => Some(None),
+        Some(_) => match number_in(matches, name, 0, most, 0) {
+            Some(number) => Some(Some(number as u32)),
+            None => None,
+        },
+    }
+}
+
 /// The judgement whose matches these are.
 fn judge_found(alloc: Global, matches: &ArgMatches<'_>) -> Result<Line, LineFault>
     ensures found { IfOk result (spec.FindsJudge (rows_of (found_of matches.now))) }
     ensures lacks { IfErr result (λ f. f ≢ LineFault.NoMemory →
         spec.IsRefused f × spec.HasNoJudge (rows_of (found_of matches.now))) }
 {
-    let (history, steps) = history_and_steps(alloc, matches, NO_JUDGEMENT)?;
+    let Some(history) = matches.get_str("HISTORY") else {
+        return Err(refusal(alloc, NO_JUDGEMENT));
+    };
+    let Some(steps) = chosen_in(matches, "steps", MAX_STEPS) else {
+        return Err(refusal(alloc, NO_JUDGEMENT));
+    };
+    let history = String::from_str(alloc, history)?;
     Ok(Line::Judge { history, steps })
 }
 
@@ -540,37 +562,21 @@ fn refute_found(alloc: Global, matches: &ArgMatches<'_>) -> Result<Line, LineFau
     })
 }
 
-/// The value of an option that is a number, if it is given.
-fn chosen_in(matches: &ArgMatches<'_>, name: &str) -> Option<Option<u32>>
-    ensures some { IfSome result (spec.IsChosen
-        (first_value (found_of matches.now) name.now)) }
-    ensures none { IfNone result ((n : Option ℕ) →
-        spec.IsChosen (first_value (found_of matches.now) name.now) n → ⊥) }
-{
-    match matches.get_str(name) {
-        None => Some(None),
-        Some(_) => match number_in(matches, name, 0, MAX_NUMBER, 0) {
-            Some(number) => Some(Some(number as u32)),
-            None => None,
-        },
-    }
-}
-
 /// What of a history is to be drawn.
 fn draw_options_in(matches: &ArgMatches<'_>) -> Option<DrawOptions>
     ensures some { IfSome result (spec.AreDrawOptions (first_value (found_of matches.now))) }
     ensures none { IfNone result ((o : DrawOptions) →
         spec.AreDrawOptions (first_value (found_of matches.now)) o → ⊥) }
 {
-    let object = chosen_in(matches, "object")?;
-    let from = chosen_in(matches, "from")?;
-    let to = chosen_in(matches, "to")?;
-    let steps = number_in(matches, "steps", 0, MAX_STEPS, DEFAULT_STEPS)?;
+    let object = chosen_in(matches, "object", MAX_NUMBER)?;
+    let from = chosen_in(matches, "from", MAX_NUMBER)?;
+    let to = chosen_in(matches, "to", MAX_NUMBER)?;
+    let steps = chosen_in(matches, "steps", MAX_STEPS)?;
     Some(DrawOptions {
         object,
         from,
         to,
-        steps: steps as u32,
+        steps,
     })
 }
 

@@ -1,5 +1,5 @@
 -- Pages, and the status of what was judged or checked.
-use Rattle.std.proofs.Common.{◌≡◌, ◌≢◌, ◌∙◌, ℕ, false, List, inl, inr, refl, subst, sym}
+use Rattle.std.proofs.Common.{◌≡◌, ◌≢◌, ◌∙◌, ℕ, false, List, Option, inl, inr, refl, subst, sym}
 use Rattle.edn_reader.specs.Sound.{IsShort}
 use Rattle.events.specs.declared.event.Event.{Event}
 use Rattle.markup.specs.Marks.{IsMade}
@@ -22,16 +22,16 @@ use Rattle.drawing_commands.specs.Drawings.{IsCheckedDrawing, IsDrawing, IsPageO
 
 -- ---- a judgement
 
-pub with_verdict : (h : List ℕ) (limit : ℕ) (v : Verdict) → IsVerdictOnText h v → (status : ℕ) (out : List ℕ) → status ≡ status_of v → ∥ IsMade out ∥₁ → IsPageWith (IsJudgement h limit) status out
-with_verdict h limit v said status out is page = record {
+pub with_verdict : (h : List ℕ) (steps : Option ℕ) (v : Verdict) → IsVerdictOnText h v → (status : ℕ) (out : List ℕ) → status ≡ status_of v → ∥ IsMade out ∥₁ → IsPageWith (IsJudgement h steps) status out
+with_verdict h steps v said status out is page = record {
   lines = verdict_text false v;
-  said = is_judgement h limit status (verdict_text false v) (inr (v, said, is, refl));
+  said = is_judgement h steps status (verdict_text false v) (inr (v, said, is, refl));
   page = page;
 }
 
-pub with_notes : (h : List ℕ) (limit : ℕ) (es : List Event) → IsShort h → DenotesHistory h es → (status : ℕ) (text : List ℕ) → AreOpen es limit status text
-    → (out : List ℕ) → ∥ IsMade out ∥₁ → IsPageWith (IsJudgement h limit) status out
-with_notes h limit es short denotes status text notes out page = record { lines = text; said = is_judgement h limit status text (inl (short, es, denotes, notes)); page = page }
+pub with_notes : (h : List ℕ) (steps : Option ℕ) (es : List Event) → IsShort h → DenotesHistory h es → (status : ℕ) (text : List ℕ) → AreOpen es steps status text
+    → (out : List ℕ) → ∥ IsMade out ∥₁ → IsPageWith (IsJudgement h steps) status out
+with_notes h steps es short denotes status text notes out page = record { lines = text; said = is_judgement h steps status text (inl (short, es, denotes, notes)); page = page }
 
 pub verdict_on_text : (h : List ℕ) (es : List Event) → IsShort h → DenotesHistory h es → (v : Verdict) → IsVerdictOn es v → IsVerdictOnText h v
 verdict_on_text h es short denotes (verdict.Yes s) k = (short, es, denotes, k)
@@ -43,10 +43,10 @@ pub unread : (h : List ℕ) (s : TextFailure) → IsHistoryFault h s → IsVerdi
 unread h (Faulty f) k = k
 unread h NoMemory k = tt
 
-pub judgement_is_written : (h : List ℕ) (limit status : ℕ) (lines : List ℕ) → IsJudgement h limit status lines → status ≢ failed_status
-judgement_is_written h limit status lines j = go j.output
+pub judgement_is_written : (h : List ℕ) (steps : Option ℕ) (status : ℕ) (lines : List ℕ) → IsJudgement h steps status lines → status ≢ failed_status
+judgement_is_written h steps status lines j = go j.output
   where
-    go : IsJudgeOutput h limit status lines → status ≢ failed_status
+    go : IsJudgeOutput h steps status lines → status ≢ failed_status
     go (inl m) = never_failed m.3.answers m.3.status_is
     go (inr v) = λ e. verdict_is_written v.0 (sym v.2 ∙ e)
 
@@ -56,9 +56,9 @@ no_memory_is_no_yes e = absurd cc
 no_memory_is_no_no : no_memory_status ≢ no_status
 no_memory_is_no_no e = absurd cc
 
-pub is_drawing : (h : List ℕ) (limit status : ℕ) (out : List ℕ) → IsPageOutput (IsJudgement h limit) status out → IsDrawing h limit status out
-is_drawing h limit status out (inl p) = record { output = inl p; linearizable = p.said.linearizable; refuted = p.said.refuted }
-is_drawing h limit status out (inr m) = record {
+pub is_drawing : (h : List ℕ) (steps : Option ℕ) (status : ℕ) (out : List ℕ) → IsPageOutput (IsJudgement h steps) status out → IsDrawing h steps status out
+is_drawing h steps status out (inl p) = record { output = inl p; linearizable = p.said.linearizable; refuted = p.said.refuted }
+is_drawing h steps status out (inr m) = record {
   output = inr m;
   linearizable = λ e. absurd (no_memory_is_no_yes (sym m.0 ∙ e));
   refuted = λ e. absurd (no_memory_is_no_no (sym m.0 ∙ e));

@@ -1,5 +1,5 @@
 -- What is put out of a drawing, and its exit status.
-use Rattle.std.specs.Prelude.{◌≡◌, ◌⊎◌, ℕ, List}
+use Rattle.std.specs.Prelude.{◌≡◌, ◌⊎◌, ℕ, List, Option}
 use Rattle.markup.specs.Marks.{IsMade}
 use Rattle.judging.specs.Texts.{IsLinearizableText}
 use Rattle.history_commands.specs.Judged.{IsJudgement}
@@ -21,8 +21,8 @@ IsPageOutput IsSaid status out = IsPageWith IsSaid status out ⊎ IsOutOfMemory 
 
 -- What the drawing of a history comes to: a page, and the status of a judgement. Where it is a yes
 -- the history is linearizable, and where it is a no it is not.
-pub record IsDrawing (h : List ℕ) (limit status : ℕ) (out : List ℕ) : Type 0 where
-  pub output : IsPageOutput (IsJudgement h limit) status out
+pub record IsDrawing (h : List ℕ) (steps : Option ℕ) (status : ℕ) (out : List ℕ) : Type 0 where
+  pub output : IsPageOutput (IsJudgement h steps) status out
   pub linearizable : status ≡ yes_status → IsLinearizableText h
   pub refuted : status ≡ no_status → IsNotLinearizableText h
 

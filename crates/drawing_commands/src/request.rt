@@ -2,12 +2,13 @@
 
 use history_pages::Options;
 
-/// The names of the files, the most steps of a search for each object, and what is drawn.
+/// The names of the files, the most steps of a search for each object, if they are given, and what
+/// is drawn.
 #[derive(Clone, Copy)]
 pub struct Request<'a> {
     pub history: &'a str,
     pub certificates: Option<&'a str>,
-    pub steps: u32,
+    pub steps: Option<u32>,
     pub options: Options,
 }
 

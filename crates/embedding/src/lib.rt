@@ -10,3 +10,4 @@ mod check;
 mod find;
 mod judge;
 mod refute;
+mod steps;

@@ -5,14 +5,17 @@ ghost use Rattle.history_commands.specs.Refuted.{IsRefute};
 ghost use Rattle.history_commands.specs.Searches.{IsNotLinearizableText};
 ghost use Rattle.outputs.specs.Statuses.{no_status};
 ghost use Rattle.embedding.specs.Handed.{IsAnswered};
+ghost use Rattle.embedding.specs.Steps as spec;
 
 use crate::answer::answer;
+use crate::steps::refute_steps;
 use edn::Out;
 use history_commands::report_refutation;
 use std::alloc::Global;
 
 /// Checks reasons why the history is not linearizable, and writes the lines of the answers. The
-/// search of a part takes at most `steps` steps.
+/// search of a part takes at most `steps` steps. 4,294,967,295 stands for the program's own number:
+/// 1,000,000.
 ///
 /// 1: some reason shows that the history is not linearizable. 2: a text is malformed. 3: no reason
 /// shows it, or memory was refused.
@@ -28,10 +31,10 @@ pub extern "C" fn fcbench_refute(
     // Where it answers 1, the history that the bytes denote is not linearizable.
     ensures refuted { result ≡ no_status → IsNotLinearizableText history.now }
     // The lines are the answers to the reasons, with their status, or memory for them was refused.
-    ensures answered { IsAnswered (IsRefute history.now reasons.now steps)
+    ensures answered { IsAnswered (IsRefute history.now reasons.now (spec.refute_steps steps))
         result out.old out.new needed.new }
 {
     let mut sink = Out::new(Vec::new(alloc));
-    let status = report_refutation(alloc, history, reasons, steps, &mut sink);
+    let status = report_refutation(alloc, history, reasons, refute_steps(steps), &mut sink);
     answer(status, &sink.into_inner(), out, needed)
 }

@@ -1,5 +1,5 @@
 -- A judgement of a history by certificates that are found.
-use Rattle.std.proofs.Common.{◌≡◌, ◌≢◌, ◌∙◌, ◌<◌, ◌||◌, ℕ, suc, Bool, true, false, List, [], ◌∷◌, ◌++◌, map, All, AllPairs, Any, Contains, inl, inr, refl, ap, sym, subst, arith}
+use Rattle.std.proofs.Common.{◌≡◌, ◌≢◌, ◌∙◌, ◌<◌, ◌||◌, ℕ, suc, Bool, true, false, List, [], ◌∷◌, ◌++◌, Option, map, All, AllPairs, Any, Contains, inl, inr, refl, ap, sym, subst, arith}
 use Rattle.std.specs.Prelude.{◌↔◌, if◌then◌else◌}
 use Rattle.std.specs.List.{list_all, list_any}
 use Rattle.std.proofs.lemmas.List.{append_assoc}
@@ -10,7 +10,7 @@ use Rattle.model.proofs.Lists.{In, all_at}
 use Rattle.events.specs.declared.event.Event.{Event}
 use Rattle.events.specs.Events.{IsNamed, kind_at, denoted}
 use Rattle.deciding.specs.declared.decision.Decision.{Decision}
-use Rattle.deciding.specs.declared.decision.Decision.TheVariants.{Order, Impossible, OutOfSteps, TooLarge, NoMemory}
+use Rattle.deciding.specs.declared.decision.Decision.TheVariants.{Order, Impossible, OutOfSteps, NoMemory}
 use Rattle.deciding.specs.Decisions.{IsDecisionOn, IsFound, is_impossible}
 use Rattle.verdicts.specs.declared.verdict.Verdict.{Verdict}
 use Rattle.verdicts.specs.declared.verdict.Verdict.TheVariants as verdict
@@ -27,12 +27,12 @@ never_failed answers is e = not_failed (list_any (λ (a : ℕ × Decision). is_i
 
 -- ---- the lines that say why
 
-explains : (es : List Event) (limit : ℕ) (answers : List (ℕ × Decision)) → ((a : ℕ × Decision) → In a answers → IsDecisionOn es a.0 a.1)
-    → list_any (λ a. is_impossible a.1) answers ≡ true → IsExplained es (notes_text es limit answers)
-explains es limit [] each e = absurd cc
-explains es limit (a ∷ rest) each e = go a.1 (each a (inl refl)) e (explains es limit rest (λ b i. each b (inr i)))
+explains : (es : List Event) (steps : Option ℕ) (answers : List (ℕ × Decision)) → ((a : ℕ × Decision) → In a answers → IsDecisionOn es steps a.0 a.1)
+    → list_any (λ a. is_impossible a.1) answers ≡ true → IsExplained es (notes_text es answers)
+explains es steps [] each e = absurd cc
+explains es steps (a ∷ rest) each e = go a.1 (each a (inl refl)) e (explains es steps rest (λ b i. each b (inr i)))
   where
-    later : (line : List ℕ) → IsExplained es (notes_text es limit rest) → IsExplained es (line ++ notes_text es limit rest)
+    later : (line : List ℕ) → IsExplained es (notes_text es rest) → IsExplained es (line ++ notes_text es rest)
     later line k = record {
       object = k.object;
       found = k.found;
@@ -42,20 +42,19 @@ explains es limit (a ∷ rest) each e = go a.1 (each a (inl refl)) e (explains e
       lines = ap (λ text. line ++ text) k.lines ∙ sym (append_assoc line k.before (impossible_lines es k.object k.found ++ k.after));
     }
 
-    go : (d : Decision) → IsDecisionOn es a.0 d → (is_impossible d || list_any (λ a. is_impossible a.1) rest) ≡ true
-        → (list_any (λ a. is_impossible a.1) rest ≡ true → IsExplained es (notes_text es limit rest)) → IsExplained es (note_lines es limit a.0 d ++ notes_text es limit rest)
+    go : (d : Decision) → IsDecisionOn es steps a.0 d → (is_impossible d || list_any (λ a. is_impossible a.1) rest) ≡ true
+        → (list_any (λ a. is_impossible a.1) rest ≡ true → IsExplained es (notes_text es rest)) → IsExplained es (note_lines es a.0 d ++ notes_text es rest)
     go (Order c) h t again = again t
-    go (Impossible f) h t again = record { object = a.0; found = f; holds = h.impossible; before = []; after = notes_text es limit rest; lines = refl }
-    go OutOfSteps h t again = later (note_lines es limit a.0 OutOfSteps) (again t)
-    go TooLarge h t again = later (note_lines es limit a.0 TooLarge) (again t)
-    go NoMemory h t again = later (note_lines es limit a.0 NoMemory) (again t)
+    go (Impossible f) h t again = record { object = a.0; found = f; holds = h.impossible; before = []; after = notes_text es rest; lines = refl }
+    go (OutOfSteps n) h t again = later (note_lines es a.0 (OutOfSteps n)) (again t)
+    go NoMemory h t again = later (note_lines es a.0 NoMemory) (again t)
 
 -- where some object has no certificate
-pub are_open : (es : List Event) (limit status : ℕ) (text : List ℕ) (answers : List (ℕ × Decision)) → AllPairs (λ a b. a.0 < b.0) answers
-    → ((x : ℕ) → Contains (map (λ a. a.0) answers) x ↔ IsNamed es x) → All (λ a. IsDecisionOn es a.0 a.1) answers
+pub are_open : (es : List Event) (steps : Option ℕ) (status : ℕ) (text : List ℕ) (answers : List (ℕ × Decision)) → AllPairs (λ a b. a.0 < b.0) answers
+    → ((x : ℕ) → Contains (map (λ a. a.0) answers) x ↔ IsNamed es x) → All (λ a. IsDecisionOn es steps a.0 a.1) answers
     → (Any (λ a. is_impossible a.1 ≡ true) answers → IsLinearizable (kind_at es) (events (denoted es)) → ⊥)
-    → list_all (λ a. is_order a.1) answers ≡ false → status ≡ judge_status answers → text ≡ notes_text es limit answers → AreOpen es limit status text
-are_open es limit status text answers rising named each impossible some s t = record {
+    → list_all (λ a. is_order a.1) answers ≡ false → status ≡ judge_status answers → text ≡ notes_text es answers → AreOpen es steps status text
+are_open es steps status text answers rising named each impossible some s t = record {
   answers = answers;
   rising = rising;
   named = named;
@@ -64,7 +63,7 @@ are_open es limit status text answers rising named each impossible some s t = re
   status_is = s;
   text_is = t;
   refuted = λ e. impossible (Any-from_list_any (λ (a : ℕ × Decision). is_impossible a.1) answers (no_of _ _ (sym s ∙ e)));
-  explained = λ e. subst (IsExplained es) (sym t) (explains es limit answers (λ a i. all_at (λ (a : ℕ × Decision). IsDecisionOn es a.0 a.1) answers each a i) (no_of _ _ (sym s ∙ e)));
+  explained = λ e. subst (IsExplained es) (sym t) (explains es steps answers (λ a i. all_at (λ (a : ℕ × Decision). IsDecisionOn es steps a.0 a.1) answers each a i) (no_of _ _ (sym s ∙ e)));
 }
 
 -- what stops a search stops a judgement

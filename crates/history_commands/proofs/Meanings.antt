@@ -1,5 +1,5 @@
 -- What the status of an output shows.
-use Rattle.std.proofs.Common.{◌≡◌, ◌≢◌, ◌∙◌, ℕ, List, inl, inr, sym}
+use Rattle.std.proofs.Common.{◌≡◌, ◌≢◌, ◌∙◌, ℕ, List, Option, inl, inr, sym}
 use Rattle.verdicts.specs.declared.verdict.Verdict.{Verdict}
 use Rattle.verdicts.specs.declared.verdict.Verdict.TheVariants.{Yes, No, Malformed, NoMemory}
 use Rattle.judging.specs.Texts.{IsLinearizableText}
@@ -60,14 +60,14 @@ verdict_not_no h (No r) k e = absurd k
 verdict_not_no h (Malformed f) k e = absurd cc
 verdict_not_no h NoMemory k e = absurd cc
 
-pub is_judgement : (h : List ℕ) (limit status : ℕ) (out : List ℕ) → IsJudgeOutput h limit status out → IsJudgement h limit status out
-is_judgement h limit status out (inl m) = record {
+pub is_judgement : (h : List ℕ) (steps : Option ℕ) (status : ℕ) (out : List ℕ) → IsJudgeOutput h steps status out → IsJudgement h steps status out
+is_judgement h steps status out (inl m) = record {
   output = inl m;
   linearizable = λ e. absurd (open_no_yes _ _ m.3.some_open (sym m.3.status_is ∙ e));
   refuted = λ e. record { client_events = m.1; history_text = m.2; not_linearizable = m.3.refuted e };
   explained = λ e. (m.1, m.2, m.3.explained e);
 }
-is_judgement h limit status out (inr v) = record {
+is_judgement h steps status out (inr v) = record {
   output = inr v;
   linearizable = λ e. verdict_yes h v.0 v.1 (sym v.2 ∙ e);
   refuted = λ e. absurd (verdict_not_no h v.0 v.1 (sym v.2 ∙ e));

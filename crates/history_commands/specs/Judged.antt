@@ -19,7 +19,7 @@ use Rattle.reason_finder.specs.declared.finding.FoundReason.{FoundReason}
 use Rattle.reason_finder.specs.Reasons.{IsReasonFor}
 use Rattle.deciding.specs.declared.decision.Decision.{Decision}
 use Rattle.deciding.specs.declared.decision.Decision.TheVariants.{Order, Impossible, OutOfSteps}
-use Rattle.deciding.specs.declared.decision.Decision.TheVariants.{TooLarge, NoMemory}
+use Rattle.deciding.specs.declared.decision.Decision.TheVariants.{NoMemory}
 use Rattle.deciding.specs.Decisions.{IsDecisionOn, is_impossible}
 use Rattle.verdicts.specs.declared.verdict.Summary.{Summary}
 use Rattle.verdicts.specs.declared.verdict.Verdict.{Verdict}
@@ -45,24 +45,21 @@ impossible_lines es x f =
     ++ (operations_text true es f.part.ops ++ (codes "; " ++ line_of f.reason)))
 
 -- the lines on an object that has no certificate, and nothing on one that has
-abbrev pub note_lines : List Event → ℕ → ℕ → Decision → List ℕ
-note_lines es limit x (Order c) = []
-note_lines es limit x (Impossible f) = impossible_lines es x f
-note_lines es limit x OutOfSteps =
-    (codes "; object " ++ decimal x)
-    ++ (codes ": out of steps after " ++ (decimal limit ++ codes "\n"))
-note_lines es limit x TooLarge = (codes "; object " ++ decimal x) ++ codes ": too large\n"
-note_lines es limit x NoMemory = (codes "; object " ++ decimal x) ++ codes ": out of memory\n"
+abbrev pub note_lines : List Event → ℕ → Decision → List ℕ
+note_lines es x (Order c) = []
+note_lines es x (Impossible f) = impossible_lines es x f
+note_lines es x (OutOfSteps n) =
+    (codes "; object " ++ decimal x) ++ (codes ": out of steps after " ++ (decimal n ++ codes "\n"))
+note_lines es x NoMemory = (codes "; object " ++ decimal x) ++ codes ": out of memory\n"
 
-abbrev pub notes_text : List Event → ℕ → List (ℕ × Decision) → List ℕ
-notes_text es limit [] = []
-notes_text es limit (a ∷ rest) = note_lines es limit a.0 a.1 ++ notes_text es limit rest
+abbrev pub notes_text : List Event → List (ℕ × Decision) → List ℕ
+notes_text es [] = []
+notes_text es (a ∷ rest) = note_lines es a.0 a.1 ++ notes_text es rest
 
 abbrev pub is_order : Decision → Bool
 is_order (Order c) = true
 is_order (Impossible f) = false
-is_order OutOfSteps = false
-is_order TooLarge = false
+is_order (OutOfSteps n) = false
 is_order NoMemory = false
 
 -- no, where some object is impossible; yes, where each has a certificate
@@ -82,15 +79,15 @@ pub record IsExplained (es : List Event) (text : List ℕ) : Type 0 where
   pub lines : text ≡ before ++ (impossible_lines es object found ++ after)
 
 -- Some object of the history has no certificate: the decisions on all objects, in rising number,
--- and what they show.
-pub record AreOpen (es : List Event) (limit status : ℕ) (text : List ℕ) : Type 0 where
+-- where this number of steps is given, and what they show.
+pub record AreOpen (es : List Event) (steps : Option ℕ) (status : ℕ) (text : List ℕ) : Type 0 where
   pub answers : List (ℕ × Decision)
   pub rising : AllPairs (λ a b. a.0 < b.0) answers
   pub named : (x : ℕ) → Contains (map (λ a. a.0) answers) x ↔ IsNamed es x
-  pub each : All (λ a. IsDecisionOn es a.0 a.1) answers
+  pub each : All (λ a. IsDecisionOn es steps a.0 a.1) answers
   pub some_open : list_all (λ a. is_order a.1) answers ≡ false
   pub status_is : status ≡ judge_status answers
-  pub text_is : text ≡ notes_text es limit answers
+  pub text_is : text ≡ notes_text es answers
   -- where it is a no the history is not linearizable, and the text says why
   pub refuted : status ≡ no_status → IsLinearizable (kind_at es) (events (denoted es)) → ⊥
   pub explained : status ≡ no_status → IsExplained es text
@@ -120,13 +117,13 @@ IsVerdictOnText h verdict.NoMemory = ⊤
 
 -- Some object of the history that the text denotes has no certificate. The text is not too long to
 -- be read.
-abbrev pub IsOpenText : List ℕ → ℕ → ℕ → List ℕ → Type 0
-IsOpenText h limit status text =
-    IsShort h × (es : List Event) × DenotesHistory h es × AreOpen es limit status text
+abbrev pub IsOpenText : List ℕ → Option ℕ → ℕ → List ℕ → Type 0
+IsOpenText h steps status text =
+    IsShort h × (es : List Event) × DenotesHistory h es × AreOpen es steps status text
 
 -- what is put out of a judgement: which objects have no certificate, or a verdict
-abbrev pub IsJudgeOutput : List ℕ → ℕ → ℕ → List ℕ → Type 0
-IsJudgeOutput h limit status text = IsOutput (IsOpenText h limit) (IsVerdictOnText h) status text
+abbrev pub IsJudgeOutput : List ℕ → Option ℕ → ℕ → List ℕ → Type 0
+IsJudgeOutput h steps status text = IsOutput (IsOpenText h steps) (IsVerdictOnText h) status text
 
 -- the lines say for which reason an object of the history that the text denotes has no valid order
 abbrev pub IsExplainedText : List ℕ → List ℕ → Type 0
@@ -134,8 +131,8 @@ IsExplainedText h out = (es : List Event) × DenotesHistory h es × IsExplained 
 
 -- What a judgement comes to: where it is a yes the history is linearizable. Where it is a no it is
 -- not, and the lines say for which reason.
-pub record IsJudgement (h : List ℕ) (limit status : ℕ) (out : List ℕ) : Type 0 where
-  pub output : IsJudgeOutput h limit status out
+pub record IsJudgement (h : List ℕ) (steps : Option ℕ) (status : ℕ) (out : List ℕ) : Type 0 where
+  pub output : IsJudgeOutput h steps status out
   pub linearizable : status ≡ yes_status → IsLinearizableText h
   pub refuted : status ≡ no_status → IsNotLinearizableText h
   pub explained : status ≡ no_status → IsExplainedText h out

@@ -1,7 +1,7 @@
 //! The judgement of a history without certificates: they are found, and it is judged by them. Of an
 //! object that has none it is said why.
 
-ghost use Rattle.std.specs.Prelude.{◌≡◌, ◌++◌, ℕ, false, IfOk, IfErr, OnOk};
+ghost use Rattle.std.specs.Prelude.{◌≡◌, ◌++◌, ℕ, false, IfOk, IfErr, OnOk, Option};
 ghost use Rattle.std.specs.List.{list_all, list_any};
 ghost use Rattle.certificate.specs.Denotes.{AreDistinct};
 ghost use Rattle.checker.specs.Refusals.{AreValid};
@@ -61,18 +61,16 @@ fn push_note_on(
     alloc: Global,
     text: &mut Vec<u8>,
     history: &History,
-    steps: u32,
     object: u32,
     decision: &Decision,
 ) -> Result<(), AllocError>
     ensures { OnOk result (text.new.items ≡ text.old.items
-        ++ note_lines history.now steps object decision.now) }
+        ++ note_lines history.now object decision.now) }
 {
     match decision {
         Decision::Order(_) => Ok(()),
         Decision::Impossible(found) => push_impossible(alloc, text, history, object, found),
-        Decision::OutOfSteps => push_steps(text, object, u64::from(steps)),
-        Decision::TooLarge => push_note(text, object, b": too large\n"),
+        Decision::OutOfSteps(steps) => push_steps(text, object, *steps),
         Decision::NoMemory => push_note(text, object, b": out of memory\n"),
     }
 }
@@ -81,15 +79,14 @@ fn push_note_on(
 fn notes_of(
     alloc: Global,
     history: &History,
-    steps: u32,
     answers: &[(u32, Decision)],
 ) -> Result<Vec<u8>, AllocError>
-    ensures { IfOk result (λ text. text.items ≡ notes_text history.now steps answers.now) }
+    ensures { IfOk result (λ text. text.items ≡ notes_text history.now answers.now) }
 {
     let mut text = Vec::new(alloc);
     let mut rest = answers;
     'answers: while let [(object, decision), later @ ..] = rest {
-        push_note_on(alloc, &mut text, history, steps, *object, decision)?;
+        push_note_on(alloc, &mut text, history, *object, decision)?;
         rest = later;
     }
     Ok(text)
@@ -138,15 +135,14 @@ fn status_for(answers: &[(u32, Decision)]) -> u8
 fn output_of(
     alloc: Global,
     history: &History,
-    steps: u32,
     answers: &[(u32, Decision)],
 ) -> Result<Output, AllocError>
     ensures status { IfOk result (λ s. s.status ≡ judge_status answers.now) }
-    ensures text { IfOk result (λ s. s.text.items ≡ notes_text history.now steps answers.now) }
+    ensures text { IfOk result (λ s. s.text.items ≡ notes_text history.now answers.now) }
 {
     Ok(Output {
         status: status_for(answers),
-        text: notes_of(alloc, history, steps, answers)?,
+        text: notes_of(alloc, history, answers)?,
     })
 }
 
@@ -170,7 +166,7 @@ fn certificates_of(
 fn judge_found(alloc: Global, history: &History, answers: Vec<(u32, Decision)>) -> Judgement
     requires distinct { AreDistinct (certificates_in answers.items) }
     requires valid { AreValid history.now (certificates_in answers.items) }
-    ensures { (steps : ℕ) → IsJudged history.now steps result }
+    ensures { (steps : Option ℕ) → IsJudged history.now steps result }
 {
     match certificates_of(alloc, answers) {
         Ok(certificates) => {
@@ -202,17 +198,18 @@ pub enum Judgement {
 }
 
 /// Finds certificates of the history, and gives them with the verdict on them, or else what is said
-/// of objects that have none. A search takes at most `steps` steps for each object.
-pub fn judge_events(alloc: Global, history: &History, steps: u32) -> Judgement
+/// of objects that have none. A search takes at most `steps` steps for each object, or else
+/// 1,000,000, or 100 for each operation that did not fail if that is more.
+pub fn judge_events(alloc: Global, history: &History, steps: Option<u32>) -> Judgement
     ensures judges { IsJudged history.now steps result }
 {
-    let Ok(answers) = decide_all(alloc, history, u64::from(steps)) else {
+    let Ok(answers) = decide_all(alloc, history, steps) else {
         return Judgement::NoMemory;
     };
     if are_all_orders(&answers) {
         return judge_found(alloc, history, answers);
     }
-    match output_of(alloc, history, steps, &answers) {
+    match output_of(alloc, history, &answers) {
         Ok(output) => Judgement::Open { answers, output },
         Err(AllocError) => Judgement::NoMemory,
     }
@@ -220,7 +217,7 @@ pub fn judge_events(alloc: Global, history: &History, steps: u32) -> Judgement
 
 /// What is put out of a history that a text denotes, or the verdict on it.
 #[tactic(auto, using(crate::proofs::Judged::unsearched))]
-fn judge_text(alloc: Global, text: &[u8], steps: u32) -> Result<Output, Verdict>
+fn judge_text(alloc: Global, text: &[u8], steps: Option<u32>) -> Result<Output, Verdict>
     ensures notes { IfOk result (λ s. IsOpenText text.now steps s.status s.text.items) }
     ensures judged { IfErr result (IsVerdictOnText text.now) }
 {
@@ -237,8 +234,9 @@ fn judge_text(alloc: Global, text: &[u8], steps: u32) -> Result<Output, Verdict>
 
 /// Finds certificates of the history in the text, judges it by them, puts out the verdict, or why
 /// some objects have no certificate, and gives the exit status. A search takes at most `steps`
-/// steps for each object. It starts no thread.
-pub fn report_judgement<S: Sink>(alloc: Global, text: &[u8], steps: u32, sink: &mut S) -> u8
+/// steps for each object, or else 1,000,000, or 100 for each operation that did not fail if that is
+/// more. It starts no thread.
+pub fn report_judgement<S: Sink>(alloc: Global, text: &[u8], steps: Option<u32>, sink: &mut S) -> u8
     requires working { S.broken sink.old ≡ false }
     ensures leaves { Leaves (IsJudgement text.now steps)
         (S.sent sink.old) result (S.sent sink.new) (S.broken sink.new) }

@@ -422,8 +422,7 @@ fn answer_of(decision: &Decision) -> &'static str {
     match decision {
         Decision::Order(_) => "valid",
         Decision::Impossible(_) => "impossible",
-        Decision::OutOfSteps => "out of steps",
-        Decision::TooLarge => "too large",
+        Decision::OutOfSteps(_) => "out of steps",
         Decision::NoMemory => "out of memory",
     }
 }

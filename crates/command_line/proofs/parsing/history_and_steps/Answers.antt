@@ -1,7 +1,7 @@
 use Rattle.std.proofs.Common.{rules, ◌≡◌, None, Some, codes}
 use Rattle.std.specs.String.{string_bytes}
 use Rattle.clap.specs.Words.{first_value, found_of}
-use Rattle.command_line.proofs.Sought.{no_file, no_steps, has_judge}
+use Rattle.command_line.proofs.Sought.{no_file, no_steps, has_steps}
 use Rattle.command_line.proofs.parsing.history_and_steps.Goals as goal
 
 pub returns-in_default-clause-lacks : goal.returns-in_default-clause-lacks
@@ -17,4 +17,4 @@ pub returns-clause-found : goal.returns-clause-found
 returns-clause-found c =
     let inner = found_of c.args.matches.now in
     let history : first_value inner (codes "HISTORY") ≡ Some (string_bytes c.in_ok-history.history) = search rules in
-    has_judge inner (string_bytes c.in_ok-history.history) c.in-Some-number_in.steps history c.in-Some-number_in.ensures.some
+    has_steps inner (string_bytes c.in_ok-history.history) c.in-Some-number_in.steps history c.in-Some-number_in.ensures.some

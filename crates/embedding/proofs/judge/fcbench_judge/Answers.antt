@@ -1,23 +1,24 @@
-use Rattle.std.proofs.Common.{rules, ◌≡◌, subst, sym}
+use Rattle.std.proofs.Common.{rules, ◌≡◌, ℕ, Option, subst, sym}
 use Rattle.judging.specs.Texts.{IsLinearizableText}
 use Rattle.history_commands.specs.Judged.{IsJudgement}
 use Rattle.history_commands.specs.Searches.{IsNotLinearizableText}
 use Rattle.outputs.specs.Statuses.{no_status, yes_status}
 use Rattle.embedding.specs.Handed.{IsAnswered}
+use Rattle.embedding.specs.Steps.{judge_steps}
 use Rattle.embedding.proofs.Handing.{answered, shows, no_is_other, yes_is_other}
 use Rattle.embedding.proofs.judge.fcbench_judge.Goals as goal
 
 pub returns : goal.returns
 returns c =
     let h = c.args.history.now in
-    let Is = IsJudgement h c.args.steps in
+    let Is = IsJudgement h (judge_steps c.args.steps) in
     let status = c.report_judgement-status.result in
     let out = c.args.out.now in
     let judged : IsAnswered Is c.answer.result out c.answer.new.out c.answer.new.needed =
     answered Is status c.answer.result c.deref.result.now out c.answer.new.out c.answer.new.needed
     (λ n. let w = c.report_judgement-status.ensures.leaves.written n in
     let text : c.deref.result.now ≡ w.0 = search rules in
-    subst (Is status) (sym text) w.1) c.answer.ensures.whole c.answer.ensures.memory in
+    subst (Is status) (sym text) (subst (λ (steps : Option ℕ). IsJudgement h steps status w.0) c.judge_steps.ensures w.1)) c.answer.ensures.whole c.answer.ensures.memory in
     record {
       linearizable = λ e. (shows Is (λ _. IsLinearizableText h) yes_status c.answer.result out c.answer.new.out c.answer.new.needed yes_is_other (λ text is. is.linearizable) judged e).1;
       refuted = λ e. (shows Is (λ _. IsNotLinearizableText h) no_status c.answer.result out c.answer.new.out c.answer.new.needed no_is_other (λ text is. is.refuted) judged e).1;

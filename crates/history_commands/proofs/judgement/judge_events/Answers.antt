@@ -12,7 +12,7 @@ returns-in-Ok-output_of c =
     let o = c.in-Ok-output_of.output in
     let some = sym (c.are_all_orders.ensures ∙ ap (list_all (λ (a : ℕ × Decision). is_order a.1)) c.deref.ensures.value) ∙ c.if-are_all_orders.false in
     let status = c.in-Ok-output_of.ensures.status ∙ ap judge_status c.deref-2.ensures.value in
-    let text = c.in-Ok-output_of.ensures.text ∙ ap (notes_text c.args.history.now c.args.steps) c.deref-2.ensures.value in
+    let text = c.in-Ok-output_of.ensures.text ∙ ap (notes_text c.args.history.now) c.deref-2.ensures.value in
     record { judges = are_open c.args.history.now c.args.steps o.status o.text.items answers e.rising e.named e.decisions e.impossible some status text }
 
 pub returns-then-are_all_orders : goal.returns-then-are_all_orders
