@@ -1,3 +1,4 @@
 pub mod Escaping
 pub mod Markup
 pub mod Marks
+pub mod Pieces

@@ -1,8 +1,17 @@
-use Rattle.std.proofs.Common.{◌∙◌, sym, refl}
+use Rattle.std.proofs.Common.{◌∙◌, sym}
+use Rattle.markup.proofs.Added.{adds_none, adds_to}
 use Rattle.markup.proofs.Made.{made_more, ok_holds}
 use Rattle.markup.proofs.html.Html.add.Goals as goal
 
 pub invariant_of-self-else-is_err : goal.invariant_of-self-else-is_err
 invariant_of-self-else-is_err c =
     let added = ok_holds c.append.result (sym c.is_err.ensures.value ∙ c.if-is_err.false) c.append.ensures in
-    record { made = made_more _ _ _ c.requires.0 added c.requires.1 c.args.self.now.made }
+    made_more _ _ _ c.requires.0 added c.requires.1 c.self.invariant
+
+pub returns-then-is_err : goal.returns-then-is_err
+returns-then-is_err c = adds_none _ _
+
+pub returns-else-is_err : goal.returns-else-is_err
+returns-else-is_err c =
+    let added = ok_holds c.append.result (sym c.is_err.ensures.value ∙ c.if-is_err.false) c.append.ensures in
+    adds_to c.self.inside.was_refused _ c.self.inside.text.items _ _ c.self.view_is added
