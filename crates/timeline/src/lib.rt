@@ -14,7 +14,7 @@ pub use boxes::{BoxKind, ContentBox};
 pub use figure::{Arrow, Bar, Cross, Figure, Gap, Lane, Line, Mark, NemesisMark, Tick};
 pub use objects::{Extent, ObjectDrawing};
 pub use operations::{
-    Operation, Role, State, completions_of, event_place, operation_at, operations_of,
+    Completion, Operation, Role, State, completions_of, event_place, operation_at, operations_of,
 };
 pub use points::{Point, sound_points};
 pub use spans::Span;

@@ -1,6 +1,7 @@
 //! The operations of an object, with what a drawing needs of them.
 
-ghost use Rattle.std.specs.Prelude.{◌≡◌, IfOk, map};
+ghost use Rattle.std.specs.Prelude.{◌≡◌, ◌<◌, Some, All, AllPairs, IfOk, map};
+ghost use Rattle.timeline.specs.Operations.{EndsAtItsReturn, IsOfItsEvent};
 
 use events::{Action, End, Event, History, Invocation, ObjectHistory};
 use number_map::NumberMap;
@@ -95,32 +96,97 @@ impl Operation {
     }
 }
 
-/// For each event the number of the next event of its process that completes what is outstanding
-/// after it.
-pub fn completions_of(alloc: Global, events: &[Event]) -> Result<Vec<Option<u32>>, AllocError> {
+/// What completed an operation that did not return: the numbers of its invocation and of its `:fail`
+/// or `:info`.
+#[derive(Clone, Copy)]
+pub struct Completion {
+    pub invocation: u32,
+    pub ended: u32,
+}
+
+/// The completions of the operations that did not return, in rising number of their invocations.
+pub fn completions_of(alloc: Global, events: &[Event]) -> Result<Vec<Completion>, AllocError> {
     let mut next: NumberMap<u32> = NumberMap::new(alloc);
-    let mut numbers = Vec::new(alloc);
+    let mut completions = Vec::new(alloc);
     for event in events.iter().rev() {
-        numbers.push(next.get(event.process))?;
         match event.action {
             Action::Invoke(_) => {
+                if let Some(ended) = next.remove(event.process) {
+                    completions.push(Completion {
+                        invocation: event.number,
+                        ended,
+                    })?;
+                }
+            }
+            Action::Ok(_) => {
                 next.remove(event.process);
             }
-            Action::Ok(_) | Action::Fail | Action::Info => {
+            Action::Fail | Action::Info => {
                 next.insert(event.process, event.number)?;
             }
         }
     }
-    numbers.reverse();
-    Ok(numbers)
+    completions.reverse();
+    Ok(completions)
 }
 
-/// The operation, with the process and the completion that the events have for its number.
-fn operation_of(events: &[Event], completions: &[Option<u32>], invocation: &Invocation) -> Operation
-    ensures { result.invocation ≡ invocation.now }
+/// The number of the completion of the operation with this number, which did not return.
+fn completion_at(completions: &[Completion], number: u32) -> Option<u32> {
+    let place = completions.partition_point(|completion| completion.invocation < number);
+    let completion = completions.get(place)?;
+    if completion.invocation == number {
+        Some(completion.ended)
+    } else {
+        None
+    }
+}
+
+/// How many events after an operation are looked at one by one for the next operation.
+const NEAR: usize = 64;
+
+/// The place of the first event from this number on, which is not before the place `from`.
+fn place_from(events: &[Event], from: usize, number: u32) -> usize {
+    let near = events.get(from..).unwrap_or(&[]);
+    let mut place = from;
+    for event in near.iter().take(NEAR) {
+        if event.number >= number {
+            return place;
+        }
+        place = place.saturating_add(1);
+    }
+    event_place(events, number)
+}
+
+/// The event with this number, which may be at this place.
+fn event_with(events: &[Event], place: usize, number: u32) -> Option<Event>
+    requires { AllPairs (λ a b. a.number < b.number) events.now }
+    ensures { All (λ e. e.number ≡ number → result ≡ Some e) events.now }
 {
-    let place = event_place(events, invocation.number);
-    let (object, process) = match events.get(place) {
+    if place < events.len() && events[place].number == number {
+        return Some(events[place]);
+    }
+    for event in events {
+        if event.number == number {
+            return Some(*event);
+        }
+    }
+    None
+}
+
+/// The operation, with the object and the process of the event with its number, which may be at this
+/// place.
+fn operation_of(
+    events: &[Event],
+    place: usize,
+    completions: &[Completion],
+    invocation: &Invocation,
+) -> Operation
+    requires { AllPairs (λ a b. a.number < b.number) events.now }
+    ensures invocation { result.invocation ≡ invocation.now }
+    ensures event { IsOfItsEvent events.now result }
+    ensures ended { EndsAtItsReturn result }
+{
+    let (object, process) = match event_with(events, place, invocation.number) {
         Some(event) => (event.object, event.process),
         None => (0, 0),
     };
@@ -128,9 +194,9 @@ fn operation_of(events: &[Event], completions: &[Option<u32>], invocation: &Invo
         invocation: *invocation,
         object,
         process,
-        ended: match completions.get(place) {
-            Some(ended) => *ended,
-            None => None,
+        ended: match invocation.end {
+            End::Returned { at, .. } => Some(at),
+            End::Failed | End::Pending => completion_at(completions, invocation.number),
         },
     }
 }
@@ -140,17 +206,23 @@ fn operation_of(events: &[Event], completions: &[Option<u32>], invocation: &Invo
 pub fn operations_of(
     alloc: Global,
     history: &History,
-    completions: &[Option<u32>],
+    completions: &[Completion],
     object: &ObjectHistory,
 ) -> Result<Vec<Operation>, AllocError>
     // Each is one of the object's, with its numbers, and none is left out.
-    ensures { IfOk result (λ v. map (λ o. o.invocation) v.items ≡ object.now.ops) }
+    ensures invocations { IfOk result (λ v. map (λ o. o.invocation) v.items ≡ object.now.ops) }
+    // Each has the object and the process of the event with its number.
+    ensures events { IfOk result (λ v. All (IsOfItsEvent history.now) v.items) }
+    // One that returned ends there.
+    ensures ended { IfOk result (λ v. All EndsAtItsReturn v.items) }
 {
     let events = history.events();
+    let mut place: usize = 0;
     let mut operations = Vec::new(alloc);
     let ops = object.ops();
     for invocation in ops {
-        operations.push(operation_of(events, completions, invocation))?;
+        place = place_from(events, place, invocation.number);
+        operations.push(operation_of(events, place, completions, invocation))?;
     }
     Ok(operations)
 }
