@@ -15,7 +15,7 @@ pub use faulty::{Faulty, FaultyDrawing, draw_up_to};
 pub use figures::{FaultyMap, Memory, Nemesis, Stretch, count_text, label, point_room, value_text};
 pub use objects::{Part, Subject, draw_impossible, draw_refused, draw_uncertified, draw_valid};
 pub use timeline::{
-    Arrow, Attempt, Bar, BoxKind, ContentBox, Cross, Entry, Extent, Failure, Figure, Gap, Lane,
-    Line, Mark, NemesisMark, ObjectDrawing, Operation, Point, Role, Row, Span, State, Tick, Tried,
-    completions_of, operations_of, sound_points,
+    Arrow, Attempt, Bar, BoxKind, Completion, ContentBox, Cross, Entry, Extent, Failure, Figure,
+    Gap, Lane, Line, Mark, NemesisMark, ObjectDrawing, Operation, Point, Role, Row, Span, State,
+    Tick, Tried, completions_of, operations_of, sound_points,
 };

@@ -17,7 +17,8 @@ use seq_objects::Kind;
 use std::alloc::{AllocError, Global};
 use std::collections::{BTreeMap, BTreeSet};
 use timeline::{
-    Extent, Figure, Mark, ObjectDrawing, Operation, Span, State, operation_at, operations_of,
+    Completion, Extent, Figure, Mark, ObjectDrawing, Operation, Span, State, operation_at,
+    operations_of,
 };
 
 /// An object with at most as many events is drawn whole.
@@ -28,7 +29,7 @@ const WHOLE: usize = 160;
 pub struct Subject<'a> {
     pub history: &'a History,
     /// The completions of the history's events.
-    pub completions: &'a [Option<u32>],
+    pub completions: &'a [Completion],
     pub object: &'a ObjectHistory,
     pub maps: u32,
     /// Those of its maps whose process is a keyword, in rising number.

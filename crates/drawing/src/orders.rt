@@ -82,7 +82,24 @@ fn is_drawn(drawn: &BTreeSet<u32>, operation: Option<Operation>) -> bool {
     }
 }
 
-/// Walks along the order up to its fault.
+/// How many entries there are up to the last one that is drawn; all, where none is.
+fn entries_to_draw(order: &[i64], drawn: &BTreeSet<u32>) -> usize {
+    let (Some(least), Some(greatest)) = (drawn.first(), drawn.last()) else {
+        return order.len();
+    };
+    let mut count = order.len();
+    for number in order.iter().rev() {
+        let number = u32::try_from(*number).unwrap_or(u32::MAX);
+        if *least <= number && number <= *greatest && drawn.contains(&number) {
+            return count;
+        }
+        count = count.saturating_sub(1);
+    }
+    order.len()
+}
+
+/// Walks along the order up to its fault. Without a fault, a long order is walked along up to the
+/// last entry that is drawn, if some are.
 pub(crate) fn walk_along(
     memory: &Memory,
     operations: &[Operation],
@@ -101,7 +118,12 @@ pub(crate) fn walk_along(
         Some(place) => (place.saturating_add(1), place.saturating_sub(BEFORE)),
         None => (order.len(), usize::MAX),
     };
-    for (place, number) in order.iter().take(length).enumerate() {
+    let walked = if refused.is_some() || length <= SHORT {
+        length
+    } else {
+        entries_to_draw(order, drawn)
+    };
+    for (place, number) in order.iter().take(walked).enumerate() {
         let operation = operation_at(operations, *number);
         let is_refused = refused == Some(place);
         let is_drawn = is_drawn(drawn, operation);

@@ -25,10 +25,13 @@ pub struct Label {
 pub fn labels_of(memory: &Memory, scene: &Scene<'_, '_>) -> BTreeMap<u32, Label> {
     let mut labels = BTreeMap::new(memory.alloc);
     for moment in scene.moments {
+        if !moment.is_drawn {
+            continue;
+        }
         let Some(operation) = scene.operation(moment) else {
             continue;
         };
-        if moment.is_drawn && !labels.contains_key(&operation.number()) {
+        if !labels.contains_key(&operation.number()) {
             let (text, room) = label_of(memory, scene, &operation);
             memory.note(labels.insert(operation.number(), Label { text, room }));
         }

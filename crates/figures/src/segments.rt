@@ -7,7 +7,7 @@ use crate::numbers::LANES;
 use crate::placing::Layout;
 use crate::scene::Scene;
 use std::collections::BTreeSet;
-use timeline::{Operation, State};
+use timeline::{Operation, State, operation_at};
 
 /// The part of a bar in a line.
 #[derive(Clone, Copy)]
@@ -154,16 +154,19 @@ pub fn shown_operations(
     let starts = stretches(memory, scene.moments);
     let mut processes = BTreeSet::new(memory.alloc);
     let mut shown = Vec::new(memory.alloc);
-    for operation in scene.operations {
-        if layout.labels.contains_key(&operation.number()) {
-            memory.note(shown.push(*operation));
+    for number in layout.labels.keys() {
+        if let Some(operation) = operation_at(scene.operations, i64::from(*number)) {
+            memory.note(shown.push(operation));
             memory.note(processes.insert(operation.process));
         }
     }
     let mut left_out: usize = 0;
+    if scene.is_zoom {
+        return (shown, left_out);
+    }
     for operation in scene.operations {
-        let is_drawn = layout.labels.contains_key(&operation.number());
-        if scene.is_zoom || is_drawn || !is_through(operation, &starts) {
+        let is_through = is_through(operation, &starts);
+        if !is_through || layout.labels.contains_key(&operation.number()) {
             continue;
         }
         let has_lane = processes.contains(&operation.process) || processes.len() < LANES;

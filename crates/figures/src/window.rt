@@ -154,12 +154,12 @@ fn processes(
     let places = focus_places(memory, operations, moments, focus);
     let mut nearest: BTreeMap<u64, Nearness> = BTreeMap::new(memory.alloc);
     for (place, moment) in moments.iter().enumerate() {
-        let Some(operation) = moment.of(operations) else {
-            continue;
-        };
         if !moment.is_drawn {
             continue;
         }
+        let Some(operation) = moment.of(operations) else {
+            continue;
+        };
         let is_other = !focus.contains(&operation.number());
         let own = (is_other, distance(&places, place), place);
         let is_nearer = match nearest.get(&operation.process) {

@@ -12,15 +12,21 @@ pub(crate) struct Counts {
     pub(crate) failed: usize,
 }
 
-pub(crate) fn counts_of(object: &ObjectHistory) -> Counts {
-    let ops = object.ops();
-    let pending = ops.iter().filter(|op| op.end == End::Pending).count();
-    let failed = ops.iter().filter(|op| op.end == End::Failed).count();
-    Counts {
-        operations: ops.len().saturating_sub(failed),
-        pending,
-        failed,
+fn counts_of(object: &ObjectHistory) -> Counts {
+    let mut counts = Counts {
+        operations: 0,
+        pending: 0,
+        failed: 0,
+    };
+    for op in object.ops() {
+        match op.end {
+            End::Failed => counts.failed = counts.failed.saturating_add(1),
+            End::Pending => counts.pending = counts.pending.saturating_add(1),
+            End::Returned { .. } => counts.operations = counts.operations.saturating_add(1),
+        }
     }
+    counts.operations = counts.operations.saturating_add(counts.pending);
+    counts
 }
 
 /// The row of the object with this answer.
@@ -37,18 +43,17 @@ pub(crate) fn row_of(object: &ObjectHistory, answer: &'static str, is_faulty: bo
     }
 }
 
-/// The counts of all objects.
-pub(crate) fn counts_in(objects: &[ObjectHistory]) -> Counts {
+/// The counts of all objects, which have these rows.
+pub(crate) fn counts_in(rows: &[ObjectRow]) -> Counts {
     let mut all = Counts {
         operations: 0,
         pending: 0,
         failed: 0,
     };
-    for object in objects {
-        let counts = counts_of(object);
-        all.operations = all.operations.saturating_add(counts.operations);
-        all.pending = all.pending.saturating_add(counts.pending);
-        all.failed = all.failed.saturating_add(counts.failed);
+    for row in rows {
+        all.operations = all.operations.saturating_add(row.operations);
+        all.pending = all.pending.saturating_add(row.pending);
+        all.failed = all.failed.saturating_add(row.failed);
     }
     all
 }

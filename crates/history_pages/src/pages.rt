@@ -5,8 +5,8 @@ use certificate::Certificate;
 use checker::{OrderFault, Refusal};
 use deciding::{Decision, FoundReason};
 use drawing::{
-    Memory, Nemesis, ObjectDrawing, Part, Span, Stretch, Subject, completions_of, count_text,
-    draw_impossible, draw_refused, draw_uncertified, draw_valid,
+    Completion, Memory, Nemesis, ObjectDrawing, Part, Span, Stretch, Subject, completions_of,
+    count_text, draw_impossible, draw_refused, draw_uncertified, draw_valid,
 };
 use events::{History, ObjectHistory, split};
 use markup::Html;
@@ -14,8 +14,9 @@ use page::{Answer, ObjectRow, Page, html_of};
 use projection::Cut;
 use std::alloc::{AllocError, Global};
 
-/// The most operations that a page of several objects draws.
-const BUDGET: usize = 600;
+/// The most operations that a page of several objects draws. With the longest numbers and values one
+/// takes some 2,000 bytes, so such a page has less than a megabyte.
+const BUDGET: usize = 460;
 
 /// Which object is drawn, and which stretch of it.
 #[derive(Clone, Copy)]
@@ -60,12 +61,8 @@ fn push_number_of(
 }
 
 /// Which texts the page is of, and what is in the history.
-fn facts_of(
-    alloc: Global,
-    texts: &Texts<'_>,
-    objects: &[ObjectHistory],
-) -> Result<String, AllocError> {
-    let counts = counts_in(objects);
+fn facts_of(alloc: Global, texts: &Texts<'_>, rows: &[ObjectRow]) -> Result<String, AllocError> {
+    let counts = counts_in(rows);
     let mut text = String::from_str(alloc, texts.history)?;
     if let Some(certificates) = texts.certificates {
         text.push_str(" with ")?;
@@ -80,7 +77,7 @@ fn facts_of(
         " operation · ",
         " operations · ",
     )?;
-    push_number_of(alloc, &mut text, objects.len(), " object", " objects")?;
+    push_number_of(alloc, &mut text, rows.len(), " object", " objects")?;
     if counts.pending > 0 {
         text.push_str(" · ")?;
         push_number_of(alloc, &mut text, counts.pending, " pending", " pending")?;
@@ -189,7 +186,7 @@ fn page_of(
         drawings,
         mut sentences,
     } = parts;
-    let facts = facts_of(alloc, texts, objects)?;
+    let facts = facts_of(alloc, texts, &rows)?;
     let history = texts.history;
     let title = format!(in alloc; "{word}: {history}")?;
     let lines = String::from_str(alloc, texts.lines)?;
@@ -202,7 +199,7 @@ fn page_of(
 
 fn subject<'a>(
     history: &'a History,
-    completions: &'a [Option<u32>],
+    completions: &'a [Completion],
     object: &'a ObjectHistory,
     texts: &Texts<'a>,
     options: Options,
@@ -257,8 +254,11 @@ fn valid_page(
         };
         let subject = subject(history, &completions, object, texts, options);
         let drawing = draw_valid(alloc, &subject, Some(&certificate.order))?;
-        drawn = drawn.saturating_add(drawing.extent.drawn);
-        drawings.push(drawing)?;
+        let is_first = drawn == 0;
+        drawn = drawn.saturating_add(drawing.extent.drawn.max(1));
+        if is_first || drawn <= BUDGET {
+            drawings.push(drawing)?;
+        }
     }
     let parts = Parts {
         answer: Answer::Yes,
