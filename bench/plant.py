@@ -7,7 +7,7 @@ types, which are drawn. Writes DIR/N.edn, a history for each bug, and DIR/plante
 its number N and the type of its bug. Values are put in, or set, once each; with --values they are drawn
 below V. The types that begin with `break` are those of `gen.py --break`.
 
-A planted bug can be invisible: the history may be linearizable all the same.
+A planted bug can be invisible: the history may still be linearizable.
 """
 import argparse
 import os

@@ -4,13 +4,13 @@
  * prints. What a call takes by malloc it frees before it returns, and it keeps nothing: calls may be
  * made from several threads at once.
  *
- * A text is bytes and their number. It need not end in a zero byte. docs/formats.md says what
+ * A text is a pointer and a length. It need not end in a zero byte. docs/formats.md says what
  * the texts mean.
  *
  * The caller sees to these, and nothing checks them:
- *   - each pointer points to that many bytes, and nobody writes them during the call. NULL with the
+ *   - each pointer points to that many bytes, and no thread writes them during the call. NULL with the
  *     length 0 is a text, or a buffer, of no bytes;
- *   - `out` and `needed` overlap nothing else that is passed, and nobody else reads or writes them
+ *   - `out` and `needed` overlap nothing else that is passed, and no other code reads or writes them
  *     during the call;
  *   - `needed` is not NULL;
  *   - malloc, realloc and free are of one allocator, which aligns a block to each power of two up to

@@ -1,7 +1,9 @@
 """Checks that documents agree with the code: tables of crates, contracts, counts of lines to believe, links, and words to avoid."""
+import io
 import os
 import re
 import subprocess
+import tokenize
 
 from .running import ROOT
 
@@ -54,24 +56,65 @@ def links(program, report):
 
 
 def words_to_avoid():
-    """The words in the first column of the table of CONTRIBUTING."""
-    table = read(f"{ROOT}/docs/CONTRIBUTING.md").partition("| avoid | write |\n")[2].partition("\n\n")[0]
-    return re.findall(r"^\| ([^|]+?) \|", table, re.M)[1:]
+    """The words in the first columns of the two tables of CONTRIBUTING."""
+    tables = read(f"{ROOT}/docs/CONTRIBUTING.md").split("| avoid | write |\n")[1:]
+    return [re.findall(r"^\| ([^|]+?) \|", it.partition("\n\n")[0], re.M) for it in tables]
+
+
+def said_in_python(text):
+    """The comments and the strings of a text in Python: its names may be any."""
+    kinds = (tokenize.COMMENT, tokenize.STRING)
+    return "\n".join(it.string for it in tokenize.generate_tokens(io.StringIO(text).readline) if it.type in kinds)
+
+
+def strings(lines):
+    """What is in double quotes in each line. A line whose quotes are not in pairs is part of a longer string, and counts as a whole."""
+    return "\n".join(" ".join(re.findall(r'"(?:[^"\\]|\\.)*"', line)) if line.count('"') % 2 == 0 else line for line in lines)
+
+
+def said_in_code(text):
+    """The lines of a text in another language that are comments, and its strings in double quotes."""
+    comments = re.findall(r"^ *(?://|#|;|/?\*).*", text, re.M)
+    return "\n".join([*comments, strings(text.split("\n"))])
+
+
+def scripts():
+    """What the scripts, clients and headers of the repository say."""
+    listed = subprocess.run(["git", "ls-files", "-co", "--exclude-standard"], cwd=ROOT, capture_output=True, text=True, check=True)
+    for name in listed.stdout.split():
+        if name.startswith(("crates/", "examples/", "tests/more_edits/")) and name != "tests/more_edits/try":
+            continue
+        if name.endswith((".md", ".png")) or name == "tests/edge/documents.py" or not os.path.exists(f"{ROOT}/{name}"):
+            continue
+        text = read(f"{ROOT}/{name}")
+        yield name, said_in_python(text) if name.endswith(".py") or "python3" in text.partition("\n")[0] else said_in_code(text)
+
+
+def messages_and_comments():
+    """Of each file of the libraries and programs its messages, or None, and its comments. Tests have no messages."""
+    for base, _, files in os.walk(f"{ROOT}/crates"):
+        for file in sorted(it for it in files if "/src" in base and it.endswith(".rt") or "/specs" in base and it.endswith(".antt")):
+            name = os.path.relpath(f"{base}/{file}", ROOT)
+            text = read(f"{ROOT}/{name}")
+            lines = [line for line in text.split("\n") if re.match(r" *(//|--)", line)]
+            is_message = name.endswith(".rt") and not name.split("/")[1].endswith("_tests")
+            yield name, strings(line for line in text.split("\n") if not re.match(r" *//", line)) if is_message else "", "\n".join(lines)
 
 
 def plain_words(program, report):
-    """No page, doc comment or message of the code has one of the words to avoid."""
-    words = words_to_avoid()
-    report.holds("plain_words: CONTRIBUTING has a table of words to avoid", len(words) > 5)
+    """No page, comment, message or script has one of the words to avoid."""
+    tables = words_to_avoid()
+    report.holds("plain_words: CONTRIBUTING has two tables of words to avoid", len(tables) == 2 and all(len(it) > 5 for it in tables))
     texts = {os.path.relpath(page, ROOT): read(page) for page in PAGES if not page.endswith("CONTRIBUTING.md")}
-    for base, _, files in os.walk(f"{ROOT}/crates"):
-        if os.path.basename(base) == "src" or "/src/" in base:
-            for file in (it for it in files if it.endswith(".rt")):
-                said = "\n".join(line for line in read(f"{base}/{file}").split("\n") if re.match(r" *//[/!]", line))
-                texts[os.path.relpath(f"{base}/{file}", ROOT)] = said
-    for word in words:
-        found = [name for name, text in texts.items() if re.search(rf"\b{re.escape(word)}\b", text, re.I)]
-        report.equal(f"plain_words: nobody writes '{word}'", [], found)
+    texts.update(scripts())
+    comments = {"docs/contracts.md": texts.pop("docs/contracts.md")}
+    for name, messages, said in messages_and_comments():
+        texts[name], comments[name] = messages, said
+    for words, looked_at in zip(tables, ([texts, comments], [texts])):
+        for word in words:
+            pattern = rf"\b[{word[0]}{word[0].upper()}]{word[1:].replace('N', '[0-9]+')}\b"
+            found = {name for it in looked_at for name, text in it.items() if re.search(pattern, re.sub("there is none|is none of", "", text))}
+            report.equal(f"plain_words: '{word}' is in no text", [], sorted(found))
 
 
 # Of each recorder how a line of the example in its comments begins, and its tests.

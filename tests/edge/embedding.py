@@ -97,7 +97,7 @@ def as_the_program(program, report):
     return f"{len(every)} calls"
 
 
-# A value is dequeued that nobody enqueued.
+# A value is dequeued that was never enqueued.
 NEVER_ENQUEUED = b"""{:process 0, :type :invoke, :f :enqueue, :value 1}
 {:process 0, :type :ok, :f :enqueue, :value 1}
 {:process 0, :type :invoke, :f :dequeue}

@@ -64,7 +64,7 @@ def unreadable(program: Program, report: Report):
             report.answers(" ".join(words), program.run(*words), "", 4, f"fcbench: cannot read {name}\n")
     ran = program.run("check", "first.edn", "second.edn")
     report.answers("check: both files are missing", ran, "", 4, "fcbench: cannot read first.edn\n")
-    # A pipe that nobody feeds: who opens it waits.
+    # A pipe into which nothing is written: a program that opens it waits.
     os.mkfifo(f"{program.room}/never.edn")
     ran = program.run("check", "missing.edn", "never.edn")
     report.answers("check: the history is read first", ran, "", 4, "fcbench: cannot read missing.edn\n")
@@ -75,7 +75,7 @@ def unreadable(program: Program, report: Report):
     report.answers("check: files are read before anything is judged", ran, "", 4, message)
     secret = program.write("secret.edn", rows.OVERLAPPING)
     os.chmod(f"{program.room}/{secret}", 0)
-    # The superuser may read every file, so then the program runs as nobody.
+    # The superuser may read every file, so then the program runs as another user.
     how = AS_NOBODY if os.geteuid() == 0 else {}
     for words in (*with_each_file(secret), *drawn_with(secret)):
         ran = program.run(*words, **how)

@@ -540,7 +540,7 @@ VALUES_THAT_ARE_ABSENT = (
     (TWICE_IN, "{:without 1, :before 12}", POSSIBLE),
     (POPPED_AGAIN, "{:without 1, :before 4}", IMPOSSIBLE),
     (POPPED_AGAIN, "{:without 1, :before 5}", NO_PART),
-    # The pending taking can have taken the first 1, and nobody says so.
+    # The pending taking can have taken the first 1: its reply is not known.
     (MAYBE_GONE, "", POSSIBLE),
     (MAYBE_GONE, "{:without 1, :before 3}", NO_PART),
     (MAYBE_GONE, "{:without 1, :before 7}", NO_PART),

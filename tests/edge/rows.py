@@ -710,7 +710,7 @@ SIMULATIONS = [
         0,
     ),
     simulate(
-        "keys that nobody reads",
+        "keys that have no meaning",
         "{:kind :queue, :objects 1, :clients 1, :quota 0, :seed 7} {:client 0, :step :end, :row 99, :note \"done\"}",
         lines("; refused steps: 0", "; yes: 0 operations, 0 objects"),
         0,

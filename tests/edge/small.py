@@ -251,7 +251,7 @@ def first_value(value):
 
 
 class Every:
-    """All histories of at least one call and at most as many as told, in at most twice as many maps, a lot at a time. Process 0 makes
+    """All histories of at least one call and at most this many, in at most twice as many maps, a lot at a time. Process 0 makes
     the first step. Of two histories in which only the values 1 and 2 are exchanged the one that names 1 first can be taken alone."""
 
     def __init__(self, calls, operations, of_two, take):
@@ -296,7 +296,7 @@ class Every:
 
 
 def judge_both_sorts(program, report, name, histories):
-    """Judges histories, with no step of a search. A reason that keeps all operations without a count is none that was looked for."""
+    """Judges histories, with no step of a search. A reason that keeps all operations without a count does not come from a pattern."""
     words = ("judge", "--steps", "0")
 
     def valid(history, text, count):

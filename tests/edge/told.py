@@ -156,7 +156,7 @@ ROWS = (
 
 # ---- texts of reasons
 
-# Texts that are no reasons, and the form that is none.
+# Texts that are no reasons, and the first form that is not a reason.
 REFUSED = (
     ("[0]", 0),
     (":object", 0),
