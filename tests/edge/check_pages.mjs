@@ -1,6 +1,6 @@
 // node --experimental-websocket check_pages.mjs CASES     asks Chromium about pages that were drawn.
 //
-// CASES is a JSON file: a list of {file, answer, code, rank, reason, shows}. For each page one line of JSON says what is wrong with it. It uses no
+// CASES is a JSON file: a list of {file, answer, code, rank, reason, shows, isWhole}. For each page one line of JSON says what is wrong with it. It uses no
 // packages: it speaks the DevTools protocol over the WebSocket of node.
 import {spawn} from 'node:child_process';
 import {existsSync, mkdtempSync, readFileSync, rmSync, statSync} from 'node:fs';
@@ -90,13 +90,14 @@ function links() {
   const bad = [];
   if (document.querySelectorAll('script, link, img, iframe, object, embed, [src], [onclick]').length) bad.push('something to load or to run');
   for (const it of document.querySelectorAll('a')) {
-    const target = it.getAttribute('href');
+    const target = it.getAttribute('href') ?? '';
     if (!target.startsWith('#')) bad.push(`a link to ${target}`);
     else if (!document.getElementById(target.slice(1))) bad.push(`no place ${target}`);
   }
   const names = [...document.querySelectorAll('[id]')].map(it => it.id);
   for (const name of names.filter((it, place) => names.indexOf(it) !== place)) bad.push(`the name ${name} twice`);
   if (document.documentElement.scrollWidth > innerWidth) bad.push('the page is wider than the window');
+  for (const it of document.querySelectorAll('style')) if (/url\(|@import/i.test(it.textContent)) bad.push('a style that loads something');
   return bad;
 }
 
@@ -165,7 +166,7 @@ function contrasts() {
     }
     return page;
   };
-  for (const it of document.querySelectorAll('p, td, th, h1, h2, caption, figcaption, li, summary, code, pre, mark')) {
+  for (const it of document.querySelectorAll('p, td, th, h1, h2, caption, figcaption, li, summary, code, pre, mark, a, .ref, .aside')) {
     const own = contrast(getComputedStyle(it).color, below(it));
     if (it.textContent.trim() && own < 4.5) bad.push(`${it.tagName} ${own.toFixed(1)}`);
   }
@@ -181,10 +182,26 @@ function contrasts() {
     const own = contrast(getComputedStyle(it.querySelector('text')).fill, getComputedStyle(it.querySelector('rect')).fill);
     if (own < 4.5) bad.push(`point ${own.toFixed(1)}`);
   }
-  for (const it of document.querySelectorAll('g.cross text, text.num, text.lane, text.under')) {
+  for (const it of document.querySelectorAll('g.cross text, text.num, text.lane, text.under, text.ne, g.nem text')) {
     const own = contrast(getComputedStyle(it).fill, page);
     if (own < 4.5) bad.push(`text ${it.textContent} ${own.toFixed(1)}`);
   }
+  for (const it of document.querySelectorAll('svg.sys g.gap, svg.content g.box, svg.sys g.op')) {
+    const filled = getComputedStyle(it.querySelector('rect')).fill;
+    for (const text of it.querySelectorAll('text:not(.under)')) {
+      const own = contrast(getComputedStyle(text).fill, filled === 'none' ? page : filled);
+      if (own < 4.5) bad.push(`text ${text.textContent} ${own.toFixed(1)}`);
+    }
+  }
+  const strokes = 'svg.sys .pt .x, svg.sys .before .line, svg.sys .cross path, svg.sys .tether, svg.sys .info, svg.sys .more, svg.content .box:not(.skip) rect';
+  for (const it of document.querySelectorAll(strokes)) {
+    const own = contrast(getComputedStyle(it).stroke, page);
+    const isFaint = it.closest('.dim, .failed');
+    if (!isFaint && own < 3) bad.push(`stroke ${it.getAttribute('class') ?? it.tagName} ${own.toFixed(1)}`);
+  }
+  // The sign in the heading is large.
+  const sign = getComputedStyle(document.querySelector('.icon') ?? document.body);
+  if (contrast(sign.color, sign.backgroundColor) < 3) bad.push('the sign in the heading');
   return [...new Set(bad)];
 }
 
@@ -194,7 +211,9 @@ function parts(wanted) {
   const count = selector => document.querySelectorAll(selector).length;
   if (document.body.className !== wanted.answer) bad.push(`the page is ${document.body.className}`);
   if (wanted.rank && document.querySelector('tr.bad th')?.textContent !== `${wanted.rank}`) bad.push(`the refused row is not that of rank ${wanted.rank}`);
-  if (wanted.code === 'C7' && count('#object-0 figure:last-of-type .leftout') < 1) bad.push('nothing is left out');
+  // The bar of the operation that is left out may go on in the next line.
+  const omitted = new Set([...document.querySelectorAll('svg.sys .leftout')].map(it => it.dataset.op)).size;
+  if (omitted !== (wanted.code === 'C7' ? 1 : 0) || count('.leftout[id]') !== omitted) bad.push(`${omitted} operations are left out`);
   if (wanted.code === 'C5' && count('g.before') < 1) bad.push('no arrow');
   if (['C6', 'C9'].includes(wanted.code) && count('#content rect') < 1) bad.push('no content');
   if (wanted.answer === 'impossible') {
@@ -204,21 +223,42 @@ function parts(wanted) {
     if (count('table.tried tbody tr') < 1) bad.push('no tried order');
   }
   if (wanted.answer === 'malformed' && document.querySelector('figure.text')?.querySelectorAll('tr.at > td > mark').length !== 1) bad.push('no place is marked');
+  const place = document.querySelector('#reason, #fault');
+  const link = document.querySelector('.skiplink');
+  if (link?.getAttribute('href') !== (place ? `#${place.id}` : undefined)) bad.push(`no link to ${place?.id ?? 'nothing'}`);
+  if (!place && wanted.isWhole && ['no', 'impossible', 'malformed'].includes(wanted.answer)) bad.push('nothing to skip to');
   for (const text of wanted.shows ?? []) if (!document.body.textContent.includes(text)) bad.push(`${text} is not shown`);
   return bad;
 }
 
 const focused = () => document.activeElement.className;
 const has = selector => Boolean(document.querySelector(selector));
+const placed = () => document.activeElement === document.querySelector('#reason, #fault') && location.hash === `#${document.activeElement.id}`;
 
 // A row of an order whose point is drawn, in the middle of the window: where it is, and what its bar is.
 function rowToPointAt() {
+  location.hash = '';
   const row = [...document.querySelectorAll('table.order tr[id]')].find(it => document.querySelector(`a.pt[href="#${it.id}"]`));
   if (!row) return null;
   row.scrollIntoView({block: 'center'});
   const {x, y} = row.getBoundingClientRect();
   return {x: x + 8, y: y + 6, op: document.querySelector(`a.pt[href="#${row.id}"]`).dataset.op};
 }
+
+// A bar whose point is drawn and has a row, in the middle of the window: where it is, and the name of its row.
+function barToPointAt() {
+  for (const point of document.querySelectorAll('svg.sys a.pt')) {
+    const row = document.getElementById(point.getAttribute('href').slice(1));
+    const bar = point.closest('svg').querySelector(`g.op[data-op="${point.dataset.op}"] .fill`);
+    if (!row || !bar) continue;
+    bar.scrollIntoView({block: 'center', inline: 'center'});
+    const {x, y} = bar.getBoundingClientRect();
+    return {x: x + 3, y: y + 3, row: row.id};
+  }
+  return null;
+}
+
+const outlineOf = name => getComputedStyle(document.getElementById(name)).outlineStyle;
 
 const edgeOf = op => getComputedStyle(document.querySelector(`g.op[data-op="${op}"] .edge`)).strokeWidth;
 
@@ -231,20 +271,34 @@ function edgeOfTarget() {
 
 // ---- a page
 
-async function press(tab, key) {
-  for (const type of ['keyDown', 'keyUp']) await tab.ask('Input.dispatchKeyEvent', {type, key, code: key, windowsVirtualKeyCode: 9});
+async function press(tab, key, windowsVirtualKeyCode, text) {
+  for (const type of ['keyDown', 'keyUp']) await tab.ask('Input.dispatchKeyEvent', {type, key, code: key, windowsVirtualKeyCode, text});
+}
+
+const pointAt = (tab, {x, y}) => tab.ask('Input.dispatchMouseEvent', {type: 'mouseMoved', x, y});
+
+async function answersToKeys(tab) {
+  const bad = [];
+  if (await tab.evaluate(has, '.skiplink')) {
+    await press(tab, 'Tab', 9);
+    if ((await tab.evaluate(focused)) !== 'skiplink') bad.push('the first stop is not the link to the fault');
+    await press(tab, 'Enter', 13, '\r');
+    if (!(await tab.evaluate(placed))) bad.push('the link does not lead to the fault');
+  }
+  return bad;
 }
 
 async function answersToHands(tab) {
   const bad = [];
-  if (await tab.evaluate(has, '.skiplink')) {
-    await press(tab, 'Tab');
-    if ((await tab.evaluate(focused)) !== 'skiplink') bad.push('the first stop is not the link to the fault');
-  }
   const row = await tab.evaluate(rowToPointAt);
   if (row) {
-    await tab.ask('Input.dispatchMouseEvent', {type: 'mouseMoved', x: row.x, y: row.y});
+    await pointAt(tab, row);
     if ((await tab.evaluate(edgeOf, row.op)) !== '3px') bad.push('a row does not light its bar');
+  }
+  const bar = await tab.evaluate(barToPointAt);
+  if (bar) {
+    await pointAt(tab, bar);
+    if ((await tab.evaluate(outlineOf, bar.row)) === 'none') bad.push('a bar does not light its row');
   }
   const edge = await tab.evaluate(edgeOfTarget);
   if (edge && edge !== '4px') bad.push('a bar that is led to is not marked');
@@ -254,16 +308,17 @@ async function answersToHands(tab) {
 async function lookAt(tab, wanted) {
   await tab.scheme('light');
   await tab.open(wanted.file);
-  const bad = [...(await tab.evaluate(links)), ...(await tab.evaluate(points, wanted.code)), ...(await tab.evaluate(rooms)), ...(await tab.evaluate(parts, wanted))];
+  const bad = [...(await tab.evaluate(links)), ...(await tab.evaluate(points, wanted.code)), ...(await tab.evaluate(parts, wanted))];
   const size = statSync(wanted.file).size;
   if (size > (wanted.most ?? MOST_BYTES)) bad.push(`${size} bytes`);
   if (tab.requests.length !== 1) bad.push(`${tab.requests.length} requests`);
+  bad.push(...(await answersToKeys(tab)));
   for (const scheme of ['light', 'dark']) {
     await tab.scheme(scheme);
-    bad.push(...(await tab.evaluate(contrasts)).map(it => `${scheme}: ${it}`));
+    const found = [...(await tab.evaluate(rooms)), ...(await tab.evaluate(contrasts)), ...(await answersToHands(tab))];
+    bad.push(...found.map(it => `${scheme}: ${it}`));
   }
-  await tab.scheme('light');
-  return [...bad, ...(await answersToHands(tab))];
+  return [...new Set(bad)];
 }
 
 const cases = JSON.parse(readFileSync(process.argv[2], 'utf8'));

@@ -1,4 +1,5 @@
 """Histories that are made up, and the calls of any history, read by code that shares nothing with the program."""
+import functools
 import random
 from dataclasses import dataclass
 
@@ -36,6 +37,7 @@ class Call:
         return self.at if self.end == "ok" else None
 
 
+@functools.lru_cache(maxsize=16)
 def calls_of(history):
     """The calls of a history, by their numbers, and how many maps it has."""
     calls, outstanding, maps = {}, {}, maps_of(history)
@@ -127,12 +129,12 @@ def spoilt(kind, seed):
     return maps
 
 
-def long_search(seed):
+def long_search(seed, on=None):
     """The maps of a history with an order that takes a long search: of writes at once the one that returned first is the last, since
-    none of the other values was found afterwards. Other objects may have other calls."""
+    none of the other values was found afterwards. It is of this object, or other objects may have other calls."""
     rng = random.Random(f"long search {seed}")
-    others = made(rng.choice(tuple(FUNCTIONS)), f"beside {seed}", calls=rng.choice((0, 0, 5, 12)), on=0).maps
-    on, writers = (1 if others else 0), rng.sample(range(100, 200), rng.randrange(12, 15))
+    others = made(rng.choice(tuple(FUNCTIONS)), f"beside {seed}", calls=rng.choice((0, 0, 5, 12)), on=0).maps if on is None else []
+    on, writers = (1 if others else on or 0), rng.sample(range(100, 200), rng.randrange(12, 15))
     maps = [texts.invoke(it, "write", it, on) for it in writers]
     maps += [texts.ok(it, "write", it, on) for it in writers]
     checks = rng.sample(writers[1:], len(writers) - 1)
@@ -141,3 +143,46 @@ def long_search(seed):
         maps += [texts.invoke(201, "read", None, on), texts.info(201, "read", None, on)]
     place = rng.randrange(len(maps) + 1)
     return maps[:place] + others + maps[place:]
+
+
+# What goes wrong on an object of each kind.
+FAULTS = {
+    "never put": ("queue", "stack", "heap"),
+    "found empty": ("queue", "stack", "heap"),
+    "taken twice": ("queue", "stack", "heap"),
+    "wrong turn": ("queue", "stack", "heap"),
+    "out of date": ("register", "map"),
+    "own value": ("register", "map"),
+}
+
+
+def wrong_replies(rng, sort, calls, replies):
+    """Replies of which one or two are wrong in this way, where the calls can have such."""
+    readers = [it for it in replies if calls[it].f in ("dequeue", "pop", "extract-min", "read", "get")]
+    with_value = [it for it in readers if replies[it] is not None]
+    setters = [it for it in replies if calls[it].f in ("cas", "put")]
+    if sort == "own value" and setters:
+        own = rng.choice(setters)
+        _, value = calls[own].argument
+        return {**replies, own: (value, value) if calls[own].f == "cas" else value}
+    if sort in ("never put", "found empty") and readers:
+        return {**replies, rng.choice(with_value or readers): 5000 if sort == "never put" else None}
+    if len(with_value) < 2:
+        return replies
+    one, other = sorted(rng.sample(with_value, 2))
+    return {**replies, other: replies[one], one: replies[other] if sort == "wrong turn" else replies[one]}
+
+
+def faulty(sort, kind, seed):
+    """A made history of rarely the same value in which one or two replies are wrong, as a faulty object gives them, with the order of
+    the right one."""
+    rng = random.Random(f"faulty {sort} {kind} {seed}")
+    right = made(kind, f"{sort} {seed}", calls=rng.choice((8, 14, 30)), processes=rng.choice((1, 2, 3)), values=1000)
+    calls, maps = calls_of(right.text())[0], list(right.maps)
+    replies = {it.number: it.reply for it in calls.values() if it.end == "ok"}
+    for number, reply in wrong_replies(rng, sort, calls, replies).items():
+        call = calls[number]
+        argument = (reply[0], call.argument[1]) if sort == "own value" and call.f == "cas" and reply not in (False, None) else call.argument
+        maps[number] = texts.invoke(call.process, call.f, argument, call.on)
+        maps[call.at] = texts.ok(call.process, call.f, reply, call.on)
+    return Made(kind, maps, right.order)

@@ -13,6 +13,9 @@ from .sentences import grouped, label_of, why_bars_false
 BESIDE, MARKED, LINE = 80, 160, 160
 # How many lines are shown before and after.
 LINES = 2
+# A history has at most so many maps.
+MOST_MAPS = 1_000_000
+OF_NEMESIS = "{:process :n}"
 # How many characters of a token are quoted.
 TOKEN = 40
 # A reply that each function may have.
@@ -344,6 +347,19 @@ def faulty_texts(of_each):
             yield made, make(rng, made)
 
 
+def longest_texts():
+    """Texts of a million maps, most of which are of a nemesis, and another map."""
+    for kind in ("queue", "register"):
+        rng = random.Random(f"too many {kind}")
+        made = histories.made(kind, "too many", calls=12)
+        beside = [OF_NEMESIS] * (MOST_MAPS - len(made.maps))
+        faulty = rng.choice((OF_NEMESIS, texts.invoke(991, FUNCTIONS[kind][0], 1)))
+        text = texts.lines(*made.maps, *beside, faulty).encode()
+        end = len(text) - 1
+        said = f"The text can be read, but it is no history. Map {MOST_MAPS} is one too many: a history has at most 1,000,000."
+        yield made, Faulty("H9", text, MOST_MAPS, (end - len(faulty), end), (said,))
+
+
 # ---- what is on the page
 
 
@@ -445,7 +461,8 @@ def why_history_wrong(page, faulty):
     caption = f"The maps before it are well formed.{' The cross is the faulty map.' if crosses else ''}"
     if spelled(figure.find("figcaption")) != caption:
         return f"the caption is {spelled(figure.find('figcaption'))}"
-    return why_bars_false(figure, calls_of(faulty.text[: faulty.marked[0]].decode())[0])
+    # Maps of a nemesis are no calls, and where there are many of them they are the last ones.
+    return why_bars_false(figure, calls_of(faulty.text[: faulty.marked[0]].decode().replace(f"{OF_NEMESIS}\n", ""))[0])
 
 
 def why_page_wrong(page, faulty):

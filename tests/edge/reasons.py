@@ -32,6 +32,7 @@ def value_of(word):
     return numbers if word.startswith("[") else numbers[0]
 
 
+@functools.lru_cache(maxsize=16)
 def maps_of(history):
     """The maps of a history, each with its process, type, function, value and object."""
     found = []

@@ -4,12 +4,14 @@ import re
 
 from .histories import KIND_OF, calls_of
 from .pages import REF, found
-from .reasons import NEXT, OPEN, has_order, value_of
+from .reasons import NEXT, OPEN, has_order, maps_of
 from .texts import value
 
 PUT = {"queue": "enqueue", "stack": "push", "heap": "insert", "register": "write", "map": "put", "mutex": "acquire"}
 PUTS = ("enqueue", "push", "insert", "write", "put", "cas")
 TAKES = ("dequeue", "pop", "extract-min")
+# The most rows of the table of objects.
+MOST_OBJECTS = 64
 TIMES = {"once": 1, "twice": 2}
 ROLES = {f: "put" for f in PUT.values()} | {f: "take" for f in (*TAKES, "del", "release")} | {f: "read" for f in ("read", "get")} | {"cas": "swap"}
 STATES = {"ok": "done", "fail": "failed", "info": "pending", "open": "pending"}
@@ -106,7 +108,7 @@ class Said:
 
     def __init__(self, history, orders):
         self.calls, self.maps = calls_of(history)
-        self.orders = orders
+        self.orders, self.processes = orders, [it["process"] for it in maps_of(history)]
 
     def on(self, x):
         return [it for it in self.calls.values() if it.on == x]
@@ -143,6 +145,9 @@ class Said:
         failed = re.fullmatch(r"it failed at map (\d+), so it did not happen", why)
         if failed:
             return (call.end, call.at, call.on) == ("fail", int(failed[1]), x)
+        beside = re.fullmatch(r"map (\d+) is of the nemesis", why)
+        if beside:
+            return int(beside[1]) == number and self.processes[number].startswith(":")
         ended = re.fullmatch(r"map (\d+) is the completion of operation (\d+)", why)
         return bool(ended) and int(ended[1]) == number and self.calls[int(ended[2])].at == number
 
@@ -377,6 +382,49 @@ ASIDES = (
 )
 
 
+# How sentences of some forms go on. A sentence may go on in several ways.
+ENDINGS = {
+    "c3 negative": ("c3", "the number is negative"),
+    "c3 beyond": ("c3", "it names no map of the history"),
+    "c3 other object": ("c3", "it is an operation on object"),
+    "c3 failed": ("c3", "it failed at map"),
+    "c3 nemesis": ("c3", "is of the nemesis"),
+    "c3 completion": ("c3", "is the completion of operation"),
+    "c6 giver": ("c6", " was put there by "),
+    "c6 no": ("c6", " No operation that was invoked before map "),
+    "c6 no other": ("c6", " No other operation that was invoked before map "),
+    "c6 left out": ("c6", ", which the order leaves out."),
+    "c6 behind": ("c6", ", which stands behind it, as entry "),
+    "c6 turn": ("c6", ", and is not at its turn."),
+    "c6 taken": ("c6", ", and taken out by "),
+    "c6 entry": ("c6", r" was put by [^|]*\|[^⟩]*⟩, entry \d+\.$"),
+    "c9 held": ("c9", "the mutex is held there, by "),
+    "c9 free since": ("c9", "the mutex is free there, since "),
+    "c9 free": ("c9", "the mutex is free there, from the beginning"),
+    "too_often once": ("too_often", " (?:enqueued|pushed|inserted) once, by "),
+    "too_often twice": ("too_often", " (?:enqueued|pushed|inserted) twice, by "),
+    "out of steps": ("left_open", "out of steps"),
+    "general in a window": ("general", "^Whatever the "),
+    "general of the whole": ("general", "^In whatever order "),
+    "general, no reply": ("general", " could not return "),
+    "general, not possible": ("general", " is not possible"),
+    "general, one of them": ("general", "one of them does not fit"),
+}
+
+
+def form_of(sentence):
+    """The form of a sentence, or None."""
+    forms = {**FORMS, "general": GENERAL, **{f"aside {number}": it for number, it in enumerate(ASIDES)}}
+    return next((form for form, pattern in forms.items() if re.fullmatch(pattern, sentence)), None)
+
+
+def forms_of(page):
+    """The forms of the sentences of a page, and the ways in which they go on."""
+    said = [(form_of(it), it) for it in page.said]
+    ways = [way for form, it in said for way, (of, words) in ENDINGS.items() if of == form and re.search(words, it)]
+    return [*[form for form, _ in said], *ways]
+
+
 def groups_of(form, match):
     """The groups of a match without labels."""
     names = [it for it in re.finditer(r"\((?!\?)", FORMS[form].replace(r"\(", "  "))]
@@ -448,7 +496,11 @@ def why_counts_false(page, history):
     wanted = [f"{grouped(count)} {word}{'' if count == 1 else 's'}" for count, word in ((maps, "map"), (live, "operation"), (len(objects), "object"))]
     if page.facts.split(" · ")[1:] != wanted + ending:
         return f"the facts are {page.facts}"
-    for _, cells in page.rows("objects"):
+    rows = page.rows("objects")
+    more = len(objects) - MOST_OBJECTS
+    if rows and more > 0 and rows.pop() != ("skip", [f"{grouped(more)} more object{'' if more == 1 else 's'}"]) or rows and len(rows) != min(len(objects), MOST_OBJECTS):
+        return f"{len(rows)} objects are told of"
+    for _, cells in rows:
         own = [it for it in calls.values() if f"object {it.on}" == cells[0]]
         if cells[1] != KIND_OF[own[0].f] or [number_in(it) for it in cells[2:5]] != list(counts_of(own)):
             return f"the row of {cells[0]} is {cells}"
