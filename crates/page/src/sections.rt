@@ -107,12 +107,12 @@ impl Writer {
         ])
     }
 
-    fn note_of_gaps(&mut self, extent: &Extent) {
+    fn note_of_gaps(&mut self, drawn: usize, operations: usize) {
         self.spans(&[
             Span::Text("Drawn: "),
-            Span::Count(extent.drawn),
+            Span::Count(drawn),
             Span::Text(" of "),
-            Span::Count(extent.operations),
+            Span::Count(operations),
             Span::Text(" operations of the object. "),
             Span::Text("Gaps say how many maps are left out. "),
             Span::Command("--from A --to B"),
@@ -132,7 +132,8 @@ impl Writer {
 
     /// What a figure leaves out.
     pub(crate) fn note(&mut self, extent: &Extent, figure: &Figure) {
-        let has_gaps = extent.operations > extent.drawn;
+        let drawn = self.shown_in(figure);
+        let has_gaps = extent.operations > drawn;
         if extent.without_lane == 0 && !has_gaps && figure.left_out == 0 {
             return;
         }
@@ -141,7 +142,7 @@ impl Writer {
             self.note_of_lanes(extent);
         }
         if has_gaps {
-            self.note_of_gaps(extent);
+            self.note_of_gaps(drawn, extent.operations);
         }
         if figure.left_out > 0 {
             self.note_of_open(figure.left_out);
