@@ -25,7 +25,7 @@ fn refused_rank(drawing: &ObjectDrawing) -> u64 {
 
 /// The caption of the figure of an object. That of bars and points is there once.
 fn caption(answer: Answer, drawing: &ObjectDrawing, is_first: bool) -> &'static str {
-    let has_points = !drawing.rows.is_empty();
+    let has_points = has_points(&drawing.figure);
     if drawing.tried.is_some() {
         "In its surroundings: the operations of the reason are outlined, the others are dimmed."
     } else if drawing.zoom.is_some() {
@@ -40,6 +40,16 @@ fn caption(answer: Answer, drawing: &ObjectDrawing, is_first: bool) -> &'static 
     } else {
         "Bars run from invocation to return."
     }
+}
+
+/// Whether the figure has a point.
+fn has_points(figure: &Figure) -> bool {
+    for line in &figure.lines {
+        if !line.points.is_empty() {
+            return true;
+        }
+    }
+    false
 }
 
 /// Whether some operation of the figure is joined to a later one.
