@@ -181,7 +181,8 @@ fn figures(
         focus,
         arrows: &explanation.arrows,
         is_zoom: false,
-        dims: !focus.is_empty() && window.drawn.len() > few,
+        dims: matches!(explanation.alone, Alone::Always)
+            || !focus.is_empty() && window.drawn.len() > few,
         maps: subject.maps,
         names_objects: false,
         faulty: None,
