@@ -412,6 +412,17 @@ fn arrows_in(memory: &Memory, operations: &[Operation]) -> Vec<(Operation, Opera
     arrows
 }
 
+/// Those of the operations that did not fail.
+fn live_of(memory: &Memory, part: &[Invocation]) -> Vec<Invocation> {
+    let mut live = Vec::new(memory.alloc);
+    for invocation in part {
+        if invocation.end != End::Failed {
+            memory.note(live.push(*invocation));
+        }
+    }
+    live
+}
+
 /// A part of an object's history of which no order is valid.
 #[derive(Clone, Copy)]
 pub struct Part<'a> {
@@ -435,7 +446,8 @@ pub fn draw_impossible(
 {
     let memory = Memory::new(alloc);
     let operations = all_operations(&memory, subject);
-    let ops = part.part.ops();
+    let live = live_of(&memory, part.part.ops());
+    let ops: &[Invocation] = &live;
     let named = recorded(&memory, &operations, ops, part.from);
     let tried = try_orders(&memory, &operations, part.part.kind(), ops, part.other);
     let shape = Shape {
