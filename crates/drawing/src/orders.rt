@@ -127,14 +127,22 @@ pub(crate) fn walk_along(
         let operation = operation_at(operations, *number);
         let is_refused = refused == Some(place);
         let is_drawn = is_drawn(drawn, operation);
+        let is_shown = is_drawn || place >= first_near || length <= SHORT;
         let content = match operation {
-            Some(operation) if !is_refused => walk.take(memory, place, operation, is_drawn),
+            Some(operation) if !is_refused => {
+                let content = walk.take(memory, place, operation, is_drawn);
+                if is_shown && !is_drawn {
+                    Some(walk.content.text(memory))
+                } else {
+                    content
+                }
+            }
             _ => {
                 walk.refuse(memory, place, operation);
                 None
             }
         };
-        if is_drawn || place >= first_near || length <= SHORT {
+        if is_shown {
             memory.note(
                 walk.rows.push(Row::Entry {
                     rank: place.saturating_add(1),
