@@ -25,7 +25,7 @@ text-align:center;font-size:21px;color:var(--bg);background:var(--soft);vertical
 .no .icon,.impossible .icon,.malformed .icon{background:var(--bad)}
 .facts{margin:4px 0 10px;color:var(--soft);font-size:13.5px}
 .say{margin:6px 0;max-width:900px;font-size:17px}
-.say .aside{font-size:14px;color:var(--soft)}
+.say:has(>.aside){font-size:14px;color:var(--soft)}
 code,.mono,pre,.lines{font-family:ui-monospace,SFMono-Regular,Menlo,Consolas,\"DejaVu Sans Mono\",
 monospace;font-size:.86em}
 pre.verdict{margin:10px 0 0;padding:7px 11px;background:var(--panel);
@@ -51,7 +51,7 @@ font-weight:700}.tick{stroke:var(--line)}.tick.on{stroke:var(--fg)}
 .gap rect{fill:var(--panel)}svg .gap text{font-size:9px;text-anchor:middle;fill:var(--soft)}
 .nem path{stroke:var(--soft);stroke-dasharray:2 3;fill:none}.nem .dia{fill:var(--soft);
 stroke:none}svg .nem text{font-size:9px;fill:var(--soft)}svg .nem .e{text-anchor:end}
-.fill{stroke:none}.edge,.more,.info{fill:none;stroke-width:1.25}
+.fill{stroke:none;pointer-events:all}.edge,.more,.info{fill:none;stroke-width:1.25}
 .put .fill{fill:var(--put)}.put path{stroke:var(--put-e)}.take .fill{fill:var(--take)}
 .take path{stroke:var(--take-e)}
 .read .fill{fill:var(--read)}.read path{stroke:var(--read-e)}.swap .fill{fill:var(--swap)}
