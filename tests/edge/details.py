@@ -377,7 +377,7 @@ class View:
             words += f"Drawn: {grouped(len(self.bars))} of {grouped(len(self.calls))} operations of the object. "
             words += "Gaps say how many maps are left out. `--from A --to B` draws another stretch."
         if hidden:
-            words += f"Not drawn: {grouped(hidden)} operation{' that is' if hidden == 1 else 's that are'} open all through. "
+            words += f" Not drawn: {grouped(hidden)} operation{' that is' if hidden == 1 else 's that are'} open all through. "
         return [words] if words else []
 
     def gaps(self, maps):

@@ -134,7 +134,7 @@ impl Writer {
         let one = " operation that is open all through. ";
         let several = " operations that are open all through. ";
         self.spans(&[
-            Span::Text("Not drawn: "),
+            Span::Text(" Not drawn: "),
             Span::Count(left_out),
             Span::Text(plural(left_out, one, several)),
         ])
