@@ -183,7 +183,7 @@ def of_impossible():
     yield Case("a register of 500 with a racy cas", played(("register",), 500, 5, RacyRegister, values=5).text(), says=("general",))
     yield Case("a racy register of 400", played(("register",), 400, 4, RacyRegister, seed=10, values=5).text(), says=("general",))
     yield Case("a lagging register of 500", played(("register",), 500, 5, LaggingRegister).text(), says=("out_of_date",))
-    for stem in ("postgres_queue", "redis_lock", "redis_replica", "racy_stack", "larger_first", "lost_put", "never_enqueued"):
+    for stem in ("postgres_queue", "sharded_queue", "redis_lock", "redis_replica", "racy_stack", "larger_first", "lost_put", "never_enqueued"):
         yield example(stem, False)
     yield Case("a queue gives the later value first", WRONG_TURN)
 
