@@ -84,13 +84,12 @@ fn is_drawn(drawn: &BTreeSet<u32>, operation: Option<Operation>) -> bool {
 
 /// How many entries there are up to the last one that is drawn; all, where none is.
 fn entries_to_draw(order: &[i64], drawn: &BTreeSet<u32>) -> usize {
-    let (Some(least), Some(greatest)) = (drawn.first(), drawn.last()) else {
-        return order.len();
-    };
+    let least = drawn.first().copied().unwrap_or(u32::MAX);
+    let greatest = drawn.last().copied().unwrap_or(0);
     let mut count = order.len();
     for number in order.iter().rev() {
         let number = u32::try_from(*number).unwrap_or(u32::MAX);
-        if *least <= number && number <= *greatest && drawn.contains(&number) {
+        if least <= number && number <= greatest && drawn.contains(&number) {
             return count;
         }
         count = count.saturating_sub(1);
