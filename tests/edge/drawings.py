@@ -276,7 +276,7 @@ def falsified_pages(program, report):
 
 
 def rounds(processes, maps, on=None):
-    """A history of a queue of so many maps: in rounds each process puts a value in, and then takes the values out in their order."""
+    """A history of a queue of n maps: in rounds each process puts a value in, and then takes the values out in their order."""
     made, order, value = [], [], 0
     while len(made) < maps:
         count = min(processes, (maps - len(made)) // 4)
@@ -345,7 +345,7 @@ def large_drawings(program, report):
 
 
 def rounds_of_a_map(processes, maps):
-    """A history of a map of so many maps: in rounds each process puts a value under a key of its own, and then gets it."""
+    """A history of a map object of n maps: in rounds each process puts a value under a key of its own, and then gets it."""
     made, value = [], 0
     before = dict.fromkeys(range(processes))
     while len(made) < maps:

@@ -76,7 +76,7 @@ class RacyQueue:
 
 
 class ExpiringLock:
-    """A lock that is free after some turns, whoever holds it, and that anybody may give back."""
+    """A lock that is free after some turns, even while it is held, and that any client may give back."""
 
     def __init__(self, played):
         self.left = 0
@@ -238,8 +238,8 @@ class Play:
 
 
 def played(kinds, calls, processes, system=Right, seed=1, lost=0, refused=0, nemeses=0, values=0):
-    """A history of so many calls of so many processes on objects of these kinds, of which so many are lost, and so many refused. Values
-    are of so many, or each is another."""
+    """A history of this many calls of this many processes on objects of these kinds, of which the given numbers are lost, and refused. Values
+    are drawn from this many, or each is another."""
     rng, made = random.Random(f"played {kinds} {calls} {system.__name__} {seed}"), Played()
     wishes = Wishes(rng, kinds, FUNCTIONS, values)
     Play(rng, wishes, system(made), made, processes, calls, lost, refused, nemeses).all()
