@@ -16,7 +16,7 @@ AROUND = ((20, 10), (10, 5), (5, 2), (2, 1), (1, 0), (0, 0))
 HOLE, LANES, ALONE = 7, 24, 12
 # The most rows of tried orders, the operations of a part that are tried, and the steps.
 TRIED, MOST_TRIED, STEPS = 24, 64, 2000
-# Of so many operations of a reason all orders are tried.
+# Of a reason with this many operations all orders are tried.
 FEW_ORDERED = 8
 # An object that contains no more has a box for each.
 FEW = 10

@@ -17,7 +17,7 @@ PAGES = [
 
 
 def read(path):
-    with open(path) as file:
+    with open(path, errors="replace") as file:
         return file.read()
 
 
@@ -80,14 +80,13 @@ def said_in_code(text):
 
 def scripts():
     """What the scripts, clients and headers of the repository say."""
-    listed = subprocess.run(["git", "ls-files", "-co", "--exclude-standard"], cwd=ROOT, capture_output=True, text=True, check=True)
-    for name in listed.stdout.split():
-        if name.startswith(("crates/", "examples/", "tests/more_edits/")) and name != "tests/more_edits/try":
-            continue
-        if name.endswith((".md", ".png")) or name == "tests/edge/documents.py" or not os.path.exists(f"{ROOT}/{name}"):
-            continue
-        text = read(f"{ROOT}/{name}")
-        yield name, said_in_python(text) if name.endswith(".py") or "python3" in text.partition("\n")[0] else said_in_code(text)
+    for base, folders, files in os.walk(ROOT):
+        top = os.path.relpath(base, ROOT)
+        folders[:] = [it for it in folders if it not in (".git", "out", "target", "__pycache__") and (top, it) not in ((".", "crates"), (".", "examples"))]
+        for name in (os.path.relpath(f"{base}/{it}", ROOT) for it in files):
+            if not name.endswith((".md", ".png", ".edit", ".pyc")) and name != "tests/edge/documents.py":
+                text = read(f"{ROOT}/{name}")
+                yield name, said_in_python(text) if name.endswith(".py") or "python3" in text.partition("\n")[0] else said_in_code(text)
 
 
 def messages_and_comments():
