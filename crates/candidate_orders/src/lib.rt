@@ -3,8 +3,8 @@
 //!
 //! The methods are made to find an order of any mutex, and of a queue, stack or heap in which each
 //! value is put in once, in some n log n steps of n calls. Where values repeat `value_orders` finds
-//! many orders of these, `stack_search` of stacks, and `cell_orders` of registers and maps. They do
-//! not find each.
+//! many orders of these, `queue_search` of queues, `stack_search` of stacks, and `cell_orders` of
+//! registers and maps. They do not find each.
 #![tactic(auto)]
 
 mod keys;

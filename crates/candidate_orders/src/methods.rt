@@ -4,6 +4,7 @@ use crate::mutex::mutex_order;
 use cell_orders::order_of_cells;
 use events::{Invocation, ObjectHistory};
 use order_search::{Outcome, TryFirst, find_order_of_any_size};
+use queue_search::searched_queue_order;
 use seq_objects::Kind;
 use stack_search::searched_stack_order;
 use std::alloc::{AllocError, Global};
@@ -15,8 +16,8 @@ use value_orders::{other_values_order, values_order};
 pub enum Method {
     /// The one that is made for the kind of the object.
     OfTheKind,
-    /// For a stack a search of all that it may contain, where it can be chosen which pop takes which
-    /// value.
+    /// For a stack a search of all that it may contain, and for a queue one that lines up its values
+    /// from many states at once, where it can be chosen which removal takes which value.
     AllContents,
     /// The same for a queue, stack or heap in which it can be chosen which removal takes which
     /// value, with another choice.
@@ -39,7 +40,8 @@ fn order_of_kind(
     }
 }
 
-/// An order of the calls of a stack that may be valid, where there is something to be chosen.
+/// An order of the calls of a stack or queue that may be valid, where there is something to be
+/// chosen.
 fn order_of_contents(
     alloc: Global,
     kind: Kind,
@@ -47,6 +49,7 @@ fn order_of_contents(
 ) -> Result<Option<Vec<i64>>, AllocError> {
     match kind {
         Kind::Stack => searched_stack_order(alloc, &timeline_of(alloc, operations)?),
+        Kind::Queue => searched_queue_order(alloc, &timeline_of(alloc, operations)?),
         _ => Ok(None),
     }
 }
