@@ -74,7 +74,7 @@ PAGES = (
         "no",
         (
             " gives nil: the queue contains <code>[]</code> there. The history says that it returned 1. 1 was put by ",
-            ", which stands behind it, as entry 2.</p>",
+            ", which comes after it, as entry 2.</p>",
             "<td>gives nil, returned 1</td>",
         ),
     ),

@@ -208,9 +208,9 @@ class Said:
         if how == "which the order leaves out":
             return number not in order
         place = order.index(number) + 1 if number in order else None
-        behind = re.fullmatch(r"which stands behind it, as entry (\d+)", how)
-        if behind:
-            return place == int(behind[1]) > k
+        after = re.fullmatch(r"which comes after it, as entry (\d+)", how)
+        if after:
+            return place == int(after[1]) > k
         entry = re.match(r"entry (\d+)", how)
         if not entry or place != int(entry[1]) or place >= k:
             return False
@@ -362,7 +362,7 @@ FORMS = {
     "twice_released": rf"Between map (\d+) and map (\d+) the mutex was released twice, by {REF} and {REF}, and no acquire ran in between.",
     "wrong_turn": rf"{REF} returned \(map (\d+)\) before {REF} was invoked, so (-?\d+) went in before (-?\d+). But {REF} took (-?\d+) out, "
     r"and nothing invoked before map (\d+) took (-?\d+) out.",
-    "left_open": r"No order was found for object (\d+), and none was excluded: ([\w ]+). Nothing is said of the history.",
+    "left_open": r"No order was found for object (\d+), and none was excluded: ([\w ]+). So the history is not decided.",
     "too_often": r"(-?\d+) was \w+ (once|twice|[\d ]+ times), by (.*), and \w+ (once|twice|[\d ]+ times), by (.*). No other ([\w-]+) of (-?\d+) "
     r"was invoked before map (\d+).",
 }
@@ -394,7 +394,7 @@ ENDINGS = {
     "c6 no": ("c6", " No operation that was invoked before map "),
     "c6 no other": ("c6", " No other operation that was invoked before map "),
     "c6 left out": ("c6", ", which the order leaves out."),
-    "c6 behind": ("c6", ", which stands behind it, as entry "),
+    "c6 after": ("c6", ", which comes after it, as entry "),
     "c6 turn": ("c6", ", and is not at its turn."),
     "c6 taken": ("c6", ", and taken out by "),
     "c6 entry": ("c6", r" was put by [^|]*\|[^⟩]*⟩, entry \d+\.$"),
@@ -511,7 +511,7 @@ def why_open_false(page, history, told):
     """What is false of a page that says that a history is open, by what judge told, or None."""
     objects = [OPEN.fullmatch(it) for it in told.splitlines()]
     x, why = next((int(it[1]), it[2]) for it in objects if it)
-    said = f"No order was found for object {x}, and none was excluded: {re.sub(' after .*', '', why)}. Nothing is said of the history."
+    said = f"No order was found for object {x}, and none was excluded: {re.sub(' after .*', '', why)}. So the history is not decided."
     if page.said[0] != said:
         return f"it says {page.said[0]}"
     calls, _ = calls_of(history)

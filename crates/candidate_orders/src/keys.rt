@@ -6,7 +6,7 @@ use std::alloc::{AllocError, Global};
 use timed_calls::timeline_of;
 
 /// The keys of a map for whose calls no order was found, at most 16; none for another object.
-/// Nothing is promised of them.
+/// It has no contract.
 pub fn open_keys(alloc: Global, history: &ObjectHistory) -> Result<Vec<i64>, AllocError> {
     match history.kind() {
         Kind::Map => cell_orders::open_keys(alloc, &timeline_of(alloc, history.ops())?),

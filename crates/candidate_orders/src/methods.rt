@@ -85,8 +85,8 @@ fn searched_order(alloc: Global, history: &ObjectHistory) -> Result<Option<Vec<i
     }
 }
 
-/// An order of the operations that may be valid, by one method. Nothing is promised of it: `finder`
-/// checks it.
+/// An order of the operations that may be valid, by one method. It has no contract: `finder` checks
+/// the order.
 pub fn order_by(
     alloc: Global,
     method: Method,

@@ -223,8 +223,8 @@ struct Shown {
     last: Vec<i64>,
 }
 
-/// How many values of a list are shown, of its beginning and of its end. Of one of more than 11 ten
-/// are shown, as many of its beginning as told.
+/// How many values of a list are shown, of its beginning and of its end. Of a list of more than 11
+/// values ten are shown, `first` of them from its beginning.
 fn how_many(length: usize, first: usize) -> (usize, usize) {
     if length <= 11 {
         (length, 0)
@@ -233,7 +233,7 @@ fn how_many(length: usize, first: usize) -> (usize, usize) {
     }
 }
 
-/// The values of the items at places from one on, as many as told.
+/// The values of `count` items, from this place on.
 fn values_of(memory: &Memory, items: &VecDeque<Item>, from: usize, count: usize) -> Vec<i64> {
     let mut values = Vec::new(memory.alloc);
     for item in items.iter().skip(from).take(count) {

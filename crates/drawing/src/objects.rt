@@ -223,7 +223,7 @@ fn entry_at(
     operation_at(operations, *number)
 }
 
-/// The drawing of an object with this order, if there is one, and with what is said of it.
+/// The drawing of an object with this order, if there is one, and with its sentences.
 fn draw(
     memory: &Memory,
     subject: &Subject<'_>,

@@ -413,8 +413,8 @@ impl<'a> Refused<'a> {
         };
         let (rank, stop) = (Span::rank(place), Span::Text("."));
         if place > refused {
-            let behind = Span::Text(", which stands behind it, as entry ");
-            return text.say(&[behind, rank, stop]);
+            let after = Span::Text(", which comes after it, as entry ");
+            return text.say(&[after, rank, stop]);
         }
         text.say(&[Span::Text(", entry "), rank]);
         self.say_turn(text, &source, refused)
@@ -451,7 +451,7 @@ impl<'a> Refused<'a> {
         None
     }
 
-    /// The general sentence, where no fact is told.
+    /// The general sentence, which states no fact of the history.
     fn general(&self, refused: Option<usize>) -> Explanation<'a> {
         let mut text = Explanation::new(self.memory, refused, Alone::Never);
         text.say(&[

@@ -468,7 +468,7 @@ impl Shape<'_, '_, '_> {
         sentence
     }
 
-    /// What is said of the operation at which each order ends.
+    /// The words on the operation at which each order ends.
     fn end(&self, last: Option<Operation>) -> [Span; 4] {
         let Some(last) = last else {
             return [

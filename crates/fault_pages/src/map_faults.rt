@@ -1,4 +1,4 @@
-//! What is said of a text that can be read and is no history, or no certificates.
+//! The sentences on a text that can be read and is not a history, or not certificates.
 
 use crate::excerpts::excerpt;
 use crate::places::{Place, element_at, elements_in, value_in};
@@ -268,7 +268,7 @@ fn caption_at(kind: HistoryFaultKind, map: usize) -> [Span; 4] {
     ]
 }
 
-/// What is said of a text whose maps are no history, and the history before the faulty one.
+/// The sentences on a text whose maps are not a history, and the history before the faulty map.
 pub(crate) fn explain_maps(
     memory: &Memory,
     text: &[u8],
@@ -326,7 +326,7 @@ fn first_for<'a>(
     Some((found, *forms.get(found)?))
 }
 
-/// What is said of a text whose forms are no certificates.
+/// The sentences on a text whose forms are not certificates.
 pub(crate) fn explain_forms(memory: &Memory, text: &[u8], fault: CertFault) -> Explained {
     let mut explained = Explained::new(memory);
     let forms = elements_in(memory, text, 0);

@@ -16,7 +16,7 @@ pub struct FaultyText<'a> {
     pub lines: &'a str,
 }
 
-/// What is said of the text, and the history before a faulty map.
+/// The sentences on the text, and the history before a faulty map.
 fn explain(
     memory: &Memory,
     text: &[u8],

@@ -1,4 +1,4 @@
-//! What is said of a text that can't be read.
+//! The sentences on a text that can't be read.
 
 use crate::excerpts::{excerpt, visible};
 use crate::places::{Opened, Place, innermost_open, line_of, token_at};
@@ -9,7 +9,7 @@ use page::Excerpt;
 /// The characters of the longest token that a sentence has.
 const TOKEN: usize = 40;
 
-/// What is said of a malformed text: sentences, the pieces of the text that they speak of, and the
+/// The explanation of a malformed text: sentences, the pieces of the text that they name, and the
 /// token at the fault.
 #[derive(Drop)]
 pub(crate) struct Explained {
@@ -44,7 +44,8 @@ pub(crate) struct Read<'a> {
     pub(crate) text: &'a [u8],
 }
 
-/// What is said of a byte: before what the text has there, and after it; none: that is not told.
+/// The words on a byte: before what the text has there, and after it. None: what is there is not
+/// shown.
 fn words_at(kind: FaultKind) -> (&'static str, Option<&'static str>) {
     match kind {
         FaultKind::BadToken => (
@@ -90,7 +91,7 @@ fn named(fault: EdnFault) -> [Span; 4] {
     ]
 }
 
-/// What is said of a text that ends too early.
+/// The sentences on a text that ends too early.
 fn explain_end(memory: &Memory, read: Read<'_>, fault: EdnFault) -> Explained {
     let mut explained = Explained::new(memory);
     let text = read.text;
@@ -202,7 +203,7 @@ fn say_at(memory: &Memory, explained: &mut Explained, read: Read<'_>, fault: Edn
     }
 }
 
-/// What is said of a text that spells nothing.
+/// The sentences on a text that spells no forms.
 pub(crate) fn explain_text(memory: &Memory, read: Read<'_>, fault: EdnFault) -> Explained {
     if fault.kind == FaultKind::Unfinished {
         return explain_end(memory, read, fault);

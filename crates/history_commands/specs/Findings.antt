@@ -54,7 +54,7 @@ AreFoundIn h status text =
 abbrev pub IsFindOutput : List ℕ → ℕ → List ℕ → Type 0
 IsFindOutput h status text = IsOutput (AreFoundIn h) (IsUnsearched h) status text
 
--- What a find comes to: a yes comes with valid certificates.
+-- The result of a find: a yes comes with valid certificates.
 pub record IsFind (h : List ℕ) (status : ℕ) (out : List ℕ) : Type 0 where
   pub output : IsFindOutput h status out
   pub certified : status ≡ yes_status → AreCertificatesFor h out

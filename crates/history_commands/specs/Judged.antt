@@ -129,8 +129,8 @@ IsJudgeOutput h steps status text = IsOutput (IsOpenText h steps) (IsVerdictOnTe
 abbrev pub IsExplainedText : List ℕ → List ℕ → Type 0
 IsExplainedText h out = (es : List Event) × DenotesHistory h es × IsExplained es out
 
--- What a judgement comes to: where it is a yes the history is linearizable. Where it is a no it is
--- not, and the lines say for which reason.
+-- The result of a judgement: if it is a yes the history is linearizable. If it is a no it is not,
+-- and the lines say for which reason.
 pub record IsJudgement (h : List ℕ) (steps : Option ℕ) (status : ℕ) (out : List ℕ) : Type 0 where
   pub output : IsJudgeOutput h steps status out
   pub linearizable : status ≡ yes_status → IsLinearizableText h

@@ -1,4 +1,4 @@
--- What the judgement of a history comes to.
+-- The result of judging a history.
 use Rattle.std.specs.Prelude.{ℕ, ⊤, List, Option}
 use Rattle.events.specs.declared.event.Event.{Event}
 use Rattle.history_commands.specs.declared.judgement.Judgement.{Judgement}

@@ -133,7 +133,7 @@ IsRefuteText h r limit status text =
 abbrev pub IsRefuteOutput : List ℕ → List ℕ → ℕ → ℕ → List ℕ → Type 0
 IsRefuteOutput h r limit status text = IsOutput (IsRefuteText h r limit) (IsUnsearched h) status text
 
--- What a check of reasons comes to: where it is a no the history is not linearizable.
+-- The result of a check of reasons: if it is a no the history is not linearizable.
 pub record IsRefute (h r : List ℕ) (limit status : ℕ) (out : List ℕ) : Type 0 where
   pub output : IsRefuteOutput h r limit status out
   pub refuted : status ≡ no_status → IsNotLinearizableText h

@@ -99,7 +99,7 @@ pub record IsNotLinearizableText (h : List ℕ) : Type 0 where
   pub history_text : DenotesHistory h client_events
   pub not_linearizable : IsLinearizable (kind_at client_events) (events (denoted client_events)) → ⊥
 
--- What a search comes to: a yes comes with valid certificates, and where it is a no the history is
+-- The result of a search: a yes comes with valid certificates, and if it is a no the history is
 -- not linearizable.
 pub record IsSearch (h : List ℕ) (limit status : ℕ) (out : List ℕ) : Type 0 where
   pub output : IsSearchOutput h limit status out

@@ -61,7 +61,7 @@ fn are_all_found(answers: &[(u32, FindOutcome)]) -> bool
     answers.iter().all(|answer| is_found(answer))
 }
 
-/// 0 where a certificate was found for each object, else 3.
+/// 0 if a certificate was found for each object, otherwise 3.
 fn status_for(answers: &[(u32, FindOutcome)]) -> u8
     ensures { result ≡ find_status answers.now }
 {

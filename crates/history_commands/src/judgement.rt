@@ -118,7 +118,7 @@ fn are_all_orders(answers: &[(u32, Decision)]) -> bool
     answers.iter().all(|answer| is_order(answer))
 }
 
-/// 1 where some object is impossible, 0 where a certificate was found for each, else 3.
+/// 1 if some object is impossible, 0 if a certificate was found for each, otherwise 3.
 fn status_for(answers: &[(u32, Decision)]) -> u8
     ensures { result ≡ judge_status answers.now }
 {
@@ -131,7 +131,7 @@ fn status_for(answers: &[(u32, Decision)]) -> u8
     }
 }
 
-/// What is said of objects of which some have no certificate.
+/// The lines on objects of which some have no certificate.
 fn output_of(
     alloc: Global,
     history: &History,
@@ -180,7 +180,7 @@ fn judge_found(alloc: Global, history: &History, answers: Vec<(u32, Decision)>) 
     }
 }
 
-/// What the judgement of a history comes to.
+/// The result of judging a history.
 #[derive(Drop)]
 pub enum Judgement {
     /// A certificate was found for each object: these, and the verdict on them.

@@ -258,7 +258,7 @@ fn is_one_impossible(answers: &[Refutation]) -> bool
     answers.iter().any(|answer| is_impossible(answer))
 }
 
-/// 1 where a reason shows that the history is not linearizable, else 3.
+/// 1 if a reason shows that the history is not linearizable, otherwise 3.
 fn status_for(answers: &[Refutation]) -> u8
     ensures { result ≡ refute_status answers.now }
 {

@@ -107,7 +107,7 @@ fn are_all_found(answers: &[(u32, Search)]) -> bool
     answers.iter().all(|answer| is_found(answer))
 }
 
-/// 1 where some object is impossible, 0 where a certificate was found for each, else 3.
+/// 1 if some object is impossible, 0 if a certificate was found for each, otherwise 3.
 fn status_for(answers: &[(u32, Search)]) -> u8
     ensures { result ≡ search_status answers.now }
 {

@@ -1,4 +1,4 @@
-//! The page of a history: what is said of it, its objects, and the drawing of those that show why.
+//! The page of a history: its sentences, its objects, and the drawing of those that show why.
 #![tactic(auto)]
 
 mod objects;

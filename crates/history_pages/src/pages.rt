@@ -214,7 +214,7 @@ fn subject<'a>(
     }
 }
 
-/// What is said of a linearizable history of n objects.
+/// The sentence on a linearizable history of n objects.
 fn valid_sentence(alloc: Global, objects: usize) -> Result<Vec<Span>, AllocError> {
     let said = if objects == 0 {
         "The history is linearizable: it has no operations."
@@ -350,7 +350,7 @@ fn refused_drawing(
     }
 }
 
-/// What is said of an object that has a certificate and is not in the history.
+/// The sentence on an object that has a certificate and is not in the history.
 fn strange_sentence(alloc: Global, object: u32) -> Result<Vec<Span>, AllocError> {
     let mut sentence = Vec::new(alloc);
     sentence.extend_from_slice(&[
@@ -427,7 +427,7 @@ fn answer_of(decision: &Decision) -> &'static str {
     }
 }
 
-/// What is said of an object of which nothing was found.
+/// The sentence on an object that stays open.
 fn open_sentence(
     alloc: Global,
     object: u32,
@@ -439,7 +439,7 @@ fn open_sentence(
         Span::Number(u64::from(object)),
         Span::Text(", and none was excluded: "),
         Span::Text(answer),
-        Span::Text(". Nothing is said of the history."),
+        Span::Text(". So the history is not decided."),
     ])?;
     Ok(sentence)
 }

@@ -1,5 +1,5 @@
-//! The page of a drawing: HTML with SVG, whole in itself. It is a text of `markup`, so it is made of the
-//! page's own markup, of numbers, and of text that is escaped.
+//! The page of a drawing: self-contained HTML with SVG. It is a text of `markup`, so it is made of
+//! the page's own markup, of numbers, and of text that is escaped.
 #![tactic(auto)]
 
 mod bars;

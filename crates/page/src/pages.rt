@@ -7,7 +7,7 @@ use markup::{Html, Name, Piece, Tag};
 use seq_objects::Kind;
 use std::alloc::{AllocError, Global};
 
-/// What is said of a history.
+/// The answer on a history.
 #[derive(Clone, Copy, PartialEq, Eq)]
 pub enum Answer {
     Yes,
@@ -33,9 +33,9 @@ pub struct ObjectRow {
     pub is_faulty: bool,
 }
 
-/// What a page shows: what is said of a history, of which texts, in which words and lines; the
-/// table of its objects, which is there where there are several; the drawings; and of a malformed
-/// text its place, and what it has there.
+/// What a page shows: the answer on a history, of which texts, in which words and lines; the table
+/// of its objects, if there are several; the drawings; and of a malformed text the place of its
+/// fault, and what it has there.
 #[derive(Clone, Copy)]
 pub struct Page<'a> {
     pub answer: Answer,

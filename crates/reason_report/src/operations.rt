@@ -152,7 +152,7 @@ fn push_counted(
     push_call(text, counted)
 }
 
-/// What is said of an operation that did not return in the part, and the end of the line.
+/// The word on an operation that did not return in the part, and the end of the line.
 fn push_end(text: &mut Vec<u8>, end: End) -> Result<(), AllocError>
     ensures { OnOk result (text.new.items ≡ text.old.items ++ (spec.open_text «end»
         ++ codes "\n")) }
