@@ -1,6 +1,7 @@
-/* Calls the library: a yes, a no, a malformed text, and a buffer that is too small. */
+/* Calls the library: a yes, a no, a malformed text, a buffer that is too small, and several threads at once. */
 #include "fcbench.h"
 #include "reasons.h"
+#include <pthread.h>
 #include <stdio.h>
 #include <stdlib.h>
 #include <string.h>
@@ -120,12 +121,47 @@ static void a_buffer_too_small(void) {
     want(memcmp(out, "yes: 2 ope------", 16) == 0, "the lines are cut, and nothing is written after the buffer");
 }
 
+enum { THREADS = 4, TURNS = 100 };
+
+/* What one thread does: all four functions, on buffers of its own. It gives how many answers are not those of a call alone. */
+static void *calls_of_a_thread(void *refuted) {
+    size_t wrong = 0, length, needed;
+    for (int turn = 0; turn < TURNS; turn++) {
+        char lines[512];
+        uint8_t *out = (uint8_t *)lines;
+        uint32_t status = fcbench_find(bytes(queue), strlen(queue), out, sizeof lines, &length);
+        wrong += status != FCBENCH_YES || length != 26 || memcmp(lines, "{:object 0, :order [0 2]}\n", 26) != 0;
+        status = fcbench_check(bytes(queue), strlen(queue), out, length, NULL, 0, &needed);
+        wrong += status != FCBENCH_YES || needed != strlen(yes_lines);
+        status = fcbench_judge(bytes(old_read), strlen(old_read), FCBENCH_STEPS, out, sizeof lines, &needed);
+        wrong += status != FCBENCH_NO || needed != strlen(refuted) || memcmp(lines, refuted, needed) != 0;
+        length = fcbench_reasons(out, needed, out);
+        status = fcbench_refute(bytes(old_read), strlen(old_read), out, length, FCBENCH_STEPS, NULL, 0, &needed);
+        wrong += status != FCBENCH_NO;
+    }
+    return (void *)wrong;
+}
+
+static void several_threads_at_once(void) {
+    pthread_t threads[THREADS];
+    uint32_t status;
+    char *refuted = judged(old_read, &status);
+    for (int i = 0; i < THREADS; i++)
+        want(pthread_create(&threads[i], NULL, calls_of_a_thread, refuted) == 0, "a thread is started");
+    for (int i = 0; i < THREADS; i++) {
+        void *wrong;
+        want(pthread_join(threads[i], &wrong) == 0 && wrong == NULL, "several threads at once get the answers of a call alone");
+    }
+    free(refuted);
+}
+
 int main(void) {
     answers();
     reasons();
     as_the_page_does(queue);
     certificates();
     a_buffer_too_small();
+    several_threads_at_once();
     puts("test_judge: passed");
     return 0;
 }

@@ -1,8 +1,11 @@
-// Calls the library: a yes, a no, a malformed text, and a buffer that is too small.
+// Calls the library: a yes, a no, a malformed text, a buffer that is too small, and several threads at once.
 #include "fcbench.hpp"
+#include <atomic>
 #include <cstdlib>
 #include <cstring>
 #include <iostream>
+#include <thread>
+#include <vector>
 
 static const std::string queue =
     "{:process 0, :type :invoke, :f :enqueue, :value 1}\n"
@@ -75,10 +78,33 @@ static void a_buffer_too_small() {
     want(whole.lines() == yes_lines && calls == 2, "an answer calls again for all lines");
 }
 
+// Each thread gets the answers of a call alone.
+static void several_threads_at_once() {
+    const auto no = fcbench::judge(old_read);
+    std::atomic<int> right{0};
+    std::vector<std::thread> threads;
+    for (int thread = 0; thread < 4; thread++) {
+        threads.emplace_back([&] {
+            for (int turn = 0; turn < 100; turn++) {
+                const auto found = fcbench::find(queue);
+                const auto yes = fcbench::check(queue, found.lines());
+                const auto again = fcbench::judge(old_read);
+                const bool is_right = yes.is_yes() && yes.lines() == yes_lines && again.is_no() && again.lines() == no.lines();
+                right += is_right && fcbench::refute(old_read, again.reasons()).is_no();
+            }
+        });
+    }
+    for (auto &thread : threads) {
+        thread.join();
+    }
+    want(right == 400, "several threads at once get the answers of a call alone");
+}
+
 int main() {
     answers();
     reasons_of_two_objects();
     certificates();
     a_buffer_too_small();
+    several_threads_at_once();
     std::cout << "test_judge: passed\n";
 }

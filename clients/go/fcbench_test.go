@@ -2,6 +2,7 @@ package fcbench
 
 import (
 	"strings"
+	"sync"
 	"testing"
 )
 
@@ -77,4 +78,23 @@ func TestBufferTooSmall(t *testing.T) {
 	if verdict != Yes || needed != len(yesLines) || string(out) != "yes: 2 ope------" {
 		t.Fatal(verdict, needed, string(out))
 	}
+}
+
+// Each goroutine gets the answers of a call alone. A call of cgo keeps the thread that it is on, so four of them run at once.
+func TestSeveralThreadsAtOnce(t *testing.T) {
+	refuted := Judge(oldRead)
+	var threads sync.WaitGroup
+	for thread := 0; thread < 4; thread++ {
+		threads.Add(1)
+		go func() {
+			defer threads.Done()
+			for turn := 0; turn < 100; turn++ {
+				yes, no := Check(queueHistory, Find(queueHistory).Lines), Judge(oldRead)
+				if yes != (Answer{Yes, yesLines}) || no != refuted || Refute(oldRead, no.Reasons()).Verdict != No {
+					t.Error(yes, no)
+				}
+			}
+		}()
+	}
+	threads.Wait()
 }

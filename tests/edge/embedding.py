@@ -18,6 +18,7 @@ WARNINGS = ("-O2", "-Wall", "-Wextra", "-Werror", f"-I{ROOT}/include")
 C = ("gcc", "-std=c11", "-D_GNU_SOURCE", *WARNINGS)
 CPP = ("g++", "-std=c++17", *WARNINGS)
 VALGRIND = ("valgrind", "--quiet", "--leak-check=full", "--errors-for-leak-kinds=all", "--error-exitcode=9")
+HELGRIND = ("valgrind", "--quiet", "--tool=helgrind", "--error-exitcode=9")
 # Debian's package of each language, where one is missing.
 PACKAGES = {"gcc": "gcc", "g++": "g++", "valgrind": "valgrind", "cargo": "cargo", "go": "golang", "clojure": "clojure"}
 # Runs of each recorder: of a right queue, and of a wrong one.
@@ -160,11 +161,12 @@ def c_callers(program, report):
         return missing("gcc")
     judge = built(program, report, C, f"{CLIENTS}/c/test_judge.c", "c_judge")
     recorder = built(program, report, C, f"{CLIENTS}/c/test_recorder.c", "c_recorder")
-    done(report, "C: a yes, a no, a malformed text, a buffer too small", [judge], "passed")
+    done(report, "C: a yes, a no, a malformed text, a buffer too small, several threads", [judge], "passed")
     done(report, "C: queues are recorded and judged", [recorder, str(RUNS)], f"passed, {RUNS} runs")
     if missing("valgrind"):
         return missing("valgrind")
     done(report, "C: the caller under valgrind", [*VALGRIND, judge], "passed")
+    done(report, "C: threads that call at once share no memory, says helgrind", [*HELGRIND, judge], "passed")
     done(report, "C: the recorder under valgrind", [*VALGRIND, recorder, "1"], "passed, 1 runs")
     return None
 
@@ -175,7 +177,7 @@ def cpp_callers(program, report):
         return missing("g++")
     judge = built(program, report, CPP, f"{CLIENTS}/cpp/test_judge.cpp", "cpp_judge")
     recorder = built(program, report, CPP, f"{CLIENTS}/cpp/test_recorder.cpp", "cpp_recorder")
-    done(report, "C++: a yes, a no, a malformed text, a buffer too small", [judge], "passed")
+    done(report, "C++: a yes, a no, a malformed text, a buffer too small, several threads", [judge], "passed")
     done(report, "C++: queues are recorded and judged", [recorder, str(RUNS)], f"passed, {RUNS} runs")
     return None
 
@@ -208,7 +210,7 @@ def go_callers(program, report):
         return missing("go", "gcc")
     env = {"CGO_CFLAGS": f"-O2 -I{ROOT}/include", "CGO_LDFLAGS": LIBRARY, "GOCACHE": f"{program.room}/go", "GOFLAGS": "-mod=mod", "FCBENCH_RUNS": str(RUNS)}
     said = done(report, "Go: the tests of the package", ["go", "test", "-count=1", "-v", "."], "\nok ", FOLDER=f"{CLIENTS}/go", **env)
-    report.equal("embedding: Go: how many tests passed", 13, said.count("--- PASS"), said[-2000:])
+    report.equal("embedding: Go: how many tests passed", 14, said.count("--- PASS"), said[-2000:])
     return None
 
 

@@ -92,14 +92,18 @@ fn lines_longer_than_the_first_buffer() {
     assert_eq!(check(&history, &found.lines).verdict, Verdict::Yes);
 }
 
+/// Each thread gets the answers of a call alone.
 #[test]
 fn several_threads_at_once() {
+    let no = judge(OLD_READ).lines;
     std::thread::scope(|scope| {
         for _ in 0..4 {
             scope.spawn(|| {
                 for _ in 0..100 {
-                    assert_eq!(judge(QUEUE).verdict, Verdict::Yes);
-                    assert_eq!(judge(OLD_READ).verdict, Verdict::No);
+                    assert_eq!(check(QUEUE, find(QUEUE).lines).lines, YES_LINES);
+                    let answer = judge(OLD_READ);
+                    assert!(answer.is_no() && answer.lines == no, "{answer}");
+                    assert!(refute(OLD_READ, answer.reasons()).is_no());
                 }
             });
         }
