@@ -14,6 +14,25 @@ SHARED = f"{OUT}/libfcbench.so"
 EXPORTS = ["fcbench_check", "fcbench_find", "fcbench_judge", "fcbench_refute"]
 # What the library calls of others.
 CALLS = {"free", "malloc", "memcmp", "memcpy", "memmove", "memset", "realloc"}
+# Data of the library that can be written: a byte of the kit's three functions over malloc, realloc and free. Where a block is refused they give its
+# address, with a flag that says so.
+OF_THE_KIT = {"nothing"}, {".bss": 1}
+# Names of data that the C compiler and the linker put into each shared object, and that are on pages that can be written: tables of the dynamic
+# loader, where it finds the code for the beginning and the end of the object, the end of an empty table, the object's own address,
+# and whether the code for the end has run.
+OF_THE_LINKER = {
+    "_DYNAMIC",
+    "_GLOBAL_OFFSET_TABLE_",
+    "__frame_dummy_init_array_entry",
+    "__do_global_dtors_aux_fini_array_entry",
+    "__TMC_END__",
+    "__dso_handle",
+    "completed",
+}
+# A library with a state of each kind: with a value, without one, of a thread, and without a name outside.
+WITH_STATE = """int valued = 1, zero; _Thread_local int of_a_thread;
+int next(void) { static int hidden; return ++hidden + valued++ + zero++ + of_a_thread++; }
+"""
 WARNINGS = ("-O2", "-Wall", "-Wextra", "-Werror", f"-I{ROOT}/include")
 C = ("gcc", "-std=c11", "-D_GNU_SOURCE", *WARNINGS)
 CPP = ("g++", "-std=c++17", *WARNINGS)
@@ -55,16 +74,46 @@ def built(program, report, compiler, source, name):
     return path
 
 
+def names_of(path, letters, *words):
+    """The names in a library of these kinds, which are letters of nm."""
+    said = subprocess.run(["nm", *words, path], capture_output=True, text=True, check=True).stdout
+    return sorted(name.partition("@")[0] for kind, name in re.findall(r"^[0-9a-f]* +(\w) (\S+)$", said, re.M) if kind in letters)
+
+
+def state_of(path):
+    """The names of data that can be written in a library, and its parts that hold some, with their sizes. What is written once, as it is
+    loaded, is no state."""
+    names = {re.sub(r"[.]\d+$", "", it) for it in names_of(path, "bBcCdDgGsSuvV")}
+    said = subprocess.run(["readelf", "--sections", "--wide", path], capture_output=True, text=True, check=True).stdout
+    parts = re.findall(r"\] (\S+) +\S+ +[0-9a-f]+ [0-9a-f]+ ([0-9a-f]+) [0-9a-f]+ +W", said)
+    return names, {part: int(size, 16) for part, size in parts if int(size, 16) and not part.startswith(".data.rel.ro")}
+
+
+def uses_of(part, path):
+    """The instructions that name a part of a library, and how many places in it name that part."""
+    code = subprocess.run(["objdump", "-dr", "--no-show-raw-insn", path], capture_output=True, text=True, check=True).stdout
+    places = subprocess.run(["objdump", "--reloc", path], capture_output=True, text=True, check=True).stdout
+    return re.findall(rf"\t(\w+) [^\n]*\n\t+[0-9a-f]+: R_\w+\t{re.escape(part)}\b", code), len(re.findall(rf" {re.escape(part)}\b", places))
+
+
 def library(program, report):
-    """The library is built where it is missing, has four names, and calls only what allocates and copies."""
+    """The library is built where it is missing, has four names, calls only what allocates and copies, and has no state."""
     done(report, "the library is built", [f"{CLIENTS}/build"], seconds=SECONDS_TO_PROVE)
-    names = subprocess.run(["nm", "-g", LIBRARY], capture_output=True, text=True).stdout
-    exports = sorted(re.findall(r"^[0-9a-f]+ [A-Z] (\w+)$", names, re.M))
-    calls = set(re.findall(r"^ +U (\w+)$", names, re.M))
-    report.equal("embedding: what the library exports", EXPORTS, exports)
-    report.equal("embedding: what it calls besides malloc, realloc, free and copies: no thread, lock or file", set(), calls - CALLS)
-    state = re.findall(r"^[0-9a-f]+ [bBdDC] (\w+)$", subprocess.run(["nm", LIBRARY], capture_output=True, text=True).stdout, re.M)
-    return f"{os.path.getsize(LIBRARY)} bytes, {len(state)} names of data that can be written"
+    defined = "ABCDGRSTVWuvw"
+    for path, words in ((LIBRARY, ["-g", "--defined-only"]), (SHARED, ["-D", "--defined-only"])):
+        report.equal(f"embedding: what {os.path.basename(path)} exports", EXPORTS, names_of(path, defined, *words))
+    for path, words in ((LIBRARY, ["-g"]), (SHARED, ["-D"])):
+        name = f"embedding: what {os.path.basename(path)} calls besides malloc, realloc, free and copies: no thread, lock or file"
+        report.equal(name, set(), set(names_of(path, "U", *words)) - CALLS)
+    report.equal("embedding: what of libfcbench.a can be written", OF_THE_KIT, state_of(LIBRARY))
+    report.equal("embedding: of that only the address is taken", (["lea", "lea"], 2), uses_of(".bss", LIBRARY))
+    report.equal("embedding: what of libfcbench.so can be written besides what is of the linker", OF_THE_KIT[0], state_of(SHARED)[0] - OF_THE_LINKER)
+    if not missing("gcc"):
+        path = f"{program.room}/{program.write('with_state.c', WITH_STATE)}"
+        done(report, "a library with a state is built", ["gcc", "-O2", "-c", path, "-o", f"{path}.o"])
+        found = {"valued", "zero", "of_a_thread", "hidden"}, {".data": 4, ".bss": 8, ".tbss": 4}
+        report.equal("embedding: a state of each kind is found", found, state_of(f"{path}.o"))
+    return f"{os.path.getsize(LIBRARY)} bytes"
 
 
 def cases():
