@@ -1,5 +1,5 @@
-"""The library: its callers in C, C++, Rust, Python and Go, their recorders, the checker for Jepsen in Clojure, and what ./install
-installs. A language that is missing is skipped, and the line of the part says how to install it."""
+"""The library: its callers in C, C++, Rust, Python and Go, their recorders, and the checker for Jepsen in Clojure. A language that is missing
+is skipped, and the line of the part says how to install it."""
 import os
 import re
 import shutil
@@ -38,8 +38,8 @@ C = ("gcc", "-std=c11", "-D_GNU_SOURCE", *WARNINGS)
 CPP = ("g++", "-std=c++17", *WARNINGS)
 VALGRIND = ("valgrind", "--quiet", "--leak-check=full", "--errors-for-leak-kinds=all", "--error-exitcode=9")
 HELGRIND = ("valgrind", "--quiet", "--tool=helgrind", "--error-exitcode=9")
-# Debian's package of each language, where one is missing.
-PACKAGES = {"gcc": "gcc", "g++": "g++", "valgrind": "valgrind", "cargo": "cargo", "go": "golang", "clojure": "clojure"}
+# Debian's package of each language or shell, where one is missing.
+PACKAGES = {"bash": "bash", "gcc": "gcc", "g++": "g++", "valgrind": "valgrind", "cargo": "cargo", "go": "golang", "clojure": "clojure", "zsh": "zsh", "fish": "fish"}
 # Runs of each recorder: of a right queue, and of a wrong one.
 RUNS = 100
 SECONDS = 240
@@ -272,54 +272,4 @@ def clojure_checker(program, report):
     return None
 
 
-INSTALLED = (
-    "bin/fcbench",
-    "include/fcbench.h",
-    "lib/libfcbench.a",
-    "lib/libfcbench.so",
-    "share/bash-completion/completions/fcbench",
-    "share/fish/vendor_completions.d/fcbench.fish",
-    "share/man/man1/fcbench.1",
-    "share/zsh/site-functions/_fcbench",
-)
-
-
-def completed(prefix, *words):
-    """What bash completes after these words."""
-    line = f'. "{prefix}/{INSTALLED[4]}"; COMP_WORDS=({" ".join(map(repr, words))}); COMP_CWORD={len(words) - 1}; _fcbench; echo "${{COMPREPLY[*]}}"'
-    return subprocess.run(["bash", "-c", line], capture_output=True, text=True).stdout.split()
-
-
-def installed(program, report):
-    """What ./install puts under its prefix: it says each, and a caller is built from it alone."""
-    prefix = f"{program.room}/prefix"
-    said = done(report, "./install", [f"{ROOT}/install", prefix], seconds=SECONDS_TO_PROVE)
-    there = sorted(os.path.relpath(f"{base}/{file}", prefix) for base, _, files in os.walk(prefix) for file in files)
-    report.equal("embedding: what is installed", sorted(INSTALLED), there)
-    report.equal("embedding: what ./install says", sorted(f"{prefix}/{it}" for it in INSTALLED), sorted(said.split()))
-    ran = subprocess.run([f"{prefix}/bin/fcbench", "judge", f"{EXAMPLES}/queue.history.edn"], capture_output=True)
-    report.holds("embedding: the installed program judges", ran.returncode == 0 and ran.stdout.startswith(b"yes: 2 operations"), ran)
-    if not missing("gcc"):
-        path = f"{program.room}/installed_judge"
-        done(report, "a caller of what is installed is built", ["gcc", f"-I{prefix}/include", f"{CLIENTS}/c/test_judge.c", f"-L{prefix}/lib", "-l:libfcbench.a", "-o", path])
-        done(report, "and runs", [path], "passed")
-    report.holds("embedding: bash completes commands", {"judge", "check"} <= set(completed(prefix, "fcbench", "")))
-    report.equal("embedding: bash completes one command", ["judge"], completed(prefix, "fcbench", "ju"))
-    report.equal("embedding: bash completes an option", ["--steps"], completed(prefix, "fcbench", "judge", "--st"))
-    report.equal("embedding: bash completes a value", ["return"], completed(prefix, "fcbench", "search", "--first", "re"))
-    manual(f"{prefix}/share/man/man1/fcbench.1", report)
-
-
-def manual(page, report):
-    """The manual has each section of docs/formats.md, and roff has nothing to say of it."""
-    with open(page) as file:
-        text = file.read()
-    with open(f"{ROOT}/docs/formats.md") as file:
-        heads = re.findall(r"^## (.*)$", file.read(), re.M)
-    report.equal("embedding: sections of the manual", [], [it for it in heads if f'.SH "{it}"' not in text.replace("\\-", "-")])
-    if shutil.which("groff"):
-        ran = subprocess.run(["groff", "-man", "-ww", "-z", "-Tutf8", page], capture_output=True, text=True)
-        report.equal("embedding: groff says nothing of the manual", (0, ""), (ran.returncode, ran.stderr))
-
-
-PARTS = (library, answers_of_each_export, as_the_program, refused_memory_of_calls, c_callers, cpp_callers, rust_callers, python_callers, go_callers, clojure_checker, installed)
+PARTS = (library, answers_of_each_export, as_the_program, refused_memory_of_calls, c_callers, cpp_callers, rust_callers, python_callers, go_callers, clojure_checker)
