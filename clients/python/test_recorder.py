@@ -131,6 +131,13 @@ class Queues(unittest.TestCase):
         self.assertEqual(text, wanted)
         self.assertEqual(recorder.history(journals), wanted)
 
+    def test_lines_of_the_tutorial(self):
+        recorder = Recorder()
+        journals = [recorder.journal()]
+        journals[0].call("enqueue", 7, lambda: None)
+        answer = fcbench.judge(recorder.history(journals))
+        assert answer.verdict is fcbench.Verdict.YES, answer.lines
+
     def test_journal_that_is_not_handed_in(self):
         """Without the calls of the lost journal the history says that 7 is dequeued and was never enqueued."""
         recorder = Recorder()

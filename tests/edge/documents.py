@@ -132,13 +132,17 @@ def code(text):
 
 
 def snippets(program, report):
-    """The snippets of docs/embedding.md, and the examples of the recorders, are code that the gate compiles and runs."""
+    """The snippets of docs/embedding.md and docs/tutorial.md, and the examples of the recorders, are code that the gate compiles and runs."""
     found = re.findall(r"^```(c|cpp|rust|go|python)\n(.*?)^```$", read(f"{ROOT}/docs/embedding.md"), re.M | re.S)
     report.holds("snippets: docs/embedding.md has some", len(found) >= 5)
     for language, snippet in found:
         folder = f"{ROOT}/clients/{language}"
         files = ["\n".join(code(read(f"{base}/{file}"))) for base, _, files in os.walk(folder) for file in files if "test" in f"{base}/{file}"[len(ROOT) :]]
         report.holds(f"snippets: a test in {language} has {code(snippet)[0]}", any("\n".join(code(snippet)) in it for it in files), snippet)
+    page = read(f"{ROOT}/docs/tutorial.md")
+    own = code(read(f"{ROOT}/docs/record_queue.py")) + code(read(f"{ROOT}/clients/python/test_recorder.py"))
+    for line in re.findall(r"^    ((?:journal\.|answer = |assert ).+)$", page, re.M):
+        report.holds(f"snippets: docs/tutorial.md: {line}", line in own)
     for recorder, (line, tests) in RECORDERS.items():
         example = re.findall(f"^{line}$", read(f"{ROOT}/clients/{recorder}").partition("\nclass ")[0], re.M)
         own = {it for test in tests for it in code(read(f"{ROOT}/clients/{test}"))}

@@ -250,7 +250,7 @@ def python_callers(program, report):
     said = ""
     for name in ("judge", "recorder"):
         said += done(report, f"Python: test_{name}.py", [f"{CLIENTS}/python/test_{name}.py"], "\nOK", FCBENCH_SO=SHARED, FCBENCH_RUNS=str(RUNS), PYTHONDONTWRITEBYTECODE="1")
-    report.equal("embedding: Python: how many tests ran", ["9", "7"], re.findall(r"Ran (\d+) tests", said), said[-2000:])
+    report.equal("embedding: Python: how many tests ran", ["9", "8"], re.findall(r"Ran (\d+) tests", said), said[-2000:])
 
 
 def go_callers(program, report):
@@ -272,4 +272,54 @@ def clojure_checker(program, report):
     return None
 
 
-PARTS = (library, answers_of_each_export, as_the_program, refused_memory_of_calls, c_callers, cpp_callers, rust_callers, python_callers, go_callers, clojure_checker)
+# The commands of docs/tutorial.md on a queue of one's own, with the status and the beginning of the lines.
+RECORDED = (
+    ("docs/record_queue.py > queue.history.edn", 0, ""),
+    ("./fcbench judge queue.history.edn", 1, "; object 0: impossible\n"),
+    ("./fcbench draw queue.history.edn > page.html", 1, ""),
+    ("./fcbench judge queue.history.edn | sed -n 's/^; {/{/p' > queue.reasons.edn", 0, ""),
+    ("./fcbench refute queue.history.edn queue.reasons.edn", 1, "not linearizable: object 0: "),
+    ("docs/record_queue.py --fixed > queue.history.edn", 0, ""),
+    ("./fcbench judge queue.history.edn", 0, "yes: 200 operations, 1 objects\n"),
+    ("clients/build", 0, ""),
+    ("docs/record_queue.py --judge", 1, "; object 0: impossible\n"),
+)
+# The most runs of a queue with a bug until it shows.
+MOST_RECORDED = 20
+MOST_OPERATIONS = 5
+
+
+def until_a_no(run, *lines):
+    """Runs these lines, and again while the last one answers with a yes."""
+    for _ in range(MOST_RECORDED):
+        ran = [run(line) for line in lines][-1]
+        if ran.returncode:
+            break
+    return ran
+
+
+def tutorial(program, report):
+    """The commands of docs/tutorial.md on a queue of one's own do what it says: the bug is found in the file and in place, the reason is accepted, and the
+    queue without the bug is a yes."""
+    room = f"{program.room}/tutorial"
+    os.mkdir(room)
+    for name, path in (("docs", f"{ROOT}/docs"), ("clients", CLIENTS), ("fcbench", program.path)):
+        os.symlink(path, f"{room}/{name}")
+    how = {"cwd": room, "env": {**os.environ, "PYTHONDONTWRITEBYTECODE": "1"}, "capture_output": True, "text": True, "timeout": SECONDS}
+    run = lambda line: subprocess.run(["bash", "-c", line], **how)  # noqa: E731
+    with open(f"{ROOT}/docs/tutorial.md") as file:
+        text = file.read().partition("\n## With a queue of your own\n")[2]
+    report.equal("tutorial: its commands", [line for line, _, _ in RECORDED], re.findall(r"^    ((?:docs|clients|[.])/.*)$", text, re.M))
+    (record, _, _), (judge, _, _), *_, (in_place, _, _) = RECORDED
+    until_a_no(run, record, judge)
+    for line, status, begins in (*RECORDED[1:], (f"{in_place} --fixed", 0, "yes: 200 operations, 1 objects\n")):
+        ran = until_a_no(run, line) if line == in_place else run(line)
+        report.holds(f"tutorial: {line}", ran.returncode == status and ran.stdout.startswith(begins) and not ran.stderr, ran)
+        if status == 1 and begins:
+            operations = len(re.findall("^(?:; )?maps? ", ran.stdout, re.M))
+            report.holds(f"tutorial: {line}: the reason is small", 0 < operations <= MOST_OPERATIONS, ran.stdout)
+    with open(f"{room}/page.html") as file:
+        report.holds("tutorial: the page says that it is impossible", "Impossible" in file.read())
+
+
+PARTS = (library, answers_of_each_export, as_the_program, refused_memory_of_calls, c_callers, cpp_callers, rust_callers, python_callers, go_callers, clojure_checker, tutorial)
