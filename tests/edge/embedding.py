@@ -43,6 +43,8 @@ PACKAGES = {"bash": "bash", "gcc": "gcc", "g++": "g++", "valgrind": "valgrind", 
 # Runs of each recorder: of a right queue, and of a wrong one.
 RUNS = 100
 SECONDS = 240
+# All callers together take less.
+MOST_SECONDS = 300
 # Where the libraries below are not proved yet, the library takes this long.
 SECONDS_TO_PROVE = 3600
 
@@ -322,4 +324,14 @@ def tutorial(program, report):
         report.holds("tutorial: the page says that it is impossible", "Impossible" in file.read())
 
 
-PARTS = (library, answers_of_each_export, as_the_program, refused_memory_of_calls, c_callers, cpp_callers, rust_callers, python_callers, go_callers, clojure_checker, tutorial)
+CALLERS = (answers_of_each_export, as_the_program, refused_memory_of_calls, c_callers, cpp_callers, rust_callers, python_callers, go_callers, clojure_checker, tutorial)
+PARTS = (library, *CALLERS)
+
+
+def in_time(times, report):
+    """All parts that call the library take less than five minutes together. Beside much other work only the processor's time says so. The proof of the
+    library, where it is missing, is no part of that."""
+    if times:
+        clock, processor = map(sum, zip(*times))
+        print(f"  callers of the library: {clock:.1f} s in all, {processor:.1f} s of them on a processor", flush=True)
+        report.holds("embedding: seconds of all callers", min(clock, processor) < MOST_SECONDS, (clock, processor))
