@@ -1,8 +1,11 @@
-/* Times calls of the library on a history and its certificates: embedding HISTORY CERTIFICATES ROUNDS CALLS. It prints the
- * seconds of one call of fcbench_check and of fcbench_judge, each the least mean of the rounds. */
+/* Times calls of the library on a history and its certificates: embedding check|judge HISTORY CERTIFICATES ROUNDS CALLS. For each round it
+ * prints the seconds of one call: by the clock, in the program's own code, and in the kernel. Where a round is short, the last two are
+ * coarse, and their sum is exact. */
 #include "fcbench.h"
 #include <stdio.h>
 #include <stdlib.h>
+#include <string.h>
+#include <sys/resource.h>
 #include <time.h>
 
 static uint8_t lines[4096];
@@ -10,6 +13,10 @@ static uint8_t lines[4096];
 struct text {
     uint8_t *bytes;
     size_t length;
+};
+
+struct times {
+    double clock, both, kernel;
 };
 
 static struct text text_of(const char *name) {
@@ -24,10 +31,17 @@ static struct text text_of(const char *name) {
     return text;
 }
 
-static double now(void) {
+static double seconds(clockid_t clock) {
     struct timespec at;
-    clock_gettime(CLOCK_MONOTONIC, &at);
+    clock_gettime(clock, &at);
     return (double)at.tv_sec + (double)at.tv_nsec / 1e9;
+}
+
+static struct times now(void) {
+    struct rusage used;
+    getrusage(RUSAGE_SELF, &used);
+    double kernel = (double)used.ru_stime.tv_sec + (double)used.ru_stime.tv_usec / 1e6;
+    return (struct times){seconds(CLOCK_MONOTONIC), seconds(CLOCK_PROCESS_CPUTIME_ID), kernel};
 }
 
 static uint32_t call(int is_check, struct text history, struct text orders) {
@@ -36,23 +50,18 @@ static uint32_t call(int is_check, struct text history, struct text orders) {
                     : fcbench_judge(history.bytes, history.length, FCBENCH_STEPS, lines, sizeof lines, &needed);
 }
 
-static double least(int is_check, struct text history, struct text orders, long rounds, long calls) {
-    double best = 1e9;
+int main(int count, char **words) {
+    if (count != 6) return 64;
+    int is_check = !strcmp(words[1], "check");
+    struct text history = text_of(words[2]), orders = is_check ? text_of(words[3]) : (struct text){NULL, 0};
+    long rounds = atol(words[4]), calls = atol(words[5]);
     for (long round = 0; round < rounds; round++) {
-        double begun = now();
+        struct times begun = now();
         for (long i = 0; i < calls; i++)
             if (call(is_check, history, orders) != FCBENCH_YES) exit(71);
-        double mean = (now() - begun) / (double)calls;
-        best = mean < best ? mean : best;
+        struct times end = now();
+        double n = (double)calls, kernel = end.kernel - begun.kernel;
+        printf("%.9f %.9f %.9f\n", (end.clock - begun.clock) / n, (end.both - begun.both - kernel) / n, kernel / n);
     }
-    return best;
-}
-
-int main(int count, char **words) {
-    if (count != 5) return 64;
-    struct text history = text_of(words[1]), orders = text_of(words[2]);
-    long rounds = atol(words[3]), calls = atol(words[4]);
-    double check = least(1, history, orders, rounds, calls);
-    printf("%.9f %.9f\n", check, least(0, history, orders, rounds, calls));
     return 0;
 }

@@ -1,10 +1,13 @@
 #!/usr/bin/env python3
-"""Times the library: a call of fcbench_check and of fcbench_judge on a history of 20 operations, and on 1,000,000 maps beside the program.
+"""Times the library: calls of fcbench_check and fcbench_judge on histories of 20 operations, and on 1,000,000 maps beside the program.
 
-    embedding.py DIR [PROGRAM]
+    embedding.py DIR [PROGRAM [ROUNDS]]
 
-DIR is a folder for the texts. clients/build has made the library. Without PROGRAM only the library is timed."""
+DIR is a folder for the texts. clients/build has made the library. Without PROGRAM only the short histories are timed. In each of the ROUNDS,
+default 9, all rows are measured in turn. A row has the least and the middle of the rounds: the processor's time in the process and its kernel
+together, and then the time by the clock. The last line says whether the library is slower than the program, and then the status is 1."""
 import os
+import statistics
 import subprocess
 import sys
 import time
@@ -12,7 +15,13 @@ import time
 HERE = os.path.dirname(os.path.realpath(__file__))
 TOP = os.path.dirname(HERE)
 KINDS = ("queue", "stack", "heap", "register", "map", "mutex")
-ROUNDS = 5
+COMMANDS = ("check", "judge")
+# Of a short history: calls that are timed together, and how often in a round.
+CALLS, TIMES = 20, 200
+ROWS = ("the call alone", "with its texts read from files", "the program")
+# The most that the middle of the rounds' ratios to the program may be. The program reads its files too, so a call alone must not take longer. With its
+# texts read it does the same work as the program, and the middle moves by up to 2 % from run to run.
+MOST = {ROWS[0]: 1.0, ROWS[1]: 1.02}
 
 
 def generated(folder, *words):
@@ -20,34 +29,87 @@ def generated(folder, *words):
     return f"{folder}/history.edn", f"{folder}/certs.edn"
 
 
-def seconds_of(words):
-    """The least seconds of some runs of these words, which must end with 0."""
-    best = float("inf")
-    for _ in range(ROUNDS):
-        begun = time.monotonic()
-        subprocess.run(words, check=True, stdout=subprocess.DEVNULL)
-        best = min(best, time.monotonic() - begun)
-    return best
+def measured(words):
+    """Runs these words, which must end with 0. Returns what they print and the times of the process: by the clock, its own and the kernel's."""
+    begun = time.monotonic()
+    child = subprocess.Popen(words, stdout=subprocess.PIPE, text=True)
+    said = child.stdout.read()
+    _, status, used = os.wait4(child.pid, 0)
+    child.returncode = os.waitstatus_to_exitcode(status)
+    if child.returncode:
+        sys.exit(f"{words}: status {child.returncode}")
+    return said, (time.monotonic() - begun, used.ru_utime, used.ru_stime)
 
 
-def main(folder, program=None):
+def calls_in(said):
+    """The times of a call of each line: by the clock, its own and the kernel's."""
+    return [tuple(map(float, line.split())) for line in said.splitlines()]
+
+
+def least_and_middle(values, scale, digits):
+    return " / ".join(f"{it * scale:.{digits}f}" for it in (min(values), statistics.median(values)))
+
+
+def cells(times, scale, digits):
+    """The cells of a row: of the processor's time, and of the time by the clock, the least and the middle."""
+    return f"{least_and_middle([own + kernel for _, own, kernel in times], scale, digits)} | {least_and_middle([clock for clock, _, _ in times], scale, digits)}"
+
+
+def short(timer, folder, rounds):
+    """The calls on histories of 20 operations, in microseconds."""
+    texts = {it: generated(f"{folder}/{it}", "--kind", it, "--calls", "20", "--processes", "4", "--concurrency", "4") for it in KINDS}
+    times = {(kind, command): [] for kind in KINDS for command in COMMANDS}
+    for _ in range(rounds):
+        for kind, command in times:
+            times[kind, command] += calls_in(measured([timer, command, *texts[kind], str(TIMES), str(CALLS)])[0])
+    print("| 20 operations, µs | `fcbench_check`, processor | by the clock | `fcbench_judge`, processor | by the clock |\n|---|---|---|---|---|")
+    for kind in KINDS:
+        print(f"| {kind} | {' | '.join(cells(times[kind, it], 1e6, 1) for it in COMMANDS)} |")
+
+
+def long(timer, program, folder, rounds):
+    """The calls on 1,000,000 maps, in seconds, and the program on their files. Returns for each command the ratios of the rounds."""
+    texts = generated(f"{folder}/large", "--kind", "queue", "--maps", "1000000")
+    times = {(command, row): [] for command in COMMANDS for row in ROWS}
+    for number in range(rounds):
+        for command in COMMANDS:
+            its = [program, command, *texts[: 2 if command == "check" else 1]]
+            of_both = {}
+            for words in (its, [timer, command, *texts, "1", "1"])[:: 1 if number % 2 else -1]:
+                of_both[words[0]] = measured(words)
+            said, whole = of_both[timer]
+            for row, it in zip(ROWS, (calls_in(said)[0], whole, of_both[program][1])):
+                times[command, row].append(it)
+    print("| 1,000,000 maps, s | processor | of these the kernel | by the clock |\n|---|---|---|---|")
+    for (command, row), found in times.items():
+        both, clock = cells(found, 1, 3).split(" | ")
+        print(f"| `{command}`, {row} | {both} | {least_and_middle([kernel for _, _, kernel in found], 1, 3)} | {clock} |")
+    return {(command, row): ratios(times[command, row], times[command, ROWS[2]]) for command in COMMANDS for row in MOST}
+
+
+def ratios(these, those):
+    """The processor's time of one over that of another, in each round."""
+    return [sum(a[1:]) / sum(b[1:]) for a, b in zip(these, those)]
+
+
+def main(folder, program=None, rounds=9):
     timer = f"{folder}/embedding"
     os.makedirs(folder, exist_ok=True)
     source = [f"-I{TOP}/include", f"{HERE}/embedding.c", f"{TOP}/crates/embedding/out/libfcbench.a"]
     subprocess.run(["cc", "-O2", *source, "-o", timer], check=True)
-    print("| history | `fcbench_check` | `fcbench_judge` |\n|---|---|---|")
-    for kind in KINDS:
-        texts = generated(f"{folder}/{kind}", "--kind", kind, "--calls", "20", "--processes", "4", "--concurrency", "4")
-        check, judge = map(float, subprocess.run([timer, *texts, "2000", "20"], check=True, capture_output=True, text=True).stdout.split())
-        print(f"| {kind}, 20 operations | {check * 1e6:.1f} µs | {judge * 1e6:.1f} µs |", flush=True)
-    texts = generated(f"{folder}/large", "--kind", "queue", "--maps", "1000000")
-    check, judge = map(float, subprocess.run([timer, *texts, "3", "1"], check=True, capture_output=True, text=True).stdout.split())
-    print(f"| queue, 1,000,000 maps | {check:.2f} s | {judge:.2f} s |")
-    if program:
-        print(f"| the program on its files | {seconds_of([program, 'check', *texts]):.2f} s | {seconds_of([program, 'judge', texts[0]]):.2f} s |")
+    short(timer, folder, int(rounds))
+    if not program:
+        return 0
+    is_slower = False
+    for (command, row), found in long(timer, program, folder, int(rounds)).items():
+        middle = statistics.median(found)
+        is_slower |= middle > MOST[row]
+        print(f"{command}, {row}: {middle:.3f} of the program's processor time, at most {MOST[row]}; rounds from {min(found):.3f} to {max(found):.3f}")
+    print(f"The library is {'slower' if is_slower else 'no slower'} than the program.")
+    return int(is_slower)
 
 
 if __name__ == "__main__":
-    if len(sys.argv) not in (2, 3):
+    if len(sys.argv) not in (2, 3, 4):
         sys.exit(__doc__)
-    main(*sys.argv[1:])
+    sys.exit(main(*sys.argv[1:]))
