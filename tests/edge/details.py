@@ -146,15 +146,15 @@ def why_points_false(shown, x, figure):
     points = found(figure, "a", "pt")
     if points and x not in shown.orders:
         return "there are points without an order"
-    contents = shown.contents(x) if points else []
+    contents, because = shown.contents(x) if points else [], because_of(shown.page)
     for it in points:
         rank, call, is_bad = int(it.get("data-rank")), shown.calls[int(it.get("data-op"))], "bad" in classes(it)
         title = "".join(it.find("title").itertext())
         if shown.orders[x][rank - 1] != call.number or is_bad != (rank == shown.refused(x)):
             return f"the point {rank}"
         said = f"{rank}: {label_of(call)}\n" + ("" if is_bad else f"map {call.number}, process {call.process}\n")
-        content = f"\ncontent before: {contents[rank - 1]}" if is_bad else f"content after: {contents[rank]}"
-        if not title.startswith(said) or not title.endswith(content):
+        content = f"{because}\ncontent before: {contents[rank - 1]}" if is_bad else f"content after: {contents[rank]}"
+        if title != said + content:
             return f"the point {rank} says {title}"
     return None
 

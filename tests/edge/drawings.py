@@ -12,15 +12,13 @@ from dataclasses import replace
 from . import details, histories, marked, rows, sentences, texts
 from .imitated import RacyRegister, played
 from .pages import Drawn
-from .situations import OF_EACH, Case, example, extreme, generated, hostile, many_objects, options_and_faults, orders_of, situations
+from .situations import OF_EACH, OF_EACH_FORM, Case, example, extreme, generated, hostile, many_objects, options_and_faults, orders_of, situations
 from .running import EXAMPLES, ROOT, SECONDS, at_once
 
 CHECKS = f"{os.path.dirname(os.path.realpath(__file__))}/check_pages.mjs"
 PAGES = f"{EXAMPLES}/pages"
 MOST_BYTES = 1_000_000
 VERDICTS = ("yes", "impossible", "open", "C1", "C2", "C3", "C4", "C5", "C6", "C7", "C9")
-# How often each sentence must be said.
-OF_EACH_FORM = 5
 HISTORY, CERTIFICATES = rows.HISTORY, rows.CERTIFICATES
 
 

@@ -13,6 +13,8 @@ GREATEST = 2**63 - 1
 LEAST = -(2**63)
 # How many generated histories there are of each verdict.
 OF_EACH = 50
+# How often each sentence must be said.
+OF_EACH_FORM = 5
 
 
 @dataclass(frozen=True)
@@ -319,10 +321,10 @@ def given_back_twice(seed):
     """A history of a mutex that processes hold in turn, and that another one gives back once more."""
     rng = random.Random(f"given back twice {seed}")
     calls = [(rng.randrange(3), f) for _ in range(rng.randrange(2, 20)) for f in ("acquire", "release")]
-    at = rng.randrange(1, len(calls) // 2 + 1) * 2
+    at = 0 if seed < OF_EACH_FORM else rng.randrange(1, len(calls) // 2 + 1) * 2
     calls.insert(at, (3, "release"))
     maps = [write(process, f) for process, f in calls for write in (texts.invoke, texts.ok)]
-    if rng.random() < 0.5:
+    if at > 0 and rng.random() < 0.5:
         # It overlaps the one before.
         maps[2 * at - 1], maps[2 * at] = maps[2 * at], maps[2 * at - 1]
     return texts.lines(*maps)
