@@ -1,6 +1,5 @@
 """Checks what is on a page beside its sentences: tables, points, boxes, captions and notes, by code that shares nothing with the
 program."""
-import itertools
 import re
 
 from .histories import KIND_OF, Call, calls_of

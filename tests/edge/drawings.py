@@ -9,11 +9,11 @@ import shutil
 import subprocess
 from dataclasses import replace
 
-from . import details, histories, marked, rows, sentences, texts
+from . import details, marked, rows, sentences, texts
 from .imitated import RacyRegister, played
 from .pages import Drawn
 from .situations import OF_EACH, OF_EACH_FORM, Case, example, extreme, generated, hostile, many_objects, options_and_faults, orders_of, situations
-from .running import EXAMPLES, ROOT, SECONDS, at_once
+from .running import EXAMPLES, SECONDS, at_once
 
 CHECKS = f"{os.path.dirname(os.path.realpath(__file__))}/check_pages.mjs"
 PAGES = f"{EXAMPLES}/pages"
