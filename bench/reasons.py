@@ -1,11 +1,11 @@
 #!/usr/bin/env python3
 """Compares `judge` from start to end with a plain finder of reasons on histories of plant.py.
 
-    reasons.py PROGRAM PLAIN DIR.. [--runs N] [--seconds S] [--together]
+    reasons.py PROGRAM PLAIN DIR.. [--runs N] [--seconds S] [--plain-seconds S] [--together]
 
 DIR is a folder of plant.py with the name KIND-CALLS-ATONCE-VALUES, where VALUES is `once` or a number. `PROGRAM judge FILE` and
-`PLAIN find FILE` run in turn, N times, and the least processor time of each counts. Each may take S seconds. Answers are kept in DIR/answers.json, so that
-a run that was stopped can go on.
+`PLAIN find FILE` run in turn, N times, but once where a run takes a second, and the least processor time of each counts. Each may take as many seconds of
+it as told. Answers are kept in DIR/answers.json, so that a run that was stopped can go on.
 
 What `judge` says is checked by tests/edge/reasons.py: the operations are of the history and have no valid order, or the count is exceeded.
 Broken are the histories of which one of the two gives a reason; linearizable those for which one of the two found an order; of the others
@@ -60,7 +60,9 @@ def answers_on(asked, path):
     ours, plain = [], []
     for _ in range(asked.runs):
         ours.append(ran([asked.program, "judge", path], asked.seconds))
-        plain.append(ran([asked.plain, "find", path, "--seconds", str(asked.seconds)], asked.seconds + 5))
+        plain.append(ran([asked.plain, "find", path, "--seconds", "600"], asked.plain_seconds))
+        if ours[-1][2] + plain[-1][2] > 1:
+            break
     status, out, _ = ours[0]
     if status == 0 and plain[0][0] == 1:
         raise SystemExit("reasons.py: %s: judge says yes, and the plain finder gives a reason" % path)
@@ -115,6 +117,7 @@ def main():
     words.add_argument("dir", nargs="+")
     words.add_argument("--runs", type=int, default=3)
     words.add_argument("--seconds", type=int, default=20)
+    words.add_argument("--plain-seconds", type=int, default=10)
     words.add_argument("--together", action="store_true")
     asked = words.parse_args()
     rows = {}
