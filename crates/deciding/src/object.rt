@@ -54,19 +54,6 @@ fn whole_reason(alloc: Global, history: &ObjectHistory) -> Result<FoundReason, A
     }
 }
 
-/// Why no order is valid: what the finder of reasons finds, or else that a search of all operations
-/// ends.
-fn reason_where_none(alloc: Global, history: &ObjectHistory) -> Result<FoundReason, AllocError>
-    requires { IsNoneValid history.now.kind (calls_of history.now.ops) }
-    ensures { IfOk result (IsReasonFor
-        history.now.object history.now.kind (calls_of history.now.ops)) }
-{
-    if let Ok(Some(found)) = find_reason(alloc, history, STEPS_OF_A_PART) {
-        return Ok(found);
-    }
-    whole_reason(alloc, history)
-}
-
 /// The most steps of the first search among this many operations.
 fn first_steps(operations: usize) -> u64 {
     20_000_u64.saturating_add((operations as u64).saturating_mul(20))
@@ -97,7 +84,7 @@ fn decide_by_first_search(
     match search_of_any_size(alloc, history, TryFirst::LeastReturn, steps).found {
         SearchOutcome::Found(certificate) => Ok(Some(Decision::Order(certificate))),
         SearchOutcome::Impossible => {
-            Ok(Some(Decision::Impossible(reason_where_none(alloc, history)?)))
+            Ok(Some(Decision::Impossible(whole_reason(alloc, history)?)))
         }
         _ => Ok(None),
     }
@@ -152,10 +139,11 @@ fn decide_by_search(
 }
 
 /// Looks for a certificate of an object, or for a reason why it has none: first the methods that
-/// are made for its kind, and a first search of 20,000 steps and 20 more for each operation; where
-/// these decide nothing, the finder of reasons; then, at a map, a search of each key that is open;
-/// and else a search of at most `steps` steps, which may find either. Where no number of steps is given these are 1,000,000, or 100 for each operation
-/// that did not fail if that is more. What comes before takes none of them.
+/// are made for its kind, then the finder of reasons, and at a map a search of each key that is open.
+/// Where these decide nothing there is a first search of 20,000 steps and 20 more for each operation,
+/// which tries first what returns first, and then one of at most `steps` steps. Where no number of
+/// steps is given these are 1,000,000, or 100 for each operation that did not fail if that is more.
+/// What comes before takes none of them.
 ///
 /// That a limit is enough is not promised. An error: memory was refused for a reason.
 pub fn decide(
@@ -179,14 +167,14 @@ pub fn decide(
     if let Ok(FindOutcome::Order(certificate)) = find_by_kind(alloc, history) {
         return Ok(Decision::Order(certificate));
     }
-    if let Some(decision) = decide_by_first_search(alloc, history)? {
-        return Ok(decision);
-    }
     if let Ok(Some(found)) = find_reason(alloc, history, STEPS_OF_A_PART) {
         return Ok(Decision::Impossible(found));
     }
     if let Ok(Some(found)) = reason_on_a_key(alloc, history) {
         return Ok(Decision::Impossible(found));
+    }
+    if let Some(decision) = decide_by_first_search(alloc, history)? {
+        return Ok(decision);
     }
     decide_by_search(alloc, history, steps)
 }
