@@ -14,8 +14,8 @@ LINEARIZABLE = {
     "postgres_register": ("register", 1_000),
     "redis_map_paused": ("map", 1_000),
 }
-NOT_LINEARIZABLE = ("redis_replica_long", "sharded_queue")
-SHORT = ("postgres_queue", "redis_lock", "redis_replica", "racy_stack")
+NOT_LINEARIZABLE = ("redis_replica_long", "sharded_queue_long")
+SHORT = ("postgres_queue", "redis_lock", "redis_replica", "racy_stack", "sharded_queue")
 MOST_SECONDS = 2
 
 
