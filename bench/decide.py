@@ -1,14 +1,14 @@
 #!/usr/bin/env python3
 """Counts what `judge` decides of histories that gen.py makes, with different numbers of values, of calls at once, and of calls.
 
-    decide.py PROGRAM DIR [--calls N..] [--kinds K..] [--values N..] [--at-once N..] [--seeds N] [--seconds S] [--beside JUDGE]
+    decide.py PROGRAM DIR [--calls N..] [--kinds K..] [--values N..] [--at-once N..] [--seeds N] [--seconds S] [--beside JUDGE [--its-seconds S]]
 
 All of these histories are linearizable, so a decision is a yes. For each kind there is a row for each number of values and of calls at
 once: how many of the seeds were decided, and the processor time of the middle one. A run that takes more than S seconds of processor time counts as
 not decided. Rows are printed as Markdown. Histories have no failed and no pending calls, or 5 % and 2 % of them.
 
 With JUDGE, the plain judge of judge_rs, each history is also searched by the algorithm of Wing, Gong and Lowe with memory, right after it is
-judged: `judge search --wgl-hash --any-size`, with at most a billion steps, S seconds and 6 GiB. A cell then has both, ours first."""
+judged: `judge search --wgl-hash --any-size`, with at most a billion steps, its S seconds, or else as many, and 6 GiB. A cell then has both, ours first."""
 import argparse
 import os
 import resource
@@ -60,7 +60,7 @@ def row(asked, kind, values, calls, faulty):
             name = history(room, kind, values, at_once, calls, faulty, seed)
             ours.append(ran([asked.program, "judge", name], asked.seconds))
             if asked.beside:
-                theirs.append(ran([asked.beside, "search", "--wgl-hash", "--any-size", "--steps", "1000000000", name], asked.seconds))
+                theirs.append(ran([asked.beside, "search", "--wgl-hash", "--any-size", "--steps", "1000000000", name], asked.its_seconds or asked.seconds))
             shutil.rmtree(room)
         cells.append(cell(ours) + ("; " + cell(theirs) if theirs else ""))
     return cells
@@ -77,6 +77,7 @@ def main():
     words.add_argument("--seeds", type=int, default=3)
     words.add_argument("--seconds", type=int, default=20)
     words.add_argument("--beside", help="the plain judge of judge_rs")
+    words.add_argument("--its-seconds", type=int)
     asked = words.parse_args()
     columns = [f"{n} at once" if n == asked.at_once[0] else str(n) for n in asked.at_once]
     print(f"| kind | calls | values | failed, pending | {' | '.join(columns)} |\n|{'---|' * (4 + len(columns))}")
