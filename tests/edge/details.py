@@ -271,6 +271,8 @@ def why_tried_false(shown):
     """What is false of the table of the orders of a reason, or None."""
     calls, _, other = shown.reason()
     tries, is_all = tries_of([it for it in calls.values() if it], other)
+    if not tries:
+        return None if shown.page.by_id("tried") is None else "there is a table of no orders"
     rows = shown.page.rows("tried")
     name = lambda call: said_of(shown.calls[call.number])
     wanted = [

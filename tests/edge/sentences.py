@@ -368,9 +368,10 @@ FORMS = {
 }
 # Of each form that has operations, which of the groups are labels: those are checked apart.
 GENERAL = re.compile(
-    rf"(?:Whatever the \w+ contained before map (\d+))?(?:, and in|In|)(?: ?whatever order (?:.*) come, |, |Whatever comes before, )"
-    rf"(?:⟨(\d+)\|[^⟩]*⟩ could not return {REPLY}\.|⟨(\d+)\|[^⟩]*⟩ is not possible\.|one of them does not fit: the table says where each "
-    r"order breaks\.)"
+    r"(?:Whatever the \w+ contained before map (\d+)(?:, and in whatever order .* come|, and wherever .* comes|), |"
+    r"In whatever order .* come, |Wherever .* comes, |Whatever comes before, )"
+    rf"(?:⟨(\d+)\|[^⟩]*⟩ could not return {REPLY}\.|⟨(\d+)\|[^⟩]*⟩ is not possible\.|one of them does not fit(?:: the table says where each "
+    r"order breaks)?\.)"
 )
 # What is said beside.
 ASIDES = (
@@ -455,7 +456,11 @@ def why_sentence_false(page, said, sentence):
     match = GENERAL.fullmatch(sentence)
     if not match:
         return "no known sentence"
-    is_so = said.general(page.bars("zoom"), match[1], match[2] or match[4], match[3])
+    bars, last = page.bars("zoom"), match[2] or match[4]
+    counted = re.search(r"these ([\d\u202f\u2009\xa0 ]+) operations come, ", sentence)
+    if counted and int(re.sub(r"\D", "", counted[1])) != len(bars) - (last is not None):
+        return "false (general: the number of operations)"
+    is_so = said.general(bars, match[1], last, match[3])
     return None if is_so else "false (general)"
 
 

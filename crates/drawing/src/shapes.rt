@@ -58,6 +58,9 @@ fn push_all(memory: &Memory, sentence: &mut Vec<Span>, operations: &[Operation])
     }
 }
 
+/// How many operations are named one by one at most.
+const MOST_NAMED: usize = 12;
+
 /// How often, as `twice`.
 fn times(count: usize) -> [Span; 2] {
     match count {
@@ -431,14 +434,9 @@ impl Shape<'_, '_, '_> {
         )
     }
 
-    /// The general sentence: no order of these operations fits.
-    fn general(&self, tried: &Tried) -> Vec<Span> {
+    /// The operations of the part other than this one.
+    fn others_than(&self, last: Option<Operation>) -> Vec<Operation> {
         let memory = self.memory;
-        let mut sentence = Vec::new(memory.alloc);
-        let last = match tried.last {
-            Some(last) if tried.is_complete => Some(last),
-            _ => None,
-        };
         let mut others = Vec::new(memory.alloc);
         for operation in self.part {
             match last {
@@ -446,11 +444,57 @@ impl Shape<'_, '_, '_> {
                 _ => memory.note(others.push(*operation)),
             }
         }
-        let order = match (self.from, others.is_empty()) {
-            (Some(_), false) => ", and in whatever order ",
-            (Some(_), true) => "",
-            (None, false) => "In whatever order ",
-            (None, true) => "Whatever comes before",
+        others
+    }
+
+    /// The words on the order of these operations. Where there are many they are not named.
+    fn push_order(&self, sentence: &mut Vec<Span>, others: &[Operation]) {
+        let memory = self.memory;
+        let is_window = self.from.is_some();
+        let (before, after) = match others.len() {
+            0 => (
+                if is_window {
+                    ""
+                } else {
+                    "Whatever comes before"
+                },
+                ", ",
+            ),
+            1 => (
+                if is_window {
+                    ", and wherever "
+                } else {
+                    "Wherever "
+                },
+                " comes, ",
+            ),
+            _ => (
+                if is_window {
+                    ", and in whatever order "
+                } else {
+                    "In whatever order "
+                },
+                " come, ",
+            ),
+        };
+        memory.note(sentence.push(Span::Text(before)));
+        if others.len() > MOST_NAMED {
+            let count = Span::Count(others.len());
+            let these = [Span::Text("these "), count, Span::Text(" operations")];
+            memory.note(sentence.extend_from_slice(&these));
+        } else {
+            push_all(memory, sentence, others);
+        }
+        memory.note(sentence.push(Span::Text(after)));
+    }
+
+    /// The general sentence: no order of these operations fits.
+    fn general(&self, tried: &Tried) -> Vec<Span> {
+        let memory = self.memory;
+        let mut sentence = Vec::new(memory.alloc);
+        let last = match tried.last {
+            Some(last) if tried.is_complete => Some(last),
+            _ => None,
         };
         if let Some(from) = self.from {
             memory.note(sentence.extend_from_slice(&[
@@ -460,20 +504,23 @@ impl Shape<'_, '_, '_> {
                 Span::number(from),
             ]));
         }
-        memory.note(sentence.push(Span::Text(order)));
-        push_all(memory, &mut sentence, &others);
-        let come = if others.is_empty() { ", " } else { " come, " };
-        memory.note(sentence.push(Span::Text(come)));
-        memory.note(sentence.extend_from_slice(&self.end(last)));
+        self.push_order(&mut sentence, &self.others_than(last));
+        let has_table = !tried.attempts.is_empty();
+        memory.note(sentence.extend_from_slice(&self.end(last, has_table)));
         sentence
     }
 
     /// The words on the operation at which each order ends.
-    fn end(&self, last: Option<Operation>) -> [Span; 4] {
+    fn end(&self, last: Option<Operation>, has_table: bool) -> [Span; 4] {
         let Some(last) = last else {
+            let table = if has_table {
+                ": the table says where each order breaks."
+            } else {
+                "."
+            };
             return [
-                Span::Text("one of them does not fit: "),
-                Span::Text("the table says where each order breaks."),
+                Span::Text("one of them does not fit"),
+                Span::Text(table),
                 Span::Text(""),
                 Span::Text(""),
             ];

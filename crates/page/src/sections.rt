@@ -252,7 +252,9 @@ impl Writer {
         self.heading("reason", &[Piece::Text("The reason")]);
         self.open(Tag::Div, "beside");
         self.reason(drawing, figure);
-        self.tried(tried);
+        if !tried.attempts.is_empty() {
+            self.tried(tried);
+        }
         self.put(&[Piece::Close(Tag::Div), Piece::Close(Tag::Section)])
     }
 
