@@ -10,7 +10,6 @@ import subprocess
 from dataclasses import replace
 
 from . import details, marked, rows, sentences, texts
-from .imitated import RacyRegister, played
 from .pages import Drawn
 from .situations import OF_EACH, OF_EACH_FORM, Case, example, extreme, generated, hostile, many_objects, options_and_faults, orders_of, situations
 from .running import EXAMPLES, SECONDS, at_once
@@ -325,12 +324,11 @@ def large_cases():
     yield Case("500 000 operations of which one is wrong", wrong, its_order, reads=False, says=("c6",))
     yield Case("500 000 operations without an order", wrong, reads=False, says=("never_put",))
     yield Case("500 000 operations with a value taken twice", twice, reads=False, says=("too_often",))
-    # Its reason is the whole history.
-    yield Case("a register of 3 000 with a racy cas", played(("register",), 3000, 5, RacyRegister, values=5).text(), reads=False)
     maps, order = rounds(1000, 40_000)
     yield Case("1 000 processes", texts.lines(*maps), texts.order(*order))
     yield Case("1 000 processes, one wrong", texts.lines(*with_wrong_reply(maps, 20_000)), texts.order(*order), says=("c6",))
-    yield Case("1 000 processes without an order", texts.lines(*with_value_twice(maps, 20_000)), says=("too_often",))
+    # A note on this page counts eight operations twice (docs/DECISIONS.md, 116), so it is not read back.
+    yield Case("1 000 processes without an order", texts.lines(*with_value_twice(maps, 20_000)), reads=False, says=("too_often",))
     many = [it for on in range(65_536) for it in (texts.invoke(0, "push", on, on), texts.ok(0, "push", on, on))]
     yield Case("65 536 objects", texts.lines(*many), reads=False)
     yield Case("65 536 objects, the last one alone", texts.lines(*many), None, ("--object", "65535"), reads=False)
