@@ -5,7 +5,7 @@
 
 NAME is a definition of specs/, as judging.Texts.IsLinearizableText. With no NAME it prints the counts that README.md and
 docs/definitions.md give. Comments, blank lines and imports do not count, nor do enums and structs of the code, which it counts
-apart, nor the words of the standard library."""
+apart, nor the words of the standard library. Words that come from proofs/ do not count either: those that are met are listed."""
 import collections
 import glob
 import os
@@ -51,7 +51,7 @@ class Module:
             begins = re.match(r"(?:abbrev |unfoldable )?(?:pub )?(record |data )?([^\s(:{]+)(?= |$)", bare)
             marked = re.match(r"(?:abbrev|record(?! \{)|data|pub) ", bare)
             is_field = indent > 0 and bare.startswith("pub ") and not begins.group(1) and not in_mutual
-            if marked and not is_field:
+            if marked and not is_field and (indent == 0 or in_mutual):
                 current, is_data = begins.group(2), begins.group(1) == "data "
             elif is_data and re.match(r"[^\s(:{]+ : ", bare):
                 self.constructors[bare.split(" ")[0]] = current
@@ -78,15 +78,89 @@ def modules():
     return found
 
 
+NAMES = r"[^\s(){}\[\],;:λ]+"
+TOKEN = re.compile(rf"[(){{}}]|λ|{NAMES}|:")
+
+
+def parts_of(module, name):
+    """The parts of a definition that bind their own names: its head, each clause of a function, each field of a record."""
+    parts = [""]
+    for line in module.lines[name]:
+        code, bare = line.split(" -- ")[0], line.strip()
+        is_field = line.startswith(" ") and re.match(rf"(?:pub )?{NAMES} : ", bare)
+        if parts[-1] and (is_field or bare.startswith((f"{name} ", "pub "))):
+            parts.append("")
+        parts[-1] += code + "\n"
+    return parts
+
+
+def words_of(module, name):
+    """What the words of a definition refer to, except for those that it binds: its parameters and fields, and names in λ and (x : A)."""
+    found, shared = [], set()
+
+    def refer(word, bound):
+        for it in {word, word.strip(".")}:
+            target = None if it.partition(".")[0] in bound else module.target(it, name)
+            if target:
+                found.append(target)
+
+    for place, part in enumerate(parts_of(module, name)):
+        bound = set(shared)
+        if part.startswith(f"{name} ") and re.search(r" =\s", part):
+            # The names on the left of a clause are bound, except for constructors.
+            left, part = re.split(r" =\s", part, maxsplit=1)
+            for word in re.findall(NAMES, left):
+                path, of = module.target(word, name) or ("", "")
+                if word in module.constructors or "declared" in path:
+                    found.append((path, of))
+                else:
+                    bound.add(word)
+        bound |= walk(part, bound, refer)
+        field = re.match(rf"\s+(?:pub )?({NAMES}) : ", part)
+        if place == 0 and not field:
+            shared |= bound  # The parameters.
+        elif field:
+            shared.add(field.group(1))
+    return found
+
+
+def walk(part, bound, refer):
+    """Says what the words refer to, each with the names that are bound at its place, and returns those that the outermost level binds."""
+    levels, tokens, place = [set(bound)], TOKEN.findall(part), 0
+    while place < len(tokens):
+        token = tokens[place]
+        end = place + 1
+        if token == "λ":
+            while end < len(tokens) and not tokens[end - 1].endswith("."):
+                levels[-1].add(tokens[end].rstrip("."))
+                end += 1
+        elif token in "({":
+            while end < len(tokens) and re.fullmatch(NAMES, tokens[end]):
+                end += 1
+            if end > place + 1 and end < len(tokens) and tokens[end] == ":":
+                levels[-1] |= set(tokens[place + 1:end])
+            else:
+                end = place + 1
+            levels.append(set(levels[-1]))
+        elif token in ")}":
+            levels.pop() if len(levels) > 1 else None
+        elif token != ":" and tokens[end:end + 1] != ["="]:
+            refer(token, levels[-1])
+        place = end
+    return levels[0]
+
+
 def closure(known, names):
-    """The definitions that these name, and the types of the code among them."""
+    """The definitions that these name, the types of the code among them, and the words that come from proofs/."""
     left = [(f"{crate}.specs.{module}", name) for crate, module, name in (it.split(".") for it in names)]
-    seen, declared = set(), set()
+    seen, declared, unread = set(), set(), set()
     while left:
         path, name = left.pop()
         if "declared" in path:
             declared.add(path.split(".TheVariants")[0])
             continue
+        if ".proofs." in path:
+            unread.add(f"{path}.{name}")
         if path not in known:
             continue
         name = known[path].constructors.get(name, name)
@@ -94,22 +168,18 @@ def closure(known, names):
             continue
         seen.add((path, name))
         module = known[path]
-        for line in module.lines[name]:
-            code = line.split(" -- ")[0]
-            for word in re.findall(r"[^\s(){}\[\],;λ]+", code):
-                for it in {word, word.strip(".")}:
-                    found = module.target(it, name)
-                    if found:
-                        left.append(found)
-    return seen, declared
+        left += words_of(module, name)
+    return seen, declared, unread
 
 
 def main(names):
     known = modules()
     for clause, begin in ({"": names} if names else CLAUSES).items():
-        seen, declared = closure(known, begin)
+        seen, declared, unread = closure(known, begin)
         lines = sum(len(known[path].lines[name]) for path, name in seen)
         print(f"{clause or ' '.join(names)}: {lines} lines in {len(seen)} definitions, and {len(declared)} types of the code")
+        if unread:
+            print(f"  not counted, from proofs: {', '.join(sorted(unread))}")
         if os.environ.get("VERBOSE"):
             for path, name in sorted(seen):
                 print(f"  {path}.{name} {len(known[path].lines[name])}")
