@@ -32,7 +32,8 @@
 extern "C" {
 #endif
 
-/* The history is linearizable. This is proved of each call that keeps the rules above. */
+/* The history is linearizable. This is proved of the functions in Rattle, for each call that keeps the
+ * rules above. That this header fits those functions is trusted. */
 #define FCBENCH_YES 0u
 /* fcbench_judge, fcbench_refute: the history is not linearizable, which is proved too.
  * fcbench_check: the certificates are refused. fcbench_find never answers it. */
@@ -51,8 +52,9 @@ uint32_t fcbench_check(const uint8_t *history, size_t history_length,
                        const uint8_t *certificates, size_t certificates_length,
                        uint8_t *out, size_t capacity, size_t *needed);
 
-/* Finds certificates, or reasons why there are none, and judges the history by them. A search takes
- * at most `steps` steps for each object. */
+/* Finds certificates, or reasons why there are none, and judges the history by them. The last search
+ * takes at most `steps` steps for each object. What comes before takes none of these: even with 0
+ * there are searches with limits of their own. */
 uint32_t fcbench_judge(const uint8_t *history, size_t history_length, uint32_t steps,
                        uint8_t *out, size_t capacity, size_t *needed);
 
