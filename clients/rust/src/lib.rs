@@ -1,7 +1,8 @@
 //! The proved judge of fcbench, for tests of concurrent objects, and a recorder of what threads do.
 //!
 //! ```ignore
-//! let answer = fcbench::judge(recorder.history(&journals));
+//! let history = recorder.history(&journals);
+//! let answer = fcbench::judge(&history);
 //! assert!(answer.is_yes(), "{answer}");
 //! ```
 #![warn(missing_docs)]

@@ -16,13 +16,16 @@
 //!
 //! A journal that is dropped, or not handed to `history`, takes its calls with it: `history` panics then.
 //!
-//! The reply of `enqueue`, `push`, `insert` and `write` is their argument: where the call gives nothing, it is written.
+//! The reply of `enqueue`, `push`, `insert` and `write` is their argument: where the call gives nothing, it is written. Where it gives
+//! anything else, as a length, end the closure with `;`: `history` panics at another reply.
+//!
+//! An empty queue is a reply and no failure: where `pop` gives a `Result`, record `journal.call("dequeue", (), || queue.pop().ok())`.
 //!
 //! A call that does not return, as one that panics or times out, may have happened: its operation ends with `:info`, and the
 //! journal goes on as a new process, as Jepsen's threads do. Use `failed` and an error of `try_call` only where the call surely
 //! did not happen: if a call that timed out is written as failed, a correct queue gets a no.
 //!
-//! Threads that are not scoped take a recorder that is `static` or leaked:
+//! Threads that are not scoped take a recorder that is leaked, a new one for each history:
 //!
 //! ```ignore
 //! let recorder: &'static Recorder = Box::leak(Box::new(Recorder::new()));
@@ -49,7 +52,7 @@ pub enum Value {
 }
 
 impl Value {
-    /// A number of a type that may not fit in `i64`, as `usize`.
+    /// A number of any type that may fit in `i64`.
     ///
     /// # Panics
     ///
@@ -78,6 +81,8 @@ impl Value {
 }
 
 /// What a call gives, and the value that is written of it. Implement it for a type of your own, or use `call_as`.
+///
+/// The argument of a call is what `Value::from` takes: implement `From<Job> for Value` for a type `Job` of your own.
 pub trait Reply {
     /// The value that is written.
     fn value(&self) -> Value;
@@ -87,11 +92,12 @@ fn fitting(number: impl TryInto<i64>) -> i64 {
     number.try_into().unwrap_or_else(|_| panic!("a number does not fit in i64"))
 }
 
+// A number that does not fit in `i64` panics.
 macro_rules! numbers {
     ($($number:ty)*) => { $(
         impl From<$number> for Value {
             fn from(number: $number) -> Value {
-                Value::Number(i64::from(number))
+                Value::number(number)
             }
         }
 
@@ -103,7 +109,7 @@ macro_rules! numbers {
     )* };
 }
 
-numbers!(i8 i16 i32 i64 u8 u16 u32);
+numbers!(i8 i16 i32 i64 i128 isize u8 u16 u32 u64 u128 usize);
 
 impl From<()> for Value {
     fn from(_nothing: ()) -> Value {
@@ -188,9 +194,13 @@ struct Event {
 }
 
 impl Event {
-    /// The reply of a function that puts a value in is its argument.
+    /// Whether the reply of the function is its argument.
+    fn is_put(&self) -> bool {
+        matches!(self.function, "enqueue" | "push" | "insert" | "write")
+    }
+
     fn reply(&self, reply: Value) -> Value {
-        if reply == Value::Nil && matches!(self.function, "enqueue" | "push" | "insert" | "write") {
+        if reply == Value::Nil && self.is_put() {
             return self.value;
         }
         reply
@@ -240,14 +250,16 @@ impl Recorder {
     ///
     /// # Panics
     ///
-    /// Where it is not handed all journals of this recorder: without the calls of one of them a correct object could get a no.
+    /// Where it is not handed all journals of this recorder, also those of a history that it made before: without the calls of one of
+    /// them a correct object could get a no. And where the reply of a call is to be its argument, and is not.
     #[must_use]
     pub fn history(&self, journals: &[Journal]) -> String {
         let is_own = journals.iter().all(|journal| ptr::eq(journal.recorder, self));
         assert!(is_own, "a journal of another recorder was handed in");
         let mut events: Vec<Event> = journals.iter().flat_map(|journal| journal.events.iter().copied()).collect();
         let missing = self.tickets.load(Ordering::SeqCst) - events.len() as u64;
-        assert!(missing == 0, "{missing} events are missing: a journal was not handed in");
+        assert!(missing == 0, "{missing} events are missing: a journal was not handed in, or this recorder already made a history");
+        journals.iter().for_each(Journal::want_replies);
         events.sort_by_key(|event| event.ticket);
         let pending = journals.iter().filter_map(|journal| journal.outstanding);
         events.extend(pending.map(|call| Event { kind: Kind::Info, ..call }));
@@ -354,6 +366,15 @@ impl Journal<'_> {
     pub fn gave_up(&mut self) {
         self.end(Kind::Info, Value::Nil);
         self.process = next(&self.recorder.processes);
+    }
+
+    /// Panics where the reply of a call is to be its argument, and is not.
+    fn want_replies(&self) {
+        for pair in self.events.windows(2) {
+            let (call, end) = (&pair[0], &pair[1]);
+            let is_right = !matches!(end.kind, Kind::Ok) || !end.is_put() || end.value == call.value;
+            assert!(is_right, "{} replied {} and not its argument {}: let the call give nothing", end.function, end.value, call.value);
+        }
     }
 
     /// The ticket of a return is drawn first.

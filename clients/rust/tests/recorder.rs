@@ -156,7 +156,7 @@ fn a_journal_that_is_not_handed_in() {
     assert!(lost.is_err());
     kept.call("dequeue", (), || 7);
     let journals = [kept];
-    assert_eq!(message_of(|| recorder.history(&journals)), "3 events are missing: a journal was not handed in");
+    assert_eq!(message_of(|| recorder.history(&journals)), "3 events are missing: a journal was not handed in, or this recorder already made a history");
     assert_eq!(message_of(|| other.history(&journals)), "a journal of another recorder was handed in");
 }
 
@@ -182,6 +182,58 @@ fn replies_of_calls_that_give_nothing() {
     assert_eq!(text.matches(":value nil").count(), 4, "{text}");
     let answer = judge(&text);
     assert!(answer.lines.starts_with("yes: 10 operations"), "{answer}");
+}
+
+/// A reply that is not the argument, as a length, is refused. Without it the history would be a no.
+#[test]
+fn a_reply_that_is_not_the_argument() {
+    let recorder = Recorder::new();
+    let (mut journal, mut values) = (recorder.journal(), Vec::new());
+    let mut enqueue = |value| {
+        values.push(value);
+        values.len()
+    };
+    journal.call("enqueue", 7, || {
+        enqueue(7);
+    });
+    assert_eq!(journal.try_call("enqueue", 8, || Ok::<usize, ()>(enqueue(8))), Ok(2));
+    let wanted = "enqueue replied 2 and not its argument 8: let the call give nothing";
+    assert_eq!(message_of(|| recorder.history(&[journal])), wanted);
+}
+
+/// A recorder makes one history: the journals of the second round are not all that it gave out.
+#[test]
+fn a_recorder_of_two_rounds() {
+    let recorder = Recorder::new();
+    let round = || {
+        let mut journal = recorder.journal();
+        journal.call("enqueue", 7, || ());
+        recorder.history(&[journal])
+    };
+    assert!(judge(round()).is_yes());
+    assert_eq!(message_of(round), "2 events are missing: a journal was not handed in, or this recorder already made a history");
+}
+
+/// A pop that gives an error where the queue is empty: that is a reply. As a failure a wrong one would not be found.
+#[test]
+fn an_empty_queue_is_a_reply() {
+    #[derive(Debug, PartialEq)]
+    struct Empty;
+    struct Forgetful;
+    impl Forgetful {
+        fn pop(&self) -> Result<i64, Empty> {
+            Err(Empty)
+        }
+    }
+    let (recorder, another, queue) = (Recorder::new(), Recorder::new(), Forgetful);
+    let mut journal = recorder.journal();
+    journal.call("enqueue", 7, || ());
+    journal.call("dequeue", (), || queue.pop().ok());
+    assert!(judge(recorder.history(&[journal])).is_no());
+    let mut journal = another.journal();
+    journal.call("enqueue", 7, || ());
+    assert_eq!(journal.try_call("dequeue", (), || queue.pop()), Err(Empty));
+    assert!(judge(another.history(&[journal])).is_yes());
 }
 
 /// A call in steps, as in async code: one that timed out, one that failed, and one that returned.
@@ -281,13 +333,19 @@ impl Reply for Job {
     }
 }
 
+impl From<Job> for Value {
+    fn from(job: Job) -> Value {
+        job.value()
+    }
+}
+
 /// Replies that are no numbers, and are not copied.
 #[test]
 fn replies_of_other_types() {
     let recorder = Recorder::new();
     let mut journal = recorder.journal();
     let mut jobs = VecDeque::new();
-    journal.call("enqueue", Value::number("seven".len()), || jobs.push_back(Job("seven".to_string())));
+    journal.call("enqueue", Job("seven".to_string()), || jobs.push_back(Job("seven".to_string())));
     assert_eq!(journal.call("dequeue", (), || jobs.pop_front()), Some(Job("seven".to_string())));
     let names = || vec!["one".to_string()];
     let got = journal.call_as(1, "read", (), names, |names| names.first().map_or(Value::Nil, |name| Value::number(name.len())));
@@ -344,7 +402,11 @@ fn numbers_of_each_type() {
     let seven = Value::Number(7);
     assert_eq!([Value::from(7i8), Value::from(7i16), Value::from(7i32), Value::from(7i64)], [seven; 4]);
     assert_eq!([Value::from(7u8), Value::from(7u16), Value::from(7u32), Value::from(Some(7))], [seven; 4]);
+    assert_eq!([Value::from(7u64), Value::from(7usize), Value::from(7isize), Value::from(7i128), Value::from(7u128)], [seven; 5]);
+    assert_eq!([Some(7u64).value(), 7usize.value(), 7i128.value(), None::<usize>.value()], [seven, seven, seven, Value::Nil]);
     assert_eq!([Value::number(7u64), Value::number(7usize), Value::number(7isize), Value::number(7i128)], [seven; 4]);
     assert_eq!(Value::pair(u64::from(1u8), 2usize), Value::Pair(1, 2));
-    assert_eq!(message_of(|| Value::number(u64::MAX).to_string()), "a number does not fit in i64");
+    for message in [message_of(|| Value::number(u64::MAX).to_string()), message_of(|| Value::from(i128::MIN).to_string())] {
+        assert_eq!(message, "a number does not fit in i64");
+    }
 }
