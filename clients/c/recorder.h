@@ -20,7 +20,10 @@
  * it, and recorder_text gives NULL then.
  *
  * The reply of enqueue, push, insert and write is their argument: where the reply is nil, the argument
- * is written. The reply of cas is its pair where it swapped, else fcbench_false().
+ * is written, and recorder_text gives NULL where it is anything else. The reply of cas is its pair where
+ * it swapped, else fcbench_false().
+ *
+ * An empty queue is a reply and no failure: where the dequeue finds nothing, return fcbench_nil().
  *
  * A call that does not return, as one that timed out, may have happened or may still happen: its
  * operation ends with :info. A thread that goes on after such a call does so as a new process, as
@@ -231,14 +234,30 @@ static inline struct fcbench_value recorded_reply(const struct recorded_call *ca
     return call->end == RECORDED_OK && call->reply.shape == FCBENCH_NIL && recorded_is_put(call->function) ? call->argument : call->reply;
 }
 
+static inline int recorded_is_same(struct fcbench_value one, struct fcbench_value other) {
+    return one.shape == other.shape && one.first == other.first && one.second == other.second;
+}
+
+/* Whether each reply that is to be the argument of its call is. Of one that is not, it says so on standard error. */
+static inline int recorder_has_replies(const struct recorder_event *events, uint64_t tickets) {
+    for (uint64_t ticket = 0; ticket < tickets; ticket++) {
+        const struct recorded_call *call = events[ticket].call;
+        if (call->end == RECORDED_OK && recorded_is_put(call->function) && !recorded_is_same(recorded_reply(call), call->argument)) {
+            fprintf(stderr, "recorder: a reply of %s is not its argument: let it be nil\n", call->function);
+            return 0;
+        }
+    }
+    return 1;
+}
+
 /* The history, after all threads have ended: each event at the place of its ticket, and a zero byte after the text. The
  * caller frees it. Where events are missing, since a journal was copied, the text is NULL and `*length` is how many: without them a
- * correct object could get a no. */
+ * correct object could get a no. Where a reply is to be the argument of its call and is not, the text is NULL and `*length` is 0. */
 static inline char *recorder_text(struct recorder *recorder, size_t *length) {
     uint64_t tickets = atomic_load(&recorder->tickets);
     struct recorder_event *events = recorder_events(recorder, tickets, length);
     struct recorder_text text = {NULL, 0, 0};
-    if (*length != 0) {
+    if (*length != 0 || !recorder_has_replies(events, tickets)) {
         free(events);
         return NULL;
     }

@@ -214,6 +214,18 @@ static void a_journal_that_is_lost(void) {
     recorder_close(&recorder);
 }
 
+/* A reply that is not the argument, as a length, is refused. */
+static void a_reply_that_is_not_the_argument(void) {
+    struct recorder recorder;
+    size_t length;
+    recorder_open(&recorder, 1);
+    struct journal *journal = &recorder.journals[0];
+    journal_return(journal, journal_invoke(journal, 0, "enqueue", fcbench_number(7)), fcbench_nil());
+    journal_return(journal, journal_invoke(journal, 0, "enqueue", fcbench_number(8)), fcbench_number(2));
+    want(recorder_text(&recorder, &length) == NULL && length == 0, "a reply that is not the argument", "");
+    recorder_close(&recorder);
+}
+
 static struct fcbench_value gives_nothing(void *own) {
     ++*(int *)own;
     return fcbench_nil();
@@ -273,6 +285,7 @@ int main(int count, char **words) {
     pending_calls();
     the_example_at_the_head();
     a_journal_that_is_lost();
+    a_reply_that_is_not_the_argument();
     replies_of_calls_that_give_nothing();
     calls_that_may_fail();
     for (int run = 0; run < runs; run++) {

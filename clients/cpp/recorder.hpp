@@ -16,8 +16,11 @@
 //
 // A journal that is destroyed, or not handed to `history`, takes its calls with it: `history` throws std::logic_error then.
 //
-// The reply of enqueue, push, insert and write is their argument: where the call gives nothing, it is written. The reply of
-// cas is its pair where it swapped, else Value::no().
+// The reply of enqueue, push, insert and write is their argument: where the call gives nothing, it is written. `history` throws
+// where the call gives anything else, as a length. The reply of cas is its pair where it swapped, else Value::no().
+//
+// An empty queue is a reply and no failure, so use `call` for `bool try_pop(int &out)`:
+//     journal.call("dequeue", std::nullopt, [&] { int out; return queue.try_pop(out) ? std::optional(out) : std::nullopt; });
 //
 // A call that does not return, as one that throws or times out, may have happened: its operation ends with :info, and the
 // journal goes on as a new process, as Jepsen's threads do. Use `failed` and the false of `try_call` only where the call surely
@@ -111,10 +114,14 @@ public:
         return call_on(0, function, std::move(argument), act);
     }
 
-    // Makes a call that may fail, and records it. `act` gives what is false only where the call surely did not happen: a bool, or a
-    // std::optional of the reply, or a pointer to it.
+    // Makes a call that may fail, and records it. `act` gives what is false only where the call surely did not happen: a
+    // std::optional of the reply, or a pointer to it, or a bool. A true has no reply, so a bool is for the functions alone whose
+    // reply is known: enqueue, push, insert, write, acquire and release. Otherwise the call is not made and std::logic_error thrown.
     template <class Act>
     auto try_call_on(std::uint16_t object, const char *function, Value argument, Act act) {
+        if (std::is_same_v<decltype(act()), bool> && !is_put(function) && !is_lock(function)) {
+            throw std::logic_error(std::string("a bool is no reply of ") + function + ": give a std::optional of the reply");
+        }
         invoke(object, function, std::move(argument));
         auto reply = act();
         if (!reply) {
@@ -177,6 +184,20 @@ private:
         return function == "enqueue" || function == "push" || function == "insert" || function == "write";
     }
 
+    // Whether the reply of a function is nil.
+    static bool is_lock(const std::string &function) { return function == "acquire" || function == "release"; }
+
+    // Throws where the reply of a call is to be its argument, and is not.
+    void want_replies() const {
+        for (std::size_t at = 1; at < events_.size(); at++) {
+            const Event &call = events_[at - 1], &end = events_[at];
+            if (end.type == std::string("ok") && is_put(end.function) && end.value.text() != call.value.text()) {
+                throw std::logic_error(end.function + (" replied " + end.value.text()) + " and not its argument " + call.value.text()
+                    + ": let the call give nothing");
+            }
+        }
+    }
+
     // The ticket of a return is drawn first.
     std::uint64_t ended() {
         if (!is_pending_) {
@@ -205,7 +226,7 @@ public:
     Journal journal() { return Journal(tickets_, processes_); }
 
     // The history, after all threads have ended: each event at the place of its ticket. It takes all journals: without the calls
-    // of one of them a correct object could get a no.
+    // of one of them a correct object could get a no. So it throws where some are missing, also those of a history made before.
     std::string history(std::vector<Journal> &journals) {
         for (Journal &journal : journals) {
             if (journal.tickets_ != &tickets_) {
@@ -214,6 +235,7 @@ public:
             if (journal.is_pending_) {
                 journal.gave_up();
             }
+            journal.want_replies();
         }
         std::vector<const Event *> events(tickets_, nullptr);
         for (const Journal &journal : journals) {
@@ -223,7 +245,8 @@ public:
         }
         const auto missing = std::count(events.begin(), events.end(), nullptr);
         if (missing != 0) {
-            throw std::logic_error(std::to_string(missing) + " events are missing: a journal was not handed in");
+            throw std::logic_error(std::to_string(missing)
+                + " events are missing: a journal was not handed in, or this recorder already made a history");
         }
         std::string text;
         for (const Event *event : events) {

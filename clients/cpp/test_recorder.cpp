@@ -178,7 +178,7 @@ static void a_journal_that_is_not_handed_in() {
     }).join();
     journals[0].call("dequeue", std::nullopt, [] { return 7; });
     const std::string missing = message_of([&] { return recorder.history(journals); });
-    want(missing == "3 events are missing: a journal was not handed in", "a journal was not handed in", missing);
+    want(missing == "3 events are missing: a journal was not handed in, or this recorder already made a history", "a journal was not handed in", missing);
     const std::string foreign = message_of([&] { return another.history(journals); });
     want(foreign == "a journal of another recorder was handed in", "a journal of another recorder", foreign);
     static_assert(!std::is_copy_constructible_v<fcbench::Journal>, "a copy would take calls with it");
@@ -199,6 +199,63 @@ static void replies_of_calls_that_give_nothing() {
     journals[0].call_on(object, "release", std::nullopt, [] {});
     const auto answer = fcbench::judge(recorder.history(journals));
     want(answer.lines().rfind("yes: 10 operations", 0) == 0, "calls that give nothing", answer.lines());
+}
+
+// A reply that is not the argument, as a length, is refused.
+static void a_reply_that_is_not_the_argument() {
+    fcbench::Recorder recorder;
+    std::vector<fcbench::Journal> journals;
+    journals.push_back(recorder.journal());
+    journals[0].call("enqueue", 7, [] {});
+    journals[0].call("enqueue", 8, [] { return 2; });
+    const std::string said = message_of([&] { return recorder.history(journals); });
+    want(said == "enqueue replied 2 and not its argument 8: let the call give nothing", "a reply that is not the argument", said);
+}
+
+// A queue whose pop gives a bool, and writes what it took.
+class PopQueue {
+public:
+    bool try_push(int value) { return values_.push_back(value), true; }
+    bool try_pop(int &out) {
+        if (values_.empty()) {
+            return false;
+        }
+        out = values_.front();
+        values_.erase(values_.begin());
+        return true;
+    }
+
+private:
+    std::vector<int> values_;
+};
+
+// A bool is no reply of dequeue: written as nil, a right queue would get a no.
+static void calls_that_give_a_bool() {
+    fcbench::Recorder recorder;
+    std::vector<fcbench::Journal> journals;
+    journals.push_back(recorder.journal());
+    fcbench::Journal &journal = journals[0];
+    PopQueue queue;
+    journal.try_call("enqueue", 7, [&] { return queue.try_push(7); });
+    for (const char *function : {"dequeue", "read", "cas", "put"}) {
+        const std::string said = message_of([&] { journal.try_call(function, std::nullopt, [&] { int out; return queue.try_pop(out); }); });
+        const std::string wanted = std::string("a bool is no reply of ") + function + ": give a std::optional of the reply";
+        want(said == wanted, "a bool is no reply", said);
+    }
+    journal.call("dequeue", std::nullopt, [&] { int out; return queue.try_pop(out) ? std::optional(out) : std::nullopt; });
+    journal.call("dequeue", std::nullopt, [&] { int out; return queue.try_pop(out) ? std::optional(out) : std::nullopt; });
+    journal.try_call_on(1, "acquire", std::nullopt, [] { return true; });
+    const std::string text = recorder.history(journals);
+    want(text == "{:process 0, :type :invoke, :f :enqueue, :value 7, :object 0}\n"
+                 "{:process 0, :type :ok, :f :enqueue, :value 7, :object 0}\n"
+                 "{:process 0, :type :invoke, :f :dequeue, :value nil, :object 0}\n"
+                 "{:process 0, :type :ok, :f :dequeue, :value 7, :object 0}\n"
+                 "{:process 0, :type :invoke, :f :dequeue, :value nil, :object 0}\n"
+                 "{:process 0, :type :ok, :f :dequeue, :value nil, :object 0}\n"
+                 "{:process 0, :type :invoke, :f :acquire, :value nil, :object 1}\n"
+                 "{:process 0, :type :ok, :f :acquire, :value nil, :object 1}\n",
+         "calls that give a bool", text);
+    want(fcbench::judge(text).is_yes(), "a queue whose pop gives a bool is linearizable", text);
 }
 
 // A call that surely failed, and one in steps that timed out, failed or returned.
@@ -257,6 +314,8 @@ int main(int count, char **words) {
     the_example_at_the_head();
     a_journal_that_is_not_handed_in();
     replies_of_calls_that_give_nothing();
+    a_reply_that_is_not_the_argument();
+    calls_that_give_a_bool();
     pending_calls();
     failed_calls_and_steps();
     values();

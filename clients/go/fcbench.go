@@ -45,6 +45,9 @@ type Answer struct {
 // IsYes says whether the verdict is Yes.
 func (a Answer) IsYes() bool { return a.Verdict == Yes }
 
+// IsNo says whether the verdict is No.
+func (a Answer) IsNo() bool { return a.Verdict == No }
+
 // Reasons gives the reasons among the lines, as Refute reads them: of each line that begins with "; {" what follows the "; ".
 func (a Answer) Reasons() string {
 	var reasons strings.Builder

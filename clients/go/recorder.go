@@ -22,8 +22,10 @@ import (
 //
 // A journal that is not handed to History takes its calls with it: History panics then.
 //
-// The reply of enqueue, push, insert and write is their argument: where the call gives Nil, the argument is written. The reply of
-// cas is its pair where it swapped, else False.
+// The reply of enqueue, push, insert and write is their argument: where the call gives Nil, the argument is written. History panics
+// where the call gives anything else, as a length. The reply of cas is its pair where it swapped, else False.
+//
+// An empty queue is a reply and no failure: where Dequeue gives (int64, bool), give Nil where the bool is false, and use Call.
 //
 // A call that does not return, as one that panics or times out, may have happened: its operation ends with :info, and the
 // journal goes on as a new process, as Jepsen's threads do. Use Failed and an error of TryCall only where the call surely did not
@@ -152,7 +154,8 @@ func isPut(function string) bool {
 }
 
 // History is the history, after all goroutines have ended: each event at the place of its ticket. It panics where it is not handed
-// each journal of this recorder once: without the calls of one of them a correct object could get a no.
+// each journal of this recorder once, also those of a history that it made before: without the calls of one of them a correct
+// object could get a no.
 func (r *Recorder) History(journals []*Journal) string {
 	var events []event
 	for _, journal := range journals {
@@ -162,6 +165,7 @@ func (r *Recorder) History(journals []*Journal) string {
 		if journal.isPending {
 			journal.GaveUp()
 		}
+		journal.wantReplies()
 		events = append(events, journal.events...)
 	}
 	sort.Slice(events, func(a, b int) bool { return events[a].ticket < events[b].ticket })
@@ -176,6 +180,16 @@ func (r *Recorder) History(journals []*Journal) string {
 	return text.String()
 }
 
+// wantReplies panics where the reply of a call is to be its argument, and is not.
+func (j *Journal) wantReplies() {
+	for at := 1; at < len(j.events); at++ {
+		call, end := j.events[at-1], j.events[at]
+		if end.kind == "ok" && isPut(end.function) && end.value != call.value {
+			panic(fmt.Sprintf("%s replied %s and not its argument %s: let the call give Nil", end.function, end.value, call.value))
+		}
+	}
+}
+
 // wantEach panics where the tickets of these events are not all tickets.
 func (r *Recorder) wantEach(events []event) {
 	for at := range events {
@@ -184,6 +198,6 @@ func (r *Recorder) wantEach(events []event) {
 		}
 	}
 	if missing := atomic.LoadInt64(&r.tickets) - int64(len(events)); missing != 0 {
-		panic(fmt.Sprintf("%d events are missing: a journal was not handed in", missing))
+		panic(fmt.Sprintf("%d events are missing: a journal was not handed in, or this recorder already made a history", missing))
 	}
 }

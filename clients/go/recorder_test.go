@@ -155,7 +155,7 @@ func TestJournalThatIsNotHandedIn(t *testing.T) {
 	lost.Call("enqueue", Number(7), func() Value { return Nil })
 	lost.Invoke(0, "enqueue", Number(8))
 	kept.Call("dequeue", Nil, func() Value { return Number(7) })
-	wantMessage(t, "3 events are missing: a journal was not handed in", func() { recorder.History([]*Journal{kept}) })
+	wantMessage(t, "3 events are missing: a journal was not handed in, or this recorder already made a history", func() { recorder.History([]*Journal{kept}) })
 	wantMessage(t, "a journal was handed in twice", func() { recorder.History([]*Journal{kept, kept}) })
 	wantMessage(t, "a journal of another recorder was handed in", func() { (&Recorder{}).History([]*Journal{kept}) })
 	if answer := Judge(recorder.History([]*Journal{kept, lost})); !answer.IsYes() {
@@ -177,6 +177,16 @@ func TestRepliesOfCallsThatGiveNothing(t *testing.T) {
 	if answer := Judge(text); !strings.HasPrefix(answer.Lines, "yes: 10 operations") || strings.Count(text, ":value nil") != 4 {
 		t.Fatal(answer, text)
 	}
+}
+
+// A reply that is not the argument, as a length, is refused.
+func TestReplyThatIsNotTheArgument(t *testing.T) {
+	recorder := &Recorder{}
+	journal := recorder.Journal()
+	journal.Call("enqueue", Number(7), func() Value { return Nil })
+	journal.Call("enqueue", Number(8), func() Value { return Number(2) })
+	wanted := "enqueue replied 2 and not its argument 8: let the call give Nil"
+	wantMessage(t, wanted, func() { recorder.History([]*Journal{journal}) })
 }
 
 // A call in steps: one that timed out, one that failed, and one that returned.

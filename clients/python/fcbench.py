@@ -35,6 +35,9 @@ class Answer(typing.NamedTuple):
     def is_yes(self):
         return self.verdict is Verdict.YES
 
+    def is_no(self):
+        return self.verdict is Verdict.NO
+
     def reasons(self):
         """The reasons among the lines, as refute reads them: of each line that begins with `; {` what follows the `; `."""
         return "".join(line[2:] for line in self.lines.splitlines(keepends=True) if line.startswith("; {"))

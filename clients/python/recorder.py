@@ -4,9 +4,17 @@
     journals = [recorder.journal(), recorder.journal()]  # before the threads, one for each
     # in a thread, which has its journal:
     journal.call("enqueue", 7, lambda: queue.put(7))
-    journal.call("dequeue", None, lambda: queue.get(block=False))
+    journal.call("dequeue", None, dequeue)
     # after the threads have ended:
     text = recorder.history(journals)
+
+An empty queue is a reply and no error, so a `get` that raises at an empty queue is called by a function that gives None:
+
+    def dequeue():
+        try:
+            return queue.get(block=False)
+        except queues.Empty:
+            return None
 
 A counter gives a ticket before each call and one after it: next() of itertools.count is one step in CPython. A thread writes into its
 own journal and takes no lock. The events in the order of their tickets are the history: where one call returned before another was
@@ -14,8 +22,8 @@ invoked in the history, it did so in fact. So a history that is not linearizable
 
 A journal that is not handed to `history` takes its calls with it: `history` raises ValueError then.
 
-The reply of enqueue, push, insert and write is their argument: where the call gives None, the argument is written. The reply of cas is its
-pair where it swapped, else False.
+The reply of enqueue, push, insert and write is their argument: where the call gives None, the argument is written. `history` raises
+ValueError where it gives anything else, as a length. The reply of cas is its pair where it swapped, else False.
 
 A call that does not return, as one that raises or times out, may have happened: its operation ends with :info, and the journal goes on
 as a new process, as Jepsen's threads do. One that surely did not happen raises Failed, or one of the errors that are given to try_call: its
@@ -96,6 +104,14 @@ class Journal:
             raise ValueError("no call is outstanding")
         return next(self.recorder.tickets), *self.events[-1][3:]
 
+    def _want_replies(self):
+        """Raises ValueError where the reply of a call is to be its argument, and is not."""
+        for call, end in zip(self.events, self.events[1:]):
+            _, _, kind, function, reply, _ = end
+            said, wanted = text_of(reply), text_of(call[4])
+            if kind == "ok" and function in PUTS and said != wanted:
+                raise ValueError(f"{function} replied {said} and not its argument {wanted}: let the call give None")
+
     def _end(self, ticket, kind, function, value, number):
         self.events.append((ticket, self.process, kind, function, value, number))
         self.is_pending = False
@@ -113,7 +129,8 @@ class Recorder:
 
     def history(self, journals):
         """The history, each event at the place of its ticket. A thread that is still in a call has left it pending. It takes each journal
-        of this recorder once: without the calls of one of them a correct object could get a no."""
+        of this recorder once, also those of a history that it made before: without the calls of one of them a correct object could get a
+        no."""
         journals = list(journals)
         if any(journal.recorder is not self for journal in journals):
             raise ValueError("a journal of another recorder was handed in")
@@ -122,10 +139,11 @@ class Recorder:
         for journal in journals:
             if journal.is_pending:
                 journal.gave_up()
+            journal._want_replies()
         events = sorted((event for journal in journals for event in journal.events), key=lambda event: event[0])
         missing = self._drawn() - len(events)
         if missing:
-            raise ValueError(f"{missing} events are missing: a journal was not handed in")
+            raise ValueError(f"{missing} events are missing: a journal was not handed in, or this recorder already made a history")
         return "".join(
             f"{{:process {process}, :type :{kind}, :f :{function}, :value {text_of(value)}, :object {number}}}\n"
             for _, process, kind, function, value, number in events

@@ -35,6 +35,7 @@ class Calls(unittest.TestCase):
     def test_no(self):
         answer = fcbench.judge(OLD_READ)
         self.assertEqual(answer.verdict, Verdict.NO)
+        self.assertTrue(answer.is_no() and not answer.is_yes() and not fcbench.judge(QUEUE).is_no())
         self.assertTrue(answer.lines.startswith("; object 0: impossible\n"))
         reason = answer.lines.splitlines()[-1].removeprefix("; ")
         self.assertEqual(fcbench.refute(OLD_READ, reason).verdict, Verdict.NO)

@@ -121,7 +121,14 @@ class Queues(unittest.TestCase):
         journals = [recorder.journal(), recorder.journal()]  # before the threads, one for each
         journal = journals[0]
         journal.call("enqueue", 7, lambda: queue.put(7))
-        journal.call("dequeue", None, lambda: queue.get(block=False))
+
+        def dequeue():
+            try:
+                return queue.get(block=False)
+            except queues.Empty:
+                return None
+
+        journal.call("dequeue", None, dequeue)
         text = recorder.history(journals)
         wanted = """{:process 0, :type :invoke, :f :enqueue, :value 7, :object 0}
 {:process 0, :type :ok, :f :enqueue, :value 7, :object 0}
@@ -130,6 +137,8 @@ class Queues(unittest.TestCase):
 """
         self.assertEqual(text, wanted)
         self.assertEqual(recorder.history(journals), wanted)
+        self.assertIsNone(journal.call("dequeue", None, dequeue))
+        self.assertIn(":type :ok, :f :dequeue, :value nil", recorder.history(journals))
 
     def test_lines_of_the_tutorial(self):
         recorder = Recorder()
@@ -146,7 +155,7 @@ class Queues(unittest.TestCase):
         lost.invoke("enqueue", 8)
         kept.call("dequeue", None, lambda: 7)
         for _ in range(2):
-            with self.assertRaisesRegex(ValueError, "^3 events are missing: a journal was not handed in$"):
+            with self.assertRaisesRegex(ValueError, "^3 events are missing: a journal was not handed in, or this recorder already made a history$"):
                 recorder.history([kept])
         with self.assertRaisesRegex(ValueError, "^a journal was handed in twice$"):
             recorder.history([kept, lost, kept])
@@ -165,6 +174,16 @@ class Queues(unittest.TestCase):
         text = recorder.history([journal])
         self.assertEqual(text.count(":value nil"), 4, text)
         self.assertTrue(fcbench.judge(text).lines.startswith("yes: 10 operations"), text)
+
+    def test_reply_that_is_not_the_argument(self):
+        """As a length, or a bool that says that it was done."""
+        for reply, said in ((2, "2"), (True, "True"), (False, "false")):
+            recorder = Recorder()
+            journal = recorder.journal()
+            journal.call("enqueue", 7, lambda: None)
+            journal.call("enqueue", 1, lambda: reply)
+            with self.assertRaisesRegex(ValueError, f"^enqueue replied {said} and not its argument 1: let the call give None$"):
+                recorder.history([journal])
 
     def test_steps(self):
         """A call in steps: one that timed out, one that failed, and one that returned."""

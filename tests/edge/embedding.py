@@ -240,9 +240,9 @@ def rust_callers(program, report):
     package = ["--quiet", "--offline", "--manifest-path", f"{CLIENTS}/rust/Cargo.toml"]
     words, elsewhere = ["cargo", "test", *package], {**os.environ, "CARGO_TARGET_DIR": f"{program.room}/cargo", "FCBENCH_LIB": EXAMPLES}
     said = done(report, "Rust: the tests of the package", words, CARGO_TARGET_DIR=f"{program.room}/cargo", FCBENCH_LIB=OUT, FCBENCH_RUNS=str(RUNS), RUSTFLAGS="-D warnings")
-    report.equal("embedding: Rust: how many tests passed", 24, sum(map(int, re.findall(r"(\d+) passed", said))), said[-2000:])
+    report.equal("embedding: Rust: how many tests passed", 27, sum(map(int, re.findall(r"(\d+) passed", said))), said[-2000:])
     ran = subprocess.run(["cargo", "check", *package], env=elsewhere, capture_output=True, text=True)
-    advice = f"libfcbench.a is not in {EXAMPLES}: run clients/build, or set FCBENCH_LIB"
+    advice = f"libfcbench.a is not in {EXAMPLES}: run clients/build, or set FCBENCH_LIB to the absolute path of its folder"
     report.holds("embedding: Rust: what is said where the library is missing", ran.returncode != 0 and advice in ran.stderr, ran.stderr[-2000:])
     return None
 
@@ -252,7 +252,7 @@ def python_callers(program, report):
     said = ""
     for name in ("judge", "recorder"):
         said += done(report, f"Python: test_{name}.py", [f"{CLIENTS}/python/test_{name}.py"], "\nOK", FCBENCH_SO=SHARED, FCBENCH_RUNS=str(RUNS), PYTHONDONTWRITEBYTECODE="1")
-    report.equal("embedding: Python: how many tests ran", ["9", "8"], re.findall(r"Ran (\d+) tests", said), said[-2000:])
+    report.equal("embedding: Python: how many tests ran", ["9", "9"], re.findall(r"Ran (\d+) tests", said), said[-2000:])
 
 
 def go_callers(program, report):
@@ -261,7 +261,7 @@ def go_callers(program, report):
         return missing("go", "gcc")
     env = {"CGO_CFLAGS": f"-O2 -I{ROOT}/include", "CGO_LDFLAGS": LIBRARY, "GOCACHE": f"{program.room}/go", "GOFLAGS": "-mod=mod", "FCBENCH_RUNS": str(RUNS)}
     said = done(report, "Go: the tests of the package", ["go", "test", "-count=1", "-v", "."], "\nok ", FOLDER=f"{CLIENTS}/go", **env)
-    report.equal("embedding: Go: how many tests passed", 14, said.count("--- PASS"), said[-2000:])
+    report.equal("embedding: Go: how many tests passed", 15, said.count("--- PASS"), said[-2000:])
     return None
 
 
