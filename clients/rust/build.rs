@@ -14,7 +14,8 @@ fn main() {
     println!("cargo:rerun-if-env-changed=FCBENCH_LIB");
     if !folder.join("libfcbench.a").exists() {
         let folder = env::current_dir().map_or(folder.clone(), |from| from.join(&folder));
-        eprintln!("libfcbench.a is not in {}: run clients/build, or set FCBENCH_LIB to the absolute path of its folder", folder.display());
+        let advice = "run clients/build, or set FCBENCH_LIB to the absolute path of its folder";
+        eprintln!("libfcbench.a is not in {}: {advice}", folder.display());
         process::exit(1);
     }
     println!("cargo:rustc-link-search=native={}", folder.display());

@@ -240,7 +240,7 @@ def rust_callers(program, report):
     package = ["--quiet", "--offline", "--manifest-path", f"{CLIENTS}/rust/Cargo.toml"]
     words, elsewhere = ["cargo", "test", *package], {**os.environ, "CARGO_TARGET_DIR": f"{program.room}/cargo", "FCBENCH_LIB": EXAMPLES}
     said = done(report, "Rust: the tests of the package", words, CARGO_TARGET_DIR=f"{program.room}/cargo", FCBENCH_LIB=OUT, FCBENCH_RUNS=str(RUNS), RUSTFLAGS="-D warnings")
-    report.equal("embedding: Rust: how many tests passed", 27, sum(map(int, re.findall(r"(\d+) passed", said))), said[-2000:])
+    report.equal("embedding: Rust: how many tests passed", 28, sum(map(int, re.findall(r"(\d+) passed", said))), said[-2000:])
     ran = subprocess.run(["cargo", "check", *package], env=elsewhere, capture_output=True, text=True)
     advice = f"libfcbench.a is not in {EXAMPLES}: run clients/build, or set FCBENCH_LIB to the absolute path of its folder"
     report.holds("embedding: Rust: what is said where the library is missing", ran.returncode != 0 and advice in ran.stderr, ran.stderr[-2000:])

@@ -357,6 +357,38 @@ fn replies_of_other_types() {
     assert_eq!(values, ["5, :object 0}", "5, :object 0}", "3, :object 1}", "3, :object 1}"]);
 }
 
+#[derive(Clone, Copy, Debug, PartialEq)]
+struct Task {
+    id: u64,
+}
+
+#[derive(Default)]
+struct Tasks(Mutex<VecDeque<Task>>);
+
+impl Tasks {
+    fn enqueue(&self, task: Task) {
+        self.0.lock().unwrap().push_back(task);
+    }
+
+    fn dequeue(&self) -> Option<Task> {
+        self.0.lock().unwrap().pop_front()
+    }
+}
+
+/// A type without traits: the call says what is written.
+#[test]
+fn values_made_in_the_call() {
+    let (recorder, queue, job) = (Recorder::new(), Tasks::default(), Task { id: 7 });
+    let mut journal = recorder.journal();
+    for _ in 0..2 {
+        journal.call_as(0, "enqueue", Value::number(job.id), || queue.enqueue(job), |_| Value::Nil);
+        journal.call_as(0, "dequeue", (), || queue.dequeue(), |job| job.map_or(Value::Nil, |job| Value::number(job.id)));
+    }
+    let text = recorder.history(&[journal]);
+    assert_eq!(text.matches(":value 7").count(), 6, "{text}");
+    assert!(judge(&text).is_yes());
+}
+
 #[test]
 fn a_map() {
     let recorder = Recorder::new();
