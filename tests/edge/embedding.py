@@ -4,6 +4,7 @@ import os
 import re
 import shutil
 import subprocess
+import sys
 
 from .running import EXAMPLES, ROOT, Program, Ran, at_once
 
@@ -98,9 +99,31 @@ def uses_of(part, path):
     return re.findall(rf"\t(\w+) [^\n]*\n\t+[0-9a-f]+: R_\w+\t{re.escape(part)}\b", code), len(re.findall(rf" {re.escape(part)}\b", places))
 
 
+def without_the_kit(program, report):
+    """A program and a library that are built need no kit on the PATH. Where the program is to be built, ./fcbench says that the kit is missing."""
+    top, bare = f"{program.room}/built", {**os.environ, "PATH": "/usr/bin:/bin"}
+    for it in ("out", "src", "specs", "proofs"):
+        os.makedirs(f"{top}/crates/fcbench/{it}")
+    for it in ("fcbench", "crates.txt"):
+        shutil.copy(f"{ROOT}/{it}", top)
+    run = lambda *words: subprocess.run(words, env=bare, capture_output=True, text=True)  # noqa: E731
+    if shutil.which("rt", path=bare["PATH"]):
+        return
+    advice = "fcbench: rt, the command of the Rattle kit, is not on the PATH\n"
+    for words in (("--version",), ("--unproved", "--version")):
+        ran = run("bash", f"{top}/fcbench", *words)
+        report.equal(f"embedding: ./fcbench {words[0]} that is not built, without the kit", (127, "", advice), (ran.returncode, ran.stdout, ran.stderr))
+    shutil.copy(program.path, f"{top}/crates/fcbench/out/fcbench")
+    ran = run("bash", f"{top}/fcbench", "--version")
+    report.holds("embedding: ./fcbench that is built, without the kit", ran.returncode == 0 and ran.stdout and not ran.stderr, ran)
+    ran = run(sys.executable, f"{CLIENTS}/build")
+    report.equal("embedding: a library that is built, without the kit", (0, ""), (ran.returncode, ran.stderr))
+
+
 def library(program, report):
-    """The library is built where it is missing, has four names, calls only what allocates and copies, and has no state."""
+    """The library is built where it is missing, needs no kit then, has four names, calls only what allocates and copies, and has no state."""
     done(report, "the library is built", [f"{CLIENTS}/build"], seconds=SECONDS_TO_PROVE)
+    without_the_kit(program, report)
     defined = "ABCDGRSTVWuvw"
     for path, words in ((LIBRARY, ["-g", "--defined-only"]), (SHARED, ["-D", "--defined-only"])):
         report.equal(f"embedding: what {os.path.basename(path)} exports", EXPORTS, names_of(path, defined, *words))
