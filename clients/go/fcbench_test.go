@@ -39,7 +39,7 @@ func TestYes(t *testing.T) {
 func TestNo(t *testing.T) {
 	answer := Judge(oldRead)
 	lines := strings.Split(strings.TrimSpace(answer.Lines), "\n")
-	if answer.Verdict != No || lines[0] != "; object 0: impossible" {
+	if !answer.IsNo() || answer.Verdict != No || lines[0] != "; object 0: impossible" {
 		t.Fatal(answer)
 	}
 	reason := strings.TrimPrefix(lines[len(lines)-1], "; ")
@@ -59,7 +59,7 @@ func TestReasons(t *testing.T) {
 	if Refute(two, reasons).Verdict != No || RefuteWithSteps(two, reasons, Steps).Verdict != No || Refute(queueHistory, reasons).IsYes() {
 		t.Fatal(reasons)
 	}
-	if answer := Judge(queueHistory); !answer.IsYes() || answer.Reasons() != "" {
+	if answer := Judge(queueHistory); !answer.IsYes() || answer.IsNo() || answer.Reasons() != "" {
 		t.Fatal(answer)
 	}
 }
