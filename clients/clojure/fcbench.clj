@@ -6,7 +6,7 @@
     (fcbench/check {} test history opts)                      ; {:valid? .., :reason [..]}
     (fcbench/profile (fcbench/read-history \"history.edn\"))    ; {:text .., :keys ..}
 
-    clojure -cp FOLDER -m fcbench history.edn > profile.edn   ; the text alone
+    clojure -cp FOLDER -m fcbench history.edn > judged.edn    ; the text alone
 
   A history is a sequence of operation maps, as Jepsen has it in memory or in history.edn of its store. Each operation becomes
   one map of the text, in its place. Of the nemesis, and of others whose process is a keyword, only the process is
@@ -116,7 +116,7 @@
   [op value shape what keyed?]
   (refuse op (pr-str value) " can't be the " what " of " (:f op) ", which is " (descriptions shape)
           (when (and (vector? value) (= 2 (count value)) (not keyed?))
-            ". Where it is a tuple of jepsen.independent, say {:independent? true}")))
+            ". If it is a tuple of jepsen.independent, use {:independent? true}, or --independent on the command line")))
 
 ;; From operations to events: {:process :type :f :value :object :op}, where :object is [:key k] or [:object x], and :value is
 ;; a value, a pair of them, ::nil or ::false
@@ -146,7 +146,7 @@
 
 (defn- function-of [{:keys [f] :as op}]
   (or (get functions f)
-      (refuse op (pr-str f) " is no function of the profile")))
+      (refuse op (pr-str f) " is not one of the fourteen functions")))
 
 (defn- is-tuple? [{:keys [independent?]} {:keys [value]}]
   (or (instance? MapEntry value) (and independent? (vector? value) (= 2 (count value)))))
@@ -421,11 +421,30 @@
          (when (some identity (map index-of places operations))
            (str " (:index " (words (map :index operations)) ")")))))
 
+(defn- others-of
+  "The numbers that stand for any other value in the part that this line names, and the words for them. The line is a reason."
+  [line]
+  (into {} (for [{k :key, :keys [cell other]} (:cuts (read-or-text (subs line 2)))
+                 :when (and other (not (some #{other} (when (vector? cell) cell))))]
+             [other (if k "another value, or of none" "another value")])))
+
+(defn- counted-told
+  "What a part counts an operation as, with the names of values. Of a write of any other value the number says nothing."
+  [{:keys [values others]} counted]
+  (let [[_ call end] (re-matches #", counted as (.*?)(, pending|, failed)?" counted)
+        [_ number] (re-matches #":write (-?\d+)(?:, :ok -?\d+)?" call)
+        other (when number (get others (Long/parseLong number)))]
+    (str ", counted as "
+         (if other
+           (str "a write of " other)
+           (string/replace call #"-?\d+" #(if (contains? others (Long/parseLong %)) "other" (named values %))))
+         end)))
+
 (defn- operation-told
   "A line of an operation, as: maps 4 and 9: process 2, :dequeue nil, :ok 7."
   [{:keys [before values] :as how} [_ maps numbers process call counted]]
   (let [numbers (re-seq #"\d+" numbers)
-        words (str (with-names values call) counted)]
+        words (str (with-names values call) (when counted (counted-told how counted)))]
     (if (< (Long/parseLong (first numbers)) before)
       (str "the initial value: " words)
       (str maps " " (places-words how numbers) ": process " process ", " words))))
@@ -447,8 +466,14 @@
       operation (operation-told how operation)
       :else (sentence-told how text))))
 
-(defn- lines-told [how text]
-  (mapv #(told how %) (remove string/blank? (string/split-lines text))))
+(defn- lines-told
+  "The lines in the words of the history. The reason of an object is after the operations that it counts, so the last line is first."
+  [how text]
+  (loop [lines (reverse (remove string/blank? (string/split-lines text))), others {}, after ()]
+    (if-let [[line & more] (seq lines)]
+      (let [others (if (string/starts-with? line "; {") (others-of line) others)]
+        (recur more others (conj after (told (assoc how :others others) line))))
+      (vec after))))
 
 ;; The program
 
@@ -576,13 +601,21 @@
    (for [[number value] values] (str "; value " number " is " (in-ascii value) "\n"))
    (when (pos? before) [(str "; the first " before " maps are initial values: map N is operation N - " before "\n")])))
 
+(defn- operations-of
+  "The operations of a file. One without any, as a file that a shell has emptied, is refused: its verdict would be a yes."
+  [file]
+  (let [history (read-history file)]
+    (when (every? #(keyword? (:process %)) history)
+      (throw (ex-info (str file ": no operation of a client; " expected) {::refused true})))
+    history))
+
 (defn command
   "What the command with these words writes and says, and its status: that of fcbench for a malformed text, an unreadable file and
   strange words."
   [words]
   (if-let [[options file] (words-read words)]
     (try
-      (let [{:keys [text] :as made} (profile (read-history file) options)]
+      (let [{:keys [text] :as made} (profile (operations-of file) options)]
         {:out (str (apply str (comments made)) text), :err "", :status 0})
       (catch ExceptionInfo error {:out "", :err (str (.getMessage error) "\n"), :status 2})
       (catch IOException error {:out "", :err (str "cannot read " (.getMessage error) "\n"), :status 4}))

@@ -129,7 +129,7 @@
   (is (false? (:valid? (judged (concat (done 0 :acquire nil 1) (done 1 :acquire nil 2)))))))
 
 (deftest what-the-profile-lacks
-  (is (= {:valid? :unknown, :reason ["operation 0: :txn is no function of the profile"]}
+  (is (= {:valid? :unknown, :reason ["operation 0: :txn is not one of the fourteen functions"]}
          (judged [{:process 0, :type :invoke, :f :txn, :value [[:r 1 nil]]}])))
   (is (= {:valid? :unknown, :reason ["operation 1: #{1} can't be the reply of :read, which is an integer, string or keyword, or nil"]}
          (judged [{:process 0, :type :invoke, :f :read, :value nil} {:process 0, :type :ok, :f :read, :value #{1}}])))
@@ -183,7 +183,7 @@
   (is (= "operation 0: 3 can't be the argument of :acquire, which is nil" (refused (done 0 :acquire 3 nil))))
   ;; Locks of several keys are not one lock.
   (is (= (str "operation 0: [1 nil] can't be the argument of :acquire, which is nil. "
-              "Where it is a tuple of jepsen.independent, say {:independent? true}")
+              "If it is a tuple of jepsen.independent, use {:independent? true}, or --independent on the command line")
          (refused (concat (done 0 :acquire [1 nil] [1 nil]) (done 1 :acquire [2 nil] [2 nil])))))
   (is (= "operation 0: -1 can't be a :process, which is an integer of at least 0, or a keyword" (refused (done -1 :read nil nil))))
   (is (= "operation 0: :done can't be a :type, which is :invoke, :ok, :fail or :info" (refused [(op 0 :done :read nil)])))
@@ -221,11 +221,11 @@
         {:keys [reason] :as answer} (judged (at (range)))]
     (is (= ["object 1, which is key 16: impossible"
             "value 1 was read after another content had replaced it"
-            "maps 4 and 5: process 0, :write 2, :ok 2, counted as :write 0, :ok 0"
+            "maps 4 and 5: process 0, :write 2, :ok 2, counted as a write of another value"
             "maps 6 and 7: process 1, :read nil, :ok 1"]
            (butlast reason)))
     (is (= {0 7, 1 16} (:keys answer)))
-    (is (= ["maps 4 and 5 (:index 104 and 105): process 0, :write 2, :ok 2, counted as :write 0, :ok 0"
+    (is (= ["maps 4 and 5 (:index 104 and 105): process 0, :write 2, :ok 2, counted as a write of another value"
             "maps 6 and 7 (:index 106 and 107): process 1, :read nil, :ok 1"]
            (subvec (:reason (judged (at (range 100 200)))) 2 4)))
     (is (= (last reason) (last (:reason (judged (at (range 100 200)))))))
@@ -289,6 +289,34 @@
     (is (= (str "operation 3: \"3\" " odd) (refused (concat (done 0 :enqueue 3 3) (done 0 :dequeue nil "3")))))
     (is (= (str "operation 3: \"a\" " odd) (refused (concat (done 0 :enqueue :a :a) (done 0 :dequeue nil "a")))))
     (is (= (str "operation 3: 3 " odd) (refused (concat (done 0 :enqueue "3" "3") (done 0 :dequeue nil 3)))))))
+
+(deftest what-is-counted-as-another
+  (let [lines-of (fn [history & [options]] (filter #(string/includes? % "counted as") (:reason (judged history options))))
+        write #(done 0 :write % nil)]
+    ;; The number of an other value may be that of a name, which it does not mean.
+    (is (= ["maps 4 and 5: process 0, :write \"b\", :ok \"b\", counted as a write of another value"]
+           (lines-of (concat (write "z") (write "a") (write "b") (done 1 :read nil "a")))))
+    (is (= ["maps 2 and 3: process 0, :put [\"k\" \"b\"], :ok \"a\", counted as a write of another value, or of none"
+            "maps 4 and 5: process 0, :get \"k\", :ok \"a\", counted as :read nil, :ok \"a\""]
+           (lines-of (concat (done 0 :put ["k" "a"] nil) (done 0 :put ["k" "b"] "a") (done 0 :get "k" "a"))))))
+  ;; The numbers of values keep their meaning, and those of another object have no part in it.
+  (is (= ["object 0: impossible"
+          "map 4: process 0, :cas [\"z\" \"a\"], counted as :write \"a\", pending"
+          "maps 6 and 7: process 1, :del \"k\", :ok \"a\", counted as :cas [\"a\" other], :ok [\"a\" other]"
+          "{:object 0, :cuts [{:cell [1], :key 3, :other 0} {:from 2}]}"
+          "object 1: impossible"
+          "maps 8 and 9: process 0, :write \"a\", :ok \"a\", counted as :write \"z\", :ok \"z\""
+          "{:object 1, :cuts [{:cell [0], :other 0} {:until 7}]}"]
+         (#'fcbench/lines-told
+          {:before 0, :history [], :keys {}, :values {0 "z", 1 "a", 3 "k"}}
+          "; object 0: impossible
+; map 4: process 0, :cas [0 1], counted as :write 1, pending
+; maps 6 and 7: process 1, :del 3, :ok 1, counted as :cas [1 0], :ok [1 0]
+; {:object 0, :cuts [{:cell [1], :key 3, :other 0} {:from 2}]}
+; object 1: impossible
+; maps 8 and 9: process 0, :write 1, :ok 1, counted as :write 0, :ok 0
+; {:object 1, :cuts [{:cell [0], :other 0} {:until 7}]}
+"))))
 
 (deftest failed-operations-that-reply
   (let [empty-one [(op 0 :invoke :dequeue nil) (assoc (op 0 :fail :dequeue nil) :error :empty)]
@@ -391,6 +419,10 @@
     (is (string/includes? (:out (command "0\t:invoke\t:pop\tnil\n0\t:fail\t:pop\tnil\t:empty\n" "--fail-is-reply")) ":type :ok, :f :pop"))
     (is (= 2 (:status (command tuples))))
     (is (string/starts-with? (:err (command tuples)) "operation 0: [\"k\" \"café\"] can't be the argument of :write"))
+    (doseq [text ["" "\n" "[]" "; nothing\n" "{:process :nemesis, :type :info, :f :start}"]]
+      (let [{:keys [out err status]} (command text)]
+        (is (= ["" 2] [out status]))
+        (is (string/includes? err (str ": no operation of a client" expected)))))
     (is (= 4 (:status (fcbench/command ["/there/is/none"]))))
     (is (= [64 64 64 64] (map #(:status (fcbench/command %)) [[] ["--strange" "a"] ["a" "b"] ["--initial"]])))))
 
