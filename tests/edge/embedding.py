@@ -294,7 +294,34 @@ def clojure_checker(program, report):
         return missing("clojure")
     words = ["clojure", "-cp", f"{CLIENTS}/clojure", f"{CLIENTS}/clojure/fcbench_test.clj", program.path]
     done(report, "Clojure: the converter and the checker", words, "0 failures, 0 errors")
-    return None
+    return converted(program, report)
+
+
+# The jars of Clojure, where Debian has them, and operations on a key as a store of Jepsen has them.
+JARS = [f"/usr/share/java/{name}.jar" for name in ("clojure", "spec.alpha", "core.specs.alpha")]
+OF_A_STORE = """#jepsen.history.Op{:index 0, :time 10, :type :invoke, :process 0, :f :write, :value ["k" 1]}
+#jepsen.history.Op{:index 1, :time 11, :type :ok, :process 0, :f :write, :value ["k" 1]}
+"""
+
+
+def converted(program, report):
+    """The two commands of docs/tutorial.md that make a text of a store's file, in a folder with what they name."""
+    with open(f"{ROOT}/docs/tutorial.md") as file:
+        commands = re.findall(r"^    ((?:clojure|java) .*) > judged[.]edn$", file.read(), re.M)
+    report.equal("tutorial: the commands that make a text", ["clojure", "java"], [it.partition(" ")[0] for it in commands])
+    store, room = f"{program.room}/mytest/store/latest", f"{program.room}/converted"
+    os.makedirs(store)
+    os.mkdir(room)
+    with open(f"{store}/history.edn", "w") as file:
+        file.write(OF_A_STORE)
+    has_jars = all(map(os.path.exists, JARS))
+    for path in [CLIENTS, *(JARS if has_jars else [])]:
+        os.symlink(path, f"{room}/{os.path.basename(path)}")
+    for command in commands if has_jars else commands[:1]:
+        ran = subprocess.run(["bash", "-c", f"{command} > judged.edn"], cwd=room, capture_output=True, text=True, timeout=SECONDS)
+        judged = program.run("judge", f"{room}/judged.edn")
+        report.holds(f"tutorial: {command}", ran.returncode == 0 and judged.out.startswith(b"yes: 1 operations, 1 objects\n"), (ran, judged))
+    return None if has_jars else "without the jars of Debian"
 
 
 # The commands of docs/tutorial.md on a queue of one's own, with the status and the beginning of the lines.
