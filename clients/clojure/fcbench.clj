@@ -22,7 +22,7 @@
     :initial        what registers contain at first: {object value}, or one value for all
   Options of check and checker:
     :program        the program, else fcbench on the path
-    :steps          the most steps of a search for each object
+    :steps          the most steps of the last search for each object
     :draw, :always  a file for the page of fcbench draw, written where :valid? is not true, or always"
   (:require [clojure.edn :as edn]
             [clojure.java.io :as io]

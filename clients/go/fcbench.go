@@ -83,12 +83,12 @@ func Judge(history string) Answer {
 	return JudgeWithSteps(history, Steps)
 }
 
-// JudgeWithSteps judges a history, where a search takes at most this many steps for each object.
+// JudgeWithSteps judges a history, where the last search takes at most this many steps for each object.
 func JudgeWithSteps(history string, steps uint32) Answer {
 	return whole(func(out []byte) (Verdict, int) { return JudgeInto([]byte(history), steps, out) })
 }
 
-// JudgeInto judges a history, where a search takes at most this many steps for each object, and writes the lines into a buffer.
+// JudgeInto judges a history, where the last search takes at most this many steps for each object, and writes the lines into a buffer.
 // They are cut where it is too small. It also gives how long they are.
 func JudgeInto(history []byte, steps uint32, out []byte) (Verdict, int) {
 	var needed C.size_t

@@ -86,7 +86,7 @@ def _whole(call, *words):
 
 
 def judge(history, steps=STEPS):
-    """Judges a history: certificates are found, or a reason why there are none. A search takes at most this many steps for each object."""
+    """Judges a history: certificates are found, or a reason why there are none. The last search takes at most this many steps for each object."""
     text = _bytes(history)
     return _whole(_C.fcbench_judge, text, len(text), steps)
 

@@ -130,18 +130,18 @@ impl Display for Answer {
     }
 }
 
-/// Judges a history: certificates are found, or a reason why there are none. A search takes at most `STEPS` steps for each object.
+/// Judges a history: certificates are found, or a reason why there are none. The last search takes at most `STEPS` steps for each object.
 pub fn judge(history: impl AsRef<[u8]>) -> Answer {
     judge_with_steps(history, STEPS)
 }
 
-/// Judges a history, where a search takes at most `steps` steps for each object.
+/// Judges a history, where the last search takes at most `steps` steps for each object.
 pub fn judge_with_steps(history: impl AsRef<[u8]>, steps: u32) -> Answer {
     whole(|out| judge_into(history.as_ref(), steps, out))
 }
 
-/// Judges a history, where a search takes at most `steps` steps for each object, and writes the lines into `out`. Where it is too
-/// small they are cut. Also gives how long all lines are.
+/// Judges a history, where the last search takes at most `steps` steps for each object, and writes the lines into `out`. Where it is
+/// too small they are cut. Also gives how long all lines are.
 #[must_use]
 pub fn judge_into(history: &[u8], steps: u32, out: &mut [u8]) -> (Verdict, usize) {
     // SAFETY: each pointer is of a slice that is lent for the call, with its length.

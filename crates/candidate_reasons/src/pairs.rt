@@ -51,7 +51,7 @@ fn pairs_of(alloc: Global, runs: &Runs) -> Result<Vec<Pair>, AllocError> {
     Ok(pairs)
 }
 
-/// The places of the pairs whose time, if they have one, is told, in its rising order.
+/// The times of the pairs that have one, each with the place of the pair, in rising order.
 fn by_time<F: Fn(&Pair) -> Option<u32>>(
     alloc: Global,
     pairs: &[Pair],

@@ -217,7 +217,7 @@ fn base_of(
     Ok(part.map(|part| Base { part, cuts, from }))
 }
 
-/// What a candidate comes to.
+/// The result of a candidate.
 fn tried(
     alloc: Global,
     history: &ObjectHistory,
@@ -267,8 +267,8 @@ fn best_of(
     Ok(best.map(|sized| sized.proposal))
 }
 
-/// A small reason why no order of the object's operations is valid, if one is found. Nothing is
-/// promised of it: `reason_finder` checks it. The search for an order of one part tries at most
+/// A small reason why no order of the object's operations is valid, if one is found. It has no
+/// contract: `reason_finder` checks the reason. The search for an order of one part tries at most
 /// `limit` operations.
 ///
 /// An error: the allocator refused memory.

@@ -55,7 +55,7 @@ impl Setters {
         }
     }
 
-    /// The one that sets this content when as many as told have begun before it.
+    /// The one that sets this content when `before` of them have begun before it.
     pub(crate) fn nth(&self, content: usize, before: usize) -> Option<Setter> {
         let first = self
             .setters

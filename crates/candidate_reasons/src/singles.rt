@@ -45,8 +45,8 @@ fn others(runs: &[Run], value: i64, at: usize) -> usize {
     calls
 }
 
-/// What is wrong with a value that is put in as often as told in all, when as many takings of it as
-/// told have returned, one more than puts have begun.
+/// What is wrong with a value that is put in `puts` times in all, when `taken` takings of it have
+/// returned, one more than puts have begun.
 fn pattern_of(value: i64, puts: usize, taken: usize) -> Pattern {
     match (puts, taken) {
         (0, _) => Pattern::NeverSet(value),

@@ -21,7 +21,7 @@ fn add_cell(
     Ok(())
 }
 
-/// An order of the calls of a register or map that may be valid. Nothing is promised of it.
+/// An order of the calls of a register or map that may be valid. It has no contract.
 pub fn order_of_cells(alloc: Global, timeline: &Timeline) -> Result<Option<Vec<i64>>, AllocError> {
     let mut merged = Vec::new(alloc);
     for cell in &cells_of(alloc, &timeline.calls)? {

@@ -35,7 +35,7 @@ pub struct DrawOptions {
     pub from: Option<u32>,
     /// The map after that stretch.
     pub to: Option<u32>,
-    /// The most steps of a search for each object, where no certificates are given.
+    /// The most steps of the last search for each object, where no certificates are given.
     pub steps: Option<u32>,
 }
 
@@ -60,7 +60,7 @@ pub enum Line {
     Find {
         history: String,
     },
-    /// To find certificates of the history in a file, with a search of at most this number of
+    /// To find certificates of the history in a file, with a last search of at most this number of
     /// steps for each object where that finds none, or of a number by its operations, and to judge
     /// it by them.
     Judge {

@@ -79,7 +79,7 @@ pub record IsDecision (object : ℕ) (kind : Kind) (calls : List Call) (steps : 
   pub impossible : IfImpossible d (IsReasonFor object kind calls)
   -- out of steps comes with their number: all that the search may take
   pub out_of_steps : IfOutOfSteps d (λ n. n ≡ limit_of steps (length calls))
-  -- the search asks for memory only where some operation returned
+  -- NoMemory is answered only where some operation returned
   pub memory : d ≡ NoMemory → Any (λ call. IsSome call.returned) calls
 
 -- a decision on the object with this number, in the history that the events denote

@@ -14,8 +14,9 @@ use events::{History, split};
 use locality::linearizable_has_orders;
 use std::alloc::{AllocError, Global};
 
-/// Decides on each object of a history, as `decide` does, with a search of at most `steps` steps for
-/// each, or the default number of them, and answers in rising number of the objects.
+/// Decides on each object of a history, as `decide` does, and answers in rising number of the
+/// objects. The last search takes at most `steps` steps for each, or the default number of them;
+/// what comes before takes none of these.
 ///
 /// An error: memory was refused for the split, for the list of answers, or for a reason.
 pub fn decide_all(

@@ -10,7 +10,7 @@ pub enum Decision {
     Order(Certificate),
     /// No order of the operations is valid, and this shows it.
     Impossible(FoundReason),
-    /// The search wanted one more step than this many, which are all that it may take.
+    /// The last search has no answer within this many steps, which are all that it may take.
     OutOfSteps(u64),
     /// The search was refused memory.
     NoMemory,

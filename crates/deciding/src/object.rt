@@ -160,7 +160,7 @@ pub fn decide(
     // Out of steps comes with their number: all that the search may take.
     ensures out_of_steps { IfOk result (λ d. IfOutOfSteps d
         (λ n. n ≡ limit_of steps (length (calls_of history.now.ops)))) }
-    // The search asks for memory only where some operation returned.
+    // NoMemory is answered only where some operation returned.
     ensures memory { IfOk result (λ d. d ≡ Decision.NoMemory
         → Any (λ call. IsSome call.returned) (calls_of history.now.ops)) }
 {

@@ -2,8 +2,8 @@
 
 use history_pages::Options;
 
-/// The names of the files, the most steps of a search for each object, if they are given, and what
-/// is drawn.
+/// The names of the files, the most steps of the last search for each object, if they are given,
+/// and what is drawn.
 #[derive(Clone, Copy)]
 pub struct Request<'a> {
     pub history: &'a str,

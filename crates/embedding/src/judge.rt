@@ -15,9 +15,9 @@ use history_commands::report_judgement;
 use std::alloc::Global;
 
 /// Finds certificates, or reasons why there are none, judges the history by them, and writes the
-/// lines of the judgement. A search takes at most `steps` steps for each object. 4,294,967,295
-/// stands for the program's own number: 1,000,000, or 100 for each operation that did not fail if
-/// that is more.
+/// lines of the judgement. The last search takes at most `steps` steps for each object; what comes
+/// before takes none of these. 4,294,967,295 stands for the program's own number: 1,000,000, or 100
+/// for each operation that did not fail if that is more.
 ///
 /// 0: the history is linearizable. 1: it is not. 2: it is malformed. 3: that is open, or memory was
 /// refused.

@@ -104,7 +104,7 @@ impl Layout {
         left
     }
 
-    /// The end of the room of the operation's label, where that is in this line, and else 0.
+    /// The end of the room of the operation's label, if that is in this line, otherwise 0.
     fn label_end(&self, operation: &Operation) -> u32 {
         match self.event(operation.number()) {
             Some(begin) if begin.line == self.line => begin.x.saturating_add(self.room(operation)),

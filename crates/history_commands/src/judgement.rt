@@ -198,8 +198,9 @@ pub enum Judgement {
 }
 
 /// Finds certificates of the history, and gives them with the verdict on them, or else what is said
-/// of objects that have none. A search takes at most `steps` steps for each object, or else
-/// 1,000,000, or 100 for each operation that did not fail if that is more.
+/// of objects that have none. The last search takes at most `steps` steps for each object, or else
+/// 1,000,000, or 100 for each operation that did not fail if that is more. What comes before takes
+/// none of these.
 pub fn judge_events(alloc: Global, history: &History, steps: Option<u32>) -> Judgement
     ensures judges { IsJudged history.now steps result }
 {
@@ -233,9 +234,9 @@ fn judge_text(alloc: Global, text: &[u8], steps: Option<u32>) -> Result<Output, 
 }
 
 /// Finds certificates of the history in the text, judges it by them, puts out the verdict, or why
-/// some objects have no certificate, and gives the exit status. A search takes at most `steps`
-/// steps for each object, or else 1,000,000, or 100 for each operation that did not fail if that is
-/// more. It starts no thread.
+/// some objects have no certificate, and gives the exit status. The last search takes at most
+/// `steps` steps for each object, or else 1,000,000, or 100 for each operation that did not fail if
+/// that is more. What comes before takes none of these. It starts no thread.
 pub fn report_judgement<S: Sink>(alloc: Global, text: &[u8], steps: Option<u32>, sink: &mut S) -> u8
     requires working { S.broken sink.old ≡ false }
     ensures leaves { Leaves (IsJudgement text.now steps)

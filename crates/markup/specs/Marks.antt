@@ -37,6 +37,6 @@ abbrev pub marks_text : List Mark → List ℕ
 marks_text [] = []
 marks_text (m ∷ ms) = marks_text ms ++ mark_text m
 
--- a text that is made of marks and of nothing else
+-- a text that is made of marks, in any order, and of nothing else
 abbrev pub IsMade : List ℕ → Type 0
 IsMade text = (marks : List Mark) × (text ≡ marks_text marks)

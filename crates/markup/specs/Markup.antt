@@ -1,5 +1,6 @@
--- The words of the page's markup. There are no others: no tag runs a script, and none loads
--- anything; a link leads to a place of the page.
+-- The words of the page's markup. There are no others: none of these tags alone runs a script or
+-- loads anything, and a link leads to a place of the page. This is no grammar: `IsMade` lets marks
+-- follow each other in any order, so no clause says that a text is between tags or in a value.
 use Rattle.std.specs.Prelude.{ℕ, List, codes}
 use Rattle.markup.specs.declared.style.TheConstants.{SHEET}
 use Rattle.markup.specs.declared.words.Tag.{Tag}

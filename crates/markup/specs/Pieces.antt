@@ -37,7 +37,7 @@ abbrev pub whole_text : Tag → List ℕ → List ℕ
 whole_text tag text = open_text tag ++ (escaped text ++ close_text tag)
 
 -- Where no memory was refused to the new page, none was to the old one, and the new one is the old
--- one with this at its end.
+-- one with this at its end. Of a new page to which memory was refused, `None`, this says nothing.
 pub record Adds (old : Option (List ℕ)) (text : List ℕ) (new : Option (List ℕ)) : Type 0 where
   pub added : (after : List ℕ) → new ≡ Some after
       → (before : List ℕ) × (old ≡ Some before) × (after ≡ before ++ text)

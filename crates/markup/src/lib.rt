@@ -1,5 +1,6 @@
-//! The text of a page in the making: HTML with SVG. Nothing can be written into it but tags, names of
-//! attributes and rules of style that are fixed, numbers, and text that is escaped.
+//! The text of a page in the making: HTML with SVG. Nothing can be written into it but tags, names
+//! of attributes and rules of style that are fixed, numbers, and text that is escaped, in any
+//! order.
 #![tactic(auto)]
 
 mod escaping;

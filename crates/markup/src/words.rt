@@ -1,5 +1,6 @@
-//! The words of the page's markup. There are no others: no tag runs a script, and none loads
-//! anything.
+//! The words of the page's markup. There are no others: none of these tags alone runs a script or
+//! loads anything. They can be written in any order: that a text is between tags or in a value is
+//! only tested.
 
 ghost use Rattle.std.specs.Prelude.{◌≡◌};
 ghost use Rattle.markup.specs.Markup as spec;

@@ -21,7 +21,7 @@ use Rattle.order_search.specs.Arranged.{no_return}
 abbrev pub places : List Level → List ℕ
 places ls = map (λ l. l.place) ls
 
--- the least return among the calls that are left, or a number that is none
+-- the least return among the calls that are left, or a number that is not a return
 pub record IsLeast (n : ℕ) (call : ℕ → Call) (done : List ℕ) (least : ℕ) : Type 0 where
   pub below : (j : ℕ) (r : Return) → IsLeft n done j → (call j).returned ≡ Some r → least ≤ r.at
   pub stands : (least ≡ no_return)

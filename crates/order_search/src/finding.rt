@@ -21,14 +21,15 @@ pub enum Outcome {
     Found(Vec<i64>),
     /// No order is valid.
     Impossible,
-    /// One more step was wanted.
+    /// There is no answer within the limit of steps.
     OutOfSteps,
     /// There are more than 4,096 operations that did not fail.
     TooLarge,
     NoMemory,
 }
 
-/// How a search ended, and how many operations it tried.
+/// How a search ended, and its number of steps. Each operation that is tried is a step; no clause
+/// says that they are counted so, only that their number is within the limit.
 #[derive(Debug, Drop)]
 pub struct Attempt {
     pub outcome: Outcome,
@@ -122,7 +123,7 @@ pub fn find_order(alloc: Global, history: &ObjectHistory, first: TryFirst, limit
     ensures out_of_steps { result.outcome ≡ Outcome.OutOfSteps → result.steps ≡ limit }
     ensures too_large { (result.outcome ≡ Outcome.TooLarge)
         ↔ (max_operations < length (calls_of history.now.ops)) }
-    // Memory is asked for only where some operation returned.
+    // NoMemory is answered only where some operation returned.
     ensures memory { result.outcome ≡ Outcome.NoMemory
         → Any (λ call. IsSome call.returned) (calls_of history.now.ops) }
 {
@@ -150,7 +151,7 @@ pub fn find_order_of_any_size(
     ensures steps { result.steps ≤ limit }
     ensures out_of_steps { result.outcome ≡ Outcome.OutOfSteps → result.steps ≡ limit }
     ensures any_size { result.outcome ≢ Outcome.TooLarge }
-    // Memory is asked for only where some operation returned.
+    // NoMemory is answered only where some operation returned.
     ensures memory { result.outcome ≡ Outcome.NoMemory
         → Any (λ call. IsSome call.returned) (calls_of history.now.ops) }
 {

@@ -25,8 +25,8 @@ pub record IsReasonFor (number : ℕ) (kind : Kind) (calls : List Call) (f : Fou
   pub impossible : IsNoneValid kind calls
   -- the reason names the object
   pub named : f.reason.object ≡ number
-  -- the part is of the same object, of the kind that the cuts make of its own, and is the one that
-  -- they name
+  -- The part is of the same object, of the kind that the cuts make of its own, and its calls are
+  -- those that they name. Failed operations are no calls: which of them are in the part is free.
   pub object : f.part.object ≡ number
   pub kind_of_part : f.part.kind ≡ part_kind f.reason.cuts.items kind
   pub part : NamesPart f.reason.cuts.items calls (calls_of f.part.ops)

@@ -126,7 +126,8 @@ fn cut_of(alloc: Global, operations: &[Invocation], key: i64) -> Result<Cut, All
 }
 
 /// The reason that the operations on one key of a map have no valid order, if a search that tries
-/// at most `limit` operations shows it. `None`: they may have one, or none.
+/// at most `limit` operations shows it. `None`: they may have one, or none. No clause says that the
+/// reason is on this key.
 ///
 /// An error: the allocator refused memory.
 pub fn find_reason_on(

@@ -58,7 +58,8 @@ IsDoubt evidence part OutOfSteps = IsSearch evidence
 IsDoubt evidence part NoMemory =
     IsSearch evidence × Any (λ call. IsSome call.returned) (calls_of part.ops)
 
--- the part that the cuts name of the calls of an object, x, of this kind
+-- A part with the calls that the cuts name of the calls of an object, x, of this kind. Failed
+-- operations are no calls: which of them are in the part is free.
 pub record IsNamedPart (cuts : List Cut) (x : ℕ) (whole : Kind) (calls : List Call)
     (part : ObjectCalls) : Type 0 where
   pub object : part.object ≡ x
@@ -70,7 +71,7 @@ pub record IsAnswerOn (kind : Kind) (calls : List Call) (reason : Reason)
     (answer : Refutation) : Type 0 where
   -- it is impossible only where no order of the operations is valid
   pub impossible : is_impossible answer ≡ true → IsNoneValid kind calls
-  -- what is handed out is the part that the reason names
+  -- what is handed out is a part with the calls that the reason names
   pub part : IfPart answer (IsNamedPart reason.cuts.items reason.object kind calls)
   pub not_shown : IfNotShown answer (IsDoubt reason.evidence)
   pub no_part : answer ≡ refutation.NoPart → (part : List Call)

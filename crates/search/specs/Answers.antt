@@ -60,10 +60,11 @@ pub record IsSound (object : ℕ) (kind : Kind) (calls : List Call) (limit : ℕ
     pub found : IfFound s.found (IsFor object kind calls)
     -- impossible is answered only where no order is valid
     pub impossible : s.found ≡ Impossible → IsNoneValid kind calls
-    -- at most n operations were tried, and just this many where that was not enough
+    -- The number of steps is at most the limit, and is the limit where that was not enough. Nothing
+    -- says how many operations were tried.
     pub steps : s.steps ≤ limit
     pub out_of_steps : s.found ≡ OutOfSteps → s.steps ≡ limit
-    -- memory is asked for only where some operation returned
+    -- NoMemory is answered only where some operation returned
     pub memory : s.found ≡ NoMemory → Any (λ call. IsSome call.returned) calls
 
 -- what a search that takes on some calls alone may answer

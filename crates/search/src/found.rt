@@ -9,7 +9,7 @@ pub enum SearchOutcome {
     Found(Certificate),
     /// No order of the operations is valid.
     Impossible,
-    /// One more step was wanted.
+    /// There is no answer within the limit of steps.
     OutOfSteps,
     /// There are more than 4,096 operations that did not fail.
     TooLarge,
@@ -17,7 +17,8 @@ pub enum SearchOutcome {
     NoMemory,
 }
 
-/// The answer of a search, with the number of operations that were tried.
+/// The answer of a search, with its number of steps. Each operation that is tried is a step; no
+/// clause says that they are counted so, only that their number is within the limit.
 #[derive(Debug, Drop)]
 pub struct Search {
     pub found: SearchOutcome,

@@ -5,7 +5,8 @@ use Rattle.events.specs.declared.event.Event.{Event}
 use Rattle.events.specs.declared.operations.End.TheVariants.{Returned}
 use Rattle.timeline.specs.declared.operations.Operation.{Operation}
 
--- the object and the process are those of the event with the operation's number
+-- The object and the process are those of each event with the operation's number. If no event has
+-- this number, this says nothing.
 abbrev pub IsOfItsEvent : List Event → Operation → Type 0
 IsOfItsEvent es o =
     All (λ e. e.number ≡ o.invocation.number → (o.object ≡ e.object) × (o.process ≡ e.process)) es

@@ -211,7 +211,7 @@ pub fn operations_of(
 ) -> Result<Vec<Operation>, AllocError>
     // Each is one of the object's, with its numbers, and none is left out.
     ensures invocations { IfOk result (λ v. map (λ o. o.invocation) v.items ≡ object.now.ops) }
-    // Each has the object and the process of the event with its number.
+    // Each has the object and the process of the event with its number, if there is such an event.
     ensures events { IfOk result (λ v. All (IsOfItsEvent history.now) v.items) }
     // One that returned ends there.
     ensures ended { IfOk result (λ v. All EndsAtItsReturn v.items) }
