@@ -1,6 +1,6 @@
 //! The finder of a reason for one object.
 
-ghost use Rattle.std.specs.Prelude.{◌≡◌, true, IfOk, IfSome};
+ghost use Rattle.std.specs.Prelude.{◌≡◌, true, IfOk, IfSome, Some};
 ghost use Rattle.events.specs.Operations.{calls_of};
 ghost use Rattle.order_search.specs.Outcomes.{IsNoneValid};
 ghost use Rattle.projection.specs.Cuts.{IsPart, NamesPart, part_kind};
@@ -138,6 +138,8 @@ pub fn find_reason_on(
 ) -> Result<Option<FoundReason>, AllocError>
     ensures reason { IfOk result (λ o. IfSome o (IsReasonFor
         history.now.object history.now.kind (calls_of history.now.ops))) }
+    // It is said to be about this key.
+    ensures key { IfOk result (λ o. IfSome o (λ f. f.key ≡ Some key)) }
 {
     let mut cuts = Vec::new(alloc);
     cuts.push(cut_of(alloc, history.ops(), key)?)?;
