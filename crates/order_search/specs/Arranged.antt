@@ -31,7 +31,7 @@ abbrev pub count_below : (ℕ → Bool) → ℕ → ℕ
 count_below f zero = 0
 count_below f (suc k) = if f k then suc (count_below f k) else count_below f k
 
--- no call from place j on was invoked before the floor at j: of all calls, or of those that returned
+-- no call from place j on was invoked before the floor at j: of all, or of those that returned
 pub record AreFloors (of_all : Bool) (items : List Invocation) (floors : List ℕ) : Type 0 where
   pub long : length floors ≡ length items
   pub below : (j k : ℕ) → j ≤ k → k < length items
