@@ -23,7 +23,8 @@ use Rattle.desk_invariant.specs.Views.{after_answer, IsAccount, after_release, w
 use Rattle.desk_invariant.specs.Views.{after_return, after_perform, after_meet, after_end}
 use Rattle.desk_invariant.specs.Views.{after_end_seen, after_end_unset}
 use Rattle.desk_invariant.specs.Rule.{Fits}
-use Rattle.desk_invariant.specs.Views.{answered_word}
+use Rattle.desk_invariant.specs.Views.{answered_word, call_slot, journal_slot}
+use Rattle.desk_model.specs.Limits.{max_objects}
 
 module _ {S O R : Type 0} (content : S → Content) (op_in : O → AnyOp) (reply_in : R → AnyReply)
   where
@@ -89,7 +90,7 @@ module _ {S O R : Type 0} (content : S → Content) (op_in : O → AnyOp) (reply
         → (p : Request O) × (p.object ≡ x) × (kind_of (op_in p.op) ≡ kind_at (known before).kinds x)
         × (after ≡ (
           after_pick x l r (request_in op_in p) (known before),
-          (16 + r, slot.Request p) ∷ taken_slots before,
+          (call_slot r, slot.Request p) ∷ taken_slots before,
         ))
         × All (λ b. b.row ≡ r → b.request ≡ request_in op_in p) (known before).back
         × ((q : AnyRequest) → r ≡ (known before).number → (known before).own ≡ own.Waiting q
@@ -147,7 +148,7 @@ module _ {S O R : Type 0} (content : S → Content) (op_in : O → AnyOp) (reply
         → (b : Answer R) × (l : List AnyEntry)
         × (after ≡ (
           after_take q (answer_in reply_in b) l (known before),
-          (16 + c, slot.Answer b) ∷ taken_slots before,
+          (call_slot c, slot.Answer b) ∷ taken_slots before,
         ))
         × IsLegal (kind_at (known before).kinds q.object) l
         × StartsWith l (seen_of (known before) q.object)
@@ -195,7 +196,7 @@ module _ {S O R : Type 0} (content : S → Content) (op_in : O → AnyOp) (reply
         (c : ℕ) → step.word ≡ row_place c
         → after ≡ (
           with_own own.Idle (known before),
-          (16 + c, slot.Nothing) ∷ (48 + c, slot.Nothing) ∷ taken_slots before,
+          (call_slot c, slot.Nothing) ∷ (journal_slot c, slot.Nothing) ∷ taken_slots before,
         )
 
     -- The log so far was seen, which begins with what was seen and what was received, and has of
@@ -206,7 +207,7 @@ module _ {S O R : Type 0} (content : S → Content) (op_in : O → AnyOp) (reply
         × IsLegal (kind_at (known before).kinds step.word) l
         × StartsWith l (seen_of (known before) step.word)
         × StartsWith l (received_of (known before) step.word)
-        × (length (known before).seen ≡ 16) × IsAccount step.word (known before) l
+        × (length (known before).seen ≡ max_objects) × IsAccount step.word (known before) l
 
     -- what was received, which is legal, is what is seen
     abbrev pub adopts : Step (Slot S O R) → Hands → ℕ → Hands → Type 0

@@ -1,6 +1,7 @@
 -- The rule of the desk's table. Word x is the lock of object x; the places of the rows, the ends
 -- and the clock have names.
--- Slot x is the core of object x, 16 + c the request or answer of client c, and 48 + c its journal.
+-- Slot x is the core of object x; the slots of a client's request or answer, and of its journal,
+-- have names too.
 use Rattle.std.specs.Prelude.{◌≡◌, ◌≢◌, ◌⊎◌, ℕ, ◌+◌, ◌<◌, ◌≤◌, Bool, true, false, List, [], ◌++◌}
 use Rattle.std.specs.Prelude.{map, length, slice_index, Option, Some, None, All}
 use mathlib.Core.Option.{some}
@@ -32,7 +33,7 @@ use Rattle.desk_model.specs.World.{StartsWith}
 use Rattle.desk_model.specs.Sound.{Sound}
 use Rattle.desk_model.specs.Images.{request_in, answer_in, entry_in, event_in}
 use Rattle.desk_invariant.specs.Views.{row_place, end_place, clock_place, seen_of, received_of}
-use Rattle.desk_invariant.specs.Views.{owed}
+use Rattle.desk_invariant.specs.Views.{owed, call_slot, journal_slot}
 use Rattle.desk_model.specs.Limits.{max_objects, max_clients, max_calls}
 use Rattle.desk_invariant.specs.Views.{table_words, table_slots, first_picked, answered_word}
 
@@ -86,7 +87,7 @@ pub record SeatOk (kinds : List Kind) (w : World) (c : ℕ) (v : DeskView) : Typ
   pub ready : v.ready ≡ true → (q : AnyRequest) × (a : AnyAnswer) × (w.stage c ≡ answered q a)
   -- what it has seen of an object is a beginning of its log, which has the client's calls that are
   -- over
-  pub wide_seen : length v.seen ≡ 16
+  pub wide_seen : length v.seen ≡ max_objects
   pub seen : (x : ℕ) → StartsWith (w.log x) (seen_of v x)
   pub covers : (x : ℕ)
       → StartsWith (entries_of c (seen_of v x)) (served x c v.done ++ owed x c v.own)
@@ -166,9 +167,9 @@ module _ {S O R : Type 0} (content : S → Content) (op_in : O → AnyOp) (reply
       pub clock : slice_index words clock_place ≡ w.clock
       pub cores : (x : ℕ) → x < length kinds → w.holder x ≡ None
           → CoreAt (kind_at kinds x) (get_elem? lists x) (get_elem? homes x) (w.log x)
-      pub calls : (r : ℕ) → r < max_clients → CallAt (get_elem? homes (16 + r)) (w.stage r)
+      pub calls : (r : ℕ) → r < max_clients → CallAt (get_elem? homes (call_slot r)) (w.stage r)
       pub journals : (c : ℕ) → c < max_clients
-          → JournalAt (get_elem? homes (48 + c)) (w.stage c) (w.done c) (w.ended c)
+          → JournalAt (get_elem? homes (journal_slot c)) (w.stage c) (w.done c) (w.ended c)
 
     -- the rule: there is a sound world to which words, slots and views are tied
     pub record Kept (kinds : List Kind) (clients quota : ℕ) (s : State (Slot S O R) DeskView) : Type

@@ -12,17 +12,32 @@ use Rattle.desk_invariant.specs.declared.board.Role.TheVariants as role
 use Rattle.desk_invariant.specs.declared.board.DeskView.{DeskView}
 use Rattle.desk_model.specs.World.{AnyEntry, AnyRequest, AnyAnswer, AnyEvent, logged_on, entries_of}
 use Rattle.desk_model.specs.World.{served, journal_of}
+use Rattle.desk_model.specs.Limits.{max_objects}
 
--- Where the words of the table stand: first the locks, by the number of the object, then the rows
+-- Where the words of the table are: first the locks, by the number of the object, then the rows
 -- and the ends of the clients, and the clock last.
+abbrev pub first_row : ℕ
+first_row = 16
+
+abbrev pub first_end : ℕ
+first_end = 48
+
 abbrev pub row_place : ℕ → ℕ
-row_place c = 16 + c
+row_place c = first_row + c
 
 abbrev pub end_place : ℕ → ℕ
-end_place c = 48 + c
+end_place c = first_end + c
 
 abbrev pub clock_place : ℕ
 clock_place = 80
+
+-- Where the slots are: first the cores, by the number of the object, then the requests and answers
+-- of the clients, and their journals last.
+abbrev pub call_slot : ℕ → ℕ
+call_slot c = first_row + c
+
+abbrev pub journal_slot : ℕ → ℕ
+journal_slot c = first_end + c
 
 -- how many words the table has, and how many slots
 abbrev pub table_words : ℕ
@@ -51,7 +66,7 @@ new_client kinds lists c =
       done = [];
       own = own.Absent;
       ready = false;
-      seen = replicate 16 [];
+      seen = replicate max_objects [];
       received = [];
       back = [];
       missed = [];
@@ -102,7 +117,7 @@ owed x c o = []
 -- no step of the own call is half done
 abbrev pub IsAtRest : Own → Type 0
 IsAtRest own.Idle = Unit {0}
-IsAtRest (own.Waiting q) = q.object < 16
+IsAtRest (own.Waiting q) = q.object < max_objects
 IsAtRest o = ⊥
 
 -- what a log that the client has seen may hold of its own call that is not over

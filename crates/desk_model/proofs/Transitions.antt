@@ -17,21 +17,27 @@ module _ (kinds : List Kind) (quota : ℕ) where
   on_object w x r q held is k = let b = k.in_hand x r held in let f : picked q ≡ picked b.0 = sym is ∙ b.1 in let same : q ≡ b.0 = cc in ap (λ z. z.object) same ∙ b.2
 
   takes_sound : (s : Step) (w w' : World) (c : ℕ) → c < 32 → Takes kinds quota s w c w' → S w → S w'
-  takes_sound (draw_call x op) w w' c low t k = subst S (sym t.4) (sound_called kinds quota w c (record { object = x; ticket = w.clock; op = op }) low t.0 t.1 t.2 t.3 refl k)
-  takes_sound draw_return w w' c low t k = subst S (sym t.3) (sound_returned kinds quota w c w.clock t.0 t.1 low t.2 refl k)
+  takes_sound (draw_call x op) w w' c low t k =
+      subst S (sym t.after)
+      (sound_called kinds quota w c (record { object = x; ticket = w.clock; op = op }) low t.was t.calls_left t.on_object t.of_kind refl k)
+  takes_sound draw_return w w' c low t k = subst S (sym t.after) (sound_returned kinds quota w c w.clock t.request t.given low t.was refl k)
   takes_sound post w w' c low t k =
-      subst S (sym t.2) (sound_staged kinds quota w c (posted t.0) (λ r e. let g = sym t.1 ∙ e in absurd (cc)) (λ r e. absurd (cc))
-      (ap request_of (sym t.1)) (λ e. absurd (cc)) (λ y. ap (served_now y c) (sym t.1)) k)
-  takes_sound (win x) w w' c low t k = subst S (sym t.3) (sound_held kinds quota w x (Some c) (λ e. absurd (cc)) k)
-  takes_sound (pick r) w w' c low t k = subst S (sym t.6) (sound_picked kinds quota w t.0 r c t.1 t.4 t.5 t.2 t.3 k)
-  takes_sound answer w w' c low t k = let x : ℕ = t.0 in let r : ℕ = t.1 in let q : AnyRequest = t.2 in let h = t.6 in let on = on_object w x r q h.1 h.2 k in
-      subst S (sym t.9) (sound_served kinds quota w x r c q t.5 h.2 on h.0 h.1 (t.4, replays_more (empty (kind_at kinds x)) t.3 t.4 (w.log x) r q t.5 h.3 t.8) k)
-  takes_sound put_back w w' c low t k = let h = t.4 in subst S (sym t.6) (sound_put_back kinds quota w t.0 t.1 c t.2 h.2 (on_object w t.0 t.1 t.2 h.1 h.2 k) h.0 h.1 k)
+      subst S (sym t.after) (sound_staged kinds quota w c (posted t.request) (λ r e. let g = sym t.was ∙ e in absurd (cc)) (λ r e. absurd (cc))
+      (ap request_of (sym t.was)) (λ e. absurd (cc)) (λ y. ap (served_now y c) (sym t.was)) k)
+  takes_sound (win x) w w' c low t k = subst S (sym t.after) (sound_held kinds quota w x (Some c) (λ e. absurd (cc)) k)
+  takes_sound (pick r) w w' c low t k = subst S (sym t.after) (sound_picked kinds quota w t.object r c t.request t.was t.for_object t.held t.free k)
+  takes_sound answer w w' c low t k = let x : ℕ = t.object in let r : ℕ = t.row in let q : AnyRequest = t.request in let h = t.in_hand in let on = on_object w x r q h.1 h.2 k in
+      subst S (sym t.after) (sound_served kinds quota w x r c q t.given h.2 on h.0 h.1
+      (t.left, replays_more (empty (kind_at kinds x)) t.content t.left (w.log x) r q t.given h.3 t.serves) k)
+  takes_sound put_back w w' c low t k =
+      let h = t.in_hand in
+      subst S (sym t.after)
+      (sound_put_back kinds quota w t.object t.row c t.request h.2 (on_object w t.object t.row t.request h.1 h.2 k) h.0 h.1 k)
   takes_sound take w w' c low t k =
-      subst S (sym t.3) (sound_staged kinds quota w c (taken t.0 t.1) (λ r e. let g = sym t.2 ∙ e in absurd (cc)) (λ r e. absurd (cc))
-      (ap request_of (sym t.2)) (λ e. absurd (cc)) (λ y. ap (served_now y c) (sym t.2)) k)
-  takes_sound release w w' c low t k = subst S (sym t.3) (sound_held kinds quota w t.0 None (λ _. t.2) k)
-  takes_sound end w w' c low t k = subst S (sym t.2) (sound_ended kinds quota w c k)
+      subst S (sym t.after) (sound_staged kinds quota w c (taken t.request t.given) (λ r e. let g = sym t.was ∙ e in absurd (cc)) (λ r e. absurd (cc))
+      (ap request_of (sym t.was)) (λ e. absurd (cc)) (λ y. ap (served_now y c) (sym t.was)) k)
+  takes_sound release w w' c low t k = subst S (sym t.after) (sound_held kinds quota w t.object None (λ _. t.free) k)
+  takes_sound end w w' c low t k = subst S (sym t.after) (sound_ended kinds quota w c k)
 
   pub transition_keeps_soundness : (s : Step) (w w' : World) (c : ℕ) → Transition kinds quota s w c w' → S w → S w'
   transition_keeps_soundness s w w' c m k = takes_sound s w w' c m.0 m.3 k

@@ -7,6 +7,7 @@ use Rattle.desk_model.specs.declared.JournalEvent.TheVariants.{Invoked, Returned
 use Rattle.desk_model.specs.World.{AnyEntry, AnyRequest, AnyEvent, AnyDone, absent, picked, World}
 use Rattle.desk_model.specs.World.{kind_at, logged, entries_of, served, served_now, request_of}
 use Rattle.desk_model.specs.World.{calls_made, tickets_drawn, journal_in, tickets_in, IsLegal}
+use Rattle.desk_model.specs.Limits.{max_clients}
 
 -- the sum of the first n values
 abbrev pub total : (ℕ → ℕ) → ℕ → ℕ
@@ -61,6 +62,7 @@ pub record Sound (kinds : List Kind) (quota : ℕ) (w : World) : Type 0 where
   -- each ticket in a log was drawn
   pub early : (x : ℕ) → All (λ e. e.ticket < w.clock) (w.log x)
   -- the clock counts the tickets, and no client makes more calls than its quota
-  pub drawn : total (λ c. tickets_drawn (w.done c) (request_of (w.stage c))) 32 ≡ w.clock
+  pub drawn : total (λ c. tickets_drawn (w.done c) (request_of (w.stage c)))
+      max_clients ≡ w.clock
   pub within : (c : ℕ) → calls_made (w.done c) (request_of (w.stage c)) ≤ quota
   pub journals : SoundJournals kinds w

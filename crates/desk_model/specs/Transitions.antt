@@ -8,6 +8,7 @@ use Rattle.model.specs.Objects.{Content, empty, kind_of, next}
 use Rattle.desk_model.specs.World.{AnyRequest, AnyAnswer, AnyDone, Stage, absent, idle, drawn}
 use Rattle.desk_model.specs.World.{posted, picked, answered, taken, World, kind_at, logged}
 use Rattle.desk_model.specs.World.{calls_made, Replays, Serves}
+use Rattle.desk_model.specs.Limits.{max_clients}
 
 -- the function with another value at i
 unfoldable pub changed : {A : Type 0} → (ℕ → A) → ℕ → A → ℕ → A
@@ -67,38 +68,104 @@ MayEnd (drawn q) = ⊥
 MayEnd (taken q a) = ⊥
 MayEnd t = Unit {0}
 
+-- Each step of a client c that has not ended: the world w allows it, and w' is the world after it.
 module _ (kinds : List Kind) (quota : ℕ) where
+  -- an idle client that has calls left draws the ticket of one, of op on the object x
+  pub record DrawsCall (x : ℕ) (op : AnyOp) (w : World) (c : ℕ) (w' : World) : Type 0 where
+    pub was : w.stage c ≡ idle
+    pub calls_left : calls_made (w.done c) None < quota
+    pub on_object : x < length kinds
+    pub of_kind : kind_of op ≡ kind_at kinds x
+    pub after : w' ≡ ticked w c (drawn record { object = x; ticket = w.clock; op = op }) (w.done c)
+
+  -- a client that has taken its answer draws the ticket of its return, and the call is over
+  pub record DrawsReturn (w : World) (c : ℕ) (w' : World) : Type 0 where
+    pub request : AnyRequest
+    pub given : AnyAnswer
+    pub was : w.stage c ≡ taken request given
+    pub after : w' ≡ ticked w c idle
+        (w.done c ++ record { request = request; answer = given; returned = w.clock } ∷ [])
+
+  -- a request that has its ticket goes into the client's row
+  pub record Posts (w : World) (c : ℕ) (w' : World) : Type 0 where
+    pub request : AnyRequest
+    pub was : w.stage c ≡ drawn request
+    pub after : w' ≡ staged w c (posted request)
+
+  -- a client that holds nothing wins the object x, which is free
+  pub record Wins (x : ℕ) (w : World) (c : ℕ) (w' : World) : Type 0 where
+    pub on_object : x < length kinds
+    pub free : w.holder x ≡ None
+    pub holds_nothing : HoldsNothing w c
+    pub after : w' ≡ held_by w x (Some c)
+
+  -- a holder with a free hand picks up a request for its object from the row r
+  pub record Picks (r : ℕ) (w : World) (c : ℕ) (w' : World) : Type 0 where
+    pub object : ℕ
+    pub request : AnyRequest
+    pub held : w.holder object ≡ Some c
+    pub free : w.hand object ≡ None
+    pub was : w.stage r ≡ posted request
+    pub for_object : request.object ≡ object
+    pub after : w' ≡ handed w object (Some r) r (picked request)
+
+  -- the request in hand is possible in what the log leaves, and is answered as `next` says
+  pub record Answers (w : World) (c : ℕ) (w' : World) : Type 0 where
+    pub object : ℕ
+    pub row : ℕ
+    pub request : AnyRequest
+    pub content : Content
+    pub left : Content
+    pub given : AnyAnswer
+    pub in_hand : InHand kinds w c object row request content
+    pub possible : IsSome (next content request.op)
+    pub serves : Serves content request.op given left
+    pub after : w' ≡ served_by w object row request given
+
+  -- the request in hand is not possible in what the log leaves, and goes back into its row
+  pub record PutsBack (w : World) (c : ℕ) (w' : World) : Type 0 where
+    pub object : ℕ
+    pub row : ℕ
+    pub request : AnyRequest
+    pub content : Content
+    pub in_hand : InHand kinds w c object row request content
+    pub impossible : next content request.op ≡ None
+    pub after : w' ≡ handed w object None row (posted request)
+
+  -- the client takes the answer out of its row
+  pub record TakesAnswer (w : World) (c : ℕ) (w' : World) : Type 0 where
+    pub request : AnyRequest
+    pub given : AnyAnswer
+    pub was : w.stage c ≡ answered request given
+    pub after : w' ≡ staged w c (taken request given)
+
+  -- a holder with a free hand lets its object go
+  pub record Releases (w : World) (c : ℕ) (w' : World) : Type 0 where
+    pub object : ℕ
+    pub held : w.holder object ≡ Some c
+    pub free : w.hand object ≡ None
+    pub after : w' ≡ held_by w object None
+
+  -- a client that holds nothing, and is not between two steps of a call, ends
+  pub record Ends (w : World) (c : ℕ) (w' : World) : Type 0 where
+    pub may_end : MayEnd (w.stage c)
+    pub holds_nothing : HoldsNothing w c
+    pub after : w' ≡ ended_by w c
+
   -- the client c, which has not ended, takes the step, and the world is w' then
   abbrev pub Takes : Step → World → ℕ → World → Type 0
-  Takes (draw_call x op) w c w' =
-      (w.stage c ≡ idle) × (calls_made (w.done c) None < quota) × (x < length kinds)
-      × (kind_of op ≡ kind_at kinds x)
-      × (w' ≡ ticked w c (drawn record { object = x; ticket = w.clock; op = op }) (w.done c))
-  Takes draw_return w c w' =
-      (q : AnyRequest) × (a : AnyAnswer) × (w.stage c ≡ taken q a)
-      × (w'
-      ≡ ticked w c idle (w.done c ++ record { request = q; answer = a; returned = w.clock } ∷ []))
-  Takes post w c w' = (q : AnyRequest) × (w.stage c ≡ drawn q) × (w' ≡ staged w c (posted q))
-  Takes (win x) w c w' =
-      (x < length kinds) × (w.holder x ≡ None) × HoldsNothing w c × (w' ≡ held_by w x (Some c))
-  Takes (pick r) w c w' =
-      (x : ℕ) × (q : AnyRequest) × (w.holder x ≡ Some c) × (w.hand x ≡ None)
-      × (w.stage r ≡ posted q) × (q.object ≡ x) × (w' ≡ handed w x (Some r) r (picked q))
-  Takes answer w c w' =
-      (x : ℕ) × (r : ℕ) × (q : AnyRequest) × (before : Content) × (after : Content)
-      × (a : AnyAnswer)
-      × InHand kinds w c x r q before × IsSome (next before q.op) × Serves before q.op a after
-      × (w' ≡ served_by w x r q a)
-  Takes put_back w c w' =
-      (x : ℕ) × (r : ℕ) × (q : AnyRequest) × (content : Content) × InHand kinds w c x r q content
-      × (next content q.op ≡ None) × (w' ≡ handed w x None r (posted q))
-  Takes take w c w' =
-      (q : AnyRequest) × (a : AnyAnswer) × (w.stage c ≡ answered q a)
-      × (w' ≡ staged w c (taken q a))
-  Takes release w c w' =
-      (x : ℕ) × (w.holder x ≡ Some c) × (w.hand x ≡ None) × (w' ≡ held_by w x None)
-  Takes end w c w' = MayEnd (w.stage c) × HoldsNothing w c × (w' ≡ ended_by w c)
+  Takes (draw_call x op) = DrawsCall x op
+  Takes draw_return = DrawsReturn
+  Takes post = Posts
+  Takes (win x) = Wins x
+  Takes (pick r) = Picks r
+  Takes answer = Answers
+  Takes put_back = PutsBack
+  Takes take = TakesAnswer
+  Takes release = Releases
+  Takes end = Ends
 
   -- the step of the client c, which has come and has not ended, leads from w to w'
   abbrev pub Transition : Step → World → ℕ → World → Type 0
-  Transition step w c w' = (c < 32) × (w.ended c ≡ false) × (w.stage c ≢ absent) × Takes step w c w'
+  Transition step w c w' =
+      (c < max_clients) × (w.ended c ≡ false) × (w.stage c ≢ absent) × Takes step w c w'

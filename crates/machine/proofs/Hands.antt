@@ -29,19 +29,21 @@ same_hand s c x r q h x' r' q' held hand stage =
 pub put_back_not : (s : State) (c x r : ℕ) (q : AnyRequest) → IsInHand s c x r q → CanDo s x q.op → IsImpossible s.kinds s.quota (world_of s) (c, put_back)
 put_back_not s c x r q h can after m =
     let t = m.3 in
-    let i = t.4 in
-    let same = same_hand s c x r q h t.0 t.1 t.2 i.0 i.1 i.2 in
-    let replays : Replays (empty (kind_at s.kinds x)) (get_or s.logs x []) t.3 = subst (λ (y : ℕ). Replays (empty (kind_at s.kinds y)) (get_or s.logs y []) t.3) same.object i.3 in
-    let once : can.0 ≡ t.3 = replays_once (empty (kind_at s.kinds x)) can.0 t.3 (get_or s.logs x []) can.1 replays in
-    let there : IsSome (next t.3 t.2.op) = subst (λ (z : Content). IsSome (next z t.2.op)) once (subst (λ (z : AnyRequest). IsSome (next can.0 z.op)) (sym same.request) can.2) in
-    let none : next t.3 t.2.op ≡ None = t.5 in
+    let i = t.in_hand in
+    let same = same_hand s c x r q h t.object t.row t.request i.0 i.1 i.2 in
+    let replays : Replays (empty (kind_at s.kinds x)) (get_or s.logs x []) t.content
+        = subst (λ (y : ℕ). Replays (empty (kind_at s.kinds y)) (get_or s.logs y []) t.content) same.object i.3 in
+    let once : can.0 ≡ t.content = replays_once (empty (kind_at s.kinds x)) can.0 t.content (get_or s.logs x []) can.1 replays in
+    let there : IsSome (next t.content t.request.op) = subst (λ (z : Content). IsSome (next z t.request.op)) once (subst (λ (z : AnyRequest). IsSome (next can.0 z.op)) (sym same.request) can.2) in
+    let none : next t.content t.request.op ≡ None = t.impossible in
     let no : IsSome {T = Content × AnyReply} None = subst IsSome none there in
     absurd (cc)
 
 pub answer_not : (s : State) (c x r : ℕ) (q : AnyRequest) → IsInHand s c x r q → (CanDo s x q.op → ⊥) → IsImpossible s.kinds s.quota (world_of s) (c, answer)
 answer_not s c x r q h never after m =
     let t = m.3 in
-    let i = t.6 in
-    let same = same_hand s c x r q h t.0 t.1 t.2 i.0 i.1 i.2 in
-    let replays : Replays (empty (kind_at s.kinds x)) (get_or s.logs x []) t.3 = subst (λ (y : ℕ). Replays (empty (kind_at s.kinds y)) (get_or s.logs y []) t.3) same.object i.3 in
-    never (t.3, replays, subst (λ (z : AnyRequest). IsSome (next t.3 z.op)) same.request t.7)
+    let i = t.in_hand in
+    let same = same_hand s c x r q h t.object t.row t.request i.0 i.1 i.2 in
+    let replays : Replays (empty (kind_at s.kinds x)) (get_or s.logs x []) t.content
+        = subst (λ (y : ℕ). Replays (empty (kind_at s.kinds y)) (get_or s.logs y []) t.content) same.object i.3 in
+    never (t.content, replays, subst (λ (z : AnyRequest). IsSome (next t.content z.op)) same.request t.possible)

@@ -154,7 +154,8 @@ module _ (contents : List Content) (s : State) (m : IsMachine contents s) (c : �
 
   pub win_now : (x : ℕ) → x < length s.kinds → (world_of s).holder x ≡ None → HoldsNothing (world_of s) c
       → IsMachine contents (record s { holders = set s.holders x (Some c) }) × IsTaken s c (win x) (record s { holders = set s.holders x (Some c) })
-  win_now x low free nothing = let e = m.holders in held_now x (Some c) (win x) (omega arith) (low, free, nothing, refl) single
+  win_now x low free nothing = let e = m.holders in held_now x (Some c) (win x) (omega arith)
+      (record { on_object = low; free = free; holds_nothing = nothing; after = refl }) single
     where
       f : ℕ → Option ℕ
       f k = get_or s.holders k None
@@ -173,7 +174,8 @@ module _ (contents : List Content) (s : State) (m : IsMachine contents s) (c : �
 
   pub release_now : (x : ℕ) → x < length s.kinds → (world_of s).holder x ≡ Some c → (world_of s).hand x ≡ None
       → IsMachine contents (record s { holders = set s.holders x None }) × IsTaken s c release (record s { holders = set s.holders x None })
-  release_now x low held hand = let e = m.holders in held_now x None release (omega arith) (x, held, hand, refl) single
+  release_now x low held hand = let e = m.holders in held_now x None release (omega arith)
+      (record { object = x; held = held; free = hand; after = refl }) single
     where
       f : ℕ → Option ℕ
       f k = get_or s.holders k None
@@ -193,7 +195,7 @@ module _ (contents : List Content) (s : State) (m : IsMachine contents s) (c : �
       let is : world_of s' ≡ ended_by (world_of s) c = world-ended s c within in
       kept contents s' end
       (record { kinds = refl; quota = refl; logs = refl; holders = refl; hands = refl; stages = refl; journals = refl; ended = length-set s.ended c true })
-      (subst (Takes s.kinds s.quota end (world_of s) c) (sym is) (may, nothing, refl))
+      (subst (Takes s.kinds s.quota end (world_of s) c) (sym is) (record { may_end = may; holds_nothing = nothing; after = refl }))
       (record { kinds = m.kinds; fits = m.fits; journals_are = m.journals_are; single = m.single })
 
   -- what a draw leaves: each journal is that of the world
@@ -234,7 +236,8 @@ module _ (contents : List Content) (s : State) (m : IsMachine contents s) (c : �
       let js : List AnyEvent = get_or s.journals c [] ++ invoked q ∷ [] in
       let whole : js ≡ journal_of ds (Some q) = ap (λ es. es ++ invoked q ∷ []) (m.journals_are c ∙ ap (λ t. journal_of ds (request_of t)) idle) ∙ journal_called ds q in
       let over : done_in js ≡ ds = ap done_in whole ∙ done_in-journal_of ds (Some q) in
-      ticked_now (Drawn q) js (draw_call x op) (idle, few, low, kind, ap (ticked (world_of s) c (world.drawn q)) over) (whole ∙ ap (λ z. journal_of z (Some q)) (sym over))
+      ticked_now (Drawn q) js (draw_call x op)
+      (record { was = idle; calls_left = few; on_object = low; of_kind = kind; after = ap (ticked (world_of s) c (world.drawn q)) over }) (whole ∙ ap (λ z. journal_of z (Some q)) (sym over))
 
   pub return_now : (q : AnyRequest) (a : AnyAnswer) → (world_of s).stage c ≡ world.taken q a
       → let s' : State = record s { clock = s.clock + 1; stages = set s.stages c Idle; journals = set s.journals c (get_or s.journals c [] ++ Returned s.clock a ∷ []) } in
@@ -245,7 +248,7 @@ module _ (contents : List Content) (s : State) (m : IsMachine contents s) (c : �
       let js : List AnyEvent = get_or s.journals c [] ++ Returned s.clock a ∷ [] in
       let whole : js ≡ journal_of es None = ap (λ es. es ++ Returned s.clock a ∷ []) (m.journals_are c ∙ ap (λ t. journal_of ds (request_of t)) taken) ∙ journal_returned ds q a s.clock in
       let over : done_in js ≡ es = ap done_in whole ∙ done_in-journal_of es None in
-      ticked_now Idle js draw_return (q, a, taken, ap (ticked (world_of s) c world.idle) over) (whole ∙ ap (λ z. journal_of z None) (sym over))
+      ticked_now Idle js draw_return (record { request = q; given = a; was = taken; after = ap (ticked (world_of s) c world.idle) over }) (whole ∙ ap (λ z. journal_of z None) (sym over))
 
   -- A request is picked up or put back.
   pub handed_now : (x : ℕ) (h : Option ℕ) (r : ℕ) (t : AnyStage) (w : Step) → x < length s.kinds → r < length s.stages
@@ -289,7 +292,19 @@ module _ (contents : List Content) (s : State) (m : IsMachine contents s) (c : �
         journals = refl;
         ended = refl;
       })
-      (subst (Takes s.kinds s.quota answer (world_of s) c) (sym is) (x, r, q, before, after, a, (held, hand, stage, replays), can, serves, refl))
+      (subst (Takes s.kinds s.quota answer (world_of s) c) (sym is)
+      (record {
+        object = x;
+        row = r;
+        request = q;
+        content = before;
+        left = after;
+        given = a;
+        in_hand = (held, hand, stage, replays);
+        possible = can;
+        serves = serves;
+        after = refl;
+      }))
       (record {
         kinds = m.kinds ∙ sym (map-set_same_at kind_with contents x after before at same);
         fits = fits_served x r q before after a at there kind same (replays_more (empty (kind_with before)) before after (get_or s.logs x []) r q a (m.fits x before at) serves);

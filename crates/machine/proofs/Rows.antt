@@ -130,7 +130,7 @@ module _ {S O R : Type 0} (content : S → Content) (op_in : O → AnyOp) (reply
         → IsMachine (map content m.objects.items) (state_handed x (Some r) r (Picked q)) × IsTaken z c (pick r) (state_handed x (Some r) r (Picked q)))
         same (λ go low within held hand at on. subst (λ (z : State). IsMachine (map content m.objects.items) z × IsTaken (state_in m) c (pick r) z) (handed_alike x (Some r) r (Picked q))
         (handed_now (map content m.objects.items) (state_in m) is c go x (Some r) r (stage_in op_in reply_in (Picked q)) (pick r) low within
-        (x, request_in op_in q, held, hand, at, on, refl) (sym (ap request_of at))))
+        (record { object = x; request = request_in op_in q; held = held; free = hand; was = at; for_object = on; after = refl }) (sym (ap request_of at))))
 
     pub put_back_done : (x r : ℕ) (q : Request O) → IsGoing now c → IsInHand now c x r (request_in op_in q) → HasContent now x → (CanDo now x (op_in q.op) → ⊥)
         → IsMachine (map content m.objects.items) (state_handed x None r (Posted q)) × IsTaken now c put_back (state_handed x None r (Posted q))
@@ -138,7 +138,15 @@ module _ {S O R : Type 0} (content : S → Content) (op_in : O → AnyOp) (reply
         → IsMachine (map content m.objects.items) (state_handed x None r (Posted q)) × IsTaken z c put_back (state_handed x None r (Posted q)))
         same (λ go h k never. subst (λ (z : State). IsMachine (map content m.objects.items) z × IsTaken (state_in m) c put_back z) (handed_alike x None r (Posted q))
         (handed_now (map content m.objects.items) (state_in m) is c go x None r (stage_in op_in reply_in (Posted q)) put_back h.object h.row
-        (x, r, request_in op_in q, k.0, (h.held, h.hand, h.stage, k.1), none_of (next k.0 (op_in q.op)) (λ can. never (k.0, k.1, can)), refl) (sym (ap request_of h.stage))))
+        (record {
+          object = x;
+          row = r;
+          request = request_in op_in q;
+          content = k.0;
+          in_hand = (h.held, h.hand, h.stage, k.1);
+          impossible = none_of (next k.0 (op_in q.op)) (λ can. never (k.0, k.1, can));
+          after = refl;
+        }) (sym (ap request_of h.stage))))
 
     -- a ticket was drawn: the fields then
     abbrev pub state_ticked : List (List (JournalEvent O R)) → Stage O R → ℕ → State
@@ -233,22 +241,22 @@ module _ {S O R : Type 0} (content : S → Content) (op_in : O → AnyOp) (reply
   pub post_taken : (m : Inside S O R) → IsMachine (map content m.objects.items) (state_in m) → (c : ℕ) → IsGoing (state_in m) c → (found : Stage O R)
       → found ≡ get_or m.stages.items c found → (q : Request O) → found ≡ Drawn q
       → IsMachine (map content m.objects.items) (state_staged m c (Posted q)) × IsTaken (state_in m) c post (state_staged m c (Posted q))
-  post_taken m is c go found read q e = let at = stage_found m c found (Drawn q) go.0 read e in staged_inside m is c go (Posted q) post (request_in op_in q, at, refl) (sym (ap request_of at))
+  post_taken m is c go found read q e = let at = stage_found m c found (Drawn q) go.0 read e in staged_inside m is c go (Posted q) post (record { request = request_in op_in q; was = at; after = refl }) (sym (ap request_of at))
 
   pub post_not : (m : Inside S O R) (c : ℕ) → IsGoing (state_in m) c → (found : Stage O R) → found ≡ get_or m.stages.items c found
       → ((q : Request O) → found ≡ Drawn q → ⊥) → IsImpossible (state_in m).kinds (state_in m).quota (world_of (state_in m)) (c, post)
-  post_not m c go found read other after h = let p = drawn_is found h.3.0 (sym (stage_found m c found found go.0 read refl) ∙ h.3.1) in other p.0 p.1
+  post_not m c go found read other after h = let p = drawn_is found h.3.request (sym (stage_found m c found found go.0 read refl) ∙ h.3.was) in other p.0 p.1
 
   -- take: from an answered stage, and from no other
   pub take_taken : (m : Inside S O R) → IsMachine (map content m.objects.items) (state_in m) → (c : ℕ) → IsGoing (state_in m) c → (found : Stage O R)
       → found ≡ get_or m.stages.items c found → (q : Request O) (a : Answer R) → found ≡ Answered q a
       → IsMachine (map content m.objects.items) (state_staged m c (Taken q a)) × IsTaken (state_in m) c take (state_staged m c (Taken q a))
   take_taken m is c go found read q a e = let at = stage_found m c found (Answered q a) go.0 read e in
-      staged_inside m is c go (Taken q a) take (request_in op_in q, answer_in reply_in a, at, refl) (sym (ap request_of at))
+      staged_inside m is c go (Taken q a) take (record { request = request_in op_in q; given = answer_in reply_in a; was = at; after = refl }) (sym (ap request_of at))
 
   pub take_not : (m : Inside S O R) (c : ℕ) → IsGoing (state_in m) c → (found : Stage O R) → found ≡ get_or m.stages.items c found
       → ((q : Request O) (a : Answer R) → found ≡ Answered q a → ⊥) → IsImpossible (state_in m).kinds (state_in m).quota (world_of (state_in m)) (c, take)
-  take_not m c go found read other after h = let p = answered_is found h.3.0 h.3.1 (sym (stage_found m c found found go.0 read refl) ∙ h.3.2) in other p.0 p.1 p.2
+  take_not m c go found read other after h = let p = answered_is found h.3.request h.3.given (sym (stage_found m c found found go.0 read refl) ∙ h.3.was) in other p.0 p.1 p.2
 
   pub taken_is : (t : Stage O R) (q : AnyRequest) (a : AnyAnswer) → stage_of (stage_in op_in reply_in t) ≡ world.taken q a → (p : Request O) × (b : Answer R) × (t ≡ Taken p b)
   taken_is Idle q a e = absurd (cc)
@@ -260,7 +268,7 @@ module _ {S O R : Type 0} (content : S → Content) (op_in : O → AnyOp) (reply
 
   pub return_not : (m : Inside S O R) (c : ℕ) → IsGoing (state_in m) c → (found : Stage O R) → found ≡ get_or m.stages.items c found
       → ((q : Request O) (a : Answer R) → found ≡ Taken q a → ⊥) → IsImpossible (state_in m).kinds (state_in m).quota (world_of (state_in m)) (c, draw_return)
-  return_not m c go found read other after h = let p = taken_is found h.3.0 h.3.1 (sym (stage_found m c found found go.0 read refl) ∙ h.3.2) in other p.0 p.1 p.2
+  return_not m c go found read other after h = let p = taken_is found h.3.request h.3.given (sym (stage_found m c found found go.0 read refl) ∙ h.3.was) in other p.0 p.1 p.2
 
   -- a stage that was written is that of the world
   pub stage_written : (ts : List (Stage O R)) (r : ℕ) (t : Stage O R) → r < length (map (stage_in op_in reply_in) ts)

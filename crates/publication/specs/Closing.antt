@@ -13,7 +13,7 @@ use Rattle.desk_invariant.specs.declared.board.Journal.{Journal}
 use Rattle.desk_invariant.specs.declared.board.Slot.{Slot}
 use Rattle.desk_invariant.specs.declared.board.Slot.TheVariants as slot
 use Rattle.publication.specs.Handles.{Known}
-use Rattle.desk_invariant.specs.Views.{table_slots}
+use Rattle.desk_invariant.specs.Views.{table_slots, journal_slot}
 
 -- the values of all slots
 abbrev pub values_of : {X A : Type 0} → Closed X A → List X
@@ -30,7 +30,7 @@ module _ {S O R : Type 0} where
   HasCore xs x = (k : Core S O R) × (get_elem? xs x ≡ some (slot.Core k))
 
   abbrev pub HasJournal : List (Slot S O R) → ℕ → Type 0
-  HasJournal xs c = (j : Journal O R) × (get_elem? xs (48 + c) ≡ some (slot.Journal j))
+  HasJournal xs c = (j : Journal O R) × (get_elem? xs (journal_slot c) ≡ some (slot.Journal j))
 
   -- the log of the object x
   abbrev pub IsLogOf : List (Slot S O R) → ℕ → List (LogEntry O R) → Type 0
@@ -39,7 +39,7 @@ module _ {S O R : Type 0} where
   -- the journal that the client c left
   abbrev pub IsJournalOf : List (Slot S O R) → ℕ → List (JournalEvent O R) → Type 0
   IsJournalOf xs c events =
-      (j : Journal O R) × (get_elem? xs (48 + c) ≡ some (slot.Journal j))
+      (j : Journal O R) × (get_elem? xs (journal_slot c) ≡ some (slot.Journal j))
       × (j.events.items ≡ events)
 
   abbrev pub AreLogs : ℕ → List (Slot S O R) → List (List (LogEntry O R)) → Type 0

@@ -30,7 +30,7 @@ use Rattle.desk_invariant.specs.Views.{new_client, with_own, own_request, journa
 use Rattle.desk_invariant.specs.Views.{seen_of, IsAtRest, IsAccount}
 use Rattle.desk_invariant.specs.Rule.{Fits}
 use Rattle.desk_model.specs.Limits.{max_objects, max_clients, max_calls}
-use Rattle.desk_invariant.specs.Views.{table_words, table_slots}
+use Rattle.desk_invariant.specs.Views.{table_words, table_slots, call_slot, journal_slot}
 
 -- which desk: its table, the quota of each of its clients, the kind of each of its objects, and
 -- which roster the publication list of each object is
@@ -68,7 +68,7 @@ HasPlaceAt c x =
 
 -- these places are of the row c, one in each of these lists
 pub record ArePlacesOf (c : ℕ) (lists : List TableId) (places : List PlaceSeen) : Type 0 where
-  pub rows : map (λ p. p.row) places ≡ replicate 16 c
+  pub rows : map (λ p. p.row) places ≡ replicate max_objects c
   pub lists_are : map (λ p. p.roster) places ≡ lists
 
 -- What else there is in a client's hands while it holds an object: how many passes there were over
@@ -121,7 +121,7 @@ module _ {O R : Type 0} (op_in : O → AnyOp) (reply_in : R → AnyReply) where
       Type 0 where
     pub client_is : v.role ≡ role.Client
     pub number_is : v.number ≡ number
-    pub number_low : number < 32
+    pub number_low : number < max_clients
     pub at_rest : IsAtRest v.own
     pub going : v.ended ≡ false
     pub calls_is : calls ≡ calls_made v.done (own_request v.own)
@@ -130,15 +130,15 @@ module _ {O R : Type 0} (op_in : O → AnyOp) (reply_in : R → AnyReply) where
     pub outstanding_is : outstanding ≡ is_waiting v.own
     pub journal_is : map (event_in op_in reply_in) j.events.items ≡ journal v
     pub room : quota + quota ≤ vec_capacity j.events
-    pub wide : length v.seen ≡ 16
+    pub wide : length v.seen ≡ max_objects
     pub legal : (x : ℕ) → IsLegal (kind_at v.kinds x) (seen_of v x)
     pub accounts : (x : ℕ) → IsAccount x v (seen_of v x)
 
 module _ {S O R : Type 0} where
   -- the slots that the client has: that of its journal, and that of its request while it has none
   abbrev pub at_hand : ℕ → Own → List (ℕ × Slot S O R)
-  at_hand c own.Idle = (16 + c, slot.Nothing) ∷ (48 + c, slot.Nothing) ∷ []
-  at_hand c o = (48 + c, slot.Nothing) ∷ []
+  at_hand c own.Idle = (call_slot c, slot.Nothing) ∷ (journal_slot c, slot.Nothing) ∷ []
+  at_hand c o = (journal_slot c, slot.Nothing) ∷ []
 
 module _ {S O R : Type 0} (op_in : O → AnyOp) (reply_in : R → AnyReply) where
   pub record IsClient (number calls quota : ℕ) (outstanding : Bool) (j : Journal O R)
@@ -172,7 +172,7 @@ module _ {S O R : Type 0} (content : S → Content) (op_in : O → AnyOp) (reply
       pub fits : Fits content op_in reply_in (kind_at me.0.kinds object)
           (get_elem? me.0.lists object)
           core (log_of op_in reply_in core)
-      pub low : object < 16
+      pub low : object < max_objects
 
     pub record IsHand (number calls quota : ℕ) (outstanding : Bool) (j : Journal O R) (object : ℕ)
         (core : Core S O R) (row : ℕ) (request : Request O) (me : Me (Slot S O R) DeskView) : Type 0
@@ -181,12 +181,12 @@ module _ {S O R : Type 0} (content : S → Content) (op_in : O → AnyOp) (reply
         pub holds : me.0.held
             ≡ held.Hand object (log_of op_in reply_in core) row (request_in op_in request)
         pub in_hand : me.1
-            ≡ (16 + row, slot.Nothing) ∷ (object, slot.Nothing) ∷ at_hand number me.0.own
+            ≡ (call_slot row, slot.Nothing) ∷ (object, slot.Nothing) ∷ at_hand number me.0.own
         pub fits : Fits content op_in reply_in (kind_at me.0.kinds object)
             (get_elem? me.0.lists object)
             core (log_of op_in reply_in core)
-        pub low : object < 16
-        pub row_low : row < 32
+        pub low : object < max_objects
+        pub row_low : row < max_clients
         pub on : request.object ≡ object
         pub of_kind : kind_of (op_in request.op) ≡ kind_at me.0.kinds object
 

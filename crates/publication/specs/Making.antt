@@ -58,10 +58,10 @@ IsSmall plan =
     × (plan.quota < 1 + max_calls)
 
 -- the owner of the row c has a place of its row in each of these lists, at which nothing was tried,
--- and room for 16
+-- and room for the places of all objects
 abbrev pub HasPlaces : {Z : Type 0} → ℕ → List TableId → Vec PlaceSeen Z → Type 0
 HasPlaces c lists v =
-    (v.items ≡ fresh_places c lists) × (vec_len v ≡ length lists) × (vec_capacity v ≡ 16)
+    (v.items ≡ fresh_places c lists) × (vec_len v ≡ length lists) × (vec_capacity v ≡ max_objects)
 
 -- each of n owners has, of whose rows this is the first
 abbrev pub AreDealt : {Z : Type 0} → ℕ → ℕ → List TableId → List (Vec PlaceSeen Z) → Type 0

@@ -10,6 +10,7 @@ use Rattle.publication_list.specs.declared.board.RowKnowledge.TheVariants as own
 use Rattle.publication_list.specs.declared.board.ListView.{ListView}
 use Rattle.publication_list.specs.declared.board.ListView.TheVariants as view
 use Rattle.publication_list.specs.PublicationList.{WalkMeets, word_at}
+use Rattle.publication_list.specs.Limits.{max_rows}
 
 -- what a place has tried
 abbrev pub tries_of : ListView → List Enlist
@@ -23,7 +24,8 @@ OwnAtRest true o = (n : ℕ) × (o ≡ own.Awake n)
 
 abbrev pub IsPlace : {S : Type 0} → ℕ → Bool → List Enlist → Me S ListView → Type 0
 IsPlace row trying tries me =
-    (row < 32) × ((o : RowKnowledge) × (me ≡ (view.Place row o tries, [])) × OwnAtRest trying o)
+    (row < max_rows)
+    × ((o : RowKnowledge) × (me ≡ (view.Place row o tries, [])) × OwnAtRest trying o)
 
 -- where the row was not asleep, the try is over
 abbrev pub after_look : Bool → List Enlist → List Enlist
@@ -68,6 +70,6 @@ pub record IsWalker {S Z : Type 0} (places : ℕ) (rows : Vec ℕ Z) (walks : Li
     (me : Me S ListView) : Type 0 where
   pub within : length rows.items ≤ places
   pub met : me ≡ (view.Walker places rows.items None walks, [])
-  pub few : places ≤ 32
+  pub few : places ≤ max_rows
   pub room : places ≤ vec_capacity rows
   pub low : (k : ℕ) → k < length rows.items → slice_index rows.items k < places

@@ -13,6 +13,7 @@ use Rattle.machine.specs.declared.step.Step.TheVariants.{Take, Release, End}
 use Rattle.schedule.specs.declared.header.Header.{Header}
 use Rattle.seq_objects.specs.declared.kinds.Kinds.{Kinds}
 use Rattle.seq_objects.specs.Kinds.{kinds_named}
+use Rattle.desk_model.specs.Limits.{max_objects, max_clients, max_calls}
 
 -- a number from low to high
 abbrev pub number_within : ℕ → ℕ → Option ℕ → Option ℕ
@@ -32,9 +33,9 @@ header_with k n c q = None
 
 -- what a machine can be made of
 pub record IsWithin (h : Header) : Type 0 where
-  pub objects : (0 < h.objects) × (h.objects ≤ 16)
-  pub clients : (0 < h.clients) × (h.clients ≤ 32)
-  pub quota : h.quota ≤ 10000
+  pub objects : (0 < h.objects) × (h.objects ≤ max_objects)
+  pub clients : (0 < h.clients) × (h.clients ≤ max_clients)
+  pub quota : h.quota ≤ max_calls
 
 -- The header that a form is, if it is one: kinds, and how many objects, clients and calls of each
 -- client there are. Other keys are ignored.
@@ -43,8 +44,9 @@ header_of (atom a) = None
 header_of (vector ds) = None
 header_of (dictionary es) =
     header_with (option_and_then kinds_named (keyword_in (value_at (codes "kind") es)))
-    (number_at (codes "objects") 1 16 es)
-    (number_at (codes "clients") 1 32 es) (number_at (codes "quota") 0 10000 es)
+    (number_at (codes "objects") 1 max_objects es)
+    (number_at (codes "clients") 1 max_clients es)
+    (number_at (codes "quota") 0 max_calls es)
 
 -- ---- steps
 

@@ -8,7 +8,7 @@ use Rattle.machine.proofs.Rows.{answer_done, object_there, stage_written}
 use Rattle.machine.proofs.machine.Machine.answer.Goals as goal
 
 pub returns-in_default : goal.returns-in_default
-returns-in_default g c = (refl, λ after h. c.in_default.ensures.none h.3.0 h.3.1 h.3.6.0 h.3.6.1)
+returns-in_default g c = (refl, λ after h. c.in_default.ensures.none h.3.object h.3.row h.3.in_hand.0 h.3.in_hand.1)
 
 pub serve-answer-requires-after_bounds : goal.serve-answer-requires-after_bounds
 serve-answer-requires-after_bounds g c =

@@ -4,7 +4,7 @@ use Rattle.machine.proofs.Rows.{put_back_done}
 use Rattle.machine.proofs.machine.Machine.put_back.Goals as goal
 
 pub returns-in_default : goal.returns-in_default
-returns-in_default g c = (refl, λ after h. c.in_default.ensures.none h.3.0 h.3.1 h.3.4.0 h.3.4.1)
+returns-in_default g c = (refl, λ after h. c.in_default.ensures.none h.3.object h.3.row h.3.in_hand.0 h.3.in_hand.1)
 
 pub returns-then-is_possible : goal.returns-then-is_possible
 returns-then-is_possible g c = (refl, put_back_not c.args.self.now c.args.client c.in-Some.object c.in-Some.row _ c.in-Some.ensures.found (c.if-is_possible.ensures.possible.0 refl))

@@ -6,8 +6,8 @@ pub returns-then-not-is_hand_free : goal.returns-then-not-is_hand_free
 returns-then-not-is_hand_free g c = (
   refl,
   λ after h.
-      let same : h.3.0 ≡ c.in-Some.object = c.in-Some.ensures.only h.3.0 h.3.1 in
-      let e : false ≡ true = c.if-not-is_hand_free.ensures.1 (ap (λ k. get_or c.args.self.now.hands k None) (sym same) ∙ h.3.2) in
+      let same : h.3.object ≡ c.in-Some.object = c.in-Some.ensures.only h.3.object h.3.held in
+      let e : false ≡ true = c.if-not-is_hand_free.ensures.1 (ap (λ k. get_or c.args.self.now.hands k None) (sym same) ∙ h.3.free) in
       absurd (cc),
 )
 
