@@ -7,6 +7,7 @@ ghost use Rattle.certificate.specs.Denotes.{AreDistinct};
 ghost use Rattle.checker.specs.Refusals.{AreValid};
 ghost use Rattle.judging.specs.Verdicts.{IsYesUnlessMemory, JudgesBy};
 ghost use Rattle.outputs.specs.Outputs.{Leaves};
+ghost use Rattle.history_commands.specs.Comments.{comment_lines};
 ghost use Rattle.commands.specs.Runs.{IsRecordOutput, IsRun, IsTextOf, Says, journals_of, logs_of};
 ghost use Rattle.commands.specs.Runs.{work_of};
 ghost use Rattle.clients.specs.Made.{Ran};
@@ -15,7 +16,7 @@ use certificate::Certificate;
 use checker::check_all;
 use clients::{RunFault, run_workers};
 use command_line::RunOptions;
-use edn::{Out, Sink};
+use edn::Sink;
 use history::History;
 use history_commands::comments_text;
 use outputs::{NO_MEMORY, send, send_both, send_out_of_memory};
@@ -25,22 +26,22 @@ use seq_objects::{AnyObject, Open};
 use std::alloc::{AllocError, Global};
 use std::sync::Wait;
 use std::thread::Threads;
-use transcript::{certificates, history, sound_record_is_accepted, write_history};
+use transcript::{Account, account_of, sound_record_is_accepted};
 use workload::workload;
 
-/// The lines of the record's history, then this text, and its certificates as comments.
-fn text_of(alloc: Global, record: &Record<AnyObject>, between: &[u8]) -> Result<Vec<u8>, AllocError>
-    ensures { IfOk result (λ text.
-        IsTextOf (journals_of record.now) (logs_of record.now) between.now text.items) }
+/// The text of a history, then this text, and the certificates as comments.
+fn text_of(
+    alloc: Global,
+    history: Vec<u8>,
+    between: &[u8],
+    certificates: &[Certificate],
+) -> Result<Vec<u8>, AllocError>
+    ensures { IfOk result (λ text. text.items
+        ≡ history.items ++ (between.now ++ comment_lines certificates.now)) }
 {
-    let mut sink = Out::new(Vec::new(alloc));
-    if write_history(alloc, record, &mut sink).is_err() {
-        return Err(AllocError);
-    }
-    let mut text = sink.into_inner();
+    let mut text = history;
     text.extend_from_slice(between)?;
-    let certificates = certificates(alloc, record)?;
-    let comments = comments_text(alloc, &certificates)?;
+    let comments = comments_text(alloc, certificates)?;
     text.extend_from_slice(&comments)?;
     Ok(text)
 }
@@ -55,9 +56,9 @@ fn verdict_by(alloc: Global, history: &History, certificates: &[Certificate]) ->
     verdict_on_check(alloc, history, checked)
 }
 
-/// The text of the record, and the verdict of the check on it in memory. Its history and its
-/// certificates are gathered once for the check and the counts.
-fn account_of(
+/// The lines of the record's history, then this text, and its certificates as comments; and the
+/// verdict of the check on them in memory.
+fn report_of(
     alloc: Global,
     record: &Record<AnyObject>,
     between: &[u8],
@@ -71,10 +72,13 @@ fn account_of(
 {
     // This does nothing: it says that the certificates of a sound record are valid.
     sound_record_is_accepted();
-    let history = history(alloc, record)?;
-    let certificates = certificates(alloc, record)?;
-    let text = text_of(alloc, record, between)?;
+    let Account {
+        history,
+        certificates,
+        text,
+    } = account_of(alloc, record)?;
     let verdict = verdict_by(alloc, &history, &certificates);
+    let text = text_of(alloc, text, between, &certificates)?;
     Ok((text, verdict))
 }
 
@@ -91,7 +95,7 @@ pub(crate) fn report_record<S: Sink>(
         (IsRecordOutput (journals_of record.now) (logs_of record.now) between.now)
         (S.sent sink.old) result (S.sent sink.new) (S.broken sink.new) }
 {
-    match account_of(alloc, record, between) {
+    match report_of(alloc, record, between) {
         Ok((text, verdict)) => send_both(&text, &verdict, sink),
         Err(AllocError) => send_out_of_memory(sink),
     }

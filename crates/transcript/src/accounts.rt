@@ -10,8 +10,10 @@ ghost use Rattle.recorder.specs.Histories.{max_tickets};
 ghost use Rattle.checker.specs.declared.refusal.Refusal.{Refusal};
 ghost use Rattle.transcript.specs.Lines as spec;
 ghost use Rattle.transcript.specs.Accounts.{AreCertificatesOf, IsAccepted, IsRefused};
+ghost use Rattle.transcript.specs.Written.{IsHistoryText};
 
 use crate::line::{Line, lines_of};
+use crate::text::history_text;
 use certificate::Certificate;
 use checker::{Refusal, check_all};
 use events::{Event, History, split};
@@ -54,6 +56,28 @@ fn order_of<S: SeqObject>(
     Ok(order)
 }
 
+/// The certificates of a record whose history is this.
+fn certificates_by<S: SeqObject>(
+    alloc: Global,
+    account: &Record<S>,
+    history: &History,
+) -> Result<Vec<Certificate>, AllocError>
+    requires kept { IsRecordOf S.op_in S.reply_in account.now }
+    requires history { AreEventsOf (journals_in S.op_in S.reply_in account.now) history.now }
+    ensures { IfOk result (λ v.
+        AreCertificatesOf (journals_in S.op_in S.reply_in account.now)
+        (logs_in S.op_in S.reply_in account.now) v.items) }
+{
+    let objects = split(alloc, history)?;
+    let mut certificates = Vec::new(alloc);
+    for named in &objects {
+        let object = named.object();
+        let order = order_of::<S>(alloc, account.log(object))?;
+        certificates.push(Certificate { object, order })?;
+    }
+    Ok(certificates)
+}
+
 /// A certificate for each object that some call names, in rising order of objects: the tickets of
 /// its log.
 pub fn certificates<S: SeqObject>(
@@ -65,14 +89,41 @@ pub fn certificates<S: SeqObject>(
         (logs_in S.op_in S.reply_in account.now) v.items) }
 {
     let history = history(alloc, account)?;
-    let objects = split(alloc, &history)?;
-    let mut certificates = Vec::new(alloc);
-    for named in &objects {
-        let object = named.object();
-        let order = order_of::<S>(alloc, account.log(object))?;
-        certificates.push(Certificate { object, order })?;
-    }
-    Ok(certificates)
+    certificates_by(alloc, account, &history)
+}
+
+/// What a record says, for which its events are gathered and sorted once.
+#[derive(Drop)]
+pub struct Account {
+    /// The history.
+    pub history: History,
+    /// The certificates, one for each object that some call names.
+    pub certificates: Vec<Certificate>,
+    /// The text of the history.
+    pub text: Vec<u8>,
+}
+
+/// The history, the certificates and the text of the history of a record, as `history`,
+/// `certificates` and `write_history` give them one by one.
+pub fn account_of<S: SeqObject>(alloc: Global, account: &Record<S>) -> Result<Account, AllocError>
+    ensures history { IfOk result (λ a.
+        AreEventsOf (journals_in S.op_in S.reply_in account.now) a.history) }
+    ensures certificates { IfOk result (λ a.
+        AreCertificatesOf (journals_in S.op_in S.reply_in account.now)
+        (logs_in S.op_in S.reply_in account.now) a.certificates.items) }
+    ensures text { IfOk result (λ a.
+        IsHistoryText (journals_in S.op_in S.reply_in account.now) a.text.items) }
+{
+    let lines = lines_of(alloc, account)?;
+    let text = history_text(alloc, &lines)?;
+    let events = events_in(alloc, &lines)?;
+    let history = History::new(events);
+    let certificates = certificates_by(alloc, account, &history)?;
+    Ok(Account {
+        history,
+        certificates,
+        text,
+    })
 }
 
 /// Checks the record's history with its certificates. Where the record is sound they are accepted,

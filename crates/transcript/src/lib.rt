@@ -6,6 +6,6 @@ mod laws;
 mod line;
 mod text;
 
-pub use accounts::{certificates, check_record, history};
+pub use accounts::{Account, account_of, certificates, check_record, history};
 pub use laws::{sound_record_is_accepted, written_history_denotes};
 pub use text::write_history;

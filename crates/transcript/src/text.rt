@@ -146,7 +146,7 @@ fn write_lines<S: Sink>(lines: &[Line], sink: &mut S) -> Result<(), Failed>
 }
 
 /// The text of these lines.
-fn history_text(alloc: Global, lines: &[Line]) -> Result<Vec<u8>, AllocError>
+pub(crate) fn history_text(alloc: Global, lines: &[Line]) -> Result<Vec<u8>, AllocError>
     requires { All (λ l. l.event.process < 2 ^ 63) lines.now }
     ensures text { IfOk result (λ v. v.items ≡ spec.history_text lines.now) }
     ensures in_profile { IfOk result (λ _. All (λ l. InProfile (spec.form_of l)) lines.now) }

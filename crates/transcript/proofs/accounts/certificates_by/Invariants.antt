@@ -1,7 +1,7 @@
 use Rattle.std.proofs.Common.{◌≡◌, map, take, All}
 use Rattle.desk_model.specs.Records.{order_of}
 use Rattle.recorder.specs.Histories.{logs_in}
-use Rattle.transcript.proofs.accounts.certificates.Given as goal
+use Rattle.transcript.proofs.accounts.certificates_by.Given as goal
 
 -- a certificate for each of the objects so far, with the tickets of its log
 abbrev pub invariant-loop-named : goal.invariant-loop-named

@@ -8,7 +8,7 @@ use Rattle.desk_model.specs.Images.{entry_in}
 use Rattle.desk_model.specs.Records.{order_of}
 use Rattle.recorder.specs.Histories.{journals_in, logs_in}
 use Rattle.transcript.proofs.Certifying.{has_log, log_low, objects_more, name_of_item, names_rise, are_certificates}
-use Rattle.transcript.proofs.accounts.certificates.Goals as goal
+use Rattle.transcript.proofs.accounts.certificates_by.Goals as goal
 
 pub log-requires-after_bounds : goal.log-requires-after_bounds
 log-requires-after_bounds g c κs within =
@@ -21,11 +21,11 @@ log-requires-after_bounds g c κs within =
     let among = name_of_item (λ (o : ObjectCalls). o.object) vs c.loop-named.named-index v c.loop-named-test.true c.named-item.is in
     let there = subst (λ (os : List ObjectCalls). Contains (map (λ (o : ObjectCalls). o.object) os) v.object) c.deref-named-items.ensures.value among in
     let named = (c.in_ok-objects.ensures.named v.object).0 there in
-    has_log _ (journals_in op_in reply_in r) _ c.in_ok-history.ensures.kept _ c.in_ok-history.ensures.history x
-    (subst (λ (y : ℕ). IsNamed c.in_ok-history.history y) (sym c.object-object.ensures) named)
+    has_log _ (journals_in op_in reply_in r) _ c.requires.kept _ c.requires.history x
+    (subst (λ (y : ℕ). IsNamed c.args.history.now y) (sym c.object-object.ensures) named)
 
 pub order_of-requires-after_bounds : goal.order_of-requires-after_bounds
-order_of-requires-after_bounds g c κs within = log_low g.S.SeqObject.op_in g.S.SeqObject.reply_in c.args.account.now c.in_ok-history.ensures.kept c.object-object.result c.log.result.now c.log.ensures
+order_of-requires-after_bounds g c κs within = log_low g.S.SeqObject.op_in g.S.SeqObject.reply_in c.args.account.now c.requires.kept c.object-object.result c.log.result.now c.log.ensures
 
 pub loop-named-preserved : goal.loop-named-preserved
 loop-named-preserved g c =
@@ -51,5 +51,5 @@ returns g c =
     let all : map (λ (d : Certificate). d.object) c.loop-named.certificates.items ≡ map (λ (o : ObjectCalls). o.object) os =
     c.loop-named.invariant.objects ∙ ap (map (λ (o : ObjectCalls). o.object))
     (take_all c.loop-named.named-index c.deref-named-items.result.now c.loop-named-test.false ∙ c.deref-named-items.ensures.value) in
-    are_certificates (journals_in op_in reply_in r) (logs_in op_in reply_in r) _ c.in_ok-history.ensures.history
+    are_certificates (journals_in op_in reply_in r) (logs_in op_in reply_in r) _ c.requires.history
     (map (λ (o : ObjectCalls). o.object) os) (names_rise os c.in_ok-objects.ensures.rising) c.in_ok-objects.ensures.named c.loop-named.certificates.items all c.loop-named.invariant.orders

@@ -2,16 +2,16 @@ use Rattle.std.proofs.Common.{subst, sym}
 use Rattle.transcript.specs.Accounts.{AreCertificatesOf}
 use Rattle.commands.specs.Runs.{journals_of, logs_of}
 use Rattle.commands.proofs.Reports.{says_of}
-use Rattle.commands.proofs.running.account_of.Goals as goal
+use Rattle.commands.proofs.running.report_of.Goals as goal
 
 pub returns : goal.returns
 returns c =
     let js = journals_of c.args.record.now in
     let ls = logs_of c.args.record.now in
-    let es = c.in_ok-history.history in
+    let es = c.in_ok-Account.history in
     let cs = c.deref.result.now in
-    let are_events = c.in_ok-history.ensures.history in
-    let are_certificates = subst (AreCertificatesOf js ls) (sym c.deref.ensures.value) c.in_ok-certificates.ensures in
+    let are_events = c.in_ok-Account.ensures.history in
+    let are_certificates = subst (AreCertificatesOf js ls) (sym c.deref.ensures.value) c.in_ok-Account.ensures.certificates in
     let e = c.verdict_by-verdict.ensures in
     record {
       text = c.in_ok-text.ensures;
