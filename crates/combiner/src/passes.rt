@@ -147,7 +147,7 @@ fn walk<S: SeqObject>(pass: &mut Pass<S>)
 
 // The row at this place of the list, if there is one.
 fn row_at<S: SeqObject>(pass: &Pass<S>, at: usize) -> Option<u32>
-    ensures { IfSome result (λ row. row < 32) }
+    ensures { IfSome result (λ row. row < max_clients) }
 {
     let rows = pass.rows();
     if at < rows.len() {
@@ -225,7 +225,7 @@ fn serve_others<S: SeqObject>(desk: &Desk<S>, pass: Pass<S>, own: u32) -> (Pass<
 // is put back.
 fn try_row<S: SeqObject>(desk: &Desk<S>, pass: Pass<S>, row: u32) -> (Pass<S>, Tried)
     requires desk { pass.desk ≡ desk.now.id }
-    requires row { row < 32 }
+    requires row { row < max_clients }
     ensures goes { Goes pass result.0 }
     ensures own { row ≡ pass.knows.number → IsTried result.0 result.1 }
 {

@@ -1,6 +1,7 @@
 //! A client, and what it becomes while it holds an object.
 
 ghost use Rattle.std.specs.Prelude.{◌≡◌, ◌+◌, ◌<◌, ◌≤◌, ℕ, [], ◌∷◌, ◌++◌, vec_len, vec_capacity};
+ghost use Rattle.desk_model.specs.Limits.{max_objects, max_clients};
 ghost use Rattle.desk_model.specs.declared.JournalEvent.TheVariants.{Invoked, Returned};
 ghost use Rattle.desk_model.specs.World.{kind_at, IsLegal};
 ghost use Rattle.desk_invariant.specs.Views.{is_waiting, seen_of, IsAccount};
@@ -25,18 +26,19 @@ pub(crate) struct Places {
 impl Model for Places {
     ghost use Rattle.std.specs.Prelude.{◌≡◌, List, length};
     ghost use Rattle.publication_list.specs.Calls.{PlaceSeen};
+    ghost use Rattle.desk_model.specs.Limits.{max_objects};
 
     ghost Value = { List PlaceSeen };
 
     ghost view = { λ p. p.all.items };
 
-    ghost invariant = { λ p. length p.all.items ≡ 16 };
+    ghost invariant = { λ p. length p.all.items ≡ max_objects };
 }
 
 impl Places {
     // Tries once to put the client's row in front of the list of the object.
     pub fn enlist(&mut self, object: usize) -> Enlist
-        requires { object < 16 }
+        requires { object < max_objects }
         ensures { self.new ≡ trying object result self.old }
     {
         self.all[object].enlist()
@@ -184,7 +186,7 @@ impl<S: SeqObject> Client<S> {
     /// The client's number, which is that of its row.
     pub fn number(&self) -> u32
         ensures number { result ≡ self.now.knows.number }
-        ensures low { result < 32 }
+        ensures low { result < max_clients }
         // The kinds that it knows are those of its desk.
         ensures kinds { self.now.knows.kinds ≡ self.now.desk.kinds }
     {

@@ -193,7 +193,7 @@ fn take_journal<S: SeqObject>(
     left: &mut Left<S, S::Op, S::Reply>,
     client: u32,
 ) -> Vec<JournalEvent<S::Op, S::Reply>>
-    requires slots { IsTakenTo (48 + client) left.old × (client < 32) }
+    requires slots { IsTakenTo (48 + client) left.old × (client < max_clients) }
     requires journal { HasJournal (values_of left.old) client }
     ensures slots { IsTakenTo (49 + client) left.new × (values_of left.new ≡ values_of left.old) }
     ensures journal { IsJournalOf (values_of left.old) client result.items }

@@ -26,6 +26,9 @@ const OBJECTS: usize = 16;
 /// How many slots the table has.
 pub(crate) const SLOTS: usize = 80;
 
+/// How many words the table has.
+const WORDS: usize = 81;
+
 // The kind of each object.
 fn kinds_of<S: SeqObject>(alloc: Global, objects: &[S]) -> Result<Vec<Kind>, AllocError>
     ensures { IfOk result (λ v. v.items ≡ kinds_with S.content objects.now) }
@@ -58,7 +61,7 @@ struct Dealt {
 fn lists(alloc: Global, owners: &mut Vec<Vec<SharedPlace>>) -> Result<Dealt, AllocError>
     requires few { (0 < length owners.old.items) × (length owners.old.items < 1 + max_clients) }
     requires owners { AreDealt 0 (length owners.old.items) [] owners.old.items }
-    ensures lists { IfOk result (λ l. (vec_len l.rosters ≡ 16)
+    ensures lists { IfOk result (λ l. (vec_len l.rosters ≡ max_objects)
         × AreWalkersOf l.rosters.items l.walkers.items) }
     ensures owners { IfOk result (λ l.
         AreDealt 0 (length owners.old.items) l.rosters.items owners.new.items) }
@@ -79,7 +82,7 @@ fn cores<S: SeqObject>(
     objects: Vec<S>,
     mut lists: Vec<SharedWalker>,
 ) -> Result<Vec<Slot<S, S::Op, S::Reply>>, AllocError>
-    requires { (length objects.items < 1 + max_objects) × (vec_len lists ≡ 16) }
+    requires { (length objects.items < 1 + max_objects) × (vec_len lists ≡ max_objects) }
     ensures { IfOk result (λ v. (vec_len v ≡ length objects.items) × (vec_capacity v ≡ table_slots)
         × AreCores objects.items (rosters_of lists.items) v.items) }
 {
@@ -105,7 +108,7 @@ fn lay<S: SeqObject>(
     objects: Vec<S>,
     lists: Vec<SharedWalker>,
 ) -> Result<Vec<Slot<S, S::Op, S::Reply>>, AllocError>
-    requires { (length objects.items < 1 + max_objects) × (vec_len lists ≡ 16) }
+    requires { (length objects.items < 1 + max_objects) × (vec_len lists ≡ max_objects) }
     ensures { IfOk result (λ v. IsLaid objects.items (rosters_of lists.items) v.items) }
 {
     let mut slots = cores(alloc, objects, lists)?;
@@ -125,7 +128,7 @@ fn open<S: SeqObject>(
     plan: &Plan,
 ) -> Result<Opened<S, S::Op, S::Reply>, AllocError>
     requires objects { AreEmpty S.content objects.items }
-    requires lists { (vec_len lists ≡ 16) × AreWalkersOf plan.now.lists.items lists.items }
+    requires lists { (vec_len lists ≡ max_objects) × AreWalkersOf plan.now.lists.items lists.items }
     requires plan { (plan.now.kinds.items ≡ kinds_with S.content objects.items) × IsSmall plan.now }
     ensures { IfOk result (λ r. (r.1.table_id ≡ r.0.shared.table_id)
         × (r.0.shared.table_id.words ≡ table_words)
@@ -133,7 +136,7 @@ fn open<S: SeqObject>(
         × (r.1.me ≡ (maker_of plan.now.kinds.items plan.now.lists.items 0, []))) }
 {
     let slots = lay(alloc, objects, lists)?;
-    let words = [0; 81];
+    let words = [0; WORDS];
     match Table::new(alloc, &words, slots, plan) {
         Ok(opened) => Ok(opened),
         Err(_) => Err(AllocError),
@@ -174,7 +177,7 @@ fn make<S: SeqObject>(
         ≡ (maker_of table.now.shared.key.kinds.items table.now.shared.key.lists.items number, []) }
     requires journal { HasRoom quota journal }
     requires places { (places ≡ fresh_places number table.now.shared.key.lists.items)
-        × (length table.now.shared.key.lists.items ≡ 16) }
+        × (length table.now.shared.key.lists.items ≡ max_objects) }
     ensures maker { (maker.new.table_id ≡ maker.old.table_id)
         × (maker.new.me ≡ (
           maker_of table.now.shared.key.kinds.items table.now.shared.key.lists.items
@@ -222,7 +225,7 @@ fn make_all<S: SeqObject>(
         × All (HasRoom quota) journals.items }
     requires owners { AreDealt 0 table.now.shared.key.clients table.now.shared.key.lists.items
         owners.items
-        × (length table.now.shared.key.lists.items ≡ 16) }
+        × (length table.now.shared.key.lists.items ≡ max_objects) }
     requires made { IsRoom table.now.shared.key.clients made.old × (vec_len made.old ≡ 0) }
     ensures { (length made.new.items ≡ table.now.shared.key.clients)
         × AllBegun (record {

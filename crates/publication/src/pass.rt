@@ -2,6 +2,7 @@
 
 ghost use Rattle.std.specs.Prelude.{◌≡◌, ◌+◌, ◌-◌, ◌^◌, ◌<◌, ◌++◌, ◌↔◌, length, min, map, vec_len};
 ghost use Rattle.std.specs.Prelude.{vec_capacity, IsTrue, IsSome};
+ghost use Rattle.desk_model.specs.Limits.{max_clients};
 ghost use Rattle.model.specs.Objects.{kind_of, kind_with, next};
 ghost use Rattle.desk_model.specs.World.{logged, Serves};
 ghost use Rattle.desk_model.specs.Images.{request_in, answer_in, entry_in};
@@ -23,7 +24,7 @@ impl<S: SeqObject> Pass<S> {
     /// The number of the client that holds the object.
     pub fn number(&self) -> u32
         ensures number { result ≡ self.now.knows.number }
-        ensures low { result < 32 }
+        ensures low { result < max_clients }
         ensures kinds { self.now.knows.kinds ≡ self.now.desk.kinds }
     {
         self.member.number
@@ -35,7 +36,7 @@ impl<S: SeqObject> Pass<S> {
     /// object is answered. A row past the last client has none.
     pub fn pick(self, desk: &Desk<S>, row: u32) -> Picked<S>
         requires desk { self.desk ≡ desk.now.id }
-        requires row { row < 32 }
+        requires row { row < max_clients }
         ensures desk { desk_after_pick result ≡ self.desk }
         ensures state { state_after_pick result ≡ self.state }
         ensures got { IfGot result (Got self row) }

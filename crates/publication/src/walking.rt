@@ -3,6 +3,7 @@
 
 ghost use Rattle.std.specs.Prelude.{◌≡◌, ◌<◌, ◌≤◌, ◌∷◌, ◌++◌, All, [], length, remove, slice_index};
 ghost use Rattle.std.specs.Prelude.{slice_set, OnOk};
+ghost use Rattle.desk_model.specs.Limits.{max_clients};
 ghost use Rattle.publication_list.specs.PublicationList.{WalkMeets};
 ghost use Rattle.publication.specs.Handles.{HasPlaceAt, IsListOf, trying};
 
@@ -50,7 +51,7 @@ impl<S: SeqObject> Pass<S> {
     pub fn rows(&self) -> &[u32]
         ensures rows { result.now ≡ self.now.state.list.rows }
         ensures list { IsListOf self.now.desk self.now.object self.now.state.list.roster }
-        ensures low { All (λ row. row < 32) self.now.state.list.rows }
+        ensures low { All (λ row. row < max_clients) self.now.state.list.rows }
         ensures few { length self.now.state.list.rows ≤ 32 }
     {
         self.core.inside.list.rows()
@@ -75,7 +76,7 @@ impl<S: SeqObject> Pass<S> {
 
     /// The number of the pass that last set the row's age, 0 before.
     pub fn age(&self, row: u32) -> u64
-        requires { row < 32 }
+        requires { row < max_clients }
         ensures { result ≡ slice_index self.now.state.ages row }
     {
         self.core.inside.ages[row as usize]
@@ -83,7 +84,7 @@ impl<S: SeqObject> Pass<S> {
 
     /// Gives the row the number of this pass as its age.
     pub fn set_age(&mut self, row: u32)
-        requires { row < 32 }
+        requires { row < max_clients }
         ensures { self.new
             ≡ record self.old {
               state = record self.old.state

@@ -15,6 +15,9 @@ use atomic_table::Table;
 use std::alloc::{AllocError, Global};
 use std::marker::Model;
 
+/// How many words the table of a list has.
+const WORDS: usize = 65;
+
 /// The publication list of one object.
 #[derive(Drop)]
 pub struct Roster {
@@ -69,7 +72,7 @@ impl Roster {
     {
         let mut places = Vec::with_capacity(alloc, rows as usize)?;
         let room = Vec::with_capacity(alloc, rows as usize)?;
-        let words = [0; 65];
+        let words = [0; WORDS];
         let (table, mut seat) = Table::of_words(alloc, &words, &rows)?;
         make_all(&table, &mut seat, rows, &mut places);
         let walker = Walker {
