@@ -1,5 +1,4 @@
 use Rattle.std.proofs.Common.{ℕ, ◌<◌, ◌≤◌, List, length, sym, subst, arith}
-use Rattle.model.specs.declared.Kind.{Kind}
 use Rattle.model.proofs.Lists.{all_at, all_from_in}
 use Rattle.events.specs.declared.event.Event.{Event}
 use Rattle.edn_fields.specs.Fields.{max_object}
