@@ -4,7 +4,7 @@ use Rattle.std.specs.Prelude.{option_and_then}
 use Rattle.std.specs.Str.{IsUtf8}
 use Rattle.std.proofs.lemmas.List.{append-nil}
 use Rattle.edn_reader.specs.Datum.{Datum, Fits, items_of, max_open}
-use Rattle.edn_reader.specs.Elements.{PassesElement}
+use Rattle.edn_reader.specs.Elements.{SpellsFront, PassesElement}
 use Rattle.edn_reader.specs.Reading.{next, skip, in_text, State, step, steps, opening, closed}
 use Rattle.edn_reader.specs.Sound.{BeginWith}
 use Rattle.edn_reader.specs.Spells.{IsNext}
@@ -38,7 +38,7 @@ rest_shorter text rest p = begin_shorter (tokens_of p.element ++ []) text rest (
 
 -- ---- tokens that make a form
 
-both_begin : (ts us : List Token) (text mid rest : List ℕ) → BeginWith ts text mid → BeginWith us mid rest → BeginWith (ts ++ us) text rest
+pub both_begin : (ts us : List Token) (text mid rest : List ℕ) → BeginWith ts text mid → BeginWith us mid rest → BeginWith (ts ++ us) text rest
 both_begin [] us text mid rest b k = subst (λ (x : List ℕ). BeginWith us x rest) (sym b) k
 both_begin (t ∷ ts) us text mid rest (q, n, b) k = (q, n, both_begin ts us q mid rest b k)
 
@@ -53,9 +53,9 @@ progress (t ∷ ts) text mid rest s z (q, n, b) e p =
     by_step (Some x) h k go = go x h k
 
 -- the tokens of a form whose keys are distinct and whose brackets are not too deep
-pub front_of : (text rest : List ℕ) (d : Datum) → IsUtf8 text → Fits max_open d → BeginWith (tokens_of d) text rest → PassesElement text rest
+pub front_of : (text rest : List ℕ) (d : Datum) → IsUtf8 text → Fits max_open d → BeginWith (tokens_of d) text rest → SpellsFront text (d ∷ []) rest × IsUtf8 rest
 front_of text rest d u f b =
     let e : steps (tokens_of d ++ []) opening ≡ Some (closed (d ∷ [])) = steps_items (items_of (d ∷ [])) 16 in_text (λ xs x. refl) [] [] (f, tt) refl in
     let p : Progress text rest (closed (d ∷ [])) =
-    progress (tokens_of d ++ []) text text rest opening (closed (d ∷ [])) (subst (λ (ts : List Token). BeginWith ts text rest) (sym (append-nil (tokens_of d))) b) e (start text u) in
-    record { element = d; front = element_front text rest d p u; utf8 = p.utf8 }
+        progress (tokens_of d ++ []) text text rest opening (closed (d ∷ [])) (subst (λ (ts : List Token). BeginWith ts text rest) (sym (append-nil (tokens_of d))) b) e (start text u) in
+    (element_front text rest d p u, p.utf8)

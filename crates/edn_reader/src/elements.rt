@@ -122,10 +122,10 @@ impl<'a> Elements<'a> {
 
     /// What is left of the text.
     #[inline(always)]
-    pub fn rest(&self) -> &'a [u8]
+    pub fn rest(&self) -> &'a str
         ensures { result.now ≡ left_of self.now }
     {
-        self.rest.as_bytes()
+        self.rest
     }
 
     /// Passes over an element that was read from what is left of the text by other means, with this
