@@ -15,10 +15,14 @@ use seq_objects::{Function, Value};
 
 /// What follows these bytes, where the text begins with them.
 #[inline(always)]
-pub fn after<'a>(text: &'a [u8], bytes: &[u8]) -> Option<&'a [u8]>
+pub fn after<'a, const N: usize>(text: &'a [u8], bytes: &[u8; N]) -> Option<&'a [u8]>
     ensures { IfSome result (λ rest. text.entry.now ≡ bytes.now ++ rest.now) }
 {
-    text.strip_prefix(bytes)
+    let (front, rest) = text.split_first_chunk::<N>()?;
+    if front != bytes {
+        return None;
+    }
+    Some(rest)
 }
 
 /// Whether a word ends here, by the bytes that usually follow one.
@@ -94,9 +98,9 @@ pub fn type_at(text: &[u8]) -> Option<(MapType, &[u8])>
 
 /// This function, where the text goes on with these bytes.
 #[inline(always)]
-fn function_with<'a>(
+fn function_with<'a, const N: usize>(
     text: &'a [u8],
-    bytes: &[u8],
+    bytes: &[u8; N],
     function: Function,
 ) -> Option<(Function, &'a [u8])>
     ensures { IfSome result (λ x. (x.0 ≡ function)
@@ -166,7 +170,11 @@ fn pair_after(inside: &[u8]) -> Option<(Value, &[u8])>
 
 /// This value, where the text begins with these bytes.
 #[inline(always)]
-fn word_at<'a>(text: &'a [u8], word: &[u8], value: Value) -> Option<(Value, &'a [u8])>
+fn word_at<'a, const N: usize>(
+    text: &'a [u8],
+    word: &[u8; N],
+    value: Value,
+) -> Option<(Value, &'a [u8])>
     ensures { IfSome result (λ x. (x.0 ≡ value) × EndsToken x.1.now
         × (text.entry.now ≡ word.now ++ x.1.now)) }
 {
