@@ -30,5 +30,6 @@ pub mod Turns
 pub mod Tables
 pub mod Runs
 pub mod Following
+pub mod Fronts
 pub mod Formed
 pub mod Standing

@@ -33,6 +33,12 @@ pub record ReadsElement (keeping : Keeping) (text : List ℕ) (tokens : List Tok
   pub front : SpellsFront text (element ∷ []) rest
   pub utf8 : IsUtf8 rest
 
+-- The text begins with one element, and this rest follows it.
+pub record PassesElement (text rest : List ℕ) : Type 0 where
+  pub element : Datum
+  pub front : SpellsFront text (element ∷ []) rest
+  pub utf8 : IsUtf8 rest
+
 -- what a text begins with, or that it has no element more
 abbrev pub ReadsNext : Keeping → List ℕ → List Token → Option (List ℤ) → Option (List ℕ) → Type 0
 ReadsNext keeping text tokens integer_vector None = SpellsNothing text

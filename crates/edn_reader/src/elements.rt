@@ -3,7 +3,7 @@ ghost use Rattle.std.specs.Prelude.{◌≡◌, ◌≢◌, ◌+◌, ◌<◌, ◌�
 ghost use Rattle.std.specs.Prelude.{IsErrAnd, if◌then◌else◌};
 ghost use Rattle.std.specs.Str.{IsUtf8};
 ghost use Rattle.edn_reader.specs.Datum.{Datum};
-ghost use Rattle.edn_reader.specs.Elements.{ReadsNext};
+ghost use Rattle.edn_reader.specs.Elements.{ReadsNext, PassesElement};
 ghost use Rattle.edn_reader.specs.Shapes.{nothing_open};
 ghost use Rattle.edn_reader.specs.Sound.{IsShort, IsUnreadable, IsSoundFrom};
 ghost use Rattle.edn_reader.specs.Spells.{Spells};
@@ -118,6 +118,32 @@ impl<'a> Elements<'a> {
         ensures unreadable { IfErr result (IsUnreadable text.entry.now) }
     {
         Elements::over(alloc, true, Some(key), text)
+    }
+
+    /// What is left of the text.
+    #[inline(always)]
+    pub fn rest(&self) -> &'a str
+        ensures { result.now ≡ left_of self.now }
+    {
+        self.rest
+    }
+
+    /// Passes over an element that was read from what is left of the text by other means, with this
+    /// rest. What was kept of an element stays.
+    #[inline(always)]
+    #[tactic(auto, using(crate::proofs::Fronts::rest_shorter))]
+    pub fn pass(&mut self, after: &'a [u8])
+        requires { PassesElement (left_of self.old) after.now }
+        ensures left { left_of self.new ≡ after.entry.now }
+        ensures keeps { keeping_in self.new ≡ keeping_in self.old }
+        ensures tokens { tokens_in self.new ≡ tokens_in self.old }
+        ensures integer_vector { integer_vector_in self.new ≡ integer_vector_in self.old }
+        ensures moves { start_of self.new + length (left_of self.new)
+            ≡ start_of self.old + length (left_of self.old) }
+        ensures shorter { length (left_of self.new) < length (left_of self.old) }
+    {
+        // What follows an element of a text is text.
+        self.rest = unsafe { std::str::from_utf8_unchecked(after) };
     }
 
     /// The byte of the text at which the next token begins, or the text's length where there is

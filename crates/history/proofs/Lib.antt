@@ -9,3 +9,4 @@ pub mod Reading
 pub mod Saying
 pub mod Truncated
 pub mod TextReading
+pub mod UsualForms

@@ -1,8 +1,10 @@
 -- The maps of a text, one by one: what was found stays found, whatever follows.
-use Rattle.std.proofs.Common.{◌≡◌, ◌≢◌, ℕ, ◌+◌, ◌<◌, ◌≤◌, true, Option, Some, None, List, [], ◌∷◌, ◌++◌, length, take, refl, sym, ap, subst, ◌∙◌, zero-add, arith}
+use Rattle.std.proofs.Common.{◌≡◌, ◌≢◌, ℕ, ◌+◌, ◌<◌, ◌≤◌, true, false, Option, Some, None, List, [], ◌∷◌, ◌++◌, length, take, refl, sym, ap, subst, ◌∙◌, zero-add, arith}
 use Rattle.std.specs.Option.{is_some}
 use Rattle.std.proofs.lemmas.List.{length-append, take_all, take-append-le}
 use Rattle.edn_reader.specs.Datum.{Datum}
+use Rattle.edn_reader.specs.Elements.{SpellsFront}
+use Rattle.edn_reader.proofs.Following.{Along, front_more}
 use Rattle.edn_fields.proofs.FirstFaults.{first_more}
 use Rattle.events.specs.declared.event.Event.{Event}
 use Rattle.events.specs.Events.{IsProper}
@@ -81,3 +83,13 @@ found seen number ds d es k h first none = (
 
 pub proper_reading : (r : Reading) (ds : List Datum) → r.fault ≡ None → IsReading r ds → IsProper r.events.items
 proper_reading r ds e h = let a = are_read r ds e h in subst IsProper (sym a.events) (proper_events ds a.faultless)
+
+-- one form more, of which this is known
+pub along_passed : (P Q : List Datum → Type 0) (text mid rest : List ℕ) (before start : ℕ) (d : Datum) → SpellsFront mid (d ∷ []) rest
+    → start + length rest ≡ before + length mid → ((ds : List Datum) → P ds → Q (ds ++ d ∷ [])) → Along P text mid before → Along Q text rest start
+along_passed P Q text mid rest before start d f moves put a =
+    record { forms = a.forms ++ d ∷ []; front = front_more text mid rest a.forms (d ∷ []) a.front f; holds = put a.forms a.holds; place = moves ∙ a.place }
+
+pub no_fault : (o : Option HistoryFault) → is_some o ≡ false → o ≡ None
+no_fault None e = refl
+no_fault (Some f) e = absurd cc

@@ -2,6 +2,7 @@ pub mod Names
 pub mod Maps
 pub mod Views
 pub mod Texts
+pub mod UsualForms
 pub mod Faults
 pub mod Seen
 pub mod Denotes

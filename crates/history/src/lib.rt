@@ -1,12 +1,15 @@
 //! Histories read from a text, or from its forms.
 #![tactic(auto)]
 
+mod attempts;
 mod client_map;
 mod fault;
 mod map_faults;
 mod reader;
 mod seen;
 mod text_reader;
+mod usual;
+mod usual_map;
 
 pub use client_map::{function, plain_value};
 pub use events::{Action, End, Event, History, Invocation, ObjectHistory, split};

@@ -11,10 +11,13 @@ ghost use Rattle.edn_reader.specs.Token.{tokens_of};
 ghost use Rattle.events.specs.declared.event.Event.{Event};
 ghost use Rattle.history.specs.Denotes.{Denotes};
 ghost use Rattle.history.specs.Texts.{IsFoundIn, IsTextFault};
+ghost use Rattle.history.specs.Views.{Says};
 
-use crate::client_map::said_on;
+use crate::attempts::Attempts;
+use crate::client_map::{OperationMap, said_on};
 use crate::fault::{HistoryFault, TextFault};
 use crate::seen::{Seen, read_next};
+use crate::usual_map::usual_map;
 use edn::{Elements, Piece};
 use events::{Event, History};
 use std::alloc::Global;
@@ -43,28 +46,28 @@ impl Reading {
         }
     }
 
-    /// Reads one more map, where none was faulty. Of each value only the beginning is given.
-    fn take_next(&mut self, pieces: &[Piece])
+    /// Reads one more map from what it says, where none was faulty.
+    fn take_said(&mut self, said: OperationMap)
         requires { self.old.fault ≡ None }
-        ensures { (ds : List Datum) (d : Datum)
-            → token_buffer_tokens pieces.now ≡ tokens_of (truncated d)
+        ensures { (ds : List Datum) (d : Datum) → Says said d
             → IsReading self.old ds → IsReading self.new (ds ++ d ∷ []) }
     {
         let map = self.map;
-        match read_next(&mut self.seen, &mut self.events, map, said_on(pieces)) {
+        match read_next(&mut self.seen, &mut self.events, map, said) {
             Ok(()) => self.map = map + 1,
             Err(kind) => self.fault = Some(HistoryFault { kind, map }),
         }
     }
 
-    /// Reads one more map, unless an earlier one is faulty.
+    /// Reads one more map, unless an earlier one is faulty. Of each value only the beginning is
+    /// given.
     fn take(&mut self, pieces: &[Piece])
         ensures { (ds : List Datum) (d : Datum)
             → token_buffer_tokens pieces.now ≡ tokens_of (truncated d)
             → IsReading self.old ds → IsReading self.new (ds ++ d ∷ []) }
     {
         if self.fault.is_none() {
-            self.take_next(pieces);
+            self.take_said(said_on(pieces));
         }
     }
 
@@ -101,7 +104,17 @@ pub fn read_history_text(alloc: Global, text: &[u8]) -> Result<History, TextFaul
         Err(fault) => return Err(TextFault::Text(fault)),
     };
     let mut reading = Reading::new(alloc);
+    let mut attempts = Attempts::new();
     'elements: loop {
+        if reading.fault.is_none() && attempts.is_due() {
+            if let Some((map, rest)) = usual_map(elements.rest().as_bytes()) {
+                elements.pass(rest);
+                reading.take_said(OperationMap::OfClient(map));
+                attempts.succeed();
+                continue;
+            }
+            attempts.fail();
+        }
         match elements.advance() {
             Ok(true) => reading.take(elements.pieces()),
             Ok(false) => match reading.finish() {

@@ -2,22 +2,19 @@ use Rattle.std.proofs.Common.{Option, List, ◌++◌, ◌∷◌, [], ◌+◌, sy
 use Rattle.events.specs.declared.event.Event.{Event}
 use Rattle.history.specs.declared.fault.HistoryFault.{HistoryFault}
 use Rattle.history.specs.Texts.{AreRead, IsReadOrFaulty}
-use Rattle.edn_reader.specs.Truncation.{truncated}
-use Rattle.history.proofs.Truncated.{says_as_much}
 use Rattle.history.proofs.TextReading.{are_read, one_more, found}
-use Rattle.history.proofs.text_reader.Reading.take_next.Goals as goal
+use Rattle.history.proofs.text_reader.Reading.take_said.Goals as goal
 
 pub returns-in-Ok : goal.returns-in-Ok
-returns-in-Ok c = λ ds d q h.
+returns-in-Ok c = λ ds d says h.
     let a = are_read c.args.self.now ds c.requires h in
-    let r = c.in-Ok.ensures.read ds d (says_as_much _ d (c.said_on.ensures (truncated d) q)) a.kept a.count in
+    let r = c.in-Ok.ensures.read ds d says a.kept a.count in
     let more = one_more c.args.self.now.seen c.read_next.new.seen c.args.self.now.map ds d c.args.self.now.events.items r.0 a r.1 in
     let all = subst (λ (es : List Event). AreRead c.read_next.new.seen (c.args.self.now.map + 1) (ds ++ d ∷ []) es) (sym r.2) more in
     subst (λ (o : Option HistoryFault). IsReadOrFaulty o c.read_next.new.seen (c.args.self.now.map + 1) (ds ++ d ∷ []) c.read_next.new.events.items) (sym c.requires) all
 
 pub returns-in-Err : goal.returns-in-Err
-returns-in-Err c = λ ds d q h.
+returns-in-Err c = λ ds d says h.
     let a = are_read c.args.self.now ds c.requires h in
-    let says = says_as_much _ d (c.said_on.ensures (truncated d) q) in
     found c.args.self.now.seen c.args.self.now.map ds d c.args.self.now.events.items c.in-Err.kind a
     (λ n. c.in-Err.ensures.fault n ds d says a.kept a.count) (λ m. c.in-Err.ensures.memory m ds d says a.kept a.count)

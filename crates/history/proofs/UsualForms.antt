@@ -1,0 +1,277 @@
+-- The parts of an operation map in the usual form, and the map that they make.
+use Rattle.std.proofs.Common.{◌≡◌, ℕ, ◌+◌, ◌-◌, ◌<◌, ◌≤◌, ◌⊎◌, inl, inr, true, false, Bool, cond, Some, None, Option, List, [], ◌∷◌, ◌++◌, length, take, drop, get_or, codes, refl, sym, ap, subst, ◌∙◌, append_assoc, arith}
+use Rattle.std.specs.Prelude.{ℤ, pos, ◌==◌}
+use Rattle.std.specs.Str.{IsUtf8, bytes_eq}
+use Rattle.std.proofs.lemmas.Slice.Eq.{bytes_eq-Decides}
+use Rattle.std.proofs.lemmas.List.{take_all}
+use Rattle.edn_reader.specs.Bytes.{is_separator, is_token_byte, is_name}
+use Rattle.edn_reader.specs.Datum.{Atom, nil, boolean, integer, keyword, Datum, atom, vector, dictionary, Items, no_items, item, Entries, no_entries, entry, Lacks, Fits, EntriesFit}
+use Rattle.edn_reader.specs.Token.{Token, open_vector, close_vector, open_map, close_map, leaf, tokens_of, items_tokens, entries_tokens}
+use Rattle.edn_reader.specs.Spells.{IsWord, EndsToken, Begins}
+use Rattle.edn_reader.specs.Reading.{first, got}
+use Rattle.edn_reader.specs.Sound.{BeginWith}
+use Rattle.edn_reader.proofs.Next.{FirstIs, first_is}
+use Rattle.edn_reader.proofs.Fronts.{both_begin, front_of}
+use Rattle.seq_objects.specs.declared.function.Function.{Function}
+use Rattle.seq_objects.specs.declared.function.Function.TheVariants.{Enqueue, Dequeue, Push, Pop, Insert, ExtractMin, Write, Read, Cas, Put, Get, Del, Acquire, Release}
+use Rattle.seq_objects.specs.declared.value.Value.{Value}
+use Rattle.seq_objects.specs.declared.value.Value.TheVariants.{Nil, False, Int, Pair}
+use Rattle.seq_objects.specs.Functions.{name_of}
+use Rattle.edn_fields.specs.Fields.{same_bytes, value_at, object_in}
+use Rattle.history.specs.Maps as spec
+use Rattle.history.specs.Maps.{type_named, object_at, client_with}
+use Rattle.history.specs.Names.{function_named}
+use Rattle.history.specs.Views.{map_type, client_map}
+use Rattle.history.specs.UsualForms.{ReadsUsual, type_name, ReadsValue, LackEach, operation_keys, keys_to_object, ReadsLast}
+use Rattle.history.specs.declared.client_map.MapType.{MapType}
+use Rattle.history.specs.declared.client_map.MapType.TheVariants.{Invoke, Ok, Fail, Info}
+use Rattle.history.specs.declared.client_map.ClientMap.{ClientMap}
+use Rattle.history.proofs.Naming.{own_name}
+
+-- ---- a token at the front
+
+all_of : (n : ℕ) (xs : List ℕ) → length xs ≤ n → take n xs ≡ xs
+all_of n xs l = take_all n xs l
+
+pub head_is : (t : List ℕ) (a : ℕ) → 0 < length t → get_or t 0 0 ≡ a → t ≡ a ∷ take (length t - 1) (drop 1 t)
+head_is [] a l h = absurd (omega arith)
+head_is (b ∷ bs) a l h =
+    let q : b ≡ a = h in
+    ap (λ (x : ℕ). x ∷ bs) q ∙ ap (λ (x : List ℕ). a ∷ x) (sym (all_of (length (b ∷ bs) - 1) bs (omega arith)))
+
+pub heads_are : (t : List ℕ) (a b : ℕ) → 2 ≤ length t → get_or t 0 0 ≡ a → get_or t 1 0 ≡ b → t ≡ a ∷ b ∷ take (length t - 2) (drop 2 t)
+heads_are [] a b l h k = absurd (omega arith)
+heads_are (x ∷ []) a b l h k = absurd (omega arith)
+heads_are (x ∷ y ∷ xs) a b l h k =
+    let q : x ≡ a = h in
+    let r : y ≡ b = k in
+    ap (λ (z : ℕ). z ∷ y ∷ xs) q ∙ ap (λ (z : ℕ). a ∷ z ∷ xs) r ∙ ap (λ (z : List ℕ). a ∷ b ∷ z) (sym (all_of (length (x ∷ y ∷ xs) - 2) xs (omega arith)))
+
+pub here : (text rest : List ℕ) (t : Token) → Begins text t rest → BeginWith (t ∷ []) text rest
+here text rest t b = (rest, ([], text, tt, b, refl), refl)
+
+-- a separator before a token
+spaced : (b : ℕ) (t : Token) (ts : List Token) (text rest : List ℕ) → is_separator b ≡ true → BeginWith (t ∷ ts) text rest → BeginWith (t ∷ ts) (b ∷ text) rest
+spaced b t ts text rest h (mid, (gap, after, g, k, q), w) = (mid, (b ∷ gap, after, inl (h, g), k, ap (λ (x : List ℕ). b ∷ x) q), w)
+
+pub word_here : (a : Atom) (own text rest : List ℕ) → IsWord a own → EndsToken rest → text ≡ own ++ rest → BeginWith (leaf (atom a) ∷ []) text rest
+word_here a own text rest w e q = here text rest (leaf (atom a)) (inl (a, own, refl, w, e, q))
+
+pub first_here : (text rest : List ℕ) (t : Token) → first text ≡ got t rest → BeginWith (t ∷ []) text rest
+first_here text rest t e = here text rest t (subst (FirstIs text) e (first_is text))
+
+pub zero_here : (text rest : List ℕ) → text ≡ 48 ∷ rest → EndsToken rest → BeginWith (leaf (atom (integer (pos 0))) ∷ []) text rest
+zero_here text rest q e = word_here (integer (pos 0)) (48 ∷ []) text rest (inl (refl, omega arith, refl)) e q
+
+is_name_type : (t : MapType) → is_name (type_name t) ≡ true
+unfolding is_name
+is_name_type Invoke = refl
+is_name_type Ok = refl
+is_name_type Fail = refl
+is_name_type Info = refl
+
+pub type_here : (t : MapType) (text rest : List ℕ) → EndsToken rest → text ≡ 58 ∷ (type_name t ++ rest) → BeginWith (leaf (atom (keyword (type_name t))) ∷ []) text rest
+type_here t text rest e q = word_here (keyword (type_name t)) (58 ∷ type_name t) text rest (refl, is_name_type t) e q
+
+is_name_function : (f : Function) → is_name (name_of f) ≡ true
+unfolding is_name
+is_name_function Enqueue = refl
+is_name_function Dequeue = refl
+is_name_function Push = refl
+is_name_function Pop = refl
+is_name_function Insert = refl
+is_name_function ExtractMin = refl
+is_name_function Write = refl
+is_name_function Read = refl
+is_name_function Cas = refl
+is_name_function Put = refl
+is_name_function Get = refl
+is_name_function Del = refl
+is_name_function Acquire = refl
+is_name_function Release = refl
+
+pub function_here : (f : Function) (text rest : List ℕ) → EndsToken rest → text ≡ 58 ∷ (name_of f ++ rest) → BeginWith (leaf (atom (keyword (name_of f))) ∷ []) text rest
+function_here f text rest e q = word_here (keyword (name_of f)) (58 ∷ name_of f) text rest (refl, is_name_function f) e q
+
+-- ---- values
+
+pub nil_here : (text rest : List ℕ) → EndsToken rest → text ≡ codes "nil" ++ rest → ReadsValue text Nil rest
+nil_here text rest e q = record { form = atom nil; plain = refl; fits = tt; begins = word_here nil (codes "nil") text rest refl e q }
+
+pub false_here : (text rest : List ℕ) → EndsToken rest → text ≡ codes "false" ++ rest → ReadsValue text False rest
+false_here text rest e q = record { form = atom (boolean false); plain = refl; fits = tt; begins = word_here (boolean false) (codes "false") text rest refl e q }
+
+pub integer_here : (z : ℤ) (text rest : List ℕ) → BeginWith (leaf (atom (integer z)) ∷ []) text rest → ReadsValue text (Int z) rest
+integer_here z text rest b = record { form = atom (integer z); plain = refl; fits = tt; begins = b }
+
+pub pair_here : (y z : ℤ) (inside after_y from_z after_z rest : List ℕ) → BeginWith (leaf (atom (integer y)) ∷ []) inside after_y → after_y ≡ codes " " ++ from_z
+    → BeginWith (leaf (atom (integer z)) ∷ []) from_z after_z → after_z ≡ codes "]" ++ rest → ReadsValue (91 ∷ inside) (Pair y z) rest
+pair_here y z inside after_y from_z after_z rest b q c r =
+    let close : BeginWith (close_vector ∷ []) after_z rest = here after_z rest close_vector r in
+    let second : BeginWith (leaf (atom (integer z)) ∷ close_vector ∷ []) from_z rest = both_begin (leaf (atom (integer z)) ∷ []) (close_vector ∷ []) from_z after_z rest c close in
+    let behind : BeginWith (leaf (atom (integer z)) ∷ close_vector ∷ []) after_y rest =
+    subst (λ (x : List ℕ). BeginWith (leaf (atom (integer z)) ∷ close_vector ∷ []) x rest) (sym q) (spaced 32 (leaf (atom (integer z))) (close_vector ∷ []) from_z rest refl second) in
+    let all : BeginWith (leaf (atom (integer y)) ∷ leaf (atom (integer z)) ∷ close_vector ∷ []) inside rest =
+    both_begin (leaf (atom (integer y)) ∷ []) (leaf (atom (integer z)) ∷ close_vector ∷ []) inside after_y rest b behind in
+    record {
+      form = vector (item (atom (integer y)) (item (atom (integer z)) no_items));
+      plain = refl;
+      fits = (omega arith, (tt, (tt, tt)));
+      begins = (inside, ([], 91 ∷ inside, tt, refl, refl), all);
+    }
+
+-- ---- pairs
+
+-- a key and the token after it
+field : (k : List ℕ) (t : Token) (ts : List Token) (text mid rest : List ℕ) → is_name k ≡ true → text ≡ 44 ∷ 32 ∷ 58 ∷ (k ++ 32 ∷ mid) → BeginWith (t ∷ ts) mid rest
+    → BeginWith (leaf (atom (keyword k)) ∷ t ∷ ts) text rest
+unfolding is_token_byte
+field k t ts text mid rest n q b =
+    (32 ∷ mid, (44 ∷ 32 ∷ [], 58 ∷ (k ++ 32 ∷ mid), inl (refl, inl (refl, tt)), inl (keyword k, 58 ∷ k, refl, (refl, n), refl, refl), q), spaced 32 t ts mid rest refl b)
+
+form_field : (d : Datum) (k : List ℕ) (ts : List Token) (text mid rest : List ℕ) → is_name k ≡ true → text ≡ 44 ∷ 32 ∷ 58 ∷ (k ++ 32 ∷ mid) → BeginWith (tokens_of d ++ ts) mid rest
+    → BeginWith (leaf (atom (keyword k)) ∷ (tokens_of d ++ ts)) text rest
+form_field (atom a) k ts text mid rest n q b = field k (leaf (atom a)) ts text mid rest n q b
+form_field (vector ds) k ts text mid rest n q b = field k open_vector ((items_tokens ds ++ close_vector ∷ []) ++ ts) text mid rest n q b
+form_field (dictionary es) k ts text mid rest n q b = field k open_map ((entries_tokens es ++ close_map ∷ []) ++ ts) text mid rest n q b
+
+-- ---- the last pairs
+
+lack_none : (ks : List (List ℕ)) → LackEach ks no_entries
+lack_none [] = tt
+lack_none (k ∷ ks) = (tt, lack_none ks)
+
+pub none_last : (ks : List (List ℕ)) (text rest : List ℕ) → text ≡ codes "}" ++ rest → ReadsLast ks text 0 rest
+none_last ks text rest q = record { pairs = no_entries; lack = lack_none ks; object_is = refl; fits = tt; begins = here text rest close_map q }
+
+-- a key is none of these
+abbrev pub IsOther : List ℕ → List (List ℕ) → Type 0
+IsOther k [] = Unit {0}
+IsOther k (l ∷ ls) = (bytes_eq l k ≡ false) × IsOther k ls
+
+apart : (l k : List ℕ) → bytes_eq l k ≡ false → l ≡ k → ⊥
+apart l k e q = let t : bytes_eq l k ≡ true = (bytes_eq-Decides l k).1 q in absurd cc
+
+lack_more : (k : List ℕ) (d : Datum) (ks : List (List ℕ)) (es : Entries) → IsOther k ks → LackEach ks es → LackEach ks (entry k d es)
+lack_more k d [] es o l = tt
+lack_more k d (j ∷ ks) es o l = ((apart j k o.0, l.0), lack_more k d ks es o.1 l.1)
+
+integer_pair : (k : List ℕ) (z : ℤ) (ts : List Token) (text mid after rest : List ℕ) → is_name k ≡ true → text ≡ 44 ∷ 32 ∷ 58 ∷ (k ++ 32 ∷ mid)
+    → BeginWith (leaf (atom (integer z)) ∷ []) mid after → BeginWith ts after rest → BeginWith (leaf (atom (keyword k)) ∷ leaf (atom (integer z)) ∷ ts) text rest
+integer_pair k z ts text mid after rest n q b c = field k (leaf (atom (integer z))) ts text mid rest n q (both_begin (leaf (atom (integer z)) ∷ []) ts mid after rest b c)
+
+-- one more pair, which is not of the object
+pub other_pair : (k : List ℕ) (ks : List (List ℕ)) (z : ℤ) (text mid after rest : List ℕ) → is_name k ≡ true → same_bytes (codes "object") k ≡ false → IsOther k ks
+    → text ≡ 44 ∷ 32 ∷ 58 ∷ (k ++ 32 ∷ mid) → BeginWith (leaf (atom (integer z)) ∷ []) mid after → ReadsLast (k ∷ ks) after 0 rest → ReadsLast ks text 0 rest
+other_pair k ks z text mid after rest n s o q b r =
+    record {
+      pairs = entry k (atom (integer z)) r.pairs;
+      lack = lack_more k (atom (integer z)) ks r.pairs o r.lack.1;
+      object_is = ap (λ (c : Bool). object_at (cond c (Some (atom (integer z))) (value_at (codes "object") r.pairs))) s ∙ r.object_is;
+      fits = (r.lack.0, tt, r.fits);
+      begins = integer_pair k z (entries_tokens r.pairs ++ close_map ∷ []) text mid after rest n q b r.begins;
+    }
+
+-- the pair of the object
+pub object_pair : (n x : ℕ) (text mid after rest : List ℕ) → Some x ≡ object_in (Some n) → text ≡ codes ", :object " ++ mid → BeginWith (leaf (atom (integer (pos n))) ∷ []) mid after
+    → ReadsLast keys_to_object after 0 rest → ReadsLast operation_keys text x rest
+unfolding is_name
+object_pair n x text mid after rest e q b r =
+    record {
+      pairs = entry (codes "object") (atom (integer (pos n))) r.pairs;
+      lack = lack_more (codes "object") (atom (integer (pos n))) operation_keys r.pairs (refl, (refl, (refl, (refl, tt)))) r.lack.1;
+      object_is = sym e;
+      fits = (r.lack.0, tt, r.fits);
+      begins = integer_pair (codes "object") (pos n) (entries_tokens r.pairs ++ close_map ∷ []) text mid after rest refl q b r.begins;
+    }
+
+pub fewer_keys : (k : List ℕ) (ks : List (List ℕ)) (text : List ℕ) (x : ℕ) (rest : List ℕ) → ReadsLast (k ∷ ks) text x rest → ReadsLast ks text x rest
+fewer_keys k ks text x rest r = record { pairs = r.pairs; lack = r.lack.1; object_is = r.object_is; fits = r.fits; begins = r.begins }
+
+-- ---- the whole map
+
+type_is : (t : MapType) → type_named (type_name t) ≡ Some (map_type t)
+type_is Invoke = refl
+type_is Ok = refl
+type_is Fail = refl
+type_is Info = refl
+
+abbrev form_with : ℕ → MapType → Function → Datum → Entries → Datum
+form_with n t f d es =
+    dictionary (entry (codes "process") (atom (integer (pos n))) (entry (codes "type") (atom (keyword (type_name t)))
+    (entry (codes "f") (atom (keyword (name_of f))) (entry (codes "value") d es))))
+
+abbrev map_with : ℕ → MapType → Function → ℕ → Value → ClientMap
+map_with n t f x v = record { process = n; map_type = t; function = Some f; object = x; value = Some v }
+
+fits_with : (n : ℕ) (t : MapType) (f : Function) (d : Datum) (es : Entries) → Fits 15 d → LackEach operation_keys es → EntriesFit 15 es → Fits 16 (form_with n t f d es)
+fits_with n t f d es h l e = (
+  omega arith,
+  (
+    (apart (codes "process") (codes "type") refl, (apart (codes "process") (codes "f") refl, (apart (codes "process") (codes "value") refl, l.0))),
+    tt,
+    (
+      (apart (codes "type") (codes "f") refl, (apart (codes "type") (codes "value") refl, l.1.0)),
+      tt,
+      ((apart (codes "f") (codes "value") refl, l.1.1.0), tt, (l.1.1.1.0, h, e)),
+    ),
+  ),
+)
+
+client_is : (n : ℕ) (t : MapType) (f : Function) (x : ℕ) (v : Value) (d : Datum) (es : Entries) → object_at (value_at (codes "object") es) ≡ Some x
+    → spec.client_of (form_with n t f d es) ≡ Some (client_map (map_with n t f x v) d)
+client_is n t f x v d es e =
+    ap (λ y. client_with (Some n) y (Some (name_of f)) (object_at (value_at (codes "object") es)) d) (type_is t)
+    ∙ ap (λ y. client_with (Some n) (Some (map_type t)) (Some (name_of f)) y d) e
+    ∙ ap (λ y. client_with_function y) (own_name f)
+  where
+    client_with_function : Option Function → Option spec.ClientMap
+    client_with_function g = Some (record { process = n; type = map_type t; function = g; object = x; value = d })
+
+-- a map after its line feed, or as it is
+after_feed : (t : Token) (ts : List Token) (text own rest : List ℕ) → (text ≡ own) ⊎ (text ≡ 10 ∷ own) → BeginWith (t ∷ ts) own rest → BeginWith (t ∷ ts) text rest
+after_feed t ts text own rest (inl q) b = subst (λ (x : List ℕ). BeginWith (t ∷ ts) x rest) (sym q) b
+after_feed t ts text own rest (inr q) b = subst (λ (x : List ℕ). BeginWith (t ∷ ts) x rest) (sym q) (spaced 10 t ts own rest refl b)
+
+first_field : (k : List ℕ) (t : Token) (ts : List Token) (text mid rest : List ℕ) → is_name k ≡ true → text ≡ 123 ∷ 58 ∷ (k ++ 32 ∷ mid) → BeginWith (t ∷ ts) mid rest
+    → BeginWith (open_map ∷ leaf (atom (keyword k)) ∷ t ∷ ts) text rest
+unfolding is_token_byte
+first_field k t ts text mid rest n q b = (
+  58 ∷ (k ++ 32 ∷ mid),
+  ([], text, tt, q, refl),
+  (32 ∷ mid, ([], 58 ∷ (k ++ 32 ∷ mid), tt, inl (keyword k, 58 ∷ k, refl, (refl, n), refl, refl), refl), spaced 32 t ts mid rest refl b),
+)
+
+pub usual_is : (n : ℕ) (t : MapType) (f : Function) (x : ℕ) (v : Value) (text own from_n after_n from_t after_t from_f after_f from_v after_v rest : List ℕ) → IsUtf8 text
+    → (text ≡ own) ⊎ (text ≡ 10 ∷ own) → own ≡ codes "{:process " ++ from_n → BeginWith (leaf (atom (integer (pos n))) ∷ []) from_n after_n
+    → after_n ≡ codes ", :type " ++ from_t → BeginWith (leaf (atom (keyword (type_name t))) ∷ []) from_t after_t
+    → after_t ≡ codes ", :f " ++ from_f → BeginWith (leaf (atom (keyword (name_of f))) ∷ []) from_f after_f
+    → after_f ≡ codes ", :value " ++ from_v → ReadsValue from_v v after_v → ReadsLast operation_keys after_v x rest
+    → ReadsUsual text (record { process = n; map_type = t; function = Some f; object = x; value = Some v }) rest
+unfolding is_name
+usual_is n t f x v text own from_n after_n from_t after_t from_f after_f from_v after_v rest u feed qn bn qt bt qf bf qv value last =
+    let last_tokens : List Token = entries_tokens last.pairs ++ close_map ∷ [] in
+    let ts_v : List Token = tokens_of value.form ++ last_tokens in
+    let v1 : BeginWith ts_v from_v rest = both_begin (tokens_of value.form) last_tokens from_v after_v rest value.begins last.begins in
+    let v2 : BeginWith (leaf (atom (keyword (codes "value"))) ∷ ts_v) after_f rest = form_field value.form (codes "value") last_tokens after_f from_v rest refl qv v1 in
+    let ts_f : List Token = leaf (atom (keyword (codes "value"))) ∷ ts_v in
+    let f1 : BeginWith (leaf (atom (keyword (name_of f))) ∷ ts_f) from_f rest = both_begin (leaf (atom (keyword (name_of f))) ∷ []) ts_f from_f after_f rest bf v2 in
+    let f2 = field (codes "f") (leaf (atom (keyword (name_of f)))) ts_f after_t from_f rest refl qf f1 in
+    let ts_t : List Token = leaf (atom (keyword (codes "f"))) ∷ leaf (atom (keyword (name_of f))) ∷ ts_f in
+    let t1 : BeginWith (leaf (atom (keyword (type_name t))) ∷ ts_t) from_t rest = both_begin (leaf (atom (keyword (type_name t))) ∷ []) ts_t from_t after_t rest bt f2 in
+    let t2 = field (codes "type") (leaf (atom (keyword (type_name t)))) ts_t after_n from_t rest refl qt t1 in
+    let ts_n : List Token = leaf (atom (keyword (codes "type"))) ∷ leaf (atom (keyword (type_name t))) ∷ ts_t in
+    let n1 : BeginWith (leaf (atom (integer (pos n))) ∷ ts_n) from_n rest = both_begin (leaf (atom (integer (pos n))) ∷ []) ts_n from_n after_n rest bn t2 in
+    let n2 = first_field (codes "process") (leaf (atom (integer (pos n)))) ts_n own from_n rest refl qn n1 in
+    let all = after_feed open_map (leaf (atom (keyword (codes "process"))) ∷ leaf (atom (integer (pos n))) ∷ ts_n) text own rest feed n2 in
+    let begins : BeginWith (tokens_of (form_with n t f value.form last.pairs)) text rest =
+    subst (λ (ts : List Token). BeginWith (open_map ∷ leaf (atom (keyword (codes "process"))) ∷ leaf (atom (integer (pos n))) ∷ leaf (atom (keyword (codes "type")))
+    ∷ leaf (atom (keyword (type_name t))) ∷ leaf (atom (keyword (codes "f"))) ∷ leaf (atom (keyword (name_of f))) ∷ leaf (atom (keyword (codes "value"))) ∷ ts) text rest)
+    (sym (append_assoc (tokens_of value.form) (entries_tokens last.pairs) (close_map ∷ []))) all in
+    let front = front_of text rest (form_with n t f value.form last.pairs) u (fits_with n t f value.form last.pairs value.fits last.lack last.fits) begins in
+    record {
+      form = form_with n t f value.form last.pairs;
+      front = front.0;
+      utf8 = front.1;
+      says = (value.form, client_is n t f x v value.form last.pairs last.object_is, value.plain);
+    }

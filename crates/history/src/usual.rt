@@ -1,0 +1,202 @@
+//! The parts of an operation map in the usual form, from the front of a text. What is written in
+//! another way is none of them, though it may be well formed.
+
+ghost use Rattle.std.specs.Prelude.{◌≡◌, true, [], ◌∷◌, ◌++◌, codes, pos, IfSome};
+ghost use Rattle.edn_reader.specs.Datum.{integer, keyword, atom};
+ghost use Rattle.edn_reader.specs.Sound.{BeginWith};
+ghost use Rattle.edn_reader.specs.Spells.{EndsToken};
+ghost use Rattle.edn_reader.specs.Token.{leaf};
+ghost use Rattle.seq_objects.specs.Functions.{name_of};
+ghost use Rattle.history.specs.UsualForms.{type_name, ReadsValue};
+
+use crate::client_map::MapType;
+use edn::Piece;
+use seq_objects::{Function, Value};
+
+/// What follows these bytes, where the text begins with them.
+#[inline(always)]
+pub fn after<'a, const N: usize>(text: &'a [u8], bytes: &[u8; N]) -> Option<&'a [u8]>
+    ensures { IfSome result (λ rest. text.entry.now ≡ bytes.now ++ rest.now) }
+{
+    let (front, rest) = text.split_first_chunk::<N>()?;
+    if front != bytes {
+        return None;
+    }
+    Some(rest)
+}
+
+/// Whether a word ends here, by the bytes that usually follow one.
+#[inline(always)]
+#[tactic(auto, unfolding(edn_reader::specs::Bytes::is_token_byte))]
+fn ends_word(rest: &[u8]) -> bool
+    ensures { result ≡ true → EndsToken rest.now }
+{
+    matches!(rest, [b',' | b'}' | b' ' | b']' | b'\n', ..])
+}
+
+/// An integer that has no sign, and what follows it.
+#[inline(always)]
+pub fn integer_at(text: &[u8]) -> Option<(i64, &[u8])>
+    ensures { IfSome result (λ x.
+        BeginWith (leaf (atom (integer x.0)) ∷ []) text.entry.now x.1.now) }
+{
+    match text {
+        [b'0', rest @ ..] => {
+            if ends_word(rest) {
+                Some((0, rest))
+            } else {
+                None
+            }
+        }
+        _ => Piece::usual_number(text),
+    }
+}
+
+/// The same, as a number that is not negative.
+#[inline(always)]
+pub fn natural_at(text: &[u8]) -> Option<(u64, &[u8])>
+    ensures { IfSome result (λ x.
+        BeginWith (leaf (atom (integer (pos x.0))) ∷ []) text.entry.now x.1.now) }
+{
+    let (number, rest) = integer_at(text)?;
+    if number < 0 {
+        return None;
+    }
+    Some((number as u64, rest))
+}
+
+/// A type after its colon's front, by the bytes that it begins with.
+#[inline(always)]
+fn type_front(text: &[u8]) -> Option<(MapType, &[u8])>
+    ensures { IfSome result (λ x. text.entry.now ≡ 58 ∷ (type_name x.0 ++ x.1.now)) }
+{
+    if let Some(rest) = after(text, b":invoke") {
+        Some((MapType::Invoke, rest))
+    } else if let Some(rest) = after(text, b":ok") {
+        Some((MapType::Ok, rest))
+    } else if let Some(rest) = after(text, b":fail") {
+        Some((MapType::Fail, rest))
+    } else if let Some(rest) = after(text, b":info") {
+        Some((MapType::Info, rest))
+    } else {
+        None
+    }
+}
+
+/// The type of a map, and what follows it.
+#[inline(always)]
+pub fn type_at(text: &[u8]) -> Option<(MapType, &[u8])>
+    ensures { IfSome result (λ x.
+        BeginWith (leaf (atom (keyword (type_name x.0))) ∷ []) text.entry.now x.1.now) }
+{
+    let (map_type, rest) = type_front(text)?;
+    if !ends_word(rest) {
+        return None;
+    }
+    Some((map_type, rest))
+}
+
+/// This function, where the text goes on with these bytes.
+#[inline(always)]
+fn function_with<'a, const N: usize>(
+    text: &'a [u8],
+    bytes: &[u8; N],
+    function: Function,
+) -> Option<(Function, &'a [u8])>
+    ensures { IfSome result (λ x. (x.0 ≡ function)
+        × (text.entry.now ≡ bytes.now ++ x.1.now)) }
+{
+    Some((function, after(text, bytes)?))
+}
+
+/// The function whose name goes on so after its colon and its first letter.
+#[inline(always)]
+fn function_after(first: u8, text: &[u8]) -> Option<(Function, &[u8])>
+    ensures { IfSome result (λ x. first ∷ text.entry.now ≡ name_of x.0 ++ x.1.now) }
+{
+    match first {
+        b'a' => function_with(text, b"cquire", Function::Acquire),
+        b'c' => function_with(text, b"as", Function::Cas),
+        b'd' => function_with(text, b"equeue", Function::Dequeue).or(function_with(
+            text,
+            b"el",
+            Function::Del,
+        )),
+        b'e' => function_with(text, b"nqueue", Function::Enqueue).or(function_with(
+            text,
+            b"xtract-min",
+            Function::ExtractMin,
+        )),
+        b'g' => function_with(text, b"et", Function::Get),
+        b'i' => function_with(text, b"nsert", Function::Insert),
+        b'p' => function_with(text, b"ut", Function::Put)
+            .or(function_with(text, b"ush", Function::Push))
+            .or(function_with(text, b"op", Function::Pop)),
+        b'r' => function_with(text, b"ead", Function::Read).or(function_with(
+            text,
+            b"elease",
+            Function::Release,
+        )),
+        b'w' => function_with(text, b"rite", Function::Write),
+        _ => None,
+    }
+}
+
+/// The function of a map, and what follows its name.
+#[inline(always)]
+pub fn function_at(text: &[u8]) -> Option<(Function, &[u8])>
+    ensures { IfSome result (λ x.
+        BeginWith (leaf (atom (keyword (name_of x.0))) ∷ []) text.entry.now x.1.now) }
+{
+    let [b':', first, tail @ ..] = text else {
+        return None;
+    };
+    let (function, rest) = function_after(*first, tail)?;
+    if !ends_word(rest) {
+        return None;
+    }
+    Some((function, rest))
+}
+
+/// The pair of two integers after its bracket, and what follows it.
+#[inline(always)]
+fn pair_after(inside: &[u8]) -> Option<(Value, &[u8])>
+    ensures { IfSome result (λ x. ReadsValue (91 ∷ inside.entry.now) x.0 x.1.now) }
+{
+    let (x, rest) = integer_at(inside)?;
+    let (y, rest) = integer_at(after(rest, b" ")?)?;
+    Some((Value::Pair(x, y), after(rest, b"]")?))
+}
+
+/// This value, where the text begins with these bytes.
+#[inline(always)]
+fn word_at<'a, const N: usize>(
+    text: &'a [u8],
+    word: &[u8; N],
+    value: Value,
+) -> Option<(Value, &'a [u8])>
+    ensures { IfSome result (λ x. (x.0 ≡ value) × EndsToken x.1.now
+        × (text.entry.now ≡ word.now ++ x.1.now)) }
+{
+    let rest = after(text, word)?;
+    if !ends_word(rest) {
+        return None;
+    }
+    Some((value, rest))
+}
+
+/// An argument or a reply, and what follows it.
+#[inline(always)]
+pub fn value_at(text: &[u8]) -> Option<(Value, &[u8])>
+    ensures { IfSome result (λ x. ReadsValue text.entry.now x.0 x.1.now) }
+{
+    match text {
+        [b'n', ..] => word_at(text, b"nil", Value::Nil),
+        [b'f', ..] => word_at(text, b"false", Value::False),
+        [b'[', inside @ ..] => pair_after(inside),
+        _ => {
+            let (number, rest) = integer_at(text)?;
+            Some((Value::Int(number), rest))
+        }
+    }
+}
