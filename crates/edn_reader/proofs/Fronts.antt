@@ -57,5 +57,5 @@ pub front_of : (text rest : List ℕ) (d : Datum) → IsUtf8 text → Fits max_o
 front_of text rest d u f b =
     let e : steps (tokens_of d ++ []) opening ≡ Some (closed (d ∷ [])) = steps_items (items_of (d ∷ [])) 16 in_text (λ xs x. refl) [] [] (f, tt) refl in
     let p : Progress text rest (closed (d ∷ [])) =
-        progress (tokens_of d ++ []) text text rest opening (closed (d ∷ [])) (subst (λ (ts : List Token). BeginWith ts text rest) (sym (append-nil (tokens_of d))) b) e (start text u) in
+    progress (tokens_of d ++ []) text text rest opening (closed (d ∷ [])) (subst (λ (ts : List Token). BeginWith ts text rest) (sym (append-nil (tokens_of d))) b) e (start text u) in
     (element_front text rest d p u, p.utf8)
