@@ -121,7 +121,11 @@ fn history_command<'a>(
     ensures shape { IfOk result (λ c. app_of c ≡ spec.on_history name.entry.now) }
     ensures globals { IfOk result (λ c. (fields_of c).has_globals ≡ false) }
 {
-    let history = file_argument(alloc, "HISTORY", "a file of Jepsen operation maps");
+    let history = file_argument(
+        alloc,
+        "HISTORY",
+        "a file of operation maps as Jepsen writes them; docs/tutorial.md says how to make one from a Jepsen store",
+    );
     Command::new(alloc, name).about(about).arg(history)
 }
 
