@@ -66,15 +66,19 @@ OwnOk (own.Drawn q) t = t ≡ drawn q
 OwnOk (own.Waiting q) t = (t ≡ posted q) ⊎ ((t ≡ picked q) ⊎ ((a : AnyAnswer) × (t ≡ answered q a)))
 OwnOk (own.Taken q a) t = t ≡ taken q a
 
--- what the client c holds, by its view, is what it holds in the world, where there are n objects
+-- the client c holds the object x, and no other
+abbrev pub HoldsOnly : World → ℕ → ℕ → Type 0
+HoldsOnly w c x = (y : ℕ) → w.holder y ≡ Some c → y ≡ x
+
+-- what the client c holds, by its view, is what it holds in the world, where there are n objects:
+-- nothing; an object with this log and a free hand; or also the request of a row in its hand
 abbrev pub HeldOk : ℕ → World → ℕ → Held → Type 0
 HeldOk n w c held.Free = (x : ℕ) → w.holder x ≢ Some c
 HeldOk n w c (held.Pass x l) =
-    (x < n) × (w.holder x ≡ Some c) × (w.hand x ≡ None) × (w.log x ≡ l)
-    × ((y : ℕ) → w.holder y ≡ Some c → y ≡ x)
+    (x < n) × (w.holder x ≡ Some c) × (w.hand x ≡ None) × (w.log x ≡ l) × HoldsOnly w c x
 HeldOk n w c (held.Hand x l r q) =
-    (x < n) × (w.holder x ≡ Some c) × (w.hand x ≡ Some r) × (w.log x ≡ l)
-    × ((y : ℕ) → w.holder y ≡ Some c → y ≡ x) × (r < max_clients) × (w.stage r ≡ picked q)
+    (x < n) × (w.holder x ≡ Some c) × (w.hand x ≡ Some r) × (w.log x ≡ l) × HoldsOnly w c x
+    × (r < max_clients) × (w.stage r ≡ picked q)
 
 -- the view of the client c
 pub record SeatOk (kinds : List Kind) (w : World) (c : ℕ) (v : DeskView) : Type 0 where

@@ -52,7 +52,7 @@ impl<S: SeqObject> Pass<S> {
         ensures rows { result.now ≡ self.now.state.list.rows }
         ensures list { IsListOf self.now.desk self.now.object self.now.state.list.roster }
         ensures low { All (λ row. row < max_clients) self.now.state.list.rows }
-        ensures few { length self.now.state.list.rows ≤ 32 }
+        ensures few { length self.now.state.list.rows ≤ max_clients }
     {
         self.core.inside.list.rows()
     }

@@ -5,15 +5,19 @@ use Rattle.std.specs.declared.vec.Vec.{Vec}
 use Rattle.atomic_table.specs.Seated.{TableId}
 use Rattle.publication_list.specs.Calls.{PlaceSeen}
 
--- the owners, each with its places: each has one more, of its own row, in the roster of this id
+-- the owner of the row c has one place more, of its row in the roster of this id, and the same room
+abbrev pub HasOneMore : {Z : Type 0} → TableId → ℕ → Vec PlaceSeen Z → Vec PlaceSeen Z → Type 0
+HasOneMore {Z} id c old new =
+    (new.items ≡ old.items ++ record { roster = id; row = c; tries = [] } ∷ [])
+    × (vec_capacity new ≡ vec_capacity old) × (vec_len new ≡ vec_len old + 1)
+
+-- each owner has one place more
 abbrev pub AreGrown : {Z : Type 0} → TableId → List (Vec PlaceSeen Z) → List (Vec PlaceSeen Z)
     → Type 0
 AreGrown {Z} id old new =
-    (length new ≡ length old) × ((c : ℕ) (d : Vec PlaceSeen Z) → c < length old →
-    ((slice_index_or new c d).items
-    ≡ (slice_index_or old c d).items ++ record { roster = id; row = c; tries = [] } ∷ [])
-    × (vec_capacity (slice_index_or new c d) ≡ vec_capacity (slice_index_or old c d))
-    × (vec_len (slice_index_or new c d) ≡ vec_len (slice_index_or old c d) + 1))
+    (length new ≡ length old)
+    × ((c : ℕ) (d : Vec PlaceSeen Z) → c < length old
+    → HasOneMore id c (slice_index_or old c d) (slice_index_or new c d))
 
 -- the same, from the owner k on
 abbrev pub AreGrownFrom : {Z : Type 0} → ℕ → TableId → List (Vec PlaceSeen Z)
@@ -21,11 +25,8 @@ abbrev pub AreGrownFrom : {Z : Type 0} → ℕ → TableId → List (Vec PlaceSe
 AreGrownFrom {Z} k id old new =
     (length new ≡ length old)
     × ((c : ℕ) (d : Vec PlaceSeen Z) → c < k → slice_index_or new c d ≡ slice_index_or old c d)
-    × ((c : ℕ) (d : Vec PlaceSeen Z) → k ≤ c → c < length old →
-    ((slice_index_or new c d).items
-    ≡ (slice_index_or old c d).items ++ record { roster = id; row = c; tries = [] } ∷ [])
-    × (vec_capacity (slice_index_or new c d) ≡ vec_capacity (slice_index_or old c d))
-    × (vec_len (slice_index_or new c d) ≡ vec_len (slice_index_or old c d) + 1))
+    × ((c : ℕ) (d : Vec PlaceSeen Z) → k ≤ c → c < length old
+    → HasOneMore id c (slice_index_or old c d) (slice_index_or new c d))
 
 -- each owner has room for one place more
 abbrev pub HaveRoom : {Z : Type 0} → List (Vec PlaceSeen Z) → Type 0
