@@ -45,9 +45,10 @@ class Queue:
         return self.values[head]
 
 
-def work(number, queue, journal):
-    """The calls of one thread. Each value is enqueued once: then a fault is found at any length."""
+def work(number, queue, journal, begin):
+    """The calls of one thread, which begins when all have come. Each value is enqueued once, so that a fault has a small reason."""
     draw = random.Random(number)
+    begin.wait()
     for call in range(CALLS):
         if draw.random() < 0.5:
             value = number * CALLS + call
@@ -59,7 +60,8 @@ def work(number, queue, journal):
 def record(is_fixed):
     queue, recorder = Queue(is_fixed), Recorder()
     journals = [recorder.journal() for _ in range(THREADS)]
-    threads = [threading.Thread(target=work, args=(number, queue, journal)) for number, journal in enumerate(journals)]
+    begin = threading.Barrier(THREADS)
+    threads = [threading.Thread(target=work, args=(number, queue, journal, begin)) for number, journal in enumerate(journals)]
     for thread in threads:
         thread.start()
     for thread in threads:

@@ -43,8 +43,8 @@ extern "C" {
 /* Not decided: the lines say why, as an object that stays open, or `out of memory`. */
 #define FCBENCH_OPEN 3u
 
-/* As many steps as the program takes where it is given none: 1,000,000; of fcbench_judge 100 for each
- * operation of the object if that is more. */
+/* As many steps as the program takes where it is given none: 1,000,000. For fcbench_judge: 1,000,000, or
+ * 100 for each operation of the object, whichever is more. */
 #define FCBENCH_STEPS UINT32_MAX
 
 /* Judges a history by certificates, an order of operations for each object. */

@@ -11,8 +11,8 @@ pub mod recorder;
 
 use std::fmt::{self, Display};
 
-/// As many steps as the program takes where it is given none: 1,000,000; of a judgement 100 for each operation of the object if that is
-/// more.
+/// As many steps as the program takes where it is given none: 1,000,000. For a judgement: 1,000,000, or 100 for each operation of the
+/// object, whichever is more.
 pub const STEPS: u32 = u32::MAX;
 
 /// How much room there is for lines at first.

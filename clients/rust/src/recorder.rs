@@ -17,7 +17,7 @@
 //! A journal that is dropped, or not handed to `history`, takes its calls with it: `history` panics then.
 //!
 //! The reply of `enqueue`, `push`, `insert` and `write` is their argument: where the call gives nothing, it is written. Where it gives
-//! anything else, as a length, end the closure with `;`: `history` panics at another reply.
+//! anything else, as a length, drop it by `|| { queue.push(v); }`: `history` panics at another reply.
 //!
 //! An empty queue is a reply and no failure: where `pop` gives a `Result`, record `journal.call("dequeue", (), || queue.pop().ok())`.
 //!
@@ -82,7 +82,8 @@ impl Value {
 
 /// What a call gives, and the value that is written of it. Implement it for a type of your own, or use `call_as`.
 ///
-/// The argument of a call is what `Value::from` takes: implement `From<Job> for Value` for a type `Job` of your own.
+/// The argument of a call is what `Value::from` takes, before the call. Implement `From<Job> for Value` for a type `Job` of your own that
+/// is `Copy`; of another type pass a number.
 pub trait Reply {
     /// The value that is written.
     fn value(&self) -> Value;

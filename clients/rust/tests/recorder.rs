@@ -357,9 +357,11 @@ fn replies_of_other_types() {
     assert_eq!(values, ["5, :object 0}", "5, :object 0}", "3, :object 1}", "3, :object 1}"]);
 }
 
-#[derive(Clone, Copy, Debug, PartialEq)]
+/// It is not `Copy`, since it has a name.
+#[derive(Debug, PartialEq)]
 struct Task {
     id: u64,
+    name: String,
 }
 
 #[derive(Default)]
@@ -378,11 +380,12 @@ impl Tasks {
 /// A type without traits: the call says what is written.
 #[test]
 fn values_made_in_the_call() {
-    let (recorder, queue, job) = (Recorder::new(), Tasks::default(), Task { id: 7 });
+    let (recorder, queue) = (Recorder::new(), Tasks::default());
     let mut journal = recorder.journal();
     for _ in 0..2 {
+        let job = Task { id: 7, name: "seven".to_string() };
         journal.call_as(0, "enqueue", Value::number(job.id), || queue.enqueue(job), |_| Value::Nil);
-        journal.call_as(0, "dequeue", (), || queue.dequeue(), |job| job.map_or(Value::Nil, |job| Value::number(job.id)));
+        journal.call_as(0, "dequeue", (), || queue.dequeue(), |job| job.as_ref().map_or(Value::Nil, |job| Value::number(job.id)));
     }
     let text = recorder.history(&[journal]);
     assert_eq!(text.matches(":value 7").count(), 6, "{text}");
