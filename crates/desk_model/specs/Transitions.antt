@@ -68,7 +68,7 @@ MayEnd (drawn q) = ⊥
 MayEnd (taken q a) = ⊥
 MayEnd t = Unit {0}
 
--- Each step of a client c that has not ended: the world w allows it, and w' is the world after it.
+-- Each step of a client c: the world w allows it, and w' is the world after it.
 module _ (kinds : List Kind) (quota : ℕ) where
   -- an idle client that has calls left draws the ticket of one, of op on the object x
   pub record DrawsCall (x : ℕ) (op : AnyOp) (w : World) (c : ℕ) (w' : World) : Type 0 where
@@ -109,7 +109,8 @@ module _ (kinds : List Kind) (quota : ℕ) where
     pub for_object : request.object ≡ object
     pub after : w' ≡ handed w object (Some r) r (picked request)
 
-  -- the request in hand is possible in what the log leaves, and is answered as `next` says
+  -- the request in hand is possible in what the log leaves, and is answered as `next` says, or
+  -- refused for an allocation failure, and then nothing is done
   pub record Answers (w : World) (c : ℕ) (w' : World) : Type 0 where
     pub object : ℕ
     pub row : ℕ
@@ -152,7 +153,7 @@ module _ (kinds : List Kind) (quota : ℕ) where
     pub holds_nothing : HoldsNothing w c
     pub after : w' ≡ ended_by w c
 
-  -- the client c, which has not ended, takes the step, and the world is w' then
+  -- the client c takes the step, and the world is w' then
   abbrev pub Takes : Step → World → ℕ → World → Type 0
   Takes (draw_call x op) = DrawsCall x op
   Takes draw_return = DrawsReturn
