@@ -88,7 +88,10 @@ def clauses(lines, at):
             at = after
         elif re.match(r"^ *\{", line) or line.rstrip().endswith(("{", "{}", ";")) and not found and FN.match(line):
             break
-        elif found and not line.strip().startswith("//"):
+        elif found and line.strip() and not line.strip().startswith("//"):
+            # Only the next method of a trait may follow here. A clause that is not read would be left out in silence.
+            if re.search(r"\b(ensures|requires)\b", line):
+                sys.exit(f"contract_list.py: this clause is not read: {line}")
             break
         else:
             at += 1
