@@ -307,7 +307,7 @@ OF_A_STORE = """#jepsen.history.Op{:index 0, :time 10, :type :invoke, :process 0
 def converted(program, report):
     """The two commands of docs/tutorial.md that make a text of a store's file, in a folder with what they name."""
     with open(f"{ROOT}/docs/tutorial.md") as file:
-        commands = re.findall(r"^    ((?:clojure|java) .*) > judged[.]edn$", file.read(), re.M)
+        commands = re.findall(r"^    ((?:clojure|java) .*) > judged[.]edn(?: &&)?$", file.read(), re.M)
     report.equal("tutorial: the commands that make a text", ["clojure", "java"], [it.partition(" ")[0] for it in commands])
     store, room = f"{program.room}/mytest/store/latest", f"{program.room}/converted"
     os.makedirs(store)
