@@ -11,7 +11,7 @@ from dataclasses import replace
 
 from . import details, marked, rows, sentences, texts
 from .pages import Drawn
-from .situations import OF_EACH, OF_EACH_FORM, Case, example, extreme, generated, hostile, many_objects, options_and_faults, orders_of, situations
+from .situations import OF_EACH, OF_EACH_FORM, Case, example, extreme, generated, hostile, many_objects, of_two_values, options_and_faults, orders_of, situations
 from .running import EXAMPLES, SECONDS, at_once
 
 CHECKS = f"{os.path.dirname(os.path.realpath(__file__))}/check_pages.mjs"
@@ -327,8 +327,8 @@ def large_cases():
     maps, order = rounds(1000, 40_000)
     yield Case("1 000 processes", texts.lines(*maps), texts.order(*order))
     yield Case("1 000 processes, one wrong", texts.lines(*with_wrong_reply(maps, 20_000)), texts.order(*order), says=("c6",))
-    # A note on this page counts eight operations twice (docs/DECISIONS.md, 116), so it is not read back.
-    yield Case("1 000 processes without an order", texts.lines(*with_value_twice(maps, 20_000)), reads=False, says=("too_often",))
+    yield Case("1 000 processes without an order", texts.lines(*with_value_twice(maps, 20_000)), says=("too_often",))
+    yield Case("a reason of 40 000 operations", of_two_values(20_000, 12), reads=False, says=("general",))
     many = [it for on in range(65_536) for it in (texts.invoke(0, "push", on, on), texts.ok(0, "push", on, on))]
     yield Case("65 536 objects", texts.lines(*many), reads=False)
     yield Case("65 536 objects, the last one alone", texts.lines(*many), None, ("--object", "65535"), reads=False)

@@ -61,14 +61,27 @@ fn words_of(answer: Answer) -> (&'static str, &'static str, &'static str) {
     }
 }
 
-/// Whether a figure shows the reason of an object.
-fn has_reason(drawings: &[ObjectDrawing]) -> bool {
-    for drawing in drawings {
-        if drawing.tried.is_some() {
-            return true;
-        }
+/// What the first drawing of a page leads to that is no yes: the reason of the object or its fault,
+/// or the object.
+fn place_of_first(answer: Answer, drawing: &ObjectDrawing) -> &'static str {
+    if drawing.tried.is_some() {
+        "reason"
+    } else if answer == Answer::No && !drawing.sentences.is_empty() {
+        "fault"
+    } else {
+        "object"
     }
-    false
+}
+
+/// The name of what a page is about, past its head; empty where that is all of the page.
+fn place_of(page: &Page<'_>) -> &'static str {
+    match (page.answer, page.drawings) {
+        (Answer::Yes | Answer::NoMemory, _) => "",
+        (Answer::Malformed, _) => "fault",
+        (_, [drawing, ..]) => place_of_first(page.answer, drawing),
+        (Answer::No, []) => "fault",
+        _ => "",
+    }
 }
 
 impl Writer {
@@ -109,13 +122,15 @@ impl Writer {
         ])
     }
 
-    /// A link to the fault or the reason, for whom has a keyboard.
+    /// A link to the fault, to the reason or to the object, for users of a keyboard.
     fn skip_link(&mut self, page: &Page<'_>) {
-        let (place, text) = match page.answer {
-            Answer::No => ("fault", "Go to the fault"),
-            Answer::Impossible if has_reason(page.drawings) => ("reason", "Go to the reason"),
-            Answer::Malformed => ("fault", "Go to the place"),
-            _ => return,
+        let place = place_of(page);
+        let text = match place {
+            "" => return,
+            "reason" => "Go to the reason",
+            "object" => "Go to the object",
+            _ if page.answer == Answer::Malformed => "Go to the place",
+            _ => "Go to the fault",
         };
         self.put(&[
             Piece::Begin(Tag::A),
@@ -178,10 +193,16 @@ impl Writer {
     fn sections(&mut self, page: &Page<'_>) {
         let is_strange = page.drawings.is_empty() && page.answer == Answer::No;
         if page.objects.len() > 1 || is_strange {
-            self.objects(page.objects, page.drawings);
+            self.objects(page);
         }
-        for (place, drawing) in page.drawings.iter().enumerate() {
-            self.object(page.answer, drawing, place == 0);
+        // The heading of a reason has a place of its own.
+        let mut place = match place_of(page) {
+            "reason" => Some(""),
+            own => Some(own),
+        };
+        for drawing in page.drawings {
+            self.object(page.answer, drawing, place);
+            place = None;
         }
         if is_strange {
             self.nothing();
