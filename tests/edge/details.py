@@ -232,7 +232,7 @@ def why_boxes_false(shown):
 # ---- a reason
 
 
-def tries_of(calls, other):
+def tries_of(calls, other, recorded):
     """Each way to begin that breaks: what was placed, the content there, the next call, and which it is; and whether these are all."""
     part = list(calls)
     kind = KIND_OF[part[0].f] if part else None
@@ -255,10 +255,12 @@ def tries_of(calls, other):
         if not walk.is_possible(call):
             rows.append((before, text, call, "is not possible"))
             continue
-        given = walk.take(call)
+        there, own, given = walk.items[0][0] if walk.items else None, recorded[call.number], walk.take(call)
         if call.end == "ok" and given != call.reply:
-            words = ["other" if other is not None and it is not False and it == other else value(it) for it in (given, call.reply)]
-            rows.append((before, text, call, f"gives {words[0]}, returned {words[1]}"))
+            # One that the part counts as a cas was given what is there.
+            given = there if call.f == "cas" != own.f else given
+            is_other = other is not None and given is not False and given == other
+            rows.append((before, text, call, f"gives {'other' if is_other else value(given)}, returned {value(own.reply)}"))
             continue
         new = [it[0] for it in walk.items], walk.holder is None
         state = frozenset(it.number for it in (*before, call)), repr(new)
@@ -272,7 +274,7 @@ def tries_of(calls, other):
 def why_tried_false(shown):
     """What is false of the table of the orders of a reason, or None."""
     calls, _, other = shown.reason()
-    tries, is_all = tries_of([it for it in calls.values() if it], other)
+    tries, is_all = tries_of([it for it in calls.values() if it], other, shown.calls)
     if not tries:
         return None if shown.page.by_id("tried") is None else "there is a table of no orders"
     rows = shown.page.rows("tried")

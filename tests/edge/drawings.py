@@ -17,6 +17,8 @@ from .running import EXAMPLES, SECONDS, at_once
 CHECKS = f"{os.path.dirname(os.path.realpath(__file__))}/check_pages.mjs"
 PAGES = f"{EXAMPLES}/pages"
 MOST_BYTES = 1_000_000
+# The most lines of judge or check on a page, and the most bytes of one that is not cut.
+MOST_LINES, LONGEST_LINE = 400, 2_000
 VERDICTS = ("yes", "impossible", "open", "C1", "C2", "C3", "C4", "C5", "C6", "C7", "C9")
 HISTORY, CERTIFICATES = rows.HISTORY, rows.CERTIFICATES
 
@@ -83,6 +85,14 @@ def wanted_of(case, told, path):
     }
 
 
+def lines_of(told):
+    """The lines of judge or check as the page has them: of very many the first ones, and of a very long one the beginning."""
+    lines = told.out.decode().removesuffix("\n").split("\n")
+    more = len(lines) - MOST_LINES
+    shown = [it if len(it.encode()) <= LONGEST_LINE else it[:LONGEST_LINE] + "…" for it in lines[:MOST_LINES]]
+    return "\n".join(shown + ([f"… {sentences.grouped(more)} more line{'' if more == 1 else 's'}"] if more > 0 else []))
+
+
 def why_wrong(case, drawn, told, orders):
     """What is wrong with a page, or None."""
     if drawn.err:
@@ -90,7 +100,7 @@ def why_wrong(case, drawn, told, orders):
     page = Drawn(drawn.out)
     if page.answer != answer_of(case, told):
         return f"it is {page.answer}"
-    if page.lines != told.out.decode().removesuffix("\n"):
+    if page.lines != lines_of(told):
         return f"its lines are {page.lines}"
     if not set(case.says) <= set(sentences.forms_of(page)):
         return f"it says {page.said}"

@@ -128,12 +128,14 @@ fn window_of(
     }
 }
 
-/// The greatest number of those of the focus that are drawn alone.
-fn last_alone(focus: &BTreeMap<u32, Mark>) -> u32 {
-    match focus.keys().nth(MOST_ALONE - 1) {
-        Some(number) => *number,
-        None => u32::MAX,
+/// The least and the greatest number of those of the focus that are drawn alone.
+fn ends_alone(focus: &BTreeMap<u32, Mark>) -> (u32, u32) {
+    let (mut first, mut last) = (u32::MAX, 0);
+    for number in focus.keys().take(MOST_ALONE) {
+        first = first.min(*number);
+        last = last.max(*number);
     }
+    (first, last)
 }
 
 /// The same events, of which those of the focus are drawn, up to the most operations.
@@ -143,12 +145,13 @@ fn focus_moments(
     moments: &[Moment],
     focus: &BTreeMap<u32, Mark>,
 ) -> Vec<Moment> {
-    let last = last_alone(focus);
+    let (first, last) = ends_alone(focus);
     let mut zoomed = Vec::new(memory.alloc);
     for moment in moments {
         let is_drawn = match moment.of(operations) {
             Some(operation) => {
-                operation.number() <= last && focus.contains_key(&operation.number())
+                let number = operation.number();
+                first <= number && number <= last && focus.contains_key(&number)
             }
             None => false,
         };

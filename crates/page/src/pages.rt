@@ -49,6 +49,11 @@ pub struct Page<'a> {
     pub quoted: &'a str,
 }
 
+/// The most lines of the verdict on a page, and the most bytes of one that is not cut.
+const MOST_LINES: usize = 400;
+
+const LONGEST_LINE: usize = 2_000;
+
 /// The class of the page, its sign and its word.
 fn words_of(answer: Answer) -> (&'static str, &'static str, &'static str) {
     match answer {
@@ -164,6 +169,45 @@ impl Writer {
         }
     }
 
+    /// A line of the verdict, or the beginning of a very long one.
+    fn verdict_line(&mut self, line: &str) {
+        if line.len() <= LONGEST_LINE {
+            self.html.text(line);
+            return;
+        }
+        let cut: Result<String, AllocError> = line
+            .chars()
+            .take(LONGEST_LINE)
+            .collect(self.memory.alloc);
+        let cut = self.memory.text(cut);
+        self.html.text(&cut);
+        self.put(&[Piece::Text("…")])
+    }
+
+    /// The lines of the verdict, of very many the first ones.
+    fn verdict(&mut self, lines: &str) {
+        self.open(Tag::Pre, "verdict");
+        let mut count: usize = 0;
+        for line in lines.split('\n') {
+            if count < MOST_LINES {
+                self.put(&[Piece::Text(if count > 0 { "\n" } else { "" })]);
+                self.verdict_line(line);
+            }
+            count = count.saturating_add(1);
+        }
+        let more = count.saturating_sub(MOST_LINES);
+        if more > 0 {
+            self.put(&[Piece::Text("\n… ")]);
+            self.count(more);
+            self.put(&[Piece::Text(if more == 1 {
+                " more line"
+            } else {
+                " more lines"
+            })]);
+        }
+        self.put(&[Piece::Close(Tag::Pre)])
+    }
+
     fn header(&mut self, page: &Page<'_>) {
         let (_, sign, word) = words_of(page.answer);
         self.put(&[
@@ -184,9 +228,8 @@ impl Writer {
         self.html.text(page.facts);
         self.put(&[Piece::Close(Tag::Paragraph)]);
         self.all_sentences(page);
-        self.open(Tag::Pre, "verdict");
-        self.html.text(page.lines);
-        self.put(&[Piece::Close(Tag::Pre), Piece::Close(Tag::Header)])
+        self.verdict(page.lines);
+        self.put(&[Piece::Close(Tag::Header)])
     }
 
     /// The sections of a page.

@@ -57,10 +57,20 @@ fn tried_title(tried: &Tried) -> [Piece; 4] {
         [Piece::Text("Ways to begin"), empty, empty, other]
     } else if ways == 1 {
         let one = "There is one way to begin, up to the operation that does not fit";
-        [Piece::Text("Every order breaks. "), Piece::Text(one), empty, other]
+        [
+            Piece::Text("Every order breaks. "),
+            Piece::Text(one),
+            empty,
+            other,
+        ]
     } else {
         let end = Piece::Text(" ways to begin, each up to the operation that does not fit");
-        [Piece::Text("Every order breaks. All "), Piece::Number(ways), end, other]
+        [
+            Piece::Text("Every order breaks. All "),
+            Piece::Number(ways),
+            end,
+            other,
+        ]
     }
 }
 
@@ -310,7 +320,7 @@ impl Writer {
         true
     }
 
-    /// A reply, or that it is any that the part does not keep.
+    /// What an object gives, or that it is any value that the part does not keep.
     fn reply(&mut self, reply: AnyReply, other: Option<i64>) {
         match reply {
             AnyReply::Value(Some(value)) if Some(value) == other => {
@@ -328,7 +338,7 @@ impl Writer {
                 self.put(&[Piece::Text("gives ")]);
                 self.reply(gives, other);
                 self.put(&[Piece::Text(", returned ")]);
-                self.reply(returned, other);
+                self.value(value_of_reply(&returned));
             }
         }
         self.put(&[Piece::Close(Tag::TableCell)])

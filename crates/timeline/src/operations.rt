@@ -120,7 +120,9 @@ fn up_to_last_completion(events: &[Event]) -> usize {
 pub fn completions_of(alloc: Global, events: &[Event]) -> Result<Vec<Completion>, AllocError> {
     let mut next: NumberMap<u32> = NumberMap::new(alloc);
     let mut completions = Vec::new(alloc);
-    let needed = events.get(..up_to_last_completion(events)).unwrap_or(events);
+    let needed = events
+        .get(..up_to_last_completion(events))
+        .unwrap_or(events);
     for event in needed.iter().rev() {
         match event.action {
             Action::Invoke(_) => {
