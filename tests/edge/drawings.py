@@ -18,7 +18,7 @@ CHECKS = f"{os.path.dirname(os.path.realpath(__file__))}/check_pages.mjs"
 PAGES = f"{EXAMPLES}/pages"
 MOST_BYTES = 1_000_000
 # The most lines of judge or check on a page, and the most bytes of one that is not cut.
-MOST_LINES, LONGEST_LINE = 400, 2_000
+MOST_LINES, LONGEST_LINE = 60, 2_000
 VERDICTS = ("yes", "impossible", "open", "C1", "C2", "C3", "C4", "C5", "C6", "C7", "C9")
 HISTORY, CERTIFICATES = rows.HISTORY, rows.CERTIFICATES
 

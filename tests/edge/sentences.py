@@ -264,7 +264,8 @@ class Said:
         is_so = later.end == earlier.end == "ok" and found is not Ellipsis and left is not Ellipsis and found != left
         is_so &= v == again == so == value(None if found is Ellipsis else found) and key_of(later) == key_of(earlier) and later.on == earlier.on
         is_so &= verb == ("returned" if later.f in ("read", "get") else "found")
-        words = {"read": "found {}", "get": "found {}", "del": "deleted it"}.get(earlier.f, "set {}")
+        under, key = "" if key_of(earlier) is None else f" under key {key_of(earlier)}", key_of(earlier)
+        words = {"read": f"found {{}}{under}", "get": f"found {{}}{under}", "del": f"deleted key {key}"}.get(earlier.f, f"set {{}}{under}")
         is_so &= how == words.format(value(None if left is Ellipsis else left))
         is_so &= earlier.returned() == int(at) < later.number and (earlier.number, later.at) == (int(first), int(last))
         ran = [it for it in self.on(later.on) if it.is_live() and it.number < later.at and (it.returned() is None or it.returned() > earlier.number)]
@@ -389,7 +390,7 @@ FORMS = {
     "never_put": rf"{REF} returned (-?\d+) at map (\d+), and no ([\w-]+) of (-?\d+) was invoked before that.",
     "not_empty": rf"{REF} found the {KINDS} empty. But {REF} had returned before \(map (\d+)\), and nothing that was invoked before map "
     r"(\d+) took (-?\d+) out again. So the \w+ contained -?\d+.",
-    "out_of_date": rf"{REF} (returned|found) (nil|-?\d+). But {REF} (set -?\d+|found (?:nil|-?\d+)|deleted it) and returned "
+    "out_of_date": rf"{REF} (returned|found) (nil|-?\d+). But {REF} ((?:set|found|deleted) [\w -]+) and returned "
     r"\(map (\d+)\) before that began, and nothing else that ran in between \(maps (\d+) to (\d+)\) made it (nil|-?\d+) again. "
     r"So (nil|-?\d+) is out of date.",
     "twice_released": rf"Between map (\d+) and map (\d+) the mutex was released twice, by {REF} and {REF}, and no acquire ran in between.",

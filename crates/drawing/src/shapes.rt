@@ -143,14 +143,22 @@ fn left_by(operation: &Operation) -> Option<Option<i64>> {
     }
 }
 
-/// The words on what an operation left, which is this.
-fn left_words(operation: &Operation, left: Option<i64>) -> [Span; 2] {
+/// The words on what an operation left, which is this: of a map also the key.
+fn left_words(operation: &Operation, left: Option<i64>) -> [Span; 4] {
+    let (under, key) = match key_of(operation.op()) {
+        Some(key) => (Span::Text(" under key "), Span::integer(key)),
+        None => (Span::Text(""), Span::Text("")),
+    };
+    let value = Span::reply(AnyReply::Value(left));
     match operation.op() {
-        AnyOp::Read | AnyOp::Get(_) => {
-            [Span::Text(" found "), Span::reply(AnyReply::Value(left))]
-        }
-        AnyOp::Del(_) => [Span::Text(" deleted it"), Span::Text("")],
-        _ => [Span::Text(" set "), Span::reply(AnyReply::Value(left))],
+        AnyOp::Del(_) => [
+            Span::Text(" deleted key "),
+            key,
+            Span::Text(""),
+            Span::Text(""),
+        ],
+        AnyOp::Read | AnyOp::Get(_) => [Span::Text(" found "), value, under, key],
+        _ => [Span::Text(" set "), value, under, key],
     }
 }
 
@@ -451,7 +459,7 @@ impl Shape<'_, '_, '_> {
         }
         let is_read = matches!(later.op(), AnyOp::Read | AnyOp::Get(_));
         let value = Span::reply(AnyReply::Value(found));
-        let [set, what] = left_words(earlier, left);
+        let words = left_words(earlier, left);
         said(
             self.memory,
             &[
@@ -460,8 +468,10 @@ impl Shape<'_, '_, '_> {
                 value,
                 Span::Text(". But "),
                 Span::Operation(*earlier),
-                set,
-                what,
+                words[0],
+                words[1],
+                words[2],
+                words[3],
                 Span::Text(" and returned (map "),
                 Span::number(at),
                 Span::Text(") before that began, and nothing else that ran in between (maps "),

@@ -50,7 +50,7 @@ pub struct Page<'a> {
 }
 
 /// The most lines of the verdict on a page, and the most bytes of one that is not cut.
-const MOST_LINES: usize = 400;
+const MOST_LINES: usize = 60;
 
 const LONGEST_LINE: usize = 2_000;
 
