@@ -365,15 +365,13 @@ def rounds_of_a_map(processes, maps):
 
 
 def seconds_of_drawings(program, report):
-    """A page takes at most 1.2 times the time of judge, of a queue, of a map, and of a queue without an order.
-
-    The least times of some runs still differ by some hundredths of a second from one machine to the next, so a tenth more is allowed."""
+    """A page takes at most 1.2 times the time of judge, of a queue, of a map, and of a queue without an order."""
     queue, _ = rounds(10, 1_000_000)
     histories_of = {"queue": queue, "map": rounds_of_a_map(10, 1_000_000), "impossible": with_value_twice(queue, 600_000)}
     told = []
     for name, maps in histories_of.items():
         with_page, without = least_seconds(program, program.write(f"{name}.{HISTORY}", texts.lines(*maps)))
-        report.holds(f"draw: {name}: it takes at most 1.2 times the time of judge", with_page <= 1.2 * without + 0.1, (with_page, without))
+        report.holds(f"draw: {name}: it takes at most 1.2 times the time of judge", with_page <= 1.2 * without, (with_page, without))
         told.append(f"{name} {with_page:.2f} of {without:.2f} s, {with_page / without:.2f} times")
     return "; ".join(told)
 

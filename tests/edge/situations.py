@@ -179,7 +179,7 @@ def of_no(program):
 
 
 def of_two_values(count, processes, put="enqueue", take="dequeue"):
-    """A history of a queue, or of a stack, of so many values, each 0 or 1, of which two are taken out the other way round: no part of it shows that."""
+    """A history of a queue, or of a stack, of n values, each 0 or 1, of which two are taken out the other way round: no part of it shows that."""
     rng = random.Random(f"two values {count}")
     values = [rng.randrange(2) for _ in range(count)]
     taken = values[::-1] if take == "pop" else list(values)
@@ -194,7 +194,7 @@ def one_call(process, f, argument, reply):
 
 
 def taken_again(count):
-    """A history of a queue in which one value is put in so many times, and taken out once more."""
+    """A history of a queue in which one value is put in n times, and taken out once more."""
     calls = [("enqueue", 7, 7), ("dequeue", None, 7)] * count + [("dequeue", None, 7)]
     return texts.one_process(*calls)
 
