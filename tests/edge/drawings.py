@@ -11,7 +11,7 @@ from dataclasses import replace
 
 from . import details, marked, rows, sentences, texts
 from .pages import Drawn
-from .situations import OF_EACH, OF_EACH_FORM, Case, example, extreme, generated, hostile, many_objects, of_two_values, options_and_faults, orders_of, situations
+from .situations import OF_EACH, OF_EACH_FORM, Case, example, extreme, generated, hostile, many_objects, of_two_values, old_values, options_and_faults, orders_of, situations
 from .running import EXAMPLES, SECONDS, at_once
 
 CHECKS = f"{os.path.dirname(os.path.realpath(__file__))}/check_pages.mjs"
@@ -266,17 +266,43 @@ FALSIFIED = {
 }
 
 
+# The same of pages of generated histories.
+FALSIFIED_OLD_VALUE = (
+    ("found 1. But", "found 2. But"),
+    (" set 2 under key 5", " set 2 under key 4"),
+    (" set 2 under key 5", " set 3 under key 5"),
+    ("(maps 2 to 5)", "(maps 2 to 4)"),
+    ("gives other, returned 1", "gives other, returned 0"),
+    ("gives other, returned 1", "gives 0, returned 1"),
+    (". “other” is any value that the reason does not keep", ""),
+)
+FALSIFIED_LONG_REASON = (
+    ("Drawn: 200 of them. ", "Drawn: 199 of them. "),
+    ("Drawn: 200 of them. ", ""),
+    ("these 1 400 operations", "these 200 operations"),
+    ("1 400 operations of 1 400: these alone", "200 operations of 1 400: these alone"),
+    ("more lines", "more line"),
+)
+
+
+def falsified():
+    """Pages, and what is made false on each."""
+    for stem, those in FALSIFIED.items():
+        yield example(stem, stem == "wrong_reply"), those
+    yield Case("a put finds an old value", texts.one_process(*dict(old_values())["a put"])), FALSIFIED_OLD_VALUE
+    yield Case("a reason of 1 400 operations", of_two_values(700, 1)), FALSIFIED_LONG_REASON
+
+
 def falsified_pages(program, report):
     """What is made false on a page is found."""
-    for stem, those in FALSIFIED.items():
-        case = example(stem, stem == "wrong_reply")
+    for case, those in falsified():
         drawn, told, orders = run(program, case)
-        report.equal(f"draw: {stem}: nothing is false", None, why_wrong(case, drawn, told, orders))
+        report.equal(f"draw: {case.name}: nothing is false", None, why_wrong(case, drawn, told, orders))
         for old, new in those:
             page = drawn.out.replace(old.encode(), new.encode(), 1)
-            report.holds(f"draw: {stem} has {old}", page != drawn.out, drawn.out)
+            report.holds(f"draw: {case.name} has {old}", page != drawn.out, drawn.out[:3000])
             wrong = why_wrong(case, replace(drawn, out=page), told, orders)
-            report.holds(f"draw: {stem} with {new}: it is false", wrong is not None)
+            report.holds(f"draw: {case.name} with {new}: it is false", wrong is not None)
 
 
 # ---- large ones
