@@ -274,7 +274,7 @@ FALSIFIED_OLD_VALUE = (
     ("(maps 2 to 5)", "(maps 2 to 4)"),
     ("gives other, returned 1", "gives other, returned 0"),
     ("gives other, returned 1", "gives 0, returned 1"),
-    (". “other” is any value that the reason does not keep", ""),
+    (". “other” is any value that the reason does not keep</caption>", "</caption>"),
 )
 FALSIFIED_LONG_REASON = (
     ("Drawn: 200 of them. ", "Drawn: 199 of them. "),
