@@ -364,7 +364,7 @@ def large_cases():
     yield Case("1 000 processes", texts.lines(*maps), texts.order(*order))
     yield Case("1 000 processes, one wrong", texts.lines(*with_wrong_reply(maps, 20_000)), texts.order(*order), says=("c6",))
     yield Case("1 000 processes without an order", texts.lines(*with_value_twice(maps, 20_000)), says=("too_often",))
-    yield Case("a reason of 40 000 operations", of_two_values(20_000, 12), reads=False, says=("general",))
+    yield Case("a reason of 4 000 operations", of_two_values(2_000, 12), reads=False, says=("general",))
     many = [it for on in range(65_536) for it in (texts.invoke(0, "push", on, on), texts.ok(0, "push", on, on))]
     yield Case("65 536 objects", texts.lines(*many), reads=False)
     yield Case("65 536 objects, the last one alone", texts.lines(*many), None, ("--object", "65535"), reads=False)
