@@ -217,24 +217,27 @@ function parts(wanted) {
   if (wanted.code === 'C5' && count('g.before') < 1) bad.push('no arrow');
   if (['C6', 'C9'].includes(wanted.code) && count('#content rect') < 1) bad.push('no content');
   if (wanted.answer === 'impossible') {
-    const shown = [...document.querySelectorAll('#zoom g.op')].map(it => +it.dataset.op);
-    const isReason = JSON.stringify([...new Set(shown)].sort((a, b) => a - b)) === JSON.stringify(wanted.reason);
+    const shown = [...new Set([...document.querySelectorAll('#zoom g.op')].map(it => +it.dataset.op))];
+    const some = document.querySelector('#zoom figcaption')?.textContent.match(/ Drawn: ([\d ]+) of them\./);
+    const most = some ? +some[1].replaceAll(' ', '') : wanted.reason.length;
+    const isReason = shown.length === most && shown.every(it => wanted.reason.includes(it)) && Boolean(some) === most < wanted.reason.length;
     if (!isReason) bad.push(`the operations ${shown} are not those of the reason, ${wanted.reason}`);
     const isTried = !document.body.textContent.includes('one of them does not fit.');
     if (count('table.tried tbody tr') < 1 && isTried) bad.push('no tried order');
   }
   if (wanted.answer === 'malformed' && document.querySelector('figure.text')?.querySelectorAll('tr.at > td > mark').length !== 1) bad.push('no place is marked');
-  const place = document.querySelector('#reason, #fault');
+  const place = document.querySelector('#reason, #fault, #object');
   const link = document.querySelector('.skiplink');
   if (link?.getAttribute('href') !== (place ? `#${place.id}` : undefined)) bad.push(`no link to ${place?.id ?? 'nothing'}`);
-  if (!place && wanted.isWhole && ['no', 'impossible', 'malformed'].includes(wanted.answer)) bad.push('nothing to skip to');
+  if (!place && wanted.isWhole && ['no', 'impossible', 'open', 'malformed'].includes(wanted.answer)) bad.push('nothing to skip to');
+  if (place?.id === 'object' && wanted.isWhole && wanted.answer !== 'open') bad.push('a link to an object that is not at fault');
   for (const text of wanted.shows ?? []) if (!document.body.textContent.includes(text)) bad.push(`${text} is not shown`);
   return bad;
 }
 
 const focused = () => document.activeElement.className;
 const has = selector => Boolean(document.querySelector(selector));
-const placed = () => document.activeElement === document.querySelector('#reason, #fault') && location.hash === `#${document.activeElement.id}`;
+const placed = () => document.activeElement === document.querySelector('#reason, #fault, #object') && location.hash === `#${document.activeElement.id}`;
 
 // A row of an order whose point is drawn, in the middle of the window: where it is, and what its bar is.
 function rowToPointAt() {

@@ -5,7 +5,7 @@ import re
 from .histories import KIND_OF, Call, calls_of
 from .pages import REF, classes, found, spelled
 from .reasons import IMPOSSIBLE, TOLD, maps_of, value_of
-from .sentences import FORMS, Said, Walked, grouped, label_of, number_in, why_bars_false
+from .sentences import FEW_NAMED, FORMS, Said, Walked, grouped, label_of, number_in, why_bars_false
 from .texts import value
 
 # An object with at most so many events is drawn whole; of another without a focus the first ones are; and at most so many.
@@ -15,6 +15,8 @@ AROUND = ((20, 10), (10, 5), (5, 2), (2, 1), (1, 0), (0, 0))
 HOLE, LANES, ALONE = 7, 24, 12
 # The most rows of tried orders, the operations of a part that are tried, and the steps.
 TRIED, MOST_TRIED, STEPS = 24, 64, 2000
+# The most operations of a reason that are drawn alone.
+MOST_ALONE = 200
 # Of a reason with this many operations all orders are tried.
 FEW_ORDERED = 8
 # An object that contains no more has a box for each.
@@ -230,7 +232,7 @@ def why_boxes_false(shown):
 # ---- a reason
 
 
-def tries_of(calls, other):
+def tries_of(calls, other, recorded):
     """Each way to begin that breaks: what was placed, the content there, the next call, and which it is; and whether these are all."""
     part = list(calls)
     kind = KIND_OF[part[0].f] if part else None
@@ -253,10 +255,12 @@ def tries_of(calls, other):
         if not walk.is_possible(call):
             rows.append((before, text, call, "is not possible"))
             continue
-        given = walk.take(call)
+        there, own, given = walk.items[0][0] if walk.items else None, recorded[call.number], walk.take(call)
         if call.end == "ok" and given != call.reply:
-            words = ["other" if other is not None and it is not False and it == other else value(it) for it in (given, call.reply)]
-            rows.append((before, text, call, f"gives {words[0]}, returned {words[1]}"))
+            # One that the part counts as a cas was given what is there.
+            given = there if call.f == "cas" != own.f else given
+            is_other = other is not None and given is not False and given == other
+            rows.append((before, text, call, f"gives {'other' if is_other else value(given)}, returned {value(own.reply)}"))
             continue
         new = [it[0] for it in walk.items], walk.holder is None
         state = frozenset(it.number for it in (*before, call)), repr(new)
@@ -270,7 +274,7 @@ def tries_of(calls, other):
 def why_tried_false(shown):
     """What is false of the table of the orders of a reason, or None."""
     calls, _, other = shown.reason()
-    tries, is_all = tries_of([it for it in calls.values() if it], other)
+    tries, is_all = tries_of([it for it in calls.values() if it], other, shown.calls)
     if not tries:
         return None if shown.page.by_id("tried") is None else "there is a table of no orders"
     rows = shown.page.rows("tried")
@@ -285,33 +289,56 @@ def why_tried_false(shown):
     one = "There is one way to begin, up to the operation that does not fit"
     several = f"All {len(tries)} ways to begin, each up to the operation that does not fit"
     caption = f"Every order breaks. {one if len(tries) == 1 else several}" if is_all else "Ways to begin"
+    caption += ". “other” is any value that the reason does not keep" if other is not None else ""
     said = spelled(shown.page.by_id("tried").find("caption"))
     return None if said == caption else f"the caption of the tried orders is {said}, and not {caption}"
+
+
+def drawn_alone(shown, numbers):
+    """Those of the operations of a reason that its figure has: the first ones, and of the processes that begin first."""
+    few = [shown.calls[it] for it in sorted(numbers)[:MOST_ALONE]]
+    begins = {}
+    for call in few:
+        begins.setdefault(call.process, call.number)
+    lanes = sorted(begins, key=begins.get)[:LANES]
+    return [it.number for it in few if it.process in lanes]
+
+
+def outside_note(calls):
+    """What is said of the operations that are not wholly within a reason."""
+    if not calls:
+        return []
+    more = len(calls) - FEW_NAMED
+    words, named = "they may" if len(calls) > 1 else "it may", ", ".join(said_of(it) for it in calls[:FEW_NAMED])
+    ending = f", and {grouped(more)} more" if more > 0 else ""
+    return [f"Not wholly within this stretch, so {words} have taken effect outside of it: {named}{ending}."]
 
 
 def why_reason_false(shown):
     """What is false of the figure of a reason, or None."""
     zoom, (calls, since, _) = shown.page.by_id("zoom"), shown.reason()
-    if shown.page.bars("zoom") != sorted(calls):
-        return f"the reason has {sorted(calls)}, and the figure {shown.page.bars('zoom')}"
+    alone = drawn_alone(shown, calls)
+    if shown.page.bars("zoom") != alone:
+        return f"the reason has {alone}, and the figure {shown.page.bars('zoom')}"
     x = shown.calls[min(calls)].on
     count, live = len(calls), sum(it.is_live() for it in shown.on(x))
     caption = f"{grouped(count)} operation{'' if count == 1 else 's'} of {grouped(live)}"
     caption += ": it has no place in any order" if count == 1 else ": these alone have no valid order"
     caption += f", whatever the {shown.kind(x)} contained before map {since}." if since is not None else "."
+    if len(alone) < count:
+        caption += f" Drawn: {grouped(len(alone))} of them."
     if found(zoom, "g", "before"):
         caption += " Arrows: returned before the other was invoked, so it stands before it."
     if spelled(zoom.find("figcaption")) != caption:
         return f"the caption is {spelled(zoom.find('figcaption'))}, and not {caption}"
     if len(calls) <= FEW_ORDERED and not Said(shown.history, {}).general(sorted(calls), since, None, None):
         return f"the operations {sorted(calls)} have a valid order"
-    outside = [said_of(shown.calls[n]) for n, it in sorted(calls.items()) if it and it.end == "open" and shown.calls[n].end == "ok"]
+    outside = [shown.calls[n] for n, it in sorted(calls.items()) if it and it.end == "open" and shown.calls[n].end == "ok"]
     if since is not None and calls[since] is not None and calls[since].end == "open":
         return "the operation that begins the part is pending"
     if any("the table says where" in it for it in shown.page.said) and not shown.page.rows("tried"):
         return "the table of tried orders is empty"
-    words = "they may" if len(outside) > 1 else "it may"
-    wanted = [f"Not wholly within this stretch, so {words} have taken effect outside of it: {', '.join(outside)}."] if outside else []
+    wanted = outside_note(outside)
     notes = [spelled(it) for it in found(zoom, "p", "note")]
     return why_tried_false(shown) if notes == wanted else f"the notes are {notes}, and not {wanted}"
 

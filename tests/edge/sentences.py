@@ -3,7 +3,7 @@ import itertools
 import re
 
 from .histories import KIND_OF, calls_of
-from .pages import REF, found
+from .pages import REF, found, spelled
 from .reasons import NEXT, OPEN, has_order, maps_of
 from .texts import value
 
@@ -12,6 +12,8 @@ PUTS = ("enqueue", "push", "insert", "write", "put", "cas")
 TAKES = ("dequeue", "pop", "extract-min")
 # The most rows of the table of objects.
 MOST_OBJECTS = 64
+# How many operations a sentence or a note names one by one at most.
+FEW_NAMED = 12
 TIMES = {"once": 1, "twice": 2}
 ROLES = {f: "put" for f in PUT.values()} | {f: "take" for f in (*TAKES, "del", "release")} | {f: "read" for f in ("read", "get")} | {"cas": "swap"}
 STATES = {"ok": "done", "fail": "failed", "info": "pending", "open": "pending"}
@@ -41,6 +43,20 @@ def value_put(call):
     if call.f == "put" or call.f == "cas" and call.reply is not False:
         return call.argument[1]
     return None
+
+
+def found_by(call):
+    """What a register or a key contained before the call, by its reply; ... where that does not tell it."""
+    if call.f == "cas":
+        return ... if call.reply is False else call.argument[0]
+    return call.reply if call.f in ("read", "get", "put", "del") else ...
+
+
+def left_by(call):
+    """What a register or a key contained after the call, which returned; ... where that can't be told."""
+    if call.f in ("read", "get"):
+        return call.reply
+    return None if call.f == "del" else ... if value_put(call) is None else value_put(call)
 
 
 def key_of(call):
@@ -242,13 +258,21 @@ class Said:
         is_so &= put.argument == int(v) and call.at == int(until)
         return is_so and not any(it.end != "ok" or it.reply == int(v) for it in others)
 
-    def out_of_date(self, n, v, by, w, at, first, last):
-        read, write = self.calls[int(n)], self.calls[int(by)]
-        is_so = (read.reply, read.end, value_put(write)) == (int(v), "ok", int(w)) and v != w
-        is_so &= write.returned() == int(at) < read.number and (write.number, read.at) == (int(first), int(last))
-        ran = [it for it in self.on(read.on) if it.is_live() and it.number < read.at and (it.returned() is None or it.returned() > write.number)]
-        again = [it for it in ran if key_of(it) == key_of(read) or it.f in ("write", "cas")]
-        return is_so and not any(value_put(it) == int(v) and it.argument != (int(v), int(v)) for it in again)
+    def out_of_date(self, n, verb, v, by, how, at, first, last, again, so):
+        later, earlier = self.calls[int(n)], self.calls[int(by)]
+        found, left = found_by(later), left_by(earlier)
+        is_so = later.end == earlier.end == "ok" and found is not Ellipsis and left is not Ellipsis and found != left
+        is_so &= v == again == so == value(None if found is Ellipsis else found) and key_of(later) == key_of(earlier) and later.on == earlier.on
+        is_so &= verb == ("returned" if later.f in ("read", "get") else "found")
+        under, key = "" if key_of(earlier) is None else f" under key {key_of(earlier)}", key_of(earlier)
+        words = {"read": f"found {{}}{under}", "get": f"found {{}}{under}", "del": f"deleted key {key}"}.get(earlier.f, f"set {{}}{under}")
+        is_so &= how == words.format(value(None if left is Ellipsis else left))
+        is_so &= earlier.returned() == int(at) < later.number and (earlier.number, later.at) == (int(first), int(last))
+        ran = [it for it in self.on(later.on) if it.is_live() and it.number < later.at and (it.returned() is None or it.returned() > earlier.number)]
+        others = [it for it in ran if it.number != later.number and (key_of(it) == key_of(later) or it.f in ("write", "cas"))]
+        if found is None:
+            return is_so and not any(it.f == "del" for it in others)
+        return is_so and not any(value_put(it) == found and it.argument != (found, found) for it in others)
 
     def twice_released(self, first, last, a, b):
         one, two = self.calls[int(a)], self.calls[int(b)]
@@ -257,21 +281,30 @@ class Said:
         ran = [it for it in self.on(one.on) if it.is_live() and it.number < int(last) and (it.returned() is None or it.returned() > int(first))]
         return is_so and not any(it.f == "acquire" for it in ran)
 
-    def wrong_turn(self, a, at, b, v, w, t, again, until, once_more):
+    def wrong_turn(self, a, at, b, v, w, t, again, until, once_more, then):
         one, two, taker = (self.calls[int(it)] for it in (a, b, t))
         others = [it for it in self.on(one.on) if it.number < int(until) and it.is_live()]
         is_so = one.returned() == int(at) < two.number and (one.argument, two.argument) == (int(v), int(w))
         is_so &= (taker.reply, taker.at) == (int(w), int(until)) and (again, once_more) == (w, v)
         is_so &= sum(it.f == "enqueue" and it.argument == int(w) for it in others) == 1
+        if then is not None:
+            after = self.calls[int(then)]
+            is_so &= (after.f, after.reply, after.on) == ("dequeue", int(v), one.on) and after.number > int(until)
         return is_so and not any(it.f == "dequeue" and (it.end != "ok" or it.reply == int(v)) for it in others)
 
     def too_often(self, v, put, putters, taken, takers, f, again, until):
-        by, of = ([self.calls[int(it[0])] for it in re.findall(REF, those)] for those in (putters, takers))
+        named = [those and [int(it[0]) for it in re.findall(REF, those)] for those in (putters, takers)]
         counts = [TIMES.get(it, None) or number_in(it.removesuffix(" times")) for it in (put, taken)]
-        puts = [it for it in self.on(by[0].on) if it.is_live() and it.number < int(until) and it.f == f and it.argument == int(v)]
-        is_so = counts == [len(by), len(of)] and len(of) > len(by) and v == again
-        is_so &= {it.number for it in by} == {it.number for it in puts}
-        return is_so and all((it.reply, it.end) == (int(v), "ok") and it.at <= int(until) for it in of)
+        by = [self.calls[it] for those in named if those for it in those]
+
+        def is_so(x):
+            live = [it for it in self.on(x) if it.is_live()]
+            puts = [it.number for it in live if it.number < int(until) and it.f == f and it.argument == int(v)]
+            takes = [it.number for it in live if it.f in TAKES and (it.reply, it.end) == (int(v), "ok") and it.at <= int(until)]
+            are_named = all(those == own if those else len(own) > FEW_NAMED for those, own in zip(named, (puts, takes)))
+            return are_named and counts == [len(puts), len(takes)] and len(takes) > len(puts)
+
+        return v == again and any(is_so(x) for x in ({it.on for it in by} or {it.on for it in self.calls.values()}))
 
     def left_open(self, x, why):
         return bool(self.on(int(x))) and why in ("out of steps", "out of memory")
@@ -357,14 +390,15 @@ FORMS = {
     "never_put": rf"{REF} returned (-?\d+) at map (\d+), and no ([\w-]+) of (-?\d+) was invoked before that.",
     "not_empty": rf"{REF} found the {KINDS} empty. But {REF} had returned before \(map (\d+)\), and nothing that was invoked before map "
     r"(\d+) took (-?\d+) out again. So the \w+ contained -?\d+.",
-    "out_of_date": rf"{REF} returned (-?\d+). But {REF} set (-?\d+) and returned \(map (\d+)\) before that began, and nothing that ran in "
-    r"between \(maps (\d+) to (\d+)\) made it -?\d+ again. So -?\d+ is out of date.",
+    "out_of_date": rf"{REF} (returned|found) (nil|-?\d+). But {REF} ((?:set|found|deleted) [\w -]+) and returned "
+    r"\(map (\d+)\) before that began, and nothing else that ran in between \(maps (\d+) to (\d+)\) made it (nil|-?\d+) again. "
+    r"So (nil|-?\d+) is out of date.",
     "twice_released": rf"Between map (\d+) and map (\d+) the mutex was released twice, by {REF} and {REF}, and no acquire ran in between.",
     "wrong_turn": rf"{REF} returned \(map (\d+)\) before {REF} was invoked, so (-?\d+) went in before (-?\d+). But {REF} took (-?\d+) out, "
-    r"and nothing invoked before map (\d+) took (-?\d+) out.",
+    rf"and nothing invoked before map (\d+) took (-?\d+) out(?:\.|: only then {REF} began\.)",
     "left_open": r"No order was found for object (\d+), and none was excluded: ([\w ]+). So the history is not decided.",
-    "too_often": r"(-?\d+) was \w+ (once|twice|[\d ]+ times), by (.*), and \w+ (once|twice|[\d ]+ times), by (.*). No other ([\w-]+) of (-?\d+) "
-    r"was invoked before map (\d+).",
+    "too_often": r"(-?\d+) was \w+ (once|twice|[\d ]+ times)(?:, by (.*))?, and \w+ (once|twice|[\d ]+ times)(?:, by (.*))?\. No other ([\w-]+) of "
+    r"(-?\d+) was invoked before map (\d+).",
 }
 # Of each form that has operations, which of the groups are labels: those are checked apart.
 GENERAL = re.compile(
@@ -458,8 +492,12 @@ def why_sentence_false(page, said, sentence):
         return "no known sentence"
     bars, last = page.bars("zoom"), match[2] or match[4]
     counted = re.search(r"these ([\d\u202f\u2009\xa0 ]+) operations come, ", sentence)
-    if counted and int(re.sub(r"\D", "", counted[1])) != len(bars) - (last is not None):
+    # The figure may leave some out, and says then of how many.
+    all_of_them = number_in(re.match(r"([\d ]+) operations? of", spelled(page.by_id("zoom").find("figcaption")))[1])
+    if counted and int(re.sub(r"\D", "", counted[1])) != all_of_them - (last is not None):
         return "false (general: the number of operations)"
+    if len(bars) < all_of_them:
+        return None if last is None else "false (general: an operation of very many)"
     is_so = said.general(bars, match[1], last, match[3])
     return None if is_so else "false (general)"
 

@@ -178,8 +178,53 @@ def of_no(program):
     yield Case("a mutex is acquired twice", ACQUIRED_TWICE, texts.order(0, 2, 4, 6), says=("c9 held",))
 
 
+def of_two_values(count, processes, put="enqueue", take="dequeue"):
+    """A history of a queue, or of a stack, of n values, each 0 or 1, of which two are taken out the other way round: no part of it shows that."""
+    rng = random.Random(f"two values {count}")
+    values = [rng.randrange(2) for _ in range(count)]
+    taken = values[::-1] if take == "pop" else list(values)
+    at = next(it for it in range(count // 2, count) if taken[it] != taken[it + 1])
+    taken[at], taken[at + 1] = taken[at + 1], taken[at]
+    calls = [(put, it, it) for it in values] + [(take, None, it) for it in taken]
+    return texts.lines(*[line for place, call in enumerate(calls) for line in one_call(place % processes, *call)])
+
+
+def one_call(process, f, argument, reply):
+    return texts.invoke(process, f, argument), texts.ok(process, f, reply)
+
+
+def taken_again(count):
+    """A history of a queue in which one value is put in n times, and taken out once more."""
+    calls = [("enqueue", 7, 7), ("dequeue", None, 7)] * count + [("dequeue", None, 7)]
+    return texts.one_process(*calls)
+
+
+def old_values():
+    """Histories of a register and of a map in which an operation finds a value that was replaced, by the operation that replaced it."""
+    register = [("write", 1, 1), ("write", 2, 2)]
+    of_map = [("put", (5, 1), None), ("put", (5, 2), 1)]
+    yield "a read", [*register, ("read", None, 1)]
+    yield "a read after a read", [*register, ("read", None, 2), ("read", None, 1)]
+    yield "a read of nothing", [("write", 1, 1), ("read", None, None)]
+    yield "a cas", [*register, ("cas", (1, 3), (1, 3))]
+    yield "a cas that sets the same", [*register, ("cas", (1, 1), (1, 1))]
+    yield "a read after a cas", [("write", 1, 1), ("cas", (1, 2), (1, 2)), ("read", None, 1)]
+    yield "a get", [*of_map, ("get", 5, 1)]
+    yield "a put", [*of_map, ("put", (5, 3), 1)]
+    yield "a put of the same", [*of_map, ("put", (5, 1), 1)]
+    yield "a del", [*of_map, ("del", 5, 1)]
+    yield "a get after a del", [*of_map, ("del", 5, 2), ("get", 5, 2)]
+    yield "a get of nothing", [*of_map, ("get", 5, None)]
+
+
 def of_impossible():
     """Histories without an order, of faulty objects."""
+    for name, calls in old_values():
+        yield Case(f"{name} finds an old value", texts.one_process(*calls), says=("out_of_date",))
+    yield Case("a value taken out 301 times", taken_again(300), says=("too_often",))
+    yield Case("a reason of 100 operations of 40 processes", of_two_values(50, 40), says=("general",))
+    yield Case("a reason of 1 400 operations", of_two_values(700, 1), says=("general",))
+    yield Case("a reason of 1 400 operations of 40 processes", of_two_values(700, 40, "push", "pop"), says=("general",))
     yield Case("a racy queue of 400", played(("queue",), 400, 4, RacyQueue).text(), says=("too_often",))
     yield Case("a sharded queue of 240", played(("queue",), 240, 3, ShardedQueue).text(), says=("wrong_turn",))
     yield Case("a register of 500 with a racy cas", played(("register",), 500, 5, RacyRegister, values=5).text(), says=("general",))

@@ -90,7 +90,7 @@ pub fn draw_up_to(alloc: Global, faulty: &Faulty<'_>) -> Result<FaultyDrawing, A
     }
     let mut moments = moments_up_to(&memory, &operations, faulty, &focus);
     let numbers = numbers_of(&memory, &focus);
-    let (without_lane, processes) = narrow(&memory, &operations, &mut moments, &numbers);
+    let without = narrow(&memory, &operations, &mut moments, &numbers);
     let scene = Scene {
         operations: &operations,
         moments: &moments,
@@ -102,13 +102,14 @@ pub fn draw_up_to(alloc: Global, faulty: &Faulty<'_>) -> Result<FaultyDrawing, A
         dims: false,
         maps: faulty.map.number.saturating_add(1),
         names_objects: faulty.objects.len() > 1,
+        without_lane: &without.operations,
         faulty: Some(faulty.map),
     };
     let figure = figure_of(&memory, &scene);
     memory.whole(FaultyDrawing {
         figure,
         earlier,
-        without_lane,
-        processes,
+        without_lane: without.operations.len(),
+        processes: without.processes,
     })
 }

@@ -12,7 +12,9 @@ mod sources;
 mod tried;
 
 pub use faulty::{Faulty, FaultyDrawing, draw_up_to};
-pub use figures::{FaultyMap, Memory, Nemesis, Stretch, count_text, label, point_room, value_text};
+pub use figures::{
+    FaultyMap, Memory, Nemesis, SMALL, Stretch, count_text, label, point_room, value_text,
+};
 pub use objects::{Part, Subject, draw_impossible, draw_refused, draw_uncertified, draw_valid};
 pub use timeline::{
     Arrow, Attempt, Bar, BoxKind, Completion, ContentBox, Cross, Entry, Extent, Failure, Figure,

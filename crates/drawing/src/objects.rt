@@ -10,8 +10,8 @@ use crate::tried::try_orders;
 use checker::OrderFault;
 use events::{End, History, Invocation, ObjectHistory};
 use figures::{
-    Memory, Moment, Nemesis, Placed, Scene, Stretch, choose, figure_of, moments_of, narrow,
-    numbers_of,
+    Memory, Moment, Nemesis, Placed, Scene, Stretch, WithoutLane, choose, figure_of, moments_of,
+    narrow, numbers_of,
 };
 use seq_objects::Kind;
 use std::alloc::{AllocError, Global};
@@ -23,6 +23,9 @@ use timeline::{
 
 /// An object with at most as many events is drawn whole.
 const WHOLE: usize = 160;
+
+/// The most operations that are drawn alone.
+const MOST_ALONE: usize = 200;
 
 /// An object of a history with this many maps, and the stretch of it that is drawn.
 #[derive(Clone, Copy)]
@@ -78,6 +81,7 @@ struct Window {
     moments: Vec<Moment>,
     zoomed: Vec<Moment>,
     drawn: BTreeSet<u32>,
+    without: WithoutLane,
     extent: Extent,
 }
 
@@ -107,33 +111,48 @@ fn window_of(
         zoomed = focus_moments(memory, operations, &moments, focus);
         narrow(memory, operations, &mut zoomed, &numbers);
     }
-    let (without_lane, processes) = narrow(memory, operations, &mut moments, &numbers);
+    let without = narrow(memory, operations, &mut moments, &numbers);
     let drawn = drawn_numbers(memory, operations, &moments);
     Window {
         extent: Extent {
             operations: operations.len(),
             live: live_in(operations),
             drawn: drawn.len(),
-            without_lane,
-            processes,
+            without_lane: without.operations.len(),
+            processes: without.processes,
         },
         moments,
         zoomed,
         drawn,
+        without,
     }
 }
 
-/// The same events, of which those of the focus are drawn.
+/// The least and the greatest number of those of the focus that are drawn alone.
+fn ends_alone(focus: &BTreeMap<u32, Mark>) -> (u32, u32) {
+    let (mut first, mut last) = (u32::MAX, 0);
+    for number in focus.keys().take(MOST_ALONE) {
+        first = first.min(*number);
+        last = last.max(*number);
+    }
+    (first, last)
+}
+
+/// The same events, of which those of the focus are drawn, up to the most operations.
 fn focus_moments(
     memory: &Memory,
     operations: &[Operation],
     moments: &[Moment],
     focus: &BTreeMap<u32, Mark>,
 ) -> Vec<Moment> {
+    let (first, last) = ends_alone(focus);
     let mut zoomed = Vec::new(memory.alloc);
     for moment in moments {
         let is_drawn = match moment.of(operations) {
-            Some(operation) => focus.contains_key(&operation.number()),
+            Some(operation) => {
+                let number = operation.number();
+                first <= number && number <= last && focus.contains_key(&number)
+            }
             None => false,
         };
         memory.note(zoomed.push(Moment {
@@ -185,6 +204,7 @@ fn figures(
             || !focus.is_empty() && window.drawn.len() > few,
         maps: subject.maps,
         names_objects: false,
+        without_lane: &window.without.operations,
         faulty: None,
     };
     let is_alone = match explanation.alone {
@@ -342,14 +362,15 @@ pub fn draw_refused(
     memory.whole(drawing)
 }
 
-/// The invocation with this number.
+/// The invocation with this number, of a part in rising number.
 fn invocation_in(part: &[Invocation], number: u32) -> Option<Invocation> {
-    for invocation in part {
-        if invocation.number == number {
-            return Some(*invocation);
-        }
+    let place = part.partition_point(|invocation| invocation.number < number);
+    let invocation = part.get(place)?;
+    if invocation.number == number {
+        Some(*invocation)
+    } else {
+        None
     }
-    None
 }
 
 /// The operations of a part, as the history has them, and the one from which on it is a part.
@@ -388,25 +409,17 @@ fn outside_of(memory: &Memory, operations: &[Operation], part: &[Invocation]) ->
     outside
 }
 
-/// The first of these operations that was invoked after this number.
-fn first_after(operations: &[Operation], number: u32) -> Option<Operation> {
-    for operation in operations {
-        if operation.number() > number {
-            return Some(*operation);
-        }
-    }
-    None
-}
-
-/// From each of these operations that returned to the next one that was invoked later.
+/// From each of these operations that returned to the next one that was invoked later. They are in
+/// rising number.
 fn arrows_in(memory: &Memory, operations: &[Operation]) -> Vec<(Operation, Operation)> {
     let mut arrows = Vec::new(memory.alloc);
-    for earlier in operations {
+    for earlier in operations.iter().take(MOST_ALONE) {
         let Some(at) = earlier.returned() else {
             continue;
         };
-        if let Some(later) = first_after(operations, at) {
-            memory.note(arrows.push((*earlier, later)));
+        let place = operations.partition_point(|operation| operation.number() <= at);
+        if let Some(later) = operations.get(place) {
+            memory.note(arrows.push((*earlier, *later)));
         }
     }
     arrows
@@ -469,6 +482,7 @@ pub fn draw_impossible(
     memory.note(drawing.sentences.push(sentence));
     drawing.outside = outside_of(&memory, &named, ops);
     drawing.tried = Some(tried);
+    drawing.reason = named.len();
     drawing.from = part.from;
     memory.whole(drawing)
 }

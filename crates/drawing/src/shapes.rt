@@ -107,9 +107,59 @@ fn puts_before(operation: &Operation, value: i64, until: u32) -> bool {
     operation.number() < until && value_put(operation) == Some(value)
 }
 
-/// Whether the operation puts this value where another one was.
-fn sets_anew(operation: &Operation, key: Option<i64>, value: i64) -> bool {
-    puts(operation, key, value) && operation.op() != AnyOp::Cas(value, value)
+/// Whether the operation puts this value where another one was, or deletes what was there if there is
+/// no value.
+fn sets_anew(operation: &Operation, key: Option<i64>, value: Option<i64>) -> bool {
+    match (value, key) {
+        (Some(value), _) => {
+            puts(operation, key, value) && operation.op() != AnyOp::Cas(value, value)
+        }
+        (None, Some(key)) => operation.op() == AnyOp::Del(key),
+        (None, None) => false,
+    }
+}
+
+/// What a register, or a map under the key, contained where the operation took effect, if it says
+/// that.
+fn found_by(operation: &Operation) -> Option<Option<i64>> {
+    match (operation.op(), operation.reply()?) {
+        (AnyOp::Read | AnyOp::Get(_) | AnyOp::Put(..) | AnyOp::Del(_), AnyReply::Value(value)) => {
+            Some(value)
+        }
+        (AnyOp::Cas(..), AnyReply::Swapped(expected, _)) => Some(Some(expected)),
+        _ => None,
+    }
+}
+
+/// What a register, or a map under the key, contained after the operation, which returned.
+fn left_by(operation: &Operation) -> Option<Option<i64>> {
+    match operation.op() {
+        AnyOp::Read | AnyOp::Get(_) => found_by(operation),
+        AnyOp::Del(_) => Some(None),
+        _ => match value_put(operation) {
+            Some(value) => Some(Some(value)),
+            None => None,
+        },
+    }
+}
+
+/// The words on what an operation left, which is this: of a map also the key.
+fn left_words(operation: &Operation, left: Option<i64>) -> [Span; 4] {
+    let (under, key) = match key_of(operation.op()) {
+        Some(key) => (Span::Text(" under key "), Span::integer(key)),
+        None => (Span::Text(""), Span::Text("")),
+    };
+    let value = Span::reply(AnyReply::Value(left));
+    match operation.op() {
+        AnyOp::Del(_) => [
+            Span::Text(" deleted key "),
+            key,
+            Span::Text(""),
+            Span::Text(""),
+        ],
+        AnyOp::Read | AnyOp::Get(_) => [Span::Text(" found "), value, under, key],
+        _ => [Span::Text(" set "), value, under, key],
+    }
 }
 
 /// The first of these operations that took the value out.
@@ -219,10 +269,22 @@ impl Shape<'_, '_, '_> {
         false
     }
 
-    /// Whether an operation that ran between these numbers set the value anew.
-    fn is_set_between(&self, key: Option<i64>, value: i64, from: u32, to: u32) -> bool {
+    /// Whether an operation other than the later one, which ran between the invocation of the earlier
+    /// one and the number, set the value anew.
+    fn is_set_between(
+        &self,
+        value: Option<i64>,
+        earlier: &Operation,
+        later: &Operation,
+        to: u32,
+    ) -> bool {
+        let key = key_of(later.op());
         for operation in self.operations {
-            if sets_anew(operation, key, value) && ran_between(operation, from, to) {
+            let is_other = operation.number() != later.number();
+            if is_other
+                && sets_anew(operation, key, value)
+                && ran_between(operation, earlier.number(), to)
+            {
                 return true;
             }
         }
@@ -238,6 +300,16 @@ impl Shape<'_, '_, '_> {
         false
     }
 
+    /// How often, and by which operations where these are few.
+    fn push_times(&self, sentence: &mut Vec<Span>, operations: &[Operation]) {
+        let memory = self.memory;
+        memory.note(sentence.extend_from_slice(&times(operations.len())));
+        if operations.len() <= MOST_NAMED {
+            memory.note(sentence.push(Span::Text(", by ")));
+            push_all(memory, sentence, operations);
+        }
+    }
+
     /// A value is taken out more often than it was put in.
     fn too_often(&self) -> Option<Vec<Span>> {
         let Some((value, until)) = last_taking(self.part) else {
@@ -247,27 +319,17 @@ impl Shape<'_, '_, '_> {
         if !is_container(self.kind) || putters.is_empty() || takers.len() <= putters.len() {
             return None;
         }
+        let put = Span::Text(put_name(self.kind));
         let mut sentence = Vec::new(self.memory.alloc);
-        let put = Span::Text(put_word(self.kind));
-        self.memory
-            .note(sentence.extend_from_slice(&[Span::integer(value), put]));
-        self.memory
-            .note(sentence.extend_from_slice(&times(putters.len())));
-        self.memory
-            .note(sentence.extend_from_slice(&[Span::Text(", by ")]));
-        push_all(self.memory, &mut sentence, &putters);
-        self.memory.note(sentence.extend_from_slice(&[
-            Span::Text(","),
-            Span::Text(taken_word(self.kind)),
-        ]));
-        self.memory
-            .note(sentence.extend_from_slice(&times(takers.len())));
-        self.memory
-            .note(sentence.extend_from_slice(&[Span::Text(", by ")]));
-        push_all(self.memory, &mut sentence, &takers);
+        let begin = [Span::integer(value), Span::Text(put_word(self.kind))];
+        self.memory.note(sentence.extend_from_slice(&begin));
+        self.push_times(&mut sentence, &putters);
+        let and = [Span::Text(","), Span::Text(taken_word(self.kind))];
+        self.memory.note(sentence.extend_from_slice(&and));
+        self.push_times(&mut sentence, &takers);
         self.memory.note(sentence.extend_from_slice(&[
             Span::Text(". No other "),
-            Span::Text(put_name(self.kind)),
+            put,
             Span::Text(" of "),
             Span::integer(value),
             Span::Text(" was invoked before map "),
@@ -316,6 +378,18 @@ impl Shape<'_, '_, '_> {
         )
     }
 
+    /// The words on the operation of the part that took the value out after that, if there is one.
+    fn taken_then(&self, value: i64) -> [Span; 3] {
+        match taker_in(self.part, value) {
+            Some(taker) => [
+                Span::Text(" out: only then "),
+                Span::Operation(taker),
+                Span::Text(" began."),
+            ],
+            None => [Span::Text(" out."), Span::Text(""), Span::Text("")],
+        }
+    }
+
     /// A queue gives the later of two values first.
     fn wrong_turn(&self) -> Option<Vec<Span>> {
         let Some((first, second)) = two_putters(self.part) else {
@@ -335,6 +409,7 @@ impl Shape<'_, '_, '_> {
         if self.kind != Kind::Queue || v == w || !is_alone || self.may_be_taken(v, end) {
             return None;
         }
+        let then = self.taken_then(v);
         said(
             self.memory,
             &[
@@ -355,51 +430,58 @@ impl Shape<'_, '_, '_> {
                 Span::number(end),
                 Span::Text(" took "),
                 Span::integer(v),
-                Span::Text(" out."),
+                then[0],
+                then[1],
+                then[2],
             ],
         )
     }
 
-    /// A read of a register or a map returns a value that a later write had replaced.
+    /// An operation of a register or a map finds a value that was replaced before it began.
     fn out_of_date(&self) -> Option<Vec<Span>> {
-        let [writer, reader] = self.part else {
+        let [earlier, later] = self.part else {
             return None;
         };
-        let (Some(at), Some(end)) = (writer.returned(), reader.returned()) else {
+        let (Some(at), Some(end)) = (returned_before(earlier, later), later.returned()) else {
             return None;
         };
-        let key = key_of(reader.op());
-        let is_read = matches!(reader.op(), AnyOp::Read | AnyOp::Get(_));
-        let (Some(AnyReply::Value(Some(value))), Some(set)) = (reader.reply(), value_put(writer))
-        else {
+        let (Some(left), Some(found)) = (left_by(earlier), found_by(later)) else {
             return None;
         };
-        let (from, to) = (writer.number(), end);
-        let is_set = self.is_set_between(key, value, from, to);
-        let is_later = at < reader.number() && key_of(writer.op()) == key;
-        if !is_read || !is_later || set == value || is_set {
+        let is_same = key_of(earlier.op()) == key_of(later.op());
+        let is_cell = matches!(self.kind, Kind::Register | Kind::Map);
+        if !is_cell
+            || !is_same
+            || left == found
+            || self.is_set_between(found, earlier, later, end)
+        {
             return None;
         }
+        let is_read = matches!(later.op(), AnyOp::Read | AnyOp::Get(_));
+        let value = Span::reply(AnyReply::Value(found));
+        let words = left_words(earlier, left);
         said(
             self.memory,
             &[
-                Span::Operation(*reader),
-                Span::Text(" returned "),
-                Span::integer(value),
+                Span::Operation(*later),
+                Span::Text(if is_read { " returned " } else { " found " }),
+                value,
                 Span::Text(". But "),
-                Span::Operation(*writer),
-                Span::Text(" set "),
-                Span::integer(set),
+                Span::Operation(*earlier),
+                words[0],
+                words[1],
+                words[2],
+                words[3],
                 Span::Text(" and returned (map "),
                 Span::number(at),
-                Span::Text(") before that began, and nothing that ran in between (maps "),
-                Span::number(from),
+                Span::Text(") before that began, and nothing else that ran in between (maps "),
+                Span::number(earlier.number()),
                 Span::Text(" to "),
                 Span::number(end),
                 Span::Text(") made it "),
-                Span::integer(value),
+                value,
                 Span::Text(" again. So "),
-                Span::integer(value),
+                value,
                 Span::Text(" is out of date."),
             ],
         )

@@ -1,9 +1,9 @@
 //! The orders of a part's operations that were tried, each up to the operation that does not fit.
 
-use crate::content::Content;
+use crate::content::{Content, value_reply};
 use events::{End, Invocation};
 use figures::Memory;
-use seq_objects::{AnyReply, Kind};
+use seq_objects::{AnyOp, AnyReply, Kind};
 use timeline::{Attempt, Failure, Operation, Tried, operation_at};
 
 /// A part with more operations is not tried, and no more steps are taken.
@@ -47,6 +47,21 @@ fn failure_of(invocation: &Invocation, gives: Option<AnyReply>) -> Option<Failur
         End::Returned { reply, .. } if reply != gives => Some(Failure::Gives(gives, reply)),
         _ => None,
     }
+}
+
+/// The failure as the history has the operation, which a part may count as another one: as a cas
+/// where it found a value and left another.
+fn recorded_failure(failure: Failure, content: &Content, next: &Operation) -> Failure {
+    let Failure::Gives(gives, returned) = failure else {
+        return failure;
+    };
+    let is_cas = matches!(next.op(), AnyOp::Cas(..));
+    let gives = if gives == AnyReply::NotSwapped && !is_cas {
+        value_reply(content.found(&AnyOp::Read))
+    } else {
+        gives
+    };
+    Failure::Gives(gives, next.reply().unwrap_or(returned))
 }
 
 /// The content as text, or that it is the value that stands for others.
@@ -187,6 +202,7 @@ impl Trying<'_, '_> {
         match failure_of(invocation, content.gives(&invocation.op)) {
             Some(failure) => {
                 let next = self.recorded(invocation);
+                let failure = recorded_failure(failure, &content, &next);
                 self.fail(memory, way, &content, next, failure)
             }
             None => self.go_on(memory, way, &mut content, invocation),

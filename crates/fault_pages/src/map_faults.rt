@@ -84,19 +84,29 @@ fn map_of<'a>(memory: &Memory, text: &'a [u8], fault: HistoryFault, place: Place
 /// The number of the last event of the process, or of its last invocation.
 fn last_of(events: &[Event], process: Option<u64>, is_invocation: bool) -> Option<u32> {
     let process = process?;
-    let mut latest_first = events.iter().rev();
-    let found = latest_first.find(|event| event.process == process
-        && (!is_invocation || matches!(event.action, Action::Invoke(_))));
-    found.map(|event| event.number)
+    for event in events.iter().rev() {
+        let is_meant = !is_invocation || matches!(event.action, Action::Invoke(_));
+        if event.process == process && is_meant {
+            return Some(event.number);
+        }
+    }
+    None
+}
+
+/// The number of the first event of the object.
+fn first_on(events: &[Event], object: u32) -> Option<u32> {
+    for event in events {
+        if event.object == object {
+            return Some(event.number);
+        }
+    }
+    None
 }
 
 /// The earlier map that the faulty map clashes with, if it does with one.
 fn earlier_of(events: &[Event], map: &Map<'_>) -> Option<u32> {
     match map.fault.kind {
-        HistoryFaultKind::MixedKinds => {
-            let mut own = events.iter().filter(|event| event.object == map.object);
-            own.next().map(|event| event.number)
-        }
+        HistoryFaultKind::MixedKinds => first_on(events, map.object),
         HistoryFaultKind::Busy | HistoryFaultKind::Mismatch => last_of(events, map.process, true),
         HistoryFaultKind::AfterInfo => last_of(events, map.process, false),
         _ => None,
@@ -113,39 +123,26 @@ fn caption_of(kind: HistoryFaultKind) -> &'static str {
     }
 }
 
-/// What is wrong with the map, where it has a process and an earlier operation.
-fn clash(
-    memory: &Memory,
-    map: &Map<'_>,
-    earlier: Option<(u32, Operation, Kind)>,
-) -> Option<Vec<Span>> {
-    let (the_map, number) = (Span::Text("Map "), Span::Number(map.fault.map as u64));
-    let process = map.process.map(Span::Number)?;
-    if map.fault.kind == HistoryFaultKind::Stray {
-        let (before, after) = (
-            " completes an operation of process ",
-            ", which has none outstanding.",
-        );
-        let said = [
-            the_map,
-            number,
-            Span::Text(before),
-            process,
-            Span::Text(after),
-        ];
-        return Some(memory.list(said.to_vec(memory.alloc)));
-    }
-    let (at, operation, kind) = earlier?;
-    let (operation, at) = (Span::Operation(operation), Span::Number(u64::from(at)));
-    let said = match map.fault.kind {
+/// An earlier map with which a faulty one clashes: its number, its operation, and the kind of its
+/// object.
+#[derive(Clone, Copy)]
+struct Earlier {
+    number: u32,
+    operation: Operation,
+    kind: Kind,
+}
+
+/// What is wrong with a map of this process, as far as that needs no earlier operation to be named
+/// after it.
+fn clash_words(fault: HistoryFaultKind, process: Span, earlier: &Earlier) -> Option<[Span; 5]> {
+    let operation = Span::Operation(earlier.operation);
+    let words = match fault {
         HistoryFaultKind::Busy => [
             Span::Text(" invokes an operation of process "),
             process,
             Span::Text(", and "),
             operation,
             Span::Text(" of that process is still outstanding."),
-            Span::Text(""),
-            Span::Text(""),
         ],
         HistoryFaultKind::Mismatch => [
             Span::Text(" completes an operation of process "),
@@ -153,32 +150,46 @@ fn clash(
             Span::Text(", but with another :f or :object than "),
             operation,
             Span::Text(", which is outstanding."),
-            Span::Text(""),
-            Span::Text(""),
         ],
         HistoryFaultKind::AfterInfo => [
             Span::Text(" is of process "),
             process,
             Span::Text(", which the :info at map "),
-            at,
+            Span::number(earlier.number),
             Span::Text(" closed: "),
-            operation,
-            Span::Text(" may have happened or not, so the process goes on under another number."),
         ],
         HistoryFaultKind::MixedKinds => [
             Span::Text(" calls a function of another kind on an object that "),
             operation,
             Span::Text(" made a "),
-            Span::Kind(kind),
+            Span::Kind(earlier.kind),
             Span::Text("."),
-            Span::Text(""),
-            Span::Text(""),
         ],
         _ => return None,
     };
+    Some(words)
+}
+
+/// What is wrong with the map, where it has a process and an earlier operation.
+fn clash(memory: &Memory, map: &Map<'_>, earlier: Option<&Earlier>) -> Option<Vec<Span>> {
+    let process = map.process.map(Span::Number)?;
     let mut sentence = Vec::new(memory.alloc);
-    memory.note(sentence.extend_from_slice(&[the_map, number]));
-    memory.note(sentence.extend_from_slice(&said));
+    let begin = [Span::Text("Map "), Span::Number(map.fault.map as u64)];
+    memory.note(sentence.extend_from_slice(&begin));
+    if map.fault.kind == HistoryFaultKind::Stray {
+        let before = Span::Text(" completes an operation of process ");
+        let after = Span::Text(", which has none outstanding.");
+        memory.note(sentence.extend_from_slice(&[before, process, after]));
+        return Some(sentence);
+    }
+    let earlier = earlier?;
+    let words = clash_words(map.fault.kind, process, earlier)?;
+    memory.note(sentence.extend_from_slice(&words));
+    if map.fault.kind == HistoryFaultKind::AfterInfo {
+        let operation = Span::Operation(earlier.operation);
+        let after = " may have happened or not, so the process goes on under another number.";
+        memory.note(sentence.extend_from_slice(&[operation, Span::Text(after)]));
+    }
     Some(sentence)
 }
 
@@ -237,8 +248,12 @@ fn draw_before(
 }
 
 fn kind_at(objects: &[ObjectHistory], number: u32) -> Kind {
-    let own = objects.iter().find(|object| object.object() == number);
-    own.map_or(Kind::Queue, |object| object.kind())
+    for object in objects {
+        if object.object() == number {
+            return object.kind();
+        }
+    }
+    Kind::Queue
 }
 
 /// Whether a text was not read since memory was refused.
@@ -268,6 +283,32 @@ fn caption_at(kind: HistoryFaultKind, map: usize) -> [Span; 4] {
     ]
 }
 
+/// What the faulty map clashes with, of the history before it.
+fn earlier_in(before: Option<&Before>) -> Option<Earlier> {
+    let before = before?;
+    Some(Earlier {
+        number: before.number?,
+        operation: before.drawing.earlier?,
+        kind: before.kind,
+    })
+}
+
+/// The sentence on a faulty map.
+fn sentence_on(memory: &Memory, map: &Map<'_>, earlier: Option<&Earlier>) -> Vec<Span> {
+    let mut sentence = Vec::new(memory.alloc);
+    memory.note(sentence.push(Span::Text("The text can be read, but it is no history. ")));
+    match clash(memory, map, earlier) {
+        Some(said) => memory.note(sentence.extend_from_slice(&said)),
+        None => {
+            let (begin, end) = general(map.fault.kind);
+            let number = Span::Number(map.fault.map as u64);
+            let said = [Span::Text(begin), number, Span::Text(end)];
+            memory.note(sentence.extend_from_slice(&said));
+        }
+    }
+    sentence
+}
+
 /// The sentences on a text whose maps are not a history, and the history before the faulty map.
 pub(crate) fn explain_maps(
     memory: &Memory,
@@ -282,32 +323,15 @@ pub(crate) fn explain_maps(
     let place = element_at(text, fault.map).unwrap_or(nowhere);
     let map = map_of(memory, text, fault, place);
     let before = before_of(memory.alloc, text, &map)?;
-    let earlier = before.as_ref().and_then(|it| match (it.number, it.drawing.earlier) {
-        (Some(number), Some(operation)) => Some((number, operation, it.kind)),
-        _ => None,
-    });
-    let mut sentence = Vec::new(memory.alloc);
-    memory.note(sentence.push(Span::Text("The text can be read, but it is no history. ")));
-    match clash(memory, &map, earlier) {
-        Some(said) => memory.note(sentence.extend_from_slice(&said)),
-        None => {
-            let (begin, end) = general(fault.kind);
-            let said = [
-                Span::Text(begin),
-                Span::Number(fault.map as u64),
-                Span::Text(end),
-            ];
-            memory.note(sentence.extend_from_slice(&said));
-        }
-    }
-    explained.say(memory, &sentence);
+    let earlier = earlier_in(before.as_ref());
+    explained.say(memory, &sentence_on(memory, &map, earlier.as_ref()));
     let caption = caption_at(fault.kind, fault.map);
     explained.show(memory, excerpt(memory, text, place, &caption, "here"));
-    if let Some((number, _, _)) = earlier {
-        let other = element_at(text, number as usize).unwrap_or(nowhere);
+    if let Some(earlier) = earlier {
+        let other = element_at(text, earlier.number as usize).unwrap_or(nowhere);
         let caption = [
             Span::Text(caption_of(fault.kind)),
-            Span::Number(u64::from(number)),
+            Span::number(earlier.number),
         ];
         explained.show(memory, excerpt(memory, text, other, &caption, "here"));
     }

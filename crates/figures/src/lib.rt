@@ -18,6 +18,6 @@ pub use labels::{characters, count_text, label, push_count, push_value, put_by, 
 pub use lines::figure_of;
 pub use memory::Memory;
 pub use moments::{Moment, Nemesis, moments_of};
-pub use numbers::{CHARACTER, SMALL_CHARACTER, digits, point_room};
+pub use numbers::{CHARACTER, SMALL, SMALL_CHARACTER, digits, point_room};
 pub use scene::{FaultyMap, Placed, Scene, numbers_of};
-pub use window::{Stretch, choose, narrow};
+pub use window::{Stretch, WithoutLane, choose, narrow};

@@ -40,6 +40,8 @@ pub struct Scene<'a, 'b> {
     pub maps: u32,
     /// Whether labels name the object.
     pub names_objects: bool,
+    /// Those of the window whose processes have no lane, by their numbers.
+    pub without_lane: &'a BTreeSet<u32>,
     /// The map that is faulty, after all that is drawn.
     pub faulty: Option<FaultyMap<'b>>,
 }

@@ -3,7 +3,7 @@
 use crate::columns::What;
 use crate::memory::Memory;
 use crate::moments::Moment;
-use crate::numbers::LANES;
+use crate::numbers::{LANES, MOST};
 use crate::placing::Layout;
 use crate::scene::Scene;
 use std::collections::BTreeSet;
@@ -144,8 +144,20 @@ fn is_through(operation: &Operation, starts: &[u32]) -> bool {
     false
 }
 
+/// Whether the operation is open where a stretch begins, and is not drawn or left out otherwise.
+fn is_only_through(
+    scene: &Scene<'_, '_>,
+    layout: &Layout,
+    starts: &[u32],
+    operation: &Operation,
+) -> bool {
+    is_through(operation, starts)
+        && !layout.labels.contains_key(&operation.number())
+        && !scene.without_lane.contains(&operation.number())
+}
+
 /// The operations that have a bar: those with a drawn event, and those that are open where a stretch
-/// begins, and return, while there are lanes. And how many others are open all through.
+/// begins, and return, while there are lanes and room. And how many others are open all through.
 pub fn shown_operations(
     memory: &Memory,
     scene: &Scene<'_, '_>,
@@ -165,12 +177,11 @@ pub fn shown_operations(
         return (shown, left_out);
     }
     for operation in scene.operations {
-        let is_through = is_through(operation, &starts);
-        if !is_through || layout.labels.contains_key(&operation.number()) {
+        if !is_only_through(scene, layout, &starts, operation) {
             continue;
         }
         let has_lane = processes.contains(&operation.process) || processes.len() < LANES;
-        if operation.state() != State::Pending && has_lane {
+        if operation.state() != State::Pending && has_lane && shown.len() < MOST {
             memory.note(shown.push(*operation));
             memory.note(processes.insert(operation.process));
         } else {

@@ -8,7 +8,7 @@ use timeline::Operation;
 
 /// The events of a window, by the numbers of their maps: from one on, and below one. Without both
 /// the window is chosen.
-#[derive(Clone, Copy, Debug, PartialEq, Eq)]
+#[derive(Clone, Copy)]
 pub struct Stretch {
     pub from: Option<u32>,
     pub to: Option<u32>,
@@ -187,32 +187,42 @@ fn lanes_of(memory: &Memory, nearest: &BTreeMap<u64, Nearness>) -> BTreeSet<u64>
     lanes
 }
 
-/// Keeps at most as many processes as there are lanes, those nearest to the focus, and says how many
-/// operations and processes of the window that leaves out.
+/// What a window leaves out for lack of lanes: operations with an event in it, by their numbers, and
+/// how many processes these are of.
+#[derive(Drop)]
+pub struct WithoutLane {
+    pub operations: BTreeSet<u32>,
+    pub processes: usize,
+}
+
+/// Keeps at most as many processes as there are lanes, those nearest to the focus, and says what of
+/// the window that leaves out.
 pub fn narrow(
     memory: &Memory,
     operations: &[Operation],
     moments: &mut Vec<Moment>,
     focus: &BTreeSet<u32>,
-) -> (usize, usize) {
+) -> WithoutLane {
     let nearest = processes(memory, operations, moments, focus);
-    if nearest.len() <= LANES {
-        return (0, 0);
+    let mut without = WithoutLane {
+        operations: BTreeSet::new(memory.alloc),
+        processes: nearest.len().saturating_sub(LANES),
+    };
+    if without.processes == 0 {
+        return without;
     }
     let lanes = lanes_of(memory, &nearest);
     let mut kept = Vec::new(memory.alloc);
-    let mut gone = BTreeSet::new(memory.alloc);
     for moment in moments.iter() {
-        let has_lane = match moment.of(operations) {
-            Some(operation) => lanes.contains(&operation.process),
-            None => true,
-        };
-        if has_lane {
-            memory.note(kept.push(*moment));
-        } else if moment.is_drawn {
-            memory.note(gone.insert(moment.operation));
+        match moment.of(operations) {
+            Some(operation) if !lanes.contains(&operation.process) => {
+                if moment.is_drawn {
+                    memory.note(without.operations.insert(operation.number()));
+                }
+            }
+            _ => memory.note(kept.push(*moment)),
         }
     }
     *moments = kept;
-    (gone.len(), nearest.len().saturating_sub(LANES))
+    without
 }

@@ -61,9 +61,12 @@ pub(crate) fn counts_in(rows: &[ObjectRow]) -> Counts {
 /// The object with this number, where the objects are in rising number.
 pub(crate) fn object_at(objects: &[ObjectHistory], number: u32) -> Option<&ObjectHistory> {
     let place = objects.partition_point(|object| object.object() < number);
-    objects
-        .get(place)
-        .filter(|object| object.object() == number)
+    let object = objects.get(place)?;
+    if object.object() == number {
+        Some(object)
+    } else {
+        None
+    }
 }
 
 /// A list with nothing in it but this.

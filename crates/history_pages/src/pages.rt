@@ -89,6 +89,15 @@ fn facts_of(alloc: Global, texts: &Texts<'_>, rows: &[ObjectRow]) -> Result<Stri
     Ok(text)
 }
 
+fn is_drawn(row: &ObjectRow, drawings: &[ObjectDrawing]) -> bool {
+    for drawing in drawings {
+        if drawing.object == row.object {
+            return true;
+        }
+    }
+    false
+}
+
 /// Which objects of the list are not drawn.
 fn say_not_drawn(
     sentences: &mut Vec<Vec<Span>>,
@@ -96,11 +105,10 @@ fn say_not_drawn(
     rows: &[ObjectRow],
     drawings: &[ObjectDrawing],
 ) -> Result<(), AllocError> {
-    let is_drawn = |row: &ObjectRow| drawings.iter().any(|it| it.object == row.object);
     let mut left_out: usize = 0;
     let mut first = None;
     for row in rows {
-        if !is_drawn(row) {
+        if !is_drawn(row, drawings) {
             left_out = left_out.saturating_add(1);
             first = first.or(Some(row.object));
         }
@@ -230,6 +238,24 @@ fn valid_sentence(alloc: Global, objects: usize) -> Result<Vec<Span>, AllocError
     one(alloc, Span::Text(said))
 }
 
+/// The certificate of the object with this number.
+fn certificate_of(certificates: &[Certificate], number: u32) -> Option<&Certificate> {
+    for certificate in certificates {
+        if certificate.object == number {
+            return Some(certificate);
+        }
+    }
+    None
+}
+
+/// Whether the object is drawn, if one is asked for.
+fn is_wanted(options: Options, number: u32) -> bool {
+    match options.object {
+        Some(wanted) => wanted == number,
+        None => true,
+    }
+}
+
 /// The page of a history whose certificates are valid.
 fn valid_page(
     alloc: Global,
@@ -246,10 +272,10 @@ fn valid_page(
     for object in objects {
         rows.push(row_of(object, "valid", false))?;
         let number = object.object();
-        if drawn >= BUDGET || options.object.is_some_and(|wanted| wanted != number) {
+        if drawn >= BUDGET || !is_wanted(options, number) {
             continue;
         }
-        let Some(certificate) = certificates.iter().find(|it| it.object == number) else {
+        let Some(certificate) = certificate_of(certificates, number) else {
             continue;
         };
         let subject = subject(history, &completions, object, texts, options);
@@ -338,8 +364,7 @@ fn refused_drawing(
     refusal: &Refusal,
 ) -> Result<ObjectDrawing, AllocError> {
     let number = subject.object.object();
-    let certificate = certificates.iter().find(|it| it.object == number);
-    match (refusal, certificate) {
+    match (refusal, certificate_of(certificates, number)) {
         (Refusal::BadOrder { object, fault }, Some(certificate)) if *object == number => {
             draw_refused(alloc, subject, &certificate.order, *fault)
         }
@@ -374,7 +399,11 @@ fn refused_page(
 ) -> Result<Html, AllocError> {
     let shown = options.object.or(object_of(refusal));
     let mut drawings = Vec::new(alloc);
-    if let Some(object) = shown.and_then(|shown| object_at(objects, shown)) {
+    let object = match shown {
+        Some(shown) => object_at(objects, shown),
+        None => None,
+    };
+    if let Some(object) = object {
         let completions = completions_of(alloc, history.events())?;
         let subject = subject(history, &completions, object, texts, options);
         drawings.push(refused_drawing(alloc, &subject, certificates, refusal)?)?;
@@ -446,13 +475,25 @@ fn open_sentence(
 
 /// The first object that is impossible, or else the first that has no order.
 fn faulty_object(answers: &[(u32, Decision)]) -> Option<u32> {
-    let impossible = answers
-        .iter()
-        .find(|answer| matches!(answer.1, Decision::Impossible(_)));
-    let open = answers
-        .iter()
-        .find(|answer| !matches!(answer.1, Decision::Order(_)));
-    impossible.or(open).map(|answer| answer.0)
+    let mut open = None;
+    for (number, decision) in answers {
+        match decision {
+            Decision::Impossible(_) => return Some(*number),
+            Decision::Order(_) => {}
+            _ => open = open.or(Some(*number)),
+        }
+    }
+    open
+}
+
+/// What was decided of the object with this number.
+fn decision_on(answers: &[(u32, Decision)], number: u32) -> Option<&Decision> {
+    for (object, decision) in answers {
+        if *object == number {
+            return Some(decision);
+        }
+    }
+    None
 }
 
 /// The number of the last cut that begins a part later than the object's history.
@@ -524,12 +565,12 @@ fn faulty_page(
         }
     }
     let shown = options.object.unwrap_or(faulty);
-    let decision = answers.iter().find(|answer| answer.0 == shown);
+    let decision = decision_on(answers, shown);
     let mut drawings = Vec::new(alloc);
     if let Some(object) = object_at(objects, shown) {
         let completions = completions_of(alloc, history.events())?;
         let subject = subject(history, &completions, object, texts, options);
-        drawings.push(decided_drawing(alloc, &subject, decision.map(|it| &it.1))?)?;
+        drawings.push(decided_drawing(alloc, &subject, decision)?)?;
     }
     let parts = Parts {
         answer,

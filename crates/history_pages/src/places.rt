@@ -13,7 +13,7 @@ pub struct Places {
 }
 
 /// What a byte is in.
-#[derive(Clone, Copy, PartialEq, Eq)]
+#[derive(Clone, Copy)]
 enum Mode {
     Between,
     Token,
@@ -23,7 +23,7 @@ enum Mode {
 }
 
 /// The key of a value in a map.
-#[derive(Clone, Copy, PartialEq, Eq)]
+#[derive(Clone, Copy)]
 enum Key {
     Process,
     Function,

@@ -1,7 +1,8 @@
 //! What an object contains, as boxes.
 
+use crate::svg::scaled;
 use crate::writer::{Writer, number};
-use drawing::{BoxKind, ContentBox, ObjectDrawing};
+use drawing::{BoxKind, ContentBox, ObjectDrawing, SMALL};
 use markup::{Name, Piece, Tag};
 use seq_objects::{Kind, kind_name};
 
@@ -94,8 +95,8 @@ impl Writer {
             Piece::At(width),
             Piece::Text(" 62"),
             Piece::ValueEnd,
-            Piece::Set(Name::Width, width),
-            Piece::Set(Name::Height, 62),
+            Piece::Set(Name::Width, scaled(width, width <= SMALL)),
+            Piece::Set(Name::Height, scaled(62, width <= SMALL)),
             Piece::Name(Name::Role),
             Piece::Text("group"),
             Piece::ValueEnd,

@@ -23,7 +23,7 @@ const WHOLE: Option<Rectangle> = Some((1, 2, 32, 14));
 
 const CLOSED: &[(&str, &str)] = &[("edge", "M1 2H33V16H1Z")];
 
-static SIGNS: [Sign; 13] = [
+static SIGNS: [Sign; 14] = [
     Sign {
         class: "op put done",
         is_point: false,
@@ -89,6 +89,14 @@ static SIGNS: [Sign; 13] = [
         meaning: " what the sentence above speaks of",
     },
     Sign {
+        class: "op read done focus",
+        is_point: false,
+        rectangle: Some((2, 3, 30, 12)),
+        paths: &[("edge", "M2 3H32V15H2Z")],
+        text: None,
+        meaning: " what the sentence above speaks of",
+    },
+    Sign {
         class: "pt",
         is_point: true,
         rectangle: Some((9, 2, 16, 14)),
@@ -131,7 +139,7 @@ static SIGNS: [Sign; 13] = [
 ];
 
 /// Which signs are on a page, by their places.
-type Shown = [bool; 13];
+type Shown = [bool; 14];
 
 fn note_bar(shown: &mut Shown, bar: &Bar) {
     let operation = &bar.operation;
@@ -150,16 +158,18 @@ fn note_bar(shown: &mut Shown, bar: &Bar) {
     if state != State::Pending && (bar.open_left || bar.open_right) {
         shown[6] = true;
     }
-    if bar.mark != Mark::Plain && bar.mark != Mark::Dim {
-        shown[7] = true;
+    match bar.mark {
+        Mark::Plain | Mark::Dim => {}
+        Mark::Fault | Mark::LeftOut => shown[7] = true,
+        Mark::Giver | Mark::Source | Mark::Named => shown[8] = true,
     }
 }
 
 fn note_points(shown: &mut Shown, points: &[Point]) {
     for point in points {
-        shown[8] = true;
+        shown[9] = true;
         if point.is_refused {
-            shown[9] = true;
+            shown[10] = true;
         }
     }
 }
@@ -170,13 +180,13 @@ fn note_line(shown: &mut Shown, line: &Line) {
     }
     note_points(shown, &line.points);
     if !line.arrows.is_empty() {
-        shown[10] = true;
-    }
-    if !line.nemeses.is_empty() {
         shown[11] = true;
     }
-    if !line.gaps.is_empty() {
+    if !line.nemeses.is_empty() {
         shown[12] = true;
+    }
+    if !line.gaps.is_empty() {
+        shown[13] = true;
     }
 }
 
@@ -195,7 +205,7 @@ fn note_drawing(shown: &mut Shown, drawing: &ObjectDrawing) {
 
 /// The signs that the figures of a page have.
 fn signs_of(page: &Page<'_>) -> Shown {
-    let mut shown = [false; 13];
+    let mut shown = [false; 14];
     for drawing in page.drawings {
         note_drawing(&mut shown, drawing);
     }
@@ -203,6 +213,10 @@ fn signs_of(page: &Page<'_>) -> Shown {
         if let Some(before) = place.before {
             note_figure(&mut shown, &before.figure);
         }
+    }
+    // What a sentence speaks of is red on a page with a fault.
+    if shown[7] {
+        shown[8] = false;
     }
     shown
 }

@@ -49,6 +49,11 @@ pub struct Page<'a> {
     pub quoted: &'a str,
 }
 
+/// The most lines of the verdict on a page, and the most bytes of one that is not cut.
+const MOST_LINES: usize = 60;
+
+const LONGEST_LINE: usize = 2_000;
+
 /// The class of the page, its sign and its word.
 fn words_of(answer: Answer) -> (&'static str, &'static str, &'static str) {
     match answer {
@@ -61,14 +66,27 @@ fn words_of(answer: Answer) -> (&'static str, &'static str, &'static str) {
     }
 }
 
-/// Whether a figure shows the reason of an object.
-fn has_reason(drawings: &[ObjectDrawing]) -> bool {
-    for drawing in drawings {
-        if drawing.tried.is_some() {
-            return true;
-        }
+/// What the first drawing of a page leads to that is no yes: the reason of the object or its fault,
+/// or the object.
+fn place_of_first(answer: Answer, drawing: &ObjectDrawing) -> &'static str {
+    if drawing.tried.is_some() {
+        "reason"
+    } else if answer == Answer::No && !drawing.sentences.is_empty() {
+        "fault"
+    } else {
+        "object"
     }
-    false
+}
+
+/// The name of what a page is about, past its head; empty where that is all of the page.
+fn place_of(page: &Page<'_>) -> &'static str {
+    match (page.answer, page.drawings) {
+        (Answer::Yes | Answer::NoMemory, _) => "",
+        (Answer::Malformed, _) => "fault",
+        (_, [drawing, ..]) => place_of_first(page.answer, drawing),
+        (Answer::No, []) => "fault",
+        _ => "",
+    }
 }
 
 impl Writer {
@@ -109,13 +127,15 @@ impl Writer {
         ])
     }
 
-    /// A link to the fault or the reason, for whom has a keyboard.
+    /// A link to the fault, to the reason or to the object, for users of a keyboard.
     fn skip_link(&mut self, page: &Page<'_>) {
-        let (place, text) = match page.answer {
-            Answer::No => ("fault", "Go to the fault"),
-            Answer::Impossible if has_reason(page.drawings) => ("reason", "Go to the reason"),
-            Answer::Malformed => ("fault", "Go to the place"),
-            _ => return,
+        let place = place_of(page);
+        let text = match place {
+            "" => return,
+            "reason" => "Go to the reason",
+            "object" => "Go to the object",
+            _ if page.answer == Answer::Malformed => "Go to the place",
+            _ => "Go to the fault",
         };
         self.put(&[
             Piece::Begin(Tag::A),
@@ -149,6 +169,45 @@ impl Writer {
         }
     }
 
+    /// A line of the verdict, or the beginning of a very long one.
+    fn verdict_line(&mut self, line: &str) {
+        if line.len() <= LONGEST_LINE {
+            self.html.text(line);
+            return;
+        }
+        let cut: Result<String, AllocError> = line
+            .chars()
+            .take(LONGEST_LINE)
+            .collect(self.memory.alloc);
+        let cut = self.memory.text(cut);
+        self.html.text(&cut);
+        self.put(&[Piece::Text("…")])
+    }
+
+    /// The lines of the verdict, of very many the first ones.
+    fn verdict(&mut self, lines: &str) {
+        self.open(Tag::Pre, "verdict");
+        let mut count: usize = 0;
+        for line in lines.split('\n') {
+            if count < MOST_LINES {
+                self.put(&[Piece::Text(if count > 0 { "\n" } else { "" })]);
+                self.verdict_line(line);
+            }
+            count = count.saturating_add(1);
+        }
+        let more = count.saturating_sub(MOST_LINES);
+        if more > 0 {
+            self.put(&[Piece::Text("\n… ")]);
+            self.count(more);
+            self.put(&[Piece::Text(if more == 1 {
+                " more line"
+            } else {
+                " more lines"
+            })]);
+        }
+        self.put(&[Piece::Close(Tag::Pre)])
+    }
+
     fn header(&mut self, page: &Page<'_>) {
         let (_, sign, word) = words_of(page.answer);
         self.put(&[
@@ -169,19 +228,24 @@ impl Writer {
         self.html.text(page.facts);
         self.put(&[Piece::Close(Tag::Paragraph)]);
         self.all_sentences(page);
-        self.open(Tag::Pre, "verdict");
-        self.html.text(page.lines);
-        self.put(&[Piece::Close(Tag::Pre), Piece::Close(Tag::Header)])
+        self.verdict(page.lines);
+        self.put(&[Piece::Close(Tag::Header)])
     }
 
     /// The sections of a page.
     fn sections(&mut self, page: &Page<'_>) {
         let is_strange = page.drawings.is_empty() && page.answer == Answer::No;
         if page.objects.len() > 1 || is_strange {
-            self.objects(page.objects, page.drawings);
+            self.objects(page);
         }
-        for (place, drawing) in page.drawings.iter().enumerate() {
-            self.object(page.answer, drawing, place == 0);
+        // The heading of a reason has a place of its own.
+        let mut place = match place_of(page) {
+            "reason" => Some(""),
+            own => Some(own),
+        };
+        for drawing in page.drawings {
+            self.object(page.answer, drawing, place);
+            place = None;
         }
         if is_strange {
             self.nothing();

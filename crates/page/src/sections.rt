@@ -7,6 +7,9 @@ use markup::{Name, Piece, Tag};
 use seq_objects::kind_name;
 use std::collections::BTreeSet;
 
+/// How many operations a note names one by one at most.
+const MOST_NAMED: usize = 12;
+
 fn plural(count: usize, one: &'static str, several: &'static str) -> &'static str {
     if count == 1 { one } else { several }
 }
@@ -181,17 +184,17 @@ impl Writer {
         self.end_figure()
     }
 
-    /// The caption of the operations of a reason.
+    /// The caption of the operations of a reason, and how many of them are drawn if not all are.
     fn reason_caption(&mut self, drawing: &ObjectDrawing, figure: &Figure) {
-        let shown = self.shown_in(figure);
+        let (all, shown) = (drawing.reason, self.shown_in(figure));
         let these = plural(
-            shown,
+            all,
             ": it has no place in any order",
             ": these alone have no valid order",
         );
         self.spans(&[
-            Span::Count(shown),
-            Span::Text(plural(shown, " operation of ", " operations of ")),
+            Span::Count(all),
+            Span::Text(plural(all, " operation of ", " operations of ")),
             Span::Count(drawing.extent.live),
             Span::Text(these),
         ]);
@@ -204,6 +207,10 @@ impl Writer {
             ]);
         }
         self.put(&[Piece::Text(".")]);
+        if shown < all {
+            let them = Span::Text(" of them.");
+            self.spans(&[Span::Text(" Drawn: "), Span::Count(shown), them]);
+        }
         if has_arrows(figure) {
             let said = " Arrows: returned before the other was invoked, so it stands before it.";
             self.put(&[Piece::Text(said)]);
@@ -221,18 +228,22 @@ impl Writer {
         self.end_figure()
     }
 
-    /// The operations of a reason that are not wholly within it.
+    /// The operations of a reason that are not wholly within it, by their names where they are few.
     fn outside(&mut self, operations: &[Operation]) {
         if operations.is_empty() {
             return;
         }
+        let more = operations.len().saturating_sub(MOST_NAMED);
         self.open(Tag::Paragraph, "note");
         self.put(&[
             Piece::Text("Not wholly within this stretch, so "),
             Piece::Text(plural(operations.len(), "it", "they")),
             Piece::Text(" may have taken effect outside of it: "),
         ]);
-        self.operations(operations);
+        self.operations(operations.get(..MOST_NAMED).unwrap_or(operations));
+        if more > 0 {
+            self.spans(&[Span::Text(", and "), Span::Count(more), Span::Text(" more")]);
+        }
         self.put(&[Piece::Text("."), Piece::Close(Tag::Paragraph)])
     }
 
@@ -278,13 +289,18 @@ impl Writer {
         self.put(&[Piece::Close(Tag::Div)])
     }
 
-    /// The section on an object, the first one or a later one.
-    pub(crate) fn object(&mut self, answer: Answer, drawing: &ObjectDrawing, is_first: bool) {
+    /// The section on an object, the first one or a later one. The first one has this place.
+    pub(crate) fn object(
+        &mut self,
+        answer: Answer,
+        drawing: &ObjectDrawing,
+        place: Option<&'static str>,
+    ) {
         self.why(drawing);
         let (object, kind) = (number(drawing.object), Piece::Text(kind_name(drawing.kind)));
         self.section(&[Piece::Text("object-"), object]);
         self.heading(
-            if answer == Answer::No { "fault" } else { "" },
+            place.unwrap_or(""),
             &[Piece::Text("Object "), object, Piece::Text(": "), kind],
         );
         if let (Some(figure), None) = (&drawing.zoom, &drawing.tried) {
@@ -292,7 +308,8 @@ impl Writer {
         }
         self.content_figure(drawing, refused_rank(drawing));
         let title = [Piece::Text("Object "), object, Piece::Text(", a "), kind];
-        self.figure_and_order(caption(answer, drawing, is_first), drawing, &title);
+        let said = caption(answer, drawing, place.is_some());
+        self.figure_and_order(said, drawing, &title);
         self.put(&[Piece::Close(Tag::Section), Piece::Text("\n")])
     }
 

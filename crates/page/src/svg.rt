@@ -5,7 +5,7 @@ use drawing::{Arrow, Cross, Figure, Gap, Lane, Line, NemesisMark, Span, Tick, co
 use markup::{Name, Piece, Tag};
 
 /// A size at one and a half, where the figure is large.
-fn scaled(size: u32, is_large: bool) -> u32 {
+pub(crate) fn scaled(size: u32, is_large: bool) -> u32 {
     if is_large {
         size.saturating_mul(3) / 2
     } else {

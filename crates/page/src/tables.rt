@@ -1,6 +1,6 @@
 //! Tables: of the objects, of an order, and of the orders of a reason's operations.
 
-use crate::pages::ObjectRow;
+use crate::pages::{Answer, ObjectRow, Page};
 use crate::writer::{Writer, number};
 use drawing::{
     Attempt, Entry, Failure, ObjectDrawing, Operation, Row, Span, Tried, label, value_text,
@@ -42,6 +42,36 @@ fn digits(n: u64) -> usize {
         rest /= 10;
     }
     digits
+}
+
+/// The title of the table of the orders that were tried.
+fn tried_title(tried: &Tried) -> [Piece; 4] {
+    let ways = tried.attempts.len().saturating_add(tried.more) as u64;
+    let other = Piece::Text(if tried.other.is_some() {
+        ". “other” is any value that the reason does not keep"
+    } else {
+        ""
+    });
+    let empty = Piece::Text("");
+    if !tried.is_complete {
+        [Piece::Text("Ways to begin"), empty, empty, other]
+    } else if ways == 1 {
+        let one = "There is one way to begin, up to the operation that does not fit";
+        [
+            Piece::Text("Every order breaks. "),
+            Piece::Text(one),
+            empty,
+            other,
+        ]
+    } else {
+        let end = Piece::Text(" ways to begin, each up to the operation that does not fit");
+        [
+            Piece::Text("Every order breaks. All "),
+            Piece::Number(ways),
+            end,
+            other,
+        ]
+    }
 }
 
 /// The last row of the table of objects, where it is full: one after the others that is at fault,
@@ -290,7 +320,7 @@ impl Writer {
         true
     }
 
-    /// A reply, or that it is any that the part does not keep.
+    /// What an object gives, or that it is any value that the part does not keep.
     fn reply(&mut self, reply: AnyReply, other: Option<i64>) {
         match reply {
             AnyReply::Value(Some(value)) if Some(value) == other => {
@@ -308,7 +338,7 @@ impl Writer {
                 self.put(&[Piece::Text("gives ")]);
                 self.reply(gives, other);
                 self.put(&[Piece::Text(", returned ")]);
-                self.reply(returned, other);
+                self.value(value_of_reply(&returned));
             }
         }
         self.put(&[Piece::Close(Tag::TableCell)])
@@ -333,22 +363,7 @@ impl Writer {
 
     /// The table of the orders that were tried.
     pub(crate) fn tried(&mut self, tried: &Tried) {
-        let ways = tried.attempts.len().saturating_add(tried.more) as u64;
-        let empty = Piece::Text("");
-        let title = if !tried.is_complete {
-            [Piece::Text("Ways to begin"), empty, empty]
-        } else if ways == 1 {
-            let one = "There is one way to begin, up to the operation that does not fit";
-            [Piece::Text("Every order breaks. "), Piece::Text(one), empty]
-        } else {
-            let end = " ways to begin, each up to the operation that does not fit";
-            [
-                Piece::Text("Every order breaks. All "),
-                Piece::Number(ways),
-                Piece::Text(end),
-            ]
-        };
-        self.open_table("tried", &[Piece::Text("tried")], &title);
+        self.open_table("tried", &[Piece::Text("tried")], &tried_title(tried));
         self.heads(&["", "order up to there", "content there", "next", "which"]);
         for (place, attempt) in tried.attempts.iter().enumerate() {
             self.attempt(place, attempt, tried.other);
@@ -386,13 +401,13 @@ impl Writer {
         self.put(&[Piece::Close(Tag::TableCell)])
     }
 
-    fn object_row(&mut self, row: &ObjectRow, drawings: &[ObjectDrawing]) {
+    fn object_row(&mut self, page: &Page<'_>, row: &ObjectRow) {
         self.put(&[Piece::Begin(Tag::TableRow)]);
-        if row.is_faulty {
+        if row.is_faulty && page.answer != Answer::Open {
             self.put(&[Piece::Class("bad")]);
         }
         self.put(&[Piece::End]);
-        self.object_cell(row.object, is_drawn(row, drawings));
+        self.object_cell(row.object, is_drawn(row, page.drawings));
         self.put(&[
             Piece::Open(Tag::TableCell),
             Piece::Text(kind_name(row.kind)),
@@ -410,8 +425,10 @@ impl Writer {
         ])
     }
 
-    /// The table of the objects, of which those that are drawn are links.
-    pub(crate) fn objects(&mut self, rows: &[ObjectRow], drawings: &[ObjectDrawing]) {
+    /// The table of the objects, of which those that are drawn are links. An object that stays open
+    /// is not at fault.
+    pub(crate) fn objects(&mut self, page: &Page<'_>) {
+        let rows = page.objects;
         let title = [Piece::Text("Objects")];
         self.open_table("overview", &[Piece::Text("objects")], &title);
         self.heads(&[
@@ -423,10 +440,10 @@ impl Writer {
             "answer",
         ]);
         for row in rows.iter().take(MOST_OBJECTS - 1) {
-            self.object_row(row, drawings);
+            self.object_row(page, row);
         }
         if let Some(row) = last_row(rows) {
-            self.object_row(row, drawings);
+            self.object_row(page, row);
         }
         match rows.len().saturating_sub(MOST_OBJECTS) {
             0 => {}

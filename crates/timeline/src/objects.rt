@@ -43,6 +43,8 @@ pub struct ObjectDrawing {
     pub rows: Vec<Row>,
     /// The orders of a reason's operations that were tried.
     pub tried: Option<Tried>,
+    /// How many operations the reason has, of which the figure of it may leave some out.
+    pub reason: usize,
     /// The number at which a reason begins, where that is not the beginning.
     pub from: Option<u32>,
     /// The operations of a reason that returned, and of which it counts no return: they may have
@@ -74,6 +76,7 @@ impl ObjectDrawing {
             extent,
             rows: Vec::new(alloc),
             tried: None,
+            reason: 0,
             from: None,
             outside: Vec::new(alloc),
         }

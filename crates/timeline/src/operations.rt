@@ -104,11 +104,26 @@ pub struct Completion {
     pub ended: u32,
 }
 
+/// How many events there are up to the last that completes an operation which did not return.
+fn up_to_last_completion(events: &[Event]) -> usize {
+    let mut count = events.len();
+    for event in events.iter().rev() {
+        if matches!(event.action, Action::Fail | Action::Info) {
+            return count;
+        }
+        count = count.saturating_sub(1);
+    }
+    0
+}
+
 /// The completions of the operations that did not return, in rising number of their invocations.
 pub fn completions_of(alloc: Global, events: &[Event]) -> Result<Vec<Completion>, AllocError> {
     let mut next: NumberMap<u32> = NumberMap::new(alloc);
     let mut completions = Vec::new(alloc);
-    for event in events.iter().rev() {
+    let needed = events
+        .get(..up_to_last_completion(events))
+        .unwrap_or(events);
+    for event in needed.iter().rev() {
         match event.action {
             Action::Invoke(_) => {
                 if let Some(ended) = next.remove(event.process) {
@@ -217,9 +232,9 @@ pub fn operations_of(
     ensures ended { IfOk result (λ v. All EndsAtItsReturn v.items) }
 {
     let events = history.events();
-    let mut place: usize = 0;
-    let mut operations = Vec::new(alloc);
     let ops = object.ops();
+    let mut place: usize = 0;
+    let mut operations = Vec::with_capacity(alloc, ops.len())?;
     for invocation in ops {
         place = place_from(events, place, invocation.number);
         operations.push(operation_of(events, place, completions, invocation))?;
