@@ -1,11 +1,11 @@
 -- The parts of an operation map in the usual form, and the map that they make.
-use Rattle.std.proofs.Common.{◌≡◌, ℕ, ◌+◌, ◌-◌, ◌<◌, ◌≤◌, ◌⊎◌, inl, inr, true, false, Bool, cond, Some, None, Option, List, [], ◌∷◌, ◌++◌, length, take, drop, get_or, codes, refl, sym, ap, subst, ◌∙◌, append_assoc, arith}
-use Rattle.std.specs.Prelude.{ℤ, pos, ◌==◌}
+use Rattle.std.proofs.Common.{◌≡◌, ℕ, ◌-◌, ◌<◌, ◌≤◌, ◌⊎◌, inl, inr, true, false, Bool, cond, Some, Option, List, [], ◌∷◌, ◌++◌, length, take, drop, get_or, codes, refl, sym, ap, subst, ◌∙◌, append_assoc, arith}
+use Rattle.std.specs.Prelude.{ℤ, pos}
 use Rattle.std.specs.Str.{IsUtf8, bytes_eq}
 use Rattle.std.proofs.lemmas.Slice.Eq.{bytes_eq-Decides}
 use Rattle.std.proofs.lemmas.List.{take_all}
 use Rattle.edn_reader.specs.Bytes.{is_separator, is_token_byte, is_name}
-use Rattle.edn_reader.specs.Datum.{Atom, nil, boolean, integer, keyword, Datum, atom, vector, dictionary, Items, no_items, item, Entries, no_entries, entry, Lacks, Fits, EntriesFit}
+use Rattle.edn_reader.specs.Datum.{Atom, nil, boolean, integer, keyword, Datum, atom, vector, dictionary, no_items, item, Entries, no_entries, entry, Fits, EntriesFit}
 use Rattle.edn_reader.specs.Token.{Token, open_vector, close_vector, open_map, close_map, leaf, tokens_of, items_tokens, entries_tokens}
 use Rattle.edn_reader.specs.Spells.{IsWord, EndsToken, Begins}
 use Rattle.edn_reader.specs.Reading.{first, got}
@@ -20,7 +20,6 @@ use Rattle.seq_objects.specs.Functions.{name_of}
 use Rattle.edn_fields.specs.Fields.{same_bytes, value_at, object_in}
 use Rattle.history.specs.Maps as spec
 use Rattle.history.specs.Maps.{type_named, object_at, client_with}
-use Rattle.history.specs.Names.{function_named}
 use Rattle.history.specs.Views.{map_type, client_map}
 use Rattle.history.specs.UsualForms.{ReadsUsual, type_name, ReadsValue, LackEach, operation_keys, keys_to_object, ReadsLast}
 use Rattle.history.specs.declared.client_map.MapType.{MapType}

@@ -19,10 +19,7 @@ pub fn after<'a, const N: usize>(text: &'a [u8], bytes: &[u8; N]) -> Option<&'a 
     ensures { IfSome result (λ rest. text.entry.now ≡ bytes.now ++ rest.now) }
 {
     let (front, rest) = text.split_first_chunk::<N>()?;
-    if front != bytes {
-        return None;
-    }
-    Some(rest)
+    if front == bytes { Some(rest) } else { None }
 }
 
 /// Whether a word ends here, by the bytes that usually follow one.

@@ -1,17 +1,14 @@
-use Rattle.std.proofs.Common.{◌≡◌, ℕ, List, ◌++◌, take, drop, Bool, true, false, not, refl, ap, sym, ◌∙◌}
+use Rattle.std.proofs.Common.{◌≡◌, ℕ, List, ◌++◌, take, drop, true, ap, sym, ◌∙◌}
 use Rattle.std.specs.Str.{bytes_eq}
 use Rattle.std.proofs.lemmas.Slice.Eq.{bytes_eq-Decides}
 use Rattle.std.proofs.lemmas.List.{take-append-drop}
 use Rattle.history.proofs.usual.after.Goals as goal
 
-is_so : (b : Bool) → false ≡ not b → b ≡ true
-is_so true e = refl
-is_so false e = absurd cc
-
-begins : (n : ℕ) (text front bytes rest : List ℕ) → false ≡ not (bytes_eq front bytes) → front ≡ take n text → rest ≡ drop n text → text ≡ bytes ++ rest
+begins : (n : ℕ) (text front bytes rest : List ℕ) → true ≡ bytes_eq front bytes → front ≡ take n text → rest ≡ drop n text → text ≡ bytes ++ rest
 begins n text front bytes rest e f r =
-    let same : front ≡ bytes = (bytes_eq-Decides front bytes).0 (is_so (bytes_eq front bytes) e) in
+    let same : front ≡ bytes = (bytes_eq-Decides front bytes).0 (sym e) in
     sym (take-append-drop n text) ∙ ap (λ (x : List ℕ). x ++ drop n text) (sym f ∙ same) ∙ ap (λ (x : List ℕ). bytes ++ x) (sym r)
 
-pub returns : goal.returns
-returns g c = begins _ c.args.text.now c.in_ok-front.front.now c.args.bytes.now c.in_ok-front.rest.now c.if-ne.ensures c.in_ok-front.ensures.cases.0 c.in_ok-front.ensures.cases.1
+pub returns-then-eq : goal.returns-then-eq
+returns-then-eq g c =
+    begins _ c.args.text.now c.in_ok-front.front.now c.args.bytes.now c.in_ok-front.rest.now c.if-eq.ensures c.in_ok-front.ensures.cases.0 c.in_ok-front.ensures.cases.1
