@@ -5,7 +5,7 @@
 use seq_objects::AnyOp;
 use std::alloc::{AllocError, Global};
 use std::collections::BTreeSet;
-use timed_calls::{TimedCall, Timeline, moments_of};
+use timed_calls::{TimedCall, Timeline, moments_of, spans_of};
 
 /// Calls that run and are not placed, by the moment of their return.
 #[derive(Drop)]
@@ -78,8 +78,8 @@ fn places_in_order(alloc: Global, calls: &[TimedCall]) -> Result<Option<Vec<usiz
         held: false,
     };
     let mut placed = Vec::new(alloc);
-    for moment in &moments_of(alloc, calls)? {
-        let at = moment.call;
+    for moment in &moments_of(alloc, &spans_of(alloc, calls)?)? {
+        let at = moment.call as usize;
         let Some(call) = calls.get(at) else {
             return Ok(None);
         };

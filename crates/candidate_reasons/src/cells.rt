@@ -147,7 +147,7 @@ impl<'a> Scene<'a> {
 
     /// A key of few calls that was shown without a value is kept whole, since its part then begins
     /// empty.
-    fn emptied(
+    fn candidate_of_nothing(
         &self,
         alloc: Global,
         access: &Access,
@@ -177,7 +177,7 @@ impl<'a> Scene<'a> {
         let Some(wrong) = self.wrong_with(access, content) else {
             return Ok(false);
         };
-        if let Some(candidate) = self.emptied(alloc, access, content, wrong)? {
+        if let Some(candidate) = self.candidate_of_nothing(alloc, access, content, wrong)? {
             candidates.push(candidate)?;
         }
         let candidate = match wrong {

@@ -86,7 +86,7 @@ impl Sweep {
         let Some(put) = runs.puts(run).first() else {
             return Ok(());
         };
-        for call in runs.takings(run) {
+        for call in runs.removals(run) {
             let from = call.begin.max(put.begin);
             if from >= call.end || self.found.len() >= MOST_FOUND {
                 continue;

@@ -31,7 +31,7 @@ enum Step {
     TakingEnds,
 }
 
-/// How many puts and takings of a run have begun and ended.
+/// How many puts and removals of a run have begun and ended.
 #[derive(Clone, Copy)]
 struct Counts {
     begun: usize,
@@ -50,7 +50,7 @@ impl Counts {
         }
     }
 
-    /// How many surely are in, if some are. Where as many takings as puts have begun nothing is
+    /// How many surely are in, if some are. Where as many removals as puts have begun nothing is
     /// known.
     fn surely_in(&self) -> usize {
         if self.leaving >= self.begun {
@@ -81,7 +81,7 @@ fn set_steps(steps: &mut Vec<(u32, Step)>, runs: &Runs, run: &Run) -> Result<(),
     add_steps(steps, runs.puts(run), Step::PutBegins, Step::PutEnds)?;
     add_steps(
         steps,
-        runs.takings(run),
+        runs.removals(run),
         Step::TakingBegins,
         Step::TakingEnds,
     )?;
@@ -90,9 +90,9 @@ fn set_steps(steps: &mut Vec<(u32, Step)>, runs: &Runs, run: &Run) -> Result<(),
 }
 
 /// The moment up to which this many values of a run surely are in, of which nothing is known before
-/// this moment: pending takings can take those that no other call takes.
+/// this moment: pending removals can take those that no other call takes.
 fn known_until(runs: &Runs, run: &Run, many: usize, until: u32) -> u32 {
-    if many.saturating_add(runs.takings(run).len()) > run.put_count() {
+    if many.saturating_add(runs.removals(run).len()) > run.put_count() {
         return until;
     }
     let last = many.saturating_sub(1);
@@ -221,7 +221,11 @@ pub(crate) fn weight_of(runs: &Runs, chain: &[usize]) -> usize {
 pub(crate) type Ranked<T> = (usize, usize, T);
 
 /// The calls that find nothing under values that surely are in, the fewest values first.
-fn covered(alloc: Global, runs: &Runs, reach: &[Mark]) -> Result<Vec<(usize, usize)>, AllocError> {
+fn covered_empties(
+    alloc: Global,
+    runs: &Runs,
+    reach: &[Mark],
+) -> Result<Vec<(usize, usize)>, AllocError> {
     let mut found = Vec::new(alloc);
     let mut links = 0;
     for (place, call) in runs.empties.iter().enumerate() {
@@ -248,7 +252,7 @@ pub(crate) fn add_empties(
     }
     let reach = reach_of(alloc, intervals, runs.end)?;
     let mut links = 0;
-    for (weight, place) in covered(alloc, runs, &reach)?.iter().take(MOST) {
+    for (weight, place) in covered_empties(alloc, runs, &reach)?.iter().take(MOST) {
         let Some(call) = runs.empties.get(*place).copied() else {
             continue;
         };

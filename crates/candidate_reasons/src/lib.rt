@@ -23,6 +23,7 @@ mod sights;
 mod singles;
 mod takers;
 mod trees;
+mod value_pairs;
 mod wholes;
 mod windows;
 mod zones;

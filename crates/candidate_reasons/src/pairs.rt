@@ -18,11 +18,11 @@ struct Pair {
     value: i64,
     put_begin: u32,
     put_end: u32,
-    /// The begin of its taking, or of the first that can be.
+    /// The begin of its removal, or of the first that can be.
     leaves: u32,
-    /// The end of its taking, or `PENDING`.
+    /// The end of its removal, or `PENDING`.
     gone: u32,
-    /// The first number of the history after its taking.
+    /// The first number of the history after its removal.
     until: u32,
 }
 
@@ -31,21 +31,21 @@ fn pairs_of(alloc: Global, runs: &Runs) -> Result<Vec<Pair>, AllocError> {
     let first_pending = runs.first_pending();
     let mut pairs = Vec::new(alloc);
     for (place, run) in runs.runs.iter().enumerate() {
-        let ([put], takings) = (runs.puts(run), runs.takings(run)) else {
+        let ([put], removals) = (runs.puts(run), runs.removals(run)) else {
             continue;
         };
-        if takings.len() > 1 {
+        if removals.len() > 1 {
             continue;
         }
-        let taking = takings.first();
+        let removal = removals.first();
         pairs.push(Pair {
             place,
             value: run.value,
             put_begin: put.begin,
             put_end: put.end,
-            leaves: taking.map_or(first_pending, |taking| taking.begin),
-            gone: taking.map_or(PENDING, |taking| taking.end),
-            until: taking.map_or(PENDING, |taking| taking.until()),
+            leaves: removal.map_or(first_pending, |removal| removal.begin),
+            gone: removal.map_or(PENDING, |removal| removal.end),
+            until: removal.map_or(PENDING, |removal| removal.until()),
         })?;
     }
     Ok(pairs)
@@ -69,7 +69,7 @@ fn by_time<F: Fn(&Pair) -> Option<u32>>(
     Ok(places)
 }
 
-fn returned(at: u32) -> Option<u32> {
+fn return_of(at: u32) -> Option<u32> {
     if at == PENDING { None } else { Some(at) }
 }
 
@@ -144,7 +144,7 @@ pub(crate) fn add_queue_pairs(
     candidates: &mut Vec<Candidate>,
 ) -> Result<(), AllocError> {
     let pairs = pairs_of(alloc, runs)?;
-    let ended = by_time(alloc, &pairs, |pair| returned(pair.put_end))?;
+    let ended = by_time(alloc, &pairs, |pair| return_of(pair.put_end))?;
     let mut next = 0;
     let mut latest = NONE;
     let mut found: usize = 0;
@@ -193,9 +193,9 @@ pub(crate) fn add_stack_pairs(
     candidates: &mut Vec<Candidate>,
 ) -> Result<(), AllocError> {
     let pairs = pairs_of(alloc, runs)?;
-    let ended = by_time(alloc, &pairs, |pair| returned(pair.put_end))?;
+    let ended = by_time(alloc, &pairs, |pair| return_of(pair.put_end))?;
     let leaving = by_time(alloc, &pairs, |pair| {
-        returned(pair.gone).map(|_| pair.leaves)
+        return_of(pair.gone).map(|_| pair.leaves)
     })?;
     let end = runs.end as usize;
     let mut laid = Greatest::new(alloc, end)?;

@@ -40,7 +40,7 @@ pub(crate) enum Role {
     LeftOut,
 }
 
-/// The values of a plan, and whether none is left for a pending taking.
+/// The values of a plan, and whether none is left for a pending removal.
 #[derive(Drop)]
 struct Choice {
     values: Values,
@@ -58,8 +58,8 @@ fn kept_where(kept: bool) -> Role {
     if kept { Role::Kept } else { Role::LeftOut }
 }
 
-/// What a taking is to the part; no reply: it is pending.
-fn taking_role(choice: &Choice, reply: Option<AnyReply>) -> Role {
+/// What a removal is to the part; no reply: it is pending.
+fn removal_role(choice: &Choice, reply: Option<AnyReply>) -> Role {
     match reply {
         Some(AnyReply::Value(Some(value))) => kept_where(has(&choice.values, value)),
         Some(_) => Role::Optional,
@@ -103,7 +103,7 @@ fn reply_role(choice: &Choice, op: AnyOp, reply: Option<AnyReply>) -> Role {
         AnyOp::Enqueue(value) => kept_where(has(&choice.values, value)),
         AnyOp::Push(value) => kept_where(has(&choice.values, value)),
         AnyOp::Insert(value) => kept_where(has(&choice.values, value)),
-        AnyOp::Dequeue | AnyOp::Pop | AnyOp::ExtractMin => taking_role(choice, reply),
+        AnyOp::Dequeue | AnyOp::Pop | AnyOp::ExtractMin => removal_role(choice, reply),
         AnyOp::Put(key, _) => entry_role(&choice.values, key, op, reply),
         AnyOp::Get(key) => entry_role(&choice.values, key, op, reply),
         AnyOp::Del(key) => entry_role(&choice.values, key, op, reply),

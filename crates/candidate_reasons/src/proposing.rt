@@ -11,6 +11,7 @@ use crate::plans::{Element, Plan};
 use crate::runs::runs_in;
 use crate::shrinking::{Judge, tells};
 use crate::singles::add_singles;
+use crate::value_pairs::value_pairs_of;
 use crate::wholes::add_wholes;
 use events::{End, ObjectHistory};
 use projection::{Cut, part_by};
@@ -39,6 +40,9 @@ const ENOUGH: usize = 6;
 
 /// A candidate of this weight is small as it is.
 const LIGHT: usize = 8;
+
+/// The most operations that a search of what was done with two values tries.
+const STEPS_OF_A_PAIR: u64 = 2_000;
 
 /// The most calls that are kept for a part to begin at.
 const MOST_STARTS: usize = 64;
@@ -172,7 +176,7 @@ fn size_of(
 
 /// The reason of a plan that holds in a part which begins at a call: by the plan's cuts alone where
 /// they serve for the whole, and else by those after the part's.
-fn confirmed(
+fn confirm(
     alloc: Global,
     history: &ObjectHistory,
     base: Base,
@@ -218,7 +222,7 @@ fn base_of(
 }
 
 /// The result of a candidate.
-fn tried(
+fn try_candidate(
     alloc: Global,
     history: &ObjectHistory,
     mut candidate: Candidate,
@@ -232,7 +236,7 @@ fn tried(
         return Ok(None);
     }
     let plan = &mut candidate.plan;
-    let Some((reason, size)) = confirmed(alloc, history, base, plan, limit)? else {
+    let Some((reason, size)) = confirm(alloc, history, base, plan, limit)? else {
         return Ok(None);
     };
     let Candidate { pattern, key, .. } = candidate;
@@ -254,7 +258,7 @@ fn best_of(
     let mut best: Option<Sized> = None;
     let mut found: usize = 0;
     for candidate in candidates.into_iter().take(MOST) {
-        if let Some(sized) = tried(alloc, history, candidate, limit)? {
+        if let Some(sized) = try_candidate(alloc, history, candidate, limit)? {
             found = found.saturating_add(1);
             if best.as_ref().is_none_or(|least| sized.size < least.size) {
                 best = Some(sized);
@@ -265,6 +269,21 @@ fn best_of(
         }
     }
     Ok(best.map(|sized| sized.proposal))
+}
+
+/// The reason that the first of the candidates comes to that comes to one.
+fn first_of(
+    alloc: Global,
+    history: &ObjectHistory,
+    candidates: Vec<Candidate>,
+    limit: u64,
+) -> Result<Option<Proposal>, AllocError> {
+    for candidate in candidates {
+        if let Some(sized) = try_candidate(alloc, history, candidate, limit)? {
+            return Ok(Some(sized.proposal));
+        }
+    }
+    Ok(None)
 }
 
 /// A small reason why no order of the object's operations is valid, if one is found. It has no
@@ -284,5 +303,9 @@ pub fn propose(
         return Ok(Some(proposal));
     }
     let candidates = wholes_of(alloc, kind, &timeline)?;
-    best_of(alloc, history, candidates, limit)
+    if let Some(proposal) = best_of(alloc, history, candidates, limit)? {
+        return Ok(Some(proposal));
+    }
+    let candidates = value_pairs_of(alloc, kind, &timeline)?;
+    first_of(alloc, history, candidates, limit.min(STEPS_OF_A_PAIR))
 }

@@ -132,7 +132,7 @@ fn refusal_plan(
 }
 
 /// What is wrong with a refused swap, if something is.
-fn refused(
+fn candidate_of_refusal(
     alloc: Global,
     scene: &Scene,
     shown: &[Shown],
@@ -174,7 +174,7 @@ pub(crate) fn add_refusals(
     let overs = all_overs(alloc, scene.cell)?;
     let mut found: usize = 0;
     for access in &scene.cell.accesses {
-        if let Some(candidate) = refused(alloc, scene, &shown, &overs, access)? {
+        if let Some(candidate) = candidate_of_refusal(alloc, scene, &shown, &overs, access)? {
             candidates.push(candidate)?;
             found = found.saturating_add(1);
         }

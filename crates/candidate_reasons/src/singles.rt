@@ -19,14 +19,14 @@ fn by_end(alloc: Global, calls: &[TimedCall]) -> Result<Vec<TimedCall>, AllocErr
     Ok(ended)
 }
 
-/// The first taking, in the order of their ends, that returns when fewer puts have begun than
-/// takings have ended, and how many had ended before it.
+/// The first removal, in the order of their ends, that returns when fewer puts have begun than
+/// removals have ended, and how many had ended before it.
 fn excess(alloc: Global, runs: &Runs, run: &Run) -> Result<Option<(usize, TimedCall)>, AllocError> {
     let puts = runs.puts(run);
-    for (before, taking) in by_end(alloc, runs.takings(run))?.iter().enumerate() {
+    for (before, removal) in by_end(alloc, runs.removals(run))?.iter().enumerate() {
         let put = puts.get(before);
-        if put.is_none_or(|put| put.begin > taking.end) {
-            return Ok(Some((before, *taking)));
+        if put.is_none_or(|put| put.begin > removal.end) {
+            return Ok(Some((before, *removal)));
         }
     }
     Ok(None)
@@ -45,7 +45,7 @@ fn others(runs: &[Run], value: i64, at: usize) -> usize {
     calls
 }
 
-/// What is wrong with a value that is put in `puts` times in all, when `taken` takings of it have
+/// What is wrong with a value that is put in `puts` times in all, when `taken` removals of it have
 /// returned, one more than puts have begun.
 fn pattern_of(value: i64, puts: usize, taken: usize) -> Pattern {
     match (puts, taken) {
@@ -68,14 +68,14 @@ pub(crate) fn add_singles(
 ) -> Result<(), AllocError> {
     let mut found: usize = 0;
     for (place, run) in runs.runs.iter().enumerate() {
-        let Some((before, taking)) = excess(alloc, runs, run)? else {
+        let Some((before, removal)) = excess(alloc, runs, run)? else {
             continue;
         };
         let elsewhere = others(&runs.runs, run.value, place);
         let puts = elsewhere.saturating_add(run.put_count());
         let taken = elsewhere.saturating_add(before).saturating_add(1);
         let pattern = pattern_of(run.value, puts, taken);
-        let mut plan = plan_of_runs(alloc, runs, &[place], &[], taking.until())?;
+        let mut plan = plan_of_runs(alloc, runs, &[place], &[], removal.until())?;
         plan.evidence = Evidence::Counting(Count {
             counted: Counted::Value(run.value),
             from: 0,

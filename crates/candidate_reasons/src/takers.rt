@@ -11,7 +11,7 @@ use std::alloc::{AllocError, Global};
 use timed_calls::{Access, CellCalls, NOTHING, Need, TimedCall};
 
 /// What of a cell is counted; nothing for a register that contains nothing, which no call counts.
-fn counted(cell: &CellCalls, content: usize) -> Option<Counted> {
+fn count_of(cell: &CellCalls, content: usize) -> Option<Counted> {
     let value = cell.contents.get(content).copied()?;
     match (cell.key, value) {
         (None, Some(value)) => Some(Counted::Value(value)),
@@ -148,7 +148,7 @@ pub(crate) fn add_excesses(
     let takers = by_content(alloc, scene.cell, |access| taken_by(access))?;
     let mut found: usize = 0;
     for content in 0..scene.cell.contents.len() {
-        let Some(counted) = counted(scene.cell, content) else {
+        let Some(counted) = count_of(scene.cell, content) else {
             continue;
         };
         let own = calls_on(alloc, &takers, content)?;
@@ -197,7 +197,7 @@ fn add_window(
     setters: &[TimedCall],
     candidates: &mut Vec<Candidate>,
 ) -> Result<bool, AllocError> {
-    let Some(counted) = counted(scene.cell, content) else {
+    let Some(counted) = count_of(scene.cell, content) else {
         return Ok(false);
     };
     let Some(window) = shortest_window(alloc, takers, setters, content == NOTHING)? else {

@@ -91,129 +91,117 @@ impl Greatest {
     }
 }
 
-/// Part of a tree: a node, and which leaves it has.
+/// The counts of some places that are side by side: what was added at them, and the greatest of
+/// what was added at one and those after it.
 #[derive(Clone, Copy)]
-struct Part {
-    node: usize,
-    from: usize,
-    width: usize,
+struct Sums {
+    added: i64,
+    most: i64,
 }
 
-impl Part {
-    fn left(self) -> Part {
-        Part {
-            node: self.node.saturating_mul(2),
-            from: self.from,
-            width: self.width / 2,
+/// Those of no place.
+const NO_SUMS: Sums = Sums {
+    added: 0,
+    most: i64::MIN,
+};
+
+impl Sums {
+    fn plus(self, change: i64) -> Sums {
+        Sums {
+            added: self.added.saturating_add(change),
+            most: self.most.saturating_add(change),
         }
     }
 
-    fn right(self) -> Part {
-        let width = self.width / 2;
-        Part {
-            node: self.node.saturating_mul(2).saturating_add(1),
-            from: self.from.saturating_add(width),
-            width,
+    /// Those of these places and of others after them.
+    fn before(self, later: Sums) -> Sums {
+        Sums {
+            added: self.added.saturating_add(later.added),
+            most: later.most.max(self.most.saturating_add(later.added)),
         }
-    }
-
-    fn is_apart(self, from: usize, to: usize) -> bool {
-        self.from >= to || self.from.saturating_add(self.width) <= from
-    }
-
-    fn is_inside(self, from: usize, to: usize) -> bool {
-        from <= self.from && self.from.saturating_add(self.width) <= to
     }
 }
 
-/// A count at each place, with changes of ranges.
+/// A count at each place, with changes of all places before one.
 #[derive(Drop)]
 pub(crate) struct Most {
     width: usize,
     depth: u32,
-    /// For each part the greatest count in it, without what was added to parts that hold it.
-    most: Vec<i64>,
-    /// What was added to the part as a whole.
-    added: Vec<i64>,
+    /// For each part of a tree over the places.
+    nodes: Vec<Sums>,
+    /// What was added at all places.
+    everywhere: i64,
 }
 
 impl Most {
     pub(crate) fn new(alloc: Global, places: usize) -> Result<Most, AllocError> {
         let (width, depth) = shape(places);
-        Ok(Most {
+        let mut most = Most {
             width,
             depth,
-            most: vec![in alloc; 0; width.saturating_mul(2)]?,
-            added: vec![in alloc; 0; width.saturating_mul(2)]?,
-        })
+            nodes: vec![in alloc; NO_SUMS; width.saturating_mul(2)]?,
+            everywhere: 0,
+        };
+        for place in 0..places {
+            most.put(place.saturating_add(width), Sums { added: 0, most: 0 });
+        }
+        for node in (1..width).rev() {
+            most.sum_up(node);
+        }
+        Ok(most)
     }
 
-    fn root(&self) -> Part {
-        Part {
-            node: 1,
-            from: 0,
-            width: self.width,
+    fn at(&self, node: usize) -> Sums {
+        self.nodes.get(node).copied().unwrap_or(NO_SUMS)
+    }
+
+    fn put(&mut self, node: usize, sums: Sums) {
+        if let Some(at) = self.nodes.get_mut(node) {
+            *at = sums;
         }
     }
 
-    fn most_at(&self, node: usize) -> i64 {
-        self.most.get(node).copied().unwrap_or(0)
+    fn sum_up(&mut self, node: usize) {
+        let left = node.saturating_mul(2);
+        let later = self.at(left.saturating_add(1));
+        self.put(node, self.at(left).before(later));
     }
 
-    fn added_at(&self, node: usize) -> i64 {
-        self.added.get(node).copied().unwrap_or(0)
+    /// Adds to the counts of all places.
+    pub(crate) fn add(&mut self, change: i64) {
+        self.everywhere = self.everywhere.saturating_add(change);
     }
 
-    /// Adds to the counts of `from <= place < to`.
-    pub(crate) fn add(&mut self, from: usize, to: usize, change: i64) {
-        if from < to {
-            self.add_in(self.depth, self.root(), from, to, change);
-        }
-    }
-
-    fn add_to_part(&mut self, node: usize, change: i64) {
-        if let Some(most) = self.most.get_mut(node) {
-            *most = most.saturating_add(change);
-        }
-        if let Some(added) = self.added.get_mut(node) {
-            *added = added.saturating_add(change);
-        }
-    }
-
-    fn add_in(&mut self, depth: u32, part: Part, from: usize, to: usize, change: i64) {
-        if part.is_apart(from, to) {
+    /// Adds to the counts of the places before this one.
+    pub(crate) fn add_before(&mut self, place: usize, change: i64) {
+        let Some(last) = place.checked_sub(1) else {
             return;
-        }
-        if depth == 0 || part.is_inside(from, to) {
-            self.add_to_part(part.node, change);
-            return;
-        }
-        self.add_in(depth - 1, part.left(), from, to, change);
-        self.add_in(depth - 1, part.right(), from, to, change);
-        let most = self
-            .most_at(part.left().node)
-            .max(self.most_at(part.right().node))
-            .saturating_add(self.added_at(part.node));
-        if let Some(at) = self.most.get_mut(part.node) {
-            *at = most;
+        };
+        let mut node = last.saturating_add(self.width);
+        self.put(node, self.at(node).plus(change));
+        for _ in 0..self.depth {
+            node /= 2;
+            self.sum_up(node);
         }
     }
 
     /// The last place whose count is at least this.
     pub(crate) fn last_at_least(&self, least: i64) -> Option<usize> {
-        let mut part = self.root();
-        if self.most_at(part.node) < least {
+        let mut least = least.saturating_sub(self.everywhere);
+        let mut node: usize = 1;
+        if self.at(node).most < least {
             return None;
         }
-        let mut left = least;
         for _ in 0..self.depth {
-            left = left.saturating_sub(self.added_at(part.node));
-            part = if self.most_at(part.right().node) >= left {
-                part.right()
+            let left = node.saturating_mul(2);
+            let later = self.at(left.saturating_add(1));
+            node = left;
+            if later.most >= least {
+                node = left.saturating_add(1);
             } else {
-                part.left()
-            };
+                least = least.saturating_sub(later.added);
+            }
         }
-        Some(part.from)
+        node.checked_sub(self.width)
     }
 }

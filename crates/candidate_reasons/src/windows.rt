@@ -88,29 +88,29 @@ impl Balance {
         let starts = starts_of(alloc, takers)?;
         let mut counts = Most::new(alloc, starts.len())?;
         if !is_there_at_first {
-            counts.add(0, 1, 1);
+            counts.add_before(1, 1);
         }
         Ok(Balance { starts, counts })
     }
 
     fn note(&mut self, change: &Change) {
-        let count = self.starts.len();
         match change.step {
             Step::TakerEnds => {
                 let to = self.starts.partition_point(|start| *start <= change.begin);
-                self.counts.add(0, to, 1);
+                self.counts.add_before(to, 1);
             }
-            Step::SetterBegins => self.counts.add(0, count, -1),
+            Step::SetterBegins => self.counts.add(-1),
             Step::SetterEnds => {
                 let from = self.starts.partition_point(|start| *start <= change.at);
-                self.counts.add(from, count, 1);
+                self.counts.add(1);
+                self.counts.add_before(from, -1);
             }
         }
     }
 
     /// The last start of a window in which the content is taken away once more than it can have
     /// been there.
-    fn exceeded(&self) -> Option<u32> {
+    fn last_exceeded_start(&self) -> Option<u32> {
         let place = self.counts.last_at_least(2)?;
         self.starts.get(place).copied()
     }
@@ -131,7 +131,7 @@ pub(crate) fn shortest_window(
         if !matches!(change.step, Step::TakerEnds) {
             continue;
         }
-        let Some(from) = balance.exceeded() else {
+        let Some(from) = balance.last_exceeded_start() else {
             continue;
         };
         let to = change.at;

@@ -173,7 +173,7 @@ fn until_of(calls: &[TimedCall]) -> u32 {
 }
 
 /// The candidate of two contents that are each before the other.
-fn crossed(
+fn candidate_of_crossing(
     alloc: Global,
     scene: &Scene,
     zones: &[Zone],
@@ -204,7 +204,12 @@ pub(crate) fn add_zones(
         let Some(other) = crossing(&longest, stay) else {
             continue;
         };
-        if let Some(candidate) = crossed(alloc, scene, &zones, [other.content, stay.content])? {
+        if let Some(candidate) = candidate_of_crossing(
+            alloc,
+            scene,
+            &zones,
+            [other.content, stay.content],
+        )? {
             candidates.push(candidate)?;
             found = found.saturating_add(1);
         }

@@ -8,7 +8,7 @@ use crate::dead_ends::{DeadEnds, fingerprint_of, mixed};
 use crate::demands::Demands;
 use crate::waiting::{Role, Waiting};
 use std::alloc::{AllocError, Global};
-use timed_calls::{Access, Moment, NOTHING, Need, TimedCall, moments_of};
+use timed_calls::{Access, Moment, NOTHING, Need, moments_of};
 
 /// The most steps in which a search comes no further.
 const MOST_IN_VAIN: usize = 1_500_000;
@@ -53,10 +53,13 @@ struct Search<'a> {
 
 impl<'a> Search<'a> {
     fn new(alloc: Global, accesses: &'a [Access], hasty: bool) -> Result<Search<'a>, AllocError> {
-        let calls: Vec<TimedCall> = accesses.iter().map(|access| access.call).collect(alloc)?;
+        let mut spans = Vec::with_capacity(alloc, accesses.len())?;
+        for access in accesses {
+            spans.push(access.call.span())?;
+        }
         Ok(Search {
             accesses,
-            moments: moments_of(alloc, &calls)?,
+            moments: moments_of(alloc, &spans)?,
             demands: Demands::of(alloc, accesses)?,
             at: 0,
             content: NOTHING,
@@ -172,9 +175,9 @@ impl<'a> Search<'a> {
             self.at = k;
             self.steps = self.steps.saturating_add(1);
             if !moment.returns {
-                self.begin(moment.call)?;
-            } else if self.waits(moment.call) {
-                return Ok(Some(moment.call));
+                self.begin(moment.call as usize)?;
+            } else if self.waits(moment.call as usize) {
+                return Ok(Some(moment.call as usize));
             }
         }
         self.at = self.moments.len();
@@ -205,7 +208,7 @@ impl<'a> Search<'a> {
         for k in choice.at..self.at {
             match self.moments.get(k).copied() {
                 Some(moment) if !moment.returns => {
-                    self.leave(moment.call);
+                    self.leave(moment.call as usize);
                 }
                 _ => (),
             }

@@ -8,7 +8,7 @@ use crate::states::{State, narrow};
 use crate::steps::Search;
 use std::alloc::{AllocError, Global};
 use std::collections::BTreeSet;
-use timed_calls::{Moment, TimedCall, Timeline, moments_of};
+use timed_calls::{Moment, TimedCall, Timeline, moments_of, spans_of};
 
 /// How many states are kept at most.
 const MOST_STATES: usize = 2_000;
@@ -86,12 +86,12 @@ impl Search {
     ) -> Result<Vec<State>, AllocError> {
         let mut states = vec![in alloc; BEGIN; 1]?;
         for moment in moments {
-            let Some(call) = calls.get(moment.call) else {
+            let Some(call) = calls.get(moment.call as usize) else {
                 break;
             };
             if moment.returns {
                 states = self.end(alloc, &states, slack)?;
-            } else if !self.begin(alloc, moment.call, call)? {
+            } else if !self.begin(alloc, moment.call as usize, call)? {
                 return Ok(Vec::new(alloc));
             }
             if states.is_empty() || self.is_over() {
@@ -173,7 +173,7 @@ pub fn searched_stack_order(
     if !may_choose(alloc, calls)? {
         return Ok(None);
     }
-    let moments = moments_of(alloc, calls)?;
+    let moments = moments_of(alloc, &spans_of(alloc, calls)?)?;
     let mut left = most_steps(calls.len());
     for slack in 0..=MOST_SLACK {
         let mut search = Search::new(alloc, calls.len(), left)?;

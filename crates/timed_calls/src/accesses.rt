@@ -130,19 +130,23 @@ impl Numbers {
     }
 }
 
-/// The calls on one cell, of those that are side by side in a list by cells.
+/// The calls on one cell, of those that are at these places.
 fn cell_calls(
     alloc: Global,
     key: Option<i64>,
-    effects: &[(Effect, TimedCall)],
+    calls: &[TimedCall],
+    places: &[(Option<i64>, u32)],
 ) -> Result<CellCalls, AllocError> {
     let mut numbers = Numbers {
         known: BTreeMap::new(alloc),
         contents: vec![in alloc; None; 1]?,
     };
     let mut accesses = Vec::new(alloc);
-    for (effect, call) in effects {
-        if let Some(access) = numbers.access(call, effect)? {
+    for (_, place) in places {
+        if let Some(call) = calls.get(*place as usize)
+            && let Some(effect) = effect_of(call)
+            && let Some(access) = numbers.access(call, &effect)?
+        {
             accesses.push(access)?;
         }
     }
@@ -154,31 +158,33 @@ fn cell_calls(
     })
 }
 
-/// What the calls do, by cells, and in the order of their invocations for each.
-fn effects_of(alloc: Global, calls: &[TimedCall]) -> Result<Vec<(Effect, TimedCall)>, AllocError> {
-    let mut effects = Vec::new(alloc);
+/// The cells of the calls and their places, by cells, and in the order of their invocations for
+/// each.
+fn places_of(alloc: Global, calls: &[TimedCall]) -> Result<Vec<(Option<i64>, u32)>, AllocError> {
+    let mut places = Vec::new(alloc);
+    let mut place: u32 = 0;
     for call in calls {
         if let Some(effect) = effect_of(call) {
-            effects.push((effect, *call))?;
+            places.push((effect.key, place))?;
         }
+        place = place.saturating_add(1);
     }
-    effects.sort_unstable_by_key(|(effect, call)| (effect.key, call.begin));
-    Ok(effects)
+    places.sort_unstable();
+    Ok(places)
 }
 
 /// The calls of each cell.
 pub fn cells_of(alloc: Global, calls: &[TimedCall]) -> Result<Vec<CellCalls>, AllocError> {
-    let effects = effects_of(alloc, calls)?;
-    let mut rest = effects.as_slice();
+    let places = places_of(alloc, calls)?;
+    let mut rest = places.as_slice();
     let mut cells = Vec::new(alloc);
-    for _ in 0..effects.len() {
-        let Some((first, _)) = rest.first() else {
+    for _ in 0..places.len() {
+        let Some((key, _)) = rest.first().copied() else {
             break;
         };
-        let key = first.key;
-        let here = rest.partition_point(|(effect, _)| effect.key <= key);
+        let here = rest.partition_point(|place| place.0 <= key);
         let (own, others) = rest.split_at(here.min(rest.len()));
-        cells.push(cell_calls(alloc, key, own)?)?;
+        cells.push(cell_calls(alloc, key, calls, own)?)?;
         rest = others;
     }
     Ok(cells)

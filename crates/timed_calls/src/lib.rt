@@ -7,4 +7,6 @@ mod accesses;
 mod calls;
 
 pub use accesses::{Access, CellCalls, NOTHING, Need, cells_of};
-pub use calls::{Moment, PENDING, TimedCall, Timeline, moments_of, timeline_of};
+pub use calls::{
+    CallSpan, Moment, PENDING, TimedCall, Timeline, moments_of, spans_of, timeline_of,
+};

@@ -10,9 +10,10 @@ use crate::gaps::Gaps;
 use crate::matching::residences_of;
 use crate::removals::Removals;
 use crate::residences::Residence;
+use crate::shortages::{Cover, Demands, Shortage};
 use crate::touches::{Touch, Touches, first_value};
 use std::alloc::{AllocError, Global};
-use timed_calls::{PENDING, TimedCall, Timeline};
+use timed_calls::{CallSpan, PENDING, Timeline};
 
 /// What comes first in one gap: extracts by rising value, each after its insert where that is in
 /// the same gap, then calls that find nothing, then inserts of what is extracted later.
@@ -43,7 +44,7 @@ fn insert_at(residence: &Residence, gap: u32, phase: Phase) -> Placed {
 }
 
 /// The last gap in which a call can take effect.
-fn last_gap(call: &TimedCall) -> u32 {
+fn last_gap(call: &CallSpan) -> u32 {
     if call.end == PENDING {
         PENDING
     } else {
@@ -56,22 +57,41 @@ fn last_gap(call: &TimedCall) -> u32 {
 struct Placing {
     gaps: Gaps,
     placed: Vec<Placed>,
+    /// What has no gap.
+    shortages: Vec<Shortage>,
+    /// The gaps in which the values surely are in the heap, if pending extracts may change them.
+    covers: Vec<Cover>,
+    keeps_covers: bool,
     /// The number of moments.
     end: u32,
 }
 
 impl Placing {
-    /// Places a value. False where its extract has no gap.
-    fn place(&mut self, residence: &Residence) -> Result<bool, AllocError> {
+    fn new(alloc: Global, end: u32, keeps_covers: bool) -> Result<Placing, AllocError> {
+        Ok(Placing {
+            gaps: Gaps::new(alloc, end)?,
+            placed: Vec::new(alloc),
+            shortages: Vec::new(alloc),
+            covers: Vec::new(alloc),
+            keeps_covers,
+            end,
+        })
+    }
+
+    /// Places a value, unless its extract has no gap.
+    fn place(&mut self, residence: &Residence) -> Result<(), AllocError> {
         let latest = last_gap(&residence.put);
         let Some(take) = residence.take else {
             self.placed
                 .push(insert_at(residence, latest, Phase::Inserts))?;
-            return Ok(true);
+            return Ok(());
         };
-        let gap = self.gaps.first_free(residence.surely_to());
+        let from = residence.surely_to();
+        let gap = self.gaps.first_free(from);
         if gap >= take.end {
-            return Ok(false);
+            let shortage = Shortage::new(Some(residence.value), from, take.end);
+            self.shortages.push(shortage)?;
+            return Ok(());
         }
         self.placed.push(Placed {
             gap,
@@ -87,30 +107,32 @@ impl Placing {
             self.placed
                 .push(insert_at(residence, gap, Phase::Extracts))?;
         }
-        Ok(true)
+        Ok(())
     }
 
-    /// Places equal values. False where an extract has no gap.
-    fn place_all(&mut self, residences: &[Residence]) -> Result<bool, AllocError> {
+    /// Places equal values.
+    fn place_all(&mut self, residences: &[Residence]) -> Result<(), AllocError> {
         for residence in residences {
-            if !self.place(residence)? {
-                return Ok(false);
-            }
+            self.place(residence)?;
         }
         for residence in residences {
             let to = residence.surely_to().min(self.end);
+            if self.keeps_covers && residence.put.end < to {
+                self.covers.push(Cover::of(residence, to))?;
+            }
             self.gaps.cover(residence.put.end, to);
         }
-        Ok(true)
+        Ok(())
     }
 
-    /// Places the calls that find nothing in the heap. False where one has no gap that is free of
-    /// values.
-    fn place_empties(&mut self, empties: &[TimedCall]) -> Result<bool, AllocError> {
+    /// Places the calls that find nothing in the heap, unless one has no gap that is free of values.
+    fn place_empties(&mut self, empties: &[CallSpan]) -> Result<(), AllocError> {
         for call in empties {
             let gap = self.gaps.first_free(call.begin);
             if gap >= call.end {
-                return Ok(false);
+                let shortage = Shortage::new(None, call.begin, call.end);
+                self.shortages.push(shortage)?;
+                continue;
             }
             self.placed.push(Placed {
                 gap,
@@ -120,7 +142,12 @@ impl Placing {
                 number: call.number,
             })?;
         }
-        Ok(true)
+        Ok(())
+    }
+
+    /// Whether it can't be mended that some calls have no gap.
+    fn is_lost(&self) -> bool {
+        !self.keeps_covers && !self.shortages.is_empty()
     }
 
     /// The numbers of the calls in their order.
@@ -136,18 +163,17 @@ impl Placing {
 fn removals_of(
     alloc: Global,
     end: u32,
-    known: &[Touch],
-    empties: &[TimedCall],
-    unknown: Vec<TimedCall>,
+    touches: &Touches,
     last_first: bool,
 ) -> Result<Removals, AllocError> {
+    let unknown = Vec::from_slice(alloc, &touches.unknown)?;
     let mut removals = Removals::new(alloc, end, unknown, last_first)?;
-    for touch in known {
+    for touch in &touches.known {
         if touch.takes {
             removals.note(&touch.call);
         }
     }
-    for call in empties {
+    for call in &touches.empties {
         removals.note(call);
     }
     Ok(removals)
@@ -162,44 +188,63 @@ fn forget(removals: &mut Removals, touches: &[Touch]) {
     }
 }
 
+/// All calls placed, as far as they have gaps, where values are to be gone in some. None where a
+/// removal has no put, or nothing can be mended.
+fn placing_of(
+    alloc: Global,
+    end: u32,
+    touches: &Touches,
+    demands: &Demands,
+    last_first: bool,
+) -> Result<Option<Placing>, AllocError> {
+    let mut removals = removals_of(alloc, end, touches, last_first)?;
+    let mut placing = Placing::new(alloc, end, !removals.is_empty())?;
+    let mut rest = touches.known.as_slice();
+    for _ in 0..touches.known.len() {
+        let (own, others) = first_value(rest);
+        let Some(first) = own.first() else {
+            break;
+        };
+        forget(&mut removals, own);
+        let own_demands = demands.of(first.value);
+        let gaps = &mut placing.gaps;
+        let found = residences_of(alloc, own, gaps, &mut removals, own_demands, last_first)?;
+        let Some(residences) = found else {
+            return Ok(None);
+        };
+        placing.place_all(&residences)?;
+        if placing.is_lost() {
+            return Ok(None);
+        }
+        rest = others;
+    }
+    placing.place_empties(&touches.empties)?;
+    Ok(Some(placing))
+}
+
+/// How often the values are placed at most.
+const MOST_ROUNDS: usize = 16;
+
 /// An order of the calls that may be valid. Of the removals that are pending the last that can be
 /// used is used first, or the first.
 pub(crate) fn heap_order(
     alloc: Global,
     timeline: &Timeline,
-    touches: Touches,
+    touches: &Touches,
     last_first: bool,
 ) -> Result<Option<Vec<i64>>, AllocError> {
-    let Touches {
-        known,
-        empties,
-        unknown,
-    } = touches;
-    let end = timeline.end;
-    let mut removals = removals_of(alloc, end, &known, &empties, unknown, last_first)?;
-    let mut placing = Placing {
-        gaps: Gaps::new(alloc, end)?,
-        placed: Vec::new(alloc),
-        end,
-    };
-    let mut rest = known.as_slice();
-    for _ in 0..known.len() {
-        let (own, others) = first_value(rest);
-        if own.is_empty() {
-            break;
-        }
-        forget(&mut removals, own);
-        let found = residences_of(alloc, own, &mut placing.gaps, &mut removals, last_first)?;
-        let Some(residences) = found else {
+    let mut demands = Demands::new(alloc);
+    for _ in 0..MOST_ROUNDS {
+        let found = placing_of(alloc, timeline.end, touches, &demands, last_first)?;
+        let Some(placing) = found else {
             return Ok(None);
         };
-        if !placing.place_all(&residences)? {
+        if placing.shortages.is_empty() {
+            return Ok(Some(placing.order(alloc)?));
+        }
+        if !demands.add_all(alloc, &placing.shortages, &placing.covers)? {
             return Ok(None);
         }
-        rest = others;
     }
-    if !placing.place_empties(&empties)? {
-        return Ok(None);
-    }
-    Ok(Some(placing.order(alloc)?))
+    Ok(None)
 }

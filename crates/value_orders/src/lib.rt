@@ -14,6 +14,7 @@ mod orders;
 mod queue;
 mod removals;
 mod residences;
+mod shortages;
 mod stack;
 mod stack_pairs;
 mod sure;

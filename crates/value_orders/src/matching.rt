@@ -23,6 +23,8 @@ enum Event {
     TakeReturns,
     PutBegins,
     TakeBegins,
+    /// All values that are in must be gone.
+    MustAllBeGone,
     PutReturns,
 }
 
@@ -33,6 +35,7 @@ fn events_of(
     touches: &[Touch],
     gaps: &mut Gaps,
     removals: &Removals,
+    demands: &[(i64, u32)],
 ) -> Result<Vec<(u32, Event, usize)>, AllocError> {
     let mut events = Vec::new(alloc);
     for (place, touch) in touches.iter().enumerate() {
@@ -52,6 +55,9 @@ fn events_of(
                 events.push((gaps.first_free(due), Event::MustBeGone, place))?;
             }
         }
+    }
+    for (_, gap) in demands {
+        events.push((*gap, Event::MustAllBeGone, 0))?;
     }
     events.sort_unstable();
     Ok(events)
@@ -188,15 +194,39 @@ impl Matching {
         true
     }
 
-    /// Gives a pending removal to the value if it still is in.
+    /// Gives a pending removal to the value if it still is in and must be gone.
     fn give(&mut self, put: (u32, usize), removals: &mut Removals) -> Result<(), AllocError> {
+        match removals.due(put.0) {
+            Some(due) if self.open.contains(&put) => self.give_before(put, due, removals),
+            _ => Ok(()),
+        }
+    }
+
+    /// Gives pending removals that begin by this gap to all values that are in.
+    fn give_all(&mut self, gap: u32, removals: &mut Removals) -> Result<(), AllocError> {
+        for _ in 0..self.open.len() {
+            let Some(put) = self.open.first().copied() else {
+                break;
+            };
+            self.give_before(put, gap.saturating_add(1), removals)?;
+            if self.open.contains(&put) {
+                break;
+            }
+        }
+        Ok(())
+    }
+
+    /// Gives a pending removal that begins before this moment to a value that is in.
+    fn give_before(
+        &mut self,
+        put: (u32, usize),
+        due: u32,
+        removals: &mut Removals,
+    ) -> Result<(), AllocError> {
         let Some(touch) = self.touches.get(put.1).copied() else {
             return Ok(());
         };
-        if !self.open.contains(&put) {
-            return Ok(());
-        }
-        let Some(call) = removals.due(put.0).and_then(|due| removals.take(due)) else {
+        let Some(call) = removals.take(due) else {
             return Ok(());
         };
         self.open.remove(&put);
@@ -213,13 +243,13 @@ impl Matching {
     fn happen(
         &mut self,
         alloc: Global,
-        event: Event,
-        place: usize,
+        (gap, event, place): (u32, Event, usize),
         removals: &mut Removals,
     ) -> Result<bool, AllocError> {
         let call = (self.end_of(place), place);
         match event {
             Event::MustBeGone => self.give(call, removals)?,
+            Event::MustAllBeGone => self.give_all(gap, removals)?,
             Event::TakeReturns => return self.take_returns(alloc, call),
             Event::PutBegins => {
                 self.running.insert(call)?;
@@ -278,9 +308,10 @@ fn matched(
     touches: &[Touch],
     gaps: &mut Gaps,
     removals: &mut Removals,
+    demands: &[(i64, u32)],
     last_in: bool,
 ) -> Result<Option<Vec<Residence>>, AllocError> {
-    let events = events_of(alloc, touches, gaps, removals)?;
+    let events = events_of(alloc, touches, gaps, removals, demands)?;
     let mut matching = Matching {
         touches: Vec::from_slice(alloc, touches)?,
         last_in,
@@ -289,8 +320,8 @@ fn matched(
         waiting: BTreeSet::new(alloc),
         pairs: Vec::new(alloc),
     };
-    for (_, event, place) in &events {
-        if !matching.happen(alloc, *event, *place, removals)? {
+    for event in &events {
+        if !matching.happen(alloc, *event, removals)? {
             return Ok(None);
         }
     }
@@ -313,11 +344,12 @@ pub(crate) fn residences_of(
     touches: &[Touch],
     gaps: &mut Gaps,
     removals: &mut Removals,
+    demands: &[(i64, u32)],
     last_in: bool,
 ) -> Result<Option<Vec<Residence>>, AllocError> {
     if is_plain(touches, removals) {
         pair(alloc, touches, |touch| touch.call.begin)
     } else {
-        matched(alloc, touches, gaps, removals, last_in)
+        matched(alloc, touches, gaps, removals, demands, last_in)
     }
 }

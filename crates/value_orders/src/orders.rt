@@ -18,7 +18,7 @@ pub fn values_order(
     match kind {
         Kind::Queue => queue_order(alloc, timeline, touches, false),
         Kind::Stack => stack_order(alloc, timeline, touches, Pairing::OnTop),
-        Kind::Heap => heap_order(alloc, timeline, touches, true),
+        Kind::Heap => heap_order(alloc, timeline, &touches, true),
         _ => Ok(None),
     }
 }
@@ -37,7 +37,7 @@ pub fn other_values_order(
         Kind::Queue if touches.unknown.is_empty() => Ok(None),
         Kind::Queue => queue_order(alloc, timeline, touches, true),
         Kind::Stack => stack_order(alloc, timeline, touches, Pairing::LastIn),
-        Kind::Heap => heap_order(alloc, timeline, touches, false),
+        Kind::Heap => heap_order(alloc, timeline, &touches, false),
         _ => Ok(None),
     }
 }

@@ -19,13 +19,41 @@ use crate::touches::{Touch, Touches};
 use crate::trees::{ABSENT, Counts, Least};
 use std::alloc::{AllocError, Global};
 use std::collections::{BTreeMap, BTreeSet};
-use timed_calls::{PENDING, TimedCall, Timeline};
+use timed_calls::{CallSpan, PENDING, Timeline};
 
-/// The puts, or the removals, and which of them are left.
+/// Those of the touches, which are sorted by their values, that put values in, or those that take
+/// them: each with the place of its value in place of that, and for each value the first of them.
+fn numbered(
+    alloc: Global,
+    all: &[Touch],
+    takes: bool,
+) -> Result<(Vec<Touch>, Vec<usize>), AllocError> {
+    let mut touches = Vec::new(alloc);
+    let mut starts = Vec::new(alloc);
+    let mut last = None;
+    let mut value: i64 = -1;
+    for touch in all {
+        if last != Some(touch.value) {
+            last = Some(touch.value);
+            value = value.saturating_add(1);
+            starts.push(touches.len())?;
+        }
+        if touch.takes == takes {
+            touches.push(Touch { value, ..*touch })?;
+        }
+    }
+    starts.push(touches.len())?;
+    Ok((touches, starts))
+}
+
+/// The puts, or the removals, and which of them are left. Values are told by their places in rising
+/// order.
 #[derive(Drop)]
 struct Side {
     /// By value, and those of a value by their returns.
     touches: Vec<Touch>,
+    /// Of each value the place of its first call, and then the number of calls.
+    starts: Vec<usize>,
     /// When each begins that is left.
     begins: Least,
     /// The places in the order of the returns.
@@ -34,14 +62,10 @@ struct Side {
 }
 
 impl Side {
-    /// Those of the touches that put values in, or those that take them.
+    /// Those of the touches, which are sorted by their values, that put values in, or those that
+    /// take them.
     fn new(alloc: Global, all: &[Touch], takes: bool) -> Result<Side, AllocError> {
-        let mut touches = Vec::new(alloc);
-        for touch in all {
-            if touch.takes == takes {
-                touches.push(*touch)?;
-            }
-        }
+        let (mut touches, starts) = numbered(alloc, all, takes)?;
         touches.sort_unstable_by_key(|touch| (touch.value, touch.call.end));
         let mut begins = Vec::new(alloc);
         let mut by_return = Vec::new(alloc);
@@ -53,6 +77,7 @@ impl Side {
         Ok(Side {
             begins: Least::new(alloc, &begins)?,
             touches,
+            starts,
             by_return,
             next: 0,
         })
@@ -93,9 +118,10 @@ impl Side {
 
     /// The places of a value's calls.
     fn range(&self, value: i64) -> (usize, usize) {
-        let from = self.touches.partition_point(|touch| touch.value < value);
-        let to = self.touches.partition_point(|touch| touch.value <= value);
-        (from, to)
+        let value = usize::try_from(value).unwrap_or(0);
+        let from = self.starts.get(value).copied().unwrap_or(0);
+        let to = self.starts.get(value.saturating_add(1)).copied();
+        (from, to.unwrap_or(from))
     }
 
     /// The place of the call of this value that is left, begins by this moment, and returns first.
@@ -171,7 +197,8 @@ const PLENTY: i64 = 0x1_0000_0000;
 /// be lined up by then.
 #[derive(Drop)]
 struct Room {
-    counts: Counts,
+    /// None where each value is put in once.
+    counts: Option<Counts>,
 }
 
 /// How many puts of this value, which are told by rising value and begin, begin before this moment.
@@ -182,17 +209,26 @@ fn puts_before(begins: &[(i64, u32)], value: i64, moment: u32) -> usize {
 }
 
 impl Room {
-    /// None where a value is taken more often than it can have been put in.
-    fn new(alloc: Global, puts: &Side, takes: &Side) -> Result<Option<Room>, AllocError> {
+    /// None where a value is taken more often than it can have been put in. If each value is put in
+    /// once there is always room.
+    fn new(
+        alloc: Global,
+        puts: &Side,
+        takes: &Side,
+        repeat: bool,
+    ) -> Result<Option<Room>, AllocError> {
+        if !repeat {
+            return Ok(Some(Room { counts: None }));
+        }
         let mut begins = Vec::new(alloc);
         for touch in &puts.touches {
             begins.push((touch.value, touch.call.begin))?;
         }
         begins.sort_unstable();
-        let mut counts = Counts::new(alloc, takes.touches.len())?;
+        let mut rooms = Vec::new(alloc);
         let mut value = None;
         let mut turn: usize = 0;
-        for (place, touch) in takes.touches.iter().enumerate() {
+        for touch in &takes.touches {
             if value != Some(touch.value) {
                 value = Some(touch.value);
                 turn = 0;
@@ -202,26 +238,33 @@ impl Room {
             let Some(room) = count.checked_sub(turn) else {
                 return Ok(None);
             };
-            let room = i64::try_from(room).unwrap_or(PLENTY);
-            counts.add(place, place.saturating_add(1), room);
+            rooms.push(i64::try_from(room).unwrap_or(PLENTY))?;
         }
+        let counts = Some(Counts::of(alloc, &rooms)?);
         Ok(Some(Room { counts }))
     }
 
     /// Whether there is room before each of these removals.
     fn is_left(&self, from: usize, to: usize) -> bool {
-        self.counts.first_free(from, to).is_none()
+        match &self.counts {
+            Some(counts) => counts.first_free(from, to).is_none(),
+            None => true,
+        }
     }
 
     /// Notes that a put went to another removal than these, or takes that back.
     fn shrink(&mut self, from: usize, to: usize, by: i64) {
-        self.counts.add(from, to, by.saturating_neg());
+        if let Some(counts) = &mut self.counts {
+            counts.add(from, to, by.saturating_neg());
+        }
     }
 
     /// Notes that a removal is lined up, and needs no room, or takes that back.
     fn settle(&mut self, take: usize, by: i64) {
-        let plenty = PLENTY.saturating_mul(by);
-        self.counts.add(take, take.saturating_add(1), plenty);
+        if let Some(counts) = &mut self.counts {
+            let plenty = PLENTY.saturating_mul(by);
+            counts.add(take, take.saturating_add(1), plenty);
+        }
     }
 }
 
@@ -320,12 +363,12 @@ impl Line {
         Ok(())
     }
 
-    fn put(&mut self, call: &TimedCall) -> Result<(), AllocError> {
+    fn put(&mut self, call: &CallSpan) -> Result<(), AllocError> {
         self.put_at = call.begin.max(self.from).max(self.put_at);
         self.add(self.put_at, Rank::Puts, call.number)
     }
 
-    fn take(&mut self, call: &TimedCall) -> Result<(), AllocError> {
+    fn take(&mut self, call: &CallSpan) -> Result<(), AllocError> {
         self.take_at = call.begin.max(self.put_at).max(self.take_at);
         self.add(self.take_at, Rank::Takes, call.number)
     }
@@ -388,7 +431,7 @@ struct LineUp {
     room: Room,
     cuts: Cuts,
     /// Removals that are pending, in the order of their begins.
-    unknown: Vec<TimedCall>,
+    unknown: Vec<CallSpan>,
     used: usize,
     /// Whether pending removals are used earlier, where the values that come then fit better.
     lavish: bool,
@@ -405,7 +448,7 @@ impl LineUp {
     ) -> Result<Option<LineUp>, AllocError> {
         let puts = Side::new(alloc, &touches.known, false)?;
         let takes = Side::new(alloc, &touches.known, true)?;
-        let Some(room) = Room::new(alloc, &puts, &takes)? else {
+        let Some(room) = Room::new(alloc, &puts, &takes, touches.repeat())? else {
             return Ok(None);
         };
         let Some(cuts) = Cuts::new(alloc, &touches, end)? else {

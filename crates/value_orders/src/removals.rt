@@ -3,7 +3,7 @@
 use crate::gaps::Gaps;
 use crate::trees::{ABSENT, Least, small};
 use std::alloc::{AllocError, Global};
-use timed_calls::TimedCall;
+use timed_calls::CallSpan;
 
 /// The removals that are pending, and the calls that need values to be gone: a value must be gone
 /// where its put returns before one of these begins.
@@ -13,7 +13,7 @@ pub(crate) struct Removals {
     returns: Least,
     moments: usize,
     /// In the order of their begins; the last first if `last_first`.
-    removals: Vec<TimedCall>,
+    removals: Vec<CallSpan>,
     last_first: bool,
     unused: Gaps,
 }
@@ -23,7 +23,7 @@ impl Removals {
     pub(crate) fn new(
         alloc: Global,
         moments: u32,
-        mut removals: Vec<TimedCall>,
+        mut removals: Vec<CallSpan>,
         last_first: bool,
     ) -> Result<Removals, AllocError> {
         if last_first {
@@ -49,12 +49,12 @@ impl Removals {
     }
 
     /// Notes a call that needs values to be gone.
-    pub(crate) fn note(&mut self, call: &TimedCall) {
+    pub(crate) fn note(&mut self, call: &CallSpan) {
         self.returns.set(call.begin as usize, call.end as i64);
     }
 
     /// Takes back what was noted.
-    pub(crate) fn forget(&mut self, call: &TimedCall) {
+    pub(crate) fn forget(&mut self, call: &CallSpan) {
         self.returns.set(call.begin as usize, ABSENT);
     }
 
@@ -68,7 +68,7 @@ impl Removals {
     }
 
     /// A removal that begins before this moment and that was not taken yet.
-    pub(crate) fn take(&mut self, due: u32) -> Option<TimedCall> {
+    pub(crate) fn take(&mut self, due: u32) -> Option<CallSpan> {
         let from = if self.last_first {
             self.removals.partition_point(|call| call.begin >= due)
         } else {

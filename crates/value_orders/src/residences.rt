@@ -3,7 +3,7 @@
 
 use crate::touches::Touch;
 use std::alloc::{AllocError, Global};
-use timed_calls::{PENDING, TimedCall};
+use timed_calls::{CallSpan, PENDING};
 
 /// The moment that a value is taken which nobody takes: after that of a call that is pending.
 pub(crate) const NEVER: u32 = 0xffff_ffff;
@@ -12,8 +12,8 @@ pub(crate) const NEVER: u32 = 0xffff_ffff;
 #[derive(Clone, Copy)]
 pub(crate) struct Residence {
     pub(crate) value: i64,
-    pub(crate) put: TimedCall,
-    pub(crate) take: Option<TimedCall>,
+    pub(crate) put: CallSpan,
+    pub(crate) take: Option<CallSpan>,
 }
 
 impl Residence {

@@ -17,7 +17,7 @@ use crate::touches::{Touch, Touches, first_value};
 use crate::trees::{ABSENT, Counts, Least, small};
 use crate::trials::try_changes;
 use std::alloc::{AllocError, Global};
-use timed_calls::{TimedCall, Timeline};
+use timed_calls::{CallSpan, Timeline};
 
 /// What is left to be done, the last first.
 #[derive(Clone, Copy)]
@@ -26,13 +26,13 @@ enum Task {
     Order(usize, usize),
     Take(usize),
     /// A call that finds nothing, and its gap.
-    FindsNone(TimedCall, u32),
+    FindsNone(CallSpan, u32),
 }
 
 /// The call that is next in the order, and the first gap that it may stand at.
 #[derive(Clone, Copy)]
 struct Turn {
-    call: TimedCall,
+    call: CallSpan,
     from: u32,
 }
 
@@ -182,7 +182,7 @@ impl Ordering {
 
     /// Plans the values between the calls that find nothing, and these calls. False where one has
     /// no gap.
-    fn plan(&mut self, alloc: Global, empties: &[TimedCall]) -> Result<bool, AllocError> {
+    fn plan(&mut self, alloc: Global, empties: &[CallSpan]) -> Result<bool, AllocError> {
         let mut cuts = Vec::new(alloc);
         for call in empties {
             let (from, to) = (call.begin as usize, call.end as usize);
@@ -369,7 +369,7 @@ fn last_in(alloc: Global, known: &[Touch], end: u32) -> Result<Option<Vec<Reside
         if own.is_empty() {
             break;
         }
-        let Some(own) = residences_of(alloc, own, &mut gaps, &mut removals, true)? else {
+        let Some(own) = residences_of(alloc, own, &mut gaps, &mut removals, &[], true)? else {
             return Ok(None);
         };
         residences.extend_from_slice(&own)?;
@@ -405,7 +405,7 @@ fn paired(
 fn left_and_taken(
     alloc: Global,
     residences: &[Residence],
-) -> Result<(Vec<(u32, usize)>, Vec<(u32, TimedCall)>), AllocError> {
+) -> Result<(Vec<(u32, usize)>, Vec<(u32, CallSpan)>), AllocError> {
     let mut left = Vec::new(alloc);
     let mut taken = Vec::new(alloc);
     for (place, residence) in residences.iter().enumerate() {
@@ -423,7 +423,7 @@ fn left_and_taken(
 /// place that is left.
 fn note_below(
     removals: &mut Removals,
-    taken: &[(u32, TimedCall)],
+    taken: &[(u32, CallSpan)],
     from: usize,
     moment: u32,
 ) -> usize {
@@ -464,7 +464,7 @@ fn dues_of(
 fn give_removals(
     alloc: Global,
     residences: &mut [Residence],
-    empties: &[TimedCall],
+    empties: &[CallSpan],
     mut removals: Removals,
 ) -> Result<(), AllocError> {
     if removals.is_empty() {
@@ -518,7 +518,7 @@ const MOST_WORK: u64 = 200_000_000;
 pub(crate) fn ordering_of(
     alloc: Global,
     long: Vec<Residence>,
-    empties: &[TimedCall],
+    empties: &[CallSpan],
     end: u32,
 ) -> Result<Option<Ordering>, AllocError> {
     let mut ordering = Ordering {

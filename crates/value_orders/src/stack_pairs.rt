@@ -9,7 +9,7 @@ use crate::sure::Sure;
 use crate::touches::{Touch, Touches};
 use std::alloc::{AllocError, Global};
 use std::collections::BTreeSet;
-use timed_calls::{PENDING, TimedCall};
+use timed_calls::{CallSpan, PENDING};
 
 /// How many pushes of a value are looked at for one that can be on top.
 const MOST_PUSHES: usize = 8;
@@ -50,8 +50,8 @@ enum Event {
 fn events_of(
     alloc: Global,
     touches: &[Touch],
-    empties: &[TimedCall],
-    unknown: &[TimedCall],
+    empties: &[CallSpan],
+    unknown: &[CallSpan],
     end: u32,
 ) -> Result<Vec<(u32, bool, Event)>, AllocError> {
     let mut events = Vec::new(alloc);
@@ -86,7 +86,7 @@ struct Contents {
     /// A push and a pop.
     pairs: Vec<(usize, usize)>,
     /// Pops that are pending, in the order of their begins, and how many of them are used.
-    unknown: Vec<TimedCall>,
+    unknown: Vec<CallSpan>,
     used: usize,
     /// How many of them have begun.
     begun: usize,
@@ -113,7 +113,7 @@ impl Contents {
     fn new(
         alloc: Global,
         touches: &[Touch],
-        unknown: Vec<TimedCall>,
+        unknown: Vec<CallSpan>,
     ) -> Result<Contents, AllocError> {
         let mut contents = Contents {
             unknown,
@@ -413,7 +413,7 @@ impl Contents {
     }
 
     /// The pop at this place; those that are pending come last.
-    fn call_of(&self, touches: &[Touch], take: usize) -> Option<TimedCall> {
+    fn call_of(&self, touches: &[Touch], take: usize) -> Option<CallSpan> {
         match touches.get(take) {
             Some(touch) => Some(touch.call),
             None => self

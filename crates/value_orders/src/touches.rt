@@ -2,7 +2,7 @@
 
 use seq_objects::{AnyOp, AnyReply};
 use std::alloc::{AllocError, Global};
-use timed_calls::TimedCall;
+use timed_calls::{CallSpan, TimedCall};
 
 /// What a call does with the values of a queue, stack or heap.
 enum Role {
@@ -29,7 +29,7 @@ fn role_of(call: &TimedCall) -> Role {
 pub(crate) struct Touch {
     pub(crate) value: i64,
     pub(crate) takes: bool,
-    pub(crate) call: TimedCall,
+    pub(crate) call: CallSpan,
 }
 
 /// The calls of a queue, stack or heap.
@@ -38,9 +38,9 @@ pub(crate) struct Touches {
     /// In rising value; of each value the puts and then the removals, in the order of their begins.
     pub(crate) known: Vec<Touch>,
     /// The calls that found nothing in the object.
-    pub(crate) empties: Vec<TimedCall>,
+    pub(crate) empties: Vec<CallSpan>,
     /// Removals that are pending, in the order of their begins.
-    pub(crate) unknown: Vec<TimedCall>,
+    pub(crate) unknown: Vec<CallSpan>,
 }
 
 impl Touches {
@@ -63,8 +63,9 @@ pub(crate) fn touches_of(alloc: Global, calls: &[TimedCall]) -> Result<Touches, 
     let mut empties = Vec::new(alloc);
     let mut unknown = Vec::new(alloc);
     for call in calls {
-        let call = *call;
-        match role_of(&call) {
+        let role = role_of(call);
+        let call = call.span();
+        match role {
             Role::Puts(value) => known.push(Touch {
                 value,
                 takes: false,

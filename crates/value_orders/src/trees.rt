@@ -60,6 +60,9 @@ impl Part {
     }
 }
 
+/// How many places are gone through one by one.
+const FEW: usize = 8;
+
 /// A list of numbers, with the least of each part of a tree over it.
 #[derive(Drop)]
 pub(crate) struct Least {
@@ -142,6 +145,18 @@ impl Least {
 
     /// The first place in a range whose number is at most this.
     pub(crate) fn first_at_most(&self, from: usize, to: usize, most: i64) -> Option<usize> {
+        if to.saturating_sub(from) > FEW {
+            return self.first_from_root(from, to, most);
+        }
+        for place in from..to.min(self.width) {
+            if self.number(place) <= most {
+                return Some(place);
+            }
+        }
+        None
+    }
+
+    fn first_from_root(&self, from: usize, to: usize, most: i64) -> Option<usize> {
         let root = Part {
             node: 1,
             from: 0,
@@ -191,6 +206,26 @@ impl Counts {
             least: vec![in alloc; 0; width.saturating_mul(2)]?,
             added: vec![in alloc; 0; width.saturating_mul(2)]?,
         })
+    }
+
+    /// The places, each covered as often as this list says.
+    pub(crate) fn of(alloc: Global, numbers: &[i64]) -> Result<Counts, AllocError> {
+        let mut counts = Counts::new(alloc, numbers.len())?;
+        let width = counts.width;
+        for (place, number) in numbers.iter().enumerate() {
+            if let Some(least) = counts.least.get_mut(place.saturating_add(width)) {
+                *least = *number;
+            }
+        }
+        for node in (1..width).rev() {
+            let left = node.saturating_mul(2);
+            let right = counts.least_at(left.saturating_add(1));
+            let number = counts.least_at(left).min(right);
+            if let Some(least) = counts.least.get_mut(node) {
+                *least = number;
+            }
+        }
+        Ok(counts)
     }
 
     fn root(&self) -> Part {

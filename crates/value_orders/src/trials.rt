@@ -6,7 +6,7 @@ use crate::residences::Residence;
 use crate::stack::{apart, ordering_of};
 use crate::trees::small;
 use std::alloc::{AllocError, Global};
-use timed_calls::{PENDING, TimedCall};
+use timed_calls::{CallSpan, PENDING};
 
 /// How many values are tried at most.
 const MOST_VALUES: usize = 400;
@@ -40,7 +40,7 @@ fn rank_of(moments: &[u32], moment: u32) -> u32 {
 }
 
 /// The call on a time that has these moments alone.
-fn with_ranks(moments: &[u32], call: &TimedCall) -> TimedCall {
+fn with_ranks(moments: &[u32], call: &CallSpan) -> CallSpan {
     let mut own = *call;
     own.begin = rank_of(moments, call.begin);
     own.end = rank_of(moments, call.end);
