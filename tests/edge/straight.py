@@ -1,7 +1,7 @@
-"""Histories whose maps are in the usual order, and the same written otherwise: both ways of reading them give one answer.
+"""Histories whose maps are in a usual order, and the same written otherwise: both ways of reading them give one answer.
 
-A map in the usual order is read by patterns of bytes, and any other by its tokens; after eight of the others in a row 64 maps are read by
-their tokens too. Each history is written in four forms, of which one is the usual. In the text of a fault the byte that must be named is
+A map in one of two orders is read by patterns of bytes, and any other by its tokens; after eight of the others in a row 64 maps are read by
+their tokens too. Each history is written in five forms, of which two are usual. In the text of a fault the byte that must be named is
 marked."""
 from .running import at_once
 
@@ -18,7 +18,14 @@ def with_a_note(pairs):
 
 
 def type_first(pairs):
-    return usual([it for it in pairs if it[0] == ":type"] + [it for it in pairs if it[0] != ":type"])
+    return usual(sorted(pairs, key=lambda it: it[0] != ":type"))
+
+
+def index_first(pairs):
+    """As Jepsen writes a map."""
+    keys = [key.removeprefix(MARK) for key, _ in pairs]
+    more = [it for it in ((":index", "3"), (":time", "44")) if it[0] not in keys]
+    return usual(more + sorted(pairs, key=lambda it: it[0] != ":type"))
 
 
 def spread(pairs):
@@ -26,7 +33,7 @@ def spread(pairs):
     return "{ " + " ; a comment\n\t, ".join(f"{key}\n {value}" for key, value in pairs) + ";\n}"
 
 
-FORMS = (usual, with_a_note, type_first, spread)
+FORMS = (usual, index_first, with_a_note, type_first, spread)
 
 
 def pairs_of(text):

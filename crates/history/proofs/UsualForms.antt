@@ -274,3 +274,92 @@ usual_is n t f x v text own from_n after_n from_t after_t from_f after_f from_v 
       utf8 = front.1;
       says = (value.form, client_is n t f x v value.form last.pairs last.object_is, value.plain);
     }
+
+-- ---- the same with the index and the time first
+
+-- a pair of any form before others
+form_pair : (k : List ℕ) (d : Datum) (es : Entries) (text mid after rest : List ℕ) → is_name k ≡ true → text ≡ 44 ∷ 32 ∷ 58 ∷ (k ++ 32 ∷ mid) → BeginWith (tokens_of d) mid after
+    → BeginWith (entries_tokens es ++ close_map ∷ []) after rest → BeginWith (entries_tokens (entry k d es) ++ close_map ∷ []) text rest
+form_pair k d es text mid after rest n q b c =
+    let ts : List Token = entries_tokens es ++ close_map ∷ [] in
+    subst (λ (us : List Token). BeginWith (leaf (atom (keyword k)) ∷ us) text rest) (sym (append_assoc (tokens_of d) (entries_tokens es) (close_map ∷ [])))
+    (form_field d k ts text mid rest n q (both_begin (tokens_of d) ts mid after rest b c))
+
+abbrev indexed_with : ℤ → ℤ → ℕ → MapType → Function → Datum → Entries
+indexed_with i j n t f d =
+    entry (codes "index") (atom (integer i)) (entry (codes "time") (atom (integer j)) (entry (codes "type") (atom (keyword (type_name t)))
+    (entry (codes "process") (atom (integer (pos n))) (entry (codes "f") (atom (keyword (name_of f))) (entry (codes "value") d no_entries)))))
+
+indexed_fits : (i j : ℤ) (n : ℕ) (t : MapType) (f : Function) (d : Datum) → Fits 15 d → Fits 16 (dictionary (indexed_with i j n t f d))
+indexed_fits i j n t f d h = (
+  omega arith,
+  (
+    (
+      apart (codes "index") (codes "time") refl,
+      (
+        apart (codes "index") (codes "type") refl,
+        (
+          apart (codes "index") (codes "process") refl,
+          (apart (codes "index") (codes "f") refl, (apart (codes "index") (codes "value") refl, tt)),
+        ),
+      ),
+    ),
+    tt,
+    (
+      (apart (codes "time") (codes "type") refl, (apart (codes "time") (codes "process") refl, (apart (codes "time") (codes "f") refl, (apart (codes "time") (codes "value") refl, tt)))),
+      tt,
+      (
+        (apart (codes "type") (codes "process") refl, (apart (codes "type") (codes "f") refl, (apart (codes "type") (codes "value") refl, tt))),
+        tt,
+        (
+          (apart (codes "process") (codes "f") refl, (apart (codes "process") (codes "value") refl, tt)),
+          tt,
+          ((apart (codes "f") (codes "value") refl, tt), tt, (tt, h, tt)),
+        ),
+      ),
+    ),
+  ),
+)
+
+indexed_client : (i j : ℤ) (n : ℕ) (t : MapType) (f : Function) (v : Value) (d : Datum)
+    → spec.client_of (dictionary (indexed_with i j n t f d)) ≡ Some (client_map (map_with n t f 0 v) d)
+indexed_client i j n t f v d =
+    ap (λ y. client_with (Some n) y (Some (name_of f)) (Some 0) d) (type_is t)
+    ∙ ap (λ y. client_with_function y) (own_name f)
+  where
+    client_with_function : Option Function → Option spec.ClientMap
+    client_with_function g = Some (record { process = n; type = map_type t; function = g; object = 0; value = d })
+
+pub index_first_is : (i j : ℤ) (n : ℕ) (t : MapType) (f : Function) (v : Value)
+    (text own from_i after_i from_j after_j from_t after_t from_n after_n from_f after_f from_v after_v rest : List ℕ) → IsUtf8 text
+    → (text ≡ own) ⊎ (text ≡ 10 ∷ own) → own ≡ codes "{:index " ++ from_i → BeginWith (leaf (atom (integer i)) ∷ []) from_i after_i
+    → after_i ≡ codes ", :time " ++ from_j → BeginWith (leaf (atom (integer j)) ∷ []) from_j after_j
+    → after_j ≡ codes ", :type " ++ from_t → BeginWith (leaf (atom (keyword (type_name t))) ∷ []) from_t after_t
+    → after_t ≡ codes ", :process " ++ from_n → BeginWith (leaf (atom (integer (pos n))) ∷ []) from_n after_n
+    → after_n ≡ codes ", :f " ++ from_f → BeginWith (leaf (atom (keyword (name_of f))) ∷ []) from_f after_f
+    → after_f ≡ codes ", :value " ++ from_v → ReadsValue from_v v after_v → after_v ≡ codes "}" ++ rest
+    → ReadsUsual text (record { process = n; map_type = t; function = Some f; object = 0; value = Some v }) rest
+unfolding is_name
+index_first_is i j n t f v text own from_i after_i from_j after_j from_t after_t from_n after_n from_f after_f from_v after_v rest u feed qi bi qj bj qt bt qn bn qf bf qv value q =
+    let d : Datum = value.form in
+    let end : BeginWith (close_map ∷ []) after_v rest = here after_v rest close_map q in
+    let es_v : Entries = entry (codes "value") d no_entries in
+    let v1 = form_pair (codes "value") d no_entries after_f from_v after_v rest refl qv value.begins end in
+    let es_f : Entries = entry (codes "f") (atom (keyword (name_of f))) es_v in
+    let f1 = form_pair (codes "f") (atom (keyword (name_of f))) es_v after_n from_f after_f rest refl qf bf v1 in
+    let es_n : Entries = entry (codes "process") (atom (integer (pos n))) es_f in
+    let n1 = form_pair (codes "process") (atom (integer (pos n))) es_f after_t from_n after_n rest refl qn bn f1 in
+    let es_t : Entries = entry (codes "type") (atom (keyword (type_name t))) es_n in
+    let t1 = form_pair (codes "type") (atom (keyword (type_name t))) es_n after_j from_t after_t rest refl qt bt n1 in
+    let es_j : Entries = entry (codes "time") (atom (integer j)) es_t in
+    let j1 = form_pair (codes "time") (atom (integer j)) es_t after_i from_j after_j rest refl qj bj t1 in
+    let ts : List Token = entries_tokens es_j ++ close_map ∷ [] in
+    let i1 = first_field (codes "index") (leaf (atom (integer i))) ts own from_i rest refl qi (both_begin (leaf (atom (integer i)) ∷ []) ts from_i after_i rest bi j1) in
+    let all = after_feed open_map (leaf (atom (keyword (codes "index"))) ∷ leaf (atom (integer i)) ∷ ts) text own rest feed i1 in
+    let front = front_of text rest (dictionary (indexed_with i j n t f d)) u (indexed_fits i j n t f d value.fits) all in
+    record {
+      form = dictionary (indexed_with i j n t f d);
+      front = front.0;
+      utf8 = front.1;
+      says = (d, indexed_client i j n t f v d, value.plain);
+    }

@@ -1,4 +1,4 @@
-//! The parts of an operation map in the usual form, from the front of a text. What is written in
+//! The parts of an operation map in a usual form, from the front of a text. What is written in
 //! another way is none of them, though it may be well formed.
 
 ghost use Rattle.std.specs.Prelude.{◌≡◌, true, [], ◌∷◌, ◌++◌, codes, pos, IfSome};

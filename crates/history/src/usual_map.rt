@@ -1,4 +1,4 @@
-//! An operation map in the usual form, read from the front of a text by patterns of bytes.
+//! An operation map in one of the usual forms, read from the front of a text by patterns of bytes.
 
 ghost use Rattle.std.specs.Prelude.{◌≡◌, ◌⊎◌, ◌∷◌, IfSome};
 ghost use Rattle.std.specs.Str.{IsUtf8};
@@ -58,10 +58,9 @@ fn object_at(text: &[u8]) -> Option<(u32, &[u8])>
     Some((object, after_time(rest)?))
 }
 
-/// The operation map of a client at the front, and what follows it. Its keys are in the usual
-/// order, a comma and a space before each but the first. A map that is written in another way
-/// may be well formed, and is none here.
-pub fn usual_map(text: &[u8]) -> Option<(ClientMap, &[u8])>
+/// A map whose first key is the process, and what follows it.
+#[inline(always)]
+fn process_first(text: &[u8]) -> Option<(ClientMap, &[u8])>
     requires { IsUtf8 text.now }
     ensures { IfSome result (λ x. ReadsUsual text.entry.now x.0 x.1.now) }
 {
@@ -78,4 +77,40 @@ pub fn usual_map(text: &[u8]) -> Option<(ClientMap, &[u8])>
         value: Some(value),
     };
     Some((map, rest))
+}
+
+/// A map as Jepsen writes it, with the index and the time first, and what follows it.
+#[inline(always)]
+fn index_first(text: &[u8]) -> Option<(ClientMap, &[u8])>
+    requires { IsUtf8 text.now }
+    ensures { IfSome result (λ x. ReadsUsual text.entry.now x.0 x.1.now) }
+{
+    let (_, rest) = integer_at(after(after_line_feed(text), b"{:index ")?)?;
+    let (_, rest) = integer_at(after(rest, b", :time ")?)?;
+    let (map_type, rest) = type_at(after(rest, b", :type ")?)?;
+    let (process, rest) = natural_at(after(rest, b", :process ")?)?;
+    let (function, rest) = function_at(after(rest, b", :f ")?)?;
+    let (value, rest) = value_at(after(rest, b", :value ")?)?;
+    let rest = after(rest, b"}")?;
+    let map = ClientMap {
+        process,
+        map_type,
+        function: Some(function),
+        object: 0,
+        value: Some(value),
+    };
+    Some((map, rest))
+}
+
+/// The operation map of a client at the front, and what follows it. Its keys are in one of two
+/// orders, a comma and a space before each but the first. A map that is written in another way
+/// may be well formed, and is none here.
+pub fn usual_map(text: &[u8]) -> Option<(ClientMap, &[u8])>
+    requires { IsUtf8 text.now }
+    ensures { IfSome result (λ x. ReadsUsual text.entry.now x.0 x.1.now) }
+{
+    match process_first(text) {
+        Some(found) => Some(found),
+        None => index_first(text),
+    }
 }

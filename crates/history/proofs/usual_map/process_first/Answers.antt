@@ -1,5 +1,5 @@
 use Rattle.history.proofs.UsualForms.{usual_is}
-use Rattle.history.proofs.usual_map.usual_map.Goals as goal
+use Rattle.history.proofs.usual_map.process_first.Goals as goal
 
 pub returns : goal.returns
 returns c = usual_is c.in_ok-process.process c.in_ok-map_type.map_type c.in_ok-function.function c.in_ok-object.object c.in_ok-value.value
