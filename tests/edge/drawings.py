@@ -279,8 +279,8 @@ FALSIFIED_OLD_VALUE = (
 FALSIFIED_LONG_REASON = (
     ("Drawn: 200 of them. ", "Drawn: 199 of them. "),
     ("Drawn: 200 of them. ", ""),
-    ("these 1 400 operations", "these 200 operations"),
-    ("1 400 operations of 1 400: these alone", "200 operations of 1 400: these alone"),
+    ("these 5 200 operations", "these 200 operations"),
+    ("5 200 operations of 5 200: these alone", "200 operations of 5 200: these alone"),
     ("more lines", "more line"),
 )
 
@@ -290,7 +290,7 @@ def falsified():
     for stem, those in FALSIFIED.items():
         yield example(stem, stem == "wrong_reply"), those
     yield Case("a put finds an old value", texts.one_process(*dict(old_values())["a put"])), FALSIFIED_OLD_VALUE
-    yield Case("a reason of 1 400 operations", of_two_values(700, 1)), FALSIFIED_LONG_REASON
+    yield Case("a reason of 5 200 operations", of_two_values(2_600, 1)), FALSIFIED_LONG_REASON
 
 
 def falsified_pages(program, report):

@@ -223,7 +223,7 @@ def of_impossible():
         yield Case(f"{name} finds an old value", texts.one_process(*calls), says=("out_of_date",))
     yield Case("a value taken out 301 times", taken_again(300), says=("too_often",))
     yield Case("a reason of 100 operations of 40 processes", of_two_values(50, 40), says=("general",))
-    yield Case("a reason of 1 400 operations", of_two_values(700, 1), says=("general",))
+    yield Case("a reason of 5 200 operations", of_two_values(2_600, 1), says=("general",))
     yield Case("a reason of 1 400 operations of 40 processes", of_two_values(700, 40, "push", "pop"), says=("general",))
     yield Case("a racy queue of 400", played(("queue",), 400, 4, RacyQueue).text(), says=("too_often",))
     yield Case("a sharded queue of 240", played(("queue",), 240, 3, ShardedQueue).text(), says=("wrong_turn",))
