@@ -344,10 +344,30 @@ def processor_seconds(program, *words):
     return spent() - begun
 
 
+# How often draw takes the instructions of judge, at most, and how often its processor time, which is more since a drawing touches more memory, and to which other work adds.
+MOST_INSTRUCTIONS, MOST_TIMES = 1.2, 1.5
+# The fewest and the most runs of each by which the time is told.
+FEWEST_RUNS, MOST_RUNS = 5, 20
+
+
 def least_seconds(program, name):
-    """The least times of draw and of judge, of several runs in turn."""
-    runs = [(processor_seconds(program, "draw", name), processor_seconds(program, "judge", name)) for _ in range(7)]
-    return min(it for it, _ in runs), min(it for _, it in runs)
+    """The least times of draw and of judge, of several runs in turn. Other work on the machine only adds to a time, so there are more runs where draw is not fast enough."""
+    with_page, without = [], []
+    for number in range(MOST_RUNS):
+        if number >= FEWEST_RUNS and min(with_page) <= MOST_TIMES * min(without):
+            break
+        with_page.append(processor_seconds(program, "draw", name))
+        without.append(processor_seconds(program, "judge", name))
+    return min(with_page), min(without)
+
+
+def instructions_of(program, *words):
+    """How many instructions a run takes, as valgrind counts them."""
+    counted = f"{program.room}/counted"
+    valgrind = ["valgrind", "--tool=callgrind", f"--callgrind-out-file={counted}"]
+    subprocess.run([*valgrind, program.path, *words], cwd=program.room, stdout=subprocess.DEVNULL, stderr=subprocess.DEVNULL)
+    with open(counted, encoding="utf-8") as file:
+        return int(re.search(r"^(?:totals|summary): (\d+)", file.read(), re.M)[1])
 
 
 def large_cases():
@@ -390,14 +410,23 @@ def rounds_of_a_map(processes, maps):
     return made
 
 
-def seconds_of_drawings(program, report):
-    """A page takes at most 1.2 times the time of judge, of a queue, of a map, and of a queue without an order."""
-    queue, _ = rounds(10, 1_000_000)
-    histories_of = {"queue": queue, "map": rounds_of_a_map(10, 1_000_000), "impossible": with_value_twice(queue, 600_000)}
+def histories_of_cost(maps):
+    """A queue, a map, and a queue without an order, of n maps."""
+    queue, _ = rounds(10, maps)
+    return {"queue": queue, "map": rounds_of_a_map(10, maps), "impossible": with_value_twice(queue, maps * 3 // 5)}
+
+
+def cost_of_drawings(program, report):
+    """A page takes at most 1.2 times the instructions of judge, of a queue, of a map, and of a queue without an order; and its time is not much more."""
     told = []
-    for name, maps in histories_of.items():
+    for name, maps in histories_of_cost(100_000).items() if shutil.which("valgrind") else ():
+        file = program.write(f"{name}.{HISTORY}", texts.lines(*maps))
+        with_page, without = instructions_of(program, "draw", file), instructions_of(program, "judge", file)
+        report.holds(f"draw: {name}: it takes at most {MOST_INSTRUCTIONS} times the instructions of judge", with_page <= MOST_INSTRUCTIONS * without, (with_page, without))
+        told.append(f"{name} {with_page / without:.2f} times the instructions")
+    for name, maps in histories_of_cost(1_000_000).items():
         with_page, without = least_seconds(program, program.write(f"{name}.{HISTORY}", texts.lines(*maps)))
-        report.holds(f"draw: {name}: it takes at most 1.2 times the time of judge", with_page <= 1.2 * without, (with_page, without))
+        report.holds(f"draw: {name}: it takes at most {MOST_TIMES} times the time of judge", with_page <= MOST_TIMES * without, (with_page, without))
         told.append(f"{name} {with_page:.2f} of {without:.2f} s, {with_page / without:.2f} times")
     return "; ".join(told)
 
@@ -420,4 +449,4 @@ def example_pages(program, report):
     report.holds("draw: there are pages of examples", len(names) >= 4, names)
 
 
-PARTS = (drawn_pages, drawn_sentences, drawn_faults, falsified_pages, large_drawings, seconds_of_drawings, example_pages)
+PARTS = (drawn_pages, drawn_sentences, drawn_faults, falsified_pages, large_drawings, cost_of_drawings, example_pages)
