@@ -132,11 +132,11 @@ struct Earlier {
     kind: Kind,
 }
 
-/// What is wrong with a map of this process, as far as that needs no earlier operation to be named
-/// after it.
-fn clash_words(fault: HistoryFaultKind, process: Span, earlier: &Earlier) -> Option<[Span; 5]> {
+/// What is wrong with a map of this process that clashes with an earlier one, as far as that needs
+/// no operation to be named after it.
+fn clash_words(fault: HistoryFaultKind, process: Span, earlier: &Earlier) -> [Span; 5] {
     let operation = Span::Operation(earlier.operation);
-    let words = match fault {
+    match fault {
         HistoryFaultKind::Busy => [
             Span::Text(" invokes an operation of process "),
             process,
@@ -158,16 +158,15 @@ fn clash_words(fault: HistoryFaultKind, process: Span, earlier: &Earlier) -> Opt
             Span::number(earlier.number),
             Span::Text(" closed: "),
         ],
-        HistoryFaultKind::MixedKinds => [
+        // Of other kinds than these and mixed ones there is no earlier map.
+        _ => [
             Span::Text(" calls a function of another kind on an object that "),
             operation,
             Span::Text(" made a "),
             Span::Kind(earlier.kind),
             Span::Text("."),
         ],
-        _ => return None,
-    };
-    Some(words)
+    }
 }
 
 /// What is wrong with the map, where it has a process and an earlier operation.
@@ -183,7 +182,7 @@ fn clash(memory: &Memory, map: &Map<'_>, earlier: Option<&Earlier>) -> Option<Ve
         return Some(sentence);
     }
     let earlier = earlier?;
-    let words = clash_words(map.fault.kind, process, earlier)?;
+    let words = clash_words(map.fault.kind, process, earlier);
     memory.note(sentence.extend_from_slice(&words));
     if map.fault.kind == HistoryFaultKind::AfterInfo {
         let operation = Span::Operation(earlier.operation);
