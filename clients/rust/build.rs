@@ -18,6 +18,6 @@ fn main() {
         eprintln!("libfcbench.a is not in {}: {advice}", folder.display());
         process::exit(1);
     }
-    println!("cargo:rustc-link-search=native={}", folder.display());
+    println!("cargo:rustc-link-search=native={}", here.join(&folder).display());
     println!("cargo:rustc-link-lib=static=fcbench");
 }
