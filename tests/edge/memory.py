@@ -153,10 +153,14 @@ def is_other_page(program, words, whole, ran):
         return False
     if "--steps" not in words and len(words) > 2:
         return False
-    if ran.status == 1:
-        return is_other_reason(program, words, whole, told_by(ran))
     with open(f"{program.room}/{words[-1]}") as file:
-        return ran.status == 0 and sentences.why_order_false(Drawn(ran.out), file.read()) is None
+        history = file.read()
+    if ran.status == 1:
+        told = told_by(ran)
+        # Of many lines a page has the first ones: the reason itself is not on it.
+        begun, cut, _ = told.out.rpartition("\n… ".encode())
+        return reasons.is_begun(history, Ran(told.status, begun, told.err)) if cut else is_other_reason(program, words, whole, told)
+    return ran.status == 0 and sentences.why_order_false(Drawn(ran.out), history) is None
 
 
 def is_other_reason(program, words, whole, ran):

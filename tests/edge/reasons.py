@@ -250,6 +250,14 @@ def why_not_explained(program, history, ran):
     return None
 
 
+def is_begun(history, ran):
+    """Whether the first lines of a judgement that ends with 1 list operations of the history, where a page leaves the others out."""
+    found, others = explained_in(ran.out)
+    maps = maps_of(history)
+    told = [(on, TOLD.fullmatch(line)) for on, operations, _ in found for line in operations]
+    return ran.status == 1 and not others and bool(told) and all(it and is_of_history(maps, it, on) for on, it in told)
+
+
 def explanations(program, report):
     """Where judge says that an object is impossible, the operations that it tells are of the history and have no valid order."""
     cases = [(name, history, options) for name, history, *options in rows.NOT_LINEARIZABLE]
