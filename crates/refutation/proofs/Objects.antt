@@ -17,7 +17,7 @@ use Rattle.projection.specs.Cuts.{NamesPart}
 use Rattle.refutation.specs.declared.reason.Reason.{Reason}
 use Rattle.refutation.specs.declared.refuting.Refutation.{Refutation}
 use Rattle.refutation.specs.declared.refuting.Refutation.TheVariants.{Impossible, NotShown, NoPart, OtherObject}
-use Rattle.refutation.specs.Refutations.{is_impossible, IfPart, IfNotShown, IsDoubt, IsNamedPart, IsAnswerOn, IsAnswer}
+use Rattle.refutation.specs.Refutations.{is_impossible, IfPart, IfImpossible, IfNotShown, IsDoubt, IsNamedPart, HasNoValidOrder, IsAnswerOn, IsAnswer}
 
 pub none_among : (es : List Event) (objects : List ObjectCalls) → All (λ o. o.kind ≡ kind_at es o.object) objects → All (λ o. calls_of o.ops ≡ calls_on o.object (denoted es)) objects
     → ((kinds : ℕ → Kind) (h : List Numbered) → IsHistory h → IsLinearizable kinds (events h) → (x : ℕ) → HasValidOrder kinds h x)
@@ -59,21 +59,22 @@ refutes Not answers all some = all some.1 (in_from_contains answers some.1 (some
 pub answered : (objects : List ObjectCalls) (i : ℕ) (o : ObjectCalls) (reason : Reason) (answer : Result Refutation AllocError) → i < length objects
     → o ≡ get_or objects i o → o.object ≡ reason.object → IfOk answer (λ r. is_impossible r ≡ true → IsNoneValid o.kind (calls_of o.ops))
     → IfOk answer (λ r. IfPart r (IsNamedPart reason.cuts.items o.object o.kind (calls_of o.ops)))
-    → IfOk answer (λ r. IfNotShown r (IsDoubt reason.evidence))
+    → IfOk answer (λ r. IfImpossible r HasNoValidOrder) → IfOk answer (λ r. IfNotShown r (IsDoubt reason.evidence))
     → IfOk answer (λ r. r ≡ NoPart → (part : List Call) → NamesPart reason.cuts.items (calls_of o.ops) part → ⊥)
     → IfOk answer (λ r. r ≢ OtherObject → (p : ObjectCalls) × Contains objects p × (p.object ≡ reason.object) × IsAnswerOn p.kind (calls_of p.ops) reason r)
-answered objects i o reason (Ok r) lt is e none part doubt refused = λ own. (
+answered objects i o reason (Ok r) lt is e none part shown doubt refused = λ own. (
   o,
   (i, lt, sym is),
   e,
   record {
     impossible = none;
     part = subst (λ x. IfPart r (IsNamedPart reason.cuts.items x o.kind (calls_of o.ops))) e part;
+    shown = shown;
     not_shown = doubt;
     no_part = refused;
   },
 )
-answered objects i o reason (Err x) lt is e none part doubt refused = tt
+answered objects i o reason (Err x) lt is e none part shown doubt refused = tt
 
 -- it is not that the reason is of another object
 pub own_number : (objects : List ObjectCalls) (o : ObjectCalls) (x : ℕ) (answer : Result Refutation AllocError) → o.object ≡ x
@@ -118,7 +119,7 @@ answer_is es objects reason r kinds calls named on other = go r refl
     go NoPart e = whole (λ q. absurd (cc (e, q)))
     go OtherObject e = record {
       on = subst (IsAnswerOn (kind_at es reason.object) (calls_on reason.object (denoted es)) reason) (sym e)
-          (record { impossible = λ q. absurd (unlike q); part = tt; not_shown = tt; no_part = λ q. absurd (cc q) });
+          (record { impossible = λ q. absurd (unlike q); part = tt; shown = tt; not_shown = tt; no_part = λ q. absurd (cc q) });
       other_object = unknown;
       own_object = known;
     }

@@ -32,6 +32,13 @@ is_impossible (refutation.NotShown part doubt) = false
 is_impossible refutation.NoPart = false
 is_impossible refutation.OtherObject = false
 
+-- where it is shown that no order is valid, this holds of the part
+abbrev pub IfImpossible : Refutation → (ObjectCalls → Type 0) → Type 0
+IfImpossible (refutation.Impossible part) P = P part
+IfImpossible (refutation.NotShown part doubt) P = ⊤
+IfImpossible refutation.NoPart P = ⊤
+IfImpossible refutation.OtherObject P = ⊤
+
 -- where it is not shown, this holds of the part and of why
 abbrev pub IfNotShown : Refutation → (ObjectCalls → Doubt → Type 0) → Type 0
 IfNotShown (refutation.Impossible part) P = ⊤
@@ -58,6 +65,10 @@ IsDoubt evidence part OutOfSteps = IsSearch evidence
 IsDoubt evidence part NoMemory =
     IsSearch evidence × Any (λ call. IsSome call.returned) (calls_of part.ops)
 
+-- no order of the part's operations is valid
+abbrev pub HasNoValidOrder : ObjectCalls → Type 0
+HasNoValidOrder part = IsNoneValid part.kind (calls_of part.ops)
+
 -- A part with the calls that the cuts name of the calls of an object, x, of this kind. Failed
 -- operations are no calls: which of them are in the part is free.
 pub record IsNamedPart (cuts : List Cut) (x : ℕ) (whole : Kind) (calls : List Call)
@@ -73,6 +84,8 @@ pub record IsAnswerOn (kind : Kind) (calls : List Call) (reason : Reason)
   pub impossible : is_impossible answer ≡ true → IsNoneValid kind calls
   -- what is handed out is a part with the calls that the reason names
   pub part : IfPart answer (IsNamedPart reason.cuts.items reason.object kind calls)
+  -- it is impossible only where no order of that part is valid
+  pub shown : IfImpossible answer HasNoValidOrder
   pub not_shown : IfNotShown answer (IsDoubt reason.evidence)
   pub no_part : answer ≡ refutation.NoPart → (part : List Call)
       → NamesPart reason.cuts.items calls part → ⊥

@@ -5,8 +5,8 @@ ghost use Rattle.model.specs.Orders.{Call};
 ghost use Rattle.events.specs.Operations.{calls_of};
 ghost use Rattle.order_search.specs.Outcomes.{IsNoneValid};
 ghost use Rattle.projection.specs.Cuts.{NamesPart};
-ghost use Rattle.refutation.specs.Refutations.{is_impossible, IfNotShown, IfPart, IsDoubt};
-ghost use Rattle.refutation.specs.Refutations.{IsNamedPart};
+ghost use Rattle.refutation.specs.Refutations.{is_impossible, IfImpossible, IfNotShown};
+ghost use Rattle.refutation.specs.Refutations.{IfPart, IsDoubt, IsNamedPart, HasNoValidOrder};
 
 use crate::reason::{Evidence, Reason};
 use events::ObjectHistory;
@@ -92,6 +92,8 @@ pub fn refute(
     // What is handed out is the part that the reason names.
     ensures part { IfOk result (λ r. IfPart r (IsNamedPart reason.now.cuts.items
         history.now.object history.now.kind (calls_of history.now.ops))) }
+    // Impossible is answered only where no order of that part is valid.
+    ensures shown { IfOk result (λ r. IfImpossible r HasNoValidOrder) }
     ensures not_shown { IfOk result (λ r. IfNotShown r (IsDoubt reason.now.evidence)) }
     ensures no_part { IfOk result (λ r. r ≡ Refutation.NoPart → (part : List Call)
         → NamesPart reason.now.cuts.items (calls_of history.now.ops) part → ⊥) }

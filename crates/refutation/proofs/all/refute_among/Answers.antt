@@ -15,7 +15,7 @@ loop-object-preserved c =
 pub returns-then-object-reason : goal.returns-then-object-reason
 returns-then-object-reason c = record {
   on = answered c.args.objects.now c.loop-object.object-index c.object-item.result c.args.reason.now c.refute.result c.loop-object-test.true
-      c.object-item.is (sym c.object.ensures ∙ c.if-object-reason.true) c.refute.ensures.impossible c.refute.ensures.part c.refute.ensures.not_shown c.refute.ensures.no_part;
+      c.object-item.is (sym c.object.ensures ∙ c.if-object-reason.true) c.refute.ensures.impossible c.refute.ensures.part c.refute.ensures.shown c.refute.ensures.not_shown c.refute.ensures.no_part;
   other_object = own_number c.args.objects.now c.object-item.result c.args.reason.now.object c.refute.result (sym c.object.ensures ∙ c.if-object-reason.true) c.refute.ensures.other_object;
 }
 
