@@ -3,30 +3,12 @@
 //! hands it out.
 //!
 //! A pattern is a fact about the whole history that no valid order allows, as a value that is taken
-//! twice and put in once. The patterns are looked for in some n log n steps of n operations. They
-//! do not find each reason.
+//! twice and put in once. The patterns do not find each reason.
 #![tactic(auto)]
 
-mod candidates;
-mod cells;
-mod extracts;
-mod intervals;
-mod mutex;
-mod pairs;
-mod patterns;
-mod plans;
 mod proposing;
-mod refusals;
-mod runs;
 mod shrinking;
-mod sights;
-mod singles;
-mod takers;
-mod trees;
 mod value_pairs;
 mod wholes;
-mod windows;
-mod zones;
 
-pub use patterns::Pattern;
 pub use proposing::{Proposal, propose};

@@ -1,20 +1,13 @@
 //! The search for reasons: the patterns, the smallest first, and each made smaller.
 
-use crate::candidates::Candidate;
-use crate::cells::add_cells;
-use crate::extracts::add_extracts;
-use crate::intervals::{add_empties, intervals_of};
-use crate::mutex::add_mutex;
-use crate::pairs::{add_queue_pairs, add_stack_pairs};
-use crate::patterns::Pattern;
-use crate::plans::{Element, Plan};
-use crate::runs::runs_in;
 use crate::shrinking::{Judge, tells};
-use crate::singles::add_singles;
 use crate::value_pairs::value_pairs_of;
 use crate::wholes::add_wholes;
+use cell_reasons::{add_cells, add_mutex};
+use container_reasons::add_containers;
 use events::{End, ObjectHistory};
 use projection::{Cut, part_by};
+use reason_plans::{Candidate, Element, Pattern, Plan};
 use refutation::{Reason, Refutation, refute};
 use seq_objects::Kind;
 use std::alloc::{AllocError, Global};
@@ -62,25 +55,6 @@ struct Sized {
     size: usize,
 }
 
-/// The candidates of a queue, stack or heap.
-fn add_container(
-    alloc: Global,
-    kind: Kind,
-    timeline: &Timeline,
-    candidates: &mut Vec<Candidate>,
-) -> Result<(), AllocError> {
-    let runs = runs_in(alloc, timeline)?;
-    let intervals = intervals_of(alloc, &runs)?;
-    add_singles(alloc, &runs, candidates)?;
-    add_empties(alloc, &runs, &intervals, candidates)?;
-    match kind {
-        Kind::Queue => add_queue_pairs(alloc, &runs, candidates),
-        Kind::Stack => add_stack_pairs(alloc, &runs, candidates),
-        Kind::Heap => add_extracts(alloc, &runs, &intervals, candidates),
-        _ => Ok(()),
-    }
-}
-
 /// The candidates by patterns, the lightest first.
 fn candidates_of(
     alloc: Global,
@@ -90,7 +64,7 @@ fn candidates_of(
     let mut candidates = Vec::new(alloc);
     match kind {
         Kind::Queue | Kind::Stack | Kind::Heap => {
-            add_container(alloc, kind, timeline, &mut candidates)?
+            add_containers(alloc, kind, timeline, &mut candidates)?
         }
         Kind::Register | Kind::Map => add_cells(alloc, timeline, &mut candidates)?,
         Kind::Mutex => add_mutex(alloc, timeline, &mut candidates)?,

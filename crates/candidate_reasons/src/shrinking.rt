@@ -1,7 +1,7 @@
 //! Plans made smaller, each step confirmed by the check of reasons.
 
-use crate::plans::{Element, Plan};
 use events::{End, ObjectHistory};
+use reason_plans::{Element, Plan};
 use refutation::{Refutation, refute};
 use seq_objects::{AnyOp, AnyReply};
 use std::alloc::{AllocError, Global};

@@ -1,9 +1,7 @@
 //! Pairs of values of a queue, stack or heap in which values repeat. Where no pattern leads to a
 //! reason all that was done with two values is kept, and is made smaller if it has no valid order.
 
-use crate::candidates::{Candidate, of_container};
-use crate::patterns::Pattern;
-use crate::plans::{Element, Plan};
+use reason_plans::{Candidate, Element, Pattern, Plan};
 use seq_objects::{AnyOp, Kind};
 use std::alloc::{AllocError, Global};
 use timed_calls::{TimedCall, Timeline};
@@ -38,7 +36,7 @@ fn candidate_of(alloc: Global, value: i64, other: i64) -> Result<Candidate, Allo
     let mut elements = Vec::new(alloc);
     elements.push(Element::Value(value))?;
     elements.push(Element::Value(other))?;
-    Ok(of_container(Pattern::General, Plan::of(elements), 2))
+    Ok(Candidate::without_key(Pattern::General, Plan::of(elements), 2))
 }
 
 /// The candidates of some pairs: those that are next to each other in rising order, then those of

@@ -1,9 +1,7 @@
 //! Plans that keep everything of an object of few operations, or of a map's key: where no pattern
 //! leads to a reason, such a plan is made smaller.
 
-use crate::candidates::Candidate;
-use crate::patterns::Pattern;
-use crate::plans::{Element, Plan};
+use reason_plans::{Candidate, Element, Pattern, Plan};
 use seq_objects::{AnyOp, AnyReply, Kind};
 use std::alloc::{AllocError, Global};
 use std::collections::BTreeSet;

@@ -10,12 +10,12 @@ ghost use Rattle.deciding.specs.Decisions.{IsDecision, limit_of};
 
 use crate::decision::Decision;
 use candidate_orders::open_keys;
-use candidate_reasons::Pattern;
 use events::ObjectHistory;
 use finder::{FindOutcome, find_by_kind};
 use order_search::call_count;
 use projection::part_by;
 use reason_finder::{FoundReason, find_reason, find_reason_on};
+use reason_plans::Pattern;
 use refutation::{Evidence, Reason};
 use search::{Search, SearchOutcome, TryFirst, search_of_any_size};
 use std::alloc::{AllocError, Global};

@@ -11,7 +11,6 @@
 //! and `write_reasons` writes.
 #![tactic(auto)]
 
-pub use candidate_reasons::Pattern;
 pub use certificate::{CertFault, CertFaultKind, Certificate, write_certificates};
 pub use checker::{OrderFault, Refusal};
 pub use deciding::{Decision, decide_all};
@@ -21,6 +20,7 @@ pub use history::{HistoryFault, HistoryFaultKind, TextFault, read_history_text};
 pub use judging::judge;
 pub use projection::{Count, Counted, Cut, Values};
 pub use reason_finder::FoundReason;
+pub use reason_plans::Pattern;
 pub use reason_text::{
     ReasonFault, ReasonFaultKind, ReasonTextFault, read_reasons_text, write_reasons,
 };

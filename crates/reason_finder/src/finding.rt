@@ -6,10 +6,11 @@ ghost use Rattle.order_search.specs.Outcomes.{IsNoneValid};
 ghost use Rattle.projection.specs.Cuts.{IsPart, NamesPart, part_kind};
 ghost use Rattle.reason_finder.specs.Reasons.{IsReasonFor, IsShownBy};
 
-use candidate_reasons::{Pattern, propose};
+use candidate_reasons::propose;
 use events::{End, Invocation, ObjectHistory};
 use order_search::{Outcome, TryFirst, find_order_of_any_size};
 use projection::{Cut, Values, is_overdrawn, part_by};
+use reason_plans::Pattern;
 use refutation::{Evidence, Reason};
 use seq_objects::AnyOp;
 use std::alloc::{AllocError, Global};

@@ -7,8 +7,8 @@ use Rattle.model.specs.declared.Kind.TheVariants.{Queue, Stack, Heap, Register, 
 use Rattle.seq_objects.specs.Functions.{word_of}
 use Rattle.projection.specs.declared.counting.Counted.{Counted}
 use Rattle.projection.specs.declared.counting.Counted.TheVariants as counted
-use Rattle.candidate_reasons.specs.declared.patterns.Pattern.{Pattern}
-use Rattle.candidate_reasons.specs.declared.patterns.Pattern.TheVariants as pattern
+use Rattle.reason_plans.specs.declared.patterns.Pattern.{Pattern}
+use Rattle.reason_plans.specs.declared.patterns.Pattern.TheVariants as pattern
 use Rattle.reason_report.specs.Pieces.{times_text}
 
 -- ---- words

@@ -6,8 +6,8 @@ ghost use Rattle.reason_report.specs.Sentences as spec;
 
 use crate::pieces::{Piece, push_pieces};
 use crate::words::{kind_word, put_word, seen_word, taken_word};
-use candidate_reasons::Pattern;
 use projection::Counted;
+use reason_plans::Pattern;
 use seq_objects::Kind;
 use std::alloc::AllocError;
 

@@ -5,7 +5,7 @@ ghost use Rattle.reason_report.specs.Sentences.{key_text, sentence_line};
 
 use crate::patterns::push_pattern;
 use crate::pieces::{Piece, push_pieces};
-use candidate_reasons::Pattern;
+use reason_plans::Pattern;
 use seq_objects::Kind;
 use std::alloc::AllocError;
 

@@ -1,11 +1,11 @@
 //! The lines of reasons and of their operations, where no command writes them, and where memory is
 //! refused.
 
-use candidate_reasons::Pattern;
 use edn::{Out, WriteFault, read_forms};
 use events::split;
 use history::read_history_text;
 use projection::{Counted, Cut, part_by};
+use reason_plans::Pattern;
 use reason_report::{push_operations, push_reason, push_sentence};
 use reason_text::{ReasonFault, ReasonFaultKind, read_reasons, write_reasons};
 use refutation::Reason;

@@ -1,9 +1,8 @@
 //! Two values of a cell that are set once each, and each of which surely is there before the other
 //! one is.
 
-use crate::candidates::Candidate;
 use crate::cells::{MOST, Scene, cell_plan, of_cell};
-use crate::patterns::Pattern;
+use reason_plans::{Candidate, Pattern};
 use std::alloc::{AllocError, Global};
 use timed_calls::{Access, CellCalls, NOTHING, Need, TimedCall};
 

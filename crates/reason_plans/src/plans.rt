@@ -11,7 +11,7 @@ use std::collections::BTreeSet;
 /// What a plan keeps: a value, at a map a key, or an operation that can be kept or left out, by its
 /// number.
 #[derive(Clone, Copy)]
-pub(crate) enum Element {
+pub enum Element {
     Value(i64),
     /// A value of a queue, stack or heap, without what was done with it before this number, where
     /// it surely was not in.
@@ -23,18 +23,18 @@ pub(crate) enum Element {
 /// operations alone. Where there is a `key` it is that of a map, of which an entry is kept: the
 /// values are those under the key.
 #[derive(Drop)]
-pub(crate) struct Plan {
-    pub(crate) key: Option<i64>,
-    pub(crate) from: Option<u32>,
-    pub(crate) until: Option<u32>,
-    pub(crate) all_values: bool,
-    pub(crate) elements: Vec<Element>,
-    pub(crate) evidence: Evidence,
+pub struct Plan {
+    pub key: Option<i64>,
+    pub from: Option<u32>,
+    pub until: Option<u32>,
+    pub all_values: bool,
+    pub elements: Vec<Element>,
+    pub evidence: Evidence,
 }
 
 /// How an operation is to the part of a plan.
 #[derive(Clone, Copy)]
-pub(crate) enum Role {
+enum Role {
     Kept,
     Optional,
     LeftOut,
@@ -159,7 +159,7 @@ fn is_settled(values: &Values, operations: &[Invocation]) -> bool {
 
 impl Plan {
     /// The plan that keeps everything that these elements name, and decides by a search.
-    pub(crate) fn of(elements: Vec<Element>) -> Plan {
+    pub fn of(elements: Vec<Element>) -> Plan {
         Plan {
             key: None,
             from: None,
@@ -290,7 +290,9 @@ impl Plan {
     }
 
     /// The cuts that keep the values and operations of a queue, stack, heap or map.
-    pub(crate) fn push_keeping(
+    ///
+    /// An error: the allocator refused memory.
+    pub fn push_keeping(
         &self,
         alloc: Global,
         history: &ObjectHistory,
@@ -306,7 +308,9 @@ impl Plan {
     }
 
     /// The cuts that make the part, of this history.
-    pub(crate) fn push_cuts(
+    ///
+    /// An error: the allocator refused memory.
+    pub fn push_cuts(
         &self,
         alloc: Global,
         history: &ObjectHistory,
@@ -330,11 +334,9 @@ impl Plan {
     }
 
     /// The reason that the plan makes of this history.
-    pub(crate) fn reason(
-        &self,
-        alloc: Global,
-        history: &ObjectHistory,
-    ) -> Result<Reason, AllocError> {
+    ///
+    /// An error: the allocator refused memory.
+    pub fn reason(&self, alloc: Global, history: &ObjectHistory) -> Result<Reason, AllocError> {
         let mut cuts = Vec::new(alloc);
         self.push_cuts(alloc, history, &mut cuts)?;
         Ok(Reason {

@@ -1,9 +1,9 @@
 //! Two values of a queue or stack in the wrong order, each put in once.
 
-use crate::candidates::{Candidate, of_container, plan_of_runs};
-use crate::patterns::Pattern;
+use crate::chains::plan_of_runs;
 use crate::runs::Runs;
-use crate::trees::{Greatest, Mark, NONE};
+use range_trees::{Greatest, Mark, NONE};
+use reason_plans::{Candidate, Pattern};
 use std::alloc::{AllocError, Global};
 use timed_calls::PENDING;
 
@@ -94,7 +94,7 @@ fn queue_candidate(
             second: second_value,
         }
     };
-    Ok(of_container(pattern, plan, 4))
+    Ok(Candidate::without_key(pattern, plan, 4))
 }
 
 /// The candidate of two values, of which the first is taken too early from a stack.
@@ -118,7 +118,7 @@ fn stack_candidate(
             second: second_value,
         }
     };
-    Ok(of_container(pattern, plan, 4))
+    Ok(Candidate::without_key(pattern, plan, 4))
 }
 
 /// Raises the mark to the one among these pairs that leaves last, of those whose put has returned

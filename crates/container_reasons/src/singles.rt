@@ -1,10 +1,10 @@
 //! Patterns of one value in a queue, stack or heap: it is taken more often, or earlier, than it is
 //! put in.
 
-use crate::candidates::{Candidate, of_container, plan_of_runs};
-use crate::patterns::Pattern;
+use crate::chains::plan_of_runs;
 use crate::runs::{Run, Runs};
 use projection::{Count, Counted};
+use reason_plans::{Candidate, Pattern};
 use refutation::Evidence;
 use std::alloc::{AllocError, Global};
 use timed_calls::TimedCall;
@@ -80,7 +80,7 @@ pub(crate) fn add_singles(
             counted: Counted::Value(run.value),
             from: 0,
         });
-        candidates.push(of_container(pattern, plan, run.size()))?;
+        candidates.push(Candidate::without_key(pattern, plan, run.size()))?;
         found = found.saturating_add(1);
         if found >= MOST {
             break;

@@ -1,12 +1,10 @@
 //! Patterns of the cells of registers and maps.
 
-use crate::candidates::Candidate;
-use crate::patterns::Pattern;
-use crate::plans::{Element, Plan};
 use crate::refusals::add_refusals;
 use crate::sights::{Setters, Sight, Sights};
 use crate::takers::{add_excesses, add_windows};
 use crate::zones::add_zones;
+use reason_plans::{Candidate, Element, Pattern, Plan};
 use std::alloc::{AllocError, Global};
 use timed_calls::{Access, CellCalls, NOTHING, Need, TimedCall, Timeline, cells_of};
 
@@ -223,8 +221,10 @@ fn add_cell(
     add_windows(alloc, &scene, candidates)
 }
 
-/// The candidates of a register or map.
-pub(crate) fn add_cells(
+/// Adds the candidates of a register or map.
+///
+/// An error: the allocator refused memory.
+pub fn add_cells(
     alloc: Global,
     timeline: &Timeline,
     candidates: &mut Vec<Candidate>,

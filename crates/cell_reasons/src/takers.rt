@@ -1,10 +1,9 @@
 //! Contents of a cell that are taken away more often than they are set.
 
-use crate::candidates::Candidate;
 use crate::cells::{MOST, MOST_NAMED, Scene, cell_plan, of_cell};
-use crate::patterns::Pattern;
 use crate::windows::{CountStart, shortest_window, starts_in, takers_in};
 use projection::{Count, Counted};
+use reason_plans::{Candidate, Pattern};
 use refutation::Evidence;
 use seq_objects::AnyOp;
 use std::alloc::{AllocError, Global};

@@ -1,95 +1,7 @@
-//! Trees over lists: the greatest of a range.
+//! Counts at places, with changes of all places before one.
 
+use crate::shape::shape;
 use std::alloc::{AllocError, Global};
-
-/// A moment, and the place of what it belongs to.
-#[derive(Clone, Copy)]
-pub(crate) struct Mark {
-    pub(crate) at: u32,
-    pub(crate) place: usize,
-}
-
-impl Mark {
-    /// The later one of two.
-    pub(crate) fn greater(self, other: Mark) -> Mark {
-        if other.at > self.at { other } else { self }
-    }
-}
-
-/// The least mark, which stands for none.
-pub(crate) const NONE: Mark = Mark { at: 0, place: 0 };
-
-/// The shape of a binary tree with at least this many leaves: their number, and how far they are
-/// from the root.
-pub(crate) fn shape(leaves: usize) -> (usize, u32) {
-    let mut width: usize = 1;
-    let mut depth: u32 = 0;
-    for _ in 0..40u8 {
-        if width >= leaves {
-            break;
-        }
-        width = width.saturating_mul(2);
-        depth = depth.saturating_add(1);
-    }
-    (width, depth)
-}
-
-/// Marks at places, with the greatest of each part of a tree over them.
-#[derive(Drop)]
-pub(crate) struct Greatest {
-    width: usize,
-    depth: u32,
-    nodes: Vec<Mark>,
-}
-
-impl Greatest {
-    pub(crate) fn new(alloc: Global, places: usize) -> Result<Greatest, AllocError> {
-        let (width, depth) = shape(places);
-        Ok(Greatest {
-            width,
-            depth,
-            nodes: vec![in alloc; NONE; width.saturating_mul(2)]?,
-        })
-    }
-
-    fn at(&self, node: usize) -> Mark {
-        self.nodes.get(node).copied().unwrap_or(NONE)
-    }
-
-    /// Raises the mark at this place, and above it.
-    pub(crate) fn raise(&mut self, place: usize, mark: Mark) {
-        let mut node = place.saturating_add(self.width);
-        for _ in 0..=self.depth {
-            if let Some(at) = self.nodes.get_mut(node) {
-                *at = at.greater(mark);
-            }
-            node /= 2;
-        }
-    }
-
-    /// The greatest of the marks at `from <= place < to`.
-    pub(crate) fn greatest(&self, from: usize, to: usize) -> Mark {
-        let mut left = from.saturating_add(self.width);
-        let mut right = to.saturating_add(self.width);
-        let mut greatest = NONE;
-        for _ in 0..64u8 {
-            if left >= right {
-                break;
-            }
-            if left % 2 == 1 {
-                greatest = greatest.greater(self.at(left));
-                left = left.saturating_add(1);
-            }
-            if right % 2 == 1 {
-                right = right.saturating_sub(1);
-                greatest = greatest.greater(self.at(right));
-            }
-            left /= 2;
-            right /= 2;
-        }
-        greatest
-    }
-}
 
 /// The counts of some places that are side by side: what was added at them, and the greatest of
 /// what was added at one and those after it.
@@ -124,7 +36,7 @@ impl Sums {
 
 /// A count at each place, with changes of all places before one.
 #[derive(Drop)]
-pub(crate) struct Most {
+pub struct Most {
     width: usize,
     depth: u32,
     /// For each part of a tree over the places.
@@ -134,7 +46,10 @@ pub(crate) struct Most {
 }
 
 impl Most {
-    pub(crate) fn new(alloc: Global, places: usize) -> Result<Most, AllocError> {
+    /// The count 0 at each of this many places.
+    ///
+    /// An error: the allocator refused memory.
+    pub fn new(alloc: Global, places: usize) -> Result<Most, AllocError> {
         let (width, depth) = shape(places);
         let mut most = Most {
             width,
@@ -168,12 +83,12 @@ impl Most {
     }
 
     /// Adds to the counts of all places.
-    pub(crate) fn add(&mut self, change: i64) {
+    pub fn add(&mut self, change: i64) {
         self.everywhere = self.everywhere.saturating_add(change);
     }
 
     /// Adds to the counts of the places before this one.
-    pub(crate) fn add_before(&mut self, place: usize, change: i64) {
+    pub fn add_before(&mut self, place: usize, change: i64) {
         let Some(last) = place.checked_sub(1) else {
             return;
         };
@@ -186,7 +101,7 @@ impl Most {
     }
 
     /// The last place whose count is at least this.
-    pub(crate) fn last_at_least(&self, least: i64) -> Option<usize> {
+    pub fn last_at_least(&self, least: i64) -> Option<usize> {
         let mut least = least.saturating_sub(self.everywhere);
         let mut node: usize = 1;
         if self.at(node).most < least {

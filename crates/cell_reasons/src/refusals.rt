@@ -1,9 +1,7 @@
 //! Swaps of a register that are refused while the value that they expect surely is there.
 
-use crate::candidates::Candidate;
 use crate::cells::{MOST, Scene, of_cell};
-use crate::patterns::Pattern;
-use crate::plans::{Element, Plan};
+use reason_plans::{Candidate, Element, Pattern, Plan};
 use std::alloc::{AllocError, Global};
 use timed_calls::{Access, CellCalls, Need, PENDING, TimedCall};
 

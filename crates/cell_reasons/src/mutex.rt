@@ -1,11 +1,9 @@
 //! Mutexes: in a window of time one is acquired, or released, more often than it can have been
 //! free, or held.
 
-use crate::candidates::{Candidate, of_container};
-use crate::patterns::Pattern;
-use crate::plans::Plan;
 use crate::windows::{CountStart, shortest_window, starts_in, takers_in};
 use projection::{Count, Counted};
+use reason_plans::{Candidate, Pattern, Plan};
 use refutation::Evidence;
 use seq_objects::AnyOp;
 use std::alloc::{AllocError, Global};
@@ -40,7 +38,7 @@ fn window_candidate(
         from: start.count,
     });
     let weight = inside.len().saturating_mul(2);
-    of_container(Pattern::CountExceeded(counted), plan, weight)
+    Candidate::without_key(Pattern::CountExceeded(counted), plan, weight)
 }
 
 /// The candidates of a window in which the takers take the content away too often.
@@ -62,8 +60,10 @@ fn add_window(
     Ok(())
 }
 
-/// The windows in which a mutex is acquired, or released, too often.
-pub(crate) fn add_mutex(
+/// Adds the windows in which a mutex is acquired, or released, too often.
+///
+/// An error: the allocator refused memory.
+pub fn add_mutex(
     alloc: Global,
     timeline: &Timeline,
     candidates: &mut Vec<Candidate>,

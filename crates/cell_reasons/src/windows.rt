@@ -1,6 +1,6 @@
 //! Windows of time in which a content is taken away more often than it can have been there.
 
-use crate::trees::Most;
+use range_trees::Most;
 use std::alloc::{AllocError, Global};
 use timed_calls::{PENDING, TimedCall};
 

@@ -1,10 +1,10 @@
 //! Times in which a value surely is in a queue, stack or heap, and calls that find nothing though
 //! at each moment of theirs some value surely is in.
 
-use crate::candidates::{Candidate, of_container, plan_of_runs};
-use crate::patterns::Pattern;
+use crate::chains::plan_of_runs;
 use crate::runs::{Run, Runs};
-use crate::trees::{Mark, NONE};
+use range_trees::{Mark, NONE};
+use reason_plans::{Candidate, Pattern};
 use std::alloc::{AllocError, Global};
 use timed_calls::{PENDING, TimedCall};
 
@@ -262,7 +262,7 @@ pub(crate) fn add_empties(
         let plan = plan_of_runs(alloc, runs, &chain, &[call], call.until())?;
         let number = call.number;
         let pattern = Pattern::SurelyNotEmpty { number };
-        candidates.push(of_container(pattern, plan, weight.saturating_add(1)))?;
+        candidates.push(Candidate::without_key(pattern, plan, weight.saturating_add(1)))?;
     }
     Ok(())
 }

@@ -1,20 +1,9 @@
-//! Candidates: a pattern that was found, and the plan of a reason that it makes.
+//! Chains: the plans that keep the values of some runs.
 
-use crate::patterns::Pattern;
-use crate::plans::{Element, Plan};
 use crate::runs::{Run, Runs};
+use reason_plans::{Element, Plan};
 use std::alloc::{AllocError, Global};
 use timed_calls::TimedCall;
-
-/// A pattern that was found, at a map with its key, and the plan of a reason. The weight tells
-/// roughly how many operations the plan keeps.
-#[derive(Drop)]
-pub(crate) struct Candidate {
-    pub(crate) pattern: Pattern,
-    pub(crate) key: Option<i64>,
-    pub(crate) plan: Plan,
-    pub(crate) weight: usize,
-}
 
 /// A value with at most this many calls is kept whole.
 const FEW_CALLS: usize = 8;
@@ -77,14 +66,4 @@ pub(crate) fn plan_of_runs(
     let mut plan = Plan::of(elements);
     plan.until = Some(until);
     Ok(plan)
-}
-
-/// The candidate of a container's pattern.
-pub(crate) fn of_container(pattern: Pattern, plan: Plan, weight: usize) -> Candidate {
-    Candidate {
-        pattern,
-        key: None,
-        plan,
-        weight,
-    }
 }

@@ -1,11 +1,11 @@
 //! Extracts of a heap under smaller values: at each moment at which the value can have been taken a
 //! smaller one surely is in.
 
-use crate::candidates::{Candidate, of_container, plan_of_runs, values_of};
+use crate::chains::{plan_of_runs, values_of};
 use crate::intervals::{Interval, weight_of};
-use crate::patterns::Pattern;
 use crate::runs::Runs;
-use crate::trees::{Greatest, Mark};
+use range_trees::{Greatest, Mark};
+use reason_plans::{Candidate, Pattern};
 use std::alloc::{AllocError, Global};
 use timed_calls::TimedCall;
 
@@ -154,7 +154,7 @@ pub(crate) fn add_extracts(
         let values = values_of(alloc, runs, &covered.chain)?;
         let pattern = pattern_of(covered.value, &values);
         let plan = plan_of_runs(alloc, runs, &covered.chain, &[], covered.call.until())?;
-        candidates.push(of_container(pattern, plan, covered.weight))?;
+        candidates.push(Candidate::without_key(pattern, plan, covered.weight))?;
     }
     Ok(())
 }
