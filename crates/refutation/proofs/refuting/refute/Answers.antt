@@ -7,3 +7,6 @@ pub returns-in-None-clause-impossible : goal.returns-in-None-clause-impossible
 returns-in-None-clause-impossible c e =
     let part = subst (λ (o : Option ObjectCalls). IfSome o (λ p. IsPart c.args.history.now p)) c.in-Some.is c.in_ok-part.ensures.part in
     part.shows (c.doubt_of.ensures.shown c.in-None.is)
+
+pub returns-in-None-clause-shown : goal.returns-in-None-clause-shown
+returns-in-None-clause-shown c = c.doubt_of.ensures.shown c.in-None.is
