@@ -14,6 +14,7 @@ use Rattle.order_search.specs.Continuations.{IsDeadPair, IsDeadAt}
 use Rattle.order_search.specs.Links.{next_without}
 use Rattle.order_search.specs.Remembered.{HasPair, IsKept, IsRemembered, IsRememberedIfSome}
 use Rattle.order_search.specs.Searching.{places, IsPairDead, AreDead, AreAllDead, IsWalk}
+use Rattle.order_search.proofs.Positions.{position, turn}
 use Rattle.order_search.proofs.Steps.{hit}
 
 pub none_dead : (t : Trials) (pairs : List Pair) → pairs ≡ [] → AreDead t pairs
@@ -44,7 +45,7 @@ remembered_some t before None after all dead r = subst (AreAllDead t) (sym r) al
 
 -- one of these pairs is met
 pub hit_one : (t : Trials) (start : Content) (ls : List Level) (bs : List Content) (c after : Content) (nx pv nx2 : List ℕ) (high at : ℕ) (window : Window) (left high2 : ℕ)
-    (gives : AnyReply) (pairs : List Pair) → IsWalk (length t.items.items) (call_at t.items.items) start ls bs c nx pv high at window left → at < length t.items.items
+    (gives : AnyReply) (pairs : List Pair) → IsWalk (length t.items.items) (call_at t.items.items) start ls bs (position c nx pv high) (turn at window left) → at < length t.items.items
     → next c (call_at t.items.items at).op ≡ Some (after, gives) → nx2 ≡ next_without nx pv at → high ≤ high2 → at < high2 → AreDead t pairs
     → HasPair pairs nx2 high2 after → Pair → IsDeadAt (length t.items.items) (call_at t.items.items) (places ls) c at
 hit_one t start ls bs c after nx pv nx2 high at window left high2 gives pairs w l does en hi hat dead h d =
@@ -53,7 +54,7 @@ hit_one t start ls bs c after nx pv nx2 high at window left high2 gives pairs w 
 
 -- one of either generation is met
 pub hit_any : (t : Trials) (start : Content) (ls : List Level) (bs : List Content) (c after : Content) (nx pv nx2 : List ℕ) (high at : ℕ) (window : Window) (left high2 : ℕ)
-    (gives : AnyReply) (d : Dead) → IsWalk (length t.items.items) (call_at t.items.items) start ls bs c nx pv high at window left → at < length t.items.items
+    (gives : AnyReply) (d : Dead) → IsWalk (length t.items.items) (call_at t.items.items) start ls bs (position c nx pv high) (turn at window left) → at < length t.items.items
     → next c (call_at t.items.items at).op ≡ Some (after, gives) → nx2 ≡ next_without nx pv at → high ≤ high2 → at < high2 → AreAllDead t d
     → HasPair d.older.pairs.items nx2 high2 after ⊎ HasPair d.younger.pairs.items nx2 high2 after → Pair
     → IsDeadAt (length t.items.items) (call_at t.items.items) (places ls) c at

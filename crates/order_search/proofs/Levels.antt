@@ -13,6 +13,7 @@ use Rattle.order_search.specs.Arranged.{as_call, call_at, owes, count_below}
 use Rattle.order_search.specs.Continuations.{Continues}
 use Rattle.order_search.specs.Links.{Linked, next_without, before_without}
 use Rattle.order_search.specs.Searching.{places, befores, IsLeast, IsWindow, Stack, IsWalk}
+use Rattle.order_search.proofs.Positions.{position, turn}
 use Rattle.order_search.proofs.Owed.{none_owed, owes_placed, owes_pending}
 use Rattle.order_search.proofs.Stack.{onto, continued, placed, placed_frame, candidate_now, walk_linked, walk_left, window_moved}
 use Rattle.order_search.proofs.Links.{linked_without}
@@ -22,37 +23,37 @@ use Rattle.order_search.proofs.Steps.{reverse_push}
 
 pub begun : (n : ℕ) (call : ℕ → Call) (start c : Content) (ls : List Level) (nx pv : List ℕ) (at : ℕ) (window : Window) (left : ℕ) → ls ≡ [] → c ≡ start
     → Linked n [] nx pv → at ≡ get_or nx 0 0 → IsWindow n call [] window → left ≡ count_below (owes call []) n → 0 < left
-    → IsWalk n call start (reverse ls) (befores (reverse ls) c) c nx pv 0 at window left
+    → IsWalk n call start (reverse ls) (befores (reverse ls) c) (position c nx pv 0) (turn at window left)
 begun n call start c ls nx pv at window left el ec link ea m counts owed =
-    subst (λ (x : ℕ). IsWalk n call start (reverse ls) (befores (reverse ls) c) c nx pv 0 x window left) (sym ea)
-    (subst (λ (x : List Level). IsWalk n call start (reverse x) (befores (reverse x) c) c nx pv 0 (get_or nx 0 0) window left) (sym el)
+    subst (λ (x : ℕ). IsWalk n call start (reverse ls) (befores (reverse ls) c) (position c nx pv 0) (turn x window left)) (sym ea)
+    (subst (λ (x : List Level). IsWalk n call start (reverse x) (befores (reverse x) c) (position c nx pv 0) (turn (get_or nx 0 0) window left)) (sym el)
     (placed n call start [] [] c nx pv 0 window left (ec, link) m counts owed))
 
 -- ---- one level more
 
 pub stepped : (n : ℕ) (call : ℕ → Call) (start : Content) (olds news : List Level) (lv : Level) (oldb newb : List Content) (c after : Content)
-    (nx pv nx2 pv2 : List ℕ) (high at : ℕ) (window : Window) (left high2 : ℕ) (gives : AnyReply) → IsWalk n call start (reverse olds) oldb c nx pv high at window left
+    (nx pv nx2 pv2 : List ℕ) (high at : ℕ) (window : Window) (left high2 : ℕ) (gives : AnyReply) → IsWalk n call start (reverse olds) oldb (position c nx pv high) (turn at window left)
     → at < n → (call at).number ≤ window.least → next c (call at).op ≡ Some (after, gives) → Agrees (call at).returned gives → high ≤ high2 → at < high2 →
     lv.place ≡ at → lv.window ≡ window → lv.high ≡ high → news ≡ olds ++ lv ∷ [] → newb ≡ c ∷ oldb → nx2 ≡ next_without nx pv at → pv2 ≡ before_without nx pv at →
-    Stack n call start (reverse news) newb after nx2 pv2 high2
+    Stack n call start (reverse news) newb (position after nx2 pv2 high2)
 stepped n call start olds news lv oldb newb c after nx pv nx2 pv2 high at window left high2 gives w l low does agrees hi hat ep el eh en eb ex ev =
     let s = placed_frame n call start (reverse olds) oldb c after nx pv high at window left high2 lv ep el eh w
     (candidate_now n call (places (reverse olds)) at window.least w.is_window.is_least low) l (record { reply = gives; does = does; agrees = agrees }) hi hat in
     let rl : reverse news ≡ lv ∷ reverse olds = ap reverse en ∙ reverse_push olds lv in
-    subst (λ (x : List ℕ). Stack n call start (reverse news) newb after x pv2 high2) (sym ex)
-    (subst (λ (x : List ℕ). Stack n call start (reverse news) newb after (next_without nx pv at) x high2) (sym ev)
-    (subst (λ (x : List Level). Stack n call start x newb after (next_without nx pv at) (before_without nx pv at) high2) (sym rl)
-    (subst (λ (x : List Content). Stack n call start (lv ∷ reverse olds) x after (next_without nx pv at) (before_without nx pv at) high2) (sym eb) s)))
+    subst (λ (x : List ℕ). Stack n call start (reverse news) newb (position after x pv2 high2)) (sym ex)
+    (subst (λ (x : List ℕ). Stack n call start (reverse news) newb (position after (next_without nx pv at) x high2)) (sym ev)
+    (subst (λ (x : List Level). Stack n call start x newb (position after (next_without nx pv at) (before_without nx pv at) high2)) (sym rl)
+    (subst (λ (x : List Content). Stack n call start (lv ∷ reverse olds) x (position after (next_without nx pv at) (before_without nx pv at) high2)) (sym eb) s)))
 
 pub taken_out : (n : ℕ) (call : ℕ → Call) (start : Content) (ls : List Level) (bs : List Content) (c : Content) (nx pv nx2 pv2 : List ℕ)
-    (high at : ℕ) (window : Window) (left : ℕ) → IsWalk n call start ls bs c nx pv high at window left → at < n → nx2 ≡ next_without nx pv at → pv2 ≡ before_without nx pv at → Linked n (at ∷ places ls) nx2 pv2
+    (high at : ℕ) (window : Window) (left : ℕ) → IsWalk n call start ls bs (position c nx pv high) (turn at window left) → at < n → nx2 ≡ next_without nx pv at → pv2 ≡ before_without nx pv at → Linked n (at ∷ places ls) nx2 pv2
 taken_out n call start ls bs c nx pv nx2 pv2 high at window left w l ex ev =
     subst (λ (x : List ℕ). Linked n (at ∷ places ls) x pv2) (sym ex) (subst (λ (y : List ℕ). Linked n (at ∷ places ls) (next_without nx pv at) y) (sym ev)
     (linked_without n (places ls) nx pv at (walk_linked n call start ls bs c nx pv high at window left w) (walk_left n call start ls bs c nx pv high at window left w l)))
 
 -- what is owed with one level more
 pub owed_less : (items : List Invocation) (o : Invocation) (start : Content) (olds news : List Level) (lv : Level) (bs : List Content) (c : Content)
-    (nx pv : List ℕ) (high at : ℕ) (window : Window) (left left2 : ℕ) → IsWalk (length items) (call_at items) start (reverse olds) bs c nx pv high at window left
+    (nx pv : List ℕ) (high at : ℕ) (window : Window) (left left2 : ℕ) → IsWalk (length items) (call_at items) start (reverse olds) bs (position c nx pv high) (turn at window left)
     → at < length items → as_call o ≡ call_at items at → lv.place ≡ at → news ≡ olds ++ lv ∷ [] →
     left ≡ (cond (is_some (return_of o.«end»)) (left2 + 1) left2) → left2 ≡ count_below (owes (call_at items) (places (reverse news))) (length items)
 owed_less items o start olds news lv bs c nx pv high at window left left2 w l eo ep en e =
@@ -68,7 +69,7 @@ owed_less items o start olds news lv bs c nx pv high at window left left2 w l eo
 
 -- what can come next, with one level more
 pub window_onward : (n : ℕ) (call : ℕ → Call) (start : Content) (olds news : List Level) (lv : Level) (bs : List Content) (c : Content) (nx pv : List ℕ)
-    (high at : ℕ) (window : Window) (left least pending : ℕ) → IsWalk n call start (reverse olds) bs c nx pv high at window left → at < n → lv.place ≡ at
+    (high at : ℕ) (window : Window) (left least pending : ℕ) → IsWalk n call start (reverse olds) bs (position c nx pv high) (turn at window left) → at < n → lv.place ≡ at
     → news ≡ olds ++ lv ∷ [] → (at ≡ window.pending → pending ≡ get_or nx (at + 1) 0) → (at ≢ window.pending → pending ≡ window.pending)
     → IsLeast n call (places (reverse news)) least → IsWindow n call (places (reverse news)) (record { least = least; pending = pending })
 window_onward n call start olds news lv bs c nx pv high at window left least pending w l ep en same other m =
@@ -79,10 +80,10 @@ window_onward n call start olds news lv bs c nx pv high at window left least pen
     (walk_left n call start (reverse olds) bs c nx pv high at window left w l) w.is_window same other (subst (λ (x : List ℕ). IsLeast n call x least) rl m))
 
 pub onward : (n : ℕ) (call : ℕ → Call) (start : Content) (ls : List Level) (bs : List Content) (c : Content) (nx pv : List ℕ) (high at : ℕ) (window : Window) (left : ℕ)
-    → Stack n call start ls bs c nx pv high → at ≡ get_or nx 0 0 → IsWindow n call (places ls) window
-    → left ≡ count_below (owes call (places ls)) n → (left ≡ 0 → ⊥) → IsWalk n call start ls bs c nx pv high at window left
+    → Stack n call start ls bs (position c nx pv high) → at ≡ get_or nx 0 0 → IsWindow n call (places ls) window
+    → left ≡ count_below (owes call (places ls)) n → (left ≡ 0 → ⊥) → IsWalk n call start ls bs (position c nx pv high) (turn at window left)
 onward n call start ls bs c nx pv high at window left s ea m counts some =
-    subst (λ (x : ℕ). IsWalk n call start ls bs c nx pv high x window left) (sym ea)
+    subst (λ (x : ℕ). IsWalk n call start ls bs (position c nx pv high) (turn x window left)) (sym ea)
     (placed n call start ls bs c nx pv high window left s m counts (omega arith))
 
 -- ---- the last level
@@ -98,7 +99,7 @@ places-reverse (l ∷ ls) = ap places (reverse-append (l ∷ []) ls) ∙ map-app
 
 -- nothing is owed: the levels are an order
 pub over_now : (n : ℕ) (call : ℕ → Call) (start : Content) (levels : List Level) (bs : List Content) (c : Content) (nx pv : List ℕ) (high left : ℕ)
-    → Stack n call start (reverse levels) bs c nx pv high → left ≡ count_below (owes call (places (reverse levels))) n → left ≡ 0 → Continues n call [] start (places levels)
+    → Stack n call start (reverse levels) bs (position c nx pv high) → left ≡ count_below (owes call (places (reverse levels))) n → left ≡ 0 → Continues n call [] start (places levels)
 over_now n call start levels bs c nx pv high left s counts zero_left =
     let r = continued n call start (reverse levels) bs c nx pv high [] s (none_owed n call (places (reverse levels)) (sym counts ∙ zero_left)) in
     let e = r.2 ∙ onto-reverse (places (reverse levels)) [] ∙ append-nil (reverse (places (reverse levels))) ∙ ap reverse (places-reverse levels) ∙ reverse-reverse (places levels) in

@@ -1,3 +1,4 @@
+pub mod Positions
 pub mod Deadness
 pub mod Links
 pub mod Owed

@@ -17,6 +17,7 @@ use Rattle.order_search.specs.Continuations.{IsLeft, IsDead, IsDeadAt, IsDeadPai
 use Rattle.order_search.specs.Links.{Linked, IsSlot, IsStop, IsForth, Lists, AreWithin, next_with, before_with, next_without, before_without}
 use Rattle.order_search.specs.Searching.{places, IsBound, IsLeast, Stack, IsWalk}
 use Rattle.order_search.specs.Arranged.{as_call, call_at, owes, count_below, IsArranged}
+use Rattle.order_search.proofs.Positions.{position, turn}
 use Rattle.order_search.proofs.Links.{around, listed, linked_without, within_before, within_after, next_again, before_again}
 use Rattle.std.proofs.lemmas.Option.{same_Some}
 use Rattle.order_search.proofs.Stack.{IsLeastBelow, least_more, least_of_all, dead_now, dead_after, dead_at_end, dead_behind, passed, came_back, walk_linked, walk_bound, walk_left}
@@ -26,10 +27,10 @@ pub reverse_push : {X : Type 0} (xs : List X) (x : X) → reverse (xs ++ x ∷ [
 reverse_push xs x = reverse-append xs (x ∷ [])
 
 pub popped : (n : ℕ) (call : ℕ → Call) (start : Content) (olds news : List Level) (lv : Level) (oldb newb : List Content) (b c : Content)
-    (nx pv : List ℕ) (high : ℕ) → olds ≡ news ++ lv ∷ [] → oldb ≡ b ∷ newb → Stack n call start (reverse olds) oldb c nx pv high → Stack n call start (lv ∷ reverse news) (b ∷ newb) c nx pv high
+    (nx pv : List ℕ) (high : ℕ) → olds ≡ news ++ lv ∷ [] → oldb ≡ b ∷ newb → Stack n call start (reverse olds) oldb (position c nx pv high) → Stack n call start (lv ∷ reverse news) (b ∷ newb) (position c nx pv high)
 popped n call start olds news lv oldb newb b c nx pv high e f s =
     let el : reverse olds ≡ lv ∷ reverse news = ap reverse e ∙ reverse_push news lv in
-    subst (λ (x : List Content). Stack n call start (lv ∷ reverse news) x c nx pv high) f (subst (λ (y : List Level). Stack n call start y oldb c nx pv high) el s)
+    subst (λ (x : List Content). Stack n call start (lv ∷ reverse news) x (position c nx pv high)) f (subst (λ (y : List Level). Stack n call start y oldb (position c nx pv high)) el s)
 
 pub count_le : (f : ℕ → Bool) (n : ℕ) → count_below f n ≤ n
 count_le f zero = omega arith
@@ -41,14 +42,14 @@ count_le f (suc n) = go (f n) (count_le f n)
 
 -- the place of the last level
 pub popped_within : (n : ℕ) (call : ℕ → Call) (start : Content) (olds news : List Level) (lv : Level) (oldb newb : List Content) (b c : Content)
-    (nx pv : List ℕ) (high : ℕ) → olds ≡ news ++ lv ∷ [] → oldb ≡ b ∷ newb → Stack n call start (reverse olds) oldb c nx pv high → AreWithin nx pv lv.place × (lv.place < n) × (length nx ≡ suc n)
+    (nx pv : List ℕ) (high : ℕ) → olds ≡ news ++ lv ∷ [] → oldb ≡ b ∷ newb → Stack n call start (reverse olds) oldb (position c nx pv high) → AreWithin nx pv lv.place × (lv.place < n) × (length nx ≡ suc n)
 popped_within n call start olds news lv oldb newb b c nx pv high e f s =
     let t = popped n call start olds news lv oldb newb b c nx pv high e f s in
     (t.3, t.0.left.0, t.1.long_next)
 
 -- what is left to remember where a walk is dead
 pub dead_pair : (n : ℕ) (call : ℕ → Call) (start : Content) (ls : List Level) (bs : List Content) (c : Content) (nx pv : List ℕ)
-    (high at : ℕ) (window : Window) (left : ℕ) (undone : List ℕ) → IsWalk n call start ls bs c nx pv high at window left → IsDead n call (places ls) c → Lists nx 0 undone high → IsDeadPair n call high undone c
+    (high at : ℕ) (window : Window) (left : ℕ) (undone : List ℕ) → IsWalk n call start ls bs (position c nx pv high) (turn at window left) → IsDead n call (places ls) c → Lists nx 0 undone high → IsDeadPair n call high undone c
 dead_pair n call start ls bs c nx pv high at window left undone w d h = record {
   done = places ls;
   describes = listed n (places ls) nx pv undone high (walk_linked n call start ls bs c nx pv high at window left w) (walk_bound n call start ls bs c nx pv high at window left w) h;
@@ -58,9 +59,9 @@ dead_pair n call start ls bs c nx pv high at window left undone w d h = record {
 -- back to the level before
 pub back_step : (n : ℕ) (call : ℕ → Call) (start : Content) (olds news : List Level) (lv : Level) (oldb newb : List Content) (b c : Content)
     (nx pv : List ℕ) (high at : ℕ) (window : Window) (left new_left : ℕ) → olds ≡ news ++ lv ∷ [] → oldb ≡ b ∷ newb →
-    IsWalk n call start (reverse olds) oldb c nx pv high at window left → IsDead n call (places (reverse olds)) c →
+    IsWalk n call start (reverse olds) oldb (position c nx pv high) (turn at window left) → IsDead n call (places (reverse olds)) c →
     new_left ≡ (cond (is_some (call lv.place).returned) (left + 1) left) →
-    IsWalk n call start (reverse news) newb b (next_with nx pv lv.place) (before_with nx pv lv.place) lv.high (get_or (next_with nx pv lv.place) (suc lv.place) 0) lv.window new_left
+    IsWalk n call start (reverse news) newb (position b (next_with nx pv lv.place) (before_with nx pv lv.place) lv.high) (turn (get_or (next_with nx pv lv.place) (suc lv.place) 0) lv.window new_left)
 back_step n call start olds news lv oldb newb b c nx pv high at window left new_left e f w d el =
     let s = popped n call start olds news lv oldb newb b c nx pv high e f w.stack in
     let rl : reverse olds ≡ lv ∷ reverse news = ap reverse e ∙ reverse_push news lv in
@@ -86,10 +87,10 @@ call_read items k d l = ap as_call (get_or_default items k d _ l)
 
 pub back_walk : (items : List Invocation) (o : Invocation) (start : Content) (olds news : List Level) (lv : Level) (oldb newb : List Content)
     (b b2 c : Content) (nx pv nx2 pv2 : List ℕ) (high at : ℕ) (window : Window) (left at2 new_left : ℕ) → olds ≡ news ++ lv ∷ [] → oldb ≡ b ∷ newb →
-    IsWalk (length items) (call_at items) start (reverse olds) oldb c nx pv high at window left → IsDead (length items) (call_at items) (places (reverse olds)) c →
+    IsWalk (length items) (call_at items) start (reverse olds) oldb (position c nx pv high) (turn at window left) → IsDead (length items) (call_at items) (places (reverse olds)) c →
     b2 ≡ b → nx2 ≡ next_with nx pv lv.place → pv2 ≡ before_with nx pv lv.place → at2 ≡ get_or nx2 (lv.place + 1) 0 → as_call o ≡ call_at items lv.place →
     new_left ≡ (cond (is_some (return_of o.«end»)) (left + 1) left) →
-    IsWalk (length items) (call_at items) start (reverse news) newb b2 nx2 pv2 lv.high at2 lv.window new_left
+    IsWalk (length items) (call_at items) start (reverse news) newb (position b2 nx2 pv2 lv.high) (turn at2 lv.window new_left)
 back_walk items o start olds news lv oldb newb b b2 c nx pv nx2 pv2 high at window left at2 new_left e f w dead eb en ep ea eo el =
     let n : ℕ = length items in
     let call : ℕ → Call = call_at items in
@@ -97,21 +98,21 @@ back_walk items o start olds news lv oldb newb b b2 c nx pv nx2 pv2 high at wind
     let r = back_step n call start olds news lv oldb newb b c nx pv high at window left new_left e f w dead
     (subst (λ (o : Option Return). new_left ≡ cond (is_some o) (left + 1) left) ret el) in
     let at_is : at2 ≡ get_or (next_with nx pv lv.place) (suc lv.place) 0 = ea ∙ ap (λ (x : ℕ). get_or nx2 x 0) (add-one lv.place) ∙ ap (λ (x : List ℕ). get_or x (suc lv.place) 0) en in
-    subst (λ (x : Content). IsWalk n call start (reverse news) newb x nx2 pv2 lv.high at2 lv.window new_left) (sym eb)
-    (subst (λ (x : List ℕ). IsWalk n call start (reverse news) newb b x pv2 lv.high at2 lv.window new_left) (sym en)
-    (subst (λ (x : List ℕ). IsWalk n call start (reverse news) newb b (next_with nx pv lv.place) x lv.high at2 lv.window new_left) (sym ep)
-    (subst (λ (x : ℕ). IsWalk n call start (reverse news) newb b (next_with nx pv lv.place) (before_with nx pv lv.place) lv.high x lv.window new_left) (sym at_is) r)))
+    subst (λ (x : Content). IsWalk n call start (reverse news) newb (position x nx2 pv2 lv.high) (turn at2 lv.window new_left)) (sym eb)
+    (subst (λ (x : List ℕ). IsWalk n call start (reverse news) newb (position b x pv2 lv.high) (turn at2 lv.window new_left)) (sym en)
+    (subst (λ (x : List ℕ). IsWalk n call start (reverse news) newb (position b (next_with nx pv lv.place) x lv.high) (turn at2 lv.window new_left)) (sym ep)
+    (subst (λ (x : ℕ). IsWalk n call start (reverse news) newb (position b (next_with nx pv lv.place) (before_with nx pv lv.place) lv.high) (turn x lv.window new_left)) (sym at_is) r)))
 
 pub pass_walk : (n : ℕ) (call : ℕ → Call) (start : Content) (ls : List Level) (bs : List Content) (c : Content) (nx pv : List ℕ)
-    (high at : ℕ) (window : Window) (left at2 : ℕ) → IsWalk n call start ls bs c nx pv high at window left → at < n → IsDeadAt n call (places ls) c at → at2 ≡ get_or nx (at + 1) 0 →
-    IsWalk n call start ls bs c nx pv high at2 window left
+    (high at : ℕ) (window : Window) (left at2 : ℕ) → IsWalk n call start ls bs (position c nx pv high) (turn at window left) → at < n → IsDeadAt n call (places ls) c at → at2 ≡ get_or nx (at + 1) 0 →
+    IsWalk n call start ls bs (position c nx pv high) (turn at2 window left)
 pass_walk n call start ls bs c nx pv high at window left at2 w l dead ea =
     let r = passed n call start ls bs c nx pv high at window left w l dead in
     let at_is : at2 ≡ get_or nx (suc at) 0 = ea ∙ ap (λ (x : ℕ). get_or nx x 0) (add-one at) in
-    subst (λ (x : ℕ). IsWalk n call start ls bs c nx pv high x window left) (sym at_is) r
+    subst (λ (x : ℕ). IsWalk n call start ls bs (position c nx pv high) (turn x window left)) (sym at_is) r
 
 pub pass_rises : (n : ℕ) (call : ℕ → Call) (start : Content) (ls : List Level) (bs : List Content) (c : Content) (nx pv : List ℕ)
-    (high at : ℕ) (window : Window) (left : ℕ) → IsWalk n call start ls bs c nx pv high at window left → at < n → (at < get_or nx (at + 1) 0) × (at + 1 < length nx)
+    (high at : ℕ) (window : Window) (left : ℕ) → IsWalk n call start ls bs (position c nx pv high) (turn at window left) → at < n → (at < get_or nx (at + 1) 0) × (at + 1 < length nx)
 pass_rises n call start ls bs c nx pv high at window left w l =
     let link = walk_linked n call start ls bs c nx pv high at window left w in
     let f = (link.forth (suc at) (omega arith) (walk_left n call start ls bs c nx pv high at window left w l)).rises in
@@ -132,7 +133,7 @@ listed_end nx us slot high place front l e end = subst (λ (x : List ℕ). Lists
 -- nothing goes on where each place that was not tried is invoked after the least return
 pub dead_here : (kind : Kind) (items : List Invocation) (floors return_floors : List ℕ) (pending : ℕ) (start : Content) (ls : List Level) (bs : List Content) (c : Content)
     (nx pv : List ℕ) (high at : ℕ) (window : Window) (left : ℕ) → IsArranged kind items floors return_floors pending
-    → IsWalk (length items) (call_at items) start ls bs c nx pv high at window left
+    → IsWalk (length items) (call_at items) start ls bs (position c nx pv high) (turn at window left)
     → ((length items ≤ at) ⊎ ((window.least < 4294967295) × (window.least < get_or floors at 0))) → IsDead (length items) (call_at items) (places ls) c
 dead_here kind items floors return_floors pending start ls bs c nx pv high at window left t w o = dead_now (length items) (call_at items) start ls bs c nx pv high at window left w (elim o [
   | inl e ↦ dead_at_end (length items) (call_at items) (places ls) c at w.tried e
@@ -142,7 +143,7 @@ dead_here kind items floors return_floors pending start ls bs c nx pv high at wi
 -- and so is a place whose call is
 pub dead_too_late : (kind : Kind) (items : List Invocation) (floors return_floors : List ℕ) (pending : ℕ) (o : Invocation) (start : Content) (ls : List Level) (bs : List Content)
     (c : Content) (nx pv : List ℕ) (high at : ℕ) (window : Window) (left : ℕ) → IsArranged kind items floors return_floors pending
-    → IsWalk (length items) (call_at items) start ls bs c nx pv high at window left → at < length items → as_call o ≡ call_at items at
+    → IsWalk (length items) (call_at items) start ls bs (position c nx pv high) (turn at window left) → at < length items → as_call o ≡ call_at items at
     → window.least < 4294967295 → window.least < o.number → IsDeadAt (length items) (call_at items) (places ls) c at
 dead_too_late kind items floors return_floors pending o start ls bs c nx pv high at window left t w l eo small late =
     let e = ap (λ (x : Call). x.number) eo in
@@ -151,8 +152,8 @@ dead_too_late kind items floors return_floors pending o start ls bs c nx pv high
 -- on to the first pending place, where all that come before it and returned were invoked after the least return
 pub skipped : (kind : Kind) (items : List Invocation) (floors return_floors : List ℕ) (pending : ℕ) (start : Content) (ls : List Level) (bs : List Content)
     (c : Content) (nx pv : List ℕ) (high at : ℕ) (window : Window) (left : ℕ) → IsArranged kind items floors return_floors pending
-    → IsWalk (length items) (call_at items) start ls bs c nx pv high at window left → window.least < 4294967295 → window.least < get_or return_floors at 0
-    → IsWalk (length items) (call_at items) start ls bs c nx pv high window.pending window left
+    → IsWalk (length items) (call_at items) start ls bs (position c nx pv high) (turn at window left) → window.least < 4294967295 → window.least < get_or return_floors at 0
+    → IsWalk (length items) (call_at items) start ls bs (position c nx pv high) (turn window.pending window left)
 skipped kind items floors return_floors pending start ls bs c nx pv high at window left t w small late = record {
   stack = w.stack;
   tried = λ k l. elim (cases_order k at) [
@@ -177,7 +178,7 @@ dead_impossible items o done c at e never = dead_not_possible (length items) (ca
 
 -- a remembered pair is met: the place that leads to it is dead
 pub hit : (n : ℕ) (call : ℕ → Call) (start : Content) (ls : List Level) (bs : List Content) (c after cp : Content) (nx pv nx2 : List ℕ)
-    (high at : ℕ) (window : Window) (left high2 hp : ℕ) (us : List ℕ) (gives : AnyReply) → IsWalk n call start ls bs c nx pv high at window left → at < n → next c (call at).op ≡ Some (after, gives) →
+    (high at : ℕ) (window : Window) (left high2 hp : ℕ) (us : List ℕ) (gives : AnyReply) → IsWalk n call start ls bs (position c nx pv high) (turn at window left) → at < n → next c (call at).op ≡ Some (after, gives) →
     nx2 ≡ next_without nx pv at → Lists nx2 0 us high2 → high ≤ high2 → at < high2 → IsDeadPair n call hp us cp → hp ≡ high2 → cp ≡ after → IsDeadAt n call (places ls) c at
 hit n call start ls bs c after cp nx pv nx2 high at window left high2 hp us gives w l does en lists hi hat pair eh ec =
     let link = walk_linked n call start ls bs c nx pv high at window left w in
@@ -189,12 +190,12 @@ hit n call start ls bs c after cp nx pv nx2 high at window left high2 hp us give
     dead_child n call (places ls) c after at gives does (dead_again n call high2 us (at ∷ places ls) after here des)
 
 pub walk_within : (n : ℕ) (call : ℕ → Call) (start : Content) (ls : List Level) (bs : List Content) (c : Content) (nx pv : List ℕ)
-    (high at : ℕ) (window : Window) (left : ℕ) → IsWalk n call start ls bs c nx pv high at window left → at < n → AreWithin nx pv at
+    (high at : ℕ) (window : Window) (left : ℕ) → IsWalk n call start ls bs (position c nx pv high) (turn at window left) → at < n → AreWithin nx pv at
 walk_within n call start ls bs c nx pv high at window left w l =
     within_before n (places ls) nx pv at (walk_linked n call start ls bs c nx pv high at window left w) (walk_left n call start ls bs c nx pv high at window left w l)
 
 pub without_within : (n : ℕ) (call : ℕ → Call) (start : Content) (ls : List Level) (bs : List Content) (c : Content) (nx pv nx2 pv2 : List ℕ)
-    (high at : ℕ) (window : Window) (left : ℕ) → IsWalk n call start ls bs c nx pv high at window left → at < n → nx2 ≡ next_without nx pv at → pv2 ≡ before_without nx pv at → AreWithin nx2 pv2 at
+    (high at : ℕ) (window : Window) (left : ℕ) → IsWalk n call start ls bs (position c nx pv high) (turn at window left) → at < n → nx2 ≡ next_without nx pv at → pv2 ≡ before_without nx pv at → AreWithin nx2 pv2 at
 without_within n call start ls bs c nx pv nx2 pv2 high at window left w l en ep =
     let link = walk_linked n call start ls bs c nx pv high at window left w in
     let a = around n (places ls) nx pv at link (walk_left n call start ls bs c nx pv high at window left w l) in
@@ -202,14 +203,14 @@ without_within n call start ls bs c nx pv nx2 pv2 high at window left w l en ep 
 
 -- taken out and put back
 pub walk_again : (n : ℕ) (call : ℕ → Call) (start : Content) (ls : List Level) (bs : List Content) (c : Content) (nx pv nx2 pv2 nx3 pv3 : List ℕ)
-    (high at : ℕ) (window : Window) (left : ℕ) → IsWalk n call start ls bs c nx pv high at window left → at < n → nx2 ≡ next_without nx pv at
-    → pv2 ≡ before_without nx pv at → nx3 ≡ next_with nx2 pv2 at → pv3 ≡ before_with nx2 pv2 at → IsWalk n call start ls bs c nx3 pv3 high at window left
+    (high at : ℕ) (window : Window) (left : ℕ) → IsWalk n call start ls bs (position c nx pv high) (turn at window left) → at < n → nx2 ≡ next_without nx pv at
+    → pv2 ≡ before_without nx pv at → nx3 ≡ next_with nx2 pv2 at → pv3 ≡ before_with nx2 pv2 at → IsWalk n call start ls bs (position c nx3 pv3 high) (turn at window left)
 walk_again n call start ls bs c nx pv nx2 pv2 nx3 pv3 high at window left w l en ep fn fp =
     let link = walk_linked n call start ls bs c nx pv high at window left w in
     let a = around n (places ls) nx pv at link (walk_left n call start ls bs c nx pv high at window left w l) in
     let e : nx3 ≡ nx = fn ∙ ap (λ (x : List ℕ). next_with x pv2 at) en ∙ ap (λ (y : List ℕ). next_with (next_without nx pv at) y at) ep ∙ next_again n (places ls) nx pv at a in
     let f : pv3 ≡ pv = fp ∙ ap (λ (x : List ℕ). before_with x pv2 at) en ∙ ap (λ (y : List ℕ). before_with (next_without nx pv at) y at) ep ∙ before_again n (places ls) nx pv at a in
-    subst (λ (x : List ℕ). IsWalk n call start ls bs c x pv3 high at window left) (sym e) (subst (λ (y : List ℕ). IsWalk n call start ls bs c nx y high at window left) (sym f) w)
+    subst (λ (x : List ℕ). IsWalk n call start ls bs (position c x pv3 high) (turn at window left)) (sym e) (subst (λ (y : List ℕ). IsWalk n call start ls bs (position c nx y high) (turn at window left)) (sym f) w)
 
 pub below_end : (nx nx2 us : List ℕ) (i slot high place : ℕ) → nx2 ≡ nx
     → ((rest : List ℕ) → Lists nx slot rest high → Lists nx 0 (take i us ++ rest) high) → length us ≤ i → (slot < length nx2)

@@ -50,31 +50,53 @@ befores (l ∷ ls) c = undone l.undo c ∷ befores ls (undone l.undo c)
 abbrev pub IsBound : List ℕ → ℕ → Type 0
 IsBound done high = (k : ℕ) → In k done → k < high
 
--- The levels of a search, the last one first, from the content `start` to the content `now`.
--- `before` has the content before each level; `next` and `back` link the places that are left, and
--- no place of a level reaches `high`. Each level placed one call, and without it the links, and the
--- bound that it kept, are those of the levels below it.
-abbrev pub Stack : (n : ℕ) (call : ℕ → Call) → Content → List Level → List Content → Content
-    → List ℕ → List ℕ → ℕ → Type 0
-Stack n call start [] [] now next back high = (now ≡ start) × Linked n [] next back
-Stack n call start [] (b ∷ before) now next back high = ⊥
-Stack n call start (l ∷ levels) [] now next back high = ⊥
-Stack n call start (l ∷ levels) (b ∷ before) now next back high =
-    Frame n call (places levels) b now l.place l.window
-    × Linked n (l.place ∷ places levels) next back
-    × IsBound (l.place ∷ places levels) high × AreWithin next back l.place
-    × Stack n call start levels before b (next_with next back l.place)
-    (before_with next back l.place) l.high
+-- Where a search is: what the object contains, the links of the places that are left, and a number
+-- that no place of a level reaches.
+pub record Position : Type 0 where
+  pub content : Content
+  pub next : List ℕ
+  pub back : List ℕ
+  pub high : ℕ
 
--- ls and bs: the levels and the contents before them, the last one first
-pub record IsWalk (n : ℕ) (call : ℕ → Call) (start : Content) (ls : List Level) (bs : List Content)
-    (c : Content) (nx pv : List ℕ) (high at : ℕ) (window : Window) (left : ℕ) : Type 0 where
-  pub stack : Stack n call start ls bs c nx pv high
-  pub tried : IsTried n call (places ls) c at
-  pub is_window : IsWindow n call (places ls) window
-  pub stop : IsStop n (places ls) at
-  pub counts : left ≡ count_below (owes call (places ls)) n
-  pub owed : 0 < left
+-- how it goes on: the place that it tries next, its window, and how many calls are to return
+pub record Turn : Type 0 where
+  pub at : ℕ
+  pub window : Window
+  pub left : ℕ
+
+-- the position before a level, with the content that was there
+abbrev pub position_before : Level → Content → Position → Position
+position_before l content here = record {
+  content = content;
+  next = next_with here.next here.back l.place;
+  back = before_with here.next here.back l.place;
+  high = l.high;
+}
+
+-- The levels of a search, the last one first, with the content before each, lead from the content
+-- `start` to this position. Each level placed one call; without it the search is at the position
+-- to which the levels below it lead.
+abbrev pub Stack : (n : ℕ) (call : ℕ → Call) → Content → List Level → List Content → Position
+    → Type 0
+Stack n call start [] [] here = (here.content ≡ start) × Linked n [] here.next here.back
+Stack n call start [] (b ∷ before) here = ⊥
+Stack n call start (l ∷ levels) [] here = ⊥
+Stack n call start (l ∷ levels) (b ∷ before) here =
+    Frame n call (places levels) b here.content l.place l.window
+    × Linked n (l.place ∷ places levels) here.next here.back
+    × IsBound (l.place ∷ places levels) here.high × AreWithin here.next here.back l.place
+    × Stack n call start levels before (position_before l b here)
+
+-- The search has these levels, with the contents before them, and all places before the one that it
+-- tries next lead to nothing.
+pub record IsWalk (n : ℕ) (call : ℕ → Call) (start : Content) (levels : List Level)
+    (before : List Content) (here : Position) (turn : Turn) : Type 0 where
+  pub stack : Stack n call start levels before here
+  pub tried : IsTried n call (places levels) here.content turn.at
+  pub is_window : IsWindow n call (places levels) turn.window
+  pub stop : IsStop n (places levels) turn.at
+  pub counts : turn.left ≡ count_below (owes call (places levels)) n
+  pub owed : 0 < turn.left
 
 -- the operations are arranged for a search
 abbrev pub AreTrials : Trials → Type 0
@@ -118,11 +140,21 @@ pub record AreAllDead (t : Trials) (d : Dead) : Type 0 where
   pub older : AreDead t d.older.pairs.items
   pub younger : AreDead t d.younger.pairs.items
 
--- a search stands between two steps, at this content
+abbrev pub position_at : State → Content → Position
+position_at s c = record {
+  content = c;
+  next = s.undone.next.items;
+  back = s.undone.before.items;
+  high = s.high;
+}
+
+abbrev pub turn_of : State → Turn
+turn_of s = record { at = s.at; window = s.window; left = s.left }
+
+-- a search is between two steps, at this content
 pub record IsSearchingAt (t : Trials) (s : State) (c : Content) : Type 0 where
   pub walk : IsWalk (length t.items.items) (call_at t.items.items) (empty t.kind)
-      (reverse s.levels.items) (befores (reverse s.levels.items) c) c s.undone.next.items
-      s.undone.before.items s.high s.at s.window s.left
+      (reverse s.levels.items) (befores (reverse s.levels.items) c) (position_at s c) (turn_of s)
   pub dead : AreAllDead t s.dead
 
 abbrev pub IsSearching : Trials → State → Type 0

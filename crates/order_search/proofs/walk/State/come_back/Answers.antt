@@ -4,6 +4,7 @@ use Rattle.model.specs.Objects.{empty}
 use Rattle.reversible.specs.Undoing.{content_of, undone}
 use Rattle.order_search.specs.Arranged.{as_call, call_at, owes}
 use Rattle.order_search.specs.Searching.{places, befores, IsWalk}
+use Rattle.order_search.proofs.Positions.{position, turn}
 use Rattle.order_search.proofs.Steps.{popped_within, call_read, back_walk, count_le}
 use Rattle.order_search.proofs.Levels.{befores_more}
 use Rattle.order_search.proofs.Generations.{remembered_some}
@@ -48,7 +49,7 @@ returns-clause-search c = λ e.
     (ap as_call c.index.ensures ∙ call_read t.items.items level.place _ p.1) c.one_more-self.ensures in
     record {
       walk = subst (λ x. IsWalk (length t.items.items) (call_at t.items.items) (empty t.kind) (reverse c.pop.new.self.items)
-          (befores (reverse c.pop.new.self.items) x) x c.put_back.new.self.next.items c.put_back.new.self.before.items level.high c.index-2.result.now
-          level.window c.one_more-self.result) (sym c.in_ok-undo.ensures) walk;
+          (befores (reverse c.pop.new.self.items) x) (position x c.put_back.new.self.next.items c.put_back.new.self.before.items level.high) (turn c.index-2.result.now
+          level.window c.one_more-self.result)) (sym c.in_ok-undo.ensures) walk;
       dead = remembered_some t a.dead _ _ c.requires.search.dead c.in_ok-pair.ensures c.in_ok-remember_if_some.ensures;
     }

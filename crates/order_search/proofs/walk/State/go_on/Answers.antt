@@ -8,6 +8,7 @@ use Rattle.order_search.specs.declared.level.Level.{Level}
 use Rattle.order_search.specs.Arranged.{as_call, call_at}
 use Rattle.order_search.specs.Continuations.{IsDeadAt}
 use Rattle.order_search.specs.Searching.{places, befores, content_before, IsWalk}
+use Rattle.order_search.proofs.Positions.{position, turn}
 use Rattle.order_search.proofs.Generations.{hit_any}
 use Rattle.order_search.proofs.Stack.{linked_now, walk_linked}
 use Rattle.order_search.proofs.Steps.{walk_within, without_within, walk_again, call_read}
@@ -51,7 +52,7 @@ pass-requires-clause-search c =
     c.requires.search.walk c.requires.at c.take_out.ensures.next c.take_out.ensures.before c.put_back.ensures.next c.put_back.ensures.before in
     record {
       walk = subst (λ x. IsWalk (length t.items.items) (call_at t.items.items) (empty t.kind) (reverse a.levels.items)
-          (befores (reverse a.levels.items) x) x c.put_back.new.self.next.items c.put_back.new.self.before.items a.high a.at a.window a.left) (sym c.in_ok-undo.ensures) walk;
+          (befores (reverse a.levels.items) x) (position x c.put_back.new.self.next.items c.put_back.new.self.before.items a.high) (turn a.at a.window a.left)) (sym c.in_ok-undo.ensures) walk;
       dead = c.requires.search.dead;
     }
 
