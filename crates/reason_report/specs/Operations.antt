@@ -49,17 +49,17 @@ reply_in other None = other
 reply_in other (Some e) = reply_by other e.action
 
 -- with the reply that the history has where a part has a return
-abbrev pub recorded_end : List Event → End → End
-recorded_end es (Returned at reply) = Returned at (reply_in reply (event_at es at))
-recorded_end es Pending = Pending
-recorded_end es Failed = Failed
+abbrev pub end_in : List Event → End → End
+end_in es (Returned at reply) = Returned at (reply_in reply (event_at es at))
+end_in es Pending = Pending
+end_in es Failed = Failed
 
 -- an operation of a part with the operation and the reply that the history has at its numbers
-abbrev pub recorded : List Event → Invocation → Invocation
-recorded es o = record {
+abbrev pub operation_in : List Event → Invocation → Invocation
+operation_in es o = record {
   number = o.number;
   op = op_in o.op (event_at es o.number);
-  «end» = recorded_end es o.«end»;
+  «end» = end_in es o.«end»;
 }
 
 -- ---- the text
@@ -113,7 +113,7 @@ said_text told counted =
 
 -- as maps 4 and 9: process 2, :dequeue nil, :ok 7
 abbrev pub operation_line : List Event → Invocation → List ℕ
-operation_line es o = heading_text es o ++ said_text (recorded es o) o
+operation_line es o = heading_text es o ++ said_text (operation_in es o) o
 
 -- a line for each operation, in their order
 abbrev pub operations_text : Bool → List Event → List Invocation → List ℕ

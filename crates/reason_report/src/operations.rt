@@ -57,9 +57,9 @@ fn reply_in(other: AnyReply, event: Option<Event>) -> AnyReply
     }
 }
 
-fn recorded_end(events: &[Event], end: End) -> End
+fn end_in(events: &[Event], end: End) -> End
     requires { IsProper events.now }
-    ensures { result ≡ spec.recorded_end events.now «end» }
+    ensures { result ≡ spec.end_in events.now «end» }
 {
     match end {
         End::Returned { at, reply } => End::Returned {
@@ -72,14 +72,14 @@ fn recorded_end(events: &[Event], end: End) -> End
 }
 
 /// The operation with what the history has at its numbers.
-fn recorded(events: &[Event], operation: &Invocation) -> Invocation
+fn operation_in(events: &[Event], operation: &Invocation) -> Invocation
     requires { IsProper events.now }
-    ensures { result ≡ spec.recorded events.now operation.now }
+    ensures { result ≡ spec.operation_in events.now operation.now }
 {
     Invocation {
         number: operation.number,
         op: op_in(operation.op, event_at(events, operation.number)),
-        end: recorded_end(events, operation.end),
+        end: end_in(events, operation.end),
     }
 }
 
@@ -201,9 +201,9 @@ fn push_recorded(
 ) -> Result<(), AllocError>
     requires { IsProper events.now }
     ensures { OnOk result (text.new.items ≡ text.old.items
-        ++ spec.said_text (spec.recorded events.now operation.now) operation.now) }
+        ++ spec.said_text (spec.operation_in events.now operation.now) operation.now) }
 {
-    let told = recorded(events, operation);
+    let told = operation_in(events, operation);
     push_said(text, &told, operation)
 }
 
