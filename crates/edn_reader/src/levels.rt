@@ -288,7 +288,21 @@ impl<'a> Levels<'a> {
         }
     }
 
+    /// One more level, which may ask for room.
+    #[cold]
+    #[inline(never)]
+    #[tactic(auto, using(crate::proofs::Nested::levels_push))]
+    fn open_growing(&mut self, level: Level<'a>) -> Result<(), AllocError>
+        ensures { OnOk result
+            (levels_shapes self.new ≡ within (level_shape level.entry) (levels_shapes self.old)) }
+    {
+        let inner = mem::replace(&mut self.inner, level);
+        self.outer.push(inner)?;
+        Ok(())
+    }
+
     /// Opens one more level.
+    #[inline(always)]
     #[tactic(auto, using(crate::proofs::Nested::levels_push, crate::proofs::Nested::length_levels))]
     fn open(&mut self, level: Level<'a>) -> Result<(), Cause>
         ensures { Becomes result (spec.opened (level_shape level.entry) (levels_shapes self.old))
@@ -300,8 +314,13 @@ impl<'a> Levels<'a> {
         if self.outer.len() >= MAX_OPEN {
             return Err(Cause::TooDeep);
         }
-        let inner = mem::replace(&mut self.inner, level);
-        self.outer.push(inner)?;
+        // Most levels find room: these are opened here, and only the others by a call.
+        if self.outer.len() < self.outer.capacity() {
+            let inner = mem::replace(&mut self.inner, level);
+            self.outer.push_reserved(inner);
+            return Ok(());
+        }
+        self.open_growing(level)?;
         Ok(())
     }
 
@@ -314,6 +333,7 @@ impl<'a> Levels<'a> {
     }
 
     /// The innermost level, whose place the one round it takes.
+    #[inline(always)]
     #[tactic(auto, using(crate::proofs::Nested::levels_push))]
     fn leave(&mut self) -> Option<Level<'a>>
         ensures left { IfSome result (λ l.
@@ -324,6 +344,7 @@ impl<'a> Levels<'a> {
         Some(mem::replace(&mut self.inner, level))
     }
 
+    #[inline(always)]
     fn close_vector(&mut self) -> Result<(), Cause>
         ensures { let s = levels_shapes self.old in
             Becomes result (spec.vector_closed s.inner s.outer) (levels_shapes self.new) }
