@@ -1,5 +1,6 @@
 //! What is open while an element is read: of what kind, and the keys of each map.
-ghost use Rattle.std.specs.Prelude.{◌≡◌, [], List, ℕ, IfOk, OnOk, IfSome, IfNone, false};
+ghost use Rattle.std.specs.Prelude.{◌≡◌, [], List, ℕ, IfOk, OnOk, IfSome, IfNone, true, false};
+ghost use Rattle.std.specs.Str.{bytes_eq};
 ghost use Rattle.std.specs.Option.{ForSome};
 ghost use Rattle.edn_reader.specs.NameSets.{HasNames};
 ghost use Rattle.edn_reader.specs.Shapes as spec;
@@ -44,6 +45,17 @@ pub struct Levels<'a> {
     spare: Vec<&'a str>,
 }
 
+/// Whether the first two bytes differ, as they do for most names of one length.
+#[inline(always)]
+fn differ_early(a: &[u8], b: &[u8]) -> bool
+    ensures { result ≡ true → bytes_eq a.now b.now ≡ false }
+{
+    match (a, b) {
+        ([x, more, ..], [y, others, ..]) => *x != *y || *more != *others,
+        _ => false,
+    }
+}
+
 /// Whether the name is one of these, one by one.
 #[inline(always)]
 fn is_one_of(names: &[&str], name: &str) -> bool
@@ -51,8 +63,11 @@ fn is_one_of(names: &[&str], name: &str) -> bool
 {
     let mut rest = names;
     'names: while let [known, tail @ ..] = rest {
-        // Most names differ in length, and then no bytes are compared.
-        if name.len() == known.len() && name == *known {
+        // Most names differ in length or early, and then nothing is called to compare them.
+        if name.len() == known.len()
+            && !differ_early(name.as_bytes(), known.as_bytes())
+            && name == *known
+        {
             return true;
         }
         rest = tail;
