@@ -361,15 +361,6 @@ def least_seconds(program, name):
     return min(with_page), min(without)
 
 
-def instructions_of(program, *words):
-    """How many instructions a run takes, as valgrind counts them."""
-    counted = f"{program.room}/counted"
-    valgrind = ["valgrind", "--tool=callgrind", f"--callgrind-out-file={counted}"]
-    subprocess.run([*valgrind, program.path, *words], cwd=program.room, stdout=subprocess.DEVNULL, stderr=subprocess.DEVNULL)
-    with open(counted, encoding="utf-8") as file:
-        return int(re.search(r"^(?:totals|summary): (\d+)", file.read(), re.M)[1])
-
-
 def large_cases():
     """Histories of 500,000 operations, of 1,000 processes and of 65,536 objects, with and without a wrong reply."""
     maps, order = rounds(12, 1_000_000)
@@ -421,7 +412,7 @@ def cost_of_drawings(program, report):
     told = []
     for name, maps in histories_of_cost(100_000).items() if shutil.which("valgrind") else ():
         file = program.write(f"{name}.{HISTORY}", texts.lines(*maps))
-        with_page, without = instructions_of(program, "draw", file), instructions_of(program, "judge", file)
+        with_page, without = program.instructions("draw", file), program.instructions("judge", file)
         report.holds(f"draw: {name}: it takes at most {MOST_INSTRUCTIONS} times the instructions of judge", with_page <= MOST_INSTRUCTIONS * without, (with_page, without))
         told.append(f"{name} {with_page / without:.2f} times the instructions")
     for name, maps in histories_of_cost(1_000_000).items():

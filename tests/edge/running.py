@@ -1,8 +1,10 @@
 """Runs the program under test, and counts what it passed."""
 import concurrent.futures
 import os
+import re
 import shutil
 import subprocess
+import tempfile
 import time
 from dataclasses import dataclass, field
 
@@ -58,6 +60,13 @@ class Program:
         with open(name) as file:
             allocations, reads = file.read().split()
         return ran, int(allocations), int(reads)
+
+    def instructions(self, *words):
+        """How many instructions a run takes, as valgrind counts them."""
+        with tempfile.NamedTemporaryFile("r", dir=self.room, encoding="utf-8") as counted:
+            valgrind = ["valgrind", "--tool=callgrind", f"--callgrind-out-file={counted.name}"]
+            subprocess.run([*valgrind, self.path, *words], cwd=self.room, stdout=subprocess.DEVNULL, stderr=subprocess.DEVNULL)
+            return int(re.search(r"^(?:totals|summary): (\d+)", counted.read(), re.M)[1])
 
     def write(self, name, text):
         """Writes a file into the folder in which the program runs, and returns its name."""

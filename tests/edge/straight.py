@@ -3,6 +3,8 @@
 A map in one of two orders is read by patterns of bytes, and any other by its tokens; after eight of the others in a row 64 maps are read by
 their tokens too. Each history is written in five forms, of which two are usual. In the text of a fault the byte that must be named is
 marked."""
+import shutil
+
 from .running import at_once
 
 MARK = "¦"
@@ -218,4 +220,33 @@ def broken_texts(program, report):
         report.answers(f"judge: {text[-200:]!r}", ran, f"malformed history: {fault}\n", 2)
 
 
-PARTS = (good_histories, bad_histories, faulty_histories, broken_texts)
+# The most instructions of a check on maps in a usual order, as a part of those on the same maps with a space after the brace.
+MOST_OF_THE_OTHERS = 0.6
+
+
+def usual_histories():
+    """Of each kind of object, and in each usual order: a history of some 1,000 maps, and its certificate."""
+    for maps, _ in GOOD[:6]:
+        maps = maps * (1_000 // len(maps))
+        order = " ".join(str(it) for it in range(0, len(maps), 2))
+        for form in (usual, index_first):
+            yield "".join(f"{form(pairs_of(it))}\n" for it in maps), f"{{:object 0, :order [{order}]}}\n"
+
+
+def cost_of_usual_maps(program, report):
+    """A check of maps in a usual order takes at most 0.6 times the instructions that it takes where a space stands after each brace."""
+    if not shutil.which("valgrind"):
+        return "valgrind is missing"
+
+    def cost(number, history, certificates):
+        files = [program.write(f"{name}.{number}.edn", text) for name, text in (("usual", history), ("order", certificates))]
+        return program.instructions("check", *files)
+
+    rows = [it for history, order in usual_histories() for it in ((history, order), (history.replace("{", "{ "), order))]
+    costs = at_once(lambda number: cost(number, *rows[number]), range(len(rows)))
+    for (history, _), straight, by_tokens in zip(rows[::2], costs[::2], costs[1::2]):
+        report.holds(f"check: {history[:100]!r}", straight <= MOST_OF_THE_OTHERS * by_tokens, (straight, by_tokens))
+    return f"{max(straight / by_tokens for straight, by_tokens in zip(costs[::2], costs[1::2])):.2f} at most"
+
+
+PARTS = (cost_of_usual_maps, good_histories, bad_histories, faulty_histories, broken_texts)

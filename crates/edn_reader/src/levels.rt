@@ -1,5 +1,6 @@
 //! What is open while an element is read: of what kind, and the keys of each map.
-ghost use Rattle.std.specs.Prelude.{◌≡◌, [], List, ℕ, IfOk, OnOk, IfSome, IfNone, false};
+ghost use Rattle.std.specs.Prelude.{◌≡◌, [], List, ℕ, IfOk, OnOk, IfSome, IfNone, true, false};
+ghost use Rattle.std.specs.Str.{bytes_eq};
 ghost use Rattle.std.specs.Option.{ForSome};
 ghost use Rattle.edn_reader.specs.NameSets.{HasNames};
 ghost use Rattle.edn_reader.specs.Shapes as spec;
@@ -44,6 +45,17 @@ pub struct Levels<'a> {
     spare: Vec<&'a str>,
 }
 
+/// Whether the first two bytes differ, as they do for most names of one length.
+#[inline(always)]
+fn differ_early(a: &[u8], b: &[u8]) -> bool
+    ensures { result ≡ true → bytes_eq a.now b.now ≡ false }
+{
+    match (a, b) {
+        ([x, more, ..], [y, others, ..]) => *x != *y || *more != *others,
+        _ => false,
+    }
+}
+
 /// Whether the name is one of these, one by one.
 #[inline(always)]
 fn is_one_of(names: &[&str], name: &str) -> bool
@@ -51,8 +63,11 @@ fn is_one_of(names: &[&str], name: &str) -> bool
 {
     let mut rest = names;
     'names: while let [known, tail @ ..] = rest {
-        // Most names differ in length, and then no bytes are compared.
-        if name.len() == known.len() && name == *known {
+        // Most names differ in length or early, and then nothing is called to compare them.
+        if name.len() == known.len()
+            && !differ_early(name.as_bytes(), known.as_bytes())
+            && name == *known
+        {
             return true;
         }
         rest = tail;
@@ -288,7 +303,21 @@ impl<'a> Levels<'a> {
         }
     }
 
+    /// One more level, which may ask for room.
+    #[cold]
+    #[inline(never)]
+    #[tactic(auto, using(crate::proofs::Nested::levels_push))]
+    fn open_growing(&mut self, level: Level<'a>) -> Result<(), AllocError>
+        ensures { OnOk result
+            (levels_shapes self.new ≡ within (level_shape level.entry) (levels_shapes self.old)) }
+    {
+        let inner = mem::replace(&mut self.inner, level);
+        self.outer.push(inner)?;
+        Ok(())
+    }
+
     /// Opens one more level.
+    #[inline(always)]
     #[tactic(auto, using(crate::proofs::Nested::levels_push, crate::proofs::Nested::length_levels))]
     fn open(&mut self, level: Level<'a>) -> Result<(), Cause>
         ensures { Becomes result (spec.opened (level_shape level.entry) (levels_shapes self.old))
@@ -300,8 +329,13 @@ impl<'a> Levels<'a> {
         if self.outer.len() >= MAX_OPEN {
             return Err(Cause::TooDeep);
         }
-        let inner = mem::replace(&mut self.inner, level);
-        self.outer.push(inner)?;
+        // Most levels find room: these are opened here, and only the others by a call.
+        if self.outer.len() < self.outer.capacity() {
+            let inner = mem::replace(&mut self.inner, level);
+            self.outer.push_reserved(inner);
+            return Ok(());
+        }
+        self.open_growing(level)?;
         Ok(())
     }
 
@@ -314,6 +348,7 @@ impl<'a> Levels<'a> {
     }
 
     /// The innermost level, whose place the one round it takes.
+    #[inline(always)]
     #[tactic(auto, using(crate::proofs::Nested::levels_push))]
     fn leave(&mut self) -> Option<Level<'a>>
         ensures left { IfSome result (λ l.
@@ -324,6 +359,7 @@ impl<'a> Levels<'a> {
         Some(mem::replace(&mut self.inner, level))
     }
 
+    #[inline(always)]
     fn close_vector(&mut self) -> Result<(), Cause>
         ensures { let s = levels_shapes self.old in
             Becomes result (spec.vector_closed s.inner s.outer) (levels_shapes self.new) }

@@ -138,6 +138,8 @@ impl<'a> TokenBuffer<'a> {
             },
             [b'{', rest @ ..] => self.put(alloc, Piece::OpenMap, here, rest),
             [b'}', rest @ ..] => self.put(alloc, Piece::CloseMap, here, rest),
+            [b'[', rest @ ..] => self.put(alloc, Piece::OpenVector, here, rest),
+            [b']', rest @ ..] => self.put(alloc, Piece::CloseVector, here, rest),
             _ => self.take_any(alloc, here),
         }
     }

@@ -82,7 +82,8 @@ impl<'a> TruncatedTokens<'a> {
         Ok(())
     }
 
-    /// A token in a value.
+    /// A token in a value. Few are, so this is apart from what takes the others.
+    #[inline(never)]
     fn keep_inside(&mut self, piece: Piece<'a>) -> Result<(), AllocError>
         ensures { OnOk result
             (kept_in self.new ≡ spec.keep_inside (piece_token piece.entry) (kept_in self.old)) }
@@ -103,6 +104,7 @@ impl<'a> TruncatedTokens<'a> {
     }
 
     /// A token deeper in a value, which is not kept.
+    #[inline(always)]
     fn pass_over(&mut self, piece: Piece<'a>) -> Result<(), AllocError>
         requires { 1 < self.old.below }
         ensures { OnOk result
@@ -145,19 +147,6 @@ impl<'a> TruncatedTokens<'a> {
         self.push(piece)
     }
 
-    /// A token that a value has round it. Few have, so this is apart from what takes the others.
-    #[inline(never)]
-    fn keep_within(&mut self, piece: Piece<'a>) -> Result<(), AllocError>
-        requires { 0 < self.old.below }
-        ensures { OnOk result (kept_in self.new
-            ≡ spec.keep (piece_token piece.entry) (kept_in self.old)) }
-    {
-        if self.below == 1 {
-            return self.keep_inside(piece);
-        }
-        self.pass_over(piece)
-    }
-
     /// One more token.
     #[inline(always)]
     pub fn keep(&mut self, piece: Piece<'a>) -> Result<(), AllocError>
@@ -167,7 +156,10 @@ impl<'a> TruncatedTokens<'a> {
         if self.below == 0 {
             return self.keep_outside(piece);
         }
-        self.keep_within(piece)
+        if self.below == 1 {
+            return self.keep_inside(piece);
+        }
+        self.pass_over(piece)
     }
 
     /// The tokens that are kept.
