@@ -33,7 +33,7 @@ fn late_by(end: &End, greatest: Option<u32>) -> Option<u32>
 }
 
 /// The greatest number, with one more.
-fn raised(greatest: Option<u32>, number: u32) -> u32
+fn greatest_with(greatest: Option<u32>, number: u32) -> u32
     ensures { result ≡ option_map_or (λ by. max by number) greatest number }
 {
     match greatest {
@@ -43,7 +43,7 @@ fn raised(greatest: Option<u32>, number: u32) -> u32
 }
 
 /// The number of the first operation that returned and is not marked.
-fn omitted(ops: &[Invocation], seen: &[bool]) -> Option<u32>
+fn first_omitted(ops: &[Invocation], seen: &[bool]) -> Option<u32>
     requires { length seen.now ≡ length ops.now }
     ensures none { IfNone result (AreMarked ops.now seen.now (length ops.now)) }
     ensures some { IfSome result (λ n. IsFirstUnmarked ops.now seen.now n) }
@@ -56,7 +56,7 @@ fn omitted(ops: &[Invocation], seen: &[bool]) -> Option<u32>
     None
 }
 
-fn refused(object: u32, fault: OrderFault) -> Result<(), Refusal>
+fn refuse(object: u32, fault: OrderFault) -> Result<(), Refusal>
     ensures { result ≡ Err (Refusal.BadOrder object fault) }
 {
     Err(Refusal::BadOrder { object, fault })
@@ -90,30 +90,30 @@ fn check_entries<S: SeqObject<Op = AnyOp, Reply = AnyReply>>(
     for entry in order {
         let op = *entry;
         let Some(k) = place_of(ops, op, near) else {
-            return refused(number, OrderFault::UnknownOperation { op });
+            return refuse(number, OrderFault::UnknownOperation { op });
         };
         if seen[k] {
-            return refused(number, OrderFault::Repeated { op });
+            return refuse(number, OrderFault::Repeated { op });
         }
         let call = ops[k];
         if let Some(by) = late_by(&call.end, greatest) {
-            return refused(number, OrderFault::TooLate { op, by });
+            return refuse(number, OrderFault::TooLate { op, by });
         }
         if !object.possible(&call.op) {
-            return refused(number, OrderFault::NotPossible { op });
+            return refuse(number, OrderFault::NotPossible { op });
         }
         let Ok(gives) = object.apply(&call.op) else {
             return Err(Refusal::NoMemory);
         };
         if call.end.differs(gives) {
-            return refused(number, OrderFault::WrongReply { op, gives });
+            return refuse(number, OrderFault::WrongReply { op, gives });
         }
         seen[k] = true;
         near = k;
-        greatest = Some(raised(greatest, call.number));
+        greatest = Some(greatest_with(greatest, call.number));
     }
-    match omitted(ops, &seen) {
-        Some(op) => refused(number, OrderFault::Omitted { op }),
+    match first_omitted(ops, &seen) {
+        Some(op) => refuse(number, OrderFault::Omitted { op }),
         None => Ok(()),
     }
 }

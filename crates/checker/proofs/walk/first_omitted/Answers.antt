@@ -1,6 +1,6 @@
 use Rattle.std.proofs.Common.{sym}
 use Rattle.checker.proofs.Marks.{first_unmarked}
-use Rattle.checker.proofs.walk.omitted.Goals as goal
+use Rattle.checker.proofs.walk.first_omitted.Goals as goal
 
 pub returns-then-not-seen-k-clause-some : goal.returns-then-not-seen-k-clause-some
 returns-then-not-seen-k-clause-some c =
