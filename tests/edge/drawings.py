@@ -344,17 +344,24 @@ def processor_seconds(program, *words):
     return spent() - begun
 
 
-# How often draw takes the instructions of judge, at most, and how often its processor time, which is more since a drawing touches more memory, and to which other work adds.
-MOST_INSTRUCTIONS, MOST_TIMES = 1.2, 1.5
+# How often draw takes the instructions of judge, at most, and how often its processor time.
+MOST_INSTRUCTIONS, MOST_TIMES = 1.1, 1.2
+# What other work on the machine may add to the least time of draw, and not to that of judge, in seconds.
+NOISE = 0.02
 # The fewest and the most runs of each by which the time is told.
 FEWEST_RUNS, MOST_RUNS = 5, 20
+
+
+def is_fast(with_page, without):
+    """Whether draw, which took so long, is fast enough beside judge."""
+    return with_page <= MOST_TIMES * without + NOISE
 
 
 def least_seconds(program, name):
     """The least times of draw and of judge, of several runs in turn. Other work on the machine only adds to a time, so there are more runs where draw is not fast enough."""
     with_page, without = [], []
     for number in range(MOST_RUNS):
-        if number >= FEWEST_RUNS and min(with_page) <= MOST_TIMES * min(without):
+        if number >= FEWEST_RUNS and is_fast(min(with_page), min(without)):
             break
         with_page.append(processor_seconds(program, "draw", name))
         without.append(processor_seconds(program, "judge", name))
@@ -408,7 +415,7 @@ def histories_of_cost(maps):
 
 
 def cost_of_drawings(program, report):
-    """A page takes at most 1.2 times the instructions of judge, of a queue, of a map, and of a queue without an order; and its time is not much more."""
+    """A page takes at most 1.1 times the instructions of judge, and 1.2 times its time, of a queue, of a map, and of a queue without an order."""
     told = []
     for name, maps in histories_of_cost(100_000).items() if shutil.which("valgrind") else ():
         file = program.write(f"{name}.{HISTORY}", texts.lines(*maps))
@@ -417,7 +424,7 @@ def cost_of_drawings(program, report):
         told.append(f"{name} {with_page / without:.2f} times the instructions")
     for name, maps in histories_of_cost(1_000_000).items():
         with_page, without = least_seconds(program, program.write(f"{name}.{HISTORY}", texts.lines(*maps)))
-        report.holds(f"draw: {name}: it takes at most {MOST_TIMES} times the time of judge", with_page <= MOST_TIMES * without, (with_page, without))
+        report.holds(f"draw: {name}: it takes at most {MOST_TIMES} times the time of judge", is_fast(with_page, without), (with_page, without))
         told.append(f"{name} {with_page:.2f} of {without:.2f} s, {with_page / without:.2f} times")
     return "; ".join(told)
 

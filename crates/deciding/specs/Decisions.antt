@@ -1,12 +1,17 @@
 -- What may be decided of an object of a history.
-use Rattle.std.specs.Prelude.{◌≡◌, ℕ, ◌*◌, min, max, ⊤, Bool, true, false, List, length, Any}
+use Rattle.std.specs.Prelude.{◌≡◌, ◌<◌, ◌↔◌, ℕ, ◌*◌, min, max, ⊤, Bool, true, false}
+use Rattle.std.specs.Prelude.{List, length, map, All, AllPairs, Any, Contains}
 use Rattle.std.specs.Prelude.{Option, Some, None, IsSome}
 use Rattle.std.specs.List.{filter_map}
 use Rattle.model.specs.declared.Kind.{Kind}
-use Rattle.model.specs.Orders.{Call, calls_on}
+use Rattle.model.specs.Linearizable.{IsLinearizable}
+use Rattle.model.specs.Orders.{Call, calls_on, events}
 use Rattle.events.specs.declared.event.Event.{Event}
-use Rattle.events.specs.Events.{kind_at, denoted}
+use Rattle.events.specs.Events.{IsNamed, kind_at, denoted}
+use Rattle.events.specs.Operations.{ObjectCalls, calls_of}
 use Rattle.certificate.specs.declared.Certificate.{Certificate}
+use Rattle.certificate.specs.Denotes.{AreDistinct}
+use Rattle.checker.specs.Refusals.{AreValid}
 use Rattle.search.specs.Answers.{IsFor}
 use Rattle.reason_finder.specs.declared.finding.FoundReason.{FoundReason}
 use Rattle.reason_finder.specs.Reasons.{IsReasonFor}
@@ -89,3 +94,26 @@ IsDecisionOn es steps x d = IsDecision x (kind_at es x) (calls_on x (denoted es)
 -- the certificates among the decisions
 abbrev pub certificates_in : List (ℕ × Decision) → List Certificate
 certificates_in answers = filter_map (λ a. certificate_in a.1) answers
+
+-- These are the objects of the history that the events denote, in rising number, each with all its
+-- calls.
+pub record AreObjectsOf (es : List Event) (objects : List ObjectCalls) : Type 0 where
+  pub rising : AllPairs (λ a b. a.object < b.object) objects
+  pub named : (x : ℕ) → Contains (map (λ o. o.object) objects) x ↔ IsNamed es x
+  pub kinds : All (λ o. o.kind ≡ kind_at es o.object) objects
+  pub calls : All (λ o. calls_of o.ops ≡ calls_on o.object (denoted es)) objects
+
+-- These are decisions on all objects of the history that the events denote, where this number of
+-- steps is given.
+pub record AreDecisionsOn (es : List Event) (steps : Option ℕ) (answers : List (ℕ × Decision))
+    : Type 0 where
+  pub rising : AllPairs (λ a b. a.0 < b.0) answers
+  -- on the objects that some invocation names, and no others
+  pub named : (x : ℕ) → Contains (map (λ a. a.0) answers) x ↔ IsNamed es x
+  pub decisions : All (λ a. IsDecisionOn es steps a.0 a.1) answers
+  -- where one is impossible the history is not linearizable
+  pub impossible : Any (λ a. is_impossible a.1 ≡ true) answers
+      → IsLinearizable (kind_at es) (events (denoted es)) → ⊥
+  -- where all are found `check_all` accepts the certificates
+  pub distinct : AreDistinct (certificates_in answers)
+  pub valid : All (λ a. IsFound a.1) answers → AreValid es (certificates_in answers)

@@ -6,7 +6,7 @@ mod all;
 mod decision;
 mod object;
 
-pub use all::decide_all;
+pub use all::{decide_all, decide_objects};
 pub use decision::Decision;
 pub use object::decide;
 pub use reason_finder::FoundReason;

@@ -13,6 +13,44 @@ const FEW: usize = 10;
 /// How many boxes there are at the end where values are taken out.
 const NEAR: usize = 8;
 
+/// The places of a list that have a box: these, and the last one.
+#[derive(Clone, Copy)]
+struct NearPlaces {
+    from: usize,
+    to: usize,
+    last: usize,
+}
+
+impl NearPlaces {
+    fn has(&self, place: usize) -> bool {
+        self.from <= place && place < self.to || place == self.last
+    }
+}
+
+/// The places of a list of this length that have a box whatever they contain: all where they are
+/// few; else those where values are taken out, and the one at the other end.
+fn near_places(length: usize, is_stack: bool) -> NearPlaces {
+    if length <= FEW {
+        return NearPlaces {
+            from: 0,
+            to: length,
+            last: 0,
+        };
+    }
+    if is_stack {
+        return NearPlaces {
+            from: length.saturating_sub(NEAR),
+            to: length,
+            last: 0,
+        };
+    }
+    NearPlaces {
+        from: 0,
+        to: NEAR,
+        last: length.saturating_sub(1),
+    }
+}
+
 /// Boxes in the making, from left to right.
 #[derive(Drop)]
 struct Boxes<'a> {
@@ -51,13 +89,18 @@ impl Boxes<'_> {
         self.add(kind, text, under, Some(item.by))
     }
 
+    /// How many values are left out, if some are.
     fn skipped(&mut self, count: usize) {
+        if count == 0 {
+            return;
+        }
         let count = count_text(self.memory, count);
         let text = self.memory.text(format!(in self.memory.alloc; "… {count}"));
         self.add(BoxKind::Skip, text, ["", ""], None)
     }
 
-    /// The values of a list, of which that at the place `at` is given, if one is looked for.
+    /// The values of a list, of which that at the place `at` is given, if one is looked for. Says
+    /// whether what was returned is among the others.
     fn list(
         &mut self,
         items: &[Item],
@@ -65,53 +108,48 @@ impl Boxes<'_> {
         is_stack: bool,
         returned: Option<i64>,
     ) -> bool {
-        let length = items.len();
-        let from = if is_stack {
-            length.saturating_sub(NEAR)
-        } else {
-            0
-        };
-        let last = if is_stack {
-            0
-        } else {
-            length.saturating_sub(1)
-        };
+        let near = near_places(items.len(), is_stack);
         let mut is_found = false;
         let mut skipped: usize = 0;
         for (place, item) in items.iter().enumerate() {
             let is_given = at == Some(place);
             let is_returned = !is_found && !is_given && returned == Some(item.value);
-            let is_near = place >= from && place < from.saturating_add(NEAR);
-            if !is_near && !is_returned && place != last && length > FEW {
+            if !is_returned && !near.has(place) {
                 skipped = skipped.saturating_add(1);
                 continue;
             }
-            if skipped > 0 {
-                self.skipped(skipped);
-                skipped = 0;
-            }
-            if is_given {
-                self.item(BoxKind::Gives, *item, ["gives", ""]);
-            } else if is_returned {
-                is_found = true;
-                self.item(BoxKind::Returned, *item, ["returned", ""]);
-            } else {
-                self.item(BoxKind::Plain, *item, ["", ""]);
-            }
-        }
-        if skipped > 0 {
             self.skipped(skipped);
+            skipped = 0;
+            is_found = is_found || is_returned;
+            self.listed(*item, is_given, is_returned);
         }
-        if length == 0 {
-            let text = self
-                .memory
-                .text(String::from_str(self.memory.alloc, "empty"));
-            match at {
-                Some(_) => self.add(BoxKind::Gives, text, ["gives nil", ""], None),
-                None => self.add(BoxKind::Plain, text, ["", ""], None),
-            }
+        self.skipped(skipped);
+        if items.is_empty() {
+            self.empty(at.is_some());
         }
         is_found
+    }
+
+    /// A value of a list.
+    fn listed(&mut self, item: Item, is_given: bool, is_returned: bool) {
+        if is_given {
+            self.item(BoxKind::Gives, item, ["gives", ""]);
+        } else if is_returned {
+            self.item(BoxKind::Returned, item, ["returned", ""]);
+        } else {
+            self.item(BoxKind::Plain, item, ["", ""]);
+        }
+    }
+
+    /// A list of no values, and what it gives if that is looked for.
+    fn empty(&mut self, is_given: bool) {
+        let alloc = self.memory.alloc;
+        let text = self.memory.text(String::from_str(alloc, "empty"));
+        if is_given {
+            self.add(BoxKind::Gives, text, ["gives nil", ""], None);
+        } else {
+            self.add(BoxKind::Plain, text, ["", ""], None);
+        }
     }
 
     /// What was returned, after a list that has it or not.
@@ -189,6 +227,47 @@ fn items_of(memory: &Memory, content: &Content) -> Vec<Item> {
     listed
 }
 
+/// The value that a reply says was returned, if it is one.
+fn value_returned(reply: AnyReply) -> Option<i64> {
+    match reply {
+        AnyReply::Value(value) => value,
+        _ => None,
+    }
+}
+
+impl Boxes<'_> {
+    /// The values of a queue, a stack or a heap, and what the operation returned.
+    fn values(&mut self, content: &Content, operation: &Operation, reply: AnyReply) {
+        let items = items_of(self.memory, content);
+        let is_stack = matches!(content, Content::Stack(_));
+        let last = items.len().saturating_sub(1);
+        let at = match put_by(operation.op()) {
+            Some(_) => None,
+            None => Some(if is_stack { last } else { 0 }),
+        };
+        let returned = value_returned(reply);
+        let is_found = self.list(&items, at, is_stack, returned);
+        self.returned_of_list(returned, is_found);
+    }
+
+    /// What a register contains.
+    fn register(&mut self, item: Option<Item>) {
+        let text = value_text(self.memory, value_of_reply(&value_reply(item)));
+        let by = match item {
+            Some(item) => Some(item.by),
+            None => None,
+        };
+        self.add(BoxKind::Gives, text, ["contains", ""], by);
+    }
+
+    /// Whether a mutex is held, and by which operation.
+    fn mutex(&mut self, holder: Option<u32>) {
+        let word = if holder.is_some() { "held" } else { "free" };
+        let text = self.memory.text(String::from_str(self.memory.alloc, word));
+        self.add(BoxKind::Gives, text, ["", ""], holder);
+    }
+}
+
 /// The boxes of what the object contains where this operation is refused.
 pub(crate) fn boxes_of(
     memory: &Memory,
@@ -201,40 +280,19 @@ pub(crate) fn boxes_of(
         x: 2,
     };
     let reply = operation.reply().unwrap_or(AnyReply::Value(None));
-    let returned = match reply {
-        AnyReply::Value(value) => value,
-        _ => None,
-    };
     match content {
         Content::Queue(_) | Content::Heap(_) | Content::Stack(_) => {
-            let items = items_of(memory, content);
-            let is_stack = matches!(content, Content::Stack(_));
-            let last = items.len().saturating_sub(1);
-            let at = match put_by(operation.op()) {
-                Some(_) => None,
-                None => Some(if is_stack { last } else { 0 }),
-            };
-            let is_found = boxes.list(&items, at, is_stack, returned);
-            boxes.returned_of_list(returned, is_found);
+            boxes.values(content, operation, reply);
         }
         Content::Register(item) => {
-            let text = value_text(memory, value_of_reply(&value_reply(*item)));
-            let by = match item {
-                Some(item) => Some(item.by),
-                None => None,
-            };
-            boxes.add(BoxKind::Gives, text, ["contains", ""], by);
+            boxes.register(*item);
             boxes.returned(reply);
         }
         Content::Map(_) => {
             boxes.entries(content, key_of(operation.op()));
             boxes.returned(reply);
         }
-        Content::Mutex { holder, .. } => {
-            let word = if holder.is_some() { "held" } else { "free" };
-            let text = memory.text(String::from_str(memory.alloc, word));
-            boxes.add(BoxKind::Gives, text, ["", ""], *holder);
-        }
+        Content::Mutex { holder, .. } => boxes.mutex(*holder),
     }
     boxes.boxes
 }

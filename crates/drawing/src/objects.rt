@@ -10,15 +10,15 @@ use crate::tried::try_orders;
 use checker::OrderFault;
 use events::{End, History, Invocation, ObjectHistory};
 use figures::{
-    Memory, Moment, Nemesis, Placed, Scene, Stretch, WithoutLane, choose, figure_of, moments_of,
-    narrow, numbers_of,
+    Memory, Moment, Nemesis, Placed, Scene, Stretch, WithoutLane, choose, figure_of, narrow,
+    near_to, numbers_of,
 };
 use seq_objects::Kind;
 use std::alloc::{AllocError, Global};
 use std::collections::{BTreeMap, BTreeSet};
 use timeline::{
-    Completion, Extent, Figure, Mark, ObjectDrawing, Operation, Span, State, operation_at,
-    operations_of,
+    Completion, ContentBox, Extent, Figure, Mark, ObjectDrawing, Operation, Row, Span, State,
+    operation_at, operations_of,
 };
 
 /// An object with at most as many events is drawn whole.
@@ -96,22 +96,28 @@ fn live_in(operations: &[Operation]) -> usize {
     live
 }
 
+/// The window of a figure, and the focus alone. Events are listed near to them; of the others they
+/// need only that there are some.
 fn window_of(
     memory: &Memory,
     operations: &[Operation],
     focus: &BTreeMap<u32, Mark>,
     subject: &Subject<'_>,
 ) -> Window {
-    let mut moments = moments_of(memory, operations, subject.nemeses);
+    let nemeses = subject.nemeses;
     let events = focus_events(memory, operations, focus);
+    let near = near_to(memory, operations, &events, subject.stretch);
+    let mut moments = near.moments(memory, operations, nemeses);
     choose(memory, &mut moments, &events, subject.stretch, WHOLE);
     let numbers = numbers_of(memory, focus);
     let mut zoomed = Vec::new(memory.alloc);
     if !focus.is_empty() {
         zoomed = focus_moments(memory, operations, &moments, focus);
-        narrow(memory, operations, &mut zoomed, &numbers);
+        let without = narrow(memory, operations, &mut zoomed, &numbers);
+        near.add_holes(memory, operations, nemeses, &without, &mut zoomed);
     }
     let without = narrow(memory, operations, &mut moments, &numbers);
+    near.add_holes(memory, operations, nemeses, &without, &mut moments);
     let drawn = drawn_numbers(memory, operations, &moments);
     Window {
         extent: Extent {
@@ -180,6 +186,22 @@ fn focus_points(memory: &Memory, points: &[Placed], focus: &BTreeMap<u32, Mark>)
     kept
 }
 
+/// Whether the focus has a figure of its own.
+fn is_alone(explanation: &Explanation<'_>, window: &Window) -> bool {
+    match explanation.alone {
+        Alone::Never => false,
+        Alone::Above(few) => window.drawn.len() > few,
+        Alone::Always => true,
+    }
+}
+
+/// Whether the figure of the window dims what the sentence does not speak of.
+fn dims_others(explanation: &Explanation<'_>, window: &Window) -> bool {
+    let few = explanation.focus.len().saturating_add(1);
+    let has_focus = !explanation.focus.is_empty();
+    matches!(explanation.alone, Alone::Always) || has_focus && window.drawn.len() > few
+}
+
 /// The two figures of an object: the operations of the focus alone, where they are shown alone, and
 /// the window.
 fn figures(
@@ -190,32 +212,24 @@ fn figures(
     points: &[Placed],
     explanation: &Explanation<'_>,
 ) -> (Option<Figure>, Figure) {
-    let focus = &explanation.focus;
-    let few = focus.len().saturating_add(1);
     let whole = Scene {
         operations,
         moments: &window.moments,
         nemeses: subject.nemeses,
         points,
-        focus,
+        focus: &explanation.focus,
         arrows: &explanation.arrows,
         is_zoom: false,
-        dims: matches!(explanation.alone, Alone::Always)
-            || !focus.is_empty() && window.drawn.len() > few,
+        dims: dims_others(explanation, window),
         maps: subject.maps,
         names_objects: false,
         without_lane: &window.without.operations,
         faulty: None,
     };
-    let is_alone = match explanation.alone {
-        Alone::Never => false,
-        Alone::Above(few) => window.drawn.len() > few,
-        Alone::Always => true,
-    };
-    if !is_alone {
+    if !is_alone(explanation, window) {
         return (None, figure_of(memory, &whole));
     }
-    let zoom_points = focus_points(memory, points, focus);
+    let zoom_points = focus_points(memory, points, &explanation.focus);
     let zoom = Scene {
         moments: &window.zoomed,
         points: &zoom_points,
@@ -243,6 +257,37 @@ fn entry_at(
     operation_at(operations, *number)
 }
 
+/// The points and the rows of an order, if there is one.
+fn points_and_rows(
+    memory: &Memory,
+    operations: &[Operation],
+    kind: Kind,
+    order: Option<&[i64]>,
+    refused: Option<usize>,
+    drawn: &BTreeSet<u32>,
+) -> (Vec<Placed>, Vec<Row>) {
+    let Some(order) = order else {
+        return (Vec::new(memory.alloc), Vec::new(memory.alloc));
+    };
+    let walk = walk_along(memory, operations, kind, order, refused, drawn);
+    let rows = rows_of(memory, operations, order, refused, walk.rows);
+    (walk.points, rows)
+}
+
+/// The boxes of what the object contains before the entry that is refused, if one is.
+fn boxes_before(
+    memory: &Memory,
+    operations: &[Operation],
+    order: Option<&[i64]>,
+    explanation: &Explanation<'_>,
+) -> Vec<ContentBox> {
+    let operation = entry_at(operations, order, explanation.refused);
+    match (&explanation.content, operation) {
+        (Some(content), Some(operation)) => boxes_of(memory, content, &operation),
+        _ => Vec::new(memory.alloc),
+    }
+}
+
 /// The drawing of an object with this order, if there is one, and with its sentences.
 fn draw(
     memory: &Memory,
@@ -257,19 +302,9 @@ fn draw(
     let kind = subject.object.kind();
     let window = window_of(memory, operations, &explanation.focus, subject);
     let refused = explanation.refused;
-    let (points, rows) = match order {
-        Some(order) => {
-            let walk = walk_along(memory, operations, kind, order, refused, &window.drawn);
-            let rows = rows_of(memory, operations, order, refused, walk.rows);
-            (walk.points, rows)
-        }
-        None => (Vec::new(memory.alloc), Vec::new(memory.alloc)),
-    };
+    let (points, rows) = points_and_rows(memory, operations, kind, order, refused, &window.drawn);
     let (zoom, figure) = figures(memory, operations, subject, &window, &points, &explanation);
-    let boxes = match (&explanation.content, entry_at(operations, order, refused)) {
-        (Some(content), Some(operation)) => boxes_of(memory, content, &operation),
-        _ => Vec::new(memory.alloc),
-    };
+    let boxes = boxes_before(memory, operations, order, &explanation);
     let mut drawing = ObjectDrawing::new(memory.alloc, subject.object, figure, window.extent);
     drawing.zoom = zoom;
     drawing.boxes = boxes;

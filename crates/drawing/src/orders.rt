@@ -27,30 +27,33 @@ pub(crate) struct Walk {
 }
 
 impl Walk {
-    /// Takes in an entry that is valid, and is drawn or not.
+    /// Takes in an entry that is valid, and is drawn or not. The content, where it is shown.
     fn take(
         &mut self,
         memory: &Memory,
         place: usize,
         operation: Operation,
         is_drawn: bool,
+        is_shown: bool,
     ) -> Option<String> {
         self.content
             .apply(memory, operation.number(), &operation.op());
         self.anchor = self.anchor.max(operation.number());
-        if !is_drawn {
+        if !is_shown {
             return None;
         }
         let content = self.content.text(memory);
-        memory.note(
-            self.points.push(Placed {
-                rank: rank_of(place),
-                operation,
-                anchor: self.anchor,
-                is_refused: false,
-                content: memory.text(content.clone()),
-            }),
-        );
+        if is_drawn {
+            memory.note(
+                self.points.push(Placed {
+                    rank: rank_of(place),
+                    operation,
+                    anchor: self.anchor,
+                    is_refused: false,
+                    content: memory.text(content.clone()),
+                }),
+            );
+        }
         Some(content)
     }
 
@@ -75,10 +78,60 @@ fn rank_of(place: usize) -> u32 {
     u32::try_from(place.saturating_add(1)).unwrap_or(u32::MAX)
 }
 
-fn is_drawn(drawn: &BTreeSet<u32>, operation: Option<Operation>) -> bool {
-    match operation {
-        Some(operation) => drawn.contains(&operation.number()),
-        None => false,
+/// Which entries of an order are walked along, drawn and shown.
+#[derive(Clone, Copy)]
+struct Route<'a> {
+    /// The place of the entry that is refused.
+    refused: Option<usize>,
+    /// The numbers of the operations that are drawn.
+    drawn: &'a BTreeSet<u32>,
+    /// How many entries there are up to the fault, or in all.
+    length: usize,
+    /// The place from which on each entry is shown.
+    first_near: usize,
+}
+
+impl Route<'_> {
+    fn new<'a>(order: &[i64], refused: Option<usize>, drawn: &'a BTreeSet<u32>) -> Route<'a> {
+        let (length, first_near) = match refused {
+            Some(place) => (place.saturating_add(1), place.saturating_sub(BEFORE)),
+            None => (order.len(), usize::MAX),
+        };
+        Route {
+            refused,
+            drawn,
+            length,
+            first_near,
+        }
+    }
+
+    fn is_short(&self) -> bool {
+        self.length <= SHORT
+    }
+
+    /// How many entries are walked along.
+    fn walked(&self, order: &[i64]) -> usize {
+        if self.refused.is_some() || self.is_short() {
+            self.length
+        } else {
+            entries_to_draw(order, self.drawn)
+        }
+    }
+
+    fn is_refused(&self, place: usize) -> bool {
+        self.refused == Some(place)
+    }
+
+    fn is_drawn(&self, operation: Option<Operation>) -> bool {
+        match operation {
+            Some(operation) => self.drawn.contains(&operation.number()),
+            None => false,
+        }
+    }
+
+    /// Whether the entry has a row, where it is drawn or not.
+    fn is_shown(&self, place: usize, is_drawn: bool) -> bool {
+        is_drawn || place >= self.first_near || self.is_short()
     }
 }
 
@@ -113,28 +166,14 @@ pub(crate) fn walk_along(
         rows: Vec::new(memory.alloc),
         anchor: 0,
     };
-    let (length, first_near) = match refused {
-        Some(place) => (place.saturating_add(1), place.saturating_sub(BEFORE)),
-        None => (order.len(), usize::MAX),
-    };
-    let walked = if refused.is_some() || length <= SHORT {
-        length
-    } else {
-        entries_to_draw(order, drawn)
-    };
-    for (place, number) in order.iter().take(walked).enumerate() {
+    let route = Route::new(order, refused, drawn);
+    for (place, number) in order.iter().take(route.walked(order)).enumerate() {
         let operation = operation_at(operations, *number);
-        let is_refused = refused == Some(place);
-        let is_drawn = is_drawn(drawn, operation);
-        let is_shown = is_drawn || place >= first_near || length <= SHORT;
+        let is_drawn = route.is_drawn(operation);
+        let is_shown = route.is_shown(place, is_drawn);
         let content = match operation {
-            Some(operation) if !is_refused => {
-                let content = walk.take(memory, place, operation, is_drawn);
-                if is_shown && !is_drawn {
-                    Some(walk.content.text(memory))
-                } else {
-                    content
-                }
+            Some(operation) if !route.is_refused(place) => {
+                walk.take(memory, place, operation, is_drawn, is_shown)
             }
             _ => {
                 walk.refuse(memory, place, operation);
@@ -142,22 +181,35 @@ pub(crate) fn walk_along(
             }
         };
         if is_shown {
+            let entry = if route.is_refused(place) {
+                Entry::Refused
+            } else {
+                Entry::Valid
+            };
             memory.note(
-                walk.rows.push(Row::Entry {
-                    rank: place.saturating_add(1),
-                    number: *number,
-                    operation,
-                    content,
-                    entry: if is_refused {
-                        Entry::Refused
-                    } else {
-                        Entry::Valid
-                    },
-                }),
+                walk.rows
+                    .push(entry_row(place, *number, operation, content, entry)),
             );
         }
     }
     walk
+}
+
+/// The row of the entry at this place.
+fn entry_row(
+    place: usize,
+    number: i64,
+    operation: Option<Operation>,
+    content: Option<String>,
+    entry: Entry,
+) -> Row {
+    Row::Entry {
+        rank: place.saturating_add(1),
+        number,
+        operation,
+        content,
+        entry,
+    }
 }
 
 /// The entries after the refused one that have a row.
@@ -170,13 +222,8 @@ fn add_later(
 ) {
     let first = refused.saturating_add(1);
     for (place, number) in order.iter().enumerate().skip(first).take(AFTER) {
-        memory.note(rows.push(Row::Entry {
-            rank: place.saturating_add(1),
-            number: *number,
-            operation: operation_at(operations, *number),
-            content: None,
-            entry: Entry::NotLookedAt,
-        }));
+        let operation = operation_at(operations, *number);
+        memory.note(rows.push(entry_row(place, *number, operation, None, Entry::NotLookedAt)));
     }
 }
 

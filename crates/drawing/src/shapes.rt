@@ -162,6 +162,90 @@ fn left_words(operation: &Operation, left: Option<i64>) -> [Span; 4] {
     }
 }
 
+/// Two values that went in one after the other, the first of them by a map, and the operation that
+/// took the second one out, which returned at the other map.
+#[derive(Clone, Copy)]
+struct Turn {
+    first: Operation,
+    v: i64,
+    at: u32,
+    second: Operation,
+    w: i64,
+    taker: Operation,
+    end: u32,
+}
+
+impl Turn {
+    /// The sentence: the second value came out first. Then it says this of the first one.
+    fn spans(&self, then: [Span; 3]) -> [Span; 20] {
+        [
+            Span::Operation(self.first),
+            Span::Text(" returned (map "),
+            Span::number(self.at),
+            Span::Text(") before "),
+            Span::Operation(self.second),
+            Span::Text(" was invoked, so "),
+            Span::integer(self.v),
+            Span::Text(" went in before "),
+            Span::integer(self.w),
+            Span::Text(". But "),
+            Span::Operation(self.taker),
+            Span::Text(" took "),
+            Span::integer(self.w),
+            Span::Text(" out, and nothing invoked before map "),
+            Span::number(self.end),
+            Span::Text(" took "),
+            Span::integer(self.v),
+            then[0],
+            then[1],
+            then[2],
+        ]
+    }
+}
+
+/// An operation that found a value, and an earlier one that left another, which returned at a map
+/// before that. The later one returned at the other map.
+#[derive(Clone, Copy)]
+struct Replaced<'p> {
+    earlier: &'p Operation,
+    later: &'p Operation,
+    left: Option<i64>,
+    found: Option<i64>,
+    at: u32,
+    end: u32,
+}
+
+impl Replaced<'_> {
+    /// The sentence: the value that was found is out of date.
+    fn spans(&self) -> [Span; 20] {
+        let is_read = matches!(self.later.op(), AnyOp::Read | AnyOp::Get(_));
+        let value = Span::reply(AnyReply::Value(self.found));
+        let words = left_words(self.earlier, self.left);
+        [
+            Span::Operation(*self.later),
+            Span::Text(if is_read { " returned " } else { " found " }),
+            value,
+            Span::Text(". But "),
+            Span::Operation(*self.earlier),
+            words[0],
+            words[1],
+            words[2],
+            words[3],
+            Span::Text(" and returned (map "),
+            Span::number(self.at),
+            Span::Text(") before that began, and nothing else that ran in between (maps "),
+            Span::number(self.earlier.number()),
+            Span::Text(" to "),
+            Span::number(self.end),
+            Span::Text(") made it "),
+            value,
+            Span::Text(" again. So "),
+            value,
+            Span::Text(" is out of date."),
+        ]
+    }
+}
+
 /// The first of these operations that took the value out.
 fn taker_in(operations: &[Operation], value: i64) -> Option<Operation> {
     for operation in operations {
@@ -409,32 +493,16 @@ impl Shape<'_, '_, '_> {
         if self.kind != Kind::Queue || v == w || !is_alone || self.may_be_taken(v, end) {
             return None;
         }
-        let then = self.taken_then(v);
-        said(
-            self.memory,
-            &[
-                Span::Operation(first),
-                Span::Text(" returned (map "),
-                Span::number(at),
-                Span::Text(") before "),
-                Span::Operation(second),
-                Span::Text(" was invoked, so "),
-                Span::integer(v),
-                Span::Text(" went in before "),
-                Span::integer(w),
-                Span::Text(". But "),
-                Span::Operation(taker),
-                Span::Text(" took "),
-                Span::integer(w),
-                Span::Text(" out, and nothing invoked before map "),
-                Span::number(end),
-                Span::Text(" took "),
-                Span::integer(v),
-                then[0],
-                then[1],
-                then[2],
-            ],
-        )
+        let turn = Turn {
+            first,
+            v,
+            at,
+            second,
+            w,
+            taker,
+            end,
+        };
+        said(self.memory, &turn.spans(self.taken_then(v)))
     }
 
     /// An operation of a register or a map finds a value that was replaced before it began.
@@ -457,34 +525,15 @@ impl Shape<'_, '_, '_> {
         {
             return None;
         }
-        let is_read = matches!(later.op(), AnyOp::Read | AnyOp::Get(_));
-        let value = Span::reply(AnyReply::Value(found));
-        let words = left_words(earlier, left);
-        said(
-            self.memory,
-            &[
-                Span::Operation(*later),
-                Span::Text(if is_read { " returned " } else { " found " }),
-                value,
-                Span::Text(". But "),
-                Span::Operation(*earlier),
-                words[0],
-                words[1],
-                words[2],
-                words[3],
-                Span::Text(" and returned (map "),
-                Span::number(at),
-                Span::Text(") before that began, and nothing else that ran in between (maps "),
-                Span::number(earlier.number()),
-                Span::Text(" to "),
-                Span::number(end),
-                Span::Text(") made it "),
-                value,
-                Span::Text(" again. So "),
-                value,
-                Span::Text(" is out of date."),
-            ],
-        )
+        let moments = Replaced {
+            earlier,
+            later,
+            left,
+            found,
+            at,
+            end,
+        };
+        said(self.memory, &moments.spans())
     }
 
     /// A mutex is released twice, and not acquired in between.

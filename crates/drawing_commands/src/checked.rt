@@ -8,6 +8,7 @@ ghost use Rattle.drawing_commands.specs.Drawings.{IsCheckedDrawing, IsPageWith};
 use crate::pages::{unread_output, verdict_output};
 use crate::request::Request;
 use edn::Sink;
+use events::split;
 use judging::{texts_alone, verdict_alone, verdict_on_failure};
 use outputs::{Output, send, send_out_of_memory};
 use std::alloc::{AllocError, Global};
@@ -26,7 +27,10 @@ fn texts_output(
     match texts_alone(alloc, history, certificates) {
         Ok((events, orders)) => {
             let verdict = verdict_alone(alloc, &events, &orders);
-            verdict_output(alloc, request, history, &events, &orders, &verdict)
+            let objects = split(alloc, &events)?;
+            verdict_output(
+                alloc, request, history, &events, &objects, &orders, &verdict,
+            )
         }
         Err(failure) => {
             let verdict = verdict_on_failure(failure);

@@ -3,6 +3,7 @@
 ghost use Rattle.std.specs.Prelude.{◌≡◌, false, IfOk};
 ghost use Rattle.edn_reader.specs.Sound.{IsShort};
 ghost use Rattle.markup.specs.Marks.{IsMade};
+ghost use Rattle.deciding.specs.Decisions.{AreObjectsOf};
 ghost use Rattle.judging.specs.Texts.{DenotesHistory};
 ghost use Rattle.history_commands.specs.Judged.{IsJudgement};
 ghost use Rattle.outputs.specs.Outputs.{Leaves};
@@ -12,8 +13,9 @@ use crate::pages::{text_of, unread_output, verdict_output};
 use crate::request::{Request, file_name};
 use deciding::Decision;
 use edn::Sink;
+use events::{ObjectHistory, split};
 use history::History;
-use history_commands::{Judgement, judge_events};
+use history_commands::{Judgement, judge_objects};
 use history_pages::{Options, Places, Texts, judged_page, places_in};
 use judging::{history_in, verdict_on_failure};
 use markup::Html;
@@ -25,6 +27,7 @@ use std::alloc::{AllocError, Global};
 fn page_with<'a>(
     alloc: Global,
     history: &History,
+    objects: &[ObjectHistory],
     answers: &[(u32, Decision)],
     name: &'a str,
     lines: &'a str,
@@ -38,7 +41,7 @@ fn page_with<'a>(
         maps: places.maps,
         nemeses: &places.nemeses,
     };
-    judged_page(alloc, history, answers, &texts, options)
+    judged_page(alloc, history, objects, answers, &texts, options)
 }
 
 /// The page of a history of which some object has no certificate.
@@ -47,6 +50,7 @@ fn open_page(
     request: &Request<'_>,
     text: &[u8],
     history: &History,
+    objects: &[ObjectHistory],
     answers: &[(u32, Decision)],
     lines: &[u8],
 ) -> Result<Vec<u8>, AllocError>
@@ -56,7 +60,54 @@ fn open_page(
     let places = places_in(alloc, history, text)?;
     let name = String::from_str(alloc, file_name(request.history))?;
     let options = request.options;
-    page_with(alloc, history, answers, &name, &lines, &places, options)?.into_text()
+    page_with(
+        alloc, history, objects, answers, &name, &lines, &places, options,
+    )?
+    .into_text()
+}
+
+/// The page of a history that is judged, which has these objects, and the status of the judgement.
+fn objects_output(
+    alloc: Global,
+    request: &Request<'_>,
+    text: &[u8],
+    history: &History,
+    objects: &[ObjectHistory],
+) -> Result<Output, AllocError>
+    requires denotes { DenotesHistory text.now history.now }
+    requires short { IsShort text.now }
+    requires objects { AreObjectsOf history.now objects.now }
+    ensures drawn { IfOk result (λ o.
+        IsPageWith (IsJudgement text.now request.now.steps)
+        o.status o.text.items) }
+{
+    match judge_objects(alloc, history, objects, request.steps) {
+        Judgement::Certified {
+            certificates,
+            verdict,
+        } => verdict_output(
+            alloc,
+            request,
+            text,
+            history,
+            objects,
+            &certificates,
+            &verdict,
+        ),
+        Judgement::Open { answers, output } => Ok(Output {
+            status: output.status,
+            text: open_page(
+                alloc,
+                request,
+                text,
+                history,
+                objects,
+                &answers,
+                &output.text,
+            )?,
+        }),
+        Judgement::NoMemory => unread_output(alloc, request, text, b"", &Verdict::NoMemory),
+    }
 }
 
 /// The page of a history that is judged, and the status of the judgement.
@@ -72,16 +123,9 @@ fn history_output(
         IsPageWith (IsJudgement text.now request.now.steps)
         o.status o.text.items) }
 {
-    match judge_events(alloc, history, request.steps) {
-        Judgement::Certified {
-            certificates,
-            verdict,
-        } => verdict_output(alloc, request, text, history, &certificates, &verdict),
-        Judgement::Open { answers, output } => Ok(Output {
-            status: output.status,
-            text: open_page(alloc, request, text, history, &answers, &output.text)?,
-        }),
-        Judgement::NoMemory => unread_output(alloc, request, text, b"", &Verdict::NoMemory),
+    match split(alloc, history) {
+        Ok(objects) => objects_output(alloc, request, text, history, &objects),
+        Err(AllocError) => unread_output(alloc, request, text, b"", &Verdict::NoMemory),
     }
 }
 

@@ -7,6 +7,7 @@ ghost use Rattle.outputs.specs.Statuses as spec;
 use crate::request::{Request, file_name};
 use certificate::Certificate;
 use edn::Out;
+use events::ObjectHistory;
 use fault_pages::{FaultyText, fault_page, memory_page};
 use history::History;
 use history_pages::{Texts, checked_page, places_in};
@@ -77,12 +78,14 @@ fn page_of_texts(
     }
 }
 
-/// The page of a history, from this text, that was judged by these certificates.
+/// The page of a history, from this text, that has these objects and was judged by these
+/// certificates.
 fn page_of_history(
     alloc: Global,
     request: &Request<'_>,
     text: &[u8],
     history: &History,
+    objects: &[ObjectHistory],
     certificates: &[Certificate],
     verdict: &Verdict,
 ) -> Result<Html, AllocError> {
@@ -103,6 +106,7 @@ fn page_of_history(
     checked_page(
         alloc,
         history,
+        objects,
         certificates,
         refusal,
         &texts,
@@ -110,19 +114,29 @@ fn page_of_history(
     )
 }
 
-/// The page of a history that was judged by certificates, and the status of the verdict.
+/// The page of a history that has these objects and was judged by certificates, and the status of
+/// the verdict.
 pub(crate) fn verdict_output(
     alloc: Global,
     request: &Request<'_>,
     text: &[u8],
     history: &History,
+    objects: &[ObjectHistory],
     certificates: &[Certificate],
     verdict: &Verdict,
 ) -> Result<Output, AllocError>
     ensures { IfOk result (λ o. (o.status ≡ spec.status_of verdict.now)
         × ∥ IsMade o.text.items ∥₁) }
 {
-    let page = page_of_history(alloc, request, text, history, certificates, verdict)?;
+    let page = page_of_history(
+        alloc,
+        request,
+        text,
+        history,
+        objects,
+        certificates,
+        verdict,
+    )?;
     let text = page.into_text()?;
     Ok(Output {
         status: status_of(verdict),

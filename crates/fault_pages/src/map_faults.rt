@@ -349,25 +349,28 @@ fn first_for<'a>(
     Some((found, *forms.get(found)?))
 }
 
-/// The sentences on a text whose forms are not certificates.
-pub(crate) fn explain_forms(memory: &Memory, text: &[u8], fault: CertFault) -> Explained {
-    let mut explained = Explained::new(memory);
-    let forms = elements_in(memory, text, 0);
-    let nowhere = Place {
-        from: text.len(),
-        to: text.len(),
-    };
-    let place = forms.get(fault.form).copied().unwrap_or(nowhere);
-    let wrong = match fault.kind {
+/// What is wrong with a form.
+fn wrong_form(kind: CertFaultKind) -> &'static str {
+    match kind {
         CertFaultKind::TwoForOneObject => " is a second certificate for the same object.",
         _ => " is no certificate: a map with :object and :order, a vector of integers.",
-    };
+    }
+}
+
+/// Which form is faulty, and what is wrong with it; and its place.
+fn explain_form(
+    memory: &Memory,
+    explained: &mut Explained,
+    text: &[u8],
+    fault: CertFault,
+    place: Place,
+) {
     explained.say(
         memory,
         &[
             Span::Text("The text can be read, but these are no certificates. Form "),
             Span::Count(fault.form),
-            Span::Text(wrong),
+            Span::Text(wrong_form(fault.kind)),
         ],
     );
     let caption = [
@@ -377,20 +380,42 @@ pub(crate) fn explain_forms(memory: &Memory, text: &[u8], fault: CertFault) -> E
         Span::Count(fault.form),
     ];
     explained.show(memory, excerpt(memory, text, place, &caption, "here"));
+}
+
+/// The place of the first of the forms that has the object of the form at this place.
+fn show_first_for(
+    memory: &Memory,
+    explained: &mut Explained,
+    text: &[u8],
+    forms: &[Place],
+    place: Place,
+) {
     let object = value_in(memory, place.of(text), b":object");
-    let before = forms.get(..fault.form).unwrap_or(&[]);
-    let first = object.and_then(|object| first_for(memory, text, before, object));
-    match (fault.kind, first, number_of(object)) {
-        (CertFaultKind::TwoForOneObject, Some((form, place)), Some(object)) => {
-            let caption = [
-                Span::Text("The first one for object "),
-                Span::Number(object),
-                Span::Text(", form "),
-                Span::Number(form as u64),
-            ];
-            explained.show(memory, excerpt(memory, text, place, &caption, "here"));
-        }
-        _ => {}
+    let first = object.and_then(|object| first_for(memory, text, forms, object));
+    if let (Some((form, place)), Some(object)) = (first, number_of(object)) {
+        let caption = [
+            Span::Text("The first one for object "),
+            Span::Number(object),
+            Span::Text(", form "),
+            Span::Number(form as u64),
+        ];
+        explained.show(memory, excerpt(memory, text, place, &caption, "here"));
+    }
+}
+
+/// The sentences on a text whose forms are not certificates.
+pub(crate) fn explain_forms(memory: &Memory, text: &[u8], fault: CertFault) -> Explained {
+    let mut explained = Explained::new(memory);
+    let forms = elements_in(memory, text, 0);
+    let nowhere = Place {
+        from: text.len(),
+        to: text.len(),
+    };
+    let place = forms.get(fault.form).copied().unwrap_or(nowhere);
+    explain_form(memory, &mut explained, text, fault, place);
+    if matches!(fault.kind, CertFaultKind::TwoForOneObject) {
+        let before = forms.get(..fault.form).unwrap_or(&[]);
+        show_first_for(memory, &mut explained, text, before, place);
     }
     explained
 }

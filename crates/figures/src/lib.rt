@@ -7,6 +7,7 @@ mod labels;
 mod lines;
 mod memory;
 mod moments;
+mod near;
 mod numbers;
 mod placing;
 mod scene;
@@ -18,6 +19,7 @@ pub use labels::{characters, count_text, label, push_count, push_value, put_by, 
 pub use lines::figure_of;
 pub use memory::Memory;
 pub use moments::{Moment, Nemesis, moments_of};
+pub use near::{Near, near_to};
 pub use numbers::{CHARACTER, SMALL, SMALL_CHARACTER, digits, point_room};
 pub use scene::{FaultyMap, Placed, Scene, numbers_of};
 pub use window::{Stretch, WithoutLane, choose, narrow};

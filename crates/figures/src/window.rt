@@ -16,7 +16,10 @@ pub struct Stretch {
 
 /// How many events before and after each focus event are drawn, where the pairs before are too
 /// many.
-const AROUND: [(usize, usize); 6] = [(20, 10), (10, 5), (5, 2), (2, 1), (1, 0), (0, 0)];
+const AROUND: [(usize, usize); 6] = [(MOST_BEFORE, 10), (10, 5), (5, 2), (2, 1), (1, 0), (0, 0)];
+
+/// The most events before or after a focus event that are drawn for it.
+pub(crate) const MOST_BEFORE: usize = 20;
 
 /// The longest hole that is filled.
 const HOLE: usize = 7;
@@ -193,6 +196,8 @@ fn lanes_of(memory: &Memory, nearest: &BTreeMap<u64, Nearness>) -> BTreeSet<u64>
 pub struct WithoutLane {
     pub operations: BTreeSet<u32>,
     pub processes: usize,
+    /// The processes that have a lane, if some have none.
+    pub lanes: BTreeSet<u64>,
 }
 
 /// Keeps at most as many processes as there are lanes, those nearest to the focus, and says what of
@@ -207,15 +212,16 @@ pub fn narrow(
     let mut without = WithoutLane {
         operations: BTreeSet::new(memory.alloc),
         processes: nearest.len().saturating_sub(LANES),
+        lanes: BTreeSet::new(memory.alloc),
     };
     if without.processes == 0 {
         return without;
     }
-    let lanes = lanes_of(memory, &nearest);
+    without.lanes = lanes_of(memory, &nearest);
     let mut kept = Vec::new(memory.alloc);
     for moment in moments.iter() {
         match moment.of(operations) {
-            Some(operation) if !lanes.contains(&operation.process) => {
+            Some(operation) if !without.lanes.contains(&operation.process) => {
                 if moment.is_drawn {
                     memory.note(without.operations.insert(operation.number()));
                 }

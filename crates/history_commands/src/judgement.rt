@@ -1,10 +1,11 @@
 //! The judgement of a history without certificates: they are found, and it is judged by them. Of an
 //! object that has none it is said why.
 
-ghost use Rattle.std.specs.Prelude.{◌≡◌, ◌++◌, ℕ, false, IfOk, IfErr, OnOk, Option};
+ghost use Rattle.std.specs.Prelude.{◌≡◌, ◌++◌, ℕ, false, All, IfOk, IfErr, OnOk, Option};
 ghost use Rattle.std.specs.List.{list_all, list_any};
 ghost use Rattle.certificate.specs.Denotes.{AreDistinct};
 ghost use Rattle.checker.specs.Refusals.{AreValid};
+ghost use Rattle.deciding.specs.Decisions.{AreDecisionsOn, AreObjectsOf, IsFound};
 ghost use Rattle.deciding.specs.Decisions.{certificates_in, is_impossible};
 ghost use Rattle.history_commands.specs.Judged as judged;
 ghost use Rattle.history_commands.specs.Judged.{impossible_lines, is_order, judge_status};
@@ -16,8 +17,9 @@ ghost use Rattle.outputs.specs.Outputs.{Leaves};
 use crate::searching::{push_note, push_steps};
 use crate::texts::history_of;
 use certificate::Certificate;
-use deciding::{Decision, FoundReason, decide_all};
+use deciding::{Decision, FoundReason, decide_all, decide_objects};
 use edn::Sink;
+use events::ObjectHistory;
 use history::History;
 use judging::verdict_alone;
 use outputs::{NO, NO_MEMORY, Output, YES, put_out};
@@ -197,6 +199,23 @@ pub enum Judgement {
     NoMemory,
 }
 
+/// The result, where these are the decisions on all objects of the history.
+fn judge_answers(alloc: Global, history: &History, answers: Vec<(u32, Decision)>) -> Judgement
+    requires distinct { AreDistinct (certificates_in answers.items) }
+    requires valid { All (λ a. IsFound a.1) answers.items
+        → AreValid history.now (certificates_in answers.items) }
+    ensures { (steps : Option ℕ) → AreDecisionsOn history.now steps answers.items
+        → IsJudged history.now steps result }
+{
+    if are_all_orders(&answers) {
+        return judge_found(alloc, history, answers);
+    }
+    match output_of(alloc, history, &answers) {
+        Ok(output) => Judgement::Open { answers, output },
+        Err(AllocError) => Judgement::NoMemory,
+    }
+}
+
 /// Finds certificates of the history, and gives them with the verdict on them, or else what is said
 /// of objects that have none. The last search takes at most `steps` steps for each object, or else
 /// 1,000,000, or 100 for each operation that did not fail if that is more. What comes before takes
@@ -204,14 +223,25 @@ pub enum Judgement {
 pub fn judge_events(alloc: Global, history: &History, steps: Option<u32>) -> Judgement
     ensures judges { IsJudged history.now steps result }
 {
-    let Ok(answers) = decide_all(alloc, history, steps) else {
-        return Judgement::NoMemory;
-    };
-    if are_all_orders(&answers) {
-        return judge_found(alloc, history, answers);
+    match decide_all(alloc, history, steps) {
+        Ok(answers) => judge_answers(alloc, history, answers),
+        Err(AllocError) => Judgement::NoMemory,
     }
-    match output_of(alloc, history, &answers) {
-        Ok(output) => Judgement::Open { answers, output },
+}
+
+/// As `judge_events`, of a history that was split into its objects before.
+pub fn judge_objects(
+    alloc: Global,
+    history: &History,
+    objects: &[ObjectHistory],
+    steps: Option<u32>,
+) -> Judgement
+    // The objects are those that `split` gives of this history.
+    requires { AreObjectsOf history.now objects.now }
+    ensures judges { IsJudged history.now steps result }
+{
+    match decide_objects(alloc, history, objects, steps) {
+        Ok(answers) => judge_answers(alloc, history, answers),
         Err(AllocError) => Judgement::NoMemory,
     }
 }

@@ -13,7 +13,7 @@ mod texts;
 
 pub use comments::comments_text;
 pub use finding::report_find;
-pub use judgement::{Judgement, judge_events, report_judgement};
+pub use judgement::{Judgement, judge_events, judge_objects, report_judgement};
 pub use lines::{line_with_place, text_with_number};
 pub use refuting::report_refutation;
 pub use searching::report_search;

@@ -8,7 +8,7 @@ use drawing::{
     Completion, Memory, Nemesis, ObjectDrawing, Part, Span, Stretch, Subject, completions_of,
     count_text, draw_impossible, draw_refused, draw_uncertified, draw_valid,
 };
-use events::{History, ObjectHistory, split};
+use events::{History, ObjectHistory};
 use markup::Html;
 use page::{Answer, ObjectRow, Page, html_of};
 use projection::Cut;
@@ -423,22 +423,22 @@ fn refused_page(
     page_of(alloc, texts, objects, options, parts)
 }
 
-/// The page of a history whose certificates are refused, or else valid.
+/// The page of a history, which has these objects, whose certificates are refused, or else valid.
 pub fn checked_page(
     alloc: Global,
     history: &History,
+    objects: &[ObjectHistory],
     certificates: &[Certificate],
     refusal: Option<&Refusal>,
     texts: &Texts<'_>,
     options: Options,
 ) -> Result<Html, AllocError> {
-    let objects = split(alloc, history)?;
     match refusal {
-        None => valid_page(alloc, history, &objects, certificates, texts, options),
+        None => valid_page(alloc, history, objects, certificates, texts, options),
         Some(refusal) => refused_page(
             alloc,
             history,
-            &objects,
+            objects,
             certificates,
             refusal,
             texts,
@@ -541,8 +541,9 @@ fn decided_drawing(
     }
 }
 
-/// The page of a history of which some object has no order.
-fn faulty_page(
+/// The page of a history, which has these objects, of which each object was decided on, and some has
+/// no certificate.
+pub fn judged_page(
     alloc: Global,
     history: &History,
     objects: &[ObjectHistory],
@@ -584,16 +585,4 @@ fn faulty_page(
         sentences,
     };
     page_of(alloc, texts, objects, options, parts)
-}
-
-/// The page of a history of which each object was decided on, and some object has no certificate.
-pub fn judged_page(
-    alloc: Global,
-    history: &History,
-    answers: &[(u32, Decision)],
-    texts: &Texts<'_>,
-    options: Options,
-) -> Result<Html, AllocError> {
-    let objects = split(alloc, history)?;
-    faulty_page(alloc, history, &objects, answers, texts, options)
 }

@@ -63,6 +63,8 @@ impl ObjectDrawing {
         // It is of this object.
         ensures object { result.object ≡ object.now.object }
         ensures kind { result.kind ≡ object.now.kind }
+        ensures figure { result.figure ≡ figure }
+        ensures extent { result.extent ≡ extent }
     {
         ObjectDrawing {
             object: object.object(),

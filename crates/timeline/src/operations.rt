@@ -1,7 +1,9 @@
 //! The operations of an object, with what a drawing needs of them.
 
-ghost use Rattle.std.specs.Prelude.{◌≡◌, ◌<◌, Some, All, AllPairs, IfOk, map};
-ghost use Rattle.timeline.specs.Operations.{EndsAtItsReturn, IsOfItsEvent};
+ghost use Rattle.std.specs.Prelude.{◌≡◌, ◌<◌, Some, None, All, AllPairs, IfOk, map};
+ghost use Rattle.events.specs.Operations.{return_of};
+ghost use Rattle.timeline.specs.Operations.{AreRising, EndsAtItsCompletion, EndsAtItsReturn};
+ghost use Rattle.timeline.specs.Operations.{IsCompletedAt, IsOfItsEvent};
 
 use events::{Action, End, Event, History, Invocation, ObjectHistory};
 use number_map::NumberMap;
@@ -146,14 +148,14 @@ pub fn completions_of(alloc: Global, events: &[Event]) -> Result<Vec<Completion>
 }
 
 /// The number of the completion of the operation with this number, which did not return.
-fn completion_at(completions: &[Completion], number: u32) -> Option<u32> {
+fn completion_at(completions: &[Completion], number: u32) -> Option<u32>
+    ensures { AreRising completions.now → IsCompletedAt completions.now number result }
+{
     let place = completions.partition_point(|completion| completion.invocation < number);
-    let completion = completions.get(place)?;
-    if completion.invocation == number {
-        Some(completion.ended)
-    } else {
-        None
+    if place < completions.len() && completions[place].invocation == number {
+        return Some(completions[place].ended);
     }
+    None
 }
 
 /// How many events after an operation are looked at one by one for the next operation.
@@ -200,6 +202,7 @@ fn operation_of(
     ensures invocation { result.invocation ≡ invocation.now }
     ensures event { IsOfItsEvent events.now result }
     ensures ended { EndsAtItsReturn result }
+    ensures completed { EndsAtItsCompletion completions.now result }
 {
     let (object, process) = match event_with(events, place, invocation.number) {
         Some(event) => (event.object, event.process),
@@ -230,6 +233,8 @@ pub fn operations_of(
     ensures events { IfOk result (λ v. All (IsOfItsEvent history.now) v.items) }
     // One that returned ends there.
     ensures ended { IfOk result (λ v. All EndsAtItsReturn v.items) }
+    // Another one ends at the completion with its number, if the completions are in rising number.
+    ensures completed { IfOk result (λ v. All (EndsAtItsCompletion completions.now) v.items) }
 {
     let events = history.events();
     let ops = object.ops();

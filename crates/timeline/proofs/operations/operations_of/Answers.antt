@@ -1,4 +1,4 @@
-use Rattle.timeline.specs.Operations.{EndsAtItsReturn, IsOfItsEvent}
+use Rattle.timeline.specs.Operations.{EndsAtItsCompletion, EndsAtItsReturn, IsOfItsEvent}
 use Rattle.timeline.proofs.Listed.{all_more, map_more}
 use Rattle.timeline.proofs.operations.operations_of.Goals as goal
 
@@ -9,4 +9,5 @@ loop-invocation-preserved c =
       map_more (λ o. o.invocation) _ _ _ _ _ _ is c.loop-invocation-test.true c.operation_of.ensures.invocation l.invariant.0,
       all_more (IsOfItsEvent c.events-events.result.now) _ _ _ is l.invariant.1 c.operation_of.ensures.event,
       all_more EndsAtItsReturn _ _ _ is l.invariant.2 c.operation_of.ensures.ended,
+      all_more (EndsAtItsCompletion c.args.completions.now) _ _ _ is l.invariant.3 c.operation_of.ensures.completed,
     )

@@ -1,13 +1,14 @@
+use Rattle.std.proofs.Common.{refl}
 use Rattle.checker.proofs.Certificates.{are_objects}
 use Rattle.checker.proofs.Collected.{no_answers, one_more_answer, on_all, distinct, valid}
 use Rattle.deciding.specs.Decisions.{certificate_in}
 use Rattle.deciding.proofs.Decided.{IsDecided, certifies, not_linearizable}
-use Rattle.deciding.proofs.all.decide_all.Goals as goal
+use Rattle.deciding.proofs.all.decide_objects.Goals as goal
 
 pub loop-object-init : goal.loop-object-init
-loop-object-init c = no_answers _ _ _ _
-    (are_objects _ _ _ c.deref-object-items.ensures.value c.in_ok-objects.ensures.rising c.in_ok-objects.ensures.named c.in_ok-objects.ensures.kinds
-    c.in_ok-objects.ensures.calls) c.new-answers.ensures.items
+loop-object-init c =
+    let are = c.requires in
+    no_answers _ _ _ _ (are_objects _ _ _ refl are.rising are.named are.kinds are.calls) c.new-answers.ensures.items
 
 pub loop-object-preserved : goal.loop-object-preserved
 loop-object-preserved c =
@@ -19,10 +20,12 @@ pub returns : goal.returns
 returns c =
     let all = on_all _ (IsDecided c.args.steps) _ _ _ c.loop-object-test.false c.loop-object.invariant in
     record {
-      rising = all.rising;
-      named = all.named;
-      decisions = all.each;
-      impossible = not_linearizable _ c.args.steps _ c.linearizable_has_orders.ensures c.events.ensures.history all;
-      distinct = distinct certificate_in _ (IsDecided c.args.steps) _ (certifies c.args.steps) all;
-      valid = valid certificate_in _ (IsDecided c.args.steps) _ (certifies c.args.steps) all;
+      decided = record {
+        rising = all.rising;
+        named = all.named;
+        decisions = all.each;
+        impossible = not_linearizable _ c.args.steps _ c.linearizable_has_orders.ensures c.events.ensures.history all;
+        distinct = distinct certificate_in _ (IsDecided c.args.steps) _ (certifies c.args.steps) all;
+        valid = valid certificate_in _ (IsDecided c.args.steps) _ (certifies c.args.steps) all;
+      };
     }

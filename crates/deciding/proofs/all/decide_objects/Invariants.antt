@@ -1,6 +1,6 @@
 use Rattle.checker.proofs.Collected.{AreAnswers}
 use Rattle.deciding.proofs.Decided.{IsDecided}
-use Rattle.deciding.proofs.all.decide_all.Given as goal
+use Rattle.deciding.proofs.all.decide_objects.Given as goal
 
 abbrev pub invariant-loop-object : goal.invariant-loop-object
 invariant-loop-object l = AreAnswers l.history (IsDecided l.steps) l.object-items l.object-index l.answers.items
