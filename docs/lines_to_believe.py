@@ -49,7 +49,7 @@ class Module:
                 if in_mutual:
                     continue
             begins = re.match(r"(?:abbrev |unfoldable )?(?:pub )?(record |data )?([^\s(:{]+)(?= |$)", bare)
-            marked = re.match(r"(?:abbrev|record(?! \{)|data|pub) ", bare)
+            marked = re.match(r"(?:abbrev|unfoldable|record(?! \{)|data|pub) ", bare)
             is_field = indent > 0 and bare.startswith("pub ") and not begins.group(1) and not in_mutual
             if marked and not is_field and (indent == 0 or in_mutual):
                 current, is_data = begins.group(2), begins.group(1) == "data "

@@ -8,7 +8,7 @@ use Rattle.verdicts.specs.declared.verdict.Verdict.TheVariants.{Yes, No, Malform
 abbrev pub yes_status : ℕ
 yes_status = 0
 
--- where the certificates are refused
+-- where the certificates are refused, or the history is not linearizable
 abbrev pub no_status : ℕ
 no_status = 1
 
@@ -16,7 +16,7 @@ no_status = 1
 abbrev pub malformed_status : ℕ
 malformed_status = 2
 
--- where memory was refused, or a thread could not be started
+-- where memory was refused, a thread could not be started, or it stays open
 abbrev pub no_memory_status : ℕ
 no_memory_status = 3
 

@@ -1,5 +1,5 @@
--- A value that surely is not in a queue, stack or heap before some number of a map: as many
--- removals of it had returned by then as puts of it were invoked. What was done with it before has
+-- A value that surely is not in a queue, stack or heap before some number of a map: at least as
+-- many removals of it had returned by then as puts of it were invoked. What was done with it before has
 -- no part in what is done with it later.
 use Rattle.std.specs.Prelude.{◌≡◌, ◌≤◌, ℕ, ℤ, nat_lt, Bool, not, ◌&&◌, ◌||◌, List, count_by, filter}
 use Rattle.std.specs.Ordering.{int_eq}
@@ -15,8 +15,8 @@ abbrev pub is_taken_before : ℤ → ℕ → Call → Bool
 is_taken_before v number e =
     takes_out (int_eq v) e.op (reply_of e.returned) && ended_before number e.returned
 
--- As many calls took out the value and returned before this number as calls put it in and were
--- invoked before it.
+-- At least as many calls took out the value and returned before this number as calls put it in and
+-- were invoked before it.
 pub record IsAbsent (v : ℤ) (number : ℕ) (calls : List Call) : Type 0 where
   pub taken : count_by (is_put_before v number) calls ≤ count_by (is_taken_before v number) calls
 

@@ -65,7 +65,8 @@ fn taken_count(value: i64, before: u32, operations: &[Invocation]) -> usize
         .count()
 }
 
-/// Whether as many removals of the value returned before this number as puts of it were invoked.
+/// Whether at least as many removals of the value returned before this number as puts of it were
+/// invoked.
 fn is_absent(value: i64, before: u32, operations: &[Invocation]) -> bool
     ensures yes { result ≡ true → IsAbsent value before (calls_of operations.now) }
     ensures no { IsAbsent value before (calls_of operations.now) → result ≡ true }
@@ -91,8 +92,8 @@ fn pieces(
 }
 
 /// The part without the puts of a value that were invoked before this number, and without the
-/// removals of it that had returned by then. There are as many of these as of those, so that the
-/// value surely was not in the queue, stack or heap; `None`: there are fewer.
+/// removals of it that had returned by then. There are at least as many of these as of those, so
+/// that the value surely was not in the queue, stack or heap; `None`: there are fewer.
 ///
 /// An error: the allocator refused memory.
 pub fn without(

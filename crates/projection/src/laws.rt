@@ -37,8 +37,8 @@ pub fn prefix_is_valid()
         → (part : List ℤ) × IsValidOrder kind (calls_before until calls) part }
 {}
 
-/// Where the calls have a valid order, and before a number as many removals of a value had returned
-/// as puts of it were invoked, the calls without those have one.
+/// Where the calls have a valid order, and before a number at least as many removals of a value had
+/// returned as puts of it were invoked, the calls without those have one.
 pub fn without_is_valid()
     ensures { (kind : Kind) (calls : List Call) (v : ℤ) (number : ℕ) (order : List ℤ)
         → AllPairs (λ a b. a.number < b.number) calls
