@@ -2,7 +2,7 @@
 
 use std::alloc::{AllocError, Global};
 use std::collections::BTreeSet;
-use timed_calls::{Access, Need};
+use timed_calls::{Access, Need, PENDING};
 
 /// The most contents that a list of sources has.
 const MOST_CONTENTS: usize = 100;
@@ -105,13 +105,14 @@ impl Waiting {
         }
     }
 
-    /// Whether another call than this one sets the content.
+    /// Whether another call than this one sets the content and will return. Those that are pending
+    /// are kept for where nothing else helps.
     pub(crate) fn has_other_setter(&self, target: usize, place: usize) -> bool {
-        for (sets, _, _, other) in self.by_target.range((target, None, 0, 0)..) {
+        for (sets, _, end, other) in self.by_target.range((target, None, 0, 0)..) {
             if *sets != target {
                 return false;
             }
-            if *other != place {
+            if *other != place && *end != PENDING {
                 return true;
             }
         }
