@@ -4,7 +4,7 @@
 //! where the fewest values are in the stack, of the places that its put may have. There it is in
 //! nobody's way until the stack gets lower than that, or nothing is found: just before that it must
 //! be gone. The values are gone by the pending pops in the order of these moments, the pop that
-//! begins first at the first. No other choice of pops could do more for this order.
+//! begins first at the first. No other choice of pops could do more for these places.
 
 use crate::removals::Removals;
 use crate::residences::Residence;
@@ -13,15 +13,38 @@ use crate::trees::Least;
 use std::alloc::{AllocError, Global};
 use timed_calls::CallSpan;
 
+/// Where a value may be put in an order.
+#[derive(Clone, Copy, PartialEq, Eq)]
+enum Places {
+    /// Where each call of the order stands at the last gap that it may stand at: then what is added
+    /// is in no way of what else is added.
+    OfLastGaps,
+    /// Wherever the calls of the order allow it.
+    All,
+}
+
 /// An order of calls, and how many values are in the stack at each place of it.
 #[derive(Drop)]
 struct Heights {
+    /// The gap by which each turn stands for a call that comes after it.
+    stands: Vec<u32>,
     /// The last gap that each turn may stand at.
-    gaps: Vec<u32>,
+    last: Vec<u32>,
     /// How many values there are after the last turn, and before each, from the last on.
     before: Least,
     /// How many there are after each turn: one fewer than none where a call finds nothing.
     after: Least,
+}
+
+/// The first gap that each turn may stand at.
+fn first_gaps(alloc: Global, turns: &[Turn]) -> Result<Vec<u32>, AllocError> {
+    let mut gaps = Vec::new(alloc);
+    let mut first = 0;
+    for turn in turns {
+        first = turn.first_gap(first);
+        gaps.push(first)?;
+    }
+    Ok(gaps)
 }
 
 /// The last gap that each turn may stand at.
@@ -38,7 +61,7 @@ fn last_gaps(alloc: Global, turns: &[Turn]) -> Result<Vec<u32>, AllocError> {
 }
 
 impl Heights {
-    fn new(alloc: Global, turns: &[Turn]) -> Result<Heights, AllocError> {
+    fn new(alloc: Global, turns: &[Turn], places: Places) -> Result<Heights, AllocError> {
         let mut height: i64 = 0;
         let mut before = Vec::new(alloc);
         let mut after = Vec::new(alloc);
@@ -57,36 +80,41 @@ impl Heights {
         }
         before.push(height)?;
         before.reverse();
+        let stands = match places {
+            Places::OfLastGaps => last_gaps(alloc, turns)?,
+            Places::All => first_gaps(alloc, turns)?,
+        };
         Ok(Heights {
-            gaps: last_gaps(alloc, turns)?,
+            stands,
+            last: last_gaps(alloc, turns)?,
             before: Least::new(alloc, &before)?,
             after: Least::new(alloc, &after)?,
         })
     }
 
+    /// The last gap that the turn may stand at.
     fn gap(&self, place: usize) -> u32 {
-        self.gaps.get(place).copied().unwrap_or(u32::MAX)
+        self.last.get(place).copied().unwrap_or(u32::MAX)
     }
 
     /// The last place of a put at which the fewest values are below its own, and before which turn
     /// the value must be gone, if it must.
     fn stay(&self, put: CallSpan) -> Option<Stay> {
-        let turns = self.gaps.len();
-        let first = self.gaps.partition_point(|gap| *gap < put.begin);
-        let last = self.gaps.partition_point(|gap| *gap < put.end);
+        let turns = self.last.len();
+        let first = self.last.partition_point(|gap| *gap < put.begin);
+        let last = self.stands.partition_point(|gap| *gap < put.end);
         let from = turns.saturating_sub(last);
         let to = turns.saturating_sub(first).saturating_add(1);
         let height = self.before.least(from, to);
         let place = turns.saturating_sub(self.before.first_at_most(from, to, height)?);
-        let before = match place.checked_sub(1) {
-            Some(before) => self.gap(before),
-            None => 0,
-        };
+        let before = place
+            .checked_sub(1)
+            .and_then(|before| self.stands.get(before).copied());
         let lower = height.saturating_sub(1);
         Some(Stay {
             put,
             place,
-            gap: put.begin.max(before),
+            gap: put.begin.max(before.unwrap_or(0)),
             until: self.after.first_at_most(place, turns, lower),
         })
     }
@@ -191,6 +219,19 @@ fn joined(alloc: Global, turns: &[Turn], added: &[Added]) -> Result<Vec<Turn>, A
     Ok(all)
 }
 
+/// The turns that are added for these values, where the pops are given.
+fn all_added(stays: &[Stay], mut added: Vec<Added>) -> Result<Vec<Added>, AllocError> {
+    for (rank, stay) in stays.iter().enumerate() {
+        added.push(Added {
+            place: stay.place,
+            rank,
+            turn: Turn::new(stay.put, Step::Push),
+        })?;
+    }
+    added.sort_unstable_by_key(|one| (one.place, one.rank));
+    Ok(added)
+}
+
 /// The turns of a stack's calls, with those of the values that pending pops may take. None where
 /// there are too few such pops, which come in the order of their begins.
 fn with_leaving(
@@ -202,20 +243,15 @@ fn with_leaving(
     if leaving.is_empty() {
         return Ok(Some(turns));
     }
-    let heights = Heights::new(alloc, &turns)?;
-    let stays = stays_of(alloc, &heights, leaving)?;
-    let Some(mut added) = pops_of(alloc, &heights, &stays, pops)? else {
-        return Ok(None);
-    };
-    for (rank, stay) in stays.iter().enumerate() {
-        added.push(Added {
-            place: stay.place,
-            rank,
-            turn: Turn::new(stay.put, Step::Push),
-        })?;
+    for places in [Places::OfLastGaps, Places::All] {
+        let heights = Heights::new(alloc, &turns, places)?;
+        let stays = stays_of(alloc, &heights, leaving)?;
+        if let Some(added) = pops_of(alloc, &heights, &stays, pops)? {
+            let added = all_added(&stays, added)?;
+            return Ok(Some(joined(alloc, &turns, &added)?));
+        }
     }
-    added.sort_unstable_by_key(|one| (one.place, one.rank));
-    Ok(Some(joined(alloc, &turns, &added)?))
+    Ok(None)
 }
 
 /// The values of a stack for which a place is looked for first, the others, and the pending pops

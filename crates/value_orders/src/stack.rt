@@ -55,6 +55,11 @@ impl Turn {
             from: 0,
         }
     }
+
+    /// The first gap that it may stand at after one that stands at this gap.
+    pub(crate) fn first_gap(&self, before: u32) -> u32 {
+        self.call.begin.max(self.from).max(before)
+    }
 }
 
 /// The values that surely are in the stack for a while, by the gap from which on they are, and what
@@ -365,7 +370,7 @@ pub(crate) fn merged(
     let mut gap = 0;
     let mut next = 0;
     for turn in turns {
-        gap = turn.call.begin.max(turn.from).max(gap);
+        gap = turn.first_gap(gap);
         next = add_short(&mut order, short, next, gap)?;
         order.push(turn.call.number as i64)?;
     }
