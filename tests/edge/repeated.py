@@ -1,9 +1,16 @@
 """Histories in which values repeat, or that need a pending call: an order is found of each alone, and after more calls than a search
 takes."""
+import json
+import os
+import subprocess
+import sys
+
 from . import force
+from .drawings import processor_seconds
 from .idle import IDLE, PAIRS
 from .reasons import maps_of, value_of
 from .rows import HISTORY
+from .running import ROOT
 from .texts import invoke, lines, ok
 
 # Queues, stacks and heaps that have an order, and why it is not easily found.
@@ -413,4 +420,38 @@ def is_answered(program, report, name, words, valid, said, status):
         report.equal(*it)
 
 
-PARTS = (repeated_values,)
+# Histories of gen.py in which 5 % of the calls failed and others are pending. Stacks of different values, where pending pops must be given to values in
+# time, and a register of 100 values, where a pending write that is used too early is missing later.
+GENERATED = (
+    ("stack", "--unique --calls 4096 --concurrency 100 --info 0.05 --seed 6"),
+    ("stack", "--unique --calls 4096 --concurrency 100 --info 0.05 --seed 17"),
+    ("stack", "--unique --calls 4096 --concurrency 100 --info 0.1 --seed 107"),
+    ("stack", "--unique --calls 4096 --concurrency 1000 --info 0.05 --seed 101"),
+    ("register", "--values 100 --calls 20000 --concurrency 100 --info 0.02 --seed 2"),
+)
+MOST_SECONDS = 1
+
+
+def generated(program, kind, words):
+    """Makes a history and returns its name, and what is said of it."""
+    folder = f"{program.room}/generated"
+    os.makedirs(folder, exist_ok=True)
+    words = ["--kind", kind, "--fail", "0.05", *words.split()]
+    subprocess.run([sys.executable, f"{ROOT}/bench/gen.py", "history", folder, *words], check=True, stdout=subprocess.DEVNULL)
+    with open(f"{folder}/expect.json", encoding="utf-8") as file:
+        return f"{folder}/history.edn", json.load(file)
+
+
+def pending_calls(program, report):
+    """Of each generated history an order is found, in at most a second of processor time."""
+    slowest = 0
+    for kind, words in GENERATED:
+        name, expected = generated(program, kind, words)
+        seconds = min(processor_seconds(program, "judge", name) for _ in range(2))
+        slowest = max(slowest, seconds)
+        report.answers(f"judge: a {kind} {words}", program.run("judge", name), expected["check"], expected["status"])
+        report.holds(f"judge: a {kind} {words}: decided in {MOST_SECONDS} s", seconds <= MOST_SECONDS, seconds)
+    return f"{len(GENERATED)} histories, the slowest took {slowest:.2f} s"
+
+
+PARTS = (repeated_values, pending_calls)

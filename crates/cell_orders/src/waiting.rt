@@ -2,7 +2,7 @@
 
 use std::alloc::{AllocError, Global};
 use std::collections::BTreeSet;
-use timed_calls::{Access, Need};
+use timed_calls::{Access, Need, PENDING};
 
 /// The most contents that a list of sources has.
 const MOST_CONTENTS: usize = 100;
@@ -47,6 +47,8 @@ pub(crate) struct Waiting {
     pub(crate) by_role: BTreeSet<(Role, usize, u32, usize)>,
     /// Those that set a content: that, the one that they take away, their end, their place.
     by_target: BTreeSet<(usize, Option<usize>, u32, usize)>,
+    /// Those that set a content and return: that, their place.
+    returning: BTreeSet<(usize, usize)>,
 }
 
 impl Waiting {
@@ -55,6 +57,7 @@ impl Waiting {
             by_end: BTreeSet::new(alloc),
             by_role: BTreeSet::new(alloc),
             by_target: BTreeSet::new(alloc),
+            returning: BTreeSet::new(alloc),
         }
     }
 
@@ -66,6 +69,9 @@ impl Waiting {
         if let Some(target) = access.sets {
             self.by_target
                 .insert((target, source_of(access), end, place))?;
+            if end != PENDING {
+                self.returning.insert((target, place))?;
+            }
         }
         Ok(())
     }
@@ -77,6 +83,7 @@ impl Waiting {
         if let Some(target) = access.sets {
             self.by_target
                 .remove(&(target, source_of(access), end, place));
+            self.returning.remove(&(target, place));
         }
         self.by_role.remove(&(role, content, end, place));
         self.by_end.remove(&(end, place))
@@ -105,9 +112,10 @@ impl Waiting {
         }
     }
 
-    /// Whether another call than this one sets the content.
+    /// Whether another call than this one sets the content and returns. Those that are pending are
+    /// kept for where nothing else helps.
     pub(crate) fn has_other_setter(&self, target: usize, place: usize) -> bool {
-        for (sets, _, _, other) in self.by_target.range((target, None, 0, 0)..) {
+        for (sets, other) in self.returning.range((target, 0)..) {
             if *sets != target {
                 return false;
             }

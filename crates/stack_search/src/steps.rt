@@ -4,11 +4,17 @@ use crate::calls::{Role, Running, RunningCall};
 use crate::contents::{Below, Contents, EMPTY, small};
 use crate::pending::Pending;
 use crate::records::{Origin, Records, Step};
-use crate::states::{Draft, State, merge, settle};
+use crate::states::{Draft, State, merge, narrow, settle};
 use std::alloc::{AllocError, Global};
 
 /// How many values are popped at most before a call.
 const MOST_POPS: usize = 100;
+
+/// How many states are gone on from at most, while one call is placed.
+const MOST_OPEN: usize = 10_000;
+
+/// How many states they may lead to by one more pop, before no more are looked at.
+const MOST_DRAFTS: usize = 200_000;
 
 /// A push that is placed, and the state before it.
 #[derive(Clone, Copy)]
@@ -164,10 +170,13 @@ impl Search {
             for state in &front {
                 let state = self.with_empties(*state)?;
                 reached.push(state)?;
-                self.add_pops(&state, wanted, most, &mut drafts)?;
+                if drafts.len() < MOST_DRAFTS {
+                    self.add_pops(&state, wanted, most, &mut drafts)?;
+                }
             }
             front = Vec::new(alloc);
             settle(&mut self.records, drafts, &mut front)?;
+            narrow(&mut front, u32::MAX, MOST_OPEN);
         }
         merge(&mut reached);
         Ok(reached)
@@ -227,7 +236,7 @@ impl Search {
         }
         let reached = self.popped_from(alloc, open, Some(value), most)?;
         for state in &reached {
-            if self.contents.value(state.content) == Some(value) {
+            if self.contents.value(state.content) == Some(value) && drafts.len() < MOST_DRAFTS {
                 self.pop(state, by, &mut drafts)?;
             }
         }
@@ -327,6 +336,7 @@ impl Search {
     ) -> Result<(), AllocError> {
         let mut open = self.popped_from(alloc, open, None, 0)?;
         for _ in 0..=self.running.calls.len() {
+            narrow(&mut open, u32::MAX, MOST_OPEN);
             let count = fewest_placed(&open);
             let mut pushes = Vec::new(alloc);
             let mut later = Vec::new(alloc);

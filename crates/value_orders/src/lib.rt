@@ -9,6 +9,7 @@
 mod crossings;
 mod gaps;
 mod heap;
+mod leaving;
 mod matching;
 mod orders;
 mod queue;

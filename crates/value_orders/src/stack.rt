@@ -9,6 +9,7 @@
 
 use crate::crossings::uncross;
 use crate::gaps::Gaps;
+use crate::leaving::order_around_leaving;
 use crate::matching::residences_of;
 use crate::removals::Removals;
 use crate::residences::{Residence, pair};
@@ -29,11 +30,36 @@ enum Task {
     FindsNone(CallSpan, u32),
 }
 
+/// What a turn does.
+#[derive(Clone, Copy, PartialEq, Eq)]
+pub(crate) enum Step {
+    Push,
+    Pop,
+    FindsNone,
+}
+
 /// The call that is next in the order, and the first gap that it may stand at.
 #[derive(Clone, Copy)]
-struct Turn {
-    call: CallSpan,
+pub(crate) struct Turn {
+    pub(crate) call: CallSpan,
+    pub(crate) step: Step,
     from: u32,
+}
+
+impl Turn {
+    /// A turn that may stand at any gap of its call.
+    pub(crate) fn new(call: CallSpan, step: Step) -> Turn {
+        Turn {
+            call,
+            step,
+            from: 0,
+        }
+    }
+
+    /// The first gap that it may stand at after one that stands at this gap.
+    pub(crate) fn first_gap(&self, before: u32) -> u32 {
+        self.call.begin.max(self.from).max(before)
+    }
 }
 
 /// The values that surely are in the stack for a while, by the gap from which on they are, and what
@@ -167,7 +193,7 @@ impl Values {
 pub(crate) struct Ordering {
     values: Values,
     tasks: Vec<Task>,
-    turns: Vec<Turn>,
+    pub(crate) turns: Vec<Turn>,
     /// Values that can't be ordered: none of them can be below the others.
     pub(crate) stuck: Vec<Vec<Residence>>,
 }
@@ -239,10 +265,7 @@ impl Ordering {
             return Ok(());
         };
         self.values.remove(place);
-        self.turns.push(Turn {
-            call: residence.put,
-            from: 0,
-        })?;
+        self.turns.push(Turn::new(residence.put, Step::Push))?;
         self.tasks.push(Task::Take(place))?;
         self.tasks.push(Task::Order(from, to))?;
         Ok(())
@@ -276,7 +299,10 @@ impl Ordering {
     fn run(&mut self, alloc: Global, task: Task) -> Result<(), AllocError> {
         match task {
             Task::Order(from, to) => self.order(alloc, from, to)?,
-            Task::FindsNone(call, from) => self.turns.push(Turn { call, from })?,
+            Task::FindsNone(call, from) => {
+                let step = Step::FindsNone;
+                self.turns.push(Turn { call, step, from })?;
+            }
             Task::Take(place) => {
                 if let Some(call) = self
                     .values
@@ -284,7 +310,7 @@ impl Ordering {
                     .get(place)
                     .and_then(|residence| residence.take)
                 {
-                    self.turns.push(Turn { call, from: 0 })?;
+                    self.turns.push(Turn::new(call, Step::Pop))?;
                 }
             }
         }
@@ -335,12 +361,16 @@ fn add_short(
 
 /// The turns, each at the first gap that those before it leave, and between them the values that
 /// are put and taken in one gap.
-fn merged(alloc: Global, turns: &[Turn], short: &[Residence]) -> Result<Vec<i64>, AllocError> {
+pub(crate) fn merged(
+    alloc: Global,
+    turns: &[Turn],
+    short: &[Residence],
+) -> Result<Vec<i64>, AllocError> {
     let mut order = Vec::new(alloc);
     let mut gap = 0;
     let mut next = 0;
     for turn in turns {
-        gap = turn.call.begin.max(turn.from).max(gap);
+        gap = turn.first_gap(gap);
         next = add_short(&mut order, short, next, gap)?;
         order.push(turn.call.number as i64)?;
     }
@@ -438,7 +468,7 @@ fn note_below(
 
 /// By when the values must be gone that nobody is known to take: a value that was put before them
 /// is taken, or nothing is found, by a call that begins when their put has returned.
-fn dues_of(
+pub(crate) fn dues_of(
     alloc: Global,
     residences: &[Residence],
     removals: &mut Removals,
@@ -510,6 +540,11 @@ const MOST_ROUNDS: usize = 40;
 /// How many values are ordered at most, in all these rounds.
 const MOST_ORDERED: usize = 2_000_000;
 
+/// How often these values are ordered.
+pub(crate) fn rounds_of(residences: &[Residence]) -> usize {
+    (MOST_ORDERED / residences.len().max(1)).clamp(1, MOST_ROUNDS)
+}
+
 /// How many comparisons of values are made at most to find better pairs.
 const MOST_WORK: u64 = 200_000_000;
 
@@ -572,33 +607,19 @@ fn count_stuck(stuck: &[Vec<Residence>]) -> usize {
     count
 }
 
-/// An order of the calls that may be valid.
-pub(crate) fn stack_order(
+/// An order of the calls that may be valid: where values can't be ordered other pairs are tried, as
+/// long as comparisons are left.
+fn order_in_rounds(
     alloc: Global,
-    timeline: &Timeline,
-    touches: Touches,
-    pairing: Pairing,
+    mut residences: Vec<Residence>,
+    empties: &[CallSpan],
+    end: u32,
+    mut work: u64,
 ) -> Result<Option<Vec<i64>>, AllocError> {
-    let end = timeline.end;
-    let Some((mut residences, used)) = paired(alloc, &touches, end, pairing)? else {
-        return Ok(None);
-    };
-    residences.sort_unstable_by_key(|residence| (residence.value, residence.put.begin));
-    let mut work = if touches.repeat() { MOST_WORK } else { 0 };
-    let Touches {
-        known: _known,
-        empties,
-        unknown,
-    } = touches;
-    let (_, left) = unknown.split_at(used.min(unknown.len()));
-    let left = Vec::from_slice(alloc, left)?;
-    let removals = Removals::new(alloc, end, left, pairing == Pairing::OnTop)?;
-    give_removals(alloc, &mut residences, &empties, removals)?;
-    let rounds = MOST_ORDERED / residences.len().max(1);
     let mut fewest = usize::MAX;
-    for _ in 0..rounds.clamp(1, MOST_ROUNDS) {
+    for _ in 0..rounds_of(&residences) {
         let (long, short) = apart(alloc, &residences)?;
-        let Some(ordering) = ordering_of(alloc, long, &empties, end)? else {
+        let Some(ordering) = ordering_of(alloc, long, empties, end)? else {
             break;
         };
         if ordering.stuck.is_empty() {
@@ -615,4 +636,34 @@ pub(crate) fn stack_order(
         }
     }
     Ok(None)
+}
+
+/// An order of the calls that may be valid.
+pub(crate) fn stack_order(
+    alloc: Global,
+    timeline: &Timeline,
+    touches: Touches,
+    pairing: Pairing,
+) -> Result<Option<Vec<i64>>, AllocError> {
+    let end = timeline.end;
+    let Some((mut residences, used)) = paired(alloc, &touches, end, pairing)? else {
+        return Ok(None);
+    };
+    residences.sort_unstable_by_key(|residence| (residence.value, residence.put.begin));
+    let repeats = touches.repeat();
+    let on_top = pairing == Pairing::OnTop;
+    let Touches {
+        known: _known,
+        empties,
+        unknown,
+    } = touches;
+    let (_, left) = unknown.split_at(used.min(unknown.len()));
+    if on_top && !repeats && !left.is_empty() {
+        return order_around_leaving(alloc, residences, &empties, left, end);
+    }
+    let left = Vec::from_slice(alloc, left)?;
+    let removals = Removals::new(alloc, end, left, on_top)?;
+    give_removals(alloc, &mut residences, &empties, removals)?;
+    let work = if repeats { MOST_WORK } else { 0 };
+    order_in_rounds(alloc, residences, &empties, end, work)
 }
