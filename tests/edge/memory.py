@@ -300,6 +300,29 @@ def bounded_memory(program, report):
     return f"at most {highest >> 10} MiB"
 
 
+def pushes_at_once(count):
+    """A stack with a pending pop, this many pushes at once, and then twice a value that is popped though another is on top. No order is valid, since the
+    pending pop takes one of these two at most."""
+    lines = events_of(*[("push", k, k) for k in range(count)])
+    for k in (100, 200):
+        lines += events_of(("push", k, k)) + events_of(("push", k + 1, k + 1)) + events_of(("pop", "nil", k))
+    pending = "{:process 99, :type :invoke, :f :pop, :value nil}"
+    return "\n".join([pending, *lines]) + "\n"
+
+
+# As many pushes have 67,108,864 sets of those that may be done.
+AT_ONCE = 26
+
+
+def bounded_memory_of_calls_at_once(program, report):
+    """Neither does a judgement of many calls at once."""
+    name = program.write("pushes_at_once.edn", pushes_at_once(AT_ONCE))
+    status, peak = peak_of(program, "judge", name)
+    report.holds(f"memory: judge of {AT_ONCE} pushes at once: status {status}", status in (1, 3))
+    report.holds(f"memory: judge of {AT_ONCE} pushes at once: {peak} KiB", peak < MOST_KIB)
+    return f"{peak >> 10} MiB"
+
+
 # A stack of 500,000 calls over 5 values, 8 of them at once, some failed and some pending. It stays open, and takes the most memory of all kinds.
 LONG_STACK = ["--kind", "stack", "--calls", "500000", "--concurrency", "8", "--values", "5", "--fail", "0.05", "--info", "0.02", "--seed", "1"]
 # Seconds of the processor that it may take.
@@ -323,4 +346,4 @@ def bounded_memory_of_long_histories(program, report):
     return f"{beyond >> 10} MiB beyond the text"
 
 
-PARTS = (refused_memory, bounded_memory, bounded_memory_of_long_histories)
+PARTS = (refused_memory, bounded_memory, bounded_memory_of_calls_at_once, bounded_memory_of_long_histories)
