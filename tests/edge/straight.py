@@ -221,20 +221,20 @@ def broken_texts(program, report):
 
 
 # The most instructions of a check on maps in a usual order, as a part of those on the same maps with a space after the brace.
-MOST_OF_THE_OTHERS = 0.6
+MOST_OF_THE_OTHERS = 0.75
 
 
 def usual_histories():
-    """Of each kind of object, and in each usual order: a history of some 1,000 maps, and its certificate."""
+    """Of each kind of object, and in each usual order: a history of some 500 maps, and its certificate."""
     for maps, _ in GOOD[:6]:
-        maps = maps * (1_000 // len(maps))
+        maps = maps * (500 // len(maps))
         order = " ".join(str(it) for it in range(0, len(maps), 2))
         for form in (usual, index_first):
             yield "".join(f"{form(pairs_of(it))}\n" for it in maps), f"{{:object 0, :order [{order}]}}\n"
 
 
 def cost_of_usual_maps(program, report):
-    """A check of maps in a usual order takes at most 0.6 times the instructions that it takes where a space stands after each brace."""
+    """A check of maps in a usual order takes at most 0.75 times the instructions that it takes where a space stands after each brace."""
     if not shutil.which("valgrind"):
         return "valgrind is missing"
 
