@@ -2,16 +2,44 @@
 
 ghost use Rattle.std.specs.Prelude.{◌≡◌, false, IfOk};
 ghost use Rattle.outputs.specs.Checked.{IsCheck};
+ghost use Rattle.markup.specs.Marks.{IsMade};
 ghost use Rattle.outputs.specs.Outputs.{Leaves};
+ghost use Rattle.outputs.specs.Statuses as spec;
 ghost use Rattle.drawing_commands.specs.Drawings.{IsCheckedDrawing, IsPageWith};
 
 use crate::pages::{unread_output, verdict_output};
 use crate::request::Request;
+use certificate::Certificate;
 use edn::Sink;
-use events::split;
+use events::{History, split};
 use judging::{texts_alone, verdict_alone, verdict_on_failure};
 use outputs::{Output, send, send_out_of_memory};
+use report::Verdict;
 use std::alloc::{AllocError, Global};
+
+/// The page of a history that was judged by certificates, and the status of the verdict.
+fn split_output(
+    alloc: Global,
+    request: &Request<'_>,
+    text: &[u8],
+    history: &History,
+    certificates: &[Certificate],
+    verdict: &Verdict,
+) -> Result<Output, AllocError>
+    ensures { IfOk result (λ o. (o.status ≡ spec.status_of verdict.now)
+        × ∥ IsMade o.text.items ∥₁) }
+{
+    let objects = split(alloc, history)?;
+    verdict_output(
+        alloc,
+        request,
+        text,
+        history,
+        &objects,
+        certificates,
+        verdict,
+    )
+}
 
 /// The page of a history that is checked, or of the fault of a text, and the status of the check.
 fn texts_output(
@@ -27,10 +55,7 @@ fn texts_output(
     match texts_alone(alloc, history, certificates) {
         Ok((events, orders)) => {
             let verdict = verdict_alone(alloc, &events, &orders);
-            let objects = split(alloc, &events)?;
-            verdict_output(
-                alloc, request, history, &events, &objects, &orders, &verdict,
-            )
+            split_output(alloc, request, history, &events, &orders, &verdict)
         }
         Err(failure) => {
             let verdict = verdict_on_failure(failure);

@@ -3,4 +3,4 @@ use Rattle.deciding.proofs.Decided.{IsDecided}
 use Rattle.deciding.proofs.all.decide_objects.Given as goal
 
 abbrev pub invariant-loop-object : goal.invariant-loop-object
-invariant-loop-object l = AreAnswers l.history (IsDecided l.steps) l.object-items l.object-index l.answers.items
+invariant-loop-object l = AreAnswers l.history (IsDecided l.steps) l.objects l.object-index l.answers.items

@@ -19,7 +19,7 @@ returns-in-Ok c =
       judges = judged _ _ _ _ texts _ e.judges;
       accepts = λ k. e.accepts (valid_here _ _ _ _ texts k);
     } in
-    record { drawn = IfOk-weaker c.verdict_output.result _ _ (λ o k. with_check h cs v holds o.status o.text.items k.0 k.1) c.verdict_output.ensures }
+    record { drawn = IfOk-weaker c.split_output.result _ _ (λ o k. with_check h cs v holds o.status o.text.items k.0 k.1) c.split_output.ensures }
 
 pub returns-in-Err : goal.returns-in-Err
 returns-in-Err c =
