@@ -11,4 +11,4 @@ mod shrinking;
 mod value_pairs;
 mod wholes;
 
-pub use proposing::{Proposal, propose};
+pub use proposing::{Proposal, propose, propose_by_pairs};

@@ -260,9 +260,9 @@ fn first_of(
     Ok(None)
 }
 
-/// A small reason why no order of the object's operations is valid, if one is found. It has no
-/// contract: `reason_finder` checks the reason. The search for an order of one part tries at most
-/// `limit` operations.
+/// A small reason why no order of the object's operations is valid, if a pattern leads to one, or if
+/// there are few operations. It has no contract: `reason_finder` checks the reason. The search for
+/// an order of one part tries at most `limit` operations.
 ///
 /// An error: the allocator refused memory.
 pub fn propose(
@@ -277,9 +277,18 @@ pub fn propose(
         return Ok(Some(proposal));
     }
     let candidates = wholes_of(alloc, kind, &timeline)?;
-    if let Some(proposal) = best_of(alloc, history, candidates, limit)? {
-        return Ok(Some(proposal));
-    }
-    let candidates = value_pairs_of(alloc, kind, &timeline)?;
+    best_of(alloc, history, candidates, limit)
+}
+
+/// The same of what was done with two values of a queue, stack or heap in which values repeat.
+///
+/// An error: the allocator refused memory.
+pub fn propose_by_pairs(
+    alloc: Global,
+    history: &ObjectHistory,
+    limit: u64,
+) -> Result<Option<Proposal>, AllocError> {
+    let timeline = timeline_of(alloc, history.ops())?;
+    let candidates = value_pairs_of(alloc, history.kind(), &timeline)?;
     first_of(alloc, history, candidates, limit.min(STEPS_OF_A_PAIR))
 }

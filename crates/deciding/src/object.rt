@@ -11,10 +11,10 @@ ghost use Rattle.deciding.specs.Decisions.{IsDecision, limit_of};
 use crate::decision::Decision;
 use candidate_orders::open_keys;
 use events::ObjectHistory;
-use finder::{FindOutcome, find_by_kind};
+use finder::{FindOutcome, find_by_contents, find_by_kind};
 use order_search::call_count;
 use projection::part_by;
-use reason_finder::{FoundReason, find_reason, find_reason_on};
+use reason_finder::{FoundReason, find_reason_by_pairs, find_reason_by_patterns, find_reason_on};
 use reason_plans::Pattern;
 use refutation::{Evidence, Reason};
 use search::{Search, SearchOutcome, TryFirst, search_of_any_size};
@@ -138,12 +138,13 @@ fn decide_by_search(
     }
 }
 
-/// Looks for a certificate of an object, or for a reason why it has none: first the methods that
-/// are made for its kind, then the finder of reasons, and at a map a search of each key that is open.
-/// Where these decide nothing there is a first search of 20,000 steps and 20 more for each operation,
-/// which tries first what returns first, and then one of at most `steps` steps. Where no number of
-/// steps is given these are 1,000,000, or 100 for each operation that did not fail if that is more.
-/// What comes before takes none of them.
+/// Looks for a certificate of an object, or for a reason why it has none: first by the quick methods
+/// that are made for its kind, then for a reason by patterns, for a certificate by a search of all
+/// that a queue or stack may contain, for a reason in two values, and at a map by a search of each
+/// key that is open. Where these decide nothing there is a first search of 20,000 steps and 20 more
+/// for each operation, which tries first what returns first, and then one of at most `steps` steps.
+/// Where no number of steps is given these are 1,000,000, or 100 for each operation that did not
+/// fail if that is more. What comes before takes none of them.
 ///
 /// That a limit is enough is not promised. An error: memory was refused for a reason.
 pub fn decide(
@@ -167,7 +168,13 @@ pub fn decide(
     if let Ok(FindOutcome::Order(certificate)) = find_by_kind(alloc, history) {
         return Ok(Decision::Order(certificate));
     }
-    if let Ok(Some(found)) = find_reason(alloc, history, STEPS_OF_A_PART) {
+    if let Ok(Some(found)) = find_reason_by_patterns(alloc, history, STEPS_OF_A_PART) {
+        return Ok(Decision::Impossible(found));
+    }
+    if let Ok(FindOutcome::Order(certificate)) = find_by_contents(alloc, history) {
+        return Ok(Decision::Order(certificate));
+    }
+    if let Ok(Some(found)) = find_reason_by_pairs(alloc, history, STEPS_OF_A_PART) {
         return Ok(Decision::Impossible(found));
     }
     if let Ok(Some(found)) = reason_on_a_key(alloc, history) {

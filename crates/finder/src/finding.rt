@@ -40,14 +40,13 @@ fn find_by(
     }
 }
 
-/// Looks for a certificate of an object by the methods that are made for its kind: for a queue,
-/// stack or heap also with another choice of what each removal takes, and for a stack by a search of
-/// all that it may contain.
+/// Looks for a certificate of an object by the quick methods that are made for its kind: for a queue,
+/// stack or heap also with another choice of what each removal takes.
 pub fn find_by_kind(alloc: Global, history: &ObjectHistory) -> Result<FindOutcome, AllocError>
     ensures valid { IfOk result (λ f. IfOrder f
         (IsFor history.now.object history.now.kind (calls_of history.now.ops))) }
 {
-    for method in [Method::OfTheKind, Method::OtherPairs, Method::AllContents] {
+    for method in [Method::OfTheKind, Method::OtherPairs] {
         if let Some(certificate) = find_by(alloc, method, history)? {
             return Ok(FindOutcome::Order(certificate));
         }
@@ -55,13 +54,27 @@ pub fn find_by_kind(alloc: Global, history: &ObjectHistory) -> Result<FindOutcom
     Ok(FindOutcome::Open)
 }
 
-/// Looks for a certificate of an object by the methods that are made for its kind, and then by a
-/// bounded search of 20,000 steps and 20 more for each operation.
+/// Looks for a certificate of a queue or stack by a search of all that it may contain.
+pub fn find_by_contents(alloc: Global, history: &ObjectHistory) -> Result<FindOutcome, AllocError>
+    ensures valid { IfOk result (λ f. IfOrder f
+        (IsFor history.now.object history.now.kind (calls_of history.now.ops))) }
+{
+    match find_by(alloc, Method::AllContents, history)? {
+        Some(certificate) => Ok(FindOutcome::Order(certificate)),
+        None => Ok(FindOutcome::Open),
+    }
+}
+
+/// Looks for a certificate of an object by the methods that are made for its kind, the quick ones
+/// first, and then by a bounded search of 20,000 steps and 20 more for each operation.
 pub fn find(alloc: Global, history: &ObjectHistory) -> Result<FindOutcome, AllocError>
     ensures valid { IfOk result (λ f. IfOrder f
         (IsFor history.now.object history.now.kind (calls_of history.now.ops))) }
 {
     if let FindOutcome::Order(certificate) = find_by_kind(alloc, history)? {
+        return Ok(FindOutcome::Order(certificate));
+    }
+    if let FindOutcome::Order(certificate) = find_by_contents(alloc, history)? {
         return Ok(FindOutcome::Order(certificate));
     }
     match find_by(alloc, Method::Search, history)? {

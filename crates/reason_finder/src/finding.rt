@@ -6,7 +6,7 @@ ghost use Rattle.order_search.specs.Outcomes.{IsNoneValid};
 ghost use Rattle.projection.specs.Cuts.{IsPart, NamesPart, part_kind};
 ghost use Rattle.reason_finder.specs.Reasons.{IsReasonFor, IsShownBy};
 
-use candidate_reasons::propose;
+use candidate_reasons::{Proposal, propose, propose_by_pairs};
 use events::{End, Invocation, ObjectHistory};
 use order_search::{Outcome, TryFirst, find_order_of_any_size};
 use projection::{Cut, Values, is_overdrawn, part_by};
@@ -68,21 +68,16 @@ fn checked_part(
     Ok(None)
 }
 
-/// Looks for a small reason why no order of the object's operations is valid. The search for an
-/// order of one part tries at most `limit` operations. `None`: there may be a valid order, or none.
-///
-/// An error: the allocator refused memory.
-pub fn find_reason(
+/// The proposal, where it is a reason.
+fn confirm(
     alloc: Global,
     history: &ObjectHistory,
+    proposal: Proposal,
     limit: u64,
 ) -> Result<Option<FoundReason>, AllocError>
     ensures reason { IfOk result (λ o. IfSome o (IsReasonFor
         history.now.object history.now.kind (calls_of history.now.ops))) }
 {
-    let Some(proposal) = propose(alloc, history, limit)? else {
-        return Ok(None);
-    };
     let reason = proposal.reason;
     if reason.object != history.object() {
         return Ok(None);
@@ -96,6 +91,61 @@ pub fn find_reason(
         pattern: proposal.pattern,
         key: proposal.key,
     }))
+}
+
+/// Looks for a small reason why no order of the object's operations is valid, by patterns. The
+/// search for an order of one part tries at most `limit` operations. `None`: there may be a valid
+/// order, or none.
+///
+/// An error: the allocator refused memory.
+pub fn find_reason_by_patterns(
+    alloc: Global,
+    history: &ObjectHistory,
+    limit: u64,
+) -> Result<Option<FoundReason>, AllocError>
+    ensures reason { IfOk result (λ o. IfSome o (IsReasonFor
+        history.now.object history.now.kind (calls_of history.now.ops))) }
+{
+    match propose(alloc, history, limit)? {
+        Some(proposal) => confirm(alloc, history, proposal, limit),
+        None => Ok(None),
+    }
+}
+
+/// The same in what was done with two values of a queue, stack or heap in which values repeat.
+///
+/// An error: the allocator refused memory.
+pub fn find_reason_by_pairs(
+    alloc: Global,
+    history: &ObjectHistory,
+    limit: u64,
+) -> Result<Option<FoundReason>, AllocError>
+    ensures reason { IfOk result (λ o. IfSome o (IsReasonFor
+        history.now.object history.now.kind (calls_of history.now.ops))) }
+{
+    match propose_by_pairs(alloc, history, limit)? {
+        Some(proposal) => confirm(alloc, history, proposal, limit),
+        None => Ok(None),
+    }
+}
+
+/// Looks for a small reason why no order of the object's operations is valid: by patterns, and then
+/// in what was done with two values. The search for an order of one part tries at most `limit`
+/// operations. `None`: there may be a valid order, or none.
+///
+/// An error: the allocator refused memory.
+pub fn find_reason(
+    alloc: Global,
+    history: &ObjectHistory,
+    limit: u64,
+) -> Result<Option<FoundReason>, AllocError>
+    ensures reason { IfOk result (λ o. IfSome o (IsReasonFor
+        history.now.object history.now.kind (calls_of history.now.ops))) }
+{
+    match find_reason_by_patterns(alloc, history, limit)? {
+        Some(found) => Ok(Some(found)),
+        None => find_reason_by_pairs(alloc, history, limit),
+    }
 }
 
 /// Whether an operation of a map is on this key, and did not fail.

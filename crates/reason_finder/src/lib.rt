@@ -6,4 +6,6 @@ mod all;
 mod finding;
 
 pub use all::find_reasons;
-pub use finding::{FoundReason, find_reason, find_reason_on};
+pub use finding::{
+    FoundReason, find_reason, find_reason_by_pairs, find_reason_by_patterns, find_reason_on,
+};
