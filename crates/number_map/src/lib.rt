@@ -1,7 +1,8 @@
 //! Maps whose keys are numbers.
 #![tactic(auto)]
 
-ghost use Rattle.std.specs.Prelude.{◌≡◌, ◌≢◌, ◌<◌, ℕ, length, Some, None, OnOk, OnErr};
+ghost use Rattle.std.specs.Prelude.{◌≡◌, ◌≢◌, ◌<◌, ◌↔◌, ◌++◌, ◌∷◌, ℕ, [], length, Some, None};
+ghost use Rattle.std.specs.Prelude.{OnOk, OnErr, IfOk, IsTrue, option_map, unwrap_or};
 ghost use Rattle.number_map.specs.Lookup.{value_of};
 
 use std::alloc::{AllocError, Global};
@@ -94,5 +95,33 @@ impl<V: Drop> NumberMap<V> {
             return mem::replace(&mut self.table[place], None);
         }
         None
+    }
+}
+
+impl<V: Drop> NumberMap<Vec<V>> {
+    /// Puts one more value at the end of the key's list, where the list is. The list of a key
+    /// without a value is empty. Says whether the key had no value before. After an error the list
+    /// of the key may be lost.
+    #[inline]
+    pub fn push(&mut self, alloc: Global, key: u64, value: V) -> Result<bool, AllocError>
+        ensures own { OnOk result (option_map (λ v. v.items) (value_of self.new key)
+            ≡ Some (unwrap_or (option_map (λ v. v.items) (value_of self.old key)) []
+            ++ value ∷ [])) }
+        ensures others { (k : ℕ) → k ≢ key → value_of self.new k ≡ value_of self.old k }
+        ensures first { IfOk result (λ first. IsTrue first ↔ (value_of self.old key ≡ None)) }
+    {
+        let place = key as usize;
+        if key < TABLE && place < self.table.len() {
+            if let Some(list) = &mut self.table[place] {
+                list.push(value)?;
+                return Ok(false);
+            }
+        }
+        let list = self.remove(key);
+        let is_first = list.is_none();
+        let mut list = list.unwrap_or(Vec::new(alloc));
+        list.push(value)?;
+        self.insert(key, list)?;
+        Ok(is_first)
     }
 }

@@ -20,3 +20,18 @@ fn a_number_map_keeps_the_values_of_small_and_large_keys(rt: HostRuntime) -> Res
     assert!(rt; map.get(0) == Some(0));
     Ok(())
 }
+
+#[test]
+fn a_number_map_puts_values_at_the_end_of_lists(rt: HostRuntime) -> Result<(), Fail> {
+    let mut map: NumberMap<Vec<u64>> = NumberMap::new(rt.alloc());
+    let keys: [u64; 4] = [3, 0, 65_536, u64::MAX];
+    for key in keys {
+        assert!(rt; map.push(rt.alloc(), key, key)?);
+        assert!(rt; !map.push(rt.alloc(), key, 7)?);
+    }
+    for key in keys {
+        assert!(rt; map.remove(key).is_some_and(|list| list.as_slice() == &[key, 7]));
+    }
+    assert!(rt; map.push(rt.alloc(), 3, 1)? && map.remove(2).is_none());
+    Ok(())
+}
