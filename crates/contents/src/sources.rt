@@ -4,7 +4,7 @@ use seq_objects::{AnyOp, AnyReply};
 use timeline::{Operation, Role, State};
 
 /// The value that a reply tells was there.
-pub(crate) fn wanted(reply: AnyReply) -> Option<i64> {
+pub fn wanted(reply: AnyReply) -> Option<i64> {
     match reply {
         AnyReply::Value(value) => value,
         AnyReply::Swapped(expected, _) => Some(expected),
@@ -13,7 +13,7 @@ pub(crate) fn wanted(reply: AnyReply) -> Option<i64> {
 }
 
 /// The key of an operation of a map.
-pub(crate) fn key_of(op: AnyOp) -> Option<i64> {
+pub fn key_of(op: AnyOp) -> Option<i64> {
     match op {
         AnyOp::Put(key, _) => Some(key),
         AnyOp::Get(key) => Some(key),
@@ -23,7 +23,7 @@ pub(crate) fn key_of(op: AnyOp) -> Option<i64> {
 }
 
 /// The value that an operation that may have happened puts in, or sets.
-pub(crate) fn value_put(operation: &Operation) -> Option<i64> {
+pub fn value_put(operation: &Operation) -> Option<i64> {
     if operation.state() == State::Failed {
         return None;
     }
@@ -39,11 +39,11 @@ pub(crate) fn value_put(operation: &Operation) -> Option<i64> {
 }
 
 /// Whether the operation puts this value in, under this key of a map.
-pub(crate) fn puts(operation: &Operation, key: Option<i64>, value: i64) -> bool {
+pub fn puts(operation: &Operation, key: Option<i64>, value: i64) -> bool {
     value_put(operation) == Some(value) && key_of(operation.op()) == key
 }
 
 /// Whether the operation returned this value, and took it out.
-pub(crate) fn takes(operation: &Operation, value: i64) -> bool {
+pub fn takes(operation: &Operation, value: i64) -> bool {
     operation.role() == Role::Take && operation.reply() == Some(AnyReply::Value(Some(value)))
 }

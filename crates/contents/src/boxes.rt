@@ -90,7 +90,7 @@ impl Boxes<'_> {
     }
 
     /// How many values are left out, if some are.
-    fn skipped(&mut self, count: usize) {
+    fn gap(&mut self, count: usize) {
         if count == 0 {
             return;
         }
@@ -118,12 +118,12 @@ impl Boxes<'_> {
                 skipped = skipped.saturating_add(1);
                 continue;
             }
-            self.skipped(skipped);
+            self.gap(skipped);
             skipped = 0;
             is_found = is_found || is_returned;
-            self.listed(*item, is_given, is_returned);
+            self.list_item(*item, is_given, is_returned);
         }
-        self.skipped(skipped);
+        self.gap(skipped);
         if items.is_empty() {
             self.empty(at.is_some());
         }
@@ -131,7 +131,7 @@ impl Boxes<'_> {
     }
 
     /// A value of a list.
-    fn listed(&mut self, item: Item, is_given: bool, is_returned: bool) {
+    fn list_item(&mut self, item: Item, is_given: bool, is_returned: bool) {
         if is_given {
             self.item(BoxKind::Gives, item, ["gives", ""]);
         } else if is_returned {
@@ -164,7 +164,7 @@ impl Boxes<'_> {
         self.add(BoxKind::Absent, text, under, None)
     }
 
-    fn returned(&mut self, reply: AnyReply) {
+    fn reply(&mut self, reply: AnyReply) {
         let text = value_text(self.memory, value_of_reply(&reply));
         self.add(BoxKind::Absent, text, ["returned", ""], None)
     }
@@ -269,11 +269,7 @@ impl Boxes<'_> {
 }
 
 /// The boxes of what the object contains where this operation is refused.
-pub(crate) fn boxes_of(
-    memory: &Memory,
-    content: &Content,
-    operation: &Operation,
-) -> Vec<ContentBox> {
+pub fn boxes_of(memory: &Memory, content: &Content, operation: &Operation) -> Vec<ContentBox> {
     let mut boxes = Boxes {
         memory,
         boxes: Vec::new(memory.alloc),
@@ -286,11 +282,11 @@ pub(crate) fn boxes_of(
         }
         Content::Register(item) => {
             boxes.register(*item);
-            boxes.returned(reply);
+            boxes.reply(reply);
         }
         Content::Map(_) => {
             boxes.entries(content, key_of(operation.op()));
-            boxes.returned(reply);
+            boxes.reply(reply);
         }
         Content::Mutex { holder, .. } => boxes.mutex(*holder),
     }

@@ -19,10 +19,10 @@ const SHORT: usize = 60;
 
 /// What the walk has come to.
 #[derive(Drop)]
-pub(crate) struct Walk {
-    pub(crate) content: Content,
-    pub(crate) points: Vec<Placed>,
-    pub(crate) rows: Vec<Row>,
+pub struct Walk {
+    pub content: Content,
+    pub points: Vec<Placed>,
+    pub rows: Vec<Row>,
     anchor: u32,
 }
 
@@ -110,7 +110,7 @@ impl Route<'_> {
     }
 
     /// How many entries are walked along.
-    fn walked(&self, order: &[i64]) -> usize {
+    fn reach(&self, order: &[i64]) -> usize {
         if self.refused.is_some() || self.is_short() {
             self.length
         } else {
@@ -152,7 +152,7 @@ fn entries_to_draw(order: &[i64], drawn: &BTreeSet<u32>) -> usize {
 
 /// Walks along the order up to its fault. Without a fault, a long order is walked along up to the
 /// last entry that is drawn, if some are.
-pub(crate) fn walk_along(
+pub fn walk_along(
     memory: &Memory,
     operations: &[Operation],
     kind: Kind,
@@ -167,7 +167,7 @@ pub(crate) fn walk_along(
         anchor: 0,
     };
     let route = Route::new(order, refused, drawn);
-    for (place, number) in order.iter().take(route.walked(order)).enumerate() {
+    for (place, number) in order.iter().take(route.reach(order)).enumerate() {
         let operation = operation_at(operations, *number);
         let is_drawn = route.is_drawn(operation);
         let is_shown = route.is_shown(place, is_drawn);
@@ -229,7 +229,7 @@ fn add_later(
 
 /// The rows of the table of the order: those that the walk made, no more than a table has, the
 /// entries after the fault, and how many are skipped between them.
-pub(crate) fn rows_of(
+pub fn rows_of(
     memory: &Memory,
     operations: &[Operation],
     order: &[i64],

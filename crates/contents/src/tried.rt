@@ -57,7 +57,7 @@ fn recorded_failure(failure: Failure, content: &Content, next: &Operation) -> Fa
     };
     let is_cas = matches!(next.op(), AnyOp::Cas(..));
     let gives = if gives == AnyReply::NotSwapped && !is_cas {
-        value_reply(content.found(&AnyOp::Read))
+        value_reply(content.find(&AnyOp::Read))
     } else {
         gives
     };
@@ -86,7 +86,7 @@ impl Trying<'_, '_> {
         content
     }
 
-    fn recorded(&self, invocation: &Invocation) -> Operation {
+    fn as_recorded(&self, invocation: &Invocation) -> Operation {
         operation_at(self.operations, i64::from(invocation.number)).unwrap_or(Operation {
             invocation: *invocation,
             object: 0,
@@ -159,7 +159,7 @@ impl Trying<'_, '_> {
         let mut before = Vec::new(memory.alloc);
         for place in &way.before {
             if let Some(invocation) = self.part.get(*place) {
-                memory.note(before.push(self.recorded(invocation)));
+                memory.note(before.push(self.as_recorded(invocation)));
             }
         }
         let attempt = Attempt {
@@ -201,7 +201,7 @@ impl Trying<'_, '_> {
         let mut content = self.content_after(memory, &way.before);
         match failure_of(invocation, content.gives(&invocation.op)) {
             Some(failure) => {
-                let next = self.recorded(invocation);
+                let next = self.as_recorded(invocation);
                 let failure = recorded_failure(failure, &content, &next);
                 self.fail(memory, way, &content, next, failure)
             }
@@ -212,7 +212,7 @@ impl Trying<'_, '_> {
 
 /// Tries the orders of the part's operations: each that no other precedes is tried next, in rising
 /// number. What was reached before, and a pending operation that changes nothing, is not followed.
-pub(crate) fn try_orders(
+pub fn try_orders(
     memory: &Memory,
     operations: &[Operation],
     kind: Kind,

@@ -31,7 +31,7 @@ pub enum Content {
 }
 
 /// The reply that a value is.
-pub(crate) fn value_reply(item: Option<Item>) -> AnyReply {
+pub fn value_reply(item: Option<Item>) -> AnyReply {
     match item {
         Some(item) => AnyReply::Value(Some(item.value)),
         None => AnyReply::Value(None),
@@ -54,7 +54,7 @@ impl Content {
     }
 
     /// The item that the operation finds, where it looks for one and there is one.
-    pub fn found(&self, op: &AnyOp) -> Option<Item> {
+    pub fn find(&self, op: &AnyOp) -> Option<Item> {
         if put_by(*op).is_some() {
             return None;
         }
@@ -78,7 +78,7 @@ impl Content {
 
     /// The reply that the object gives to the operation; none: it is not possible.
     pub fn gives(&self, op: &AnyOp) -> Option<AnyReply> {
-        let found = self.found(op);
+        let found = self.find(op);
         match *op {
             AnyOp::Enqueue(value) => Some(AnyReply::Value(Some(value))),
             AnyOp::Push(value) => Some(AnyReply::Value(Some(value))),
@@ -111,7 +111,7 @@ impl Content {
     }
 
     /// Does the operation that has this number. One that is not of the kind changes nothing.
-    pub(crate) fn apply(&mut self, memory: &Memory, number: u32, op: &AnyOp) {
+    pub fn apply(&mut self, memory: &Memory, number: u32, op: &AnyOp) {
         let by = number;
         match self {
             Content::Queue(items) => match *op {
@@ -134,7 +134,7 @@ impl Content {
                     let _ = items.pop_first();
                 }
             },
-            Content::Register(item) => *item = written(*item, by, op),
+            Content::Register(item) => *item = after_write(*item, by, op),
             Content::Map(items) => match *op {
                 AnyOp::Put(key, value) => {
                     memory.note(items.insert(key, Item { value, by }));
@@ -155,7 +155,7 @@ impl Content {
     }
 
     /// The values in it, at a map with their keys; of a mutex whether it is held.
-    pub(crate) fn values(&self, memory: &Memory) -> Vec<i64> {
+    pub fn values(&self, memory: &Memory) -> Vec<i64> {
         match self {
             Content::Queue(items) => values_of(memory, items, 0, items.len()),
             Content::Stack(items) => values_of(memory, items, 0, items.len()),
@@ -204,7 +204,7 @@ impl Content {
 }
 
 /// What a register contains after the operation.
-fn written(item: Option<Item>, by: u32, op: &AnyOp) -> Option<Item> {
+fn after_write(item: Option<Item>, by: u32, op: &AnyOp) -> Option<Item> {
     match *op {
         AnyOp::Write(value) => Some(Item { value, by }),
         AnyOp::Cas(expected, value) => match item {
