@@ -15,6 +15,6 @@ pub use gaps::{Gaps, gap_of};
 pub use matching::residences_of;
 pub use removals::Removals;
 pub use residence::{NEVER, Residence, pair_by_begins};
-pub use stack_pairs::stack_pairs;
+pub use stack_pairs::pair_on_top;
 pub use sure::Sure;
 pub use touches::{Touch, Touches, first_value, touches_of};

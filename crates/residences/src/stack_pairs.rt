@@ -452,7 +452,7 @@ impl Contents {
 /// of the pending pops they have, the first ones. None where a pop has no push.
 ///
 /// An error: the allocator refused memory.
-pub fn stack_pairs(
+pub fn pair_on_top(
     alloc: Global,
     touches: &Touches,
     end: u32,

@@ -12,8 +12,8 @@ use crate::leaving::order_around_leaving;
 use crate::trials::try_changes;
 use range_trees::{ABSENT, Counts, Least};
 use residences::{
-    Gaps, Removals, Residence, Touch, Touches, first_value, gap_of, pair_by_begins, residences_of,
-    stack_pairs,
+    Gaps, Removals, Residence, Touch, Touches, first_value, gap_of, pair_by_begins, pair_on_top,
+    residences_of,
 };
 use std::alloc::{AllocError, Global};
 use timed_calls::{CallSpan, Timeline};
@@ -415,7 +415,7 @@ fn pair_touches(
     pairing: Pairing,
 ) -> Result<Option<(Vec<Residence>, usize)>, AllocError> {
     if touches.repeat() && pairing == Pairing::OnTop {
-        return stack_pairs(alloc, touches, end);
+        return pair_on_top(alloc, touches, end);
     }
     let found = if touches.repeat() {
         last_in(alloc, &touches.known, end)?
