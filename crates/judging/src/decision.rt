@@ -88,11 +88,7 @@ pub fn verdict_alone(alloc: Global, history: &History, certificates: &[Certifica
 
 /// The verdict on certificates that are known to be valid, as those are that were checked when they
 /// were found: yes with the counts of the history, unless memory is refused. Nothing is checked.
-pub fn verdict_on_valid(
-    alloc: Global,
-    history: &History,
-    _certificates: &[Certificate],
-) -> Verdict
+pub fn verdict_on_valid(alloc: Global, history: &History, _certificates: &[Certificate]) -> Verdict
     requires valid { AreValid history.now _certificates.now }
     ensures linearizable { OnYes result (IsLinearizable (kind_at history.now)
         (events (denoted history.now))) }
