@@ -1,4 +1,4 @@
-"""Histories whose maps are in a usual order, and the same written otherwise: both ways of reading them give one answer.
+"""Histories and certificates whose maps are in a usual order, and the same written otherwise: both ways of reading them give one answer.
 
 A map in one of two orders is read by patterns of bytes, and any other by its tokens; after eight of the others in a row 64 maps are read by
 their tokens too. Each history is written in five forms, of which two are usual. In the text of a fault the byte that must be named is
@@ -79,6 +79,9 @@ GOOD = (
     ([invoke("write", "7", ", :object 0, :time 0, :index 0"), ok("write", "7", ", :time 17, :index 1")], 1),
     ([invoke("write", "7", ", :index 0, :time 3"), ok("write", "7", ", :index 1, :object 0")], 1),
     ([invoke("write", "7", ', :time nil, :error "at :time"'), ok("write", "7", ", :time [1 2]")], 1),
+    ([invoke("write", "7", ", :node 1"), ok("write", "7", ", :node :n1")], 1),
+    ([invoke("write", "7", ", :object 3, :time 4, :index 5, :node 0"), ok("write", "7", ", :object 3, :error :timeout")], 1),
+    ([invoke("write", "7", ", :node 1, :error nil"), ok("write", "7", ", :processes 2")], 1),
     # A failed and an open operation, and a map of no client.
     ([invoke("write", "7"), "{:process 0, :type :fail, :f :write, :value 7}", "{:process :nemesis, :type :info, :f :stop, :value nil}", invoke("read", "nil"), ok("read", "nil")], 1),
     ([invoke("write", "7"), "{:process 0, :type :info, :f :write, :value nil}", invoke("read", "nil", process="1"), ok("read", "7", process="1")], 2),
@@ -154,6 +157,11 @@ BROKEN = (
     ("E5", invoke("enqueue", "1", f", :object 1, {MARK}:object 1")),
     ("E5", invoke("enqueue", "1", f", :time 1, {MARK}:time 1")),
     ("E5", invoke("enqueue", "1", f", :object 1, :time 1, :index 1, {MARK}:index 1")),
+    ("E5", invoke("enqueue", "1", f", :index 1, {MARK}:type :ok")),
+    ("E5", invoke("enqueue", "1", f", :time 1, {MARK}:f :enqueue")),
+    ("E5", invoke("enqueue", "1", f", :node 1, {MARK}:node 1")),
+    ("E3", invoke("enqueue", "1", f", :node {MARK}01")),
+    ("E9", invoke("enqueue", "1", f", :node {MARK}x")),
     ("E3", invoke("enqueue", "1") + f"{MARK}}}"),
     ("E3", invoke("enqueue", "1") + f" {MARK}007"),
     ("E9", invoke("enqueue", "1") + f"\n{MARK}x"),
@@ -220,6 +228,77 @@ def broken_texts(program, report):
         report.answers(f"judge: {text[-200:]!r}", ran, f"malformed history: {fault}\n", 2)
 
 
+# Certificates of three writes of object 3, at maps 0, 2 and 4, and of one of object 65535, at map 6.
+WRITES = "".join(f"{it}\n" for n in range(3) for it in (invoke("write", n, ", :object 3"), ok("write", n, ", :object 3")))
+WRITES += "".join(f"{it('write', 7, ', :object 65535')}\n" for it in (invoke, ok))
+
+# Orders of object 3, and what the check says of them.
+ORDERS = (
+    ("[0 2 4]", "yes"),
+    ("[ 0 2 4]", "yes"),
+    ("[0 2 4 ]", "yes"),
+    ("[0  2\n4]", "yes"),
+    ("[0, 2, 4]", "yes"),
+    ("[+0 2 +4]", "yes"),
+    ("[0 2 ;]\n4]", "yes"),
+    ("[2 0 4]", "no"),
+    ("[0 2]", "no"),
+    ("[]", "no"),
+    ("[0 2 4 0]", "no"),
+    ("[0 2 -4]", "no"),
+    ("[0 24]", "no"),
+    ("[0 2 9223372036854775807]", "no"),
+    ("[0 2 4 nil]", "K1"),
+    ("[0 2 [4]]", "K1"),
+    ('[0 2 "4"]', "K1"),
+    ("{:a 0}", "K1"),
+    ("0", "K1"),
+    (f"[0 2 {MARK}04]", "E3"),
+    (f"[{MARK}00 2 4]", "E3"),
+    (f"[0 2 {MARK}4x]", "E3"),
+    (f"[0 2 {MARK}9223372036854775808]", "E4"),
+    (f"[0 2 {MARK}x]", "E9"),
+    (f"[0 2 4], {MARK}:order [0]", "E5"),
+    (f"[0 2 4], {MARK}:object 3", "E5"),
+)
+
+
+def order_first(pairs):
+    return usual(pairs[1:] + pairs[:1])
+
+
+def certificates():
+    """Certificates in each form, each with how the answer begins: the rows above, and rows of other objects."""
+    for form in (usual, order_first, with_a_note, spread):
+        other = form([(":object", "65535"), (":order", "[6]")])
+        for order, answer in ORDERS:
+            own = form([(":object", "3"), (":order", order)])
+            for number, text in ((1, f"{other}\n{own}\n"), (0, f"{own}\n{other}")):
+                before, _, after = text.partition(MARK)
+                if answer[0] == "E":
+                    answers = f"malformed certificates: {answer} at byte {len(before)}\n"
+                elif answer[0] == "K":
+                    answers = f"malformed certificates: {answer} at form {number}\n"
+                else:
+                    answers = answer
+                if answer != "E5" or form is not order_first:
+                    yield before + after, answers
+        for name, answer in (("65536", "K1 at form 1"), ("-1", "K1 at form 1"), ("nil", "K1 at form 1"), ("65535", "K2 at form 1"), ("+65535", "K2 at form 1")):
+            own = form([(":object", name), (":order", "[0 2 4]")])
+            yield f"{other}\n{own}\n", f"malformed certificates: {answer}\n"
+
+
+def orders_in_each_form(program, report):
+    """Certificates in each form: the answer of a check, and the place of a fault."""
+    history = program.write("straight.writes.edn", WRITES)
+    rows = list(certificates())
+    ran = at_once(lambda n: program.run("check", history, program.write(f"straight.order.{n}.edn", rows[n][0])), range(len(rows)))
+    statuses = {"y": 0, "n": 1, "m": 2}
+    for (text, answer), it in zip(rows, ran):
+        begins = it.out.startswith(answer.encode())
+        report.holds(f"check: {text!r}", begins and it.status == statuses[answer[0]] and not it.err, it)
+
+
 # The most instructions of a check on maps in a usual order, as a part of those on the same maps with a space after the brace.
 MOST_OF_THE_OTHERS = 0.75
 
@@ -249,4 +328,4 @@ def cost_of_usual_maps(program, report):
     return f"{max(straight / by_tokens for straight, by_tokens in zip(costs[::2], costs[1::2])):.2f} at most"
 
 
-PARTS = (cost_of_usual_maps, good_histories, bad_histories, faulty_histories, broken_texts)
+PARTS = (cost_of_usual_maps, good_histories, bad_histories, faulty_histories, broken_texts, orders_in_each_form)

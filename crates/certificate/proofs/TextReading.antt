@@ -1,8 +1,10 @@
 -- The elements of a text of certificates, one by one: what was found stays found, whatever follows.
-use Rattle.std.proofs.Common.{◌≡◌, ℕ, Bool, true, Option, Some, None, List, [], ◌∷◌, ◌++◌, length, refl, sym, ap, subst, ◌∙◌, append_assoc}
+use Rattle.std.proofs.Common.{◌≡◌, ℕ, ◌+◌, Bool, true, false, Option, Some, None, List, [], ◌∷◌, ◌++◌, length, refl, sym, ap, subst, ◌∙◌, append_assoc}
 use Rattle.std.specs.Prelude.{is_some}
 use Rattle.std.proofs.lemmas.List.{length-map}
 use Rattle.edn_reader.specs.Datum.{Datum}
+use Rattle.edn_reader.specs.Elements.{SpellsFront}
+use Rattle.edn_reader.proofs.Following.{Along, front_more}
 use Rattle.certificate.specs.declared.Certificate.{Certificate}
 use Rattle.certificate.specs.declared.fault.CertFault.{CertFault}
 use Rattle.certificate.specs.declared.fault.CertFaultKind.{CertFaultKind}
@@ -64,3 +66,13 @@ found ds cs among d kind h fault = (
       record { earlier = ds; form = d; later = []; split = refl; stands_at = one_each ds cs h.denoted; least = no_fault ds cs h.denoted; none = nothing_here ds cs among d r.0 h r.1 r.2 }
       ),
 )
+
+-- one form more, of which this is known
+pub along_passed : (P Q : List Datum → Type 0) (text mid rest : List ℕ) (before start : ℕ) (d : Datum) → SpellsFront mid (d ∷ []) rest
+    → start + length rest ≡ before + length mid → ((ds : List Datum) → P ds → Q (ds ++ d ∷ [])) → Along P text mid before → Along Q text rest start
+along_passed P Q text mid rest before start d f moves put a =
+    record { forms = a.forms ++ d ∷ []; front = front_more text mid rest a.forms (d ∷ []) a.front f; holds = put a.forms a.holds; place = moves ∙ a.place }
+
+pub no_fault_yet : (o : Option CertFault) → is_some o ≡ false → o ≡ None
+no_fault_yet None e = refl
+no_fault_yet (Some f) e = absurd cc

@@ -43,10 +43,10 @@ lines_left cs i c lt e =
 
 -- ---- what the lines spell
 
-numbers_data : List ℤ → List Datum
+unfoldable pub numbers_data : List ℤ → List Datum
 numbers_data zs = map (λ z. atom (integer z)) zs
 
-datum_of : Certificate → Datum
+unfoldable pub datum_of : Certificate → Datum
 datum_of c = dictionary (entry (codes "object") (atom (integer (pos c.object))) (entry (codes "order") (vector (items_of (numbers_data c.order.items))) no_entries))
 
 numbers_are_items : (first : Bool) (zs : List ℤ) → numbers_text first zs ≡ items_text first (items_of (numbers_data zs))
@@ -72,7 +72,7 @@ unfolding numbers_data
 numbers_fit n [] = tt
 numbers_fit n (z ∷ zs) = (tt, numbers_fit n zs)
 
-datum_fits : (c : Certificate) → Fits max_open (datum_of c)
+pub datum_fits : (c : Certificate) → Fits max_open (datum_of c)
 unfolding datum_of
 datum_fits c = (lit< tt, ((λ h. cc, tt), tt, (tt, (lit< tt, numbers_fit 14 c.order.items), tt)))
 
@@ -90,7 +90,7 @@ unfolding numbers_data
 numbers_read [] = refl
 numbers_read (z ∷ zs) = ap (option_map (λ ys. z ∷ ys)) (numbers_read zs)
 
-datum_denotes : (c : Certificate) → c.object ≤ 65535 → certificate_of (datum_of c) ≡ Some (reading_of c)
+pub datum_denotes : (c : Certificate) → c.object ≤ 65535 → certificate_of (datum_of c) ≡ Some (reading_of c)
 unfolding datum_of
 datum_denotes c small = ap (λ b. reading_with (if b then Some c.object else None) (integers_in (items_of (numbers_data c.order.items))))
     (le-leb c.object 65535 small) ∙ ap (reading_with (Some c.object)) (numbers_read c.order.items)

@@ -1,11 +1,12 @@
 -- How the reader judges a form by the objects of the forms before it. No public clause speaks of
 -- it.
-use Rattle.std.specs.Prelude.{◌≡◌, ◌==◌, ℕ, Bool, true, false, Some, None, is_some, List}
+use Rattle.std.specs.Prelude.{◌≡◌, ◌==◌, ℕ, Bool, true, false, Option, Some, None, is_some}
+use Rattle.std.specs.Prelude.{option_map, List}
 use Rattle.std.specs.List.{list_any}
 use Rattle.edn_reader.specs.Datum.{Datum}
 use Rattle.number_map.specs.Lookup.{value_of}
 use Rattle.number_map.specs.declared.NumberMap.{NumberMap}
-use Rattle.certificate.specs.Denotes.{Reading, certificate_of, Denotes}
+use Rattle.certificate.specs.Denotes.{Reading, certificate_of, reading_of, Denotes}
 use Rattle.certificate.specs.declared.Certificate.{Certificate}
 use Rattle.certificate.specs.declared.fault.CertFaultKind.{CertFaultKind}
 use Rattle.certificate.specs.declared.fault.CertFaultKind.TheVariants.{NotACertificate}
@@ -14,6 +15,10 @@ use Rattle.certificate.specs.declared.fault.CertFaultKind.TheVariants.{TwoForOne
 -- whether the map has a value for the number
 abbrev pub has : {V : Type 0} → NumberMap V → ℕ → Bool
 has m x = is_some (value_of m x)
+
+-- what was read of a form: the certificate that it is, or that it is none
+abbrev pub Says : Option Certificate → Datum → Type 0
+Says said d = certificate_of d ≡ option_map reading_of said
 
 -- what is wrong with a form, or that nothing is where memory was refused, by whether an object is
 -- that of an earlier form

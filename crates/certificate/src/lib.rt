@@ -4,6 +4,7 @@
 mod fault;
 mod reader;
 mod text_reader;
+mod usual;
 mod writer;
 
 pub use fault::{CertFault, CertFaultKind, CertTextFault};

@@ -1,7 +1,7 @@
 //! From a text to certificates, element by element.
 
 ghost use Rattle.std.specs.Prelude.{◌≡◌, ◌==◌, if◌then◌else◌, ◌++◌, ◌∷◌, [], ℕ, List, Some, None};
-ghost use Rattle.std.specs.Prelude.{true, false, IfOk, IfErr, OnOk, MatchResult};
+ghost use Rattle.std.specs.Prelude.{true, false, IfOk, IfErr, OnOk, MatchResult, option_map};
 ghost use Rattle.edn_reader.specs.Truncation.{truncated};
 ghost use Rattle.edn_reader.specs.Datum.{Datum};
 ghost use Rattle.edn_reader.specs.Pieces.{token_buffer_tokens};
@@ -10,12 +10,13 @@ ghost use Rattle.edn_reader.specs.Spells.{Spells};
 ghost use Rattle.edn_reader.specs.Token.{tokens_of};
 ghost use Rattle.certificate.specs.Denotes as spec;
 ghost use Rattle.certificate.specs.Denotes.{Denotes, AreDistinct};
-ghost use Rattle.certificate.specs.Inside.{IsFaultAmong, has};
+ghost use Rattle.certificate.specs.Inside.{IsFaultAmong, has, Says};
 ghost use Rattle.certificate.specs.TokenBuffers.{IsKept, numbers_of, object_of};
 ghost use Rattle.certificate.specs.Texts.{IsFoundIn, IsTextFault};
 
 use crate::Certificate;
 use crate::fault::{CertFault, CertFaultKind, CertTextFault};
+use crate::usual::usual_certificate;
 use edn::{Elements, Piece};
 use number_map::NumberMap;
 use std::alloc::Global;
@@ -31,30 +32,39 @@ fn object_on(pieces: &[Piece]) -> Option<u32>
     edn_fields::object(edn_fields::natural_at(number))
 }
 
-/// The certificate of which this is kept, and whose object is then among the objects. What is wrong
-/// with it is found without memory.
+/// The certificate of which this is kept, if it is one.
+fn certificate_on(pieces: &[Piece], integer_vector: Option<Vec<i64>>) -> Option<Certificate>
+    ensures { (d : Datum) → IsKept pieces.now (numbers_of integer_vector) d → Says result d }
+{
+    let (Some(object), Some(order)) = (object_on(pieces), integer_vector) else {
+        return None;
+    };
+    Some(Certificate { object, order })
+}
+
+/// The certificate that a form is, if it is one, and whose object is then among the objects. What
+/// is wrong with it is found without memory.
 fn next_certificate(
-    pieces: &[Piece],
-    integer_vector: Option<Vec<i64>>,
+    said: Option<Certificate>,
     objects: &mut NumberMap<()>,
 ) -> Result<Certificate, CertFaultKind>
-    ensures own { IfOk result (λ c. (d : Datum) → IsKept pieces.now (numbers_of integer_vector) d
-        → spec.certificate_of d ≡ Some (spec.reading_of c)) }
+    ensures own { IfOk result (λ c. option_map spec.reading_of said ≡ Some (spec.reading_of c)) }
     ensures new { IfOk result (λ c. has objects.old c.object ≡ false) }
     ensures among { IfOk result (λ c. (x : ℕ) →
         has objects.new x
         ≡ (if c.object == x then true else has objects.old x)) }
-    ensures fault { IfErr result (λ k. (d : Datum) → IsKept pieces.now (numbers_of integer_vector) d
+    ensures fault { IfErr result (λ k. (d : Datum) → Says said d
         → IsFaultAmong (has objects.old) d k) }
 {
-    let (Some(object), Some(order)) = (object_on(pieces), integer_vector) else {
+    let Some(certificate) = said else {
         return Err(CertFaultKind::NotACertificate);
     };
-    if objects.get(object as u64).is_some() {
+    let object = u64::from(certificate.object);
+    if objects.get(object).is_some() {
         return Err(CertFaultKind::TwoForOneObject);
     }
-    match objects.insert(object as u64, ()) {
-        Ok(_) => Ok(Certificate { object, order }),
+    match objects.insert(object, ()) {
+        Ok(_) => Ok(certificate),
         Err(_) => Err(CertFaultKind::NoMemory),
     }
 }
@@ -81,15 +91,14 @@ impl Reading {
         }
     }
 
-    /// Reads one more element, where none was faulty. Of each value the beginning is given, and the
-    /// integer vector of its order.
-    fn take_next(&mut self, pieces: &[Piece], integer_vector: Option<Vec<i64>>)
+    /// Reads one more element from what it says, where none was faulty.
+    fn take_said(&mut self, said: Option<Certificate>)
         requires { self.old.fault ≡ None }
-        ensures { (ds : List Datum) (d : Datum) → IsKept pieces.now (numbers_of integer_vector) d
+        ensures { (ds : List Datum) (d : Datum) → Says said d
             → IsReading self.old ds → IsReading self.new (ds ++ d ∷ []) }
     {
         let form = self.certificates.len();
-        match next_certificate(pieces, integer_vector, &mut self.objects) {
+        match next_certificate(said, &mut self.objects) {
             Ok(certificate) => match self.certificates.push(certificate) {
                 Ok(()) => {}
                 Err(_) => self.fault = Some(CertFault {
@@ -101,13 +110,14 @@ impl Reading {
         }
     }
 
-    /// Reads one more element, unless an earlier one is faulty.
+    /// Reads one more element, unless an earlier one is faulty. Of each value the beginning is
+    /// given, and the integer vector of its order.
     fn take(&mut self, pieces: &[Piece], integer_vector: Option<Vec<i64>>)
         ensures { (ds : List Datum) (d : Datum) → IsKept pieces.now (numbers_of integer_vector) d
             → IsReading self.old ds → IsReading self.new (ds ++ d ∷ []) }
     {
         if self.fault.is_none() {
-            self.take_next(pieces, integer_vector);
+            self.take_said(certificate_on(pieces, integer_vector));
         }
     }
 
@@ -145,6 +155,14 @@ pub fn read_certificates_text(alloc: Global, text: &[u8]) -> Result<Vec<Certific
     };
     let mut reading = Reading::new(alloc);
     'elements: loop {
+        if reading.fault.is_none() {
+            let found = usual_certificate(alloc, elements.rest().as_bytes());
+            if let Some((certificate, rest)) = found {
+                elements.pass(rest);
+                reading.take_said(Some(certificate));
+                continue;
+            }
+        }
         match elements.advance() {
             Ok(true) => {
                 let integer_vector = elements.take_integer_vector();

@@ -31,5 +31,6 @@ pub mod Tables
 pub mod Runs
 pub mod Following
 pub mod Fronts
+pub mod UsualFronts
 pub mod Formed
 pub mod Standing

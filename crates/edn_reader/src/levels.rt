@@ -347,6 +347,24 @@ impl<'a> Levels<'a> {
         self.open(Level::Map(Keys::new(room)))
     }
 
+    /// Opens a vector. In a vector nothing is moved: the innermost level is a vector before and
+    /// after.
+    #[inline(always)]
+    #[tactic(auto, using(crate::proofs::Nested::levels_push, crate::proofs::Nested::length_levels))]
+    fn open_vector(&mut self) -> Result<(), Cause>
+        ensures { Becomes result (spec.opened spec.a_vector (levels_shapes self.old))
+            (levels_shapes self.new) }
+    {
+        let count = self.outer.len();
+        match self.inner {
+            Level::Vector if count < MAX_OPEN && count < self.outer.capacity() => {
+                self.outer.push_reserved(Level::Vector);
+                Ok(())
+            }
+            _ => self.open(Level::Vector),
+        }
+    }
+
     /// The innermost level, whose place the one round it takes.
     #[inline(always)]
     #[tactic(auto, using(crate::proofs::Nested::levels_push))]
@@ -359,14 +377,23 @@ impl<'a> Levels<'a> {
         Some(mem::replace(&mut self.inner, level))
     }
 
+    /// Closes a vector. In a vector nothing is moved, as where it was opened.
     #[inline(always)]
+    #[tactic(auto, using(crate::proofs::Nested::levels_push))]
     fn close_vector(&mut self) -> Result<(), Cause>
         ensures { let s = levels_shapes self.old in
             Becomes result (spec.vector_closed s.inner s.outer) (levels_shapes self.new) }
     {
-        match self.leave() {
-            Some(Level::Vector) => self.inner.put_value(),
-            _ => Err(Cause::BadToken),
+        let Level::Vector = self.inner else {
+            return Err(Cause::BadToken);
+        };
+        match self.outer.pop() {
+            Some(Level::Vector) => Ok(()),
+            Some(level) => {
+                self.inner = level;
+                self.inner.put_value()
+            }
+            None => Err(Cause::BadToken),
         }
     }
 
@@ -392,7 +419,7 @@ impl<'a> Levels<'a> {
             (levels_shapes self.new) }
     {
         match piece {
-            Piece::OpenVector => self.open(Level::Vector),
+            Piece::OpenVector => self.open_vector(),
             Piece::OpenMap => self.open_map(alloc),
             Piece::CloseVector => self.close_vector(),
             Piece::CloseMap => self.close_map(),

@@ -1,66 +1,33 @@
 -- The parts of an operation map in the usual form, and the map that they make.
-use Rattle.std.proofs.Common.{◌≡◌, ℕ, ◌-◌, ◌<◌, ◌≤◌, ◌⊎◌, inl, inr, true, false, Bool, cond, Some, Option, List, [], ◌∷◌, ◌++◌, length, take, drop, get_or, codes, refl, sym, ap, subst, ◌∙◌, append_assoc, arith}
+use Rattle.std.proofs.Common.{◌≡◌, ℕ, ◌⊎◌, true, false, Bool, cond, Some, Option, List, [], ◌∷◌, ◌++◌, codes, refl, sym, ap, subst, ◌∙◌, append_assoc, arith}
 use Rattle.std.specs.Prelude.{ℤ, pos}
 use Rattle.std.specs.Str.{IsUtf8, bytes_eq}
 use Rattle.std.proofs.lemmas.Slice.Eq.{bytes_eq-Decides}
-use Rattle.std.proofs.lemmas.List.{take_all}
-use Rattle.edn_reader.specs.Bytes.{is_separator, is_token_byte, is_name}
+use Rattle.edn_reader.specs.Bytes.{is_name}
 use Rattle.edn_reader.specs.Datum.{Atom, nil, boolean, integer, keyword, Datum, atom, vector, dictionary, no_items, item, Entries, no_entries, entry, Fits, EntriesFit}
-use Rattle.edn_reader.specs.Token.{Token, open_vector, close_vector, open_map, close_map, leaf, tokens_of, items_tokens, entries_tokens}
-use Rattle.edn_reader.specs.Spells.{IsWord, EndsToken, Begins}
+use Rattle.edn_reader.specs.Token.{Token, close_vector, open_map, close_map, leaf, tokens_of, entries_tokens}
 use Rattle.edn_reader.specs.Reading.{first, got}
+use Rattle.edn_reader.specs.Spells.{EndsToken}
 use Rattle.edn_reader.specs.Sound.{BeginWith}
-use Rattle.edn_reader.proofs.Next.{FirstIs, first_is}
 use Rattle.edn_reader.proofs.Fronts.{both_begin, front_of}
+use Rattle.edn_reader.proofs.UsualFronts.{here, spaced, word_here, first_here, after_one, field, form_field, first_field}
 use Rattle.seq_objects.specs.declared.function.Function.{Function}
 use Rattle.seq_objects.specs.declared.function.Function.TheVariants.{Enqueue, Dequeue, Push, Pop, Insert, ExtractMin, Write, Read, Cas, Put, Get, Del, Acquire, Release}
 use Rattle.seq_objects.specs.declared.value.Value.{Value}
 use Rattle.seq_objects.specs.declared.value.Value.TheVariants.{Nil, False, Int, Pair}
 use Rattle.seq_objects.specs.Functions.{name_of}
 use Rattle.edn_fields.specs.Fields.{same_bytes, value_at, object_in}
+use Rattle.edn_fields.proofs.Finding.{same_bytes_is}
 use Rattle.history.specs.Maps as spec
 use Rattle.history.specs.Maps.{type_named, object_at, client_with}
 use Rattle.history.specs.Views.{map_type, client_map}
-use Rattle.history.specs.UsualForms.{ReadsUsual, type_name, ReadsValue, LackEach, operation_keys, keys_to_object, ReadsLast}
+use Rattle.history.specs.UsualForms.{ReadsUsual, type_name, ReadsValue, LackEach, operation_keys, keys_to_object, keys_to_index, IsNoneOf, ReadsLast}
 use Rattle.history.specs.declared.client_map.MapType.{MapType}
 use Rattle.history.specs.declared.client_map.MapType.TheVariants.{Invoke, Ok, Fail, Info}
 use Rattle.history.specs.declared.client_map.ClientMap.{ClientMap}
 use Rattle.history.proofs.Naming.{own_name}
 
 -- ---- a token at the front
-
-all_of : (n : ℕ) (xs : List ℕ) → length xs ≤ n → take n xs ≡ xs
-all_of n xs l = take_all n xs l
-
-pub head_is : (t : List ℕ) (a : ℕ) → 0 < length t → get_or t 0 0 ≡ a → t ≡ a ∷ take (length t - 1) (drop 1 t)
-head_is [] a l h = absurd (omega arith)
-head_is (b ∷ bs) a l h =
-    let q : b ≡ a = h in
-    ap (λ (x : ℕ). x ∷ bs) q ∙ ap (λ (x : List ℕ). a ∷ x) (sym (all_of (length (b ∷ bs) - 1) bs (omega arith)))
-
-pub heads_are : (t : List ℕ) (a b : ℕ) → 2 ≤ length t → get_or t 0 0 ≡ a → get_or t 1 0 ≡ b → t ≡ a ∷ b ∷ take (length t - 2) (drop 2 t)
-heads_are [] a b l h k = absurd (omega arith)
-heads_are (x ∷ []) a b l h k = absurd (omega arith)
-heads_are (x ∷ y ∷ xs) a b l h k =
-    let q : x ≡ a = h in
-    let r : y ≡ b = k in
-    ap (λ (z : ℕ). z ∷ y ∷ xs) q ∙ ap (λ (z : ℕ). a ∷ z ∷ xs) r ∙ ap (λ (z : List ℕ). a ∷ b ∷ z) (sym (all_of (length (x ∷ y ∷ xs) - 2) xs (omega arith)))
-
-pub here : (text rest : List ℕ) (t : Token) → Begins text t rest → BeginWith (t ∷ []) text rest
-here text rest t b = (rest, ([], text, tt, b, refl), refl)
-
--- a separator before a token
-spaced : (b : ℕ) (t : Token) (ts : List Token) (text rest : List ℕ) → is_separator b ≡ true → BeginWith (t ∷ ts) text rest → BeginWith (t ∷ ts) (b ∷ text) rest
-spaced b t ts text rest h (mid, (gap, after, g, k, q), w) = (mid, (b ∷ gap, after, inl (h, g), k, ap (λ (x : List ℕ). b ∷ x) q), w)
-
-pub word_here : (a : Atom) (own text rest : List ℕ) → IsWord a own → EndsToken rest → text ≡ own ++ rest → BeginWith (leaf (atom a) ∷ []) text rest
-word_here a own text rest w e q = here text rest (leaf (atom a)) (inl (a, own, refl, w, e, q))
-
-pub first_here : (text rest : List ℕ) (t : Token) → first text ≡ got t rest → BeginWith (t ∷ []) text rest
-first_here text rest t e = here text rest t (subst (FirstIs text) e (first_is text))
-
-pub zero_here : (text rest : List ℕ) → text ≡ 48 ∷ rest → EndsToken rest → BeginWith (leaf (atom (integer (pos 0))) ∷ []) text rest
-zero_here text rest q e = word_here (integer (pos 0)) (48 ∷ []) text rest (inl (refl, omega arith, refl)) e q
 
 is_name_type : (t : MapType) → is_name (type_name t) ≡ true
 unfolding is_name
@@ -119,21 +86,6 @@ pair_here y z inside after_y from_z after_z rest b q c r =
       begins = (inside, ([], 91 ∷ inside, tt, refl, refl), all);
     }
 
--- ---- pairs
-
--- a key and the token after it
-field : (k : List ℕ) (t : Token) (ts : List Token) (text mid rest : List ℕ) → is_name k ≡ true → text ≡ 44 ∷ 32 ∷ 58 ∷ (k ++ 32 ∷ mid) → BeginWith (t ∷ ts) mid rest
-    → BeginWith (leaf (atom (keyword k)) ∷ t ∷ ts) text rest
-unfolding is_token_byte
-field k t ts text mid rest n q b =
-    (32 ∷ mid, (44 ∷ 32 ∷ [], 58 ∷ (k ++ 32 ∷ mid), inl (refl, inl (refl, tt)), inl (keyword k, 58 ∷ k, refl, (refl, n), refl, refl), q), spaced 32 t ts mid rest refl b)
-
-form_field : (d : Datum) (k : List ℕ) (ts : List Token) (text mid rest : List ℕ) → is_name k ≡ true → text ≡ 44 ∷ 32 ∷ 58 ∷ (k ++ 32 ∷ mid) → BeginWith (tokens_of d ++ ts) mid rest
-    → BeginWith (leaf (atom (keyword k)) ∷ (tokens_of d ++ ts)) text rest
-form_field (atom a) k ts text mid rest n q b = field k (leaf (atom a)) ts text mid rest n q b
-form_field (vector ds) k ts text mid rest n q b = field k open_vector ((items_tokens ds ++ close_vector ∷ []) ++ ts) text mid rest n q b
-form_field (dictionary es) k ts text mid rest n q b = field k open_map ((entries_tokens es ++ close_map ∷ []) ++ ts) text mid rest n q b
-
 -- ---- the last pairs
 
 lack_none : (ks : List (List ℕ)) → LackEach ks no_entries
@@ -184,6 +136,39 @@ object_pair n x text mid after rest e q b r =
       begins = integer_pair (codes "object") (pos n) (entries_tokens r.pairs ++ close_map ∷ []) text mid after rest refl q b r.begins;
     }
 
+differs : (k : List ℕ) → (codes "object" ≡ k → ⊥) → same_bytes (codes "object") k ≡ false
+differs k h = by_same (same_bytes (codes "object") k) refl
+  where
+    by_same : (b : Bool) → same_bytes (codes "object") k ≡ b → same_bytes (codes "object") k ≡ false
+    by_same false e = e
+    by_same true e = absurd (h ((bytes_eq-Decides (codes "object") k).0 (same_bytes_is (codes "object") k ∙ e)))
+
+-- one more pair of a key without a meaning, and a value that has no elements
+pub note_pair : (k : List ℕ) (a : Atom) (text at_key after_key at_value after_value rest : List ℕ) → IsNoneOf k keys_to_index
+    → text ≡ codes ", :" ++ at_key → first (58 ∷ at_key) ≡ got (leaf (atom (keyword k))) after_key → after_key ≡ codes " " ++ at_value
+    → BeginWith (leaf (atom a) ∷ []) at_value after_value → after_value ≡ codes "}" ++ rest → ReadsLast keys_to_index text 0 rest
+note_pair k a text at_key after_key at_value after_value rest o q e s b z =
+    let key : Token = leaf (atom (keyword k)) in
+    let value : BeginWith (leaf (atom a) ∷ close_map ∷ []) at_value rest = both_begin (leaf (atom a) ∷ []) (close_map ∷ []) at_value after_value rest b (here after_value rest close_map z) in
+    let behind : BeginWith (leaf (atom a) ∷ close_map ∷ []) after_key rest =
+    subst (λ (x : List ℕ). BeginWith (leaf (atom a) ∷ close_map ∷ []) x rest) (sym s) (spaced 32 (leaf (atom a)) (close_map ∷ []) at_value rest refl value) in
+    let own : BeginWith (key ∷ leaf (atom a) ∷ close_map ∷ []) (58 ∷ at_key) rest =
+    both_begin (key ∷ []) (leaf (atom a) ∷ close_map ∷ []) (58 ∷ at_key) after_key rest (first_here (58 ∷ at_key) after_key key e) behind in
+    let more : List Token = leaf (atom a) ∷ close_map ∷ [] in
+    let all : BeginWith (key ∷ more) (44 ∷ 32 ∷ 58 ∷ at_key) rest =
+    spaced 44 key more (32 ∷ 58 ∷ at_key) rest refl (spaced 32 key more (58 ∷ at_key) rest refl own) in
+    record {
+      pairs = entry k (atom a) no_entries;
+      lack = note_lacks keys_to_index o;
+      object_is = ap (λ (c : Bool). object_at (cond c (Some (atom a)) (value_at (codes "object") no_entries))) (differs k o.1.1.0);
+      fits = (tt, tt, tt);
+      begins = subst (λ (x : List ℕ). BeginWith (key ∷ more) x rest) (sym q) all;
+    }
+  where
+    note_lacks : (ks : List (List ℕ)) → IsNoneOf k ks → LackEach ks (entry k (atom a) no_entries)
+    note_lacks [] h = tt
+    note_lacks (l ∷ ls) h = ((h.0, tt), note_lacks ls h.1)
+
 pub fewer_keys : (k : List ℕ) (ks : List (List ℕ)) (text : List ℕ) (x : ℕ) (rest : List ℕ) → ReadsLast (k ∷ ks) text x rest → ReadsLast ks text x rest
 fewer_keys k ks text x rest r = record { pairs = r.pairs; lack = r.lack.1; object_is = r.object_is; fits = r.fits; begins = r.begins }
 
@@ -227,20 +212,6 @@ client_is n t f x v d es e =
     client_with_function : Option Function → Option spec.ClientMap
     client_with_function g = Some (record { process = n; type = map_type t; function = g; object = x; value = d })
 
--- a map after its line feed, or as it is
-after_feed : (t : Token) (ts : List Token) (text own rest : List ℕ) → (text ≡ own) ⊎ (text ≡ 10 ∷ own) → BeginWith (t ∷ ts) own rest → BeginWith (t ∷ ts) text rest
-after_feed t ts text own rest (inl q) b = subst (λ (x : List ℕ). BeginWith (t ∷ ts) x rest) (sym q) b
-after_feed t ts text own rest (inr q) b = subst (λ (x : List ℕ). BeginWith (t ∷ ts) x rest) (sym q) (spaced 10 t ts own rest refl b)
-
-first_field : (k : List ℕ) (t : Token) (ts : List Token) (text mid rest : List ℕ) → is_name k ≡ true → text ≡ 123 ∷ 58 ∷ (k ++ 32 ∷ mid) → BeginWith (t ∷ ts) mid rest
-    → BeginWith (open_map ∷ leaf (atom (keyword k)) ∷ t ∷ ts) text rest
-unfolding is_token_byte
-first_field k t ts text mid rest n q b = (
-  58 ∷ (k ++ 32 ∷ mid),
-  ([], text, tt, q, refl),
-  (32 ∷ mid, ([], 58 ∷ (k ++ 32 ∷ mid), tt, inl (keyword k, 58 ∷ k, refl, (refl, n), refl, refl), refl), spaced 32 t ts mid rest refl b),
-)
-
 pub usual_is : (n : ℕ) (t : MapType) (f : Function) (x : ℕ) (v : Value) (text own from_n after_n from_t after_t from_f after_f from_v after_v rest : List ℕ) → IsUtf8 text
     → (text ≡ own) ⊎ (text ≡ 10 ∷ own) → own ≡ codes "{:process " ++ from_n → BeginWith (leaf (atom (integer (pos n))) ∷ []) from_n after_n
     → after_n ≡ codes ", :type " ++ from_t → BeginWith (leaf (atom (keyword (type_name t))) ∷ []) from_t after_t
@@ -262,7 +233,7 @@ usual_is n t f x v text own from_n after_n from_t after_t from_f after_f from_v 
     let ts_n : List Token = leaf (atom (keyword (codes "type"))) ∷ leaf (atom (keyword (type_name t))) ∷ ts_t in
     let n1 : BeginWith (leaf (atom (integer (pos n))) ∷ ts_n) from_n rest = both_begin (leaf (atom (integer (pos n))) ∷ []) ts_n from_n after_n rest bn t2 in
     let n2 = first_field (codes "process") (leaf (atom (integer (pos n)))) ts_n own from_n rest refl qn n1 in
-    let all = after_feed open_map (leaf (atom (keyword (codes "process"))) ∷ leaf (atom (integer (pos n))) ∷ ts_n) text own rest feed n2 in
+    let all = after_one 10 open_map (leaf (atom (keyword (codes "process"))) ∷ leaf (atom (integer (pos n))) ∷ ts_n) text own rest refl feed n2 in
     let begins : BeginWith (tokens_of (form_with n t f value.form last.pairs)) text rest =
     subst (λ (ts : List Token). BeginWith (open_map ∷ leaf (atom (keyword (codes "process"))) ∷ leaf (atom (integer (pos n))) ∷ leaf (atom (keyword (codes "type")))
     ∷ leaf (atom (keyword (type_name t))) ∷ leaf (atom (keyword (codes "f"))) ∷ leaf (atom (keyword (name_of f))) ∷ leaf (atom (keyword (codes "value"))) ∷ ts) text rest)
@@ -355,7 +326,7 @@ index_first_is i j n t f v text own from_i after_i from_j after_j from_t after_t
     let j1 = form_pair (codes "time") (atom (integer j)) es_t after_i from_j after_j rest refl qj bj t1 in
     let ts : List Token = entries_tokens es_j ++ close_map ∷ [] in
     let i1 = first_field (codes "index") (leaf (atom (integer i))) ts own from_i rest refl qi (both_begin (leaf (atom (integer i)) ∷ []) ts from_i after_i rest bi j1) in
-    let all = after_feed open_map (leaf (atom (keyword (codes "index"))) ∷ leaf (atom (integer i)) ∷ ts) text own rest feed i1 in
+    let all = after_one 10 open_map (leaf (atom (keyword (codes "index"))) ∷ leaf (atom (integer i)) ∷ ts) text own rest refl feed i1 in
     let front = front_of text rest (dictionary (indexed_with i j n t f d)) u (indexed_fits i j n t f d value.fits) all in
     record {
       form = dictionary (indexed_with i j n t f d);

@@ -1,10 +1,10 @@
 -- What the straight reader finds at the front of a text.
 use Rattle.std.specs.Prelude.{◌≡◌, ℕ, List, [], ◌∷◌, ◌++◌, Some, codes}
 use Rattle.std.specs.Str.{IsUtf8}
-use Rattle.edn_reader.specs.Datum.{Datum, Entries, Lacks, Fits, EntriesFit}
+use Rattle.edn_reader.specs.Datum.{Atom, Datum, atom, Entries, Lacks, Fits, EntriesFit}
 use Rattle.edn_reader.specs.Elements.{SpellsFront}
 use Rattle.edn_reader.specs.Sound.{BeginWith}
-use Rattle.edn_reader.specs.Token.{close_map, tokens_of, entries_tokens}
+use Rattle.edn_reader.specs.Token.{close_map, leaf, tokens_of, entries_tokens}
 use Rattle.edn_fields.specs.Fields.{value_at}
 use Rattle.seq_objects.specs.declared.value.Value.{Value}
 use Rattle.history.specs.Maps.{object_at, plain_value}
@@ -51,6 +51,18 @@ keys_to_object = codes "object" ∷ operation_keys
 
 abbrev pub keys_to_time : List (List ℕ)
 keys_to_time = codes "time" ∷ keys_to_object
+
+abbrev pub keys_to_index : List (List ℕ)
+keys_to_index = codes "index" ∷ keys_to_time
+
+-- the key is none of these
+abbrev pub IsNoneOf : List ℕ → List (List ℕ) → Type 0
+IsNoneOf k [] = Unit {0}
+IsNoneOf k (l ∷ ls) = (l ≡ k → ⊥) × IsNoneOf k ls
+
+-- The text begins with what has no elements, and this rest follows it.
+abbrev pub ReadsAtom : List ℕ → List ℕ → Type 0
+ReadsAtom text rest = (a : Atom) × BeginWith (leaf (atom a) ∷ []) text rest
 
 -- The text begins with pairs of other keys than these and the brace after them. The pairs name this
 -- object, and this rest follows.

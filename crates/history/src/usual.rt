@@ -10,57 +10,8 @@ ghost use Rattle.seq_objects.specs.Functions.{name_of};
 ghost use Rattle.history.specs.UsualForms.{type_name, ReadsValue};
 
 use crate::client_map::MapType;
-use edn::Piece;
+use edn::{after, ends_word, integer_at};
 use seq_objects::{Function, Value};
-
-/// What follows these bytes, where the text begins with them.
-#[inline(always)]
-pub fn after<'a, const N: usize>(text: &'a [u8], bytes: &[u8; N]) -> Option<&'a [u8]>
-    ensures { IfSome result (λ rest. text.entry.now ≡ bytes.now ++ rest.now) }
-{
-    let (front, rest) = text.split_first_chunk::<N>()?;
-    if front == bytes { Some(rest) } else { None }
-}
-
-/// Whether a word ends here, by the bytes that usually follow one.
-#[inline(always)]
-#[tactic(auto, unfolding(edn_reader::specs::Bytes::is_token_byte))]
-fn ends_word(rest: &[u8]) -> bool
-    ensures { result ≡ true → EndsToken rest.now }
-{
-    matches!(rest, [b',' | b'}' | b' ' | b']' | b'\n', ..])
-}
-
-/// An integer that has no sign, and what follows it.
-#[inline(always)]
-pub fn integer_at(text: &[u8]) -> Option<(i64, &[u8])>
-    ensures { IfSome result (λ x.
-        BeginWith (leaf (atom (integer x.0)) ∷ []) text.entry.now x.1.now) }
-{
-    match text {
-        [b'0', rest @ ..] => {
-            if ends_word(rest) {
-                Some((0, rest))
-            } else {
-                None
-            }
-        }
-        _ => Piece::usual_number(text),
-    }
-}
-
-/// The same, as a number that is not negative.
-#[inline(always)]
-pub fn natural_at(text: &[u8]) -> Option<(u64, &[u8])>
-    ensures { IfSome result (λ x.
-        BeginWith (leaf (atom (integer (pos x.0))) ∷ []) text.entry.now x.1.now) }
-{
-    let (number, rest) = integer_at(text)?;
-    if number < 0 {
-        return None;
-    }
-    Some((number as u64, rest))
-}
 
 /// A type after its colon's front, by the bytes that it begins with.
 #[inline(always)]

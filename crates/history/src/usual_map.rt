@@ -1,35 +1,80 @@
 //! An operation map in one of the usual forms, read from the front of a text by patterns of bytes.
 
-ghost use Rattle.std.specs.Prelude.{◌≡◌, ◌⊎◌, ◌∷◌, IfSome};
+ghost use Rattle.std.specs.Prelude.{◌≡◌, false, IfSome};
 ghost use Rattle.std.specs.Str.{IsUtf8};
 ghost use Rattle.history.specs.UsualForms.{ReadsUsual, ReadsLast, operation_keys, keys_to_object};
-ghost use Rattle.history.specs.UsualForms.{keys_to_time};
+ghost use Rattle.history.specs.UsualForms.{keys_to_time, keys_to_index, IsNoneOf, ReadsAtom};
 
 use crate::client_map::ClientMap;
-use crate::usual::{after, function_at, integer_at, natural_at, type_at, value_at};
+use crate::usual::{function_at, type_at, value_at};
+use edn::{Piece, after, after_line_feed, integer_at, natural_at};
 use edn_fields::object;
 
-/// After a line feed, where the text begins with one.
+/// Whether the key has a meaning in a map.
+fn has_meaning(key: &str) -> bool
+    ensures { result ≡ false → IsNoneOf key.now keys_to_index }
+{
+    key == "index"
+        || key == "time"
+        || key == "object"
+        || key == "process"
+        || key == "type"
+        || key == "f"
+        || key == "value"
+}
+
+/// What follows a keyword, or an integer that has no sign.
 #[inline(always)]
-fn after_line_feed(text: &[u8]) -> &[u8]
-    ensures { (text.entry.now ≡ result.now) ⊎ (text.entry.now ≡ 10 ∷ result.now) }
+fn after_atom(text: &[u8]) -> Option<&[u8]>
+    ensures { IfSome result (λ rest. ReadsAtom text.entry.now rest.now) }
 {
     match text {
-        [b'\n', rest @ ..] => rest,
-        _ => text,
+        [b':', tail @ ..] => {
+            let (_, rest) = Piece::usual_keyword(tail)?;
+            Some(rest)
+        }
+        _ => {
+            let (_, rest) = integer_at(text)?;
+            Some(rest)
+        }
     }
 }
 
-/// What follows a map whose last pairs are an index, or none.
+/// What follows a map whose last pair has a key without a meaning.
+// Apart from what reads the maps that have none.
+#[inline(never)]
+fn after_note(text: &[u8]) -> Option<&[u8]>
+    ensures { IfSome result (λ rest. ReadsLast keys_to_index text.entry.now 0 rest.now) }
+{
+    let (key, rest) = Piece::usual_keyword(after(text, b", :")?)?;
+    if has_meaning(key) {
+        return None;
+    }
+    let rest = after_atom(after(rest, b" ")?)?;
+    after(rest, b"}")
+}
+
+/// The same, or what follows a map that has no pair more.
+#[inline(always)]
+fn after_pairs(text: &[u8]) -> Option<&[u8]>
+    ensures { IfSome result (λ rest. ReadsLast keys_to_index text.entry.now 0 rest.now) }
+{
+    match after(text, b"}") {
+        Some(rest) => Some(rest),
+        None => after_note(text),
+    }
+}
+
+/// The same with an index before.
 #[inline(always)]
 fn after_index(text: &[u8]) -> Option<&[u8]>
     ensures { IfSome result (λ rest. ReadsLast keys_to_time text.entry.now 0 rest.now) }
 {
     let Some(rest) = after(text, b", :index ") else {
-        return after(text, b"}");
+        return after_pairs(text);
     };
     let (_, rest) = integer_at(rest)?;
-    after(rest, b"}")
+    after_pairs(rest)
 }
 
 /// The same with a time before.
@@ -103,8 +148,9 @@ fn index_first(text: &[u8]) -> Option<(ClientMap, &[u8])>
 }
 
 /// The operation map of a client at the front, and what follows it. Its keys are in one of two
-/// orders, a comma and a space before each but the first. A map that is written in another way
-/// may be well formed, and is none here.
+/// orders, a comma and a space before each but the first. In the first order one key without a
+/// meaning may be the last. A map that is written in another way may be well formed, and is none
+/// here.
 pub fn usual_map(text: &[u8]) -> Option<(ClientMap, &[u8])>
     requires { IsUtf8 text.now }
     ensures { IfSome result (λ x. ReadsUsual text.entry.now x.0 x.1.now) }

@@ -1,9 +1,11 @@
-use Rattle.std.proofs.Common.{ap, ◌∙◌}
+use Rattle.std.proofs.Common.{◌≡◌, ℕ, List, [], ◌∷◌, ap, sym, subst, ◌∙◌}
 use Rattle.edn_reader.specs.Truncation.{Keeping, kept_of, integer_vector_kept}
 use Rattle.edn_reader.specs.Token.{tokens_of}
+use Rattle.edn_reader.specs.Elements.{SpellsFront}
 use Rattle.edn_reader.specs.Left.{left_of, start_of, keeping_in, tokens_in, integer_vector_in}
 use Rattle.edn_reader.proofs.Following.{along_more, along_moved, along_spells, reads_some, reads_none, sound_behind, unreadable_behind}
 use Rattle.certificate.specs.Texts.{IsReading}
+use Rattle.certificate.proofs.TextReading.{along_passed, no_fault_yet}
 use Rattle.certificate.proofs.text_reader.read_certificates_text.Goals as goal
 
 pub elements-preserved : goal.elements-preserved
@@ -60,3 +62,22 @@ returns-in-Err-advance-clause-fault c =
             c.in-Err-advance.fault.place c.elements.invariant.utf8 a.front a.place (e.memory m),
       ),
     )
+
+pub take_said-requires : goal.take_said-requires
+take_said-requires c = no_fault_yet c.elements.reading.fault c.if-is_none.ensures
+
+pub elements-preserved-in-Some : goal.elements-preserved-in-Some
+elements-preserved-in-Some c =
+    let read = c.in-Some.ensures in
+    let at : c.as_bytes.result.now ≡ left_of c.elements.elements = c.as_bytes.ensures.value ∙ c.rest.ensures in
+    let front : SpellsFront (left_of c.elements.elements) (read.form ∷ []) (left_of c.pass.new.self) =
+    subst (λ (r : List ℕ). SpellsFront (left_of c.elements.elements) (read.form ∷ []) r) (sym c.pass.ensures.left)
+    (subst (λ (t : List ℕ). SpellsFront t (read.form ∷ []) c.in-Some.rest.now) at read.front) in
+    record {
+      along = along_passed (IsReading c.elements.reading) (IsReading c.take_said.new.self) c.args.text.now
+          (left_of c.elements.elements) (left_of c.pass.new.self) (start_of c.elements.elements) (start_of c.pass.new.self)
+          read.form front c.pass.ensures.moves (λ ds h. c.take_said.ensures ds read.form read.own h) c.elements.invariant.along;
+      short = c.elements.invariant.short;
+      utf8 = c.elements.invariant.utf8;
+      keeps = c.pass.ensures.keeps ∙ c.elements.invariant.keeps;
+    }

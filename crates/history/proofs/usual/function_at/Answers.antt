@@ -1,5 +1,6 @@
 use Rattle.std.proofs.Common.{List, ℕ, ◌∷◌, get_or, refl, ap, ◌∙◌, arith, rules}
-use Rattle.history.proofs.UsualForms.{heads_are, function_here}
+use Rattle.edn_reader.proofs.UsualFronts.{heads_are}
+use Rattle.history.proofs.UsualForms.{function_here}
 use Rattle.history.proofs.usual.function_at.Goals as goal
 
 pub returns : goal.returns

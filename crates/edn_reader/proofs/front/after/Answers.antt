@@ -2,7 +2,7 @@ use Rattle.std.proofs.Common.{◌≡◌, ℕ, List, ◌++◌, take, drop, true, 
 use Rattle.std.specs.Str.{bytes_eq}
 use Rattle.std.proofs.lemmas.Slice.Eq.{bytes_eq-Decides}
 use Rattle.std.proofs.lemmas.List.{take-append-drop}
-use Rattle.history.proofs.usual.after.Goals as goal
+use Rattle.edn_reader.proofs.front.after.Goals as goal
 
 begins : (n : ℕ) (text front bytes rest : List ℕ) → true ≡ bytes_eq front bytes → front ≡ take n text → rest ≡ drop n text → text ≡ bytes ++ rest
 begins n text front bytes rest e f r =

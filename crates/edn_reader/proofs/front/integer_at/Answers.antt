@@ -4,8 +4,8 @@ use Rattle.edn_reader.specs.Datum.{integer, atom}
 use Rattle.edn_reader.specs.Token.{leaf}
 use Rattle.edn_reader.specs.Reading.{first, got}
 use Rattle.edn_reader.specs.Sound.{BeginWith}
-use Rattle.history.proofs.UsualForms.{head_is, zero_here, first_here}
-use Rattle.history.proofs.usual.integer_at.Goals as goal
+use Rattle.edn_reader.proofs.UsualFronts.{head_is, zero_here, first_here}
+use Rattle.edn_reader.proofs.front.integer_at.Goals as goal
 
 pub returns-then-ends_word : goal.returns-then-ends_word
 returns-then-ends_word c = zero_here c.args.text.now _ (head_is c.args.text.now 48 (omega arith) (search rules)) (c.ends_word.ensures c.if-ends_word.true)

@@ -8,15 +8,15 @@ use Rattle.certificate.specs.Inside.{AreRead, has}
 use Rattle.certificate.specs.Texts.{IsFoundIn, IsReadOrFaulty, IsReading}
 use Rattle.certificate.proofs.Reading.{one_more_read}
 use Rattle.certificate.proofs.TextReading.{are_read, found}
-use Rattle.certificate.proofs.text_reader.Reading.take_next.Goals as goal
-use Rattle.certificate.proofs.text_reader.Reading.take_next.Goals.{in-Ok-push, in-Err-push}
+use Rattle.certificate.proofs.text_reader.Reading.take_said.Goals as goal
+use Rattle.certificate.proofs.text_reader.Reading.take_said.Goals.{in-Ok-push, in-Err-push}
 
 pub returns-after-push : goal.returns-after-push
 returns-after-push c = λ ds d q h.
     let old = c.args.self.now in
     let a = are_read old ds c.requires h in
     let made = c.in-Ok.certificate in
-    let own = c.in-Ok.ensures.own d q in
+    let own = q ∙ c.in-Ok.ensures.own in
     let after = has c.next_certificate.new.objects in
     elim c.match-push.branch [
       | in-Ok-push w ↦ (

@@ -1,0 +1,79 @@
+//! A certificate in the usual form, as it is written, read from the front of a text by patterns of
+//! bytes.
+
+ghost use Rattle.std.specs.Prelude.{◌≡◌, ◌⊎◌, ◌∷◌, [], ◌++◌, IfSome, OnOk};
+ghost use Rattle.std.specs.Str.{IsUtf8};
+ghost use Rattle.certificate.specs.UsualForms.{ReadsUsual, ReadsOrder};
+
+use crate::Certificate;
+use edn::{after, after_line_feed, integer_at, natural_at};
+use edn_fields::object;
+use std::alloc::{AllocError, Global};
+
+/// After a space, where the text begins with one.
+#[inline(always)]
+fn after_space(text: &[u8]) -> &[u8]
+    ensures { (text.entry.now ≡ result.now) ⊎ (text.entry.now ≡ 32 ∷ result.now) }
+{
+    match text {
+        [b' ', rest @ ..] => rest,
+        _ => text,
+    }
+}
+
+/// One more number, which may ask for room.
+#[cold]
+#[inline(never)]
+fn push_growing(numbers: &mut Vec<i64>, number: i64) -> Result<(), AllocError>
+    ensures { OnOk result (numbers.new.items ≡ numbers.old.items ++ number ∷ []) }
+{
+    numbers.push(number)?;
+    Ok(())
+}
+
+/// One more number.
+#[inline(always)]
+fn push(numbers: &mut Vec<i64>, number: i64) -> Result<(), AllocError>
+    ensures { OnOk result (numbers.new.items ≡ numbers.old.items ++ number ∷ []) }
+{
+    // Most pushes find room: these are made here, and only the others by a call.
+    if numbers.len() < numbers.capacity() {
+        numbers.push_reserved(number);
+        return Ok(());
+    }
+    push_growing(numbers, number)
+}
+
+/// The integers of an order after its bracket, and what follows the bracket that closes it. A space
+/// may stand before each of them. Where memory is refused there is none.
+fn order_after(alloc: Global, text: &[u8]) -> Option<(Vec<i64>, &[u8])>
+    ensures { IfSome result (λ x. ReadsOrder text.entry.now x.0.items x.1.now) }
+{
+    let mut order = Vec::new(alloc);
+    let mut rest = text;
+    'numbers: loop {
+        let here = after_space(rest);
+        if let [b']', behind @ ..] = here {
+            return Some((order, behind));
+        }
+        let (number, behind) = integer_at(here)?;
+        let Ok(()) = push(&mut order, number) else {
+            return None;
+        };
+        rest = behind;
+    }
+}
+
+/// The certificate at the front, and what follows it. Its keys are the object and the order, with a
+/// comma and a space between them. One that is written in another way may be well formed, and is
+/// none here; and where memory is refused for the order there is none.
+pub fn usual_certificate(alloc: Global, text: &[u8]) -> Option<(Certificate, &[u8])>
+    requires { IsUtf8 text.now }
+    ensures { IfSome result (λ x. ReadsUsual text.entry.now x.0 x.1.now) }
+{
+    let (number, rest) = natural_at(after(after_line_feed(text), b"{:object ")?)?;
+    let object = object(Some(number))?;
+    let (order, rest) = order_after(alloc, after(rest, b", :order [")?)?;
+    let rest = after(rest, b"}")?;
+    Some((Certificate { object, order }, rest))
+}
