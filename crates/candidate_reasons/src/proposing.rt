@@ -48,10 +48,12 @@ struct Base {
     from: Option<u32>,
 }
 
-/// A proposal, and the number of operations of its part.
+/// A candidate that was made smaller, the part in which it was, and the number of operations that
+/// are left.
 #[derive(Drop)]
-struct Sized {
-    proposal: Proposal,
+struct Shrunk {
+    candidate: Candidate,
+    base: Base,
     size: usize,
 }
 
@@ -135,28 +137,26 @@ fn base_cuts(
     Ok(cuts)
 }
 
-/// The number of operations of the part, where the reason is true.
-fn size_of(
+/// Whether the reason is true.
+fn holds(
     alloc: Global,
     history: &ObjectHistory,
     reason: &Reason,
     limit: u64,
-) -> Result<Option<usize>, AllocError> {
-    Ok(match refute(alloc, history, reason, limit)? {
-        Refutation::Impossible(part) => Some(part.ops().len()),
-        _ => None,
-    })
+) -> Result<bool, AllocError> {
+    let answer = refute(alloc, history, reason, limit)?;
+    Ok(matches!(answer, Refutation::Impossible(_)))
 }
 
 /// The reason of a plan that holds in a part which begins at a call: by the plan's cuts alone where
 /// they serve for the whole, and else by those after the part's.
-fn confirm(
+fn reason_of(
     alloc: Global,
     history: &ObjectHistory,
     base: Base,
     plan: &mut Plan,
     limit: u64,
-) -> Result<Option<(Reason, usize)>, AllocError> {
+) -> Result<Option<Reason>, AllocError> {
     let Base {
         part,
         mut cuts,
@@ -168,8 +168,8 @@ fn confirm(
         plan.elements.push(Element::Operation(from))?;
     }
     let reason = plan.reason(alloc, history)?;
-    if let Some(size) = size_of(alloc, history, &reason, limit)? {
-        return Ok(Some((reason, size)));
+    if holds(alloc, history, &reason, limit)? {
+        return Ok(Some(reason));
     }
     plan.from = own;
     plan.push_cuts(alloc, &part, &mut cuts)?;
@@ -178,8 +178,11 @@ fn confirm(
         cuts,
         evidence: plan.evidence,
     };
-    let size = size_of(alloc, history, &reason, limit)?;
-    Ok(size.map(|size| (reason, size)))
+    Ok(if holds(alloc, history, &reason, limit)? {
+        Some(reason)
+    } else {
+        None
+    })
 }
 
 /// The part in which a candidate's plan is made smaller, if there is one. Where it begins at a call
@@ -195,13 +198,13 @@ fn base_of(
     Ok(part.map(|part| Base { part, cuts, from }))
 }
 
-/// The result of a candidate.
-fn try_candidate(
+/// The candidate made smaller, if its part has no valid order.
+fn shrink(
     alloc: Global,
     history: &ObjectHistory,
     mut candidate: Candidate,
     limit: u64,
-) -> Result<Option<Sized>, AllocError> {
+) -> Result<Option<Shrunk>, AllocError> {
     let Some(base) = base_of(alloc, history, &mut candidate)? else {
         return Ok(None);
     };
@@ -209,40 +212,100 @@ fn try_candidate(
     if !judge.shrink(&mut candidate.plan)? {
         return Ok(None);
     }
-    let plan = &mut candidate.plan;
-    let Some((reason, size)) = confirm(alloc, history, base, plan, limit)? else {
-        return Ok(None);
-    };
-    let Candidate { pattern, key, .. } = candidate;
-    let proposal = Proposal {
+    let size = judge.size();
+    Ok(Some(Shrunk {
+        candidate,
+        base,
+        size,
+    }))
+}
+
+/// What a candidate that was made smaller comes to, where it holds in the whole history.
+fn confirm(
+    alloc: Global,
+    history: &ObjectHistory,
+    shrunk: Shrunk,
+    limit: u64,
+) -> Result<Option<Proposal>, AllocError> {
+    let Shrunk {
+        candidate,
+        base,
+        size: _,
+    } = shrunk;
+    let Candidate {
+        pattern,
+        key,
+        mut plan,
+        weight: _,
+    } = candidate;
+    let reason = reason_of(alloc, history, base, &mut plan, limit)?;
+    Ok(reason.map(|reason| Proposal {
         reason,
         pattern,
         key,
-    };
-    Ok(Some(Sized { proposal, size }))
+    }))
 }
 
-/// The smallest reason that the candidates come to, if one does.
-fn best_of(
+/// The next candidates, which are taken from the end, made smaller: until one is small or there are
+/// enough to be compared. The smallest comes first.
+fn next_shrunk(
     alloc: Global,
     history: &ObjectHistory,
-    candidates: Vec<Candidate>,
+    candidates: &mut Vec<Candidate>,
     limit: u64,
-) -> Result<Option<Proposal>, AllocError> {
-    let mut best: Option<Sized> = None;
-    let mut found: usize = 0;
-    for candidate in candidates.into_iter().take(MOST) {
-        if let Some(sized) = try_candidate(alloc, history, candidate, limit)? {
-            found = found.saturating_add(1);
-            if best.as_ref().is_none_or(|least| sized.size < least.size) {
-                best = Some(sized);
-            }
-        }
-        if found >= ENOUGH || best.as_ref().is_some_and(|least| least.size <= FEW) {
+) -> Result<Vec<Shrunk>, AllocError> {
+    let mut next = Vec::new(alloc);
+    for _ in 0..candidates.len() {
+        let Some(candidate) = candidates.pop() else {
+            break;
+        };
+        let Some(shrunk) = shrink(alloc, history, candidate, limit)? else {
+            continue;
+        };
+        let is_small = shrunk.size <= FEW;
+        next.push(shrunk)?;
+        if is_small || next.len() >= ENOUGH {
             break;
         }
     }
-    Ok(best.map(|sized| sized.proposal))
+    next.sort_by_key(|shrunk| shrunk.size)?;
+    Ok(next)
+}
+
+/// The first of these that holds in the whole history.
+fn first_confirmed(
+    alloc: Global,
+    history: &ObjectHistory,
+    all: Vec<Shrunk>,
+    limit: u64,
+) -> Result<Option<Proposal>, AllocError> {
+    for shrunk in all {
+        if let Some(proposal) = confirm(alloc, history, shrunk, limit)? {
+            return Ok(Some(proposal));
+        }
+    }
+    Ok(None)
+}
+
+/// The smallest reason that the first candidates come to, if one does.
+fn best_of(
+    alloc: Global,
+    history: &ObjectHistory,
+    mut candidates: Vec<Candidate>,
+    limit: u64,
+) -> Result<Option<Proposal>, AllocError> {
+    candidates.truncate(MOST);
+    candidates.reverse();
+    for _ in 0..MOST {
+        let next = next_shrunk(alloc, history, &mut candidates, limit)?;
+        if next.is_empty() {
+            break;
+        }
+        if let Some(proposal) = first_confirmed(alloc, history, next, limit)? {
+            return Ok(Some(proposal));
+        }
+    }
+    Ok(None)
 }
 
 /// The reason that the first of the candidates comes to that comes to one.
@@ -253,8 +316,10 @@ fn first_of(
     limit: u64,
 ) -> Result<Option<Proposal>, AllocError> {
     for candidate in candidates {
-        if let Some(sized) = try_candidate(alloc, history, candidate, limit)? {
-            return Ok(Some(sized.proposal));
+        if let Some(shrunk) = shrink(alloc, history, candidate, limit)?
+            && let Some(proposal) = confirm(alloc, history, shrunk, limit)?
+        {
+            return Ok(Some(proposal));
         }
     }
     Ok(None)

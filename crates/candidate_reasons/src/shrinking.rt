@@ -20,6 +20,8 @@ pub(crate) struct Judge<'a> {
     base: &'a ObjectHistory,
     limit: u64,
     left: u32,
+    /// The number of operations of the last part that held.
+    size: usize,
 }
 
 /// What a plan keeps, in numbers: where it begins and ends, and how many elements it has.
@@ -60,7 +62,13 @@ impl<'a> Judge<'a> {
             base,
             limit,
             left: MOST_STEPS,
+            size: 0,
         }
+    }
+
+    /// The number of operations of the last part that was confirmed to have no valid order.
+    pub(crate) fn size(&self) -> usize {
+        self.size
     }
 
     /// Whether the plan's part is confirmed to have no valid order.
@@ -70,8 +78,12 @@ impl<'a> Judge<'a> {
         };
         self.left = left;
         let reason = plan.reason(self.alloc, self.base)?;
-        let answer = refute(self.alloc, self.base, &reason, self.limit)?;
-        Ok(matches!(answer, Refutation::Impossible(_)))
+        let Refutation::Impossible(part) = refute(self.alloc, self.base, &reason, self.limit)?
+        else {
+            return Ok(false);
+        };
+        self.size = part.ops().len();
+        Ok(true)
     }
 
     /// The numbers before the plan's end at which it may end, in rising order.
