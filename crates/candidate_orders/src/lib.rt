@@ -2,14 +2,15 @@
 //! kind. No contract says that one is: `finder` checks each before it hands it out.
 //!
 //! The methods are made to find an order of any mutex, and of a queue, stack or heap in which each
-//! value is put in once, in some n log n steps of n calls. Where values repeat `value_orders` finds
-//! many orders of these, `queue_search` of queues, `stack_search` of stacks, and `cell_orders` of
-//! registers and maps. They do not find each.
+//! value is put in once, in some n log n steps of n calls. Where values repeat `queue_orders`,
+//! `stack_orders` and `heap_orders` find many orders, `queue_search` further ones of queues,
+//! `stack_search` of stacks, and `cell_orders` those of registers and maps. They do not find each.
 #![tactic(auto)]
 
 mod keys;
 mod methods;
 mod mutex;
+mod values;
 
 pub use keys::open_keys;
 pub use methods::{Method, order_by};

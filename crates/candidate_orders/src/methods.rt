@@ -1,6 +1,7 @@
 //! The methods of looking for an order of the calls of an object.
 
 use crate::mutex::mutex_order;
+use crate::values::{other_values_order, values_order};
 use cell_orders::order_of_cells;
 use events::{Invocation, ObjectHistory};
 use order_search::{Outcome, TryFirst, find_order_of_any_size};
@@ -9,7 +10,6 @@ use seq_objects::Kind;
 use stack_search::searched_stack_order;
 use std::alloc::{AllocError, Global};
 use timed_calls::timeline_of;
-use value_orders::{other_values_order, values_order};
 
 /// A method of looking for an order.
 #[derive(Clone, Copy)]

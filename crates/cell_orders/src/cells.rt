@@ -1,24 +1,46 @@
 //! Registers and maps: the orders of the cells, merged by gaps.
 
+use crate::groups::Groups;
 use crate::search::searched_order;
 use std::alloc::{AllocError, Global};
 use timed_calls::{CellCalls, Timeline, cells_of};
 
-/// Adds the calls of a cell, each with the first gap that those before it leave.
-fn add_cell(
-    merged: &mut Vec<(u32, usize, u32)>,
-    cell: &CellCalls,
-    order: &[usize],
-) -> Result<(), AllocError> {
+/// A call, and the first gap that those before it in its cell leave.
+#[derive(Clone, Copy)]
+struct Placed {
+    gap: u32,
+    number: u32,
+}
+
+/// Adds the calls of a cell in its order.
+fn add_cell(merged: &mut Vec<Placed>, cell: &CellCalls, order: &[usize]) -> Result<(), AllocError> {
     let mut gap = 0;
     for place in order {
         if let Some(access) = cell.accesses.get(*place) {
             gap = access.call.begin.max(gap);
-            let turn = merged.len();
-            merged.push((gap, turn, access.call.number))?;
+            let number = access.call.number;
+            merged.push(Placed { gap, number })?;
         }
     }
     Ok(())
+}
+
+/// The numbers of the calls by their gaps, of which there are this many; those of one gap in the
+/// order in which they are here.
+fn order_by_gaps(alloc: Global, merged: &[Placed], gaps: u32) -> Result<Vec<i64>, AllocError> {
+    let mut by_gaps = Groups::new(alloc, gaps as usize)?;
+    for call in merged {
+        by_gaps.count(call.gap as usize);
+    }
+    by_gaps.settle();
+    let mut order = vec![in alloc; 0; merged.len()]?;
+    for call in merged {
+        let place = by_gaps.place(call.gap as usize);
+        if let Some(slot) = order.get_mut(place) {
+            *slot = call.number as i64;
+        }
+    }
+    Ok(order)
 }
 
 /// An order of the calls of a register or map that may be valid. It has no contract.
@@ -30,12 +52,7 @@ pub fn order_of_cells(alloc: Global, timeline: &Timeline) -> Result<Option<Vec<i
         };
         add_cell(&mut merged, cell, &order)?;
     }
-    merged.sort_unstable();
-    let order = merged
-        .iter()
-        .map(|(_, _, number)| *number as i64)
-        .collect(alloc)?;
-    Ok(Some(order))
+    Ok(Some(order_by_gaps(alloc, &merged, timeline.end)?))
 }
 
 /// The most keys that are named as open.

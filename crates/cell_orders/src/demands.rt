@@ -1,5 +1,6 @@
 //! How long a content of a cell is asked for after it is set.
 
+use crate::groups::Groups;
 use std::alloc::{AllocError, Global};
 use timed_calls::{Access, Need};
 
@@ -9,7 +10,6 @@ const MOST_DEMANDS: usize = 1_000;
 /// A call that asks for a content, and returns.
 #[derive(Clone, Copy)]
 struct Demand {
-    content: usize,
     begin: u32,
     end: u32,
     place: usize,
@@ -27,49 +27,103 @@ pub(crate) struct Hold {
     pub(crate) next: u32,
 }
 
+/// What asks for it, where a call asks for a content and returns, and the content.
+fn demand_of(access: &Access, place: usize) -> Option<(usize, Demand)> {
+    let (Need::Is(content), false) = (access.need, access.call.is_pending()) else {
+        return None;
+    };
+    let demand = Demand {
+        begin: access.call.begin,
+        end: access.call.end,
+        place,
+        takes: access.sets.is_some(),
+    };
+    Some((content, demand))
+}
+
+/// The greatest content that a call asks for or sets, and at least 0.
+fn greatest_content(accesses: &[Access]) -> usize {
+    let mut greatest = 0;
+    for access in accesses {
+        if let Need::Is(content) = access.need {
+            greatest = greatest.max(content);
+        }
+        if let Some(content) = access.sets {
+            greatest = greatest.max(content);
+        }
+    }
+    greatest
+}
+
+fn put<T: Copy>(list: &mut [T], place: usize, item: T) {
+    if let Some(slot) = list.get_mut(place) {
+        *slot = item;
+    }
+}
+
+/// What is in place of a demand before it is put there.
+const NO_DEMAND: Demand = Demand {
+    begin: 0,
+    end: 0,
+    place: 0,
+    takes: false,
+};
+
 /// The calls that ask for a content or set one, by contents, and by their begin for each.
 #[derive(Drop)]
 pub(crate) struct Demands {
     demands: Vec<Demand>,
-    /// Contents that are set, with the begin of the call.
-    sources: Vec<(usize, u32)>,
+    asked: Groups,
+    /// The begins of the calls that set the contents.
+    sources: Vec<u32>,
+    set: Groups,
 }
 
 impl Demands {
+    /// Of calls that come in the order of their begins.
     pub(crate) fn of(alloc: Global, accesses: &[Access]) -> Result<Demands, AllocError> {
-        let mut demands = Vec::new(alloc);
-        let mut sources = Vec::new(alloc);
-        for (place, access) in accesses.iter().enumerate() {
-            let begin = access.call.begin;
-            let end = access.call.end;
-            if let (Need::Is(content), false) = (access.need, access.call.is_pending()) {
-                let takes = access.sets.is_some();
-                demands.push(Demand {
-                    content,
-                    begin,
-                    end,
-                    place,
-                    takes,
-                })?;
+        let contents = greatest_content(accesses).saturating_add(1);
+        let mut asked = Groups::new(alloc, contents)?;
+        let mut set = Groups::new(alloc, contents)?;
+        for access in accesses {
+            if let Some((content, _)) = demand_of(access, 0) {
+                asked.count(content);
             }
             if let Some(content) = access.sets {
-                sources.push((content, begin))?;
+                set.count(content);
             }
         }
-        demands.sort_unstable_by_key(|demand| (demand.content, demand.begin));
-        sources.sort_unstable();
-        Ok(Demands { demands, sources })
+        asked.settle();
+        set.settle();
+        let mut demands = Demands {
+            demands: vec![in alloc; NO_DEMAND; accesses.len()]?,
+            asked,
+            sources: vec![in alloc; 0; accesses.len()]?,
+            set,
+        };
+        demands.put_all(accesses);
+        Ok(demands)
+    }
+
+    /// Puts each call at its places.
+    fn put_all(&mut self, accesses: &[Access]) {
+        for (place, access) in accesses.iter().enumerate() {
+            if let Some((content, demand)) = demand_of(access, place) {
+                let at = self.asked.place(content);
+                put(&mut self.demands, at, demand);
+            }
+            if let Some(content) = access.sets {
+                let at = self.set.place(content);
+                put(&mut self.sources, at, access.call.begin);
+            }
+        }
     }
 
     /// When a call next begins that sets the content.
     fn next_source(&self, content: usize, now: u32) -> u32 {
-        let after = self
-            .sources
-            .partition_point(|source| *source <= (content, now));
-        match self.sources.get(after) {
-            Some((set, begin)) if *set == content => *begin,
-            _ => u32::MAX,
-        }
+        let begins = self.set.items(&self.sources, content);
+        let after = begins.partition_point(|begin| *begin <= now);
+        begins.get(after).copied().unwrap_or(u32::MAX)
     }
 
     /// What asks for the content, if it is set now, and returns before a call begins that can set it
@@ -81,20 +135,17 @@ impl Demands {
             taker: None,
             next,
         };
-        let first = self
-            .demands
-            .partition_point(|demand| (demand.content, demand.begin) <= (content, now));
-        for k in (first..self.demands.len()).take(MOST_DEMANDS) {
-            match self.demands.get(k) {
-                Some(demand) if demand.content == content && demand.begin < next => {
-                    if demand.end < next {
-                        hold.until = demand.begin;
-                        if demand.takes {
-                            hold.taker = Some(demand.place);
-                        }
-                    }
+        let demands = self.asked.items(&self.demands, content);
+        let first = demands.partition_point(|demand| demand.begin <= now);
+        for demand in demands.iter().skip(first).take(MOST_DEMANDS) {
+            if demand.begin >= next {
+                break;
+            }
+            if demand.end < next {
+                hold.until = demand.begin;
+                if demand.takes {
+                    hold.taker = Some(demand.place);
                 }
-                _ => break,
             }
         }
         hold

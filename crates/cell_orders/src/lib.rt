@@ -11,6 +11,7 @@ mod cells;
 mod choices;
 mod dead_ends;
 mod demands;
+mod groups;
 mod search;
 mod waiting;
 

@@ -12,7 +12,7 @@ use edn::Sink;
 use std::alloc::Global;
 
 /// Which object is drawn, and which stretch of it.
-fn drawn(options: DrawOptions) -> Options {
+fn options_of(options: DrawOptions) -> Options {
     Options {
         object: options.object,
         stretch: Stretch {
@@ -38,7 +38,7 @@ fn draw_judged<S: Sink>(
         history: name,
         certificates: None,
         steps: options.steps,
-        options: drawn(options),
+        options: options_of(options),
     };
     report_drawing(alloc, &request, text, sink)
 }
@@ -67,7 +67,7 @@ fn draw_checked<S: Sink>(
         history: names.history,
         certificates: Some(names.certificates),
         steps: options.steps,
-        options: drawn(options),
+        options: options_of(options),
     };
     report_checked_drawing(alloc, &request, history, certificates, sink)
 }

@@ -1,15 +1,10 @@
 //! The drawing of an object's history: what it shows, and why. How it is written, another crate says.
 #![tactic(auto)]
 
-mod boxes;
-mod content;
 mod faulty;
 mod objects;
-mod orders;
 mod sentences;
 mod shapes;
-mod sources;
-mod tried;
 
 pub use faulty::{Faulty, FaultyDrawing, draw_up_to};
 pub use figures::{

@@ -2,12 +2,10 @@
 
 ghost use Rattle.std.specs.Prelude.{◌≡◌, IfOk};
 
-use crate::boxes::boxes_of;
-use crate::orders::{rows_of, walk_along};
 use crate::sentences::{Alone, Explanation, Refused};
 use crate::shapes::Shape;
-use crate::tried::try_orders;
 use checker::OrderFault;
+use contents::{boxes_of, rows_of, try_orders, walk_along};
 use events::{End, History, Invocation, ObjectHistory};
 use figures::{
     Memory, Moment, Nemesis, Placed, Scene, Stretch, WithoutLane, choose, figure_of, narrow,
@@ -409,7 +407,7 @@ fn invocation_in(part: &[Invocation], number: u32) -> Option<Invocation> {
 }
 
 /// The operations of a part, as the history has them, and the one from which on it is a part.
-fn recorded(
+fn operations_named(
     memory: &Memory,
     operations: &[Operation],
     part: &[Invocation],
@@ -496,7 +494,7 @@ pub fn draw_impossible(
     let operations = all_operations(&memory, subject);
     let live = live_of(&memory, part.part.ops());
     let ops: &[Invocation] = &live;
-    let named = recorded(&memory, &operations, ops, part.from);
+    let named = operations_named(&memory, &operations, ops, part.from);
     let tried = try_orders(&memory, &operations, part.part.kind(), ops, part.other);
     let shape = Shape {
         memory: &memory,

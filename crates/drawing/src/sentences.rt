@@ -1,10 +1,8 @@
 //! What is wrong with an order, in a sentence. Where a sentence says a fact of the history, the
 //! code that chooses it has looked the fact up.
 
-use crate::content::Content;
-use crate::orders::walk_along;
-use crate::sources::{key_of, puts, wanted};
 use checker::OrderFault;
+use contents::{Content, key_of, puts, walk_along, wanted};
 use events::{Action, Event};
 use figures::Memory;
 use seq_objects::{AnyOp, AnyReply, Kind};
@@ -211,7 +209,7 @@ impl<'a> Refused<'a> {
         text
     }
 
-    fn repeated(&self, operation: Operation) -> Explanation<'a> {
+    fn on_repeated(&self, operation: Operation) -> Explanation<'a> {
         let number = i64::from(operation.number());
         let first = place_in(self.order, number).unwrap_or(0);
         let next = first.saturating_add(1);
@@ -261,7 +259,7 @@ impl<'a> Refused<'a> {
         text
     }
 
-    fn omitted(&self, operation: Operation, at: u32) -> Explanation<'a> {
+    fn on_omitted(&self, operation: Operation, at: u32) -> Explanation<'a> {
         let mut text = Explanation::new(self.memory, None, Alone::Never);
         text.operation(operation, Mark::LeftOut);
         text.say(&[
@@ -350,7 +348,7 @@ impl<'a> Refused<'a> {
 
     /// Who put what the operation finds.
     fn say_giver(&self, text: &mut Explanation<'_>, content: &Content, operation: &Operation) {
-        let Some(item) = content.found(&operation.op()) else {
+        let Some(item) = content.find(&operation.op()) else {
             return;
         };
         let Some(giver) = self.operation(item.by) else {
@@ -441,7 +439,7 @@ impl<'a> Refused<'a> {
                 continue;
             };
             let op = operation.op();
-            if let Some(item) = content.found(&op) {
+            if let Some(item) = content.find(&op) {
                 if item.by == source.number() {
                     return Some((place, operation));
                 }
@@ -478,12 +476,12 @@ impl<'a> Refused<'a> {
         };
         let (returned, reply) = (operation.returned(), operation.reply());
         match (fault, returned, reply) {
-            (OrderFault::Repeated { .. }, _, _) => self.repeated(operation),
+            (OrderFault::Repeated { .. }, _, _) => self.on_repeated(operation),
             (OrderFault::NotPossible { .. }, _, _) => self.not_possible(operation),
             (OrderFault::WrongReply { gives, .. }, _, Some(reply)) => {
                 self.wrong_reply(operation, gives, reply)
             }
-            (OrderFault::Omitted { .. }, Some(at), _) => self.omitted(operation, at),
+            (OrderFault::Omitted { .. }, Some(at), _) => self.on_omitted(operation, at),
             (OrderFault::TooLate { by, .. }, Some(at), _) => match self.operation(by) {
                 Some(early) if at < by => self.too_late(operation, early, at),
                 _ => self.general(place_in(self.order, number)),

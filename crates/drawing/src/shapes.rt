@@ -1,7 +1,7 @@
 //! Why an object has no valid order, in a sentence. A sentence of a shape is said only where all it
 //! says was checked on all operations of the object; else the general one is said.
 
-use crate::sources::{key_of, puts, takes, value_put};
+use contents::{key_of, puts, takes, value_put};
 use figures::Memory;
 use seq_objects::{AnyOp, AnyReply, Kind};
 use timeline::{Operation, Role, Span, State, Tried};
@@ -71,7 +71,7 @@ fn times(count: usize) -> [Span; 2] {
 }
 
 /// A sentence of these spans.
-fn said(memory: &Memory, spans: &[Span]) -> Option<Vec<Span>> {
+fn sentence(memory: &Memory, spans: &[Span]) -> Option<Vec<Span>> {
     Some(memory.list(spans.to_vec(memory.alloc)))
 }
 
@@ -303,7 +303,7 @@ impl Shape<'_, '_, '_> {
         if !is_container(self.kind) || !self.putters(value, at).is_empty() {
             return None;
         }
-        said(
+        sentence(
             self.memory,
             &[
                 Span::Operation(*taker),
@@ -439,7 +439,7 @@ impl Shape<'_, '_, '_> {
         if !is_container(self.kind) || !found_nothing || self.may_be_taken(value, end) {
             return None;
         }
-        said(
+        sentence(
             self.memory,
             &[
                 Span::Operation(*taker),
@@ -502,7 +502,7 @@ impl Shape<'_, '_, '_> {
             taker,
             end,
         };
-        said(self.memory, &turn.spans(self.taken_then(v)))
+        sentence(self.memory, &turn.spans(self.taken_then(v)))
     }
 
     /// An operation of a register or a map finds a value that was replaced before it began.
@@ -533,7 +533,7 @@ impl Shape<'_, '_, '_> {
             at,
             end,
         };
-        said(self.memory, &moments.spans())
+        sentence(self.memory, &moments.spans())
     }
 
     /// A mutex is released twice, and not acquired in between.
@@ -549,7 +549,7 @@ impl Shape<'_, '_, '_> {
         if !both || self.is_acquired_between(from, to) {
             return None;
         }
-        said(
+        sentence(
             self.memory,
             &[
                 Span::Text("Between map "),

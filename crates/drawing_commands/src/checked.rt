@@ -7,7 +7,7 @@ ghost use Rattle.outputs.specs.Outputs.{Leaves};
 ghost use Rattle.outputs.specs.Statuses as spec;
 ghost use Rattle.drawing_commands.specs.Drawings.{IsCheckedDrawing, IsPageWith};
 
-use crate::pages::{unread_output, verdict_output};
+use crate::pages::{Certified, unread_output, verdict_output};
 use crate::request::Request;
 use certificate::Certificate;
 use edn::Sink;
@@ -30,15 +30,13 @@ fn split_output(
         × ∥ IsMade o.text.items ∥₁) }
 {
     let objects = split(alloc, history)?;
-    verdict_output(
-        alloc,
-        request,
+    let certified = Certified {
         text,
         history,
-        &objects,
+        objects: &objects,
         certificates,
-        verdict,
-    )
+    };
+    verdict_output(alloc, request, certified, verdict)
 }
 
 /// The page of a history that is checked, or of the fault of a text, and the status of the check.

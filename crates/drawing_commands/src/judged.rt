@@ -9,7 +9,7 @@ ghost use Rattle.history_commands.specs.Judged.{IsJudgement};
 ghost use Rattle.outputs.specs.Outputs.{Leaves};
 ghost use Rattle.drawing_commands.specs.Drawings.{IsDrawing, IsPageWith};
 
-use crate::pages::{text_of, unread_output, verdict_output};
+use crate::pages::{Certified, text_of, unread_output, verdict_output};
 use crate::request::{Request, file_name};
 use deciding::Decision;
 use edn::Sink;
@@ -85,15 +85,15 @@ fn objects_output(
         Judgement::Certified {
             certificates,
             verdict,
-        } => verdict_output(
-            alloc,
-            request,
-            text,
-            history,
-            objects,
-            &certificates,
-            &verdict,
-        ),
+        } => {
+            let certified = Certified {
+                text,
+                history,
+                objects,
+                certificates: &certificates,
+            };
+            verdict_output(alloc, request, certified, &verdict)
+        }
         Judgement::Open { answers, output } => Ok(Output {
             status: output.status,
             text: open_page(

@@ -78,15 +78,20 @@ fn page_of_texts(
     }
 }
 
-/// The page of a history, from this text, that has these objects and was judged by these
-/// certificates.
+/// A history from this text, with its objects, and the certificates by which it was judged.
+#[derive(Clone, Copy)]
+pub(crate) struct Certified<'a> {
+    pub(crate) text: &'a [u8],
+    pub(crate) history: &'a History,
+    pub(crate) objects: &'a [ObjectHistory],
+    pub(crate) certificates: &'a [Certificate],
+}
+
+/// The page of a history that was judged by certificates.
 fn page_of_history(
     alloc: Global,
     request: &Request<'_>,
-    text: &[u8],
-    history: &History,
-    objects: &[ObjectHistory],
-    certificates: &[Certificate],
+    certified: Certified<'_>,
     verdict: &Verdict,
 ) -> Result<Html, AllocError> {
     let refusal = match verdict {
@@ -95,7 +100,7 @@ fn page_of_history(
         _ => return page_without_memory(alloc, request),
     };
     let lines = lines_of(alloc, verdict)?;
-    let places = places_in(alloc, history, text)?;
+    let places = places_in(alloc, certified.history, certified.text)?;
     let texts = Texts {
         history: file_name(request.history),
         certificates: request.certificates.map(|name| file_name(name)),
@@ -105,38 +110,26 @@ fn page_of_history(
     };
     checked_page(
         alloc,
-        history,
-        objects,
-        certificates,
+        certified.history,
+        certified.objects,
+        certified.certificates,
         refusal,
         &texts,
         request.options,
     )
 }
 
-/// The page of a history that has these objects and was judged by certificates, and the status of
-/// the verdict.
+/// The page of a history that was judged by certificates, and the status of the verdict.
 pub(crate) fn verdict_output(
     alloc: Global,
     request: &Request<'_>,
-    text: &[u8],
-    history: &History,
-    objects: &[ObjectHistory],
-    certificates: &[Certificate],
+    certified: Certified<'_>,
     verdict: &Verdict,
 ) -> Result<Output, AllocError>
     ensures { IfOk result (λ o. (o.status ≡ spec.status_of verdict.now)
         × ∥ IsMade o.text.items ∥₁) }
 {
-    let page = page_of_history(
-        alloc,
-        request,
-        text,
-        history,
-        objects,
-        certificates,
-        verdict,
-    )?;
+    let page = page_of_history(alloc, request, certified, verdict)?;
     let text = page.into_text()?;
     Ok(Output {
         status: status_of(verdict),

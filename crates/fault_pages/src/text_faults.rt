@@ -82,7 +82,7 @@ fn quotation(memory: &Memory, token: &[u8]) -> String {
 }
 
 /// The number of the fault after the letter E, and its byte.
-fn named(fault: EdnFault) -> [Span; 4] {
+fn spans_of_fault(fault: EdnFault) -> [Span; 4] {
     [
         Span::Text("E"),
         Span::Number(u64::from(fault.kind.number())),
@@ -219,7 +219,7 @@ pub(crate) fn explain_text(memory: &Memory, read: Read<'_>, fault: EdnFault) -> 
     };
     explained.quoted = quotation(memory, place.of(read.text));
     say_at(memory, &mut explained, read, fault);
-    let caption = named(fault);
+    let caption = spans_of_fault(fault);
     explained.show(memory, excerpt(memory, read.text, place, &caption, "here"));
     if asks_around(fault.kind) {
         say_around(memory, &mut explained, read.text, fault);

@@ -21,7 +21,7 @@ use deciding::{Decision, FoundReason, decide_all, decide_objects};
 use edn::Sink;
 use events::ObjectHistory;
 use history::History;
-use judging::verdict_alone;
+use judging::verdict_on_valid;
 use outputs::{NO, NO_MEMORY, Output, YES, put_out};
 use reason_report::{push_operations, push_reason, push_sentence};
 use report::Verdict;
@@ -172,7 +172,7 @@ fn judge_found(alloc: Global, history: &History, answers: Vec<(u32, Decision)>) 
 {
     match certificates_of(alloc, answers) {
         Ok(certificates) => {
-            let verdict = verdict_alone(alloc, history, &certificates);
+            let verdict = verdict_on_valid(alloc, history, &certificates);
             Judgement::Certified {
                 certificates,
                 verdict,

@@ -86,6 +86,21 @@ pub fn verdict_alone(alloc: Global, history: &History, certificates: &[Certifica
     verdict_on_check(alloc, history, checked)
 }
 
+/// The verdict on certificates that are known to be valid, as those are that were checked when they
+/// were found: yes with the counts of the history, unless memory is refused. Nothing is checked.
+pub fn verdict_on_valid(alloc: Global, history: &History, _certificates: &[Certificate]) -> Verdict
+    requires valid { AreValid history.now _certificates.now }
+    ensures linearizable { OnYes result (IsLinearizable (kind_at history.now)
+        (events (denoted history.now))) }
+    ensures judges { JudgesBy history.now _certificates.now result }
+    ensures yes { IsYesUnlessMemory result }
+{
+    // These two do nothing: they say that valid certificates suffice, as in `judge_history_alone`.
+    history.events();
+    named_objects();
+    verdict_on_check(alloc, history, Ok(()))
+}
+
 /// The same verdict as `verdict_alone` gives, where the work is shared by `workers` threads, at most
 /// 16. With 0 or 1 it starts no thread.
 pub fn verdict_on<R: Threads + Sync>(

@@ -189,7 +189,7 @@ impl Writer {
     }
 
     /// A row that says how many are not shown.
-    fn skipped(&mut self, columns: u32, count: usize, what: &'static str) {
+    fn rows_skipped(&mut self, columns: u32, count: usize, what: &'static str) {
         self.open(Tag::TableRow, "skip");
         self.put(&[
             Piece::Begin(Tag::TableCell),
@@ -234,8 +234,8 @@ impl Writer {
 
     fn row(&mut self, drawing: &ObjectDrawing, row: &Row) {
         match row {
-            Row::Skipped(1) => self.skipped(3, 1, " entry not shown"),
-            Row::Skipped(count) => self.skipped(3, *count, " entries not shown"),
+            Row::Skipped(1) => self.rows_skipped(3, 1, " entry not shown"),
+            Row::Skipped(count) => self.rows_skipped(3, *count, " entries not shown"),
             Row::Entry {
                 rank,
                 number,
@@ -369,7 +369,7 @@ impl Writer {
             self.attempt(place, attempt, tried.other);
         }
         if tried.more > 0 {
-            self.skipped(5, tried.more, " more");
+            self.rows_skipped(5, tried.more, " more");
         }
         self.end_table()
     }
@@ -447,8 +447,8 @@ impl Writer {
         }
         match rows.len().saturating_sub(MOST_OBJECTS) {
             0 => {}
-            1 => self.skipped(6, 1, " more object"),
-            count => self.skipped(6, count, " more objects"),
+            1 => self.rows_skipped(6, 1, " more object"),
+            count => self.rows_skipped(6, count, " more objects"),
         }
         self.end_table()
     }

@@ -49,7 +49,7 @@ pub(crate) fn number_of(numbers: &[u32], old: u32) -> u32 {
 }
 
 impl Record {
-    fn renumbered(&self, numbers: &[u32]) -> Record {
+    fn with_numbers(&self, numbers: &[u32]) -> Record {
         let step = match self.step {
             Step::Spare {
                 put,
@@ -140,7 +140,7 @@ impl Records {
         for (record, kept) in self.records.iter().zip(kept.iter()) {
             numbers.push(small(records.len()))?;
             if *kept {
-                records.push(record.renumbered(&numbers))?;
+                records.push(record.with_numbers(&numbers))?;
             }
         }
         self.records = records;

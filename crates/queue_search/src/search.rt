@@ -193,7 +193,7 @@ impl Walk {
 }
 
 /// The order that a search finds.
-fn searched(
+fn search_from(
     alloc: Global,
     timeline: &Timeline,
     search: &mut Search,
@@ -226,5 +226,5 @@ pub fn searched_queue_order(
         return Ok(None);
     }
     let mut search = Search::new(alloc, calls, most_steps(calls.len()))?;
-    searched(alloc, timeline, &mut search)
+    search_from(alloc, timeline, &mut search)
 }

@@ -19,7 +19,7 @@ pub(crate) struct Placed {
 }
 
 /// A number in which each bit depends on each bit of this one (SplitMix64).
-fn mixed(number: u64) -> u64 {
+fn mix(number: u64) -> u64 {
     let next = number.wrapping_add(0x9e37_79b9_7f4a_7c15);
     let once = (next ^ (next >> 30)).wrapping_mul(0xbf58_476d_1ce4_e5b9);
     let twice = (once ^ (once >> 27)).wrapping_mul(0x94d0_49bb_1331_11eb);
@@ -33,7 +33,7 @@ impl Placed {
             latest: self.latest.max(call.begin),
             cost: self.cost,
             ends: self.ends.saturating_add(u64::from(call.end)),
-            hash: self.hash.wrapping_add(mixed(u64::from(call.call))),
+            hash: self.hash.wrapping_add(mix(u64::from(call.call))),
         }
     }
 

@@ -115,7 +115,7 @@ impl Search {
     }
 
     /// The removal of a value that was noted, when it is asked for the first time.
-    fn noted(&mut self, value: u32) -> Option<Known> {
+    fn take_noted(&mut self, value: u32) -> Option<Known> {
         let turn = self.turn;
         let ready = self.ready.get_mut(value as usize)?;
         if ready.turn != turn {
@@ -153,7 +153,7 @@ impl Search {
             if put.begin >= limits.0 {
                 continue;
             }
-            if let Some(take) = self.noted(put.value) {
+            if let Some(take) = self.take_noted(put.value) {
                 drafts.push(self.draft(state, from, Choice::Pair(*put, take)))?;
             }
         }

@@ -1,4 +1,4 @@
-//! The shape of a tree over a list.
+//! The shape of a tree over a list, and its parts.
 
 /// The shape of a binary tree with at least this many leaves: their number, and how far they are
 /// from the root.
@@ -13,4 +13,48 @@ pub(crate) fn shape(leaves: usize) -> (usize, u32) {
         depth = depth.saturating_add(1);
     }
     (width, depth)
+}
+
+/// Part of a tree: a node, how far it is from its leaves, and which leaves those are.
+#[derive(Clone, Copy)]
+pub(crate) struct Part {
+    pub(crate) node: usize,
+    pub(crate) from: usize,
+    pub(crate) width: usize,
+}
+
+impl Part {
+    /// All leaves of a tree of this width.
+    pub(crate) fn root(width: usize) -> Part {
+        Part {
+            node: 1,
+            from: 0,
+            width,
+        }
+    }
+
+    pub(crate) fn left(self) -> Part {
+        Part {
+            node: self.node.saturating_mul(2),
+            from: self.from,
+            width: self.width / 2,
+        }
+    }
+
+    pub(crate) fn right(self) -> Part {
+        let width = self.width / 2;
+        Part {
+            node: self.node.saturating_mul(2).saturating_add(1),
+            from: self.from.saturating_add(width),
+            width,
+        }
+    }
+
+    pub(crate) fn is_apart(self, from: usize, to: usize) -> bool {
+        self.from >= to || self.from.saturating_add(self.width) <= from
+    }
+
+    pub(crate) fn is_inside(self, from: usize, to: usize) -> bool {
+        from <= self.from && self.from.saturating_add(self.width) <= to
+    }
 }

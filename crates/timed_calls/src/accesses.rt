@@ -3,6 +3,7 @@
 //! first.
 
 use crate::calls::TimedCall;
+use number_map::NumberMap;
 use seq_objects::{AnyOp, AnyReply};
 use std::alloc::{AllocError, Global};
 use std::collections::BTreeMap;
@@ -130,62 +131,117 @@ impl Numbers {
     }
 }
 
-/// The calls on one cell, of those that are at these places.
-fn cell_calls(
-    alloc: Global,
+/// A cell in the making.
+#[derive(Drop)]
+struct Cell {
     key: Option<i64>,
-    calls: &[TimedCall],
-    places: &[(Option<i64>, u32)],
-) -> Result<CellCalls, AllocError> {
-    let mut numbers = Numbers {
-        known: BTreeMap::new(alloc),
-        contents: vec![in alloc; None; 1]?,
-    };
-    let mut accesses = Vec::new(alloc);
-    for (_, place) in places {
-        if let Some(call) = calls.get(*place as usize)
-            && let Some(effect) = effect_of(call)
-            && let Some(access) = numbers.access(call, &effect)?
-        {
-            accesses.push(access)?;
-        }
-    }
-    let contents = numbers.contents;
-    Ok(CellCalls {
-        key,
-        accesses,
-        contents,
-    })
+    numbers: Numbers,
+    accesses: Vec<Access>,
 }
 
-/// The cells of the calls and their places, by cells, and in the order of their invocations for
-/// each.
-fn places_of(alloc: Global, calls: &[TimedCall]) -> Result<Vec<(Option<i64>, u32)>, AllocError> {
-    let mut places = Vec::new(alloc);
-    let mut place: u32 = 0;
-    for call in calls {
-        if let Some(effect) = effect_of(call) {
-            places.push((effect.key, place))?;
-        }
-        place = place.saturating_add(1);
+impl Cell {
+    fn new(alloc: Global, key: Option<i64>) -> Result<Cell, AllocError> {
+        Ok(Cell {
+            key,
+            numbers: Numbers {
+                known: BTreeMap::new(alloc),
+                contents: vec![in alloc; None; 1]?,
+            },
+            accesses: Vec::new(alloc),
+        })
     }
-    places.sort_unstable();
-    Ok(places)
+
+    fn add(&mut self, call: &TimedCall, effect: &Effect) -> Result<(), AllocError> {
+        if let Some(access) = self.numbers.access(call, effect)? {
+            self.accesses.push(access)?;
+        }
+        Ok(())
+    }
+
+    fn calls(self) -> CellCalls {
+        let Cell {
+            key,
+            numbers,
+            accesses,
+        } = self;
+        CellCalls {
+            key,
+            accesses,
+            contents: numbers.contents,
+        }
+    }
 }
 
-/// The calls of each cell.
-pub fn cells_of(alloc: Global, calls: &[TimedCall]) -> Result<Vec<CellCalls>, AllocError> {
-    let places = places_of(alloc, calls)?;
-    let mut rest = places.as_slice();
-    let mut cells = Vec::new(alloc);
-    for _ in 0..places.len() {
-        let Some((key, _)) = rest.first().copied() else {
-            break;
+/// A number for each key, which is the key where that is not negative.
+fn number_of(key: i64) -> u64 {
+    let distance = key.unsigned_abs();
+    if key < 0 {
+        distance.wrapping_neg()
+    } else {
+        distance
+    }
+}
+
+/// The cells in the making, and the place of each.
+#[derive(Drop)]
+struct Cells {
+    cells: Vec<Cell>,
+    register: Option<usize>,
+    keys: NumberMap<usize>,
+}
+
+impl Cells {
+    fn place(&self, key: Option<i64>) -> Option<usize> {
+        match key {
+            Some(key) => self.keys.get(number_of(key)),
+            None => self.register,
+        }
+    }
+
+    /// Puts a new cell of this key at the end.
+    fn open(&mut self, alloc: Global, key: Option<i64>) -> Result<(), AllocError> {
+        let place = self.cells.len();
+        match key {
+            Some(key) => self.keys.insert(number_of(key), place)?,
+            None => self.register = Some(place),
+        }
+        self.cells.push(Cell::new(alloc, key)?)?;
+        Ok(())
+    }
+
+    fn add(&mut self, alloc: Global, call: &TimedCall) -> Result<(), AllocError> {
+        let Some(effect) = effect_of(call) else {
+            return Ok(());
         };
-        let here = rest.partition_point(|place| place.0 <= key);
-        let (own, others) = rest.split_at(here.min(rest.len()));
-        cells.push(cell_calls(alloc, key, calls, own)?)?;
-        rest = others;
+        let place = match self.place(effect.key) {
+            Some(place) => place,
+            None => {
+                self.open(alloc, effect.key)?;
+                self.cells.len().saturating_sub(1)
+            }
+        };
+        match self.cells.get_mut(place) {
+            Some(cell) => cell.add(call, &effect),
+            None => Ok(()),
+        }
     }
+}
+
+/// The calls of each cell, in rising order of the keys.
+pub fn cells_of(alloc: Global, calls: &[TimedCall]) -> Result<Vec<CellCalls>, AllocError> {
+    let mut cells = Cells {
+        cells: Vec::new(alloc),
+        register: None,
+        keys: NumberMap::new(alloc),
+    };
+    for call in calls {
+        cells.add(alloc, call)?;
+    }
+    let mut cells: Vec<CellCalls> = cells
+        .cells
+        .into_iter()
+        .map(|cell| cell.calls())
+        .collect(alloc)?;
+    cells.sort_unstable_by_key(|cell| cell.key);
     Ok(cells)
 }

@@ -233,7 +233,8 @@ pub fn operations_of(
     ensures events { IfOk result (λ v. All (IsOfItsEvent history.now) v.items) }
     // One that returned ends there.
     ensures ended { IfOk result (λ v. All EndsAtItsReturn v.items) }
-    // Another one ends at the completion with its number, if the completions are in rising number.
+    // One that did not return ends at the completion with its number, if the completions are in
+    // rising number.
     ensures completed { IfOk result (λ v. All (EndsAtItsCompletion completions.now) v.items) }
 {
     let events = history.events();

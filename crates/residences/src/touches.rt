@@ -1,0 +1,101 @@
+//! What each call of a queue, stack or heap does with a value.
+
+use seq_objects::{AnyOp, AnyReply};
+use std::alloc::{AllocError, Global};
+use timed_calls::{CallSpan, TimedCall};
+
+/// What a call does with the values of a queue, stack or heap.
+enum Role {
+    Puts(i64),
+    Takes(i64),
+    FindsNone,
+    /// It takes a value that is not known, or nothing.
+    Unknown,
+}
+
+fn role_of(call: &TimedCall) -> Role {
+    match (call.op, call.reply) {
+        (AnyOp::Enqueue(value), _) => Role::Puts(value),
+        (AnyOp::Push(value), _) => Role::Puts(value),
+        (AnyOp::Insert(value), _) => Role::Puts(value),
+        (_, Some(AnyReply::Value(Some(value)))) => Role::Takes(value),
+        (_, Some(AnyReply::Value(None))) => Role::FindsNone,
+        _ => Role::Unknown,
+    }
+}
+
+/// A put or a removal of a value.
+#[derive(Clone, Copy)]
+pub struct Touch {
+    pub value: i64,
+    pub takes: bool,
+    pub call: CallSpan,
+}
+
+/// The calls of a queue, stack or heap.
+#[derive(Drop)]
+pub struct Touches {
+    /// In rising value; of each value the puts and then the removals, in the order of their begins.
+    pub known: Vec<Touch>,
+    /// The calls that found nothing in the object.
+    pub empties: Vec<CallSpan>,
+    /// Removals that are pending, in the order of their begins.
+    pub unknown: Vec<CallSpan>,
+}
+
+impl Touches {
+    /// Whether a value is put twice.
+    pub fn repeat(&self) -> bool {
+        let mut last = None;
+        for touch in &self.known {
+            if !touch.takes && last == Some(touch.value) {
+                return true;
+            }
+            last = Some(touch.value);
+        }
+        false
+    }
+}
+
+/// What the calls of a queue, stack or heap do.
+///
+/// An error: the allocator refused memory.
+pub fn touches_of(alloc: Global, calls: &[TimedCall]) -> Result<Touches, AllocError> {
+    let mut known = Vec::new(alloc);
+    let mut empties = Vec::new(alloc);
+    let mut unknown = Vec::new(alloc);
+    for call in calls {
+        let role = role_of(call);
+        let call = call.span();
+        match role {
+            Role::Puts(value) => known.push(Touch {
+                value,
+                takes: false,
+                call,
+            })?,
+            Role::Takes(value) => known.push(Touch {
+                value,
+                takes: true,
+                call,
+            })?,
+            Role::FindsNone => empties.push(call)?,
+            Role::Unknown => unknown.push(call)?,
+        }
+    }
+    known.sort_unstable_by_key(|touch| (touch.value, touch.takes, touch.call.begin));
+    Ok(Touches {
+        known,
+        empties,
+        unknown,
+    })
+}
+
+/// The puts and removals of the first value, and those of the others.
+pub fn first_value(touches: &[Touch]) -> (&[Touch], &[Touch]) {
+    let Some(first) = touches.first() else {
+        return (touches, touches);
+    };
+    let value = first.value;
+    let here = touches.partition_point(|touch| touch.value <= value);
+    touches.split_at(here.min(touches.len()))
+}
