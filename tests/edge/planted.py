@@ -266,6 +266,48 @@ PASSED_ON = lines(
     ok(0, "release"),
 )
 
+# Under key 3 value 1 is replaced by 2, which returns late, and 2 by 9, which returns before 1 is seen.
+REPLACED_IN_A_CHAIN = lines(
+    invoke(0, "put", (3, 1)),
+    invoke(1, "put", (3, 2)),
+    invoke(2, "put", (3, 9)),
+    ok(2, "put", 2),
+    ok(0, "put"),
+    invoke(0, "get", 3),
+    ok(0, "get", 1),
+    ok(1, "put", 1),
+)
+
+# Under key 3 value 1 is put twice. While the second put goes on 1 is replaced, and seen after that.
+SEEN_AFTER_IT_WAS_TAKEN = lines(
+    invoke(0, "put", (3, 1)),
+    ok(0, "put"),
+    invoke(0, "put", (3, 4)),
+    ok(0, "put", 1),
+    invoke(1, "put", (3, 1)),
+    invoke(0, "put", (3, 5)),
+    ok(0, "put", 1),
+    invoke(0, "get", 3),
+    ok(0, "get", 1),
+    ok(1, "put", 4),
+)
+
+# The same of a register, in which 3 is written between two reads of 1.
+SEEN_AFTER_ANOTHER = lines(
+    invoke(0, "write", 1),
+    ok(0, "write", 1),
+    invoke(0, "write", 2),
+    ok(0, "write", 2),
+    invoke(1, "write", 1),
+    invoke(0, "read"),
+    ok(0, "read", 1),
+    invoke(0, "write", 3),
+    ok(0, "write", 3),
+    invoke(0, "read"),
+    ok(0, "read", 1),
+    ok(1, "write", 1),
+)
+
 # ---- long histories with one planted bug near their end
 
 ROUNDS = range(1, 10_001)
@@ -316,6 +358,19 @@ LONG_MAP = lines(
     ok(0, "get", 7),
 )
 
+# Two reads that overlap find two values, which are written twice each, and not after both reads begin.
+LONG_READS = lines(
+    *[of for it in range(100) for of in (invoke(0, "write", it), ok(0, "write", it))],
+    invoke(0, "write", 1),
+    invoke(1, "write", 2),
+    ok(0, "write", 1),
+    ok(1, "write", 2),
+    invoke(0, "read"),
+    invoke(1, "read"),
+    ok(0, "read", 1),
+    ok(1, "read", 2),
+)
+
 LONG_MUTEX = lines(
     *[of for it in ROUNDS for of in (invoke(0, "acquire"), ok(0, "acquire"), invoke(1, "release"), ok(1, "release"))],
     invoke(0, "acquire"),
@@ -345,6 +400,9 @@ SMALL = (
     (REFUSED, "value 1 was surely there when the swap of map 4, which expects it, was refused", 2),
     (NEVER_STORED, "key 7: value 5 was seen and never put", 1),
     (REMOVED, "key 7: value 1 was seen after another content had replaced it", 1),
+    (REPLACED_IN_A_CHAIN, "key 3: value 1 was seen after another content had replaced it", 4),
+    (SEEN_AFTER_IT_WAS_TAKEN, "key 3: value 1 was seen after another content had replaced it", 4),
+    (SEEN_AFTER_ANOTHER, "value 1 was read after another content had replaced it", 5),
     (REMOVED_TWICE, "key 7: value 1 was put once and taken away twice", 3),
     (FOUND_NONE, "key 7: it was found without a value more often than it can have been without one", 2),
     (TWO_HOLD, "the lock was acquired more often than it can have been free", 2),
@@ -357,6 +415,7 @@ LONG = (
     (LONG_HEAP, "value 20000 was extracted while the smaller value 10000 was surely in the heap", 3),
     (LONG_REGISTER, "value 7 was read after another content had replaced it", 2),
     (LONG_MAP, "key 5: value 7 was seen after another content had replaced it", 3),
+    (LONG_READS, "these operations have no valid order", 4),
     (LONG_MUTEX, "the lock was acquired more often than it can have been free", 2),
 )
 # The other sentences, and the sentences with other kinds of objects.

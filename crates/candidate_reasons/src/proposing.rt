@@ -3,7 +3,7 @@
 use crate::shrinking::{Judge, tells};
 use crate::value_pairs::value_pairs_of;
 use crate::wholes::add_wholes;
-use cell_reasons::{add_cells, add_mutex};
+use cell_reasons::{add_cells, add_mutex, add_rare_cells};
 use container_reasons::add_containers;
 use events::{End, ObjectHistory};
 use projection::{Cut, part_by};
@@ -70,6 +70,16 @@ fn candidates_of(
         }
         Kind::Register | Kind::Map => add_cells(alloc, timeline, &mut candidates)?,
         Kind::Mutex => add_mutex(alloc, timeline, &mut candidates)?,
+    }
+    candidates.sort_by_key(|candidate| candidate.weight)?;
+    Ok(candidates)
+}
+
+/// The candidates by patterns that take longer to be found, the lightest first.
+fn rare_of(alloc: Global, kind: Kind, timeline: &Timeline) -> Result<Vec<Candidate>, AllocError> {
+    let mut candidates = Vec::new(alloc);
+    if matches!(kind, Kind::Register | Kind::Map) {
+        add_rare_cells(alloc, timeline, &mut candidates)?;
     }
     candidates.sort_by_key(|candidate| candidate.weight)?;
     Ok(candidates)
@@ -338,6 +348,10 @@ pub fn propose(
     let kind = history.kind();
     let timeline = timeline_of(alloc, history.ops())?;
     let candidates = candidates_of(alloc, kind, &timeline)?;
+    if let Some(proposal) = best_of(alloc, history, candidates, limit)? {
+        return Ok(Some(proposal));
+    }
+    let candidates = rare_of(alloc, kind, &timeline)?;
     if let Some(proposal) = best_of(alloc, history, candidates, limit)? {
         return Ok(Some(proposal));
     }

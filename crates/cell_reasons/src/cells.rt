@@ -1,6 +1,8 @@
 //! Patterns of the cells of registers and maps.
 
+use crate::lasting::add_lasting;
 use crate::refusals::add_refusals;
+use crate::seen_again::add_seen_again;
 use crate::sights::{Setters, Sight, Sights};
 use crate::takers::{add_excesses, add_windows};
 use crate::zones::add_zones;
@@ -203,22 +205,38 @@ impl<'a> Scene<'a> {
     }
 }
 
+/// The cell with what its calls set and show.
+fn scene_of(alloc: Global, cell: &CellCalls) -> Result<Scene, AllocError> {
+    Ok(Scene {
+        cell,
+        setters: Setters::of(alloc, cell)?,
+        sights: Sights::of(alloc, cell)?,
+    })
+}
+
 /// The candidates of one cell.
 fn add_cell(
     alloc: Global,
     cell: &CellCalls,
     candidates: &mut Vec<Candidate>,
 ) -> Result<(), AllocError> {
-    let scene = Scene {
-        cell,
-        setters: Setters::of(alloc, cell)?,
-        sights: Sights::of(alloc, cell)?,
-    };
+    let scene = scene_of(alloc, cell)?;
     scene.add_asking(alloc, candidates)?;
     add_excesses(alloc, &scene, candidates)?;
     add_zones(alloc, &scene, candidates)?;
     add_refusals(alloc, &scene, candidates)?;
     add_windows(alloc, &scene, candidates)
+}
+
+/// The candidates of one cell that take longer to be found.
+fn add_rare(
+    alloc: Global,
+    cell: &CellCalls,
+    candidates: &mut Vec<Candidate>,
+) -> Result<(), AllocError> {
+    let scene = scene_of(alloc, cell)?;
+    add_seen_again(alloc, &scene, candidates)?;
+    add_lasting(alloc, &scene, candidates)
 }
 
 /// Adds the candidates of a register or map.
@@ -231,6 +249,24 @@ pub fn add_cells(
 ) -> Result<(), AllocError> {
     for cell in &cells_of(alloc, &timeline.calls)? {
         add_cell(alloc, cell, candidates)?;
+        if candidates.len() >= MOST_IN_ALL {
+            break;
+        }
+    }
+    Ok(())
+}
+
+/// Adds the candidates of a register or map that take longer to be found, and are looked for where
+/// the others lead to no reason.
+///
+/// An error: the allocator refused memory.
+pub fn add_rare_cells(
+    alloc: Global,
+    timeline: &Timeline,
+    candidates: &mut Vec<Candidate>,
+) -> Result<(), AllocError> {
+    for cell in &cells_of(alloc, &timeline.calls)? {
+        add_rare(alloc, cell, candidates)?;
         if candidates.len() >= MOST_IN_ALL {
             break;
         }

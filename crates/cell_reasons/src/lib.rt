@@ -3,12 +3,15 @@
 #![tactic(auto)]
 
 mod cells;
+mod deadlines;
+mod lasting;
 mod mutex;
 mod refusals;
+mod seen_again;
 mod sights;
 mod takers;
 mod windows;
 mod zones;
 
-pub use cells::add_cells;
+pub use cells::{add_cells, add_rare_cells};
 pub use mutex::add_mutex;

@@ -3,12 +3,16 @@
 use std::alloc::{AllocError, Global};
 use timed_calls::CellCalls;
 
-/// A call that sets a content: when it begins, and when all calls that set the same and begin no
-/// later are over.
+/// The most calls that set a content of which it is looked how many touch a time.
+const MOST_COUNTED: usize = 64;
+
+/// A call that sets a content: when it begins and ends, and when all calls that set the same and
+/// begin no later are over.
 #[derive(Clone, Copy)]
 pub(crate) struct Setter {
     pub(crate) content: usize,
     pub(crate) begin: u32,
+    end: u32,
     pub(crate) over: u32,
 }
 
@@ -26,6 +30,7 @@ impl Setters {
                 setters.push(Setter {
                     content,
                     begin: access.call.begin,
+                    end: access.call.end,
                     over: access.call.end,
                 })?;
             }
@@ -66,6 +71,28 @@ impl Setters {
         } else {
             None
         }
+    }
+
+    /// How many set this content, begin before `to`, and are not over by `from`; more than `most`
+    /// where they are more, or are not counted to the end.
+    pub(crate) fn touching(&self, content: usize, from: u32, to: u32, most: usize) -> usize {
+        let next = self
+            .setters
+            .partition_point(|setter| (setter.content, setter.begin) < (content, to));
+        let mut many: usize = 0;
+        for back in 1..=MOST_COUNTED {
+            let last = next.checked_sub(back);
+            let Some(setter) = last.and_then(|place| self.setters.get(place)) else {
+                return many;
+            };
+            if setter.content != content || setter.over <= from || many > most {
+                return many;
+            }
+            if setter.end > from {
+                many = many.saturating_add(1);
+            }
+        }
+        most.saturating_add(1)
     }
 
     /// How many set this content.
@@ -155,6 +182,11 @@ impl Sights {
     fn before(&self, moment: u32) -> Option<Latest> {
         let next = self.latest.partition_point(|latest| latest.end < moment);
         self.latest.get(next.checked_sub(1)?).copied()
+    }
+
+    /// Of the calls that return before this moment the one that begins last.
+    pub(crate) fn last_before(&self, moment: u32) -> Option<Sight> {
+        self.before(moment)?.first
     }
 
     /// Of the calls that return before this moment and show another content than this the one that
