@@ -1,6 +1,6 @@
 -- What a new desk is made of.
-use Rattle.std.specs.Prelude.{◌≡◌, ℕ, ◌+◌, ◌<◌, ◌≤◌, List, [], map, length, slice_index_or, All}
-use Rattle.std.specs.Prelude.{vec_len, vec_capacity}
+use Rattle.std.specs.Prelude.{◌≡◌, ℕ, ◌+◌, ◌<◌, ◌≤◌, Bool, false, List, [], map, length}
+use Rattle.std.specs.Prelude.{slice_index_or, All, vec_len, vec_capacity}
 use Rattle.std.specs.declared.vec.Vec.{Vec}
 use Rattle.atomic_table.specs.Seated.{TableId}
 use Rattle.publication_list.specs.Calls.{PlaceSeen, WalkerSeen}
@@ -46,6 +46,11 @@ AreEmpty content objects = All (λ o. content o ≡ empty (kind_with (content o)
 
 abbrev pub kinds_with : {S : Type 0} → (S → Content) → List S → List Kind
 kinds_with content objects = map (λ o. kind_with (content o)) objects
+
+-- What a client keeps before its first call: how many calls it made, its quota, and whether one is
+-- outstanding.
+abbrev pub IsFresh : ℕ → ℕ → ℕ → Bool → Type 0
+IsFresh quota calls most outstanding = (calls ≡ 0) × (most ≡ quota) × (outstanding ≡ false)
 
 -- a journal for this many calls
 abbrev pub HasRoom : {O R : Type 0} → ℕ → Journal O R → Type 0

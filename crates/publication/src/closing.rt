@@ -14,7 +14,7 @@ ghost use Rattle.publication.specs.Closing.{HaveEnded, HasLearntEnds};
 ghost use Rattle.desk_model.specs.Limits.{max_objects, max_clients};
 ghost use Rattle.desk_invariant.specs.Views.{table_slots};
 
-use crate::client::{Client, Member, Place};
+use crate::client::{Client, Place};
 use crate::desk::{Desk, ENDS};
 use crate::making::SLOTS;
 use crate::plays::{Ends, SeesEnd, SendsEnd, TakesNotice};
@@ -60,13 +60,12 @@ impl<S: SeqObject> Desk<S> {
         ensures { result
             ≡ record { table = client.desk.table; left = end_notice client.knows ∷ [] } }
     {
-        let Client { member } = client;
-        let Member {
+        let Client {
             mut seat,
             number,
-            journal,
-            ..
-        } = member;
+            member,
+        } = client;
+        let journal = member.into_journal();
         let shared = &self.table.shared;
         let slot = ENDS + number as usize;
         seat.turn();
@@ -88,7 +87,7 @@ impl<S: SeqObject> Desk<S> {
         let Retired { seat } = retired;
         self.table
             .shared
-            .join_seat::<TakesNotice>(&mut client.member.seat, seat);
+            .join_seat::<TakesNotice>(&mut client.seat, seat);
     }
 
     /// Closes the desk by its last client. Ok: a journal for each client, and a log for each object
@@ -124,7 +123,7 @@ fn sees_end<S: SeqObject>(desk: &Desk<S>, last: &mut Client<S>, client: u32) -> 
     ensures untold { result ≡ false → All (λ l. l.client ≢ client) last.old.knows.left }
 {
     let shared = &desk.table.shared;
-    shared.load::<SeesEnd>(&mut last.member.seat, ENDS + client as usize) == 1
+    shared.load::<SeesEnd>(&mut last.seat, ENDS + client as usize) == 1
 }
 
 // The least other client that has not ended.
@@ -263,13 +262,12 @@ fn gather<S: SeqObject>(desk: Desk<S>, last: Client<S>) -> Record<S>
         mut journals,
         mut logs,
     } = desk;
-    let Client { member } = last;
-    let Member {
+    let Client {
         seat,
         number,
-        journal,
-        ..
-    } = member;
+        member,
+    } = last;
+    let journal = member.into_journal();
     let objects = kinds.len();
     let mut left = table.close_with(seat);
     take_logs(&mut left, objects, &mut logs);

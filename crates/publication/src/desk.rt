@@ -7,11 +7,11 @@ ghost use Rattle.desk_model.specs.Images.{answer_in};
 ghost use Rattle.desk_invariant.specs.Views.{after_miss};
 ghost use Rattle.desk_model.specs.Limits.{max_clients};
 
-use crate::client::{Client, Hand, Member, Pass};
+use crate::client::{Client, Hand, Pass};
 use crate::looking::look_and_exchange;
 use crate::plays::{Draws, LooksAtLock, LooksForAnswer, Posts, Returns, Takes, Wins};
 use atomic_table::Table;
-use desk_invariant::{Core, DeskRule, DeskView, Journal, Plan, Slot};
+use desk_invariant::{Core, DeskRule, DeskView, Plan, Slot};
 use desk_model::Request;
 use model::Kind;
 use publication_list::SharedRoster;
@@ -154,7 +154,7 @@ impl<S: SeqObject> Desk<S> {
             × (kind_of (S.op_in op.now) ≡ kind_at self.now.id.kinds object)) }
         ensures refused { IfErr result (PostRefused self.now client.now object (S.op_in op.now)) }
     {
-        let member = &client.member;
+        let member = &*client.member.inside;
         if member.outstanding {
             return Err(Post::Outstanding);
         }
@@ -182,10 +182,9 @@ impl<S: SeqObject> Desk<S> {
         if let Err(fault) = self.may_post(client, object, &op) {
             return Err(fault);
         }
-        let member = &mut client.member;
-        let slot = ROWS + member.number as usize;
+        let slot = ROWS + client.number as usize;
         let shared = &self.table.shared;
-        let seat = &mut member.seat;
+        let seat = &mut client.seat;
         let asked = Request {
             object,
             ticket: 0,
@@ -196,10 +195,7 @@ impl<S: SeqObject> Desk<S> {
         let asked = Request { object, ticket, op };
         let _ = shared.exchange(seat, slot, Slot::Request(asked));
         shared.store::<Posts>(seat, slot, POSTED + object as u64);
-        let invoked = JournalEvent::Invoked { ticket, object, op };
-        member.journal.events.push_reserved(invoked);
-        member.outstanding = true;
-        member.calls += 1;
+        client.member.note_invoked(asked);
         Ok(())
     }
 
@@ -215,13 +211,12 @@ impl<S: SeqObject> Desk<S> {
             Polled client.old.knows (answer_in S.reply_in a) client.new.knows) }
         ensures missed { IfNone result (NotPolled client.old.knows client.new.knows) }
     {
-        let member = &mut client.member;
-        if !member.outstanding {
+        if !client.member.is_outstanding() {
             return None;
         }
-        let slot = ROWS + member.number as usize;
+        let slot = ROWS + client.number as usize;
         let shared = &self.table.shared;
-        let seat = &mut member.seat;
+        let seat = &mut client.seat;
         let found = look_and_exchange::<_, _, _, _, LooksForAnswer, Takes>(
             shared, seat, slot, ANSWERED, 0,
         );
@@ -231,9 +226,7 @@ impl<S: SeqObject> Desk<S> {
         match shared.exchange(seat, slot, Slot::Nothing) {
             Slot::Answer(answer) => {
                 let ticket = shared.fetch_add::<Returns>(seat, CLOCK, 1);
-                let returned = JournalEvent::Returned { ticket, answer };
-                member.journal.events.push_reserved(returned);
-                member.outstanding = false;
+                client.member.note_returned(ticket, answer);
                 Some(answer)
             }
             _ => unreachable!(),
@@ -250,22 +243,28 @@ impl<S: SeqObject> Desk<S> {
         ensures won { IfWon result (Opened client object) }
         ensures held { IfHeld result (λ c. c.knows ≡ after_miss object client.knows) }
     {
-        let Client { mut member } = client;
+        let Client {
+            mut seat,
+            number,
+            member,
+        } = client;
         let shared = &self.table.shared;
         let word = object as usize;
-        let mine = 1 + member.number as u64;
+        let mine = 1 + number as u64;
         let found = look_and_exchange::<_, _, _, _, LooksAtLock, Wins>(
-            shared,
-            &mut member.seat,
-            word,
-            0,
-            mine,
+            shared, &mut seat, word, 0, mine,
         );
         if found != 0 {
-            return Win::Held(Client { member });
+            return Win::Held(Client {
+                seat,
+                number,
+                member,
+            });
         }
-        match shared.exchange(&mut member.seat, word, Slot::Nothing) {
+        match shared.exchange(&mut seat, word, Slot::Nothing) {
             Slot::Core(core) => Win::Won(Pass {
+                seat,
+                number,
                 member,
                 object,
                 core,

@@ -6,11 +6,11 @@ ghost use Rattle.model.specs.Objects.{empty, kind_with};
 ghost use Rattle.desk_invariant.specs.Views.{maker_of};
 ghost use Rattle.publication.specs.Handles.{AllBegun, IsRoom, begun, fresh_places};
 ghost use Rattle.publication.specs.Making.{AreCores, IsLaid, AreEmpty, kinds_with, HasRoom};
-ghost use Rattle.publication.specs.Making.{IsSmall, AreDealt, rosters_of, AreWalkersOf};
+ghost use Rattle.publication.specs.Making.{IsSmall, AreDealt, rosters_of, AreWalkersOf, IsFresh};
 ghost use Rattle.desk_model.specs.Limits.{max_objects, max_clients, max_calls};
 ghost use Rattle.desk_invariant.specs.Views.{table_words, table_slots};
 
-use crate::client::{Client, Member, Place, Places};
+use crate::client::{BoxedMember, Client, Member, Place, Places};
 use crate::desk::{Board, Desk, ROWS};
 use crate::plays::{Begins, Makes};
 use atomic_table::Table;
@@ -160,12 +160,32 @@ fn journals<O: Drop, R: Drop>(
     Ok(journals)
 }
 
+// What a client keeps itself, before its first call.
+fn keep<O: Drop, R: Drop>(
+    alloc: Global,
+    journal: Journal<O, R>,
+    places: Places,
+    quota: u32,
+) -> Result<BoxedMember<O, R>, AllocError>
+    ensures { IfOk result (λ m. IsFresh quota m.calls m.quota m.outstanding
+        × (m.journal ≡ journal) × (m.places ≡ places)) }
+{
+    let member = Member {
+        calls: 0,
+        quota,
+        outstanding: false,
+        journal,
+        places,
+    };
+    let inside = Box::new(alloc, member)?;
+    Ok(BoxedMember { inside })
+}
+
 // A client more.
 fn make<S: SeqObject>(
     table: &Board<S, S::Op, S::Reply>,
     maker: &mut Place<S, S::Op, S::Reply>,
-    journal: Journal<S::Op, S::Reply>,
-    places: Places,
+    member: BoxedMember<S::Op, S::Reply>,
     number: u32,
     quota: u32,
 ) -> Client<S>
@@ -175,8 +195,9 @@ fn make<S: SeqObject>(
         × (quota ≡ table.now.shared.key.quota) }
     requires maker { maker.old.me
         ≡ (maker_of table.now.shared.key.kinds.items table.now.shared.key.lists.items number, []) }
-    requires journal { HasRoom quota journal }
-    requires places { (places ≡ fresh_places number table.now.shared.key.lists.items)
+    requires fresh { IsFresh quota member.calls member.quota member.outstanding }
+    requires journal { HasRoom quota member.journal }
+    requires places { (member.places ≡ fresh_places number table.now.shared.key.lists.items)
         × (length table.now.shared.key.lists.items ≡ max_objects) }
     ensures maker { (maker.new.table_id ≡ maker.old.table_id)
         × (maker.new.me ≡ (
@@ -195,27 +216,23 @@ fn make<S: SeqObject>(
     let shared = &table.shared;
     let mut seat = shared.split_seat::<Makes>(maker);
     shared.load::<Begins>(&mut seat, ROWS + number as usize);
-    let member = Member {
+    Client {
         seat,
         number,
-        calls: 0,
-        quota,
-        outstanding: false,
-        journal,
-        places,
-    };
-    Client { member }
+        member,
+    }
 }
 
 // The clients, each with a journal and its places.
 fn make_all<S: SeqObject>(
+    alloc: Global,
     table: &Board<S, S::Op, S::Reply>,
     mut maker: Place<S, S::Op, S::Reply>,
     mut journals: Vec<Journal<S::Op, S::Reply>>,
     mut owners: Vec<Vec<SharedPlace>>,
     made: &mut Vec<Client<S>>,
     quota: u32,
-)
+) -> Result<(), AllocError>
     requires table { (maker.table_id ≡ table.now.shared.table_id)
         × (table.now.shared.table_id.words ≡ table_words) }
     requires plan { IsSmall table.now.shared.key × (quota ≡ table.now.shared.key.quota) }
@@ -227,22 +244,24 @@ fn make_all<S: SeqObject>(
         owners.items
         × (length table.now.shared.key.lists.items ≡ max_objects) }
     requires made { IsRoom table.now.shared.key.clients made.old × (vec_len made.old ≡ 0) }
-    ensures { (length made.new.items ≡ table.now.shared.key.clients)
+    ensures { IfOk result (λ _. (length made.new.items ≡ table.now.shared.key.clients)
         × AllBegun (record {
           table = table.now.shared.table_id;
           quota = quota;
           kinds = table.now.shared.key.kinds.items;
           lists = table.now.shared.key.lists.items;
-        }) made.new.items }
+        }) made.new.items) }
 {
     let mut number = 0;
     while let Some(journal) = journals.pop() {
         let places = Places {
             all: owners.remove(0),
         };
-        made.push_reserved(make(table, &mut maker, journal, places, number, quota));
+        let member = keep(alloc, journal, places, quota)?;
+        made.push_reserved(make(table, &mut maker, member, number, quota));
         number += 1;
     }
+    Ok(())
 }
 
 impl<S: SeqObject> Desk<S> {
@@ -281,7 +300,7 @@ impl<S: SeqObject> Desk<S> {
             quota,
         };
         let (table, maker) = open(alloc, objects, walkers, &plan)?;
-        make_all(&table, maker, room, owners, &mut made, quota);
+        make_all(alloc, &table, maker, room, owners, &mut made, quota)?;
         let Plan { kinds, lists, .. } = plan;
         let desk = Desk {
             table,

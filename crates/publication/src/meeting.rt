@@ -19,16 +19,35 @@ impl<S: SeqObject> Desk<S> {
         ensures places { (result.0.places ≡ one.places) × (result.1.places ≡ other.places) }
         ensures met { Met object one other result.0 result.1 }
     {
-        let Client { member: mut first } = one;
-        let Client { member: mut second } = other;
+        let Client {
+            seat: mut first,
+            number: first_number,
+            member: first_member,
+        } = one;
+        let Client {
+            seat: mut second,
+            number: second_number,
+            member: second_member,
+        } = other;
         let shared = &self.table.shared;
         let word = object as usize;
-        let message = shared.split_seat::<SendsSeen>(&mut second.seat);
-        shared.join_seat::<TakesMessage>(&mut first.seat, message);
-        shared.load::<Learns>(&mut first.seat, word);
-        let message = shared.split_seat::<SendsSeen>(&mut first.seat);
-        shared.join_seat::<TakesMessage>(&mut second.seat, message);
-        shared.load::<Adopts>(&mut second.seat, word);
-        (Client { member: first }, Client { member: second })
+        let message = shared.split_seat::<SendsSeen>(&mut second);
+        shared.join_seat::<TakesMessage>(&mut first, message);
+        shared.load::<Learns>(&mut first, word);
+        let message = shared.split_seat::<SendsSeen>(&mut first);
+        shared.join_seat::<TakesMessage>(&mut second, message);
+        shared.load::<Adopts>(&mut second, word);
+        (
+            Client {
+                seat: first,
+                number: first_number,
+                member: first_member,
+            },
+            Client {
+                seat: second,
+                number: second_number,
+                member: second_member,
+            },
+        )
     }
 }

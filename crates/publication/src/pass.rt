@@ -27,7 +27,7 @@ impl<S: SeqObject> Pass<S> {
         ensures low { result < max_clients }
         ensures kinds { self.now.knows.kinds ≡ self.now.desk.kinds }
     {
-        self.member.number
+        self.number
     }
 
     /// Tries once to pick up the row's request for this object. Got: it is of the object's kind; if
@@ -43,7 +43,9 @@ impl<S: SeqObject> Pass<S> {
         ensures missed { IfNot result (NotGot self row) }
     {
         let Pass {
-            mut member,
+            mut seat,
+            number,
+            member,
             object,
             core,
         } = self;
@@ -52,21 +54,21 @@ impl<S: SeqObject> Pass<S> {
         let posted = POSTED + object as u64;
         let picked = PICKED + object as u64;
         let found = look_and_exchange::<_, _, _, _, LooksAtRow, Picks>(
-            shared,
-            &mut member.seat,
-            slot,
-            posted,
-            picked,
+            shared, &mut seat, slot, posted, picked,
         );
         if found != posted {
             return Picked::Not(Pass {
+                seat,
+                number,
                 member,
                 object,
                 core,
             });
         }
-        match shared.exchange(&mut member.seat, slot, Slot::Nothing) {
+        match shared.exchange(&mut seat, slot, Slot::Nothing) {
             Slot::Request(request) => Picked::Got(Hand {
+                seat,
+                number,
                 member,
                 object,
                 core,
@@ -112,11 +114,10 @@ impl<S: SeqObject> Pass<S> {
             self.new.state.room + length self.new.log ≡ self.old.state.room + length self.old.log }
         ensures performed { Performed self.old (S.op_in op) (answer_in S.reply_in result) self.new }
     {
-        let member = &mut self.member;
-        let (object, number) = (self.object, member.number);
+        let (object, number) = (self.object, self.number);
         let slot = ROWS + number as usize;
         let shared = &desk.table.shared;
-        let seat = &mut member.seat;
+        let seat = &mut self.seat;
         // The slot of its own row is in hand, after that of the object.
         seat.turn();
         let asked = Request {
@@ -133,7 +134,7 @@ impl<S: SeqObject> Pass<S> {
         let _ = shared.exchange(seat, slot, Slot::Nothing);
         seat.turn();
         seat.turn();
-        member.note_call(asked, returned, answer);
+        self.member.note_call(asked, returned, answer);
         answer
     }
 
@@ -148,15 +149,21 @@ impl<S: SeqObject> Pass<S> {
         ensures seen { seen_of result.knows self.object ≡ self.log }
     {
         let Pass {
-            mut member,
+            mut seat,
+            number,
+            member,
             object,
             core,
         } = self;
         let shared = &desk.table.shared;
         let word = object as usize;
-        let _ = shared.exchange(&mut member.seat, word, Slot::Core(core));
-        shared.store::<Releases>(&mut member.seat, word, 0);
-        Client { member }
+        let _ = shared.exchange(&mut seat, word, Slot::Core(core));
+        shared.store::<Releases>(&mut seat, word, 0);
+        Client {
+            seat,
+            number,
+            member,
+        }
     }
 }
 
@@ -190,7 +197,9 @@ impl<S: SeqObject> Hand<S> {
         ensures answered { Answered self (answer_in S.reply_in result.1) result.0 }
     {
         let Hand {
-            mut member,
+            mut seat,
+            number,
+            member,
             object,
             mut core,
             row,
@@ -199,10 +208,12 @@ impl<S: SeqObject> Hand<S> {
         let answer = serve(&mut core, row, &request);
         let shared = &desk.table.shared;
         let slot = ROWS + row as usize;
-        let _ = shared.exchange(&mut member.seat, slot, Slot::Answer(answer));
-        shared.store::<Answers>(&mut member.seat, slot, ANSWERED);
+        let _ = shared.exchange(&mut seat, slot, Slot::Answer(answer));
+        shared.store::<Answers>(&mut seat, slot, ANSWERED);
         (
             Pass {
+                seat,
+                number,
                 member,
                 object,
                 core,
@@ -220,7 +231,9 @@ impl<S: SeqObject> Hand<S> {
         ensures put_back { IsPutBack self result }
     {
         let Hand {
-            mut member,
+            mut seat,
+            number,
+            member,
             object,
             core,
             row,
@@ -228,9 +241,11 @@ impl<S: SeqObject> Hand<S> {
         } = self;
         let shared = &desk.table.shared;
         let slot = ROWS + row as usize;
-        let _ = shared.exchange(&mut member.seat, slot, Slot::Request(request));
-        shared.store::<PutsBack>(&mut member.seat, slot, POSTED + object as u64);
+        let _ = shared.exchange(&mut seat, slot, Slot::Request(request));
+        shared.store::<PutsBack>(&mut seat, slot, POSTED + object as u64);
         Pass {
+            seat,
+            number,
             member,
             object,
             core,

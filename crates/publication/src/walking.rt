@@ -27,7 +27,7 @@ impl<S: SeqObject> Desk<S> {
     {
         // There are 16 objects at most, and a place for each.
         let _ = &self.kinds;
-        client.member.places.enlist(object as usize)
+        client.member.enlist(object as usize)
     }
 }
 

@@ -17,17 +17,17 @@ load-requires g c = let d = c.desk.invariant.0 in let wide = d.0 in let few = d.
 
 pub invariant_of-last : goal.invariant_of-last
 invariant_of-last g c = let t = c.load.ensures.2 c.args.client refl in
-    let lists : c.load.new.seat.me.0.lists ≡ c.last.inside.member.seat.me.0.lists = dite (ℕ_discrete c.load.result 1) (λ e. ap (λ m. m.0.lists) (t.0 e)) (λ n. ap (λ m. m.0.lists) (t.1 n).0) in
+    let lists : c.load.new.seat.me.0.lists ≡ c.last.inside.seat.me.0.lists = dite (ℕ_discrete c.load.result 1) (λ e. ap (λ m. m.0.lists) (t.0 e)) (λ n. ap (λ m. m.0.lists) (t.1 n).0) in
     (watching_ok _ _ _ _ _ _ _ c.load.result c.args.client _ _ c.last.invariant.0 t.0 (λ n. (t.1 n).0), own_still _ _ _ _ lists c.last.invariant.1)
 
 pub returns-clause-seen : goal.returns-clause-seen
 returns-clause-seen g c = let t = c.load.ensures.2 c.args.client refl in
-    either_view c.load.result c.args.client c.last.inside.member.seat.me.0 c.args.last.now.knows c.load.new.seat.me.0
+    either_view c.load.result c.args.client c.last.inside.seat.me.0 c.args.last.now.knows c.load.new.seat.me.0
     (ap (λ k. k.knows) c.last.view_is) (λ e. ap (λ m. m.0) (t.0 e)) (λ n. ap (λ m. m.0) (t.1 n).0)
 
 pub returns-clause-desk : goal.returns-clause-desk
 returns-clause-desk g c = let t = c.load.ensures.2 c.args.client refl in
-    let kinds : c.load.new.seat.me.0.kinds ≡ c.last.inside.member.seat.me.0.kinds = dite (ℕ_discrete c.load.result 1) (λ e. ap (λ m. m.0.kinds) (t.0 e)) (λ n. ap (λ m. m.0.kinds) (t.1 n).0) in
+    let kinds : c.load.new.seat.me.0.kinds ≡ c.last.inside.seat.me.0.kinds = dite (ℕ_discrete c.load.result 1) (λ e. ap (λ m. m.0.kinds) (t.0 e)) (λ n. ap (λ m. m.0.kinds) (t.1 n).0) in
     (λ i. record {
       table = (c.load.ensures.0) i;
       quota = c.last.inside.member.quota;

@@ -46,9 +46,10 @@ invariant_of-places g c = let i = c.loop-journal.invariant in let count = i.4.0 
 
 pub make-requires-clause-journal : goal.make-requires-clause-journal
 make-requires-clause-journal g c = λ κs bounds. let i = c.loop-journal.invariant in
-    subst (λ r. IfSome r (HasRoom c.args.quota)) c.in-Some.is (All-pop (HasRoom c.args.quota) c.loop-journal.journals.items c.pop.new.self.items c.pop.result c.pop.ensures.items i.3).1
+    subst (HasRoom c.args.quota) (sym c.in_ok-member.ensures.1) (subst (λ r. IfSome r (HasRoom c.args.quota)) c.in-Some.is
+    (All-pop (HasRoom c.args.quota) c.loop-journal.journals.items c.pop.new.self.items c.pop.result c.pop.ensures.items i.3).1)
 
 pub make-requires-clause-places : goal.make-requires-clause-places
 make-requires-clause-places g c = λ κs bounds. let i = c.loop-journal.invariant in let count = i.4.0 in let one = c.in-Some.ensures.cases in
     let k = subst (HasPlaces _ _) (sym c.remove.ensures.value) (i.4.1 0 c.remove.result (omega arith)) in
-    (k.0 ∙ ap (λ z. fresh_places z c.args.table.now.shared.key.lists.items) (omega arith), c.requires.owners.1)
+    (c.in_ok-member.ensures.2 ∙ (k.0 ∙ ap (λ z. fresh_places z c.args.table.now.shared.key.lists.items) (omega arith)), c.requires.owners.1)

@@ -30,7 +30,7 @@ returns-clause-put_back g c = let h = c.self.invariant.0 in let r =
 pub returns-clause-desk : goal.returns-clause-desk
 returns-clause-desk g c = let h = c.self.invariant.0 in let r =
     back_ready g.S.SeqObject.content g.S.SeqObject.op_in g.S.SeqObject.reply_in _ _ _ _ _ _ c.self.inside.core _ c.self.inside.request _ _ h c.exchange.ensures.3 in
-    let kinds : c.store.new.seat.me.0.kinds ≡ c.self.inside.member.seat.me.0.kinds = ap (λ m. m.0.kinds) (c.store.ensures.2 _ _ _ _ r.1) ∙ ap (λ m. m.0.kinds) c.exchange.ensures.3 in
+    let kinds : c.store.new.seat.me.0.kinds ≡ c.self.inside.seat.me.0.kinds = ap (λ m. m.0.kinds) (c.store.ensures.2 _ _ _ _ r.1) ∙ ap (λ m. m.0.kinds) c.exchange.ensures.3 in
     (λ i. record {
       table = (c.store.ensures.0 ∙ c.exchange.ensures.0) i;
       quota = c.self.inside.member.quota;

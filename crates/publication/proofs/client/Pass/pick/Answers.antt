@@ -50,7 +50,7 @@ returns-clause-got g c = let t = (c.look_and_exchange-found.ensures.tried _ c.ar
 
 pub returns-then-found-posted-clause-desk : goal.returns-then-found-posted-clause-desk
 returns-then-found-posted-clause-desk g c = let t = (c.look_and_exchange-found.ensures.tried _ c.args.row _ c.self.invariant.0.holds refl).1 (search rules) in
-    let kinds : c.look_and_exchange-found.new.seat.me.0.kinds ≡ c.self.inside.member.seat.me.0.kinds = ap (λ m. m.0.kinds) t.0 in
+    let kinds : c.look_and_exchange-found.new.seat.me.0.kinds ≡ c.self.inside.seat.me.0.kinds = ap (λ m. m.0.kinds) t.0 in
     (λ i. record {
       table = (c.look_and_exchange-found.ensures.table.0) i;
       quota = c.self.inside.member.quota;
@@ -61,7 +61,7 @@ returns-then-found-posted-clause-desk g c = let t = (c.look_and_exchange-found.e
 
 pub returns-clause-desk : goal.returns-clause-desk
 returns-clause-desk g c = let t = (c.look_and_exchange-found.ensures.tried _ c.args.row _ c.self.invariant.0.holds refl).0 (search rules) in
-    let kinds : c.exchange.new.seat.me.0.kinds ≡ c.self.inside.member.seat.me.0.kinds = ap (λ m. m.0.kinds) c.exchange.ensures.3 ∙ ap (λ m. m.0.kinds) t.3 in
+    let kinds : c.exchange.new.seat.me.0.kinds ≡ c.self.inside.seat.me.0.kinds = ap (λ m. m.0.kinds) c.exchange.ensures.3 ∙ ap (λ m. m.0.kinds) t.3 in
     (λ i. record {
       table = (c.exchange.ensures.0 ∙ c.look_and_exchange-found.ensures.table.0) i;
       quota = c.self.inside.member.quota;

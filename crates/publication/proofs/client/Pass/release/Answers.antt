@@ -34,7 +34,7 @@ returns-clause-seen g c = let p = c.self.invariant.0 in let r =
 pub returns-clause-desk : goal.returns-clause-desk
 returns-clause-desk g c = let p = c.self.invariant.0 in let r =
     release_ready g.S.SeqObject.content g.S.SeqObject.op_in g.S.SeqObject.reply_in _ _ _ _ _ _ c.self.inside.core _ _ p c.exchange.ensures.3 in let t = c.store.ensures.2 _ r.1 in
-    let kinds : c.store.new.seat.me.0.kinds ≡ c.self.inside.member.seat.me.0.kinds = ap (λ m. m.0.kinds) t.0 ∙ ap (λ m. m.0.kinds) c.exchange.ensures.3 in
+    let kinds : c.store.new.seat.me.0.kinds ≡ c.self.inside.seat.me.0.kinds = ap (λ m. m.0.kinds) t.0 ∙ ap (λ m. m.0.kinds) c.exchange.ensures.3 in
     (λ i. record {
       table = (c.store.ensures.0 ∙ c.exchange.ensures.0) i;
       quota = c.self.inside.member.quota;

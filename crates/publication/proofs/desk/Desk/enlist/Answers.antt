@@ -1,6 +1,6 @@
-use Rattle.std.proofs.Common.{rules, arith, ◌<◌, List, length, map, sym, ap, subst, ◌∙◌}
+use Rattle.std.proofs.Common.{rules, arith, ◌<◌, length, map, sym, ap, subst, ◌∙◌}
 use Rattle.publication_list.specs.Calls.{PlaceSeen}
-use Rattle.publication.specs.Handles.{Known, HasPlaceAt, ArePlacesOf, trying}
+use Rattle.publication.specs.Handles.{Known, HasPlaceAt, IsClient, ArePlacesOf, trying}
 use Rattle.publication.proofs.Dealing.{same_rosters, still_own, own_place}
 use Rattle.publication.proofs.desk.Desk.enlist.Goals as goal
 
@@ -8,17 +8,18 @@ pub enlist-requires : goal.enlist-requires
 enlist-requires g c = let few = c.self.invariant.0.5 in let low : c.args.object < length c.self.inside.kinds.items = search rules in omega arith
 
 pub invariant_of-client : goal.invariant_of-client
-invariant_of-client g c = let k = c.client.invariant in (
-  k.0,
-  subst (λ (ps : List PlaceSeen). ArePlacesOf c.client.inside.member.number c.client.inside.member.seat.me.0.lists ps) (sym c.enlist.ensures)
-      (still_own _ c.args.object c.enlist.result _ _ k.1),
-)
+invariant_of-client g c = let k = c.client.invariant in
+    subst (λ z. IsClient g.S.SeqObject.op_in g.S.SeqObject.reply_in c.client.inside.number z.calls z.quota z.outstanding z.journal c.client.inside.seat.me
+    × ArePlacesOf c.client.inside.number c.client.inside.seat.me.0.lists z.places) (sym c.enlist.ensures) (k.0, still_own _ c.args.object c.enlist.result _ _ k.1)
 
 pub returns-clause-tried : goal.returns-clause-tried
-returns-clause-tried g c = let m = c.client.inside.member in let e = c.enlist.ensures in
-    let lists = ap (map (λ (p : PlaceSeen). p.roster)) e ∙ same_rosters c.args.object c.enlist.result m.places in
-    (λ i. record { desk = record { table = m.seat.table_id; quota = m.quota; kinds = m.seat.me.0.kinds; lists = lists i }; knows = m.seat.me.0; places = e i })
-    ∙ ap (λ (k : Known). record k { places = trying c.args.object c.enlist.result k.places }) c.client.view_is
+returns-clause-tried g c = let m = c.client.inside in let e = c.enlist.ensures in
+    let lists = ap (λ z. map (λ (p : PlaceSeen). p.roster) z.places) e ∙ same_rosters c.args.object c.enlist.result m.member.places in
+    (λ i. record {
+      desk = record { table = m.seat.table_id; quota = (e i).quota; kinds = m.seat.me.0.kinds; lists = lists i };
+      knows = m.seat.me.0;
+      places = (e i).places;
+    }) ∙ ap (λ (k : Known). record k { places = trying c.args.object c.enlist.result k.places }) c.client.view_is
 
 pub returns-clause-own : goal.returns-clause-own
 returns-clause-own g c = let few = c.self.invariant.0.5 in let low : c.args.object < length c.self.inside.kinds.items = search rules in let k = c.client.invariant in

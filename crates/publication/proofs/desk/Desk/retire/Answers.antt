@@ -1,4 +1,5 @@
-use Rattle.std.proofs.Common.{rules, arith, ◌∷◌, [], sym, ap, subst, ◌∙◌}
+use Rattle.std.proofs.Common.{rules, arith, map, ◌∷◌, [], sym, ap, subst, ◌∙◌}
+use Rattle.desk_model.specs.Images.{event_in}
 use Rattle.desk_invariant.specs.declared.board.DeskView.{DeskView}
 use Rattle.desk_invariant.specs.Views.{journal, end_notice, after_end, IsAtRest}
 use Rattle.desk_invariant.proofs.Ends.{end_keeps_rule}
@@ -11,9 +12,9 @@ store-requires g c = let d = c.self.invariant.0 in let wide = d.0 in let k = c.c
     let calm = subst (λ (v : DeskView). IsAtRest v.own) (sym same) k.agrees.at_rest in (
       e.0 ∙ (t.0 ∙ (ap (λ k. k.desk.table) c.client.view_is ∙ (ap (λ s. s.table) c.requires ∙ sym (ap (λ s. s.id.table) c.self.view_is)))),
       omega arith,
-      end_keeps_rule _ _ _ _ _ _ _ _ _ _ c.client.inside.member.journal _ (ap (λ v. v.role) same ∙ k.agrees.client_is)
+      end_keeps_rule _ _ _ _ _ _ _ _ _ _ c.into_journal-journal.result _ (ap (λ v. v.role) same ∙ k.agrees.client_is)
           (ap (λ v. v.number) same ∙ k.agrees.number_is) calm (ap (λ v. v.held) same ∙ k.free)
-          (k.agrees.journal_is ∙ sym (ap journal same)) (ap (λ m. m.1) e.3),
+          (ap (λ j. map (event_in g.S.SeqObject.op_in g.S.SeqObject.reply_in) j.events.items) c.into_journal-journal.ensures ∙ (k.agrees.journal_is ∙ sym (ap journal same))) (ap (λ m. m.1) e.3),
     )
 
 pub split_seat-requires : goal.split_seat-requires

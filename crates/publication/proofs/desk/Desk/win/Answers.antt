@@ -21,7 +21,7 @@ pub look_and_exchange-found-requires-clause-exchange : goal.look_and_exchange-fo
 look_and_exchange-found-requires-clause-exchange g c = let d = c.self.invariant in let m = c.client.invariant.0 in
     let inside : c.args.object < length c.self.inside.kinds.items = search rules in
     let inside' : c.args.object < length c.self.inside.table.shared.key.kinds.items = subst (λ (z : ℕ). c.args.object < z) (ap length (sym d.0.2)) inside in
-    let is : 1 + c.client.inside.member.number ≡ 1 + c.client.inside.member.seat.me.0.number = ap (λ (z : ℕ). 1 + z) (sym m.agrees.number_is) in
+    let is : 1 + c.client.inside.number ≡ 1 + c.client.inside.seat.me.0.number = ap (λ (z : ℕ). 1 + z) (sym m.agrees.number_is) in
     win_keeps_rule _ _ _ _ _ _ _ _ _ _ _ m.agrees.client_is inside' is m.free m.agrees.going
 
 pub invariant_of-result : goal.invariant_of-result
@@ -51,5 +51,5 @@ returns-clause-won g c = let there = subst (λ z. c.args.object < length z) (sym
     let t = (c.look_and_exchange-found.ensures.tried there).0 c.if-found-ne0.false in let e = c.exchange.ensures in
     let same = same_core _ _ (sym c.in-Core.is ∙ came_out _ _ _ _ _ (ap (λ m. m.1) t.2) e.2) in
     opened g.S.SeqObject.content g.S.SeqObject.op_in g.S.SeqObject.reply_in c.args.client c.args.object t.0 c.in-Core.core t.1
-    c.client.inside.member.seat.me c.look_and_exchange-found.new.seat.me c.exchange.new.seat.me _ _
+    c.client.inside.seat.me c.look_and_exchange-found.new.seat.me c.exchange.new.seat.me _ _
     (sym (ap (λ k. k.desk.kinds) c.client.view_is)) (sym (ap (λ k. k.knows) c.client.view_is)) t.2 e.3 same t.3 t.4
