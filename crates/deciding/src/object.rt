@@ -10,6 +10,8 @@ ghost use Rattle.deciding.specs.Decisions.{IsDecision, limit_of};
 
 use crate::decision::Decision;
 use candidate_orders::open_keys;
+use certificate::Certificate;
+use checker::check_object;
 use events::ObjectHistory;
 use finder::{FindOutcome, find_by_contents, find_by_kind};
 use order_search::call_count;
@@ -72,6 +74,24 @@ fn limit_of(steps: Option<u32>, calls: usize) -> u64
     }
 }
 
+/// The order that a search found, checked as those of the finder are.
+///
+/// An error: memory was refused.
+fn check_found(
+    alloc: Global,
+    history: &ObjectHistory,
+    certificate: Certificate,
+) -> Result<Decision, AllocError>
+    requires { certificate.object ≡ history.now.object }
+    ensures { (steps : Option ℕ) → IfOk result (IsDecision
+        history.now.object history.now.kind (calls_of history.now.ops) steps) }
+{
+    match check_object(alloc, history, &certificate) {
+        Ok(()) => Ok(Decision::Order(certificate)),
+        Err(_) => Err(AllocError),
+    }
+}
+
 /// What a first search decides, which is short: it tries first what returns first.
 fn decide_by_first_search(
     alloc: Global,
@@ -82,7 +102,7 @@ fn decide_by_first_search(
 {
     let steps = first_steps(history.ops().len());
     match search_of_any_size(alloc, history, TryFirst::LeastReturn, steps).found {
-        SearchOutcome::Found(certificate) => Ok(Some(Decision::Order(certificate))),
+        SearchOutcome::Found(certificate) => Ok(Some(check_found(alloc, history, certificate)?)),
         SearchOutcome::Impossible => {
             Ok(Some(Decision::Impossible(whole_reason(alloc, history)?)))
         }
@@ -130,7 +150,7 @@ fn decide_by_search(
     let limit = limit_of(steps, calls);
     let Search { found, steps } = search_of_any_size(alloc, history, last_first(calls), limit);
     match found {
-        SearchOutcome::Found(certificate) => Ok(Decision::Order(certificate)),
+        SearchOutcome::Found(certificate) => check_found(alloc, history, certificate),
         SearchOutcome::Impossible => Ok(Decision::Impossible(whole_reason(alloc, history)?)),
         SearchOutcome::OutOfSteps => Ok(Decision::OutOfSteps(steps)),
         SearchOutcome::TooLarge => unreachable!(),
@@ -146,7 +166,8 @@ fn decide_by_search(
 /// Where no number of steps is given these are 1,000,000, or 100 for each operation that did not
 /// fail if that is more. What comes before takes none of them.
 ///
-/// That a limit is enough is not promised. An error: memory was refused for a reason.
+/// Each order that is handed out was checked. That a limit is enough is not promised. An error:
+/// memory was refused for a reason, or for the check of an order.
 pub fn decide(
     alloc: Global,
     history: &ObjectHistory,

@@ -1,7 +1,7 @@
 //! Orders of the calls of a heap that may be valid. No contract says that one is: `finder` checks
 //! each before it hands it out.
 //!
-//! Of `n` calls an order is found in some n log n steps, mostly wherever there is one.
+//! Of `n` calls an order is found in some n log n steps, of most histories that have one.
 #![tactic(auto)]
 
 mod heap;

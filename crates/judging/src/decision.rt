@@ -86,13 +86,13 @@ pub fn verdict_alone(alloc: Global, history: &History, certificates: &[Certifica
     verdict_on_check(alloc, history, checked)
 }
 
-/// The verdict on certificates that are known to be valid, as those are that were checked when they
-/// were found: yes with the counts of the history, unless memory is refused. Nothing is checked.
-pub fn verdict_on_valid(alloc: Global, history: &History, _certificates: &[Certificate]) -> Verdict
-    requires valid { AreValid history.now _certificates.now }
+/// The verdict on certificates that are proved to be valid, as those are that were checked when they
+/// were found: yes with the counts of the history, unless memory is refused. Nothing is checked here.
+pub fn verdict_on_valid(alloc: Global, history: &History, certificates: &[Certificate]) -> Verdict
+    requires valid { AreValid history.now certificates.now }
     ensures linearizable { OnYes result (IsLinearizable (kind_at history.now)
         (events (denoted history.now))) }
-    ensures judges { JudgesBy history.now _certificates.now result }
+    ensures judges { JudgesBy history.now certificates.now result }
     ensures yes { IsYesUnlessMemory result }
 {
     // These two do nothing: they say that valid certificates suffice, as in `judge_history_alone`.

@@ -7,7 +7,7 @@ use Rattle.judging.proofs.decision.verdict_on_valid.Goals as goal
 pub returns : goal.returns
 returns c =
     let es = c.args.history.now in
-    let cs = c.args._certificates.now in
+    let cs = c.args.certificates.now in
     let valid = c.requires.valid in
     let is = c.verdict_on_check.ensures in
     record {
