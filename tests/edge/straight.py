@@ -23,6 +23,11 @@ def type_first(pairs):
     return usual(sorted(pairs, key=lambda it: it[0] != ":type"))
 
 
+def with_a_node(pairs):
+    """The keys in the usual order, and one without a meaning at the end."""
+    return usual(pairs + [(":node", "1")])
+
+
 def index_first(pairs):
     """As Jepsen writes a map."""
     keys = [key.removeprefix(MARK) for key, _ in pairs]
@@ -308,12 +313,19 @@ def usual_histories():
     for maps, _ in GOOD[:6]:
         maps = maps * (500 // len(maps))
         order = " ".join(str(it) for it in range(0, len(maps), 2))
-        for form in (usual, index_first):
+        for form in (usual, index_first, with_a_node):
             yield "".join(f"{form(pairs_of(it))}\n" for it in maps), f"{{:object 0, :order [{order}]}}\n"
 
 
-def cost_of_usual_maps(program, report):
-    """A check of maps in a usual order takes at most 0.75 times the instructions that it takes where a space stands after each brace."""
+def long_orders():
+    """A short history, with certificates whose orders are long: places that are named again and again, and as written by `find`."""
+    history = "".join(f"{usual(pairs_of(it))}\n" for it in GOOD[0][0])
+    for entry in ("0", "12345", "999999999"):
+        yield history, f"{{:object 0, :order [{' '.join([entry] * 20_000)}]}}\n"
+
+
+def costs_less(program, report, rows):
+    """Whether a check of texts takes at most 0.75 times the instructions that it takes where a space is after each brace of one of them."""
     if not shutil.which("valgrind"):
         return "valgrind is missing"
 
@@ -321,11 +333,20 @@ def cost_of_usual_maps(program, report):
         files = [program.write(f"{name}.{number}.edn", text) for name, text in (("usual", history), ("order", certificates))]
         return program.instructions("check", *files)
 
-    rows = [it for history, order in usual_histories() for it in ((history, order), (history.replace("{", "{ "), order))]
     costs = at_once(lambda number: cost(number, *rows[number]), range(len(rows)))
-    for (history, _), straight, by_tokens in zip(rows[::2], costs[::2], costs[1::2]):
-        report.holds(f"check: {history[:100]!r}", straight <= MOST_OF_THE_OTHERS * by_tokens, (straight, by_tokens))
+    for (history, order), straight, by_tokens in zip(rows[::2], costs[::2], costs[1::2]):
+        report.holds(f"check: {history[:100]!r} {order[:40]!r}", straight <= MOST_OF_THE_OTHERS * by_tokens, (straight, by_tokens))
     return f"{max(straight / by_tokens for straight, by_tokens in zip(costs[::2], costs[1::2])):.2f} at most"
 
 
-PARTS = (cost_of_usual_maps, good_histories, bad_histories, faulty_histories, broken_texts, orders_in_each_form)
+def cost_of_usual_maps(program, report):
+    """A check of maps in a usual order, also with a key without a meaning at the end, costs less than where a space is after each brace."""
+    return costs_less(program, report, [it for history, order in usual_histories() for it in ((history, order), (history.replace("{", "{ "), order))])
+
+
+def cost_of_usual_orders(program, report):
+    """So does a check with a certificate in the usual form."""
+    return costs_less(program, report, [it for history, order in long_orders() for it in ((history, order), (history, order.replace("{", "{ ")))])
+
+
+PARTS = (cost_of_usual_maps, cost_of_usual_orders, good_histories, bad_histories, faulty_histories, broken_texts, orders_in_each_form)

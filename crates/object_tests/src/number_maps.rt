@@ -30,7 +30,10 @@ fn a_number_map_puts_values_at_the_end_of_lists(rt: HostRuntime) -> Result<(), F
         assert!(rt; !map.push(rt.alloc(), key, 7)?);
     }
     for key in keys {
-        assert!(rt; map.remove(key).is_some_and(|list| list.as_slice() == &[key, 7]));
+        assert!(rt;
+            map.remove(key)
+                .is_some_and(|list| list.as_slice() == &[key, 7])
+        );
     }
     assert!(rt; map.push(rt.alloc(), 3, 1)? && map.remove(2).is_none());
     Ok(())
