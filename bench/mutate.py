@@ -56,12 +56,14 @@ def operation_map(rng, kind, process, f, on, number, form):
         pairs.append(f":time {number * 997}")
     if form == "note":
         pairs.insert(0, ":node 1")
+    if form == "last":
+        pairs.append(rng.choice((":node 1", ":source :a", ":note nil")))
     return "{" + ", ".join(pairs) + "}"
 
 
 def history(rng):
     """Some operations of one to three processes, and an order of those of each object."""
-    kind, form = rng.choice(list(FUNCTIONS)), rng.choice(("plain", "plain", "time", "time", "jepsen", "note"))
+    kind, form = rng.choice(list(FUNCTIONS)), rng.choice(("plain", "plain", "time", "time", "jepsen", "note", "last"))
     objects, maps, orders = rng.choice((1, 1, 2)), [], {}
     busy = {}
     for number in range(rng.choice((2, 4, 6, 10, 24))):
