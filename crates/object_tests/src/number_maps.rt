@@ -32,7 +32,7 @@ fn a_number_map_puts_values_at_the_end_of_lists(rt: HostRuntime) -> Result<(), F
     for key in keys {
         assert!(rt;
             map.remove(key)
-                .is_some_and(|list| list.as_slice() == &[key, 7])
+                .is_some_and(|list| list.as_slice() == [key, 7].as_slice())
         );
     }
     assert!(rt; map.push(rt.alloc(), 3, 1)? && map.remove(2).is_none());
