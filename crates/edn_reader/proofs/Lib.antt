@@ -17,6 +17,7 @@ pub mod Decimals
 pub mod Written
 pub mod Utf8
 pub mod Joined
+pub mod Lines
 pub mod Fitting
 pub mod Splits
 pub mod Shaped

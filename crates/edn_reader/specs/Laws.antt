@@ -26,3 +26,8 @@ JoinedSpell =
 -- The texts of some forms, each followed by a line feed, spell these forms.
 abbrev pub LinesSpell : Type 0
 LinesSpell = (ds : List Datum) → EachSpelled ds → Spells ds (lines_of ds)
+
+-- Whole lines: whatever follows them is spelled after their forms.
+abbrev pub SpellsBefore : List ℕ → List Datum → Type 0
+SpellsBefore lines ds =
+    (es : List Datum) (after : List ℕ) → Spells es after → Spells (ds ++ es) (lines ++ after)
