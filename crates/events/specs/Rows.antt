@@ -67,10 +67,30 @@ open_at p (e ∷ later) =
     (option_map (λ k. length (row_by e.number e.object e.action Pending) + k) (open_at p later))
     (open_here p e (next_event p later))
 
+-- ---- an end that is set
+
+abbrev pub with_end : End → Row → Row
+with_end how r = record {
+  object = r.object;
+  operation = record { number = r.operation.number; op = r.operation.op; «end» = how };
+}
+
+-- the row at this place ends so; past the last row nothing changes
+abbrev pub set_at : ℕ → End → List Row → List Row
+set_at k how [] = []
+set_at zero how (r ∷ rs) = with_end how r ∷ rs
+set_at (suc k) how (r ∷ rs) = r ∷ set_at k how rs
+
+abbrev pub set_end : Option ℕ → End → List Row → List Row
+set_end None how rs = rs
+set_end (Some k) how rs = set_at k how rs
+
+-- ---- what is kept
+
 -- these are all rows of the events, and of each process the operation that it has open
 pub record IsRowsOf (r : Rows) (es : List Event) : Type 0 where
   pub rows : r.rows.items ≡ rows_in es
-  pub opened : (p : ℕ) → value_of r.open p ≡ open_at p es
+  pub opened : (p : ℕ) → value_of r.outstanding p ≡ open_at p es
 
 -- ---- parts of a history
 
@@ -117,7 +137,7 @@ pub record IsJoinedOf (j : JoinedRows) (maps : ℕ) (es : List Event) : Type 0 w
   pub within : All (λ e. e.number < maps) es
   pub rows : rows_of j.parts.items ≡ rows_in es
   pub opened : (p : ℕ) → option_and_then (λ at. place_in j.parts.items at.part at.row)
-      (value_of j.open p) ≡ open_at p es
+      (value_of j.outstanding p) ≡ open_at p es
   pub bases : All (λ t. t.base ≤ maps) j.parts.items
 
 -- ---- a whole history

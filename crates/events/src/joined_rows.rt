@@ -30,7 +30,7 @@ pub(crate) struct RowPlace {
 pub struct JoinedRows {
     pub(crate) parts: Vec<TablePart>,
     /// The place of the row whose operation a process has open.
-    open: NumberMap<RowPlace>,
+    outstanding: NumberMap<RowPlace>,
     /// How many maps the parts have.
     maps: u32,
 }
@@ -42,7 +42,7 @@ impl JoinedRows {
     {
         JoinedRows {
             parts: Vec::new(alloc),
-            open: NumberMap::new(alloc),
+            outstanding: NumberMap::new(alloc),
             maps: 0,
         }
     }

@@ -1,8 +1,9 @@
 //! Operations whose end may come later.
 
-ghost use Rattle.std.specs.Prelude.{◌++◌, ◌∷◌, [], List, OnOk};
+ghost use Rattle.std.specs.Prelude.{◌≡◌, ◌≢◌, ◌++◌, ◌∷◌, ℕ, [], List, None, OnOk};
+ghost use Rattle.number_map.specs.Lookup.{value_of};
 ghost use Rattle.events.specs.declared.event.Event.{Event};
-ghost use Rattle.events.specs.Rows.{IsRowsOf};
+ghost use Rattle.events.specs.Rows.{IsRowsOf, set_end};
 
 use crate::event::{Action, Event};
 use crate::operations::{End, Invocation};
@@ -22,7 +23,7 @@ pub struct Row {
 pub struct Rows {
     pub(crate) rows: Vec<Row>,
     /// The place of the row whose operation a process has open.
-    pub(crate) open: NumberMap<usize>,
+    pub(crate) outstanding: NumberMap<usize>,
 }
 
 impl Rows {
@@ -32,13 +33,19 @@ impl Rows {
     {
         Rows {
             rows: Vec::new(alloc),
-            open: NumberMap::new(alloc),
+            outstanding: NumberMap::new(alloc),
         }
     }
 
-    /// Ends the operation that the process has open.
-    fn end(&mut self, process: u64, end: End) {
-        if let Some(place) = self.open.remove(process) {
+    /// Ends the operation that the process has open, if it has one.
+    fn close(&mut self, process: u64, end: End)
+        ensures rows { self.new.rows.items
+            ≡ set_end (value_of self.old.outstanding process) end self.old.rows.items }
+        ensures own { value_of self.new.outstanding process ≡ None }
+        ensures others { (p : ℕ) → p ≢ process
+            → value_of self.new.outstanding p ≡ value_of self.old.outstanding p }
+    {
+        if let Some(place) = self.outstanding.remove(process) {
             if let Some(row) = self.rows.get_mut(place) {
                 row.operation.end = end;
             }
@@ -53,7 +60,7 @@ impl Rows {
     {
         match event.action {
             Action::Invoke(op) => {
-                self.open.insert(event.process, self.rows.len())?;
+                self.outstanding.insert(event.process, self.rows.len())?;
                 let object = event.object;
                 let number = event.number;
                 let end = End::Pending;
@@ -62,10 +69,10 @@ impl Rows {
             }
             Action::Ok(reply) => {
                 let at = event.number;
-                self.end(event.process, End::Returned { at, reply });
+                self.close(event.process, End::Returned { at, reply });
             }
-            Action::Fail => self.end(event.process, End::Failed),
-            Action::Info => self.end(event.process, End::Pending),
+            Action::Fail => self.close(event.process, End::Failed),
+            Action::Info => self.close(event.process, End::Pending),
         }
         Ok(())
     }
