@@ -1,3 +1,4 @@
+pub mod EventRows
 pub mod Runs
 pub mod WellFormed
 pub mod Calls

@@ -1,5 +1,6 @@
 pub mod Events
 pub mod Operations
+pub mod Rows
 pub use Rattle.model.specs.Objects
 pub use Rattle.model.specs.Histories
 pub use Rattle.model.specs.Linearizable

@@ -4,9 +4,15 @@
 mod by_object;
 mod event;
 mod history;
+mod joined_rows;
 mod operations;
+mod rows;
+mod table;
 
 pub use by_object::{split, split_part};
 pub use event::{Action, Event};
 pub use history::History;
+pub use joined_rows::{JoinedRows, TablePart};
 pub use operations::{End, Invocation, ObjectHistory};
+pub use rows::{Row, Rows};
+pub use table::Table;
