@@ -9,4 +9,7 @@ pub mod Reading
 pub mod Saying
 pub mod Truncated
 pub mod TextReading
+pub mod PartEvents
+pub mod PartMore
+pub mod SeamLaws
 pub mod UsualForms

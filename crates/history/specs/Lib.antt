@@ -6,6 +6,8 @@ pub mod UsualForms
 pub mod Faults
 pub mod Seen
 pub mod Denotes
+pub mod Noting
+pub mod Parts
 pub use Rattle.edn_reader.specs.Datum
 pub use Rattle.edn_reader.specs.View
 pub use Rattle.events.specs.Events

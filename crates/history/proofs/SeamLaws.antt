@@ -1,0 +1,126 @@
+-- One more part after those that are joined.
+use Rattle.std.proofs.Common.{◌≡◌, ◌≢◌, ℕ, ◌+◌, ◌<◌, ◌≤◌, ◌==◌, ◌⊎◌, inl, inr, Bool, true, false, cond, List, [], ◌∷◌, ◌++◌, map, length, Option, Some, None, All, refl, ap, sym, ◌∙◌, subst, zero-add, arith}
+use Rattle.std.specs.Option.{option_or}
+use Rattle.std.proofs.lemmas.Bool.{cases_eq, eqb-true}
+use Rattle.std.proofs.lemmas.List.{length-append}
+use Rattle.number_map.specs.Lookup.{value_of}
+use Rattle.model.specs.declared.Kind.{Kind}
+use Rattle.model.proofs.Lists.{In, in_from_contains, contains_from_in, all_at}
+use Rattle.edn_reader.specs.Datum.{Datum}
+use Rattle.events.specs.declared.event.Event.{Event}
+use Rattle.events.specs.declared.joined_rows.JoinedRows.{JoinedRows}
+use Rattle.events.specs.Events.{next_event}
+use Rattle.events.specs.Operations.{IsListed}
+use Rattle.events.specs.Rows.{IsRowsOf, IsJoinedOf, AreFirstEvents, shift_event}
+use Rattle.history.specs.declared.seen.Process.{Process}
+use Rattle.history.specs.declared.seen.Seen.{Seen}
+use Rattle.history.specs.declared.part.FirstMap.{FirstMap}
+use Rattle.history.specs.declared.part.Part.{Part}
+use Rattle.history.specs.declared.seams.Seams.{Seams}
+use Rattle.history.specs.Maps.{clients}
+use Rattle.history.specs.Faults.{last_map, IsFaultless, max_maps}
+use Rattle.history.specs.Denotes.{events_from}
+use Rattle.history.specs.Seen.{IsKept, IsKindOf, IsNoOther, IsSeen, IsSeenBy}
+use Rattle.history.specs.Noting.{TakesOver, IsOneKind}
+use Rattle.history.specs.Parts.{kept_after, IsAllowed, FitsAfter, IsPartOf, AreJoined}
+use Rattle.history.proofs.PartMore.{seen_same}
+use Rattle.history.proofs.PartEvents.{events_join, events_shift, numbers_within}
+
+-- ---- what is taken over from a part
+
+-- the value of a key is taken over, or the key is still to come
+abbrev pub IsTakenOver : {V : Type 0} → (ℕ → Option V) → (ℕ → Option V) → (ℕ → Option V) → List ℕ → ℕ → Type 0
+IsTakenOver old own now left k = (now k ≡ kept_after old own k) ⊎ ((now k ≡ old k) × In k left)
+
+pub taken_first : {V : Type 0} (old own : ℕ → Option V) (keys : List ℕ) (k : ℕ) → IsListed (own k) keys k → IsTakenOver old own old keys k
+taken_first {V} old own keys k h = elim h [
+  | inl none ↦ inl (sym (ap (λ (o : Option V). option_or o (old k)) none))
+  | inr c ↦ inr (refl, in_from_contains keys k c)
+]
+
+-- a value that is taken over twice is the same
+twice : {V : Type 0} (own old now : Option V) → (now ≡ option_or own old) ⊎ (now ≡ old) → option_or own now ≡ option_or own old
+twice None old now h = elim h [ inl q ↦ q | inr q ↦ q ]
+twice (Some v) old now h = refl
+
+pub taken_more : {V : Type 0} (old own now new : ℕ → Option V) (key : ℕ) (later : List ℕ) (k : ℕ) → TakesOver now own new key
+    → IsTakenOver old own now (key ∷ later) k → IsTakenOver old own new later k
+taken_more {V} old own now new key later k t h = elim (cases_eq k key) [
+  | inl e ↦ inl (subst (λ n. new n ≡ kept_after old own n) (sym e) (t.at_key ∙ twice (own key) (old key) (now key) (subst (λ n. (now n ≡ kept_after old own n) ⊎ (now n ≡ old n)) e kept)))
+  | inr ne ↦ elim h [
+    | inl q ↦ inl (t.others k ne ∙ q)
+    | inr s ↦ elim s.1 [
+      | inl e ↦ absurd (ne e)
+      | inr j ↦ inr (t.others k ne ∙ s.0, j)
+    ]
+  ]
+]
+  where
+    kept : (now k ≡ kept_after old own k) ⊎ (now k ≡ old k)
+    kept = elim h [ inl q ↦ inl q | inr s ↦ inr s.0 ]
+
+pub taken_all : {V : Type 0} (old own now : ℕ → Option V) (k : ℕ) → IsTakenOver old own now [] k → now k ≡ kept_after old own k
+taken_all old own now k h = elim h [ inl q ↦ q | inr s ↦ absurd s.1 ]
+
+-- ---- a part that fits
+
+-- the processes of which something is kept have a first map
+named : (ms : List FirstMap) (p : ℕ) → (next_event p (map (λ m. m.event) ms) ≡ None → ⊥) → In p (map (λ m. m.event.process) ms)
+named [] p h = h refl
+named (m ∷ ms) p h = go (m.event.process == p) refl h (named ms p)
+  where
+    go : (b : Bool) → (m.event.process == p) ≡ b → (cond b (Some m.event) (next_event p (map (λ x. x.event) ms)) ≡ None → ⊥)
+        → ((next_event p (map (λ x. x.event) ms) ≡ None → ⊥) → In p (map (λ x. x.event.process) ms)) → In p (map (λ x. x.event.process) (m ∷ ms))
+    go true q n f = inl (sym (eqb-true m.event.process p q))
+    go false q n f = inr (f n)
+
+pub processes_listed : (part : Part) (es : List Datum) (p : ℕ) → IsPartOf part es → IsListed (value_of part.seen.processes p) (map (λ m. m.event.process) part.firsts.items) p
+processes_listed part es p h = go (value_of part.seen.processes p) refl
+  where
+    go : (o : Option Process) → value_of part.seen.processes p ≡ o → IsListed o (map (λ m. m.event.process) part.firsts.items) p
+    go None q = inl refl
+    go (Some v) q = inr (contains_from_in (map (λ m. m.event.process) part.firsts.items) p
+      (named part.firsts.items p (λ none. let l = (h.processes p).1 (sym (h.firsts.each p) ∙ none) in cc (q, l))))
+
+pub fits : (part : Part) (es : List Datum) (processes : ℕ → Option Process) (kinds : ℕ → Option Kind) → IsPartOf part es
+    → All (IsAllowed processes) part.firsts.items → All (λ x. IsOneKind (kinds x) (value_of part.seen.kinds x)) part.objects.items → FitsAfter part processes kinds
+fits part es processes kinds h allowed one = record {
+  allowed = allowed;
+  of_kind = λ x kind q. elim (h.objects x) [
+    | inl none ↦ absurd (cc (q, none))
+    | inr c ↦ all_at (λ (y : ℕ). IsOneKind (kinds y) (value_of part.seen.kinds y)) part.objects.items one x (in_from_contains part.objects.items x c) kind q
+  ];
+}
+
+-- ---- joined
+
+pub joined_more : (old new : Seams) (part : Part) (firsts : List Event) (ds es : List Datum) → AreJoined old ds → IsPartOf part es
+    → All (IsAllowed (value_of old.seen.processes)) part.firsts.items
+    → All (λ x. IsOneKind (value_of old.seen.kinds x) (value_of part.seen.kinds x)) part.objects.items
+    → part.maps + old.joined.maps ≤ max_maps
+    → ((p : ℕ) → IsListed (value_of part.seen.processes p) (map (λ m. m.event.process) part.firsts.items) p
+    → value_of new.seen.processes p ≡ kept_after (value_of old.seen.processes) (value_of part.seen.processes) p)
+    → ((x : ℕ) → IsListed (value_of part.seen.kinds x) part.objects.items x
+    → value_of new.seen.kinds x ≡ kept_after (value_of old.seen.kinds) (value_of part.seen.kinds) x)
+    → firsts ≡ map (λ m. m.event) part.firsts.items
+    → ((n : ℕ) (xs fs : List Event) → IsJoinedOf old.joined n xs → IsRowsOf part.rows fs → AreFirstEvents firsts fs → All (λ e. e.number < part.maps) fs
+    → IsJoinedOf new.joined (n + part.maps) (xs ++ map (shift_event n) fs))
+    → AreJoined new (ds ++ es)
+joined_more old new part firsts ds es h p allowed one few processes kinds are join =
+    let counted : old.joined.maps ≡ length ds = h.joined.counted in
+    let own : part.maps ≡ length es = p.count in
+    let whole = p.continues ds (value_of old.seen.processes) (value_of old.seen.kinds) h.kept h.faultless
+    (fits part es (value_of old.seen.processes) (value_of old.seen.kinds) p allowed one) (omega (arith, few, counted, own)) in
+    let joined = join (length ds) (events_from 0 ds) (events_from 0 es) h.joined p.rows (subst (λ xs. AreFirstEvents xs (events_from 0 es)) (sym are) p.firsts)
+    (subst (λ n. All (λ (e : Event). e.number < n) (events_from 0 es)) (sym own) (numbers_within es)) in
+    let long : length (ds ++ es) ≡ length ds + part.maps = length-append ds es ∙ ap (λ n. length ds + n) (sym own) in
+    let events : events_from 0 (ds ++ es) ≡ events_from 0 ds ++ map (shift_event (length ds)) (events_from 0 es) =
+    events_join 0 ds es ∙ ap (λ xs. events_from 0 ds ++ xs) (ap (λ n. events_from n es) (zero-add (length ds)) ∙ events_shift (length ds) es) in
+    record {
+      kept = seen_same (kept_after (value_of old.seen.processes) (value_of part.seen.processes)) (value_of new.seen.processes)
+          (kept_after (value_of old.seen.kinds) (value_of part.seen.kinds)) (value_of new.seen.kinds) (ds ++ es) whole.1
+          (λ k. processes k (processes_listed part es k p)) (λ x. kinds x (p.objects x));
+      faultless = whole.0;
+      joined = subst (λ xs. IsJoinedOf new.joined (length (ds ++ es)) xs) (sym events)
+          (subst (λ n. IsJoinedOf new.joined n (events_from 0 ds ++ map (shift_event (length ds)) (events_from 0 es))) (sym long) joined);
+    }

@@ -1,0 +1,71 @@
+-- What a part of a history's text says by itself, and the parts that are joined so far.
+use Rattle.std.specs.Prelude.{◌≡◌, ℕ, ◌+◌, ◌≤◌, ◌↔◌, List, ◌++◌, length, map, Option, Some, None}
+use Rattle.std.specs.Prelude.{All}
+use Rattle.std.specs.Option.{option_or}
+use Rattle.number_map.specs.Lookup.{value_of}
+use Rattle.edn_reader.specs.Datum.{Datum}
+use Rattle.model.specs.declared.Kind.{Kind}
+use Rattle.events.specs.declared.event.Event.{Event}
+use Rattle.events.specs.Events.{next_event}
+use Rattle.events.specs.Operations.{IsListed}
+use Rattle.events.specs.Rows.{IsRowsOf, IsJoinedOf, AreFirstEvents}
+use Rattle.history.specs.declared.seen.Process.{Process}
+use Rattle.history.specs.declared.part.FirstMap.{FirstMap}
+use Rattle.history.specs.declared.part.Part.{Part}
+use Rattle.history.specs.declared.seams.Seams.{Seams}
+use Rattle.history.specs.Faults.{IsFaultless, max_maps}
+use Rattle.history.specs.Denotes.{events_from}
+use Rattle.history.specs.Seen.{IsProcessFault, IsNoOther, IsSeen, IsSeenBy}
+use Rattle.history.specs.Views.{map_type}
+
+-- ---- a part after earlier maps
+
+-- What is kept of each process, or object, after a part: what the part itself keeps of it, or else
+-- what was kept before the part.
+abbrev pub kept_after : {V : Type 0} → (ℕ → Option V) → (ℕ → Option V) → ℕ → Option V
+kept_after before own k = option_or (own k) (before k)
+
+-- the process of this map may do what the map says, where so much is kept of each process
+abbrev pub IsAllowed : (ℕ → Option Process) → FirstMap → Type 0
+IsAllowed processes m =
+    IsProcessFault (processes m.event.process) (map_type m.map_type) m.function m.event.object None
+
+-- A part fits after what is kept of earlier maps: each of its processes may do what its first map
+-- in the part says, and no object is of one kind before the part and of another in it.
+pub record FitsAfter (part : Part) (processes : ℕ → Option Process) (kinds : ℕ → Option Kind)
+    : Type 0 where
+  pub allowed : All (IsAllowed processes) part.firsts.items
+  pub of_kind : (x : ℕ) (kind : Kind) → value_of part.seen.kinds x ≡ Some kind
+      → IsNoOther (kinds x) kind
+
+-- After any forms without a fault after which the part fits, these forms have no fault either, if
+-- they are not too many; and what the part keeps says what is kept after them.
+abbrev pub ContinuesWhereItFits : Part → List Datum → Type 0
+ContinuesWhereItFits part ds =
+    (before : List Datum) (processes : ℕ → Option Process) (kinds : ℕ → Option Kind)
+    → IsSeenBy processes kinds before → IsFaultless before → FitsAfter part processes kinds
+    → length before + length ds ≤ max_maps
+    → IsFaultless (before ++ ds)
+    × IsSeenBy (kept_after processes (value_of part.seen.processes))
+    (kept_after kinds (value_of part.seen.kinds)) (before ++ ds)
+
+-- What a part keeps is what these forms say by themselves, whatever comes before them. The events
+-- are counted from the part's first form.
+pub record IsPartOf (part : Part) (ds : List Datum) : Type 0 where
+  pub count : part.maps ≡ length ds
+  pub firsts : AreFirstEvents (map (λ m. m.event) part.firsts.items) (events_from 0 ds)
+  -- something is kept of the processes that have an event, and of no other
+  pub processes : (p : ℕ) →
+      (value_of part.seen.processes p ≡ None) ↔ (next_event p (events_from 0 ds) ≡ None)
+  -- each object of which something is kept is listed
+  pub objects : (x : ℕ) → IsListed (value_of part.seen.kinds x) part.objects.items x
+  pub rows : IsRowsOf part.rows (events_from 0 ds)
+  pub continues : ContinuesWhereItFits part ds
+
+-- ---- parts that are joined
+
+-- What is kept of the parts so far is what these forms say, which have no fault.
+pub record AreJoined (seams : Seams) (ds : List Datum) : Type 0 where
+  pub kept : IsSeen seams.seen ds
+  pub faultless : IsFaultless ds
+  pub joined : IsJoinedOf seams.joined (length ds) (events_from 0 ds)

@@ -1,0 +1,185 @@
+//! A part of a history's text, read by itself.
+
+ghost use Rattle.std.specs.Prelude.{◌≡◌, ◌<◌, ◌++◌, ◌∷◌, [], IfSome, OnSome, List, Some};
+ghost use Rattle.number_map.specs.Lookup.{value_of};
+ghost use Rattle.edn_reader.specs.Datum.{Datum};
+ghost use Rattle.edn_reader.specs.Spells.{Spells};
+ghost use Rattle.history.specs.Noting.{NotesProcess, NotesObject};
+ghost use Rattle.history.specs.Parts.{IsPartOf};
+ghost use Rattle.history.specs.Views.{Says};
+
+use crate::attempts::Attempts;
+use crate::client_map::{ClientMap, MapType, OperationMap, action_of, said_on};
+use crate::map_faults::{is_of_other_kind, process_fault};
+use crate::seen::{MAX_MAPS, Process, Seen, process_after};
+use crate::usual_map::usual_map;
+use edn::Elements;
+use events::{Event, Rows};
+use number_map::NumberMap;
+use seq_objects::{Function, Kind};
+use std::alloc::Global;
+
+/// A map of a client without a fault of its own. Of each process a part keeps its first one.
+#[derive(Clone, Copy)]
+pub struct FirstMap {
+    pub(crate) map_type: MapType,
+    pub(crate) function: Function,
+    pub(crate) event: Event,
+}
+
+/// What a part of a history says by itself: what its maps leave of each process and of each object
+/// that they name, the first map of each process, a list of the objects, the number of the maps, and
+/// the operations. Whether the part may follow other maps depends on its first maps and its objects
+/// alone.
+#[derive(Drop)]
+pub struct Part {
+    pub(crate) seen: Seen,
+    pub(crate) firsts: Vec<FirstMap>,
+    pub(crate) objects: Vec<u32>,
+    pub(crate) maps: usize,
+    pub(crate) rows: Rows,
+}
+
+/// Takes in what one more map says of its process. The first map of a process is kept, and each
+/// other one is checked.
+#[inline(always)]
+fn note_process(
+    processes: &mut NumberMap<Process>,
+    firsts: &mut Vec<FirstMap>,
+    map: FirstMap,
+) -> Option<()>
+    ensures { OnSome result (NotesProcess (value_of processes.old) (value_of processes.new)
+        firsts.old.items firsts.new.items map) }
+{
+    let FirstMap {
+        map_type,
+        function,
+        event,
+    } = map;
+    match processes.get(event.process) {
+        None => firsts.push(map).ok()?,
+        kept => {
+            if process_fault(kept, map_type, function, event.object).is_some() {
+                return None;
+            }
+        }
+    }
+    let process = process_after(map_type, function, event.object);
+    processes.insert(event.process, process).ok()
+}
+
+/// Takes in that one more map has this function on this object. The object is listed with its kind
+/// at its first map, and checked at each other one.
+#[inline(always)]
+fn note_object(
+    kinds: &mut NumberMap<Kind>,
+    objects: &mut Vec<u32>,
+    object: u32,
+    function: Function,
+) -> Option<()>
+    ensures { OnSome result (NotesObject (value_of kinds.old) (value_of kinds.new)
+        objects.old.items objects.new.items object function) }
+{
+    let kept = kinds.get(object as u64);
+    if kept.is_some() {
+        if is_of_other_kind(kept, function) {
+            return None;
+        }
+        return Some(());
+    }
+    objects.push(object).ok()?;
+    kinds.insert(object as u64, function.kind()).ok()
+}
+
+impl Part {
+    ghost use Rattle.history.specs.declared.client_map.OperationMap.TheVariants.{OfClient};
+
+    /// A part without maps.
+    pub fn new(alloc: Global) -> Part
+        ensures { IsPartOf result [] }
+    {
+        Part {
+            seen: Seen::new(alloc),
+            firsts: Vec::new(alloc),
+            objects: Vec::new(alloc),
+            maps: 0,
+            rows: Rows::new(alloc),
+        }
+    }
+
+    /// Takes in one more map, of a client, unless it has a fault.
+    #[inline(always)]
+    fn take_client(&mut self, m: &ClientMap) -> Option<()>
+        requires { self.old.maps < 1000000 }
+        ensures { OnSome result ((ds : List Datum) (d : Datum) → Says (OfClient m.now) d
+            → IsPartOf self.old ds → IsPartOf self.new (ds ++ d ∷ [])) }
+    {
+        let function = m.function?;
+        let action = action_of(m, function)?;
+        let event = Event {
+            number: self.maps as u32,
+            process: m.process,
+            object: m.object,
+            action,
+        };
+        let map_type = m.map_type;
+        let map = FirstMap {
+            map_type,
+            function,
+            event,
+        };
+        note_process(&mut self.seen.processes, &mut self.firsts, map)?;
+        note_object(&mut self.seen.kinds, &mut self.objects, m.object, function)?;
+        self.rows.push(&event).ok()?;
+        self.maps += 1;
+        Some(())
+    }
+
+    /// Takes in one more map, unless it has a fault.
+    #[inline(always)]
+    fn take(&mut self, said: OperationMap) -> Option<()>
+        ensures { OnSome result ((ds : List Datum) (d : Datum) → Says said d
+            → IsPartOf self.old ds → IsPartOf self.new (ds ++ d ∷ [])) }
+    {
+        if self.maps >= MAX_MAPS {
+            return None;
+        }
+        match said {
+            OperationMap::OfClient(m) => self.take_client(&m),
+            OperationMap::Ignored => {
+                self.maps += 1;
+                Some(())
+            }
+            OperationMap::Neither => None,
+        }
+    }
+
+    /// Takes in the maps of these lines, in which each form is one operation map. None says that
+    /// the lines spell no forms, that a map of them has a fault after those of the part before it,
+    /// that they are too many, or that memory was refused; then nothing is known of the part.
+    pub fn read_lines(&mut self, alloc: Global, lines: &[u8]) -> Option<()>
+        ensures { OnSome result ((ds : List Datum) → IsPartOf self.old ds
+            → (es : List Datum) × Spells es lines.now × IsPartOf self.new (ds ++ es)) }
+    {
+        let Ok(mut elements) = Elements::truncated(alloc, lines) else {
+            return None;
+        };
+        let mut attempts = Attempts::new();
+        'elements: loop {
+            if attempts.is_due() {
+                if let Some((map, rest)) = usual_map(elements.rest().as_bytes()) {
+                    elements.pass(rest);
+                    self.take(OperationMap::OfClient(map))?;
+                    attempts.succeed();
+                    continue;
+                }
+                attempts.fail();
+            }
+            match elements.advance() {
+                Ok(true) => self.take(said_on(elements.pieces()))?,
+                Ok(false) => return Some(()),
+                Err(_) => return None,
+            }
+        }
+    }
+}
