@@ -1,5 +1,5 @@
 -- One more map of a part.
-use Rattle.std.proofs.Common.{◌≡◌, ◌≢◌, ℕ, ◌+◌, ◌<◌, ◌≤◌, ◌↔◌, inl, inr, true, false, List, [], ◌∷◌, ◌++◌, map, length, Option, Some, None, All, refl, ap, sym, ◌∙◌, subst, append_assoc, zero-add, arith}
+use Rattle.std.proofs.Common.{◌≡◌, ◌≢◌, ℕ, ◌+◌, ◌<◌, ◌≤◌, ◌↔◌, inl, inr, true, List, [], ◌∷◌, ◌++◌, map, length, Option, Some, None, All, refl, ap, sym, ◌∙◌, subst, append_assoc, zero-add, arith}
 use Rattle.std.specs.Prelude.{Result, Ok, Err, OnOk}
 use Rattle.std.specs.Option.{option_or}
 use Rattle.std.specs.Result.{result_ok}
@@ -15,17 +15,16 @@ use Rattle.seq_objects.specs.Functions.{kind_of_function}
 use Rattle.events.specs.declared.event.Action.{Action}
 use Rattle.events.specs.declared.event.Event.{Event}
 use Rattle.events.specs.Events.{next_event}
-use Rattle.events.specs.Operations.{IsListed}
 use Rattle.events.specs.Rows.{IsRowsOf, AreFirstEvents}
 use Rattle.history.specs.declared.client_map.ClientMap as code
 use Rattle.history.specs.declared.seen.Process.{Process}
 use Rattle.history.specs.declared.part.FirstMap.{FirstMap}
 use Rattle.history.specs.declared.part.Part.{Part}
 use Rattle.history.specs.declared.fault.HistoryFaultKind.TheVariants.{AfterInfo}
-use Rattle.history.specs.Maps.{ClientMap, MapType, client_of, is_ignored, clients}
+use Rattle.history.specs.Maps.{ClientMap, client_of, is_ignored, clients}
 use Rattle.history.specs.Faults.{last_map, IsFaultless, max_maps}
 use Rattle.history.specs.Denotes.{action_of, event_with, event_of, events_from}
-use Rattle.history.specs.Seen.{IsDoing, doing_after, IsKept, IsKindOf, IsNoOther, IsProcessFault, IsSeen, IsSeenBy}
+use Rattle.history.specs.Seen.{doing_after, IsKept, IsKindOf, IsNoOther, IsProcessFault, IsSeen, IsSeenBy}
 use Rattle.history.specs.Noting.{IsFirstOrAllowed, NotesProcess, NotesObject}
 use Rattle.history.specs.Parts.{kept_after, IsAllowed, FitsAfter, ContinuesWhereItFits, IsPartOf}
 use Rattle.history.specs.Views.{map_type, client_map}

@@ -1,26 +1,26 @@
 -- One more part after those that are joined.
-use Rattle.std.proofs.Common.{◌≡◌, ◌≢◌, ℕ, ◌+◌, ◌<◌, ◌≤◌, ◌==◌, ◌⊎◌, inl, inr, Bool, true, false, cond, List, [], ◌∷◌, ◌++◌, map, length, Option, Some, None, All, refl, ap, sym, ◌∙◌, subst, zero-add, arith}
-use Rattle.std.specs.Option.{option_or}
+use Rattle.std.proofs.Common.{◌≡◌, ℕ, ◌+◌, ◌<◌, ◌≤◌, ◌==◌, ◌⊎◌, inl, inr, Bool, true, false, cond, List, [], ◌∷◌, ◌++◌, map, length, take, drop, get_or, suc, drop-cons, Option, Some, None, All, refl, ap, sym, ◌∙◌, subst, zero-add, arith}
+use Rattle.std.specs.Option.{option_or, is_some}
 use Rattle.std.proofs.lemmas.Bool.{cases_eq, eqb-true}
-use Rattle.std.proofs.lemmas.List.{length-append}
+use Rattle.std.proofs.lemmas.List.{length-append, take_more, take_all}
+use Rattle.std.proofs.lemmas.List.Elements.{All-append}
 use Rattle.number_map.specs.Lookup.{value_of}
 use Rattle.model.specs.declared.Kind.{Kind}
-use Rattle.model.proofs.Lists.{In, in_from_contains, contains_from_in, all_at}
+use Rattle.model.proofs.Lists.{In, in_from_contains, contains_from_in, all_at, all_from_in}
 use Rattle.edn_reader.specs.Datum.{Datum}
 use Rattle.events.specs.declared.event.Event.{Event}
-use Rattle.events.specs.declared.joined_rows.JoinedRows.{JoinedRows}
 use Rattle.events.specs.Events.{next_event}
 use Rattle.events.specs.Operations.{IsListed}
 use Rattle.events.specs.Rows.{IsRowsOf, IsJoinedOf, AreFirstEvents, shift_event}
 use Rattle.history.specs.declared.seen.Process.{Process}
-use Rattle.history.specs.declared.seen.Seen.{Seen}
 use Rattle.history.specs.declared.part.FirstMap.{FirstMap}
 use Rattle.history.specs.declared.part.Part.{Part}
 use Rattle.history.specs.declared.seams.Seams.{Seams}
-use Rattle.history.specs.Maps.{clients}
-use Rattle.history.specs.Faults.{last_map, IsFaultless, max_maps}
+use Rattle.history.specs.declared.fault.HistoryFaultKind.{HistoryFaultKind}
+use Rattle.history.specs.Faults.{max_maps}
 use Rattle.history.specs.Denotes.{events_from}
-use Rattle.history.specs.Seen.{IsKept, IsKindOf, IsNoOther, IsSeen, IsSeenBy}
+use Rattle.history.specs.Seen.{IsProcessFault}
+use Rattle.history.specs.Views.{map_type}
 use Rattle.history.specs.Noting.{TakesOver, IsOneKind}
 use Rattle.history.specs.Parts.{kept_after, IsAllowed, FitsAfter, IsPartOf, AreJoined}
 use Rattle.history.proofs.PartMore.{seen_same}
@@ -80,7 +80,7 @@ processes_listed part es p h = go (value_of part.seen.processes p) refl
     go : (o : Option Process) → value_of part.seen.processes p ≡ o → IsListed o (map (λ m. m.event.process) part.firsts.items) p
     go None q = inl refl
     go (Some v) q = inr (contains_from_in (map (λ m. m.event.process) part.firsts.items) p
-      (named part.firsts.items p (λ none. let l = (h.processes p).1 (sym (h.firsts.each p) ∙ none) in cc (q, l))))
+        (named part.firsts.items p (λ none. let l = (h.processes p).1 (sym (h.firsts.each p) ∙ none) in cc (q, l))))
 
 pub fits : (part : Part) (es : List Datum) (processes : ℕ → Option Process) (kinds : ℕ → Option Kind) → IsPartOf part es
     → All (IsAllowed processes) part.firsts.items → All (λ x. IsOneKind (kinds x) (value_of part.seen.kinds x)) part.objects.items → FitsAfter part processes kinds
@@ -124,3 +124,25 @@ joined_more old new part firsts ds es h p allowed one few processes kinds are jo
       joined = subst (λ xs. IsJoinedOf new.joined (length (ds ++ es)) xs) (sym events)
           (subst (λ n. IsJoinedOf new.joined n (events_from 0 ds ++ map (shift_event (length ds)) (events_from 0 es))) (sym long) joined);
     }
+
+-- ---- along a list
+
+pub all_more : {X : Type 0} (P : X → Type 0) (xs : List X) (i : ℕ) (d : X) → i < length xs → All P (take i xs) → P (get_or xs i d) → All P (take (i + 1) xs)
+all_more P xs i d l h p = subst (All P) (sym (take_more xs i d l)) (All-append P (take i xs) (get_or xs i d ∷ []) h
+    (all_from_in P (get_or xs i d ∷ []) (λ x j. elim j [ inl e ↦ subst P (sym e) p | inr k ↦ absurd k ])))
+
+pub all_done : {X : Type 0} (P : X → Type 0) (xs : List X) (i : ℕ) → length xs ≤ i → All P (take i xs) → All P xs
+all_done P xs i l h = subst (All P) (take_all i xs l) h
+
+pub drop_more : {X : Type 0} (xs : List X) (i : ℕ) (d : X) → i < length xs → drop i xs ≡ get_or xs i d ∷ drop (i + 1) xs
+drop_more xs i d l = drop-cons xs i d l ∙ ap (λ n. get_or xs i d ∷ drop n xs) (let e : suc i ≡ i + 1 = omega arith in e)
+
+was_none : {X : Type 0} (o : Option X) → false ≡ is_some o → o ≡ None
+was_none None q = refl
+was_none (Some x) q = absurd (cc q)
+
+pub allowed_at : (processes : ℕ → Option Process) (m : FirstMap) (kept : Option Process) (found : Option HistoryFaultKind) → kept ≡ processes m.event.process
+    → false ≡ is_some found → IsProcessFault kept (map_type m.map_type) m.function m.event.object found → IsAllowed processes m
+allowed_at processes m kept found is none h =
+    subst (λ o. IsProcessFault o (map_type m.map_type) m.function m.event.object None) is
+    (subst (IsProcessFault kept (map_type m.map_type) m.function m.event.object) (was_none found none) h)

@@ -5,7 +5,6 @@ use Rattle.std.specs.Option.{option_or}
 use Rattle.number_map.specs.Lookup.{value_of}
 use Rattle.edn_reader.specs.Datum.{Datum}
 use Rattle.model.specs.declared.Kind.{Kind}
-use Rattle.events.specs.declared.event.Event.{Event}
 use Rattle.events.specs.Events.{next_event}
 use Rattle.events.specs.Operations.{IsListed}
 use Rattle.events.specs.Rows.{IsRowsOf, IsJoinedOf, AreFirstEvents}

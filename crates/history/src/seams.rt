@@ -56,11 +56,7 @@ fn are_of_one_kind(kinds: &NumberMap<Kind>, own: &NumberMap<Kind>, objects: &[u3
 
 /// Gives the key the value that another map has for it, if it has one.
 #[inline(always)]
-fn take_over<V: Copy + Drop>(
-    values: &mut NumberMap<V>,
-    own: &NumberMap<V>,
-    key: u64,
-) -> Option<()>
+fn take_over<V: Copy + Drop>(values: &mut NumberMap<V>, own: &NumberMap<V>, key: u64) -> Option<()>
     ensures { OnSome result (TakesOver (value_of values.old) (value_of own.now)
         (value_of values.new) key) }
 {
@@ -87,11 +83,7 @@ fn keep_processes(
 }
 
 /// Keeps the kind of each object of a part.
-fn keep_kinds(
-    kinds: &mut NumberMap<Kind>,
-    own: &NumberMap<Kind>,
-    objects: &[u32],
-) -> Option<()>
+fn keep_kinds(kinds: &mut NumberMap<Kind>, own: &NumberMap<Kind>, objects: &[u32]) -> Option<()>
     ensures { OnSome result ((x : ℕ) → IsListed (value_of own.now x) objects.now x
         → value_of kinds.new x ≡ kept_after (value_of kinds.old) (value_of own.now) x) }
 {
