@@ -6,3 +6,4 @@ pub mod Parts
 pub mod Gathering
 pub mod Splitting
 pub mod Owned
+pub mod Joining

@@ -1,7 +1,7 @@
 -- Operations whose end may come later: the rows of events, of parts of a history that are joined,
 -- and of a whole history.
-use Rattle.std.specs.Prelude.{◌≡◌, ◌≢◌, ◌<◌, ◌≤◌, ℕ, zero, suc, ◌+◌, ◌==◌, nat_lt, List, [], ◌∷◌}
-use Rattle.std.specs.Prelude.{◌++◌, Option, Some, None, All, AllPairs, length, map, option_map}
+use Rattle.std.specs.Prelude.{◌≡◌, ◌≢◌, ◌<◌, ℕ, zero, suc, ◌+◌, ◌==◌, nat_lt, List, [], ◌∷◌}
+use Rattle.std.specs.Prelude.{◌++◌, Option, Some, None, IfSome, All, AllPairs, length, map, option_map}
 use Rattle.std.specs.Prelude.{if◌then◌else◌}
 use Rattle.std.specs.Option.{option_or, option_and_then}
 use Rattle.number_map.specs.Lookup.{value_of}
@@ -138,7 +138,8 @@ pub record IsJoinedOf (j : JoinedRows) (maps : ℕ) (es : List Event) : Type 0 w
   pub rows : rows_of j.parts.items ≡ rows_in es
   pub opened : (p : ℕ) → option_and_then (λ at. place_in j.parts.items at.part at.row)
       (value_of j.outstanding p) ≡ open_at p es
-  pub bases : All (λ t. t.base ≤ maps) j.parts.items
+  pub known : (p : ℕ) → IfSome (value_of j.outstanding p)
+      (λ at. at.part < length j.parts.items)
 
 -- ---- a whole history
 
