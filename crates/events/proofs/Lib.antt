@@ -7,3 +7,4 @@ pub mod Gathering
 pub mod Splitting
 pub mod Owned
 pub mod Joining
+pub mod TableRows
