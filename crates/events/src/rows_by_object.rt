@@ -43,30 +43,30 @@ fn gather_part(
     alloc: Global,
     groups: &mut NumberMap<Vec<Invocation>>,
     objects: &mut Vec<u32>,
-    rows: &TablePart,
+    table_part: &TablePart,
     part: u32,
     parts: u32,
 ) -> Result<(), AllocError>
     requires part { part < parts }
     requires small { All (λ r. HasNumbersBelow (2 ^ 32) r.operation)
-        (map (shift_row rows.now.base) rows.now.rows.items) }
+        (map (shift_row table_part.now.base) table_part.now.rows.items) }
     ensures groups { OnOk result ((later : List Row) → ((x : ℕ) →
         IsGathered (option_map (λ v. v.items) (value_of groups.old x))
         (operations_of_part part parts x later))
         → (x : ℕ) → IsGathered (option_map (λ v. v.items) (value_of groups.new x))
         (operations_of_part part parts x
-        (map (shift_row rows.now.base) rows.now.rows.items ++ later))) }
+        (map (shift_row table_part.now.base) table_part.now.rows.items ++ later))) }
     ensures listed { OnOk result (((x : ℕ) → IsListed (value_of groups.old x) objects.old.items x)
         → (x : ℕ) → IsListed (value_of groups.new x) objects.new.items x) }
 {
-    let base = rows.base;
-    let rows = rows.rows.as_slice();
+    let rows = table_part.rows.as_slice();
     for k in (0..rows.len()).rev() {
         let row = &rows[k];
-        if row.object % parts == part {
-            let operation = shifted(&row.operation, base);
-            put(alloc, groups, objects, row.object, operation)?;
+        if row.object % parts != part {
+            continue;
         }
+        let operation = shifted(&row.operation, table_part.base);
+        put(alloc, groups, objects, row.object, operation)?;
     }
     Ok(())
 }
