@@ -64,17 +64,17 @@ operations_rows x (e ∷ es) = go e.action (operations_rows x es)
 
 -- ---- the row of an operation that is outstanding
 
-same_length : (n x : ℕ) (a : Action) (g h : End) → length (row_by n x a g) ≡ length (row_by n x a h)
+pub same_length : (n x : ℕ) (a : Action) (g h : End) → length (row_by n x a g) ≡ length (row_by n x a h)
 same_length n x (Invoke op) g h = refl
 same_length n x (Ok r) g h = refl
 same_length n x Fail g h = refl
 same_length n x Info g h = refl
 
-set_past : (rs ss : List Row) (k : ℕ) (how : End) → set_at (length rs + k) how (rs ++ ss) ≡ rs ++ set_at k how ss
+pub set_past : (rs ss : List Row) (k : ℕ) (how : End) → set_at (length rs + k) how (rs ++ ss) ≡ rs ++ set_at k how ss
 set_past [] ss k how = ap (λ n. set_at n how ss) (let e : 0 + k ≡ k = omega arith in e)
 set_past (r ∷ rs) ss k how = ap (λ n. set_at n how (r ∷ (rs ++ ss))) (let e : length (r ∷ rs) + k ≡ suc (length rs + k) = omega arith in e) ∙ ap (λ t. r ∷ t) (set_past rs ss k how)
 
-set_end_past : (rs ss : List Row) (o : Option ℕ) (how : End) → set_end (option_map (λ k. length rs + k) o) how (rs ++ ss) ≡ rs ++ set_end o how ss
+pub set_end_past : (rs ss : List Row) (o : Option ℕ) (how : End) → set_end (option_map (λ k. length rs + k) o) how (rs ++ ss) ≡ rs ++ set_end o how ss
 set_end_past rs ss None how = refl
 set_end_past rs ss (Some k) how = set_past rs ss k how
 
@@ -148,7 +148,7 @@ rows_closed b c p (e ∷ es) same = go (e.process == p) refl (next_event e.proce
 
 -- ---- all numbers counted from n maps earlier
 
-next_shift : (n p : ℕ) (es : List Event) → next_event p (map (shift_event n) es) ≡ option_map (shift_event n) (next_event p es)
+pub next_shift : (n p : ℕ) (es : List Event) → next_event p (map (shift_event n) es) ≡ option_map (shift_event n) (next_event p es)
 next_shift n p [] = refl
 next_shift n p (e ∷ es) = go (e.process == p) (next_shift n p es)
   where
@@ -243,7 +243,7 @@ open_push p es e = open_join p (λ q. Pending) es (e ∷ []) ∙ go (e.process =
 
 -- ---- the first event of each process
 
-next_other : (p : ℕ) (fs : List Event) (e : Event) → (e.process == p) ≡ false → next_event p (fs ++ e ∷ []) ≡ next_event p fs
+pub next_other : (p : ℕ) (fs : List Event) (e : Event) → (e.process == p) ≡ false → next_event p (fs ++ e ∷ []) ≡ next_event p fs
 next_other p fs e q =
     find-append (λ (x : Event). x.process == p) fs (e ∷ [])
     ∙ (ap (λ (t : Bool). option_or (next_event p fs) (cond t (Some e) None)) q ∙ same (next_event p fs))

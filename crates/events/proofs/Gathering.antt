@@ -74,7 +74,7 @@ abbrev pub nobody : Event
 nobody = record { number = 0; process = 0; object = 0; action = Invoke (Enqueue (pos 0)) }
 
 -- one place back
-pub drop_back : (es : List Event) (k : ℕ) (d : Event) → 0 < k → k ≤ length es → drop (k - 1) es ≡ get_or es (k - 1) d ∷ drop k es
+pub drop_back : {X : Type 0} (es : List X) (k : ℕ) (d : X) → 0 < k → k ≤ length es → drop (k - 1) es ≡ get_or es (k - 1) d ∷ drop k es
 drop_back es k d some fits =
     let l : k - 1 < length es = omega arith in
     let same : k - 1 + 1 ≡ k = omega arith in

@@ -6,3 +6,5 @@ pub mod Parts
 pub mod Gathering
 pub mod Splitting
 pub mod Owned
+pub mod Joining
+pub mod TableRows

@@ -88,7 +88,7 @@ same_event (d ∷ es) e f h i j q = elim i [
 -- ---- ends
 
 -- the next event of a process stands among the events
-next_stands : (p : ℕ) (es : List Event) (f : Event) → next_event p es ≡ Some f → In f es
+pub next_stands : (p : ℕ) (es : List Event) (f : Event) → next_event p es ≡ Some f → In f es
 next_stands p [] f q = absurd (cc q)
 next_stands p (e ∷ es) f q = go (e.process == p) q (next_stands p es f)
   where

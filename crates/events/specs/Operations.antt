@@ -1,19 +1,19 @@
 -- The operations of one object, with their ends, and the calls that they are.
 use Rattle.std.specs.Prelude.{unwrap_or, ◌≡◌, ◌≢◌, ℕ, ◌==◌, ◌<◌, ⊤, reverse, List, [], ◌∷◌, ◌++◌}
-use Rattle.std.specs.Prelude.{Option, Some, None, All, AllPairs, Contains, ◌%◌, ◌⊎◌, if◌then◌else◌}
+use Rattle.std.specs.Prelude.{Option, Some, None, All, AllPairs, Contains, ◌%◌, ◌⊎◌, ◌↔◌, map, if◌then◌else◌}
 use Rattle.std.specs.List.{filter_map}
 use Rattle.model.specs.declared.Kind.{Kind}
 use Rattle.model.specs.declared.AnyOp.{AnyOp}
 use Rattle.model.specs.declared.AnyReply.{AnyReply}
 use Rattle.model.specs.Objects.{kind_of}
-use Rattle.model.specs.Orders.{Call, Return}
+use Rattle.model.specs.Orders.{Call, Return, calls_on}
 use Rattle.events.specs.declared.event.Action.{Action}
 use Rattle.events.specs.declared.event.Action.TheVariants.{Invoke, Ok, Fail, Info}
 use Rattle.events.specs.declared.event.Event.{Event}
 use Rattle.events.specs.declared.operations.End.{End}
 use Rattle.events.specs.declared.operations.End.TheVariants.{Returned, Pending, Failed}
 use Rattle.events.specs.declared.operations.Invocation.{Invocation}
-use Rattle.events.specs.Events.{next_event}
+use Rattle.events.specs.Events.{next_event, IsNamed, kind_at, denoted}
 
 -- how an operation ends, by the next event of its process
 abbrev pub end_by : ℕ → Action → End
@@ -105,3 +105,12 @@ IsGathered (Some kept) ops = (kept ≡ reverse ops) × (ops ≢ [])
 -- an object of which something is kept is in the list
 abbrev pub IsListed : {V : Type 0} → Option V → List ℕ → ℕ → Type 0
 IsListed kept objects x = (kept ≡ None) ⊎ Contains objects x
+
+-- these are the histories of the named objects whose number leaves the remainder part by parts
+pub record AreObjects (part parts : ℕ) (es : List Event) (objects : List ObjectCalls) : Type 0 where
+  pub rising : AllPairs (λ a b. a.object < b.object) objects
+  pub named : (x : ℕ) → Contains (map (λ o. o.object) objects) x
+      ↔ (IsNamed es x × (x % parts ≡ part))
+  pub kinds : All (λ o. o.kind ≡ kind_at es o.object) objects
+  pub operations : All (λ o. o.ops ≡ operations_on o.object es) objects
+  pub calls : All (λ o. calls_of o.ops ≡ calls_on o.object (denoted es)) objects

@@ -1,8 +1,8 @@
 -- Operations whose end may come later: the rows of events, of parts of a history that are joined,
 -- and of a whole history.
-use Rattle.std.specs.Prelude.{◌≡◌, ◌≢◌, ◌<◌, ◌≤◌, ℕ, zero, suc, ◌+◌, ◌==◌, nat_lt, List, [], ◌∷◌}
-use Rattle.std.specs.Prelude.{◌++◌, Option, Some, None, All, AllPairs, length, map, option_map}
-use Rattle.std.specs.Prelude.{if◌then◌else◌}
+use Rattle.std.specs.Prelude.{◌≡◌, ◌≢◌, ◌<◌, ℕ, zero, suc, ◌+◌, ◌==◌, nat_lt, List, [], ◌∷◌}
+use Rattle.std.specs.Prelude.{◌++◌, Option, Some, None, IfSome, All, AllPairs, length, map, option_map}
+use Rattle.std.specs.Prelude.{⊤, ◌%◌, filter, if◌then◌else◌}
 use Rattle.std.specs.Option.{option_or, option_and_then}
 use Rattle.number_map.specs.Lookup.{value_of}
 use Rattle.events.specs.declared.event.Action.{Action}
@@ -10,6 +10,7 @@ use Rattle.events.specs.declared.event.Action.TheVariants.{Invoke, Ok, Fail, Inf
 use Rattle.events.specs.declared.event.Event.{Event}
 use Rattle.events.specs.declared.operations.End.{End}
 use Rattle.events.specs.declared.operations.End.TheVariants.{Returned, Pending, Failed}
+use Rattle.events.specs.declared.operations.Invocation.{Invocation}
 use Rattle.events.specs.declared.rows.Row.{Row}
 use Rattle.events.specs.declared.rows.Rows.{Rows}
 use Rattle.events.specs.declared.joined_rows.TablePart.{TablePart}
@@ -109,15 +110,11 @@ shift_end n (Returned at reply) = Returned (n + at) reply
 shift_end n Pending = Pending
 shift_end n Failed = Failed
 
+abbrev pub shift_operation : ℕ → Invocation → Invocation
+shift_operation n o = record { number = n + o.number; op = o.op; «end» = shift_end n o.«end» }
+
 abbrev pub shift_row : ℕ → Row → Row
-shift_row n r = record {
-  object = r.object;
-  operation = record {
-    number = n + r.operation.number;
-    op = r.operation.op;
-    «end» = shift_end n r.operation.«end»;
-  };
-}
+shift_row n r = record { object = r.object; operation = shift_operation n r.operation }
 
 -- the rows of all parts, with their numbers in the whole history
 abbrev pub rows_of : List TablePart → List Row
@@ -138,7 +135,8 @@ pub record IsJoinedOf (j : JoinedRows) (maps : ℕ) (es : List Event) : Type 0 w
   pub rows : rows_of j.parts.items ≡ rows_in es
   pub opened : (p : ℕ) → option_and_then (λ at. place_in j.parts.items at.part at.row)
       (value_of j.outstanding p) ≡ open_at p es
-  pub bases : All (λ t. t.base ≤ maps) j.parts.items
+  pub known : (p : ℕ) → IfSome (value_of j.outstanding p)
+      (λ at. at.part < length j.parts.items)
 
 -- ---- a whole history
 
@@ -146,3 +144,21 @@ pub record IsJoinedOf (j : JoinedRows) (maps : ℕ) (es : List Event) : Type 0 w
 pub record IsTableOf (rows : List Row) (es : List Event) : Type 0 where
   pub proper : IsProper es
   pub all : rows ≡ rows_in es
+
+-- the operations on one object, in the order of the rows
+abbrev pub operations_among : ℕ → List Row → List Invocation
+operations_among x rows = map (λ r. r.operation) (filter (λ r. r.object == x) rows)
+
+-- those of an object whose number leaves the remainder part by parts, and none of another
+abbrev pub operations_of_part : ℕ → ℕ → ℕ → List Row → List Invocation
+operations_of_part part parts x rows =
+    if x % parts == part then operations_among x rows else []
+
+abbrev pub EndsBelow : ℕ → End → Type 0
+EndsBelow n (Returned at reply) = at < n
+EndsBelow n Pending = ⊤
+EndsBelow n Failed = ⊤
+
+-- the numbers of an operation are below n
+abbrev pub HasNumbersBelow : ℕ → Invocation → Type 0
+HasNumbersBelow n o = (o.number < n) × EndsBelow n o.«end»

@@ -1,9 +1,9 @@
 //! The operations of a whole history, of all objects, in the order of their invocations.
 
-ghost use Rattle.std.specs.Prelude.{◌≡◌, ℕ, List};
+ghost use Rattle.std.specs.Prelude.{◌≡◌, ◌^◌, ℕ, List, All};
 ghost use Rattle.events.specs.declared.event.Event.{Event};
 ghost use Rattle.events.specs.Events.{IsProper};
-ghost use Rattle.events.specs.Rows.{IsJoinedOf, IsTableOf, rows_of};
+ghost use Rattle.events.specs.Rows.{IsJoinedOf, IsTableOf, HasNumbersBelow, rows_of};
 
 use crate::joined_rows::{JoinedRows, TablePart};
 use std::marker::Model;
@@ -43,7 +43,9 @@ impl Table {
 
     /// The parts, with the rows of each.
     pub fn parts(&self) -> &[TablePart]
-        ensures { rows_of result.now ≡ self.now }
+        ensures rows { rows_of result.now ≡ self.now }
+        ensures table { (es : List Event) × IsTableOf self.now es }
+        ensures small { All (λ r. HasNumbersBelow (2 ^ 32) r.operation) self.now }
     {
         self.parts.as_slice()
     }
