@@ -12,4 +12,5 @@ pub mod TextReading
 pub mod PartEvents
 pub mod PartMore
 pub mod SeamLaws
+pub mod PiecesJoined
 pub mod UsualForms

@@ -8,6 +8,7 @@ pub mod Seen
 pub mod Denotes
 pub mod Noting
 pub mod Parts
+pub mod Pieces
 pub use Rattle.edn_reader.specs.Datum
 pub use Rattle.edn_reader.specs.View
 pub use Rattle.events.specs.Events

@@ -3,6 +3,7 @@
 
 mod decision;
 mod laws;
+mod tables;
 mod texts;
 
 pub use decision::{

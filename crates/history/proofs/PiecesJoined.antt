@@ -1,0 +1,96 @@
+-- A text in pieces, and the parts that are read from them.
+use Rattle.std.proofs.Common.{◌≡◌, ℕ, zero, suc, ◌+◌, ◌<◌, List, [], ◌∷◌, ◌++◌, length, map, take, drop, get_or, drop-cons, Option, Some, None, IfSome, refl, ap, sym, ◌∙◌, subst, append_assoc, arith}
+use Rattle.std.proofs.lemmas.List.{append-nil, take-append-drop}
+use Rattle.edn_reader.specs.Datum.{Datum}
+use Rattle.edn_reader.specs.Spells.{Spells}
+use Rattle.edn_reader.proofs.Joined.{joined_spell, nothing_spelled}
+use Rattle.edn_reader.proofs.Progress.{one_reading_of}
+use Rattle.events.specs.declared.rows.Row.{Row}
+use Rattle.events.specs.Rows.{IsTableOf}
+use Rattle.history.specs.declared.part.Part.{Part}
+use Rattle.history.specs.declared.seams.Seams.{Seams}
+use Rattle.history.specs.Denotes.{events_from}
+use Rattle.history.specs.Parts.{IsPartOf, AreJoined}
+use Rattle.history.specs.Pieces.{HasRows, joined_by_feeds, IsReadFrom, AreReadFrom}
+
+-- ---- pieces
+
+joined_cons : (a : List ℕ) (ps : List (List ℕ)) (b : List ℕ) (qs : List (List ℕ)) → joined_by_feeds (a ∷ (ps ++ b ∷ qs)) ≡ a ++ 10 ∷ joined_by_feeds (ps ++ b ∷ qs)
+joined_cons a [] b qs = refl
+joined_cons a (p ∷ ps) b qs = refl
+
+-- a piece falls into two at a line feed
+joined_cut : (ps : List (List ℕ)) (a b : List ℕ) → joined_by_feeds (ps ++ a ∷ b ∷ []) ≡ joined_by_feeds (ps ++ (a ++ 10 ∷ b) ∷ [])
+joined_cut [] a b = refl
+joined_cut (p ∷ ps) a b = joined_cons p ps a (b ∷ []) ∙ (ap (λ t. p ++ 10 ∷ t) (joined_cut ps a b) ∙ sym (joined_cons p ps (a ++ 10 ∷ b) []))
+
+cut_at : (text : List ℕ) (k : ℕ) → k < length text → get_or text k 0 ≡ 10 → take k text ++ 10 ∷ drop (k + 1) text ≡ text
+cut_at text k l q =
+    ap (λ t. take k text ++ t) (ap (λ c. c ∷ drop (k + 1) text) (sym q) ∙ (ap (λ n. get_or text k 0 ∷ drop n text) (let e : k + 1 ≡ suc k = omega arith in e) ∙ sym (drop-cons text k 0 l)))
+    ∙ take-append-drop k text
+
+-- one more piece is cut off
+pub piece_more : (ps : List (List ℕ)) (rest : List ℕ) (k : ℕ) (text : List ℕ) → k < length rest → get_or rest k 0 ≡ 10 → joined_by_feeds (ps ++ rest ∷ []) ≡ text
+    → joined_by_feeds ((ps ++ take k rest ∷ []) ++ drop (k + 1) rest ∷ []) ≡ text
+piece_more ps rest k text l q h =
+    ap joined_by_feeds (append_assoc ps (take k rest ∷ []) (drop (k + 1) rest ∷ []))
+    ∙ (joined_cut ps (take k rest) (drop (k + 1) rest) ∙ (ap (λ r. joined_by_feeds (ps ++ r ∷ [])) (cut_at rest k l q) ∙ h))
+
+-- ---- parts
+
+-- each piece was read, by its place
+pub read_each : (ps : List (List ℕ)) (rs : List (Option Part)) → length rs ≡ length ps
+    → ((i : ℕ) (d : Option Part) → i < length rs → IfSome (get_or rs i d) (IsReadFrom (get_or ps i []))) → AreReadFrom ps rs
+read_each [] [] l h = tt
+read_each [] (r ∷ rs) l h = absurd (omega (arith, l))
+read_each (p ∷ ps) [] l h = absurd (omega (arith, l))
+read_each (p ∷ ps) (r ∷ rs) l h = (h zero r (omega arith), read_each ps rs (omega (arith, l)) (λ i d m. h (suc i) d (omega (arith, m))))
+
+-- The forms so far, which are joined; and what the pieces left spell, the text spells after them.
+pub record IsJoinedTo (text : List ℕ) (seams : Seams) (rest : List (Option Part)) : Type 0 where
+  pub pieces : List (List ℕ)
+  pub forms : List Datum
+  pub are : AreReadFrom pieces rest
+  pub joined : AreJoined seams forms
+  pub spelled : (es : List Datum) → Spells es (joined_by_feeds pieces) → Spells (forms ++ es) text
+
+pub nothing_joined : (pieces : List (List ℕ)) (seams : Seams) (parts : List (Option Part)) → AreReadFrom pieces parts → AreJoined seams [] → IsJoinedTo (joined_by_feeds pieces) seams parts
+nothing_joined pieces seams parts are joined = record { pieces = pieces; forms = []; are = are; joined = joined; spelled = λ es k. k }
+
+piece_first : (ds es : List Datum) (p : List ℕ) (ps : List (List ℕ)) → Spells ds p → Spells es (joined_by_feeds ps) → Spells (ds ++ es) (joined_by_feeds (p ∷ ps))
+piece_first ds es p [] h k = subst (λ xs. Spells (ds ++ xs) p) (one_reading_of [] es [] nothing_spelled k) (subst (λ xs. Spells xs p) (sym (append-nil ds)) h)
+piece_first ds es p (q ∷ qs) h k = joined_spell ds es p (joined_by_feeds (q ∷ qs)) h k
+
+pub join_more : (text : List ℕ) (old new : Seams) (part : Part) (rest later : List (Option Part)) → IsJoinedTo text old rest → rest ≡ Some part ∷ later
+    → ((ds es : List Datum) → AreJoined old ds → IsPartOf part es → AreJoined new (ds ++ es)) → IsJoinedTo text new later
+join_more text old new part rest later h is add = go h.pieces (subst (AreReadFrom h.pieces) is h.are) h.spelled
+  where
+    go : (ps : List (List ℕ)) → AreReadFrom ps (Some part ∷ later) → ((es : List Datum) → Spells es (joined_by_feeds ps) → Spells (h.forms ++ es) text) → IsJoinedTo text new later
+    go [] a k = absurd a
+    go (p ∷ ps) a k =
+        let read = a.0 in
+        record {
+          pieces = ps;
+          forms = h.forms ++ read.0;
+          are = a.1;
+          joined = add h.forms read.0 h.joined read.2;
+          spelled = λ es l. subst (λ xs. Spells xs text) (sym (append_assoc h.forms read.0 es)) (k (read.0 ++ es) (piece_first read.0 es p ps read.1 l));
+        }
+
+pub all_joined : (text : List ℕ) (seams : Seams) (rest : List (Option Part)) → rest ≡ [] → IsJoinedTo text seams rest → (ds : List Datum) × AreJoined seams ds × Spells ds text
+all_joined text seams rest is h = go h.pieces (subst (AreReadFrom h.pieces) is h.are) h.spelled
+  where
+    go : (ps : List (List ℕ)) → AreReadFrom ps [] → ((es : List Datum) → Spells es (joined_by_feeds ps) → Spells (h.forms ++ es) text)
+        → (ds : List Datum) × AreJoined seams ds × Spells ds text
+    go [] a k = (h.forms, h.joined, subst (λ xs. Spells xs text) (append-nil h.forms) (k [] nothing_spelled))
+    go (p ∷ ps) a k = absurd a
+
+pub has_rows : (text : List ℕ) (seams : Seams) (rows : List Row) → ((ds : List Datum) → AreJoined seams ds → IsTableOf rows (events_from 0 ds))
+    → (ds : List Datum) × AreJoined seams ds × Spells ds text → HasRows text rows
+has_rows text seams rows table (ds, joined, spelled) = record {
+  forms = ds;
+  client_events = events_from 0 ds;
+  spelled = spelled;
+  denoted = record { faultless = joined.faultless; events = refl };
+  table = table ds joined;
+}

@@ -1,0 +1,11 @@
+use Rattle.std.proofs.Common.{rules, ◌≡◌, ◌<◌, ℕ, List, length, map, get_or, IfSome, ◌+◌, ◌-◌, ◌*◌, ◌≤◌, ◌/◌, ◌%◌, Bool, true, false, nat_eq, nat_lt, [], ◌∷◌, ◌++◌, slice_set, bit_and, bit_or, Fits, w8, w32, w64, Bor, MutBor}
+use Rattle.history.specs.Pieces.{joined_by_feeds, IsReadFrom, AreReadFrom, HasRows}
+use Rattle.history.proofs.pieces.join_parts.Goals as goal
+
+-- src/pieces.rt:75:5
+pub loop-part-preserved : goal.loop-part-preserved
+loop-part-preserved c = ?
+
+-- src/pieces.rt:69:1
+pub returns : goal.returns
+returns c = ?

@@ -1,0 +1,79 @@
+//! A history's text in pieces, of which each can be read by a worker of its own.
+
+ghost use Rattle.std.specs.Prelude.{◌≡◌, ◌<◌, ℕ, List, length, map, get_or, IfSome};
+ghost use Rattle.history.specs.Pieces.{joined_by_feeds, IsReadFrom, AreReadFrom, HasRows};
+
+use crate::part::Part;
+use crate::seams::Seams;
+use events::Table;
+use std::alloc::Global;
+
+/// How far a text is read at first, to see whether its lines can be read by themselves.
+const TRIAL_LENGTH: usize = 65_536;
+
+/// The place of the first line feed from this place on.
+fn feed_from(text: &[u8], from: usize) -> Option<usize>
+    ensures { IfSome result (λ k. (k < length text.now) × (get_or text.now k 0 ≡ 10)) }
+{
+    let mut place = from;
+    while place < text.len() {
+        if text[place] == b'\n' {
+            return Some(place);
+        }
+        place += 1;
+    }
+    None
+}
+
+/// Reads a piece of a history's text by itself.
+pub fn part_of(alloc: Global, piece: &[u8]) -> Option<Part>
+    ensures { IfSome result (IsReadFrom piece.now) }
+{
+    let mut part = Part::new(alloc);
+    part.read_lines(alloc, piece)?;
+    Some(part)
+}
+
+/// Whether the text's first lines can be read by themselves. Maps that are printed on several lines
+/// cannot. No answer depends on it, only time does.
+fn begins_in_lines(alloc: Global, text: &[u8]) -> bool {
+    match feed_from(text, TRIAL_LENGTH) {
+        Some(feed) => part_of(alloc, &text[..feed]).is_some(),
+        None => false,
+    }
+}
+
+/// The text in this many pieces of nearly one length, with a line feed between each two. None says
+/// that its first lines cannot be read by themselves, that its lines are too few or too long, or
+/// that memory was refused.
+pub fn pieces_of(alloc: Global, text: &[u8], count: usize) -> Option<Vec<&[u8]>>
+    ensures { IfSome result (λ v. joined_by_feeds (map (λ p. p.now) v.items) ≡ text.entry.now) }
+{
+    if !begins_in_lines(alloc, text) {
+        return None;
+    }
+    let mut pieces = Vec::new(alloc);
+    let mut rest = text;
+    for more in (1..count).rev() {
+        let feed = feed_from(rest, rest.len() / (more + 1))?;
+        pieces.push(&rest[..feed]).ok()?;
+        rest = &rest[feed + 1..];
+    }
+    pieces.push(rest).ok()?;
+    Some(pieces)
+}
+
+/// The table of the text whose pieces were read into these parts. None says that a piece was not
+/// read, that a map has a fault after those of the pieces before, that the maps are too many, or
+/// that memory was refused.
+pub fn join_parts(alloc: Global, parts: Vec<Option<Part>>) -> Option<Table>
+    requires { (pieces : List (List ℕ)) × AreReadFrom pieces parts.items }
+    ensures { IfSome result (λ t. (pieces : List (List ℕ)) → AreReadFrom pieces parts.items →
+        HasRows (joined_by_feeds pieces) t) }
+{
+    let mut seams = Seams::new(alloc);
+    for part in parts {
+        seams = seams.add(alloc, part?)?;
+    }
+    Some(seams.into_table())
+}
