@@ -9,7 +9,7 @@ use Rattle.events.specs.declared.event.Action.{Action}
 use Rattle.events.specs.declared.event.Action.TheVariants.{Invoke, Ok, Fail, Info}
 use Rattle.events.specs.declared.event.Event.{Event}
 use Rattle.events.specs.declared.operations.End.{End}
-use Rattle.events.specs.declared.operations.End.TheVariants.{Returned, Pending, Failed}
+use Rattle.events.specs.declared.operations.End.TheVariants.{Pending}
 use Rattle.events.specs.declared.operations.Invocation.{Invocation}
 use Rattle.events.specs.declared.rows.Row.{Row}
 use Rattle.events.specs.declared.rows.Rows.{Rows}

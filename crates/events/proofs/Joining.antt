@@ -11,7 +11,7 @@ use Rattle.events.specs.declared.event.Action.{Action}
 use Rattle.events.specs.declared.event.Action.TheVariants.{Invoke, Ok, Fail, Info}
 use Rattle.events.specs.declared.event.Event.{Event}
 use Rattle.events.specs.declared.operations.End.{End}
-use Rattle.events.specs.declared.operations.End.TheVariants.{Returned, Pending, Failed}
+use Rattle.events.specs.declared.operations.End.TheVariants.{Returned, Pending}
 use Rattle.events.specs.declared.rows.Row.{Row}
 use Rattle.events.specs.declared.rows.Rows.{Rows}
 use Rattle.events.specs.declared.joined_rows.TablePart.{TablePart}
@@ -19,7 +19,7 @@ use Rattle.events.specs.declared.joined_rows.RowPlace.{RowPlace}
 use Rattle.events.specs.declared.joined_rows.JoinedRows.{JoinedRows}
 use Rattle.events.specs.Events.{next_event}
 use Rattle.events.specs.Operations.{end_by}
-use Rattle.events.specs.Rows.{end_or, row_by, rows_before, rows_in, place_begun, open_here, open_at, with_end, set_at, set_end, shift_event, shift_end, shift_row, rows_of, place_in, AreFirstEvents, IsRowsOf, IsJoinedOf}
+use Rattle.events.specs.Rows.{end_or, row_by, rows_before, rows_in, place_begun, open_here, open_at, set_at, set_end, shift_event, shift_end, shift_row, rows_of, place_in, AreFirstEvents, IsRowsOf, IsJoinedOf}
 use Rattle.events.proofs.EventRows.{rows_join, rows_closed, rows_shift, open_then, open_join, set_at_past, set_end_past, same_length, next_shift, next_other, seam_step}
 
 -- ---- an end in a part

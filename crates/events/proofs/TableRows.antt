@@ -15,7 +15,7 @@ use Rattle.events.specs.declared.operations.Invocation.{Invocation}
 use Rattle.events.specs.declared.rows.Row.{Row}
 use Rattle.events.specs.declared.joined_rows.TablePart.{TablePart}
 use Rattle.events.specs.Events.{next_event}
-use Rattle.events.specs.Operations.{end_by, operations_on, operations_in, IsGathered}
+use Rattle.events.specs.Operations.{end_by, operations_in, IsGathered}
 use Rattle.events.specs.Rows.{end_or, row_by, rows_in, shift_operation, shift_row, rows_of, operations_among, operations_of_part, EndsBelow, HasNumbersBelow}
 use Rattle.events.proofs.EventRows.{operations_rows}
 use Rattle.events.proofs.Parts.{next_stands}

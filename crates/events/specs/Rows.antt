@@ -14,7 +14,6 @@ use Rattle.events.specs.declared.operations.Invocation.{Invocation}
 use Rattle.events.specs.declared.rows.Row.{Row}
 use Rattle.events.specs.declared.rows.Rows.{Rows}
 use Rattle.events.specs.declared.joined_rows.TablePart.{TablePart}
-use Rattle.events.specs.declared.joined_rows.RowPlace.{RowPlace}
 use Rattle.events.specs.declared.joined_rows.JoinedRows.{JoinedRows}
 use Rattle.events.specs.Events.{next_event, IsProper}
 use Rattle.events.specs.Operations.{end_by}

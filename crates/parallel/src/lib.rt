@@ -6,4 +6,4 @@ mod gathering;
 mod share;
 mod workers;
 
-pub use workers::check_parallel;
+pub use workers::{check_parallel, check_table};

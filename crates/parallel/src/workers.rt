@@ -1,20 +1,65 @@
 //! Workers that share the objects of a history.
 
-ghost use Rattle.std.specs.Prelude.{◌≡◌, ◌<◌, OnOk, IfErr, AllPairs, ◌+◌};
+ghost use Rattle.std.specs.Prelude.{◌≡◌, ◌<◌, List, OnOk, IfErr, AllPairs, ◌+◌};
+ghost use Rattle.events.specs.declared.event.Event.{Event};
+ghost use Rattle.events.specs.Rows.{IsTableOf};
 ghost use Rattle.certificate.specs.Denotes.{AreDistinct};
 ghost use Rattle.checker.specs.Refusals.{AreValid, IsCheckAnswer, IsFirstRefusal};
 ghost use Rattle.checker.specs.Checking.{AreAllPlaces};
+ghost use Rattle.parallel.specs.Parts.{AreAll};
 ghost use Rattle.parallel.specs.Shares.{IsShare};
 ghost use Rattle.parallel.specs.Shares.{max_workers};
 
-use crate::gathering::split_by_workers;
+use crate::gathering::{split_by_workers, split_table_by_workers};
 use crate::share::{RefusedPiece, check_share, least};
 use certificate::Certificate;
 use checker::{Refusal, places, strange_object};
-use events::History;
+use events::{History, ObjectHistory, Table};
 use seq_objects::Gate;
 use std::alloc::Global;
 use std::thread::{Threads, map_indices};
+
+/// Checks the certificates of these objects, which are all that a history names, by workers.
+fn check_objects<R: Threads + Sync, G: Gate>(
+    rt: &R,
+    alloc: Global,
+    objects: &[ObjectHistory],
+    certificates: &[Certificate],
+    workers: u32,
+    gate: &G,
+) -> Result<(), Refusal>
+    requires distinct { AreDistinct certificates.now }
+    requires some { 0 < workers }
+    requires few { workers < 1 + max_workers }
+    requires rising { AllPairs (λ a b. a.object < b.object) objects.now }
+    ensures { (es : List Event) → AreAll es objects.now → IsCheckAnswer es certificates.now result }
+{
+    let Ok(places) = places(alloc, certificates) else {
+        return Err(Refusal::NoMemory);
+    };
+    let count = objects.len().clamp(1, workers as usize);
+    let found = map_indices(
+        rt,
+        alloc,
+        count,
+        &|worker: usize| -> Result<(), RefusedPiece>
+            requires { (worker < count) × (count < 1 + max_workers)
+                × AllPairs (λ a b. a.object < b.object) objects.now
+                × AreAllPlaces places certificates.now }
+            ensures { IsShare worker count objects.entry.now certificates.entry.now result }
+        { check_share(alloc, objects, &places, certificates, worker, count, gate) },
+    );
+    let Ok(found) = found else {
+        return Err(Refusal::NoMemory);
+    };
+    if let Some(first) = least(&found) {
+        return Err(first.refusal);
+    }
+    match strange_object(objects, places, certificates) {
+        Some(object) => Err(Refusal::StrangeObject { object }),
+        None => Ok(()),
+    }
+}
 
 /// Checks the certificates of a history's objects by this many workers. The answer is that of
 /// `check_all`: `Ok` exactly where each named object has a valid order and no other object has a
@@ -48,30 +93,27 @@ pub fn check_parallel<R: Threads + Sync, G: Gate>(
     let Ok(objects) = split_by_workers(rt, alloc, history, workers) else {
         return Err(Refusal::NoMemory);
     };
-    let Ok(places) = places(alloc, certificates) else {
+    check_objects(rt, alloc, &objects, certificates, workers, gate)
+}
+
+/// As `check_parallel`, from the table of a history.
+pub fn check_table<R: Threads + Sync, G: Gate>(
+    rt: &R,
+    alloc: Global,
+    table: &Table,
+    certificates: &[Certificate],
+    workers: u32,
+    gate: &G,
+) -> Result<(), Refusal>
+    // no object has two certificates
+    requires distinct { AreDistinct certificates.now }
+    requires some { 0 < workers }
+    requires few { workers < 1 + max_workers }
+    ensures { (es : List Event) → IsTableOf table.now es
+        → IsCheckAnswer es certificates.now result }
+{
+    let Ok(objects) = split_table_by_workers(rt, alloc, table, workers) else {
         return Err(Refusal::NoMemory);
     };
-    let count = objects.len().clamp(1, workers as usize);
-    let pieces = objects.as_slice();
-    let found = map_indices(
-        rt,
-        alloc,
-        count,
-        &|worker: usize| -> Result<(), RefusedPiece>
-            requires { (worker < count) × (count < 1 + max_workers)
-                × AllPairs (λ a b. a.object < b.object) pieces.now
-                × AreAllPlaces places certificates.now }
-            ensures { IsShare worker count pieces.entry.now certificates.entry.now result }
-        { check_share(alloc, pieces, &places, certificates, worker, count, gate) },
-    );
-    let Ok(found) = found else {
-        return Err(Refusal::NoMemory);
-    };
-    if let Some(first) = least(&found) {
-        return Err(first.refusal);
-    }
-    match strange_object(pieces, places, certificates) {
-        Some(object) => Err(Refusal::StrangeObject { object }),
-        None => Ok(()),
-    }
+    check_objects(rt, alloc, &objects, certificates, workers, gate)
 }

@@ -1,5 +1,5 @@
 -- The invocations as they are counted. No public clause speaks of it.
-use Rattle.std.specs.Prelude.{◌≡◌, ℕ, Bool, true, List, [], ◌∷◌, ◌++◌, map, filter, length, Option}
+use Rattle.std.specs.Prelude.{◌≡◌, ℕ, Bool, true, false, List, [], ◌∷◌, ◌++◌, map, filter, length, Option}
 use Rattle.std.specs.Prelude.{Some, None, nat_eq, not, ◌&&◌}
 use Rattle.std.specs.List.{list_any}
 use Rattle.model.specs.declared.Kind.{Kind}
@@ -7,6 +7,9 @@ use Rattle.model.specs.Objects.{kind_of}
 use Rattle.events.specs.declared.event.Action.{Action}
 use Rattle.events.specs.declared.event.Action.TheVariants.{Invoke, Ok, Fail, Info}
 use Rattle.events.specs.declared.event.Event.{Event}
+use Rattle.events.specs.declared.operations.End.{End}
+use Rattle.events.specs.declared.operations.End.TheVariants.{Returned, Pending, Failed}
+use Rattle.events.specs.declared.rows.Row.{Row}
 use Rattle.events.specs.Events.{next_event, fails}
 use Rattle.verdicts.specs.declared.counting.Invoked.{Invoked}
 use Rattle.verdicts.specs.declared.verdict.KindCount.{KindCount}
@@ -23,6 +26,19 @@ abbrev pub invocations : List Event → List Invoked
 invocations [] = []
 invocations (e ∷ later) =
     invocation_by e.object e.action (fails (next_event e.process later)) ++ invocations later
+
+abbrev pub has_failed : End → Bool
+has_failed (Returned at reply) = false
+has_failed Pending = false
+has_failed Failed = true
+
+-- the invocation of a row
+abbrev pub invoked_of : Row → Invoked
+invoked_of r = record {
+  object = r.object;
+  kind = kind_of r.operation.op;
+  failed = has_failed r.operation.«end»;
+}
 
 -- of this kind, or of any
 abbrev pub is_of : Option Kind → Invoked → Bool

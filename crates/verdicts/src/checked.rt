@@ -1,12 +1,36 @@
 //! From the check of certificates to a verdict.
 
+ghost use Rattle.std.specs.Prelude.{List, IfOk, Ok, Err};
+ghost use Rattle.events.specs.declared.event.Event.{Event};
+ghost use Rattle.verdicts.specs.Counts.{AreCountsOf};
 ghost use Rattle.verdicts.specs.Verdicts.{IsVerdictOnCheck};
 
 use crate::counting::summary;
-use crate::verdict::Verdict;
+use crate::verdict::{Summary, Verdict};
 use checker::Refusal;
 use events::History;
 use std::alloc::{AllocError, Global};
+
+/// Yes with these counts.
+fn accepted(counts: Result<Summary, AllocError>) -> Verdict
+    ensures { (es : List Event) → IfOk counts (λ s. AreCountsOf es s)
+        → IsVerdictOnCheck es (Ok tt) result }
+{
+    match counts {
+        Ok(counts) => Verdict::Yes(counts),
+        Err(AllocError) => Verdict::NoMemory,
+    }
+}
+
+/// No with this refusal.
+fn refused(refusal: Refusal) -> Verdict
+    ensures { (es : List Event) → IsVerdictOnCheck es (Err refusal) result }
+{
+    match refusal {
+        Refusal::NoMemory => Verdict::NoMemory,
+        _ => Verdict::No(refusal),
+    }
+}
 
 /// The verdict where the certificates of a history were checked with this result: yes with the
 /// counts of the history, or no with the refusal. Where memory was refused, in the check or here,
@@ -15,11 +39,21 @@ pub fn verdict_on_check(alloc: Global, history: &History, checked: Result<(), Re
     ensures { IsVerdictOnCheck history.now checked result }
 {
     match checked {
-        Ok(()) => match summary(alloc, history) {
-            Ok(counts) => Verdict::Yes(counts),
-            Err(AllocError) => Verdict::NoMemory,
-        },
-        Err(Refusal::NoMemory) => Verdict::NoMemory,
-        Err(refusal) => Verdict::No(refusal),
+        Ok(()) => accepted(summary(alloc, history)),
+        Err(refusal) => refused(refusal),
+    }
+}
+
+/// As `verdict_on_check`, where the history's counts were made before.
+pub fn verdict_on_counts(
+    counts: Result<Summary, AllocError>,
+    checked: Result<(), Refusal>,
+) -> Verdict
+    ensures { (es : List Event) → IfOk counts (λ s. AreCountsOf es s)
+        → IsVerdictOnCheck es checked result }
+{
+    match checked {
+        Ok(()) => accepted(counts),
+        Err(refusal) => refused(refusal),
     }
 }

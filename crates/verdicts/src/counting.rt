@@ -1,21 +1,24 @@
 //! What a history has, in all and of each kind.
 
-ghost use Rattle.std.specs.Prelude.{◌≡◌, ◌≢◌, ◌==◌, ◌+◌, ◌++◌, ◌↔◌, ℕ, AllPairs, Contains};
+ghost use Rattle.std.specs.Prelude.{◌≡◌, ◌≢◌, ◌==◌, ◌+◌, ◌++◌, ◌↔◌, ℕ, AllPairs, Contains, None};
 ghost use Rattle.std.specs.Prelude.{if◌then◌else◌, true, false, IfOk, OnOk, length, map, reverse};
 ghost use Rattle.std.specs.Prelude.{List, [], ◌∷◌, ◌≤◌, is_some, unwrap_or};
 ghost use Rattle.std.specs.List.{list_any};
 ghost use Rattle.indexmap.specs.IndexMap.{keys, values};
 ghost use Rattle.number_map.specs.Lookup.{value_of};
 ghost use Rattle.events.specs.Events as spec;
+ghost use Rattle.events.specs.declared.event.Event.{Event};
 ghost use Rattle.events.specs.Events.{IsNamed};
+ghost use Rattle.events.specs.Rows.{IsTableOf};
 ghost use Rattle.verdicts.specs.Counts.{same_kind, with_new, first_seen, uses, objects_in};
-ghost use Rattle.verdicts.specs.Counts.{kinds_in, operations_in, count_of};
+ghost use Rattle.verdicts.specs.Counts.{kinds_in, operations_in, count_of, AreCountsOf};
 ghost use Rattle.verdicts.specs.Invoked.{invocations, invocation_by, is_of, operation_count};
 ghost use Rattle.verdicts.specs.Invoked.{object_numbers, count_in, AreSeen};
+ghost use Rattle.verdicts.specs.Invoked.{has_failed, invoked_of};
 ghost use Rattle.verdicts.specs.declared.counting.Invoked.{Invoked};
 
 use crate::verdict::{KindCount, Summary};
-use events::{Action, Event, History};
+use events::{Action, End, Event, History, Row, Table, TablePart};
 use indexmap::IndexMap;
 use number_map::NumberMap;
 use seq_objects::{AnyObject, Kind, SeqObject};
@@ -215,6 +218,19 @@ fn list_of(alloc: Global, counts: IndexMap<Kind, KindCount>) -> Result<Vec<KindC
     counts.into_values().collect(alloc)
 }
 
+/// What these invocations have.
+fn summary_of_invoked(alloc: Global, all: &[Invoked]) -> Result<Summary, AllocError>
+    ensures { (es : List Event) → all.now ≡ invocations es
+        → IfOk result (λ s. AreCountsOf es s) }
+{
+    let counts = count_kinds(alloc, all)?;
+    Ok(Summary {
+        operations: count_operations(None, all),
+        objects: count_objects(alloc, None, all)?,
+        kinds: list_of(alloc, counts)?,
+    })
+}
+
 /// What a list of events has.
 pub(crate) fn summary_of(alloc: Global, events: &[Event]) -> Result<Summary, AllocError>
     ensures operations { IfOk result (λ s. s.operations ≡ length (operations_in events.now)) }
@@ -223,12 +239,7 @@ pub(crate) fn summary_of(alloc: Global, events: &[Event]) -> Result<Summary, All
         ≡ map (count_of events.now) (kinds_in (uses events.now))) }
 {
     let all = invoked_in(alloc, events)?;
-    let counts = count_kinds(alloc, &all)?;
-    Ok(Summary {
-        operations: count_operations(None, &all),
-        objects: count_objects(alloc, None, &all)?,
-        kinds: list_of(alloc, counts)?,
-    })
+    summary_of_invoked(alloc, &all)
 }
 
 /// What a history has. The operations are those that did not fail. The objects and the kinds are
@@ -245,4 +256,51 @@ pub fn summary(alloc: Global, history: &History) -> Result<Summary, AllocError>
     ensures kinds_once { AllPairs (λ k l. k ≢ l) (kinds_in (uses history.now)) }
 {
     summary_of(alloc, history.events())
+}
+
+fn has_failed(end: &End) -> bool
+    ensures { result ≡ has_failed end.now }
+{
+    matches!(end, End::Failed)
+}
+
+fn invoked_of(row: &Row) -> Invoked
+    ensures { result ≡ invoked_of row.now }
+{
+    Invoked {
+        object: row.object,
+        kind: AnyObject::kind_of(&row.operation.op),
+        failed: has_failed(&row.operation.end),
+    }
+}
+
+/// Puts the invocations of one part of a table after the others.
+fn push_rows(all: &mut Vec<Invoked>, part: &TablePart) -> Result<(), AllocError>
+    ensures { OnOk result (all.new.items
+        ≡ all.old.items ++ map invoked_of part.now.rows.items) }
+{
+    for row in &part.rows {
+        all.push(invoked_of(row))?;
+    }
+    Ok(())
+}
+
+/// The invocations of a table in their order.
+fn invoked_rows(alloc: Global, table: &Table) -> Result<Vec<Invoked>, AllocError>
+    ensures { IfOk result (λ v. v.items ≡ map invoked_of table.now) }
+{
+    let mut all = Vec::new(alloc);
+    for part in table.parts() {
+        push_rows(&mut all, part)?;
+    }
+    Ok(all)
+}
+
+/// As `summary`, from the table of a history.
+pub fn table_summary(alloc: Global, table: &Table) -> Result<Summary, AllocError>
+    ensures { (es : List Event) → IsTableOf table.now es
+        → IfOk result (λ s. AreCountsOf es s) }
+{
+    let all = invoked_rows(alloc, table)?;
+    summary_of_invoked(alloc, &all)
 }

@@ -5,6 +5,6 @@ mod checked;
 mod counting;
 mod verdict;
 
-pub use checked::verdict_on_check;
-pub use counting::summary;
+pub use checked::{verdict_on_check, verdict_on_counts};
+pub use counting::{summary, table_summary};
 pub use verdict::{Fault, KindCount, Summary, Verdict};

@@ -1,4 +1,4 @@
-use Rattle.std.proofs.Common.{◌≡◌, ◌+◌, ◌<◌, ◌≤◌, ℕ, Option, length, ap, sym, ◌∙◌, refl, arith}
+use Rattle.std.proofs.Common.{◌+◌, ◌<◌, ◌≤◌, ℕ, Option, length, ap, sym, ◌∙◌, refl, arith}
 use Rattle.std.specs.Option.{option_and_then}
 use Rattle.events.specs.declared.joined_rows.RowPlace.{RowPlace}
 use Rattle.events.specs.Operations.{end_by}

@@ -1,9 +1,9 @@
-use Rattle.std.proofs.Common.{◌≡◌, ◌-◌, ◌<◌, ◌^◌, ◌%◌, ◌∷◌, ◌++◌, ℕ, List, get_or, length, drop, map, option_map, ap, sym, ◌∙◌, subst, arith}
+use Rattle.std.proofs.Common.{◌-◌, ◌<◌, ◌^◌, ◌++◌, List, get_or, length, drop, map, option_map, ap, sym, subst, arith}
 use Rattle.number_map.specs.Lookup.{value_of}
 use Rattle.events.specs.declared.rows.Row.{Row}
 use Rattle.events.specs.Rows.{shift_row}
 use Rattle.events.proofs.Gathering.{drop_back}
-use Rattle.events.proofs.TableRows.{AreKept, AreSmall, nothing, row_small, kept_own, kept_other}
+use Rattle.events.proofs.TableRows.{AreKept, AreSmall, nothing, row_small, kept_own}
 use Rattle.events.proofs.rows_by_object.gather_part.Goals as goal
 
 pub shifted-operation-requires : goal.shifted-operation-requires

@@ -1,4 +1,4 @@
-use Rattle.std.proofs.Common.{◌≡◌, ◌-◌, ◌<◌, ◌^◌, ◌∷◌, List, get_or, length, drop, option_map, ap, sym, ◌∙◌, subst, arith}
+use Rattle.std.proofs.Common.{◌≡◌, ◌-◌, ◌<◌, ◌^◌, ◌∷◌, List, length, drop, option_map, ap, sym, ◌∙◌, subst, arith}
 use Rattle.number_map.specs.Lookup.{value_of}
 use Rattle.events.specs.declared.joined_rows.TablePart.{TablePart}
 use Rattle.events.specs.Rows.{rows_of}

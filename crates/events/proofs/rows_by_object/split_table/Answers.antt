@@ -1,4 +1,4 @@
-use Rattle.std.proofs.Common.{◌≡◌, ℕ, List, option_map, IfOk, ap, sym, ◌∙◌, subst}
+use Rattle.std.proofs.Common.{ℕ, List, option_map, IfOk, ◌∙◌, subst}
 use Rattle.number_map.specs.Lookup.{value_of}
 use Rattle.events.specs.declared.event.Event.{Event}
 use Rattle.events.specs.Operations.{operations_in, IsGathered, AreObjects}

@@ -1,6 +1,5 @@
-use Rattle.std.proofs.Common.{◌≡◌, ◌+◌, ◌≤◌, length, map, ap, sym, ◌∙◌, refl, arith}
-use Rattle.events.specs.Operations.{end_by}
-use Rattle.events.specs.Rows.{set_at, shift_row}
+use Rattle.std.proofs.Common.{◌≡◌, ◌+◌, ◌≤◌, length, map, ap, ◌∙◌, refl, arith}
+use Rattle.events.specs.Rows.{shift_row}
 use Rattle.events.proofs.EventRows.{set_at_read}
 use Rattle.events.proofs.Joining.{shift_set_ended, shift_set_past}
 use Rattle.events.proofs.joined_rows.TablePart.end.Goals as goal

@@ -1,4 +1,4 @@
-use Rattle.std.proofs.Common.{◌≡◌, ◌≤◌, length, ap, sym, ◌∙◌, refl, arith}
+use Rattle.std.proofs.Common.{◌≤◌, length, ap, sym, ◌∙◌, refl, arith}
 use Rattle.events.specs.Rows.{set_end}
 use Rattle.events.proofs.EventRows.{set_at_read, set_at_past}
 use Rattle.events.proofs.rows.Rows.close.Goals as goal

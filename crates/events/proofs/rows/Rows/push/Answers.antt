@@ -1,4 +1,4 @@
-use Rattle.std.proofs.Common.{◌≡◌, ◌∷◌, ◌++◌, [], length, Some, ap, sym, ◌∙◌, arith}
+use Rattle.std.proofs.Common.{◌≡◌, ◌++◌, length, Some, ap, sym, ◌∙◌, arith}
 use Rattle.events.specs.declared.operations.End.TheVariants.{Returned, Pending, Failed}
 use Rattle.events.specs.Operations.{end_by}
 use Rattle.events.specs.Rows.{row_by, place_begun}

@@ -1,4 +1,4 @@
-use Rattle.std.proofs.Common.{All, ◌≡◌, ◌∙◌, ◌^◌, List, sym, subst}
+use Rattle.std.proofs.Common.{All, ◌≡◌, ◌∙◌, ◌^◌, sym, subst}
 use Rattle.events.specs.declared.rows.Row.{Row}
 use Rattle.events.specs.Rows.{HasNumbersBelow, rows_in}
 use Rattle.events.proofs.TableRows.{rows_below}
