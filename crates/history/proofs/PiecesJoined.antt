@@ -1,6 +1,8 @@
 -- A text in pieces, and the parts that are read from them.
-use Rattle.std.proofs.Common.{◌≡◌, ℕ, zero, suc, ◌+◌, ◌<◌, List, [], ◌∷◌, ◌++◌, length, map, take, drop, get_or, drop-cons, Option, Some, None, IfSome, refl, ap, sym, ◌∙◌, subst, append_assoc, arith}
-use Rattle.std.proofs.lemmas.List.{append-nil, take-append-drop}
+use Rattle.std.proofs.Common.{◌≡◌, ℕ, zero, suc, ◌<◌, List, [], ◌∷◌, ◌++◌, length, get_or, Option, Some, IfSome, refl, ap, sym, ◌∙◌, subst, append_assoc, arith}
+use Rattle.std.proofs.lemmas.List.{append-nil}
+use Rattle.std.specs.Prelude.{Result, Ok, Err, is_ok, if◌then◌else◌}
+use Rattle.std.specs.Result.{result_ok}
 use Rattle.edn_reader.specs.Datum.{Datum}
 use Rattle.edn_reader.specs.Spells.{Spells}
 use Rattle.edn_reader.proofs.Joined.{joined_spell, nothing_spelled}
@@ -24,17 +26,15 @@ joined_cut : (ps : List (List ℕ)) (a b : List ℕ) → joined_by_feeds (ps ++ 
 joined_cut [] a b = refl
 joined_cut (p ∷ ps) a b = joined_cons p ps a (b ∷ []) ∙ (ap (λ t. p ++ 10 ∷ t) (joined_cut ps a b) ∙ sym (joined_cons p ps (a ++ 10 ∷ b) []))
 
-cut_at : (text : List ℕ) (k : ℕ) → k < length text → get_or text k 0 ≡ 10 → take k text ++ 10 ∷ drop (k + 1) text ≡ text
-cut_at text k l q =
-    ap (λ t. take k text ++ t) (ap (λ c. c ∷ drop (k + 1) text) (sym q) ∙ (ap (λ n. get_or text k 0 ∷ drop n text) (let e : k + 1 ≡ suc k = omega arith in e) ∙ sym (drop-cons text k 0 l)))
-    ∙ take-append-drop k text
-
 -- one more piece is cut off
-pub piece_more : (ps : List (List ℕ)) (rest : List ℕ) (k : ℕ) (text : List ℕ) → k < length rest → get_or rest k 0 ≡ 10 → joined_by_feeds (ps ++ rest ∷ []) ≡ text
-    → joined_by_feeds ((ps ++ take k rest ∷ []) ++ drop (k + 1) rest ∷ []) ≡ text
-piece_more ps rest k text l q h =
-    ap joined_by_feeds (append_assoc ps (take k rest ∷ []) (drop (k + 1) rest ∷ []))
-    ∙ (joined_cut ps (take k rest) (drop (k + 1) rest) ∙ (ap (λ r. joined_by_feeds (ps ++ r ∷ [])) (cut_at rest k l q) ∙ h))
+pub piece_more : (ps : List (List ℕ)) (rest a b : List ℕ) (text : List ℕ) → rest ≡ a ++ 10 ∷ b → joined_by_feeds (ps ++ rest ∷ []) ≡ text
+    → joined_by_feeds ((ps ++ a ∷ []) ++ b ∷ []) ≡ text
+piece_more ps rest a b text q h = ap joined_by_feeds (append_assoc ps (a ∷ []) (b ∷ [])) ∙ (joined_cut ps a b ∙ (ap (λ r. joined_by_feeds (ps ++ r ∷ [])) (sym q) ∙ h))
+
+-- a value that was pushed
+pub pushed : {T E X : Type 0} (r : Result T E) (x : T) (new a b : List X) → Some x ≡ result_ok r → new ≡ (if is_ok r then a else b) → new ≡ a
+pushed (Ok y) x new a b q h = h
+pushed (Err e) x new a b q h = absurd (cc q)
 
 -- ---- parts
 

@@ -1,6 +1,6 @@
 //! A history's text in pieces, of which each can be read by a worker of its own.
 
-ghost use Rattle.std.specs.Prelude.{◌≡◌, ◌<◌, ℕ, List, length, map, get_or, IfSome};
+ghost use Rattle.std.specs.Prelude.{◌≡◌, ◌<◌, ◌++◌, ◌∷◌, ℕ, List, length, map, get_or, IfSome};
 ghost use Rattle.history.specs.Pieces.{joined_by_feeds, IsReadFrom, AreReadFrom, HasRows};
 
 use crate::part::Part;
@@ -25,6 +25,14 @@ fn feed_from(text: &[u8], from: usize) -> Option<usize>
     None
 }
 
+/// What is before the first line feed from this place on, and what is after it.
+fn cut_at_feed(text: &[u8], from: usize) -> Option<(&[u8], &[u8])>
+    ensures { IfSome result (λ x. text.entry.now ≡ x.0.now ++ 10 ∷ x.1.now) }
+{
+    let feed = feed_from(text, from)?;
+    Some((&text[..feed], &text[feed + 1..]))
+}
+
 /// Reads a piece of a history's text by itself.
 pub fn part_of(alloc: Global, piece: &[u8]) -> Option<Part>
     ensures { IfSome result (IsReadFrom piece.now) }
@@ -37,8 +45,8 @@ pub fn part_of(alloc: Global, piece: &[u8]) -> Option<Part>
 /// Whether the text's first lines can be read by themselves. Maps that are printed on several lines
 /// cannot. No answer depends on it, only time does.
 fn begins_in_lines(alloc: Global, text: &[u8]) -> bool {
-    match feed_from(text, TRIAL_LENGTH) {
-        Some(feed) => part_of(alloc, &text[..feed]).is_some(),
+    match cut_at_feed(text, TRIAL_LENGTH) {
+        Some((lines, _)) => part_of(alloc, lines).is_some(),
         None => false,
     }
 }
@@ -55,9 +63,9 @@ pub fn pieces_of(alloc: Global, text: &[u8], count: usize) -> Option<Vec<&[u8]>>
     let mut pieces = Vec::new(alloc);
     let mut rest = text;
     for more in (1..count).rev() {
-        let feed = feed_from(rest, rest.len() / (more + 1))?;
-        pieces.push(&rest[..feed]).ok()?;
-        rest = &rest[feed + 1..];
+        let (piece, later) = cut_at_feed(rest, rest.len() / (more + 1))?;
+        pieces.push(piece).ok()?;
+        rest = later;
     }
     pieces.push(rest).ok()?;
     Some(pieces)

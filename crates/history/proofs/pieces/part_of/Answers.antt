@@ -1,7 +1,5 @@
-use Rattle.std.proofs.Common.{rules, ◌≡◌, ◌<◌, ℕ, List, length, map, get_or, IfSome, ◌+◌, ◌-◌, ◌*◌, ◌≤◌, ◌/◌, ◌%◌, Bool, true, false, nat_eq, nat_lt, [], ◌∷◌, ◌++◌, slice_set, bit_and, bit_or, Fits, w8, w32, w64, Bor, MutBor}
-use Rattle.history.specs.Pieces.{joined_by_feeds, IsReadFrom, AreReadFrom, HasRows}
+use Rattle.std.proofs.Common.{[]}
 use Rattle.history.proofs.pieces.part_of.Goals as goal
 
--- src/pieces.rt:29:1
 pub returns : goal.returns
-returns c = ?
+returns c = c.in_ok-read_lines.ensures [] c.new-part.ensures
