@@ -3,5 +3,5 @@ pub mod Stopping
 pub mod Naming
 pub mod Accepting
 pub mod Judging
-pub mod Tables
 pub mod Verdicts
+pub mod ByTable

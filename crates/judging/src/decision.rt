@@ -9,6 +9,7 @@ ghost use Rattle.checker.specs.Refusals.{AreValid, IsFirstRefusal};
 ghost use Rattle.judging.specs.Texts.{AreValidTexts, IsLinearizableText, verdict_of};
 ghost use Rattle.judging.specs.Verdicts.{Judges, JudgesBy, OnYes, IsYesUnlessMemory};
 
+use crate::tables::{judge_table, table_in};
 use crate::texts::{TextFailure, texts_alone, texts_in};
 use certificate::Certificate;
 use checker::{Refusal, check_all};
@@ -145,8 +146,9 @@ pub fn judge_alone(alloc: Global, history: &[u8], certificates: &[u8]) -> Verdic
     }
 }
 
-/// Judges two texts as `judge_alone` does, where the check is shared by `workers` threads, at most
-/// 16, and two of them read the texts side by side. With 0 or 1 it starts no thread.
+/// Judges two texts as `judge_alone` does, where the work is shared by `workers` threads, at most 16.
+/// Each reads a piece of a long history whose maps are in lines of their own; else two of them read
+/// the texts side by side. With 0 or 1 it starts no thread.
 pub fn judge<R: Threads + Sync>(
     rt: &R,
     alloc: Global,
@@ -160,6 +162,9 @@ pub fn judge<R: Threads + Sync>(
 {
     if workers < 2 {
         return judge_alone(alloc, history, certificates);
+    }
+    if let Some(table) = table_in(rt, alloc, history, workers.min(16) as usize) {
+        return judge_table(rt, alloc, &table, certificates, workers);
     }
     match texts_in(rt, alloc, history, certificates) {
         Ok((client_events, orders)) => verdict_on(rt, alloc, &client_events, &orders, workers),

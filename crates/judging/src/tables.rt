@@ -1,85 +1,34 @@
-//! From a history's text to its table, by workers of which each reads a piece of the text.
+//! A history's text that is read by workers, each a piece of it, and judged by its table.
 
-ghost use Rattle.std.specs.Prelude.{◌≡◌, ◌+◌, ◌<◌, ℕ, [], List, length, map, get_or, IfSome};
-ghost use Rattle.judging.specs.Tables.{HasRows, IsTableOfText, IsReadFrom, AreReadFrom};
-ghost use Rattle.judging.specs.Tables.{joined_by_feeds};
+ghost use Rattle.std.specs.Prelude.{◌<◌, ℕ, [], List, length, map, get_or, IfOk, IfSome};
+ghost use Rattle.certificate.specs.declared.Certificate.{Certificate};
+ghost use Rattle.events.specs.declared.event.Event.{Event};
+ghost use Rattle.events.specs.Rows.{IsTableOf};
+ghost use Rattle.history.specs.Pieces.{IsReadFrom};
+ghost use Rattle.judging.specs.Tables.{IsTableOfText};
+ghost use Rattle.judging.specs.Texts.{AreCertificatesRead};
+ghost use Rattle.judging.specs.Verdicts.{Holds};
+ghost use Rattle.verdicts.specs.Counts.{AreCountsOf};
 
+use crate::decision::verdict_on_failure;
+use crate::texts::{TextFailure, certificates_in};
+use certificate::Certificate;
 use edn::MAX_LENGTH;
 use events::Table;
-use history::{Part, Seams};
-use std::alloc::Global;
-use std::thread::{Threads, map_indices};
+use history::{Part, join_parts, part_of, pieces_of};
+use locality::named_objects;
+use parallel::check_table;
+use seq_objects::Open;
+use std::alloc::{AllocError, Global};
+use std::thread::{Threads, join, map_indices};
+use verdicts::{Summary, Verdict, table_summary, verdict_on_counts};
 
-/// A shorter text is read by one worker.
+/// A text that is shorter is not read in pieces.
 const LEAST_LENGTH: usize = 1_000_000;
 
-/// How far a text is read first, to see whether it can be read in pieces.
-const TRIAL_LENGTH: usize = 65_536;
-
-/// The place of the first line feed from this place on.
-fn feed_from(text: &[u8], from: usize) -> Option<usize>
-    ensures { IfSome result (λ k. (k < length text.now) × (get_or text.now k 0 ≡ 10)) }
-{
-    let mut place = from;
-    while place < text.len() {
-        if text[place] == b'\n' {
-            return Some(place);
-        }
-        place += 1;
-    }
-    None
-}
-
-/// The text in this many pieces of nearly one length, with a line feed between each two. None says
-/// that there are too few line feeds, or that memory was refused.
-fn pieces_of(alloc: Global, text: &[u8], count: usize) -> Option<Vec<&[u8]>>
-    ensures { IfSome result (λ v. joined_by_feeds (map (λ p. p.now) v.items) ≡ text.entry.now) }
-{
-    let mut pieces = Vec::new(alloc);
-    let mut rest = text;
-    for more in (1..count).rev() {
-        let feed = feed_from(rest, rest.len() / (more + 1))?;
-        pieces.push(&rest[..feed]).ok()?;
-        rest = &rest[feed + 1..];
-    }
-    pieces.push(rest).ok()?;
-    Some(pieces)
-}
-
-/// Reads a piece of a history's text by itself.
-fn part_of(alloc: Global, piece: &[u8]) -> Option<Part>
-    ensures { IfSome result (IsReadFrom piece.now) }
-{
-    let mut part = Part::new(alloc);
-    part.read_lines(alloc, piece)?;
-    Some(part)
-}
-
-/// Whether the text's first lines can be read by themselves. They cannot where maps are printed on
-/// several lines, or where one has a fault. No answer depends on it, only time does.
-fn begins_in_lines(alloc: Global, text: &[u8]) -> bool {
-    match feed_from(text, TRIAL_LENGTH) {
-        Some(feed) => part_of(alloc, &text[..feed]).is_some(),
-        None => false,
-    }
-}
-
-/// The table of the text whose pieces were read into these parts.
-fn join_parts(alloc: Global, parts: Vec<Option<Part>>) -> Option<Table>
-    requires { (pieces : List (List ℕ)) × AreReadFrom pieces parts.items }
-    ensures { IfSome result (λ t. (pieces : List (List ℕ)) → AreReadFrom pieces parts.items →
-        HasRows (joined_by_feeds pieces) t) }
-{
-    let mut seams = Seams::new(alloc);
-    for part in parts {
-        seams = seams.add(alloc, part?)?;
-    }
-    Some(seams.into_table())
-}
-
-/// The table of the history that the text denotes, read by this many workers, each in a thread of
-/// its own. None says nothing of the text: it is short or too long, its forms are not each in lines
-/// of their own, one of them has a fault, or memory was refused.
+/// The table of the history that the text denotes, read by this many workers. None says nothing of
+/// the text: it is short or too long, its maps are not in lines of their own, one of them has a
+/// fault, or memory was refused.
 pub(crate) fn table_in<R: Threads + Sync>(
     rt: &R,
     alloc: Global,
@@ -89,9 +38,6 @@ pub(crate) fn table_in<R: Threads + Sync>(
     ensures { IfSome result (λ t. IsTableOfText t text.now) }
 {
     if text.len() < LEAST_LENGTH || text.len() > MAX_LENGTH {
-        return None;
-    }
-    if !begins_in_lines(alloc, text) {
         return None;
     }
     let pieces = pieces_of(alloc, text, workers)?;
@@ -105,5 +51,40 @@ pub(crate) fn table_in<R: Threads + Sync>(
             ensures { IfSome result (IsReadFrom (get_or (map (λ p. p.now) pieces.entry.now) k [])) }
         { part_of(alloc, pieces[k]) },
     );
-    join_parts(alloc, parts.ok()?)
+    let Ok(parts) = parts else {
+        return None;
+    };
+    join_parts(alloc, parts)
+}
+
+/// Judges a history by its table and by a text of certificates: the verdict is one that `judge` may
+/// give on any text of which this is the table. The work is shared by `workers` threads, at most 16.
+pub fn judge_table<R: Threads + Sync>(
+    rt: &R,
+    alloc: Global,
+    table: &Table,
+    certificates: &[u8],
+    workers: u32,
+) -> Verdict
+    ensures { (h : List ℕ) → IsTableOfText table.now h → Holds h certificates.now result }
+{
+    // This does nothing: it is locality.
+    named_objects();
+    let (orders, counts) = join(
+        rt,
+        || -> Result<Vec<Certificate>, TextFailure>
+            ensures { AreCertificatesRead (λ v. v.items) certificates.entry.now result }
+        { certificates_in(alloc, certificates) },
+        || -> Result<Summary, AllocError>
+            ensures { (es : List Event) → IsTableOf table.entry.now es →
+                IfOk result (λ s. AreCountsOf es s) }
+        { table_summary(alloc, table) },
+    );
+    match orders {
+        Ok(orders) => {
+            let checked = check_table(rt, alloc, table, &orders, workers.clamp(1, 16), &Open);
+            verdict_on_counts(counts, checked)
+        }
+        Err(stop) => verdict_on_failure(stop),
+    }
 }
