@@ -1,5 +1,5 @@
 -- The three parts of the events of three operations.
-use Rattle.std.proofs.Common.{◌≡◌, ◌≢◌, ℕ, ◌==◌, ◌<◌, Bool, true, false, cond, inl, inr, All, AllPairs, List, [], ◌∷◌, Option, Some, None, refl, sym, subst, arith}
+use Rattle.std.proofs.Common.{◌≡◌, ◌≢◌, ℕ, ◌==◌, ◌<◌, Bool, true, false, cond, inl, inr, All, [], ◌∷◌, Some, None, refl, sym, subst}
 use Rattle.std.proofs.lemmas.List.Elements.{All-nil, All-cons}
 use Rattle.model.proofs.Lists.{all_from_pairs}
 use Rattle.events.specs.declared.event.Event.{Event}
