@@ -185,8 +185,8 @@ rows_shift n b (e ∷ es) =
 
 -- what a process has open after these events and then others, where the first have n rows
 abbrev pub open_then : ℕ → Option Event → Option ℕ → Option ℕ → Option ℕ
-open_then n None before behind = before
-open_then n (Some e) before behind = option_map (λ k. n + k) behind
+open_then n None before after = before
+open_then n (Some e) before after = option_map (λ k. n + k) after
 
 map_map : (n k : ℕ) (o : Option ℕ) → option_map (λ i. n + i) (option_map (λ i. k + i) o) ≡ option_map (λ i. n + k + i) o
 map_map n k None = refl

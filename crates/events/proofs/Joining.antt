@@ -275,7 +275,7 @@ within_more n maps es fs h k =
     (All-weaker (λ (e : Event). e.number < n) (λ (e : Event). e.number < n + maps) (λ e l. omega arith) es h)
     (All-map (λ (e : Event). e.number < n + maps) (shift_event n) fs (All-weaker (λ (e : Event). e.number < maps) (λ (e : Event). n + e.number < n + maps) (λ e l. omega arith) fs k))
 
--- the new part, behind the others
+-- the new part, after the others
 pub record Adds (was now next : JoinedRows) (own : Rows) (part : TablePart) (more : ℕ) : Type 0 where
   pub parts : next.parts.items ≡ now.parts.items ++ part ∷ []
   pub outstanding : next.outstanding ≡ now.outstanding

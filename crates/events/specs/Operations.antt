@@ -1,6 +1,7 @@
 -- The operations of one object, with their ends, and the calls that they are.
 use Rattle.std.specs.Prelude.{unwrap_or, ◌≡◌, ◌≢◌, ℕ, ◌==◌, ◌<◌, ⊤, reverse, List, [], ◌∷◌, ◌++◌}
-use Rattle.std.specs.Prelude.{Option, Some, None, All, AllPairs, Contains, ◌%◌, ◌⊎◌, ◌↔◌, map, if◌then◌else◌}
+use Rattle.std.specs.Prelude.{Option, Some, None, All, AllPairs, Contains, ◌%◌, ◌⊎◌, ◌↔◌, map}
+use Rattle.std.specs.Prelude.{if◌then◌else◌}
 use Rattle.std.specs.List.{filter_map}
 use Rattle.model.specs.declared.Kind.{Kind}
 use Rattle.model.specs.declared.AnyOp.{AnyOp}

@@ -1,8 +1,8 @@
 -- Operations whose end may come later: the rows of events, of parts of a history that are joined,
 -- and of a whole history.
 use Rattle.std.specs.Prelude.{◌≡◌, ◌≢◌, ◌<◌, ℕ, zero, suc, ◌+◌, ◌==◌, nat_lt, List, [], ◌∷◌}
-use Rattle.std.specs.Prelude.{◌++◌, Option, Some, None, IfSome, All, AllPairs, length, map, option_map}
-use Rattle.std.specs.Prelude.{⊤, ◌%◌, filter, if◌then◌else◌}
+use Rattle.std.specs.Prelude.{◌++◌, Option, Some, None, IfSome, All, AllPairs, length, map, filter}
+use Rattle.std.specs.Prelude.{option_map, ⊤, ◌%◌, if◌then◌else◌}
 use Rattle.std.specs.Option.{option_or, option_and_then}
 use Rattle.number_map.specs.Lookup.{value_of}
 use Rattle.events.specs.declared.event.Action.{Action}

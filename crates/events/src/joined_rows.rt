@@ -1,7 +1,7 @@
 //! The rows of parts of a history that are joined.
 
-ghost use Rattle.std.specs.Prelude.{◌≡◌, ◌≢◌, ◌<◌, ◌+◌, ◌++◌, ℕ, [], List, All, IfSome, OnSome, length, map};
-ghost use Rattle.std.specs.Prelude.{option_map};
+ghost use Rattle.std.specs.Prelude.{◌≡◌, ◌≢◌, ◌<◌, ◌+◌, ◌++◌, ℕ, [], List, All, IfSome, OnSome};
+ghost use Rattle.std.specs.Prelude.{length, map, option_map};
 ghost use Rattle.std.specs.Option.{option_and_then};
 ghost use Rattle.number_map.specs.Lookup.{value_of};
 ghost use Rattle.events.specs.declared.event.Event.{Event};

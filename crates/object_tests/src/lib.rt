@@ -8,3 +8,5 @@ mod number_maps;
 mod objects;
 #[cfg(test)]
 mod splitting;
+#[cfg(test)]
+mod tables;

@@ -74,13 +74,13 @@ const ON_QUEUE: [Invocation; 2] = [
 ];
 
 /// What each object did: its number, its kind and its operations.
-const OBJECTS: [(u32, Kind, &[Invocation]); 2] = [
+pub(crate) const OBJECTS: [(u32, Kind, &[Invocation]); 2] = [
     (0, Kind::Mutex, &[ACQUIRE]),
     (7, Kind::Queue, &ON_QUEUE),
 ];
 
 /// Whether this is what an object did.
-fn is_object(object: &ObjectHistory, want: (u32, Kind, &[Invocation])) -> bool {
+pub(crate) fn is_object(object: &ObjectHistory, want: (u32, Kind, &[Invocation])) -> bool {
     let (number, kind, ops) = want;
     object.object() == number && object.kind() == kind && object.ops() == ops
 }

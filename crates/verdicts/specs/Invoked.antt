@@ -1,6 +1,6 @@
 -- The invocations as they are counted. No public clause speaks of it.
-use Rattle.std.specs.Prelude.{◌≡◌, ℕ, Bool, true, false, List, [], ◌∷◌, ◌++◌, map, filter, length, Option}
-use Rattle.std.specs.Prelude.{Some, None, nat_eq, not, ◌&&◌}
+use Rattle.std.specs.Prelude.{◌≡◌, ℕ, Bool, true, false, List, [], ◌∷◌, ◌++◌, map, filter, length}
+use Rattle.std.specs.Prelude.{Option, Some, None, nat_eq, not, ◌&&◌}
 use Rattle.std.specs.List.{list_any}
 use Rattle.model.specs.declared.Kind.{Kind}
 use Rattle.model.specs.Objects.{kind_of}

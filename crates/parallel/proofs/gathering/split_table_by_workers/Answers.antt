@@ -1,8 +1,6 @@
-use Rattle.std.proofs.Common.{◌≡◌, ◌<◌, length, get_or, IfOk, List, sym, subst, arith}
-use Rattle.events.specs.declared.event.Event.{Event}
-use Rattle.events.specs.Rows.{IsTableOf}
+use Rattle.std.proofs.Common.{◌≡◌, ◌<◌, length, get_or, IfOk, sym, subst, arith}
 use Rattle.events.proofs.Splitting.{for_ok}
-use Rattle.parallel.specs.Parts.{IsPart, ArePartsOf, AreAll}
+use Rattle.parallel.specs.Parts.{IsPart, ArePartsOf}
 use Rattle.parallel.proofs.gathering.split_table_by_workers.Goals as goal
 
 pub returns-clause-all : goal.returns-clause-all

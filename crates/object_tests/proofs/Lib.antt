@@ -1,0 +1,2 @@
+pub mod ThreeOperations
+pub mod Parts
