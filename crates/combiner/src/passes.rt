@@ -1,14 +1,15 @@
 //! One pass over the rows.
 
-ghost use Rattle.std.specs.Prelude.{◌≡◌, ◌<◌, ◌≤◌, length, IfSome, IfNone, ◌+◌};
+ghost use Rattle.std.specs.Prelude.{◌≡◌, ◌<◌, ◌≤◌, length, IfSome, IfNone, IfOk, IfErr, ◌+◌};
 ghost use Rattle.model.specs.Objects.{kind_of};
 ghost use Rattle.desk_model.specs.World.{kind_at};
 ghost use Rattle.desk_model.specs.Images.{answer_in};
 ghost use Rattle.desk_invariant.specs.Views.{after_miss};
 ghost use Rattle.publication.specs.Calls.{MayPost};
-ghost use Rattle.combiner.specs.Waits.{Called};
+ghost use Rattle.combiner.specs.Waits.{Called, Returns};
 ghost use Rattle.combiner.specs.Passes.{Goes, KeepsCalls, IsTried, IsSettled, IsSettledNow};
 ghost use Rattle.combiner.specs.Passes.{IsSameBut, HasLearnt, IfServed, IfBusy, IfNoMemory};
+ghost use Rattle.combiner.specs.Passes.{HasPassed, HasCallOn};
 ghost use Rattle.desk_model.specs.Limits.{max_clients};
 
 use publication::{Answer, Client, Desk, Pass, Picked, Win};
@@ -96,23 +97,74 @@ pub(crate) fn try_at_once<S: SeqObject>(
         (λ a. Called client.knows object (S.op_in op) (answer_in S.reply_in a) result.0.knows) }
     ensures not { IfNone result.1 (KeepsCalls client.knows result.0.knows) }
 {
-    let mut held = match desk.win(client, object) {
-        Win::Held(client) => return (client, None),
-        Win::Won(held) => held,
+    let mut held = match pass_over_others(desk, client, object) {
+        Ok(held) => held,
+        Err(client) => return (client, None),
     };
-    let pass = held.count_pass();
-    if held.reserve(desk.clients() as usize).is_err() {
-        return (held.release(desk), None);
-    }
-    let own = held.number();
-    walk(&mut held);
-    let (mut held, _) = serve_others(desk, held, own);
-    clean(&mut held, pass);
     if !held.possible(&op) {
         return (held.release(desk), None);
     }
     let answer = held.perform(desk, op);
     (held.release(desk), Some(answer))
+}
+
+/// The same for a call that the client has posted: the combiner takes its request back out of its
+/// own row, and serves it last. None: the call is outstanding.
+pub(crate) fn try_posted<S: SeqObject>(
+    desk: &Desk<S>,
+    client: Client<S>,
+    object: u32,
+    op: S::Op,
+) -> (Client<S>, Option<Answer<S::Reply>>)
+    requires desk { client.desk ≡ desk.now.id }
+    requires posted { HasCallOn object (S.op_in op) client.knows }
+    requires there { (object < length desk.now.id.kinds)
+        × (kind_of (S.op_in op) ≡ kind_at desk.now.id.kinds object) }
+    ensures desk { result.0.desk ≡ client.desk }
+    ensures over { IfSome result.1
+        (λ a. Returns client.knows (answer_in S.reply_in a) result.0.knows) }
+    ensures not { IfNone result.1 (KeepsCalls client.knows result.0.knows) }
+{
+    let mut held = match pass_over_others(desk, client, object) {
+        Ok(held) => held,
+        Err(client) => return (client, None),
+    };
+    if !held.possible(&op) {
+        return (held.release(desk), None);
+    }
+    let own = held.number();
+    held.set_age(own);
+    let answer = held.perform_posted(desk);
+    (held.release(desk), answer)
+}
+
+// Tries to win the object. If it is won, and the log has room for a call of each client, serves
+// each row of the publication list but the own one. Err: it was held, or memory was refused.
+#[inline(always)]
+fn pass_over_others<S: SeqObject>(
+    desk: &Desk<S>,
+    client: Client<S>,
+    object: u32,
+) -> Result<Pass<S>, Client<S>>
+    requires desk { client.desk ≡ desk.now.id }
+    requires object { object < length desk.now.id.kinds }
+    ensures ok { IfOk result (HasPassed client object) }
+    ensures err { IfErr result
+        (λ c. (c.desk ≡ client.desk) × KeepsCalls client.knows c.knows) }
+{
+    let mut held = match desk.win(client, object) {
+        Win::Held(client) => return Err(client),
+        Win::Won(held) => held,
+    };
+    let pass = held.count_pass();
+    if held.reserve(desk.clients() as usize).is_err() {
+        return Err(held.release(desk));
+    }
+    let own = held.number();
+    walk(&mut held);
+    let (mut held, _) = serve_others(desk, held, own);
+    clean(&mut held, pass);
+    Ok(held)
 }
 
 // Serves the own row, the others, and the own one again if its request was put back. Answers how
