@@ -15,7 +15,7 @@ use Rattle.publication.specs.Handles.{DeskSeen, Known, Holding}
 use Rattle.publication.specs.Calls.{Posted, Performed, HasPosted, Finished, Polled, NotPolled, NotGot, CanDo, kind_in, MayPost, PostRefused}
 use Rattle.combiner.specs.declared.waiting.CallFault.{CallFault}
 use Rattle.combiner.specs.declared.waiting.CallFault.TheVariants as fault
-use Rattle.combiner.specs.Passes.{KeepsCalls, Goes, IsSameBut, HasPassed, HasCallOn}
+use Rattle.combiner.specs.Passes.{KeepsCalls, Goes, IsSameBut, HasPassed, IsReadyFor, HasCallOn}
 use Rattle.combiner.specs.Waits.{Called, Returns, IsLogged, IsOutstanding, Faulted}
 use Rattle.combiner.proofs.Served.{seen_on, keeps_on, keeps_same, keeps_held, keeps_unpolled, keeps_learnt, goes_on, goes_same, not_goes}
 
@@ -141,10 +141,6 @@ returned_at_once v x a p q r w opened kinds goes made is seen =
       };
     }
 
--- the client after its pass over the rows was put back
-pub keeps_passed : (c : Known) (x : ℕ) (q : Holding) (w : DeskView) → HasPassed c x q → w ≡ after_release q.object q.log q.knows → KeepsCalls c.knows w
-keeps_passed c x q w p is = keeps_learnt c.knows x p.won q w p.knows p.object p.begins p.goes is
-
 -- the client after its row had no request, and the pass was put back
 pub keeps_after : (c : Known) (x n : ℕ) (q r : Holding) (w : DeskView) → HasPassed c x q → NotGot q n r → r.desk ≡ q.desk
     → r.state ≡ record q.state { room = r.state.room } → w ≡ after_release r.object r.log r.knows → KeepsCalls c.knows w
@@ -169,10 +165,10 @@ passed_same c x q r p s = let g = goes_same q r s in record {
 }
 
 -- what the pass has posted, it can do
-pub has_posted : (c : Known) (x : ℕ) (op : AnyOp) (q r : Holding) → HasPassed c x q → IsSameBut q r → HasCallOn x op c.knows → CanDo (kind_in q) q.log op → HasPosted r
-has_posted c x op q r p s h can =
+pub has_posted : (c : Known) (x : ℕ) (op : AnyOp) (q r : Holding) → IsReadyFor c x op q → IsSameBut q r → HasCallOn x op c.knows → HasPosted r
+has_posted c x op q r k s h = let p = k.passed in
     let own : q.knows.own ≡ own.Waiting h.0 = p.goes.calls.own ∙ (ap (λ z. z.own) p.knows ∙ h.1) in
-    subst HasPosted (sym s.2) (h.0, own, h.2 ∙ sym (p.goes.object ∙ p.object), subst (CanDo (kind_in q) q.log) (sym h.3) can)
+    subst HasPosted (sym s.2) (h.0, own, h.2 ∙ sym (p.goes.object ∙ p.object), subst (CanDo (kind_in q) q.log) (sym h.3) k.can)
 
 -- the call that was posted is the one of this operation
 pub posted_on : (v u w : DeskView) (x : ℕ) (op : AnyOp) → Posted v x op u → w ≡ u → HasCallOn x op w

@@ -1,13 +1,14 @@
 -- What a pass over the rows does.
 use Rattle.std.specs.Prelude.{◌≡◌, ◌⊎◌, ℕ, true, List, ⊤}
 use Rattle.model.specs.declared.AnyOp.{AnyOp}
+use Rattle.model.specs.Objects.{kind_of}
 use Rattle.desk_model.specs.World.{AnyEntry, AnyRequest, kind_at, StartsWith}
 use Rattle.desk_invariant.specs.declared.board.Own.TheVariants as own
 use Rattle.desk_invariant.specs.declared.board.DeskView.{DeskView}
 use Rattle.desk_invariant.specs.Views.{seen_of, after_win, after_release}
 use Rattle.publication_list.specs.Calls.{WalkerSeen}
 use Rattle.publication.specs.Handles.{Known, Holding}
-use Rattle.publication.specs.Calls.{CanDo}
+use Rattle.publication.specs.Calls.{CanDo, kind_in}
 use Rattle.combiner.specs.declared.passes.Combined.{Combined}
 use Rattle.combiner.specs.declared.passes.Combined.TheVariants as combined
 use Rattle.combiner.specs.declared.passes.Tried.{Tried}
@@ -61,6 +62,12 @@ pub record HasPassed (c : Known) (x : ℕ) (q : Holding) : Type 0 where
   pub begins : StartsWith won.log (seen_of c.knows x)
   pub goes : Goes won q
   pub desk : q.desk ≡ c.desk
+
+-- and then the object can do the operation
+pub record IsReadyFor (c : Known) (x : ℕ) (op : AnyOp) (q : Holding) : Type 0 where
+  pub passed : HasPassed c x q
+  pub of_kind : kind_of op ≡ kind_in q
+  pub can : CanDo (kind_in q) q.log op
 
 -- a call of this operation on the object x is outstanding
 abbrev pub HasCallOn : ℕ → AnyOp → DeskView → Type 0

@@ -9,7 +9,7 @@ ghost use Rattle.publication.specs.Calls.{MayPost};
 ghost use Rattle.combiner.specs.Waits.{Called, Returns};
 ghost use Rattle.combiner.specs.Passes.{Goes, KeepsCalls, IsTried, IsSettled, IsSettledNow};
 ghost use Rattle.combiner.specs.Passes.{IsSameBut, HasLearnt, IfServed, IfBusy, IfNoMemory};
-ghost use Rattle.combiner.specs.Passes.{HasPassed, HasCallOn};
+ghost use Rattle.combiner.specs.Passes.{IsReadyFor, HasCallOn};
 ghost use Rattle.desk_model.specs.Limits.{max_clients};
 
 use publication::{Answer, Client, Desk, Pass, Picked, Win};
@@ -97,13 +97,10 @@ pub(crate) fn try_at_once<S: SeqObject>(
         (λ a. Called client.knows object (S.op_in op) (answer_in S.reply_in a) result.0.knows) }
     ensures not { IfNone result.1 (KeepsCalls client.knows result.0.knows) }
 {
-    let mut held = match pass_over_others(desk, client, object) {
+    let mut held = match win_for(desk, client, object, &op) {
         Ok(held) => held,
         Err(client) => return (client, None),
     };
-    if !held.possible(&op) {
-        return (held.release(desk), None);
-    }
     let answer = held.perform(desk, op);
     (held.release(desk), Some(answer))
 }
@@ -125,30 +122,30 @@ pub(crate) fn try_posted<S: SeqObject>(
         (λ a. Returns client.knows (answer_in S.reply_in a) result.0.knows) }
     ensures not { IfNone result.1 (KeepsCalls client.knows result.0.knows) }
 {
-    let mut held = match pass_over_others(desk, client, object) {
+    let mut held = match win_for(desk, client, object, &op) {
         Ok(held) => held,
         Err(client) => return (client, None),
     };
-    if !held.possible(&op) {
-        return (held.release(desk), None);
-    }
     let own = held.number();
     held.set_age(own);
     let answer = held.perform_posted(desk);
     (held.release(desk), answer)
 }
 
-// Tries to win the object. If it is won, and the log has room for a call of each client, serves
-// each row of the publication list but the own one. Err: it was held, or memory was refused.
+// Tries to win the object for a call of the client's own. If it is won, and the log has room for a
+// call of each client, serves each row of the publication list but the own one. Err: it was held,
+// memory was refused, or the object cannot do the operation after that.
 #[inline(always)]
-fn pass_over_others<S: SeqObject>(
+fn win_for<S: SeqObject>(
     desk: &Desk<S>,
     client: Client<S>,
     object: u32,
+    op: &S::Op,
 ) -> Result<Pass<S>, Client<S>>
     requires desk { client.desk ≡ desk.now.id }
-    requires object { object < length desk.now.id.kinds }
-    ensures ok { IfOk result (HasPassed client object) }
+    requires there { (object < length desk.now.id.kinds)
+        × (kind_of (S.op_in op.now) ≡ kind_at desk.now.id.kinds object) }
+    ensures ok { IfOk result (IsReadyFor client object (S.op_in op.now)) }
     ensures err { IfErr result
         (λ c. (c.desk ≡ client.desk) × KeepsCalls client.knows c.knows) }
 {
@@ -164,6 +161,9 @@ fn pass_over_others<S: SeqObject>(
     walk(&mut held);
     let (mut held, _) = serve_others(desk, held, own);
     clean(&mut held, pass);
+    if !held.possible(op) {
+        return Err(held.release(desk));
+    }
     Ok(held)
 }
 
