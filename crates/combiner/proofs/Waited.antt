@@ -1,5 +1,5 @@
 -- What a call that waited did.
-use Rattle.std.proofs.Common.{◌≡◌, ℕ, ◌+◌, ◌<◌, true, false, List, [], ◌∷◌, ◌++◌, Option, Some, None, IfNone, All, length, Result, Ok, Err, IfErr, refl, sym, ap, subst, ◌∙◌, arith, length-append, append_assoc}
+use Rattle.std.proofs.Common.{◌≡◌, ℕ, ◌+◌, ◌<◌, true, false, List, [], ◌∷◌, ◌++◌, Some, All, length, Result, Ok, Err, IfErr, refl, sym, ap, subst, ◌∙◌, arith, length-append, append_assoc}
 use Rattle.model.specs.declared.Kind.{Kind}
 use Rattle.model.specs.declared.AnyOp.{AnyOp}
 use Rattle.model.specs.Objects.{kind_of}
@@ -146,11 +146,6 @@ pub keeps_after : (c : Known) (x n : ℕ) (q r : Holding) (w : DeskView) → Has
     → r.state ≡ record q.state { room = r.state.room } → w ≡ after_release r.object r.log r.knows → KeepsCalls c.knows w
 keeps_after c x n q r w p missed same state is = let goes = not_goes q r n same (ap (λ z. z.places) state) missed in
     keeps_learnt c.knows x p.won r w p.knows p.object p.begins (goes_on p.won q r p.goes goes) is
-
--- what follows where there is no value
-pub if_none_then : {A P Q : Type 0} (r : Option A) → IfNone r P → (P → Q) → IfNone r Q
-if_none_then None a f = f a
-if_none_then (Some x) a f = tt
 
 -- the same pass with other ages and another list
 pub passed_same : (c : Known) (x : ℕ) (q r : Holding) → HasPassed c x q → IsSameBut q r → HasPassed c x r

@@ -36,6 +36,15 @@ enum Tried {
     PutBack,
 }
 
+/// Why a client did not make its own call in a pass.
+#[derive(Clone, Copy)]
+pub(crate) enum Unmade {
+    /// The object was held, or cannot do the operation now; or the call was answered before.
+    NotNow,
+    /// Memory for the log was refused.
+    NoMemory,
+}
+
 /// A pass whose number is a multiple of this cleans up.
 const CLEANING: u64 = 64;
 
@@ -99,70 +108,74 @@ pub(crate) fn try_at_once<S: SeqObject>(
 {
     let mut held = match win_for(desk, client, object, &op) {
         Ok(held) => held,
-        Err(client) => return (client, None),
+        Err((client, _)) => return (client, None),
     };
     let answer = held.perform(desk, op);
     (held.release(desk), Some(answer))
 }
 
-/// The same for a call that the client has posted: the combiner takes its request back out of its
-/// own row, and serves it last. None: the call is outstanding.
+/// The same for a call that the client has posted: it takes its request back out of its own row,
+/// and serves it last. Err: the call is outstanding.
 pub(crate) fn try_posted<S: SeqObject>(
     desk: &Desk<S>,
     client: Client<S>,
     object: u32,
     op: S::Op,
-) -> (Client<S>, Option<Answer<S::Reply>>)
+) -> (Client<S>, Result<Answer<S::Reply>, Unmade>)
     requires desk { client.desk ≡ desk.now.id }
     requires posted { HasCallOn object (S.op_in op) client.knows }
     requires there { (object < length desk.now.id.kinds)
         × (kind_of (S.op_in op) ≡ kind_at desk.now.id.kinds object) }
     ensures desk { result.0.desk ≡ client.desk }
-    ensures over { IfSome result.1
+    ensures over { IfOk result.1
         (λ a. Returns client.knows (answer_in S.reply_in a) result.0.knows) }
-    ensures not { IfNone result.1 (KeepsCalls client.knows result.0.knows) }
+    ensures not { IfErr result.1 (λ _. KeepsCalls client.knows result.0.knows) }
 {
     let mut held = match win_for(desk, client, object, &op) {
         Ok(held) => held,
-        Err(client) => return (client, None),
+        Err((client, unmade)) => return (client, Err(unmade)),
     };
     let own = held.number();
     held.set_age(own);
     let answer = held.perform_posted(desk);
-    (held.release(desk), answer)
+    let client = held.release(desk);
+    match answer {
+        Some(answer) => (client, Ok(answer)),
+        None => (client, Err(Unmade::NotNow)),
+    }
 }
 
 // Tries to win the object for a call of the client's own. If it is won, and the log has room for a
-// call of each client, serves each row of the publication list but the own one. Err: it was held,
-// memory was refused, or the object cannot do the operation after that.
+// call of each client, serves each row of the publication list but the own one. Then the object can
+// do the operation, or the client holds nothing.
 #[inline(always)]
 fn win_for<S: SeqObject>(
     desk: &Desk<S>,
     client: Client<S>,
     object: u32,
     op: &S::Op,
-) -> Result<Pass<S>, Client<S>>
+) -> Result<Pass<S>, (Client<S>, Unmade)>
     requires desk { client.desk ≡ desk.now.id }
     requires there { (object < length desk.now.id.kinds)
         × (kind_of (S.op_in op.now) ≡ kind_at desk.now.id.kinds object) }
     ensures ok { IfOk result (IsReadyFor client object (S.op_in op.now)) }
     ensures err { IfErr result
-        (λ c. (c.desk ≡ client.desk) × KeepsCalls client.knows c.knows) }
+        (λ e. (e.0.desk ≡ client.desk) × KeepsCalls client.knows e.0.knows) }
 {
     let mut held = match desk.win(client, object) {
-        Win::Held(client) => return Err(client),
+        Win::Held(client) => return Err((client, Unmade::NotNow)),
         Win::Won(held) => held,
     };
     let pass = held.count_pass();
     if held.reserve(desk.clients() as usize).is_err() {
-        return Err(held.release(desk));
+        return Err((held.release(desk), Unmade::NoMemory));
     }
     let own = held.number();
     walk(&mut held);
     let (mut held, _) = serve_others(desk, held, own);
     clean(&mut held, pass);
     if !held.possible(op) {
-        return Err(held.release(desk));
+        return Err((held.release(desk), Unmade::NotNow));
     }
     Ok(held)
 }

@@ -6,7 +6,7 @@ ghost use Rattle.desk_model.specs.Images.{answer_in};
 ghost use Rattle.combiner.specs.Passes.{KeepsCalls};
 ghost use Rattle.combiner.specs.Waits.{Called, Returns, Faulted};
 
-use crate::passes::{Combined, combine, try_at_once, try_posted};
+use crate::passes::{Combined, Unmade, combine, try_at_once, try_posted};
 use crossbeam_utils::Backoff;
 use publication::{Answer, Client, Desk, Post};
 use seq_objects::SeqObject;
@@ -48,8 +48,9 @@ pub fn call<S: SeqObject, R: Wait>(
     desk.enlist(&mut client, object);
     let (client, answer) = try_posted(desk, client, object, op);
     match answer {
-        Some(answer) => (client, Ok(answer)),
-        None => {
+        Ok(answer) => (client, Ok(answer)),
+        Err(Unmade::NoMemory) => (client, Err(CallFault::NoMemory)),
+        Err(Unmade::NotNow) => {
             let (client, answered) = wait_for(rt, desk, client, object);
             match answered {
                 Ok(answer) => (client, Ok(answer)),
