@@ -1,5 +1,5 @@
 -- A client that holds an object takes its own request for it back out of its row.
-use Rattle.std.proofs.Common.{◌≡◌, ◌≢◌, ℕ, ◌+◌, ◌<◌, eqb, false, List, [], ◌∷◌, length, get_or, filter, not, None, Some, refl, sym, ap, subst, ◌∙◌, arith, eq-eqb, ne_eqb}
+use Rattle.std.proofs.Common.{◌≡◌, ◌≢◌, ℕ, ◌+◌, ◌<◌, eqb, List, ◌∷◌, length, get_or, filter, not, Some, refl, sym, ap, subst, ◌∙◌, arith, eq-eqb, ne_eqb}
 use mathlib.Core.Logic.{dite}
 use mathlib.Core.Option as maybe
 use native.Mathlib.Decide.{ℕ_discrete}
@@ -17,9 +17,8 @@ use Rattle.desk_invariant.specs.declared.board.Own.TheVariants as own
 use Rattle.desk_invariant.specs.declared.board.Held.TheVariants as held
 use Rattle.desk_invariant.specs.declared.board.Role.TheVariants as role
 use Rattle.desk_invariant.specs.declared.board.DeskView.{DeskView}
-use Rattle.desk_model.specs.World.{AnyEntry, AnyRequest, AnyAnswer, idle, drawn, posted, picked, answered, World, request_of, served_now}
-use Rattle.desk_model.specs.Transitions.{changed, staged}
-use Rattle.desk_model.specs.Images.{request_in}
+use Rattle.desk_model.specs.World.{AnyEntry, AnyRequest, drawn, posted, World, request_of, served_now}
+use Rattle.desk_model.specs.Transitions.{staged}
 use Rattle.desk_model.proofs.Changed.{changed_here, changed_else}
 use Rattle.desk_model.proofs.Entries.{starts_same}
 use Rattle.desk_model.proofs.Effects.{sound_staged}

@@ -1,16 +1,16 @@
 -- A client over the end of a posted call of its own while it holds the object: m before, and one seat after each step.
-use Rattle.std.proofs.Common.{◌≡◌, ◌≢◌, ⊎_elim, ℕ, ◌+◌, ◌<◌, Bool, true, false, List, [], ◌∷◌, ◌++◌, map, length, length-append, All, None, Some, vec_len, vec_capacity}
-use Rattle.std.proofs.Common.{IsSome, arith, refl, sym, ap, subst, ◌∙◌, get_or, set, get_or-set_same, length-set, append-nil}
+use Rattle.std.proofs.Common.{◌≡◌, ◌≢◌, ⊎_elim, ℕ, ◌+◌, ◌<◌, Bool, false, List, [], ◌∷◌, ◌++◌, length, length-append, All, Some, vec_len, vec_capacity}
+use Rattle.std.proofs.Common.{arith, refl, sym, ap, subst, ◌∙◌, get_or, set, get_or-set_same, length-set, append-nil}
 use lib.ListN.{get_elem?}
 use mathlib.Core.Option.{none}
-use Rattle.atomic_table.specs.Table.{Step, step, rest, turned, Me}
+use Rattle.atomic_table.specs.Table.{step, rest, turned, Me}
 use Rattle.model.specs.declared.AnyOp.{AnyOp}
 use Rattle.model.specs.declared.AnyReply.{AnyReply}
-use Rattle.model.specs.Objects.{Content, next}
+use Rattle.model.specs.Objects.{Content}
 use Rattle.desk_model.specs.declared.Request.{Request}
 use Rattle.desk_model.specs.declared.Answer.{Answer}
 use Rattle.desk_model.specs.declared.JournalEvent.TheVariants.{Returned}
-use Rattle.desk_model.specs.World.{AnyEntry, AnyRequest, AnyAnswer, AnyDone, kind_at, logged, logged_on, entries_of, served, calls_made, tickets_drawn, journal_of, IsLegal, StartsWith}
+use Rattle.desk_model.specs.World.{AnyEntry, AnyRequest, AnyAnswer, AnyDone, kind_at, logged, logged_on, entries_of, served, calls_made, journal_of, IsLegal, StartsWith}
 use Rattle.desk_model.specs.Images.{request_in, answer_in}
 use Rattle.desk_model.proofs.Entries.{served_more, logged_here, logged_else}
 use Rattle.desk_invariant.specs.declared.board.Core.{Core}

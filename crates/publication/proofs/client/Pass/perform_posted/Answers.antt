@@ -96,8 +96,7 @@ serve_in_place-answer-requires-after_bounds g c κs within = let p = c.self.inva
     let told = withdrawn_there g.S.SeqObject.content g.S.SeqObject.op_in g.S.SeqObject.reply_in
     c.desk.inside.table.shared.table_id.slots _ _ _ _ _ _ _ c.self.inside.core q _ _ _ p w on a c.look_and_exchange-found.ensures.tried in
     let hit : c.look_and_exchange-found.result ≡ 1 + c.self.inside.object = search rules in let t = told.0 hit in
-    let out = came_out _ _ _ _ _ (ap (λ z. z.1) t.2) c.slot_mut.ensures.value in
-    (
+    let out = came_out _ _ _ _ _ (ap (λ z. z.1) t.2) c.slot_mut.ensures.value in (
       t.0,
       out,
       subst (λ z. IsSome (next (g.S.SeqObject.content c.self.inside.core.object) z.op)) (sym t.1) (may_perform c.args.self.now _ _ _ (sym v) p.fits.1 c.requires.posted.3),
