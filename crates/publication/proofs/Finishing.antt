@@ -45,7 +45,7 @@ module _ {O R : Type 0} (op_in : O → AnyOp) (reply_in : R → AnyReply) where
       (subst (λ z. Agrees op_in reply_in number calls quota z j v) (k.outstanding_is ∙ ap is_waiting is) k) is
 
 module _ {S O R : Type 0} (content : S → Content) (op_in : O → AnyOp) (reply_in : R → AnyReply) where
-  -- a with the slot of the object behind that of the journal
+  -- a with the slot of the object after that of the journal
   pub turned_there : (n x : ℕ) (q : AnyRequest) (m a : M content op_in reply_in) → m.1 ≡ (x, slot.Nothing) ∷ at_hand n m.0.own → m.0.own ≡ own.Waiting q → a ≡ (m.0, turned m.1)
       → a ≡ (m.0, others content op_in reply_in n x)
   turned_there n x q m a hand is ea = ea ∙ ap (λ z. (m.0, turned z)) (hand ∙ ap (λ o. (x, slot.Nothing) ∷ at_hand n o) is)
