@@ -5,6 +5,8 @@ ghost use Rattle.model.specs.Objects.{kind_of};
 ghost use Rattle.desk_model.specs.World.{kind_at};
 ghost use Rattle.desk_model.specs.Images.{answer_in};
 ghost use Rattle.desk_invariant.specs.Views.{after_miss};
+ghost use Rattle.desk_invariant.specs.declared.board.Slot.TheVariants as slots;
+ghost use Rattle.desk_model.specs.declared.Request.{Request};
 ghost use Rattle.desk_model.specs.Limits.{max_clients};
 
 use crate::client::{Client, Hand, Pass};
@@ -192,10 +194,9 @@ impl<S: SeqObject> Desk<S> {
         };
         let _ = shared.exchange(seat, slot, Slot::Request(asked));
         let ticket = shared.fetch_add::<Draws>(seat, CLOCK, 1);
-        let asked = Request { object, ticket, op };
-        let _ = shared.exchange(seat, slot, Slot::Request(asked));
+        set_ticket(seat.slot_mut(shared, slot), ticket);
         shared.store::<Posts>(seat, slot, POSTED + object as u64);
-        client.member.note_invoked(asked);
+        client.member.note_invoked(Request { object, ticket, op });
         Ok(())
     }
 
@@ -271,5 +272,18 @@ impl<S: SeqObject> Desk<S> {
             }),
             _ => unreachable!(),
         }
+    }
+}
+
+// Writes the ticket into the request in the slot.
+#[inline(always)]
+fn set_ticket<S, O: Copy, R>(place: &mut Slot<S, O, R>, ticket: u64)
+    requires { (q : Request O) × (place.old ≡ slots.Request q) }
+    ensures { (q : Request O) → place.old ≡ slots.Request q →
+        place.new ≡ slots.Request (record q { ticket = ticket }) }
+{
+    match place {
+        Slot::Request(request) => request.ticket = ticket,
+        _ => unreachable!(),
     }
 }

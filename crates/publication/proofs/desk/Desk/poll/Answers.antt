@@ -1,4 +1,4 @@
-use Rattle.std.proofs.Common.{map, ◌≡◌, rules, arith, refl, ℕ, ◌+◌, ◌∷◌, ◌++◌, [], inr, sym, ap, ◌∙◌, subst}
+use Rattle.std.proofs.Common.{map, ◌≡◌, rules, arith, refl, ℕ, ◌∷◌, ◌++◌, [], inr, sym, ap, ◌∙◌, subst}
 use Rattle.publication_list.specs.Calls.{PlaceSeen}
 use Rattle.desk_invariant.specs.declared.board.DeskView.{DeskView}
 use Rattle.desk_invariant.specs.Views.{row_place, after_miss}

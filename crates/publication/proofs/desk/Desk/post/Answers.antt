@@ -1,4 +1,5 @@
 use Rattle.std.proofs.Common.{map, rules, arith, ◌≡◌, ◌<◌, ◌+◌, ◌++◌, ◌∷◌, [], true, List, length, refl, sym, ap, ◌∙◌, subst}
+use Rattle.atomic_table.specs.Table.{rest}
 use Rattle.model.specs.declared.Kind.{Kind}
 use Rattle.desk_model.specs.declared.JournalEvent.TheVariants.{Invoked}
 use Rattle.desk_model.specs.World.{kind_at, calls_made}
@@ -7,7 +8,7 @@ use Rattle.desk_invariant.specs.Views.{own_request, is_waiting}
 use Rattle.publication.specs.Handles.{Known, IsClient, ArePlacesOf}
 use Rattle.desk_invariant.proofs.Calls.{draw_keeps_rule, post_keeps_rule}
 use Rattle.publication.proofs.Dealing.{own_still}
-use Rattle.publication.proofs.Slots.{can_exchange}
+use Rattle.publication.proofs.Slots.{came_out, can_exchange, in_slot}
 use Rattle.publication.proofs.Turns.{own_idle, outstanding_is, post_turn, post_ok, posted, room_to_call}
 use Rattle.publication.proofs.desk.Desk.post.Goals as goal
 
@@ -33,15 +34,21 @@ fetch_add-ticket-requires g c = let may = c.in_default.ensures.may in let k =
       draw_keeps_rule _ _ _ _ _ _ _ _ _ _ _ _ (ap (λ z. z.0.role) e ∙ k.agrees.client_is) (ap (λ z. z.0.own) e ∙ is) (ap (λ z. z.0.ended) e ∙ k.agrees.going) (ap (λ z. z.1) e) on fits count,
     )
 
-pub exchange-requires-2 : goal.exchange-requires-2
-exchange-requires-2 g c = let e = c.exchange.ensures.3 in (search rules, can_exchange _ _ _ _ (ap (λ z. z.1) (c.fetch_add-ticket.ensures.2 _ _ _ (ap (λ z. z.1) e)) ∙ ap (λ z. z.1) e))
+pub slot_mut-requires : goal.slot_mut-requires
+slot_mut-requires g c = let e = c.exchange.ensures.3 in (search rules, can_exchange _ _ _ _ (ap (λ z. z.1) (c.fetch_add-ticket.ensures.2 _ _ _ (ap (λ z. z.1) e)) ∙ ap (λ z. z.1) e))
+
+pub set_ticket-requires : goal.set_ticket-requires
+set_ticket-requires g c = let e = c.exchange.ensures.3 in let f = c.fetch_add-ticket.ensures.2 _ _ _ (ap (λ z. z.1) e) in
+    (_, came_out _ _ _ _ _ (ap (λ z. z.1) f ∙ ap (λ z. z.1) e) c.slot_mut.ensures.value)
 
 pub store-requires : goal.store-requires
 store-requires g c = let may = c.in_default.ensures.may in let k =
     outstanding_is (c.client.invariant.0.agrees.outstanding_is ∙ (ap (λ z. is_waiting z.knows.own) c.client.view_is ∙ may.0)) c.client.invariant.0 in
     let is = own_idle _ k.agrees.at_rest (sym k.agrees.outstanding_is) in
     let wide = c.self.invariant.0.0 in let low = k.agrees.number_low in let e = c.exchange.ensures.3 in let f =
-    c.fetch_add-ticket.ensures.2 _ _ _ (ap (λ z. z.1) e) in let h = c.exchange-2.ensures.3 in (
+    c.fetch_add-ticket.ensures.2 _ _ _ (ap (λ z. z.1) e) in let h =
+    in_slot c.fetch_add-ticket.new.seat.me.0 (16 + c.client.inside.number) _ _ (rest c.fetch_add-ticket.new.seat.me.1)
+    (c.set_ticket.ensures _ (came_out _ _ _ _ _ (ap (λ z. z.1) f ∙ ap (λ z. z.1) e) c.slot_mut.ensures.value)) in (
       search rules,
       omega arith,
       post_keeps_rule _ _ _ _ _ _ _ _ _ _ _ _ _ _ (ap (λ z. z.0.role) h ∙ (ap (λ z. z.0.role) f ∙ (ap (λ z. z.0.role) e ∙ k.agrees.client_is)))
@@ -66,7 +73,9 @@ pub invariant_of-client : goal.invariant_of-client
 invariant_of-client g c = let may = c.in_default.ensures.may in let k =
     outstanding_is (c.client.invariant.0.agrees.outstanding_is ∙ (ap (λ z. is_waiting z.knows.own) c.client.view_is ∙ may.0)) c.client.invariant.0 in
     let is = own_idle _ k.agrees.at_rest (sym k.agrees.outstanding_is) in
-    let e = c.exchange.ensures.3 in let f = c.fetch_add-ticket.ensures.2 _ _ _ (ap (λ z. z.1) e) in let h = c.exchange-2.ensures.3 in let p = c.note_invoked.ensures in
+    let e = c.exchange.ensures.3 in let f = c.fetch_add-ticket.ensures.2 _ _ _ (ap (λ z. z.1) e) in let h =
+    in_slot c.fetch_add-ticket.new.seat.me.0 (16 + c.client.inside.number) _ _ (rest c.fetch_add-ticket.new.seat.me.1)
+    (c.set_ticket.ensures _ (came_out _ _ _ _ _ (ap (λ z. z.1) f ∙ ap (λ z. z.1) e) c.slot_mut.ensures.value)) in let p = c.note_invoked.ensures in
     let written : c.note_invoked.new.self.journal.events.items ≡ c.client.inside.member.journal.events.items ++ Invoked c.fetch_add-ticket.result c.args.object
     c.args.op ∷ [] = p.events in let few = c.self.invariant.0.5 in let ok = c.in_default.ensures.there in
     let turn = post_turn g.S.SeqObject.op_in g.S.SeqObject.reply_in _ _ _ _ _
@@ -86,17 +95,20 @@ pub returns-clause-posted : goal.returns-clause-posted
 returns-clause-posted g c = let may = c.in_default.ensures.may in let k =
     outstanding_is (c.client.invariant.0.agrees.outstanding_is ∙ (ap (λ z. is_waiting z.knows.own) c.client.view_is ∙ may.0)) c.client.invariant.0 in
     let is = own_idle _ k.agrees.at_rest (sym k.agrees.outstanding_is) in
-    let e = c.exchange.ensures.3 in let f = c.fetch_add-ticket.ensures.2 _ _ _ (ap (λ z. z.1) e) in let h = c.exchange-2.ensures.3 in
+    let e = c.exchange.ensures.3 in let f = c.fetch_add-ticket.ensures.2 _ _ _ (ap (λ z. z.1) e) in let h =
+    in_slot c.fetch_add-ticket.new.seat.me.0 (16 + c.client.inside.number) _ _ (rest c.fetch_add-ticket.new.seat.me.1)
+    (c.set_ticket.ensures _ (came_out _ _ _ _ _ (ap (λ z. z.1) f ∙ ap (λ z. z.1) e) c.slot_mut.ensures.value)) in
     let turn = post_turn g.S.SeqObject.op_in g.S.SeqObject.reply_in _ _ _ _ _
     (record { object = c.args.object; ticket = c.fetch_add-ticket.result; op = c.args.op }) _ _ _ _ _ k e f h (c.store.ensures.2 _ (ap (λ z. z.0.own) h ∙ ap (λ z. z.0.own) f)) in
     posted g.S.SeqObject.op_in g.S.SeqObject.reply_in _ _ _ _ _ _ _ _ _ _ k (sym (ap (λ v. v.knows) c.client.view_is)) turn
 
 pub returns-clause-desk : goal.returns-clause-desk
 returns-clause-desk g c = let e = c.exchange.ensures.3 in let f = c.fetch_add-ticket.ensures.2 _ _ _ (ap (λ z. z.1) e) in let h =
-    c.exchange-2.ensures.3 in let d = c.store.ensures.2 _ (ap (λ z. z.0.own) h ∙ ap (λ z. z.0.own) f) in
+    in_slot c.fetch_add-ticket.new.seat.me.0 (16 + c.client.inside.number) _ _ (rest c.fetch_add-ticket.new.seat.me.1)
+    (c.set_ticket.ensures _ (came_out _ _ _ _ _ (ap (λ z. z.1) f ∙ ap (λ z. z.1) e) c.slot_mut.ensures.value)) in let d = c.store.ensures.2 _ (ap (λ z. z.0.own) h ∙ ap (λ z. z.0.own) f) in
     let kinds : c.store.new.seat.me.0.kinds ≡ c.client.inside.seat.me.0.kinds = ap (λ m. m.0.kinds) d ∙ (ap (λ m. m.0.kinds) h ∙ (ap (λ m. m.0.kinds) f ∙ ap (λ m. m.0.kinds) e)) in
     (λ i. record {
-      table = (c.store.ensures.0 ∙ (c.exchange-2.ensures.0 ∙ (c.fetch_add-ticket.ensures.0 ∙ c.exchange.ensures.0))) i;
+      table = (c.store.ensures.0 ∙ (c.fetch_add-ticket.ensures.0 ∙ c.exchange.ensures.0)) i;
       quota = (c.note_invoked.ensures.same i).quota;
       kinds = kinds i;
       lists = map (λ (p : PlaceSeen). p.roster) (c.note_invoked.ensures.same i).places;
