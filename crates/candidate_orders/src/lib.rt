@@ -13,4 +13,4 @@ mod mutex;
 mod values;
 
 pub use keys::open_keys;
-pub use methods::{Method, order_by};
+pub use methods::{Candidate, Method, order_by};

@@ -6,6 +6,7 @@ use cell_orders::order_of_cells;
 use events::{Invocation, ObjectHistory};
 use order_search::{Outcome, TryFirst, find_order_of_any_size};
 use queue_search::searched_queue_order;
+use residences::touches_of;
 use seq_objects::Kind;
 use stack_search::searched_stack_order;
 use std::alloc::{AllocError, Global};
@@ -26,18 +27,45 @@ pub enum Method {
     Search,
 }
 
+/// What a method says of the calls of an object.
+#[derive(Drop)]
+pub enum Candidate {
+    /// An order that may be valid.
+    Order(Vec<i64>),
+    /// The method found no order.
+    NotFound,
+    /// A value is taken from a queue, stack or heap when it can't be in: no method finds an order.
+    Overdrawn,
+}
+
+impl Candidate {
+    fn of(order: Option<Vec<i64>>) -> Candidate {
+        match order {
+            Some(order) => Candidate::Order(order),
+            None => Candidate::NotFound,
+        }
+    }
+}
+
 /// An order of the calls that may be valid.
 fn order_of_kind(
     alloc: Global,
     kind: Kind,
     operations: &[Invocation],
-) -> Result<Option<Vec<i64>>, AllocError> {
+) -> Result<Candidate, AllocError> {
     let timeline = timeline_of(alloc, operations)?;
-    match kind {
-        Kind::Register | Kind::Map => order_of_cells(alloc, &timeline),
-        Kind::Mutex => mutex_order(alloc, &timeline),
-        Kind::Queue | Kind::Stack | Kind::Heap => values_order(alloc, kind, &timeline),
-    }
+    let order = match kind {
+        Kind::Register | Kind::Map => order_of_cells(alloc, &timeline)?,
+        Kind::Mutex => mutex_order(alloc, &timeline)?,
+        Kind::Queue | Kind::Stack | Kind::Heap => {
+            let touches = touches_of(alloc, &timeline.calls)?;
+            if touches.overdraw(alloc)? {
+                return Ok(Candidate::Overdrawn);
+            }
+            values_order(alloc, kind, &timeline, touches)?
+        }
+    };
+    Ok(Candidate::of(order))
 }
 
 /// An order of the calls of a stack or queue that may be valid, where there is something to be
@@ -91,11 +119,12 @@ pub fn order_by(
     alloc: Global,
     method: Method,
     history: &ObjectHistory,
-) -> Result<Option<Vec<i64>>, AllocError> {
-    match method {
-        Method::OfTheKind => order_of_kind(alloc, history.kind(), history.ops()),
-        Method::AllContents => order_of_contents(alloc, history.kind(), history.ops()),
-        Method::OtherPairs => order_of_other_pairs(alloc, history.kind(), history.ops()),
-        Method::Search => searched_order(alloc, history),
-    }
+) -> Result<Candidate, AllocError> {
+    let order = match method {
+        Method::OfTheKind => return order_of_kind(alloc, history.kind(), history.ops()),
+        Method::AllContents => order_of_contents(alloc, history.kind(), history.ops())?,
+        Method::OtherPairs => order_of_other_pairs(alloc, history.kind(), history.ops())?,
+        Method::Search => searched_order(alloc, history)?,
+    };
+    Ok(Candidate::of(order))
 }

@@ -2,7 +2,7 @@
 
 use heap_orders::heap_order;
 use queue_orders::queue_order;
-use residences::touches_of;
+use residences::{Touches, touches_of};
 use seq_objects::Kind;
 use stack_orders::{Pairing, stack_order};
 use std::alloc::{AllocError, Global};
@@ -13,8 +13,8 @@ pub(crate) fn values_order(
     alloc: Global,
     kind: Kind,
     timeline: &Timeline,
+    touches: Touches,
 ) -> Result<Option<Vec<i64>>, AllocError> {
-    let touches = touches_of(alloc, &timeline.calls)?;
     match kind {
         Kind::Queue => queue_order(alloc, timeline, touches, false),
         Kind::Stack => stack_order(alloc, timeline, touches, Pairing::OnTop),

@@ -230,7 +230,7 @@ fn shrink(
     }))
 }
 
-/// What a candidate that was made smaller comes to, where it holds in the whole history.
+/// The proposal of a candidate that was made smaller, if its reason holds in the whole history.
 fn confirm(
     alloc: Global,
     history: &ObjectHistory,
@@ -297,7 +297,7 @@ fn first_confirmed(
     Ok(None)
 }
 
-/// The smallest reason that the first candidates come to, if one does.
+/// The smallest reason among those of the first candidates, if one of them holds.
 fn best_of(
     alloc: Global,
     history: &ObjectHistory,
@@ -318,7 +318,7 @@ fn best_of(
     Ok(None)
 }
 
-/// The reason that the first of the candidates comes to that comes to one.
+/// The reason of the first of the candidates whose reason holds.
 fn first_of(
     alloc: Global,
     history: &ObjectHistory,

@@ -44,8 +44,8 @@ fn push(numbers: &mut Vec<i64>, number: i64) -> Result<(), AllocError>
     push_growing(numbers, number)
 }
 
-/// The integers of an order after its bracket, and what follows the bracket that closes it. A space
-/// may stand before each of them. Where memory is refused there is none.
+/// The integers of an order after its bracket, and what follows the bracket that closes it. There
+/// may be a space before each of them. Where memory is refused there is none.
 fn order_after(alloc: Global, text: &[u8]) -> Option<(Vec<i64>, &[u8])>
     ensures { IfSome result (λ x. ReadsOrder text.entry.now x.0.items x.1.now) }
 {

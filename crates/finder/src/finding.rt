@@ -4,7 +4,7 @@ ghost use Rattle.std.specs.Prelude.{◌≡◌, IfOk, IfSome};
 ghost use Rattle.events.specs.Operations.{calls_of};
 ghost use Rattle.finder.specs.Finds.{IfOrder, IsFor};
 
-use candidate_orders::{Method, order_by};
+use candidate_orders::{Candidate, Method, order_by};
 use certificate::Certificate;
 use checker::{Refusal, check_object};
 use events::ObjectHistory;
@@ -19,7 +19,25 @@ pub enum FindOutcome {
     Open,
 }
 
-/// The certificate that is found by one method. What is handed out was checked.
+/// The certificate with this order, if that is valid. What is handed out was checked.
+fn certify(
+    alloc: Global,
+    history: &ObjectHistory,
+    order: Vec<i64>,
+) -> Result<Option<Certificate>, AllocError>
+    ensures valid { IfOk result (λ found. IfSome found
+        (IsFor history.now.object history.now.kind (calls_of history.now.ops))) }
+{
+    let object = history.object();
+    let certificate = Certificate { object, order };
+    match check_object(alloc, history, &certificate) {
+        Ok(()) => Ok(Some(certificate)),
+        Err(Refusal::NoMemory) => Err(AllocError),
+        Err(_) => Ok(None),
+    }
+}
+
+/// The certificate that is found by one method.
 fn find_by(
     alloc: Global,
     method: Method,
@@ -28,15 +46,9 @@ fn find_by(
     ensures valid { IfOk result (λ found. IfSome found
         (IsFor history.now.object history.now.kind (calls_of history.now.ops))) }
 {
-    let Some(order) = order_by(alloc, method, history)? else {
-        return Ok(None);
-    };
-    let object = history.object();
-    let certificate = Certificate { object, order };
-    match check_object(alloc, history, &certificate) {
-        Ok(()) => Ok(Some(certificate)),
-        Err(Refusal::NoMemory) => Err(AllocError),
-        Err(_) => Ok(None),
+    match order_by(alloc, method, history)? {
+        Candidate::Order(order) => certify(alloc, history, order),
+        Candidate::NotFound | Candidate::Overdrawn => Ok(None),
     }
 }
 
@@ -47,7 +59,12 @@ pub fn find_by_kind(alloc: Global, history: &ObjectHistory) -> Result<FindOutcom
         (IsFor history.now.object history.now.kind (calls_of history.now.ops))) }
 {
     for method in [Method::OfTheKind, Method::OtherPairs] {
-        if let Some(certificate) = find_by(alloc, method, history)? {
+        let order = match order_by(alloc, method, history)? {
+            Candidate::Order(order) => order,
+            Candidate::NotFound => continue,
+            Candidate::Overdrawn => break,
+        };
+        if let Some(certificate) = certify(alloc, history, order)? {
             return Ok(FindOutcome::Order(certificate));
         }
     }

@@ -42,7 +42,8 @@ abbrev pub LackEach : List (List ℕ) → Entries → Type 0
 LackEach [] es = Unit {0}
 LackEach (k ∷ ks) es = Lacks k es × LackEach ks es
 
--- the keys that come before the last pairs of a map: of an operation, then its object, then a time
+-- the keys that come before the last pairs of a map: those of an operation; then also its object,
+-- a time, and an index
 abbrev pub operation_keys : List (List ℕ)
 operation_keys = codes "process" ∷ codes "type" ∷ codes "f" ∷ codes "value" ∷ []
 

@@ -99,14 +99,14 @@ pub enum Post {
     OtherKind,
 }
 
-/// What a try to win an object came to.
+/// The result of a try to win an object.
 pub enum Win<S: SeqObject> {
     Won(Pass<S>),
     /// The lock word was held.
     Held(Client<S>),
 }
 
-/// What a try to pick up a request came to.
+/// The result of a try to pick up a request.
 pub enum Picked<S: SeqObject> {
     Got(Hand<S>),
     /// The row had no request for the object.

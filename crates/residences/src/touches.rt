@@ -55,6 +55,54 @@ impl Touches {
         }
         false
     }
+
+    /// Whether a value is taken when it can't be in: at some moment more of its removals have
+    /// returned than puts of it have begun.
+    ///
+    /// An error: the allocator refused memory.
+    pub fn overdraw(&self, alloc: Global) -> Result<bool, AllocError> {
+        let mut ends = Vec::new(alloc);
+        let mut rest = self.known.as_slice();
+        for _ in 0..self.known.len() {
+            let (own, others) = rest.split_at(count_of_first(rest).min(rest.len()));
+            if overdraw_value(own, &mut ends)? {
+                return Ok(true);
+            }
+            rest = others;
+        }
+        Ok(false)
+    }
+}
+
+/// How many of the touches have the value of the first.
+fn count_of_first(touches: &[Touch]) -> usize {
+    let Some(first) = touches.first() else {
+        return 0;
+    };
+    let value = first.value;
+    let other = touches.iter().position(|touch| touch.value != value);
+    other.unwrap_or(touches.len())
+}
+
+/// Whether this value, whose puts come first, is taken when it can't be in. The list is for the
+/// returns of its removals.
+fn overdraw_value(touches: &[Touch], ends: &mut Vec<u32>) -> Result<bool, AllocError> {
+    ends.clear();
+    for touch in touches {
+        if touch.takes {
+            ends.push(touch.call.end)?;
+        }
+    }
+    if ends.len() > touches.len() / 2 {
+        return Ok(true);
+    }
+    ends.sort_unstable();
+    for (end, put) in ends.iter().zip(touches.iter()) {
+        if *end < put.call.begin {
+            return Ok(true);
+        }
+    }
+    Ok(false)
 }
 
 /// What the calls of a queue, stack or heap do.
