@@ -1,5 +1,5 @@
 -- What is open, as the code keeps it. No public clause speaks of it.
-use Rattle.std.specs.Prelude.{List, [], ◌∷◌}
+use Rattle.std.specs.Prelude.{ℕ, zero, suc, List, [], ◌∷◌}
 use Rattle.edn_reader.specs.Shapes.{Shape, whole_text, a_vector, a_map, Shapes, name_views}
 use Rattle.edn_reader.specs.declared.levels.Level.{Level}
 use Rattle.edn_reader.specs.declared.levels.Level.TheVariants.{Text, Vector, Map}
@@ -19,8 +19,14 @@ abbrev pub levels_onto : List Shape → List Level → List Shape
 levels_onto acc [] = acc
 levels_onto acc (l ∷ ls) = levels_onto (level_shape l ∷ acc) ls
 
+-- this many vectors, inside others
+abbrev pub vectors_in : ℕ → List Shape → List Shape
+vectors_in zero fs = fs
+vectors_in (suc n) fs = a_vector ∷ vectors_in n fs
+
 abbrev pub levels_shapes : Levels → Shapes
-levels_shapes l = record { inner = level_shape l.inner; outer = levels_onto [] l.outer.items }
+levels_shapes l =
+    record { inner = level_shape l.inner; outer = vectors_in l.vectors (levels_onto [] l.outer.items) }
 
 -- a level inside what is open
 abbrev pub within : Shape → Shapes → Shapes

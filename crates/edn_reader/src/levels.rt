@@ -36,11 +36,12 @@ pub enum Level<'a> {
     Map(Keys<'a>),
 }
 
-/// What is open, the innermost apart and the others from the outermost in; and room for the keys of
-/// the next map.
+/// What is open: the innermost apart, the vectors right around it, which are only counted, and the
+/// others from the outermost in; and room for the keys of the next map.
 #[derive(Drop)]
 pub struct Levels<'a> {
     inner: Level<'a>,
+    vectors: u8,
     outer: Vec<Level<'a>>,
     spare: Vec<&'a str>,
 }
@@ -298,9 +299,23 @@ impl<'a> Levels<'a> {
     {
         Levels {
             inner: Level::Text,
+            vectors: 0,
             outer: Vec::new(alloc),
             spare: Vec::new(alloc),
         }
+    }
+
+    /// Puts the vectors that are only counted among the other levels.
+    #[tactic(auto, using(crate::proofs::Nested::levels_push, crate::proofs::Nested::vectors_before))]
+    fn list_vectors(&mut self) -> Result<(), AllocError>
+        ensures listed { OnOk result (self.new.vectors ≡ 0) }
+        ensures same { OnOk result (levels_shapes self.new ≡ levels_shapes self.old) }
+    {
+        'vectors: while self.vectors > 0 {
+            self.outer.push(Level::Vector)?;
+            self.vectors -= 1;
+        }
+        Ok(())
     }
 
     /// One more level, which may ask for room.
@@ -311,9 +326,19 @@ impl<'a> Levels<'a> {
         ensures { OnOk result
             (levels_shapes self.new ≡ within (level_shape level.entry) (levels_shapes self.old)) }
     {
+        self.list_vectors()?;
         let inner = mem::replace(&mut self.inner, level);
         self.outer.push(inner)?;
         Ok(())
+    }
+
+    /// How many levels are around the innermost.
+    #[inline(always)]
+    #[tactic(auto, using(crate::proofs::Nested::length_levels, crate::proofs::Nested::length_vectors))]
+    fn count(&self) -> usize
+        ensures { result ≡ length (levels_shapes self.now).outer }
+    {
+        self.outer.len() + usize::from(self.vectors)
     }
 
     /// Opens one more level.
@@ -326,11 +351,11 @@ impl<'a> Levels<'a> {
         if self.inner.takes_key() {
             return Err(Cause::KeyKind);
         }
-        if self.outer.len() >= MAX_OPEN {
+        if self.count() >= MAX_OPEN {
             return Err(Cause::TooDeep);
         }
         // Most levels find room: these are opened here, and only the others by a call.
-        if self.outer.len() < self.outer.capacity() {
+        if self.vectors == 0 && self.outer.len() < self.outer.capacity() {
             let inner = mem::replace(&mut self.inner, level);
             self.outer.push_reserved(inner);
             return Ok(());
@@ -347,18 +372,16 @@ impl<'a> Levels<'a> {
         self.open(Level::Map(Keys::new(room)))
     }
 
-    /// Opens a vector. In a vector nothing is moved: the innermost level is a vector before and
-    /// after.
+    /// Opens a vector. One in a vector is only counted.
     #[inline(always)]
-    #[tactic(auto, using(crate::proofs::Nested::levels_push, crate::proofs::Nested::length_levels))]
+    #[tactic(auto, using(crate::proofs::Nested::length_levels, crate::proofs::Nested::length_vectors))]
     fn open_vector(&mut self) -> Result<(), Cause>
         ensures { Becomes result (spec.opened spec.a_vector (levels_shapes self.old))
             (levels_shapes self.new) }
     {
-        let count = self.outer.len();
         match self.inner {
-            Level::Vector if count < MAX_OPEN && count < self.outer.capacity() => {
-                self.outer.push_reserved(Level::Vector);
+            Level::Vector if self.count() < MAX_OPEN => {
+                self.vectors += 1;
                 Ok(())
             }
             _ => self.open(Level::Vector),
@@ -373,11 +396,16 @@ impl<'a> Levels<'a> {
             levels_shapes self.old ≡ within (level_shape l) (levels_shapes self.new)) }
         ensures none { IfNone result ((levels_shapes self.old).outer ≡ []) }
     {
-        let level = self.outer.pop()?;
+        let level = if self.vectors > 0 {
+            self.vectors -= 1;
+            Level::Vector
+        } else {
+            self.outer.pop()?
+        };
         Some(mem::replace(&mut self.inner, level))
     }
 
-    /// Closes a vector. In a vector nothing is moved, as where it was opened.
+    /// Closes a vector. One in a vector is only counted.
     #[inline(always)]
     #[tactic(auto, using(crate::proofs::Nested::levels_push))]
     fn close_vector(&mut self) -> Result<(), Cause>
@@ -387,14 +415,14 @@ impl<'a> Levels<'a> {
         let Level::Vector = self.inner else {
             return Err(Cause::BadToken);
         };
-        match self.outer.pop() {
-            Some(Level::Vector) => Ok(()),
-            Some(level) => {
-                self.inner = level;
-                self.inner.put_value()
-            }
-            None => Err(Cause::BadToken),
+        if self.vectors > 0 {
+            self.vectors -= 1;
+            return Ok(());
         }
+        if self.leave().is_none() {
+            return Err(Cause::BadToken);
+        }
+        self.inner.put_value()
     }
 
     fn close_map(&mut self) -> Result<(), Cause>
@@ -442,10 +470,10 @@ impl<'a> Levels<'a> {
 
     /// Whether nothing but the text is open.
     #[inline]
-    #[tactic(auto, using(crate::proofs::Nested::length_levels))]
+    #[tactic(auto, using(crate::proofs::Nested::length_levels, crate::proofs::Nested::length_vectors))]
     pub fn is_outermost(&self) -> bool
         ensures { result ≡ (length (levels_shapes self.now).outer == 0) }
     {
-        self.outer.is_empty()
+        self.outer.is_empty() && self.vectors == 0
     }
 }
