@@ -151,6 +151,7 @@ fn index_first(text: &[u8]) -> Option<(ClientMap, &[u8])>
 /// orders, a comma and a space before each but the first. In the first order one key without a
 /// meaning may be the last. A map that is written in another way may be well formed, and is none
 /// here.
+#[inline(always)]
 pub fn usual_map(text: &[u8]) -> Option<(ClientMap, &[u8])>
     requires { IsUtf8 text.now }
     ensures { IfSome result (λ x. ReadsUsual text.entry.now x.0 x.1.now) }
