@@ -24,9 +24,9 @@ pub enum CallFault {
 }
 
 /// Makes a call: posts it, enlists the row, and tries to win the object. A client that wins it
-/// serves the other rows, and then takes its own request back out of its row and serves it. Where
-/// the object is held, the client polls, enlists the row and combines, with a yield between tries,
-/// until the call is answered.
+/// serves the other rows, and then takes its own request back out of its row and serves it.
+/// Otherwise the client polls, enlists the row and combines, with a yield between tries, until the
+/// call is answered.
 pub fn call<S: SeqObject, R: Wait>(
     rt: &R,
     desk: &Desk<S>,
@@ -36,7 +36,7 @@ pub fn call<S: SeqObject, R: Wait>(
 ) -> (Client<S>, Result<Answer<S::Reply>, CallFault>)
     requires { client.desk ≡ desk.now.id }
     ensures desk { result.0.desk ≡ client.desk }
-    // The call is over, and what `poll` answered is its answer.
+    // The call is over, and this is its answer.
     ensures answered { IfOk result.1
         (λ a. Called client.knows object (S.op_in op) (answer_in S.reply_in a) result.0.knows) }
     ensures fault { IfErr result.1 (λ e. Faulted desk.now client object (S.op_in op) e result.0) }

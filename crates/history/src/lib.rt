@@ -20,5 +20,4 @@ pub use fault::{HistoryFault, HistoryFaultKind, TextFault};
 pub use part::Part;
 pub use pieces::{join_parts, part_of, pieces_of};
 pub use reader::read_history;
-pub use seams::Seams;
 pub use text_reader::read_history_text;

@@ -154,9 +154,9 @@ impl Part {
         }
     }
 
-    /// Takes in the maps of these lines, in which each form is one operation map. None says that
-    /// the lines spell no forms, that a map of them has a fault after those of the part before it,
-    /// that they are too many, or that memory was refused; then nothing is known of the part.
+    /// Takes in the maps of these lines, in which each form is one operation map. None says nothing
+    /// of the lines, and then nothing is known of the part: the lines spell no forms, a map of them
+    /// has a fault after those of the part before it, they are too many, or memory was refused.
     pub fn read_lines(&mut self, alloc: Global, lines: &[u8]) -> Option<()>
         ensures { OnSome result ((ds : List Datum) → IsPartOf self.old ds
             → (es : List Datum) × Spells es lines.now × IsPartOf self.new (ds ++ es)) }

@@ -51,9 +51,9 @@ fn begins_in_lines(alloc: Global, text: &[u8]) -> bool {
     }
 }
 
-/// The text in this many pieces of nearly one length, with a line feed between each two. None says
-/// that its first lines cannot be read by themselves, that its lines are too few or too long, or
-/// that memory was refused.
+/// The text in pieces, with a line feed between each two. They are this many and of nearly one
+/// length, but no answer depends on that. None says nothing of the text: its first lines cannot be
+/// read by themselves, its lines are too few or too long, or memory was refused.
 pub fn pieces_of(alloc: Global, text: &[u8], count: usize) -> Option<Vec<&[u8]>>
     ensures { IfSome result (λ v. joined_by_feeds (map (λ p. p.now) v.items) ≡ text.entry.now) }
 {
@@ -71,9 +71,9 @@ pub fn pieces_of(alloc: Global, text: &[u8], count: usize) -> Option<Vec<&[u8]>>
     Some(pieces)
 }
 
-/// The table of the text whose pieces were read into these parts. None says that a piece was not
-/// read, that a map has a fault after those of the pieces before, that the maps are too many, or
-/// that memory was refused.
+/// The table of the text whose pieces were read into these parts. None says nothing of the text: a
+/// piece was not read, a map has a fault after those of the pieces before, the maps are too many, or
+/// memory was refused.
 pub fn join_parts(alloc: Global, parts: Vec<Option<Part>>) -> Option<Table>
     requires { (pieces : List (List ℕ)) × AreReadFrom pieces parts.items }
     ensures { IfSome result (λ t. (pieces : List (List ℕ)) → AreReadFrom pieces parts.items →

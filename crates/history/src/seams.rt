@@ -21,7 +21,7 @@ use std::alloc::Global;
 /// The parts so far: what their maps leave of each process and of each object, and their
 /// operations, with the ends that come in a later part.
 #[derive(Drop)]
-pub struct Seams {
+pub(crate) struct Seams {
     seen: Seen,
     joined: JoinedRows,
 }
@@ -115,8 +115,8 @@ impl Seams {
         }
     }
 
-    /// Joins one part more to those before it. None says that a map of the part has a fault after
-    /// theirs, that they are too many with those of the part, or that memory was refused.
+    /// Joins one part more to those before it. None says nothing of the parts: a map of this one has
+    /// a fault after theirs, their maps are too many, or memory was refused.
     pub fn add(self, alloc: Global, part: Part) -> Option<Seams>
         ensures { IfSome result (λ s. (ds es : List Datum) → AreJoined self ds → IsPartOf part es
             → AreJoined s (ds ++ es)) }
