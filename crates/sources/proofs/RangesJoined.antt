@@ -1,18 +1,18 @@
 -- Ranges of a source, and the parts that are read from them.
-use Rattle.std.proofs.Common.{◌≡◌, ℕ, zero, suc, not, false, ◌+◌, ◌<◌, ◌≤◌, List, [], ◌∷◌, ◌++◌, length, get_or, Option, Some, None, IfSome, All, is_some, true, refl, ap, sym, ◌∙◌, subst, append_assoc, arith}
-use Rattle.std.proofs.lemmas.List.{append-nil, length-append}
-use Rattle.byte_streams.specs.Given.{AreAt, EndBy, AreAll}
+use Rattle.std.proofs.Common.{◌≡◌, ℕ, zero, suc, not, false, ◌+◌, ◌<◌, List, [], ◌∷◌, ◌++◌, length, get_or, Option, Some, None, IfSome, All, is_some, true, refl, ap, sym, ◌∙◌, subst, append_assoc, arith}
+use Rattle.std.proofs.lemmas.List.{length-append}
+use Rattle.byte_streams.specs.Given.{AreAt, EndBy}
 use Rattle.edn_reader.specs.Datum.{Datum}
 use Rattle.edn_reader.specs.Spells.{Spells}
-use Rattle.edn_reader.proofs.Joined.{joined_spell, nothing_spelled}
+use Rattle.edn_reader.proofs.Joined.{joined_spell}
 use Rattle.edn_reader.specs.Sound.{IsShort}
 use Rattle.events.specs.declared.rows.Row.{Row}
 use Rattle.history.specs.declared.part.Part.{Part}
 use Rattle.history.specs.Parts.{IsPartOf}
-use Rattle.history.specs.Pieces.{joined_by_feeds, IsReadFrom, AreReadFrom, HasRows}
+use Rattle.history.specs.Pieces.{joined_by_feeds, AreReadFrom, HasRows}
 use Rattle.sources.specs.declared.ranges.Range.{Range}
 use Rattle.sources.specs.Ranges.{IsFeedAt, AreBeforeFeeds, AreRanges, IsRange, IsTableOfAll, no_range}
-use Rattle.sources.proofs.Places.{both_there, front_there, nothing_there, all_there, lines_there}
+use Rattle.sources.proofs.Places.{both_there, nothing_there, all_there, lines_there}
 
 -- ---- a range
 

@@ -64,7 +64,12 @@ fn feed_near<H: Placed>(source: &H, place: usize, buffer: &mut [u8]) -> Option<u
 
 /// The bytes before this place in so many ranges of nearly one length. None says that a line feed
 /// is not found soon where a range is to end, that the source failed, or that memory was refused.
-fn ranges_of<H: Placed>(alloc: Global, source: &H, length: usize, count: usize) -> Option<Vec<Range>>
+fn ranges_of<H: Placed>(
+    alloc: Global,
+    source: &H,
+    length: usize,
+    count: usize,
+) -> Option<Vec<Range>>
     ensures { IfSome result (λ v. AreRanges (H.remaining source.now) length v.items) }
 {
     let mut buffer = vec![in alloc; 0; CUT_LENGTH].ok()?;
@@ -83,12 +88,7 @@ fn ranges_of<H: Placed>(alloc: Global, source: &H, length: usize, count: usize) 
 
 /// Reads the lines of a range, as many at a time as the buffer holds. None says that they cannot be
 /// read by themselves, that the source failed or has fewer bytes, or that memory was refused.
-fn read_range<H: Placed>(
-    alloc: Global,
-    source: &H,
-    range: Range,
-    buffer: &mut [u8],
-) -> Option<Part>
+fn read_range<H: Placed>(alloc: Global, source: &H, range: Range, buffer: &mut [u8]) -> Option<Part>
     ensures { IfSome result (IsRange (H.remaining source.now) range) }
 {
     let mut part = Part::new(alloc);

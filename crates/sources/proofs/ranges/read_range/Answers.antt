@@ -1,8 +1,8 @@
-use Rattle.std.proofs.Common.{◌≡◌, ◌≤◌, ◌+◌, ◌-◌, take, length, ap, ◌∙◌, subst, sym, arith}
+use Rattle.std.proofs.Common.{◌≡◌, ◌≤◌, ◌+◌, ◌-◌, take, length, ap, ◌∙◌, arith}
 use Rattle.std.proofs.lemmas.List.{length-take-le}
 use Rattle.byte_streams.specs.Given.{GivesAt}
 use Rattle.sources.proofs.Places.{fewer_there, ok_is}
-use Rattle.sources.proofs.RangesJoined.{nothing_read, lines_read, range_read}
+use Rattle.sources.proofs.RangesJoined.{lines_read, range_read}
 use Rattle.sources.proofs.ranges.read_range.Goals as goal
 
 pub returns-then-given-left : goal.returns-then-given-left

@@ -1,9 +1,8 @@
-use Rattle.std.proofs.Common.{◌≡◌, ◌+◌, ◌<◌, ◌≤◌, ◌∷◌, ℕ, List, Option, Some, None, All, is_some, true, length, get_or, sym, subst, ◌∙◌, arith}
-use Rattle.events.specs.declared.rows.Row.{Row}
+use Rattle.std.proofs.Common.{◌≡◌, ◌+◌, ◌<◌, ◌∷◌, ℕ, List, Option, All, is_some, true, length, sym, subst, arith}
 use Rattle.history.specs.declared.part.Part.{Part}
 use Rattle.history.specs.Pieces.{joined_by_feeds, AreReadFrom, HasRows}
 use Rattle.sources.specs.Ranges.{AreRanges, IsTableOfAll}
-use Rattle.sources.proofs.RangesJoined.{AreRead, AreJoinedAt, read_all, ranges_joined, table_of_all, where_joined}
+use Rattle.sources.proofs.RangesJoined.{AreRead, read_all, ranges_joined, table_of_all, where_joined}
 use Rattle.sources.proofs.ranges.table_at.Goals as goal
 
 pub join_parts-requires : goal.join_parts-requires
