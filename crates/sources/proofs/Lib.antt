@@ -1,2 +1,4 @@
 pub mod Consuming
 pub mod InMemory
+pub mod Places
+pub mod RangesJoined
