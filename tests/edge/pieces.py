@@ -4,7 +4,6 @@ The histories are those of bench/gen.py, so that the lines of a verdict are know
 import functools
 import json
 import os
-import random
 import re
 import subprocess
 import sys
@@ -25,8 +24,6 @@ HISTORIES = {
 LEAST_LENGTH = 1_000_000
 # The maps that a history may have.
 MOST_MAPS = 1_000_000
-# Changes of a text by chance.
-CHANGES = 60
 # A process and an object that no generated history has.
 OTHER = 1_000_000, 60_000
 
@@ -91,61 +88,6 @@ def spellings(history):
     yield "keys in another order", text(each(lines, 0, 2, lambda it: re.sub(r"\{(:process \S+), (:type \S+),", r"{\2 \1", it)))
 
 
-def changed(chance, lines):
-    """A text that differs by one change, and what it is."""
-    lines = list(lines)
-    # Most are late: the first lines of a text are tried before it is cut.
-    at = chance.randrange(len(lines) // 10, len(lines))
-    far = chance.randrange(len(lines))
-    what = chance.randrange(12)
-    if what == 0:
-        del lines[at]
-    elif what == 1:
-        lines.insert(at, lines[at])
-    elif what == 2:
-        lines[at], lines[far] = lines[far], lines[at]
-    elif what == 3:
-        lines[at:] = [lines[at][: chance.randrange(1, len(lines[at]))]]
-    elif what == 4:
-        lines[at] = re.sub(r":value [^,}]+", f":value {chance.choice(['nil', '7', '[1 2]', 'false', '99999999', ':x'])}", lines[at])
-    elif what == 5:
-        lines[at] = re.sub(r":type :\w+", f":type :{chance.choice(['invoke', 'ok', 'fail', 'info', 'fails'])}", lines[at])
-    elif what == 6:
-        f = chance.choice(["enqueue", "pop", "insert", "read", "get", "acquire", "other"])
-        lines[at] = re.sub(r":f :[\w-]+", f":f :{f}", lines[at])
-    elif what == 7:
-        # A process that is perhaps busy, over a seam.
-        process = re.search(r":process \S+?,", lines[far])[0]
-        lines[at] = re.sub(r":process \S+?,", process, lines[at])
-    elif what == 8:
-        lines.append("]")
-    elif what == 9:
-        lines[at] = lines[at].replace("}", chance.choice(["", "]", "}}", ' "', " :f :pop}", "} 7", "} #_"]))
-    elif what == 10:
-        lines[at] = re.sub(r":object \d+", f":object {chance.choice([0, 1, 4, 29, 65535, 65536])}", lines[at])
-    else:
-        lines.insert(at, chance.choice(["{:process :nemesis}", "7", "{}", "#{}", "\\", "{:process -1, :type :ok}", "; no map", "nil"]))
-    return f"change {what} at line {at} ({far})", "\n".join(lines) + "\n"
-
-
-def changed_orders(chance, certificates):
-    """Certificates that differ by one change."""
-    lines = certificates.splitlines()
-    at = chance.randrange(len(lines))
-    numbers = re.findall(r"\d+", lines[at].partition(":order")[2])
-    one, other = chance.choice(numbers), chance.choice(numbers)
-    what = chance.randrange(4)
-    if what == 0:
-        del lines[at]
-    elif what == 1:
-        lines[at] = lines[at].replace(f" {one} ", " ")
-    elif what == 2:
-        lines[at] = lines[at].replace(f" {one} ", f" {other} ")
-    else:
-        lines[at] = lines[at].replace("[", f"[{numbers[-1]} ")
-    return f"change {what} of the order {at}", "\n".join(lines) + "\n"
-
-
 def valid_texts_in_pieces(program, report):
     """Valid histories, in several spellings, are judged yes with each number of workers, and counted as they were made."""
     for seed, (name, words) in enumerate(HISTORIES.items()):
@@ -160,24 +102,6 @@ def valid_texts_in_pieces(program, report):
             for spelling, text in spellings(history):
                 whole = same_with_each(program, report, f"{name}: {spelling}", text, certificates)
                 report.answers(f"pieces: {name}: {spelling}: verdict", whole, lines, 0)
-
-
-def changed_texts_in_pieces(program, report):
-    """A changed text is judged alike with each number of workers, whatever the verdict is."""
-    chance = random.Random(40)
-    kinds = {}
-    sources = [generated(program, name, words, seed) for seed, (name, words) in enumerate(HISTORIES.items())]
-    for number in range(CHANGES):
-        history, certificates, _ = sources[number % len(sources)]
-        if number % 4 == 3:
-            name, certificates = changed_orders(chance, certificates)
-        else:
-            name, history = changed(chance, history.splitlines())
-        whole = same_with_each(program, report, f"{number}: {name}", history, certificates)
-        kinds[whole.status] = kinds.get(whole.status, 0) + 1
-    for status in (0, 1, 2):
-        report.holds(f"pieces: some change has status {status}", kinds.get(status), kinds)
-    return f"statuses {kinds}"
 
 
 def faults_at_seams(program, report):
@@ -222,4 +146,4 @@ def long_texts_are_read_in_pieces(program, report):
     return f"{few} and {many} allocations"
 
 
-PARTS = (valid_texts_in_pieces, changed_texts_in_pieces, faults_at_seams, long_texts_are_read_in_pieces)
+PARTS = (valid_texts_in_pieces, faults_at_seams, long_texts_are_read_in_pieces)
