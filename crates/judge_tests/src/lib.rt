@@ -19,6 +19,8 @@ mod orders;
 #[cfg(test)]
 mod pages;
 #[cfg(test)]
+mod pieces;
+#[cfg(test)]
 mod reading;
 #[cfg(test)]
 mod workers;
