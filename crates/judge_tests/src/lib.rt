@@ -19,8 +19,6 @@ mod orders;
 #[cfg(test)]
 mod pages;
 #[cfg(test)]
-mod pieces;
-#[cfg(test)]
 mod reading;
 #[cfg(test)]
 mod workers;
