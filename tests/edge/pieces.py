@@ -66,7 +66,7 @@ def in_all(history, certificates):
 
 
 def each(lines, at, of, change):
-    """The lines, of which one of so many is changed, from a place on."""
+    """The lines, of which every n-th is changed, from a place on."""
     return [change(it) if number >= at and number % of == 0 else it for number, it in enumerate(lines)]
 
 
