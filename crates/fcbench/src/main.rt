@@ -79,10 +79,8 @@ fn run_check_on<R: Host>(
 
 /// Judges the files of a check.
 fn run_check<R: Host>(rt: &R, history: &str, certs: &str, workers: u32) -> io::Result<u8> {
-    if workers > 1 {
-        if let Ok(file) = fs::open(rt, history) {
-            return run_check_on(rt, file, history, certs, workers);
-        }
+    if let Ok(file) = fs::open(rt, history) {
+        return run_check_on(rt, file, history, certs, workers);
     }
     let mut first = In::new(NamedFile::new(rt, history));
     let mut second = In::new(NamedFile::new(rt, certs));

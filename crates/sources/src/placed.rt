@@ -60,9 +60,10 @@ fn check_table_over<R: Threads + Sync, C: Source, W: Sink>(
     }
 }
 
-/// Reads both texts and judges them as `check_over` does. Where the history is long, its source can
-/// be read at places and there are two workers or more, each reads a range of the history; a text of
-/// the whole is not made. Where anything in it is unusual, `check_over` reads it.
+/// Reads both texts and judges them as `check_over` does. Where the history is long and its source
+/// can be read at places, each worker reads a range of the history; a text of the whole is not made.
+/// Where anything in it is unusual, `check_over` reads it. With one worker too, the certificates are
+/// read beside the counts of the history, by two threads.
 pub fn check_placed<R: Threads + Sync, H: Placed + Sync, C: Source, W: Sink>(
     rt: &R,
     alloc: Global,
@@ -99,10 +100,7 @@ pub fn check_placed<R: Threads + Sync, H: Placed + Sync, C: Source, W: Sink>(
         (H.broken history.new ≡ false) × (C.broken certificates.new ≡ false)) }
     ensures nothing_written { IfErr result (λ e. e ≢ ToolFault.Write → sink.new ≡ sink.old) }
 {
-    if workers < 2 {
-        return check_over(rt, alloc, history, certificates, workers, sink);
-    }
-    match table_at(rt, alloc, &*history, workers.min(16) as usize) {
+    match table_at(rt, alloc, &*history, workers.clamp(1, 16) as usize) {
         None => check_over(rt, alloc, history, certificates, workers, sink),
         Some(table) => {
             history.pass_all();

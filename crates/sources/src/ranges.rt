@@ -62,7 +62,7 @@ fn feed_near<H: Placed>(source: &H, place: usize, buffer: &mut [u8]) -> Option<u
     place.checked_add(before.len())
 }
 
-/// The bytes before this place in so many ranges of nearly one length. None says that a line feed
+/// The bytes before this place in ranges of nearly one length, this many. None says that a line feed
 /// is not found soon where a range is to end, that the source failed, or that memory was refused.
 fn ranges_of<H: Placed>(
     alloc: Global,
