@@ -13,8 +13,8 @@ use Rattle.commands.specs.Runs.{IsRun}
 use Rattle.history_commands.specs.Searches.{IsSearch}
 use Rattle.commands.specs.Simulated.{IsSimulation}
 
--- Which lines and status a drawing has: those of a judgement where no certificates are named, or else
--- those of a check.
+-- Which lines and status a drawing has: those of a judgement where no certificates are named, or
+-- else those of a check.
 abbrev pub IsDrawn : {X : Type 0} → Option X → DrawOptions → List ℕ → List ℕ → ℕ → List ℕ → Type 0
 IsDrawn None options first second status out = IsDrawing first options.steps status out
 IsDrawn (Some certs) options first second status out = IsCheckedDrawing first second status out

@@ -26,7 +26,10 @@ vectors_in (suc n) fs = a_vector ∷ vectors_in n fs
 
 abbrev pub levels_shapes : Levels → Shapes
 levels_shapes l =
-    record { inner = level_shape l.inner; outer = vectors_in l.vectors (levels_onto [] l.outer.items) }
+    record {
+      inner = level_shape l.inner;
+      outer = vectors_in l.vectors (levels_onto [] l.outer.items);
+    }
 
 -- a level inside what is open
 abbrev pub within : Shape → Shapes → Shapes

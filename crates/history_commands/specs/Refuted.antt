@@ -131,7 +131,8 @@ IsRefuteText h r limit status text =
 
 -- what is put out of a check of reasons
 abbrev pub IsRefuteOutput : List ℕ → List ℕ → ℕ → ℕ → List ℕ → Type 0
-IsRefuteOutput h r limit status text = IsOutput (IsRefuteText h r limit) (IsUnsearched h) status text
+IsRefuteOutput h r limit status text =
+    IsOutput (IsRefuteText h r limit) (IsUnsearched h) status text
 
 -- The result of a check of reasons: if it is a no the history is not linearizable.
 pub record IsRefute (h r : List ℕ) (limit status : ℕ) (out : List ℕ) : Type 0 where

@@ -8,7 +8,7 @@ use Rattle.order_search.specs.declared.pairs.Pair.{Pair}
 use Rattle.order_search.specs.declared.dead.Dead.{Dead}
 use Rattle.order_search.specs.Links.{Lists}
 
--- among the pairs is that of this content and of the places that the list does not have below `high`
+-- among the pairs is that of this content and of the places below `high` that are not in the list
 abbrev pub HasPair : List Pair → List ℕ → ℕ → Content → Type 0
 HasPair pairs next high c =
     (k : ℕ) × (k < length pairs)

@@ -137,8 +137,8 @@ pub fn check_sources<R: Threads + Sync, H: Source, C: Source, S: Sink>(
     check_both(rt, alloc, history, certificates, None, workers, sink)
 }
 
-/// Does what `check_sources` does, where the history's source can be read at places: with two workers
-/// or more, each reads a range of a long history.
+/// Does what `check_sources` does, where the history's source can be read at places: each worker
+/// reads a range of a long history.
 pub fn check_places<R: Threads + Sync, H: Placed + Sync, C: Source, S: Sink>(
     rt: &R,
     alloc: Global,

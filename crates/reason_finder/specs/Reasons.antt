@@ -12,8 +12,8 @@ use Rattle.refutation.specs.declared.reason.Evidence.{Evidence}
 use Rattle.refutation.specs.declared.reason.Evidence.TheVariants.{Search, Counting}
 use Rattle.reason_finder.specs.declared.finding.FoundReason.{FoundReason}
 
--- What the evidence shows of a part: a search, that no order of it is valid; a count, that a content
--- was taken away more often than it can have been there.
+-- What the evidence shows of a part: a search, that no order of it is valid; a count, that a
+-- content was taken away more often than it can have been there.
 abbrev pub IsShownBy : Evidence → ObjectCalls → Type 0
 IsShownBy Search part = IsNoneValid part.kind (calls_of part.ops)
 IsShownBy (Counting count) part = IsOverdrawn part.kind count (calls_of part.ops)

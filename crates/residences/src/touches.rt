@@ -64,7 +64,7 @@ impl Touches {
         let mut ends = Vec::new(alloc);
         let mut rest = self.known.as_slice();
         for _ in 0..self.known.len() {
-            let (own, others) = rest.split_at(count_of_first(rest).min(rest.len()));
+            let (own, others) = first_value(rest);
             if overdraw_value(own, &mut ends)? {
                 return Ok(true);
             }
@@ -72,16 +72,6 @@ impl Touches {
         }
         Ok(false)
     }
-}
-
-/// How many of the touches have the value of the first.
-fn count_of_first(touches: &[Touch]) -> usize {
-    let Some(first) = touches.first() else {
-        return 0;
-    };
-    let value = first.value;
-    let other = touches.iter().position(|touch| touch.value != value);
-    other.unwrap_or(touches.len())
 }
 
 /// Whether this value, whose puts come first, is taken when it can't be in. The list is for the
@@ -144,6 +134,6 @@ pub fn first_value(touches: &[Touch]) -> (&[Touch], &[Touch]) {
         return (touches, touches);
     };
     let value = first.value;
-    let here = touches.partition_point(|touch| touch.value <= value);
-    touches.split_at(here.min(touches.len()))
+    let here = touches.iter().position(|touch| touch.value != value);
+    touches.split_at(here.unwrap_or(touches.len()).min(touches.len()))
 }

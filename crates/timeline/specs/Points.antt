@@ -1,5 +1,6 @@
 -- Points of an order over the bars of the operations.
-use Rattle.std.specs.Prelude.{◌≡◌, ◌==◌, ◌&&◌, ◌||◌, Bool, true, false, nat_lt, nat_le, List, [], ◌∷◌}
+use Rattle.std.specs.Prelude.{◌≡◌, ◌==◌, ◌&&◌, ◌||◌, Bool, true, false, nat_lt, nat_le, List, []}
+use Rattle.std.specs.Prelude.{◌∷◌}
 use Rattle.timeline.specs.declared.figure.Bar.{Bar}
 use Rattle.timeline.specs.declared.points.Point.{Point}
 
