@@ -6,4 +6,5 @@ mod gathering;
 mod share;
 mod workers;
 
-pub use workers::{check_parallel, check_table};
+pub use gathering::split_table_by_workers;
+pub use workers::{check_objects, check_parallel};

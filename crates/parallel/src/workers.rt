@@ -2,7 +2,6 @@
 
 ghost use Rattle.std.specs.Prelude.{◌≡◌, ◌<◌, List, OnOk, IfErr, AllPairs, ◌+◌};
 ghost use Rattle.events.specs.declared.event.Event.{Event};
-ghost use Rattle.events.specs.Rows.{IsTableOf};
 ghost use Rattle.certificate.specs.Denotes.{AreDistinct};
 ghost use Rattle.checker.specs.Refusals.{AreValid, IsCheckAnswer, IsFirstRefusal};
 ghost use Rattle.checker.specs.Checking.{AreAllPlaces};
@@ -10,17 +9,18 @@ ghost use Rattle.parallel.specs.Parts.{AreAll};
 ghost use Rattle.parallel.specs.Shares.{IsShare};
 ghost use Rattle.parallel.specs.Shares.{max_workers};
 
-use crate::gathering::{split_by_workers, split_table_by_workers};
+use crate::gathering::split_by_workers;
 use crate::share::{RefusedPiece, check_share, least};
 use certificate::Certificate;
 use checker::{Refusal, places, strange_object};
-use events::{History, ObjectHistory, Table};
+use events::{History, ObjectHistory};
 use seq_objects::Gate;
 use std::alloc::Global;
 use std::thread::{Threads, map_indices};
 
-/// Checks the certificates of these objects, which are all that a history names, by workers.
-fn check_objects<R: Threads + Sync, G: Gate>(
+/// Checks the certificates of these objects, which are all that a history names, as
+/// `check_parallel` does.
+pub fn check_objects<R: Threads + Sync, G: Gate>(
     rt: &R,
     alloc: Global,
     objects: &[ObjectHistory],
@@ -28,11 +28,13 @@ fn check_objects<R: Threads + Sync, G: Gate>(
     workers: u32,
     gate: &G,
 ) -> Result<(), Refusal>
+    // no object has two certificates
     requires distinct { AreDistinct certificates.now }
     requires some { 0 < workers }
     requires few { workers < 1 + max_workers }
     requires rising { AllPairs (λ a b. a.object < b.object) objects.now }
-    ensures { (es : List Event) → AreAll es objects.now → IsCheckAnswer es certificates.now result }
+    ensures answer { (es : List Event) → AreAll es objects.now
+        → IsCheckAnswer es certificates.now result }
 {
     let Ok(places) = places(alloc, certificates) else {
         return Err(Refusal::NoMemory);
@@ -91,28 +93,6 @@ pub fn check_parallel<R: Threads + Sync, G: Gate>(
     ensures answer { IsCheckAnswer history.now certificates.now result }
 {
     let Ok(objects) = split_by_workers(rt, alloc, history, workers) else {
-        return Err(Refusal::NoMemory);
-    };
-    check_objects(rt, alloc, &objects, certificates, workers, gate)
-}
-
-/// As `check_parallel`, from the table of a history.
-pub fn check_table<R: Threads + Sync, G: Gate>(
-    rt: &R,
-    alloc: Global,
-    table: &Table,
-    certificates: &[Certificate],
-    workers: u32,
-    gate: &G,
-) -> Result<(), Refusal>
-    // no object has two certificates
-    requires distinct { AreDistinct certificates.now }
-    requires some { 0 < workers }
-    requires few { workers < 1 + max_workers }
-    ensures { (es : List Event) → IsTableOf table.now es
-        → IsCheckAnswer es certificates.now result }
-{
-    let Ok(objects) = split_table_by_workers(rt, alloc, table, workers) else {
         return Err(Refusal::NoMemory);
     };
     check_objects(rt, alloc, &objects, certificates, workers, gate)

@@ -62,8 +62,7 @@ fn check_table_over<R: Threads + Sync, C: Source, W: Sink>(
 
 /// Reads both texts and judges them as `check_over` does. Where the history is long and its source
 /// can be read at places, each worker reads a range of the history; a text of the whole is not made.
-/// Where anything in it is unusual, `check_over` reads it. With one worker too, the certificates are
-/// read beside the counts of the history, by two threads.
+/// Where anything in it is unusual, `check_over` reads it. With 0 or 1 workers it starts no thread.
 pub fn check_placed<R: Threads + Sync, H: Placed + Sync, C: Source, W: Sink>(
     rt: &R,
     alloc: Global,

@@ -21,20 +21,26 @@ shares g c = record {
 }
 
 pub returns-in-Some : goal.returns-in-Some
-returns-in-Some g c = λ es all.
-    let d = (goal.at.returns-in-Some g c).After-least in
-    let first = first_of_all es _ _ _ _ _ c.requires.distinct (objects g d es all) (shares g d) c.in-Some.ensures.stands c.in-Some.ensures.least in
-    record { valid = tt; refused = first.0; exact = first.1 }
+returns-in-Some g c = record {
+  answer = λ es all.
+      let d = (goal.at.returns-in-Some g c).After-least in
+      let first = first_of_all es _ _ _ _ _ c.requires.distinct (objects g d es all) (shares g d) c.in-Some.ensures.stands c.in-Some.ensures.least in
+      record { valid = tt; refused = first.0; exact = first.1 };
+}
 
 pub returns-in-Some-strange_object : goal.returns-in-Some-strange_object
-returns-in-Some-strange_object g c = λ es all.
-    let d = (goal.at.returns-in-Some-strange_object g c).After-least in
-    let fine = all_are_fine es _ _ _ _ (objects g d es all) (shares g d) c.in_default-least.ensures.none in
-    let strange = least_strange es _ _ _ c.requires.distinct (objects g d es all) fine c.in-Some-strange_object.ensures.least in
-    record { valid = tt; refused = strange; exact = λ valid. absurd (strange_is_not_valid es c.args.certificates.now c.in-Some-strange_object.object strange valid) }
+returns-in-Some-strange_object g c = record {
+  answer = λ es all.
+      let d = (goal.at.returns-in-Some-strange_object g c).After-least in
+      let fine = all_are_fine es _ _ _ _ (objects g d es all) (shares g d) c.in_default-least.ensures.none in
+      let strange = least_strange es _ _ _ c.requires.distinct (objects g d es all) fine c.in-Some-strange_object.ensures.least in
+      record { valid = tt; refused = strange; exact = λ valid. absurd (strange_is_not_valid es c.args.certificates.now c.in-Some-strange_object.object strange valid) };
+}
 
 pub returns : goal.returns
-returns g c = λ es all.
-    let d = (goal.at.returns g c).After-least in
-    let fine = all_are_fine es _ _ _ _ (objects g d es all) (shares g d) c.in_default-least.ensures.none in
-    record { valid = all_valid es _ _ (objects g d es all) fine c.in-None.ensures.none; refused = tt; exact = λ valid. tt }
+returns g c = record {
+  answer = λ es all.
+      let d = (goal.at.returns g c).After-least in
+      let fine = all_are_fine es _ _ _ _ (objects g d es all) (shares g d) c.in_default-least.ensures.none in
+      record { valid = all_valid es _ _ (objects g d es all) fine c.in-None.ensures.none; refused = tt; exact = λ valid. tt };
+}

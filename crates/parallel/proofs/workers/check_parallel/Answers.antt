@@ -5,7 +5,7 @@ use Rattle.parallel.proofs.workers.check_parallel.Goals as goal
 pub returns-clause-answer : goal.returns-clause-answer
 returns-clause-answer g c =
     let es = c.args.history.now in
-    c.check_objects.ensures es (subst (AreAll es) (sym c.deref.ensures.value) c.in-Ok.ensures)
+    c.check_objects.ensures.answer es (subst (AreAll es) (sym c.deref.ensures.value) c.in-Ok.ensures)
 
 pub returns-clause-valid : goal.returns-clause-valid
 returns-clause-valid g c = (returns-clause-answer g c).valid
