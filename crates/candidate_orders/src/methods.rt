@@ -2,7 +2,7 @@
 
 use crate::mutex::mutex_order;
 use crate::values::{other_values_order, values_order};
-use cell_orders::order_of_cells;
+use cell_orders::{CellsOrder, order_of_cells};
 use events::{Invocation, ObjectHistory};
 use order_search::{Outcome, TryFirst, find_order_of_any_size};
 use queue_search::searched_queue_order;
@@ -34,6 +34,9 @@ pub enum Candidate {
     Order(Vec<i64>),
     /// The method found no order.
     NotFound,
+    /// The method found no order of the calls on this key of a map, and one of those on each lesser
+    /// key.
+    OpenKey(i64),
     /// A value is taken from a queue, stack or heap when it can't be in: no method finds an order.
     Overdrawn,
 }
@@ -43,6 +46,15 @@ impl Candidate {
         match order {
             Some(order) => Candidate::Order(order),
             None => Candidate::NotFound,
+        }
+    }
+
+    /// What was found for the cells of a register or map.
+    fn of_cells(order: CellsOrder) -> Candidate {
+        match order {
+            CellsOrder::Order(order) => Candidate::Order(order),
+            CellsOrder::OpenCell { key: Some(key) } => Candidate::OpenKey(key),
+            CellsOrder::OpenCell { key: None } => Candidate::NotFound,
         }
     }
 }
@@ -55,7 +67,9 @@ fn order_of_kind(
 ) -> Result<Candidate, AllocError> {
     let timeline = timeline_of(alloc, operations)?;
     let order = match kind {
-        Kind::Register | Kind::Map => order_of_cells(alloc, &timeline)?,
+        Kind::Register | Kind::Map => {
+            return Ok(Candidate::of_cells(order_of_cells(alloc, &timeline)?));
+        }
         Kind::Mutex => mutex_order(alloc, &timeline)?,
         Kind::Queue | Kind::Stack | Kind::Heap => {
             let touches = touches_of(alloc, &timeline.calls)?;

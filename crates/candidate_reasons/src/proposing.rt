@@ -2,10 +2,10 @@
 
 use crate::shrinking::{Judge, tells};
 use crate::value_pairs::value_pairs_of;
-use crate::wholes::add_wholes;
+use crate::wholes::{add_wholes, key_of};
 use cell_reasons::{add_cells, add_mutex, add_rare_cells};
 use container_reasons::add_containers;
-use events::{End, ObjectHistory};
+use events::{End, Invocation, ObjectHistory};
 use projection::{Cut, part_by};
 use reason_plans::{Candidate, Element, Pattern, Plan};
 use refutation::{Reason, Refutation, refute};
@@ -57,18 +57,26 @@ struct Shrunk {
     size: usize,
 }
 
-/// The candidates by patterns, the lightest first.
+/// A proposal that holds, and the number of operations of its part.
+#[derive(Drop)]
+struct Confirmed {
+    proposal: Proposal,
+    size: usize,
+}
+
+/// The candidates by patterns, the lightest first: of a map those of the keys after this one.
 fn candidates_of(
     alloc: Global,
     kind: Kind,
     timeline: &Timeline,
+    after: Option<i64>,
 ) -> Result<Vec<Candidate>, AllocError> {
     let mut candidates = Vec::new(alloc);
     match kind {
         Kind::Queue | Kind::Stack | Kind::Heap => {
             add_containers(alloc, kind, timeline, &mut candidates)?
         }
-        Kind::Register | Kind::Map => add_cells(alloc, timeline, &mut candidates)?,
+        Kind::Register | Kind::Map => add_cells(alloc, timeline, after, &mut candidates)?,
         Kind::Mutex => add_mutex(alloc, timeline, &mut candidates)?,
     }
     candidates.sort_by_key(|candidate| candidate.weight)?;
@@ -236,11 +244,11 @@ fn confirm(
     history: &ObjectHistory,
     shrunk: Shrunk,
     limit: u64,
-) -> Result<Option<Proposal>, AllocError> {
+) -> Result<Option<Confirmed>, AllocError> {
     let Shrunk {
         candidate,
         base,
-        size: _,
+        size,
     } = shrunk;
     let Candidate {
         pattern,
@@ -249,10 +257,13 @@ fn confirm(
         weight: _,
     } = candidate;
     let reason = reason_of(alloc, history, base, &mut plan, limit)?;
-    Ok(reason.map(|reason| Proposal {
-        reason,
-        pattern,
-        key,
+    Ok(reason.map(|reason| Confirmed {
+        proposal: Proposal {
+            reason,
+            pattern,
+            key,
+        },
+        size,
     }))
 }
 
@@ -288,10 +299,10 @@ fn first_confirmed(
     history: &ObjectHistory,
     all: Vec<Shrunk>,
     limit: u64,
-) -> Result<Option<Proposal>, AllocError> {
+) -> Result<Option<Confirmed>, AllocError> {
     for shrunk in all {
-        if let Some(proposal) = confirm(alloc, history, shrunk, limit)? {
-            return Ok(Some(proposal));
+        if let Some(found) = confirm(alloc, history, shrunk, limit)? {
+            return Ok(Some(found));
         }
     }
     Ok(None)
@@ -303,7 +314,7 @@ fn best_of(
     history: &ObjectHistory,
     mut candidates: Vec<Candidate>,
     limit: u64,
-) -> Result<Option<Proposal>, AllocError> {
+) -> Result<Option<Confirmed>, AllocError> {
     candidates.truncate(MOST);
     candidates.reverse();
     for _ in 0..MOST {
@@ -311,8 +322,8 @@ fn best_of(
         if next.is_empty() {
             break;
         }
-        if let Some(proposal) = first_confirmed(alloc, history, next, limit)? {
-            return Ok(Some(proposal));
+        if let Some(found) = first_confirmed(alloc, history, next, limit)? {
+            return Ok(Some(found));
         }
     }
     Ok(None)
@@ -327,36 +338,92 @@ fn first_of(
 ) -> Result<Option<Proposal>, AllocError> {
     for candidate in candidates {
         if let Some(shrunk) = shrink(alloc, history, candidate, limit)?
-            && let Some(proposal) = confirm(alloc, history, shrunk, limit)?
+            && let Some(found) = confirm(alloc, history, shrunk, limit)?
         {
-            return Ok(Some(proposal));
+            return Ok(Some(found.proposal));
         }
     }
     Ok(None)
 }
 
+/// The operations of a map on one key.
+fn operations_on(
+    alloc: Global,
+    operations: &[Invocation],
+    key: i64,
+) -> Result<Vec<Invocation>, AllocError> {
+    operations
+        .iter()
+        .filter(|operation| key_of(operation.op) == Some(key))
+        .copied()
+        .collect(alloc)
+}
+
+/// The smallest reason to which the patterns of one key of a map lead, if they lead to one.
+fn best_on(
+    alloc: Global,
+    history: &ObjectHistory,
+    key: i64,
+    limit: u64,
+) -> Result<Option<Confirmed>, AllocError> {
+    let timeline = timeline_of(alloc, &operations_on(alloc, history.ops(), key)?)?;
+    let candidates = candidates_of(alloc, Kind::Map, &timeline, None)?;
+    best_of(alloc, history, candidates, limit)
+}
+
+/// The smaller one of two reasons, where they are found.
+fn smaller(one: Option<Confirmed>, other: Option<Confirmed>) -> Option<Proposal> {
+    match (one, other) {
+        (Some(one), Some(other)) if other.size < one.size => Some(other.proposal),
+        (Some(one), _) => Some(one.proposal),
+        (None, other) => other.map(|other| other.proposal),
+    }
+}
+
+/// A reason to which the patterns lead that take longer to be found, or what keeps everything.
+fn propose_by_more(
+    alloc: Global,
+    history: &ObjectHistory,
+    timeline: &Timeline,
+    limit: u64,
+) -> Result<Option<Proposal>, AllocError> {
+    let kind = history.kind();
+    let candidates = rare_of(alloc, kind, timeline)?;
+    if let Some(found) = best_of(alloc, history, candidates, limit)? {
+        return Ok(Some(found.proposal));
+    }
+    let candidates = wholes_of(alloc, kind, timeline)?;
+    let found = best_of(alloc, history, candidates, limit)?;
+    Ok(found.map(|found| found.proposal))
+}
+
 /// A small reason why no order of the object's operations is valid, if a pattern leads to one, or if
-/// there are few operations. It has no contract: `reason_finder` checks the reason. The search for
-/// an order of one part tries at most `limit` operations.
+/// there are few operations. The open key of a map is one for whose operations no order was found,
+/// while those of each lesser key have one: it is looked at first, and the others only where it has
+/// no reason that is small enough. No contract says that a reason is true: `reason_finder` checks
+/// it. The search for an order of one part tries at most `limit` operations.
 ///
 /// An error: the allocator refused memory.
 pub fn propose(
     alloc: Global,
     history: &ObjectHistory,
+    open_key: Option<i64>,
     limit: u64,
 ) -> Result<Option<Proposal>, AllocError> {
-    let kind = history.kind();
+    let own = match open_key {
+        Some(key) => best_on(alloc, history, key, limit)?,
+        None => None,
+    };
+    if own.as_ref().is_some_and(|own| own.size <= FEW) {
+        return Ok(own.map(|own| own.proposal));
+    }
     let timeline = timeline_of(alloc, history.ops())?;
-    let candidates = candidates_of(alloc, kind, &timeline)?;
-    if let Some(proposal) = best_of(alloc, history, candidates, limit)? {
-        return Ok(Some(proposal));
+    let candidates = candidates_of(alloc, history.kind(), &timeline, open_key)?;
+    let other = best_of(alloc, history, candidates, limit)?;
+    match smaller(own, other) {
+        Some(proposal) => Ok(Some(proposal)),
+        None => propose_by_more(alloc, history, &timeline, limit),
     }
-    let candidates = rare_of(alloc, kind, &timeline)?;
-    if let Some(proposal) = best_of(alloc, history, candidates, limit)? {
-        return Ok(Some(proposal));
-    }
-    let candidates = wholes_of(alloc, kind, &timeline)?;
-    best_of(alloc, history, candidates, limit)
 }
 
 /// The same of what was done with two values of a queue, stack or heap in which values repeat.

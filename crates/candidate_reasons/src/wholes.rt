@@ -13,7 +13,8 @@ const MOST: usize = 64;
 /// The most keys of a map that are tried.
 const MOST_KEYS: usize = 16;
 
-fn key_of(op: AnyOp) -> Option<i64> {
+/// The key of an operation of a map.
+pub(crate) fn key_of(op: AnyOp) -> Option<i64> {
     match op {
         AnyOp::Put(key, _) => Some(key),
         AnyOp::Get(key) => Some(key),

@@ -43,16 +43,29 @@ fn order_by_gaps(alloc: Global, merged: &[Placed], gaps: u32) -> Result<Vec<i64>
     Ok(order)
 }
 
-/// An order of the calls of a register or map that may be valid. It has no contract.
-pub fn order_of_cells(alloc: Global, timeline: &Timeline) -> Result<Option<Vec<i64>>, AllocError> {
+/// What was found for the calls of a register or map.
+#[derive(Drop)]
+pub enum CellsOrder {
+    /// An order that may be valid.
+    Order(Vec<i64>),
+    /// No order: none was found for the calls of one cell. Those of a map's lesser keys have one.
+    OpenCell {
+        /// The key of a map; nothing at a register.
+        key: Option<i64>,
+    },
+}
+
+/// An order of the calls of a register or map that may be valid, or the first cell that has none. It
+/// has no contract.
+pub fn order_of_cells(alloc: Global, timeline: &Timeline) -> Result<CellsOrder, AllocError> {
     let mut merged = Vec::new(alloc);
     for cell in &cells_of(alloc, &timeline.calls)? {
         let Some(order) = searched_order(alloc, &cell.accesses)? else {
-            return Ok(None);
+            return Ok(CellsOrder::OpenCell { key: cell.key });
         };
         add_cell(&mut merged, cell, &order)?;
     }
-    Ok(Some(order_by_gaps(alloc, &merged, timeline.end)?))
+    Ok(CellsOrder::Order(order_by_gaps(alloc, &merged, timeline.end)?))
 }
 
 /// The most keys that are named as open.

@@ -15,4 +15,4 @@ mod groups;
 mod search;
 mod waiting;
 
-pub use cells::{open_keys, order_of_cells};
+pub use cells::{CellsOrder, open_keys, order_of_cells};

@@ -186,10 +186,14 @@ pub fn decide(
     ensures memory { IfOk result (λ d. d ≡ Decision.NoMemory
         → Any (λ call. IsSome call.returned) (calls_of history.now.ops)) }
 {
-    if let Ok(FindOutcome::Order(certificate)) = find_by_kind(alloc, history) {
-        return Ok(Decision::Order(certificate));
+    let mut open_key = None;
+    if let Ok(quick) = find_by_kind(alloc, history) {
+        if let FindOutcome::Order(certificate) = quick.outcome {
+            return Ok(Decision::Order(certificate));
+        }
+        open_key = quick.open_key;
     }
-    if let Ok(Some(found)) = find_reason_by_patterns(alloc, history, STEPS_OF_A_PART) {
+    if let Ok(Some(found)) = find_reason_by_patterns(alloc, history, open_key, STEPS_OF_A_PART) {
         return Ok(Decision::Impossible(found));
     }
     if let Ok(FindOutcome::Order(certificate)) = find_by_contents(alloc, history) {

@@ -19,6 +19,14 @@ pub enum FindOutcome {
     Open,
 }
 
+/// What the quick methods found for an object.
+#[derive(Drop)]
+pub struct QuickOutcome {
+    pub outcome: FindOutcome,
+    /// The first key of a map for whose calls no order was found. No clause says that they have none.
+    pub open_key: Option<i64>,
+}
+
 /// The certificate with this order, if that is valid. What is handed out was checked.
 fn certify(
     alloc: Global,
@@ -48,27 +56,39 @@ fn find_by(
 {
     match order_by(alloc, method, history)? {
         Candidate::Order(order) => certify(alloc, history, order),
-        Candidate::NotFound | Candidate::Overdrawn => Ok(None),
+        Candidate::NotFound | Candidate::OpenKey(_) | Candidate::Overdrawn => Ok(None),
     }
 }
 
 /// Looks for a certificate of an object by the quick methods that are made for its kind: for a queue,
-/// stack or heap also with another choice of what each removal takes.
-pub fn find_by_kind(alloc: Global, history: &ObjectHistory) -> Result<FindOutcome, AllocError>
-    ensures valid { IfOk result (λ f. IfOrder f
+/// stack or heap also with another choice of what each removal takes. Where these find no order of a
+/// map they tell the key at which they stopped.
+pub fn find_by_kind(alloc: Global, history: &ObjectHistory) -> Result<QuickOutcome, AllocError>
+    ensures valid { IfOk result (λ f. IfOrder f.outcome
         (IsFor history.now.object history.now.kind (calls_of history.now.ops))) }
 {
+    let mut open_key = None;
     for method in [Method::OfTheKind, Method::OtherPairs] {
         let order = match order_by(alloc, method, history)? {
             Candidate::Order(order) => order,
             Candidate::NotFound => continue,
+            Candidate::OpenKey(key) => {
+                open_key = Some(key);
+                break;
+            }
             Candidate::Overdrawn => break,
         };
         if let Some(certificate) = certify(alloc, history, order)? {
-            return Ok(FindOutcome::Order(certificate));
+            return Ok(QuickOutcome {
+                outcome: FindOutcome::Order(certificate),
+                open_key: None,
+            });
         }
     }
-    Ok(FindOutcome::Open)
+    Ok(QuickOutcome {
+        outcome: FindOutcome::Open,
+        open_key,
+    })
 }
 
 /// Looks for a certificate of a queue or stack by a search of all that it may contain.
@@ -88,7 +108,7 @@ pub fn find(alloc: Global, history: &ObjectHistory) -> Result<FindOutcome, Alloc
     ensures valid { IfOk result (λ f. IfOrder f
         (IsFor history.now.object history.now.kind (calls_of history.now.ops))) }
 {
-    if let FindOutcome::Order(certificate) = find_by_kind(alloc, history)? {
+    if let FindOutcome::Order(certificate) = find_by_kind(alloc, history)?.outcome {
         return Ok(FindOutcome::Order(certificate));
     }
     if let FindOutcome::Order(certificate) = find_by_contents(alloc, history)? {

@@ -9,4 +9,4 @@ mod all;
 mod finding;
 
 pub use all::find_all;
-pub use finding::{FindOutcome, find, find_by_contents, find_by_kind};
+pub use finding::{FindOutcome, QuickOutcome, find, find_by_contents, find_by_kind};

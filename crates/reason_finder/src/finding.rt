@@ -93,20 +93,22 @@ fn confirm(
     }))
 }
 
-/// Looks for a small reason why no order of the object's operations is valid, by patterns. The
-/// search for an order of one part tries at most `limit` operations. `None`: there may be a valid
-/// order, or none.
+/// Looks for a small reason why no order of the object's operations is valid, by patterns. The open
+/// key of a map, where it is given, is one for whose operations no order was found, while those of
+/// each lesser key have one: it is looked at first. The search for an order of one part tries at
+/// most `limit` operations. `None`: there may be a valid order, or none.
 ///
 /// An error: the allocator refused memory.
 pub fn find_reason_by_patterns(
     alloc: Global,
     history: &ObjectHistory,
+    open_key: Option<i64>,
     limit: u64,
 ) -> Result<Option<FoundReason>, AllocError>
     ensures reason { IfOk result (λ o. IfSome o (IsReasonFor
         history.now.object history.now.kind (calls_of history.now.ops))) }
 {
-    match propose(alloc, history, limit)? {
+    match propose(alloc, history, open_key, limit)? {
         Some(proposal) => confirm(alloc, history, proposal, limit),
         None => Ok(None),
     }
@@ -142,7 +144,7 @@ pub fn find_reason(
     ensures reason { IfOk result (λ o. IfSome o (IsReasonFor
         history.now.object history.now.kind (calls_of history.now.ops))) }
 {
-    match find_reason_by_patterns(alloc, history, limit)? {
+    match find_reason_by_patterns(alloc, history, None, limit)? {
         Some(found) => Ok(Some(found)),
         None => find_reason_by_pairs(alloc, history, limit),
     }
