@@ -9,7 +9,7 @@ use events::{End, Invocation, ObjectHistory};
 use projection::{Cut, part_by};
 use reason_plans::{Candidate, Element, Pattern, Plan};
 use refutation::{Reason, Refutation, refute};
-use seq_objects::Kind;
+use seq_objects::{AnyOp, Kind};
 use std::alloc::{AllocError, Global};
 use timed_calls::{Timeline, timeline_of};
 
@@ -64,19 +64,18 @@ struct Confirmed {
     size: usize,
 }
 
-/// The candidates by patterns, the lightest first: of a map those of the keys after this one.
+/// The candidates by patterns, the lightest first.
 fn candidates_of(
     alloc: Global,
     kind: Kind,
     timeline: &Timeline,
-    after: Option<i64>,
 ) -> Result<Vec<Candidate>, AllocError> {
     let mut candidates = Vec::new(alloc);
     match kind {
         Kind::Queue | Kind::Stack | Kind::Heap => {
             add_containers(alloc, kind, timeline, &mut candidates)?
         }
-        Kind::Register | Kind::Map => add_cells(alloc, timeline, after, &mut candidates)?,
+        Kind::Register | Kind::Map => add_cells(alloc, timeline, &mut candidates)?,
         Kind::Mutex => add_mutex(alloc, timeline, &mut candidates)?,
     }
     candidates.sort_by_key(|candidate| candidate.weight)?;
@@ -346,28 +345,40 @@ fn first_of(
     Ok(None)
 }
 
-/// The operations of a map on one key.
+/// Whether an operation of a map is on a key from one to another.
+fn is_on(op: AnyOp, first: i64, last: i64) -> bool {
+    match key_of(op) {
+        Some(key) => first <= key && key <= last,
+        None => false,
+    }
+}
+
+/// The operations of a map on the keys from one to another.
 fn operations_on(
     alloc: Global,
     operations: &[Invocation],
-    key: i64,
+    first: i64,
+    last: i64,
 ) -> Result<Vec<Invocation>, AllocError> {
     operations
         .iter()
-        .filter(|operation| key_of(operation.op) == Some(key))
+        .filter(|operation| is_on(operation.op, first, last))
         .copied()
         .collect(alloc)
 }
 
-/// The smallest reason to which the patterns of one key of a map lead, if they lead to one.
+/// The smallest reason to which the patterns of a map's keys from one to another lead, if they lead
+/// to one.
 fn best_on(
     alloc: Global,
     history: &ObjectHistory,
-    key: i64,
+    first: i64,
+    last: i64,
     limit: u64,
 ) -> Result<Option<Confirmed>, AllocError> {
-    let timeline = timeline_of(alloc, &operations_on(alloc, history.ops(), key)?)?;
-    let candidates = candidates_of(alloc, Kind::Map, &timeline, None)?;
+    let operations = operations_on(alloc, history.ops(), first, last)?;
+    let timeline = timeline_of(alloc, &operations)?;
+    let candidates = candidates_of(alloc, history.kind(), &timeline)?;
     best_of(alloc, history, candidates, limit)
 }
 
@@ -378,6 +389,25 @@ fn smaller(one: Option<Confirmed>, other: Option<Confirmed>) -> Option<Proposal>
         (Some(one), _) => Some(one.proposal),
         (None, other) => other.map(|other| other.proposal),
     }
+}
+
+/// A reason to which the patterns of a map's keys from this one on lead. The others are looked at
+/// only where this one has no reason that is small enough.
+fn propose_from(
+    alloc: Global,
+    history: &ObjectHistory,
+    key: i64,
+    limit: u64,
+) -> Result<Option<Proposal>, AllocError> {
+    let own = best_on(alloc, history, key, key, limit)?;
+    if own.as_ref().is_some_and(|own| own.size <= FEW) {
+        return Ok(own.map(|own| own.proposal));
+    }
+    let other = match key.checked_add(1) {
+        Some(next) => best_on(alloc, history, next, i64::MAX, limit)?,
+        None => None,
+    };
+    Ok(smaller(own, other))
 }
 
 /// A reason to which the patterns lead that take longer to be found, or what keeps everything.
@@ -399,9 +429,9 @@ fn propose_by_more(
 
 /// A small reason why no order of the object's operations is valid, if a pattern leads to one, or if
 /// there are few operations. The open key of a map is one for whose operations no order was found,
-/// while those of each lesser key have one: it is looked at first, and the others only where it has
-/// no reason that is small enough. No contract says that a reason is true: `reason_finder` checks
-/// it. The search for an order of one part tries at most `limit` operations.
+/// while those of each lesser key have one: it is looked at first, and the greater ones only where
+/// it has no reason that is small enough. No contract says that a reason is true: `reason_finder`
+/// checks it. The search for an order of one part tries at most `limit` operations.
 ///
 /// An error: the allocator refused memory.
 pub fn propose(
@@ -410,20 +440,19 @@ pub fn propose(
     open_key: Option<i64>,
     limit: u64,
 ) -> Result<Option<Proposal>, AllocError> {
-    let own = match open_key {
-        Some(key) => best_on(alloc, history, key, limit)?,
-        None => None,
-    };
-    if own.as_ref().is_some_and(|own| own.size <= FEW) {
-        return Ok(own.map(|own| own.proposal));
+    if let Some(key) = open_key
+        && let Some(proposal) = propose_from(alloc, history, key, limit)?
+    {
+        return Ok(Some(proposal));
     }
     let timeline = timeline_of(alloc, history.ops())?;
-    let candidates = candidates_of(alloc, history.kind(), &timeline, open_key)?;
-    let other = best_of(alloc, history, candidates, limit)?;
-    match smaller(own, other) {
-        Some(proposal) => Ok(Some(proposal)),
-        None => propose_by_more(alloc, history, &timeline, limit),
+    if open_key.is_none() {
+        let candidates = candidates_of(alloc, history.kind(), &timeline)?;
+        if let Some(found) = best_of(alloc, history, candidates, limit)? {
+            return Ok(Some(found.proposal));
+        }
     }
+    propose_by_more(alloc, history, &timeline, limit)
 }
 
 /// The same of what was done with two values of a queue, stack or heap in which values repeat.

@@ -239,24 +239,15 @@ fn add_rare(
     add_lasting(alloc, &scene, candidates)
 }
 
-/// Whether a cell comes after this key of a map; each does where there is none.
-fn is_after(cell: &CellCalls, key: Option<i64>) -> bool {
-    key.is_none() || cell.key > key
-}
-
-/// Adds the candidates of a register or map: of a map those of the keys after this one.
+/// Adds the candidates of a register or map.
 ///
 /// An error: the allocator refused memory.
 pub fn add_cells(
     alloc: Global,
     timeline: &Timeline,
-    after: Option<i64>,
     candidates: &mut Vec<Candidate>,
 ) -> Result<(), AllocError> {
     for cell in &cells_of(alloc, &timeline.calls)? {
-        if !is_after(cell, after) {
-            continue;
-        }
         add_cell(alloc, cell, candidates)?;
         if candidates.len() >= MOST_IN_ALL {
             break;

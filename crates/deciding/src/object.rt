@@ -159,12 +159,13 @@ fn decide_by_search(
 }
 
 /// Looks for a certificate of an object, or for a reason why it has none: first by the quick methods
-/// that are made for its kind, then for a reason by patterns, for a certificate by a search of all
-/// that a queue or stack may contain, for a reason in two values, and at a map by a search of each
-/// key that is open. Where these decide nothing there is a first search of 20,000 steps and 20 more
-/// for each operation, which tries first what returns first, and then one of at most `steps` steps.
-/// Where no number of steps is given these are 1,000,000, or 100 for each operation that did not
-/// fail if that is more. What comes before takes none of them.
+/// that are made for its kind, then for a reason by patterns, of a map first at the key where these
+/// methods stopped, for a certificate by a search of all that a queue or stack may contain, for a
+/// reason in two values, and at a map by a search of each key that is open. Where these decide
+/// nothing there is a first search of 20,000 steps and 20 more for each operation, which tries first
+/// what returns first, and then one of at most `steps` steps. Where no number of steps is given
+/// these are 1,000,000, or 100 for each operation that did not fail if that is more. What comes
+/// before takes none of them.
 ///
 /// Each order that is handed out was checked. That a limit is enough is not promised. An error:
 /// memory was refused for a reason, or for the check of an order.
