@@ -9,6 +9,7 @@ use crate::steps::Step::{
 use publication::Enlist;
 use seq_objects::{AnyOp, Kind};
 
+// Client 0 waits with a release in its row, and client 1 acquires: the row of client 0 comes first.
 const SERVED_FIRST: &str = "{:process 0, :type :invoke, :f :acquire, :value nil, :object 0}
 {:process 0, :type :ok, :f :acquire, :value nil, :object 0}
 {:process 0, :type :invoke, :f :release, :value nil, :object 0}
@@ -20,9 +21,17 @@ yes: 3 operations, 1 objects
 mutex: 1 objects, 3 operations
 ";
 
-// Client 0 waits with a release in its row, and client 1 acquires: the row of client 0 comes first.
+// Client 1 posts its call after client 0, wins the object, and serves its own request last.
+const OWN_LAST: &str = "{:process 0, :type :invoke, :f :enqueue, :value 1, :object 0}
+{:process 1, :type :invoke, :f :enqueue, :value 2, :object 0}
+{:process 1, :type :ok, :f :enqueue, :value 2, :object 0}
+{:process 0, :type :ok, :f :enqueue, :value 1, :object 0}
+{:object 0, :order [0 1]}
+yes: 2 operations, 1 objects
+queue: 1 objects, 2 operations
+";
 
-pub(crate) const PLAYS: [Play; 3] = [
+pub(crate) const PLAYS: [Play; 4] = [
     Play {
         name: "a lone client is not listed",
         setup: Setup {
@@ -75,5 +84,22 @@ pub(crate) const PLAYS: [Play; 3] = [
             (1, Retires),
         ],
         end: Some((0, SERVED_FIRST)),
+    },
+    Play {
+        name: "listed rows are served before a posted call",
+        setup: Setup {
+            kinds: (Kind::Queue, None),
+            left: None,
+            clients: 2,
+            quota: 1,
+        },
+        turns: &[
+            (0, Posts(0, AnyOp::Enqueue(1))),
+            (0, Enlists(Enlist::Listed)),
+            (1, Calls(AnyOp::Enqueue(2), Value(2))),
+            (0, Polls(Value(1))),
+            (1, Retires),
+        ],
+        end: Some((0, OWN_LAST)),
     },
 ];
