@@ -11,28 +11,30 @@ use Rattle.model.proofs.Objects.{kind_of_empty}
 use Rattle.seq_objects.specs.declared.any_object.AnyObject.{AnyObject}
 use Rattle.seq_objects.specs.AnyContent.{content_of}
 use Rattle.desk_model.specs.Images.{entry_in, event_in}
-use Rattle.desk_model.specs.World.{AnyEntry, AnyEvent, StartsWith}
+use Rattle.desk_model.specs.World.{AnyDone, AnyEntry, AnyEvent, StartsWith, journal_of}
 use Rattle.desk_model.proofs.Entries.{starts_longer, starts_same, events_as_they_are, entries_as_they_are}
 use Rattle.desk_model.specs.Records.{IsSoundRecord}
 use Rattle.desk_invariant.specs.declared.board.Leaving.{Leaving}
-use Rattle.desk_invariant.specs.Views.{journal, end_notice, seen_of, IsAccount}
-use Rattle.publication.specs.Handles.{DeskSeen, Known, begun}
+use Rattle.desk_invariant.specs.Views.{journal, end_notice, own_request, seen_of, IsAccount}
+use Rattle.publication.specs.Handles.{DeskId, DeskSeen, Known}
 use Rattle.recorder.specs.Records.{Recorded, journal_at, log_at}
 use Rattle.workload.specs.Workloads.{Work, Call, IsCall, calls_at}
-use Rattle.clients.specs.Made.{MadeOrStopped, MayWork, Worked, HasWorked, IsNew, IsDeskFor, IsDone, ClosedBy, HasMet, HasRun, HaveTold, Ran}
+use Rattle.clients.specs.Made.{MadeOrStopped, MayWork, Worked, HasWorked, IsNew, IsDeskFor, IsDone, ClosedBy, HasMet, HasMadeNone, HasRun, HaveTold, Ran}
 
--- one of the clients that a desk was made with
-pub is_new : (d : DeskSeen) (w : Work) (n : ℕ) (k : Known) → k ≡ begun d.id n → IsDeskFor d w → n < length w.calls → IsNew d w k
-is_new d w n k is desk low =
-    let number : k.knows.number ≡ n = ap (λ z. z.knows.number) is in
-    record { desk = desk; low = subst (λ z. z < length w.calls) (sym number) low; begun = is ∙ ap (begun d.id) (sym number) }
+-- a client that has made no call
+pub is_new : (d : DeskSeen) (w : Work) (n : ℕ) (k : Known) → HasMadeNone d.id n k → IsDeskFor d w → n < length w.calls → IsNew d w k
+is_new d w n k none desk low = record {
+  desk = desk;
+  low = subst (λ z. z < length w.calls) (sym none.number) low;
+  none = record { desk = none.desk; number = refl; idle = none.idle; none = none.none };
+}
 
 -- it may make its calls
 pub may_begin : (d : DeskSeen) (w : Work) (k : Known) (cs : List Call) → IsNew d w k → cs ≡ calls_at w k.knows.number → All (IsCall w.kinds) cs → length cs < 10001 → MayWork d k cs
 may_begin d w k cs n calls fit few = record {
-  desk = ap (λ z. z.desk) n.begun;
-  idle = ap (λ z. z.knows.own) n.begun;
-  room = subst (λ (z : Known). length z.knows.done + length cs ≤ z.desk.quota) (sym n.begun)
+  desk = n.none.desk;
+  idle = n.none.idle;
+  room = subst (λ (t : List AnyDone × DeskId). length t.0 + length cs ≤ t.1.quota) (λ i. (sym n.none.none i, sym n.none.desk i))
       (let q : length cs ≤ d.id.quota = subst (λ z. length z ≤ d.id.quota) (sym calls) (n.desk.quota k.knows.number n.low) in omega arith);
   few = few;
   fit = subst (λ z. All (IsCall z) cs) (sym n.desk.kinds) fit;
@@ -41,11 +43,12 @@ may_begin d w k cs n calls fit few = record {
 -- and has made them
 pub has_worked : (d : DeskSeen) (w : Work) (k after : Known) (cs : List Call) → IsNew d w k → cs ≡ calls_at w k.knows.number → after.desk ≡ k.desk
     → Worked cs k.knows after.knows → HasWorked d w k.knows.number after
-has_worked d w k after cs n calls desk v = record {
-  desk = desk ∙ ap (λ z. z.desk) n.begun;
-  number = v.number;
-  made = subst (λ z. MadeOrStopped z (journal after.knows)) calls (subst (MadeOrStopped cs) (sym (v.journal ∙ ap (λ z. journal z.knows ++ v.events) n.begun)) v.made);
-}
+has_worked d w k after cs n calls desk v =
+    let none : journal k.knows ≡ [] = λ i. journal_of (n.none.none i) (own_request (n.none.idle i)) in record {
+      desk = desk ∙ n.none.desk;
+      number = v.number;
+      made = subst (λ z. MadeOrStopped z (journal after.knows)) calls (subst (MadeOrStopped cs) (sym (v.journal ∙ ap (λ z. z ++ v.events) none)) v.made);
+    }
 
 -- client 0 was told of the end of each that it has met
 pub have_told : (d : DeskSeen) (w : Work) (k : Known) → IsDone d w k → HaveTold d k

@@ -1,4 +1,5 @@
 pub mod Works
 pub mod Meetings
+pub mod News
 pub mod Ends
 pub mod Workers

@@ -1,6 +1,8 @@
 -- What a record says of the calls that the clients of a desk were to make.
 use Rattle.std.specs.Prelude.{◌≡◌, ◌≢◌, ◌⊎◌, ℕ, ◌+◌, ◌<◌, ◌≤◌, List, [], ◌∷◌, ◌++◌, length, All}
 use Rattle.std.specs.Prelude.{Contains}
+use mathlib.Core.Option.{some}
+use lib.ListN.{get_elem?}
 use Rattle.model.specs.declared.AnyOp.{AnyOp}
 use Rattle.model.specs.declared.AnyReply.{AnyReply}
 use Rattle.desk_model.specs.declared.JournalEvent.TheVariants.{Invoked, Returned}
@@ -11,7 +13,7 @@ use Rattle.desk_invariant.specs.declared.board.Leaving.{Leaving}
 use Rattle.desk_invariant.specs.declared.board.DeskView.{DeskView}
 use Rattle.desk_invariant.specs.Views.{journal, end_notice, seen_of, IsAccount}
 use Rattle.combiner.specs.Passes.{KeepsCalls}
-use Rattle.publication.specs.Handles.{DeskSeen, Known, begun}
+use Rattle.publication.specs.Handles.{DeskId, DeskSeen, Known}
 use Rattle.publication.specs.Calls.{Closed}
 use Rattle.recorder.specs.Records.{Recorded, journal_at, log_at}
 use Rattle.workload.specs.Workloads.{Work, Call, calls_at, IsCall}
@@ -65,11 +67,22 @@ pub record IsDeskFor (d : DeskSeen) (w : Work) : Type 0 where
   pub quota : (c : ℕ) → c < length w.calls → length (calls_at w c) ≤ d.id.quota
   pub few_calls : d.id.quota < 1 + max_calls
 
+-- the client c of this desk, which has made no call
+pub record HasMadeNone (d : DeskId) (c : ℕ) (k : Known) : Type 0 where
+  pub desk : k.desk ≡ d
+  pub number : k.knows.number ≡ c
+  pub idle : k.knows.own ≡ own.Idle
+  pub none : k.knows.done ≡ []
+
+-- each of these is the client of this desk with the number of its place, and has made no call
+abbrev pub AreNew : DeskId → List Known → Type 0
+AreNew d cs = (c : ℕ) (k : Known) → get_elem? cs c ≡ some k → HasMadeNone d c k
+
 -- a client of the desk of this workload that has made no call
 pub record IsNew (d : DeskSeen) (w : Work) (k : Known) : Type 0 where
   pub desk : IsDeskFor d w
   pub low : k.knows.number < length w.calls
-  pub begun : k ≡ begun d.id k.knows.number
+  pub none : HasMadeNone d.id k.knows.number k
 
 -- the client c has made its calls, in order, or stopped at one, which is outstanding
 pub record HasWorked (d : DeskSeen) (w : Work) (c : ℕ) (k : Known) : Type 0 where

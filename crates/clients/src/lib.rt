@@ -2,6 +2,7 @@
 #![tactic(auto)]
 
 mod meeting;
+mod room;
 mod run;
 mod worker;
 

@@ -3,10 +3,11 @@
 ghost use Rattle.std.specs.Prelude.{◌≡◌, ◌<◌, ◌≤◌, [], length, map, All, IfOk, IfErr, OnErr};
 ghost use Rattle.std.specs.Prelude.{vec_capacity};
 ghost use Rattle.model.specs.Objects.{empty, kind_with};
-ghost use Rattle.publication.specs.Handles.{AllBegun};
 ghost use Rattle.clients.specs.Made.{HasWorked, IsNew, IsDeskFor, IsDone, ClosedBy, Ran, HaveTold};
+ghost use Rattle.clients.specs.Made.{AreNew};
 
 use crate::meeting::part;
+use crate::room::reserve_logs;
 use crate::worker::work;
 use model::Kind;
 use publication::{Client, Desk, Record};
@@ -55,11 +56,12 @@ impl<'a> Promise<Client<AnyObject>> for WorkerOf<'a> {
     ghost kept_by = { λ p client. HasWorked p.0.now p.1.now p.2 client };
 }
 
-/// Makes the calls of the workload on a new desk, and closes it. Client 0 runs in the calling
-/// thread, and each other in a thread of its own; then client 0 meets each other on each object. A
-/// client to whose call memory is refused makes no more, and that call is pending in the record.
-/// That memory was refused there is in no clause: `Ran` lets a client stop at any call. The gate is
-/// called around each call.
+/// Makes the calls of the workload on a new desk, and closes it. Before the first call it makes room
+/// in the log of each object for all calls on it, so that no pass allocates memory for a log; no
+/// clause says that the room is kept. Client 0 runs in the calling thread, and each other in a
+/// thread of its own; then client 0 meets each other on each object. A client to whose call memory
+/// is refused makes no more, and that call is pending in the record. That memory was refused there
+/// is in no clause: `Ran` lets a client stop at any call. The gate is called around each call.
 pub fn run_workers<R: Threads + Wait + Sync, G: Gate>(
     rt: &R,
     alloc: Global,
@@ -72,8 +74,9 @@ pub fn run_workers<R: Threads + Wait + Sync, G: Gate>(
 {
     let objects = empty_objects(alloc, workload.kinds())?;
     let (desk, clients) = Desk::new(alloc, objects, workload.clients(), workload.quota())?;
-    let room = Vec::with_capacity(alloc, clients.len())?;
-    let last = run_all(rt, gate, &desk, workload, clients, room)?;
+    let clients = reserve_logs(&desk, workload, clients)?;
+    let threads = Vec::with_capacity(alloc, clients.len())?;
+    let last = run_all(rt, gate, &desk, workload, clients, threads)?;
     Ok(close(desk, last))
 }
 
@@ -91,7 +94,7 @@ fn run_all<'a, R: Threads + Wait + Sync, G: Gate>(
 ) -> Result<Client<AnyObject>, RunFault>
     requires desk { IsDeskFor desk.now workload.now }
     requires clients { (length clients.items ≡ length workload.now.calls)
-        × AllBegun desk.now.id clients.items }
+        × AreNew desk.now.id clients.items }
     requires room { (workers.items ≡ []) × (length clients.items ≤ vec_capacity workers) }
     ensures done { IfOk result (IsDone desk.now workload.now) }
     ensures alone { OnErr result (1 < length workload.now.calls) }
@@ -102,7 +105,7 @@ fn run_all<'a, R: Threads + Wait + Sync, G: Gate>(
         |scope| -> Result<Client<AnyObject>, RunFault>
             requires { IsDeskFor desk.now workload.now
                 × (length clients.items ≡ length workload.now.calls)
-                × AllBegun desk.now.id clients.items × (workers.items ≡ [])
+                × AreNew desk.now.id clients.items × (workers.items ≡ [])
                 × (length clients.items ≤ vec_capacity workers) }
             ensures { IfOk result (IsDone desk.entry.now workload.entry.now)
                 × OnErr result (1 < length workload.entry.now.calls) }

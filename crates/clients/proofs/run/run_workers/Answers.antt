@@ -2,7 +2,11 @@ use Rattle.std.proofs.Common.{◌<◌, ◌≤◌, ◌∙◌, length, sym, subst}
 use Rattle.workload.specs.Workloads.{calls_at}
 use Rattle.clients.specs.Made.{IsDeskFor}
 use Rattle.clients.proofs.Ends.{have_told, ran}
+use Rattle.clients.proofs.News.{all_new}
 use Rattle.clients.proofs.run.run_workers.Goals as goal
+
+pub reserve_logs-requires : goal.reserve_logs-requires
+reserve_logs-requires g c = all_new c.in_ok-desk.desk.id c.in_ok-desk.clients.items c.in_ok-desk.ensures.clients.1
 
 pub run_all-requires-clause-desk : goal.run_all-requires-clause-desk
 run_all-requires-clause-desk g c = λ κs within. record {

@@ -1,28 +1,28 @@
 use Rattle.std.proofs.Common.{rules, ◌≡◌, ◌∙◌, ◌<◌, ◌≤◌, ◌+◌, ◌∷◌, [], ℕ, length, length-append, ap, sym, subst, arith}
-use Rattle.publication.specs.Handles.{DeskSeen, Known, begun}
-use Rattle.publication.proofs.Growing.{one_fewer}
+use Rattle.publication.specs.Handles.{DeskSeen}
 use Rattle.workload.specs.Workloads.{Work}
 use Rattle.clients.specs.Made.{HasMetBelow, HasWorked}
 use Rattle.clients.proofs.Ends.{is_new}
 use Rattle.clients.proofs.Meetings.{keeps_on, met_more, still_worked}
+use Rattle.clients.proofs.News.{one_fewer}
 use Rattle.clients.proofs.Workers.{all_but_last, and_last}
 use Rattle.clients.proofs.run.fn.run_all.scope.Goals as goal
 
 pub spawn_with-requires-clause-runs : goal.spawn_with-requires-clause-runs
 spawn_with-requires-clause-runs g c κs within =
     let d = c.captures.desk.now in let w = c.captures.workload.now in let so_far = c.loop.invariant in
-    let one = one_fewer (begun d.id) c.pop.new.self.items c.loop.clients.items c.in-Some.client c.in-Some.ensures.items so_far.clients in
+    let one = one_fewer d.id c.pop.new.self.items c.loop.clients.items c.in-Some.client c.in-Some.ensures.items so_far.clients in
     let low : length c.pop.new.self.items < length w.calls = omega (arith, one.1, so_far.left, so_far.started) in
     (is_new d w (length c.pop.new.self.items) c.in-Some.client one.0 so_far.desk low, search rules)
 
 pub loop-preserved : goal.loop-preserved
 loop-preserved g c =
     let d = c.captures.desk.now in let w = c.captures.workload.now in let so_far = c.loop.invariant in
-    let one = one_fewer (begun d.id) c.pop.new.self.items c.loop.clients.items c.in-Some.client c.in-Some.ensures.items so_far.clients in
+    let one = one_fewer d.id c.pop.new.self.items c.loop.clients.items c.in-Some.client c.in-Some.ensures.items so_far.clients in
     let worker = c.in_ok-worker.worker in let items = c.push_reserved.ensures.items in
     let long = ap length items ∙ length-append c.loop.workers.items (worker ∷ []) in
     let promise = c.in_ok-worker.ensures.ok in
-    let number = ap (λ p. p.2) promise ∙ (c.number-number.ensures.number ∙ ap (λ (k : Known). k.knows.number) one.0) in
+    let number = ap (λ p. p.2) promise ∙ (c.number-number.ensures.number ∙ one.0.number) in
     record {
       desk = so_far.desk;
       clients = one.2;
@@ -37,7 +37,7 @@ loop-preserved g c =
 pub work-own-requires-after_bounds : goal.work-own-requires-after_bounds
 work-own-requires-after_bounds g c κs within =
     let d = c.captures.desk.now in let w = c.captures.workload.now in let so_far = c.loop.invariant in
-    let one = one_fewer (begun d.id) c.pop-2.new.self.items c.loop.clients.items c.in-Some-pop.own c.in-Some-pop.ensures.items so_far.clients in
+    let one = one_fewer d.id c.pop-2.new.self.items c.loop.clients.items c.in-Some-pop.own c.in-Some-pop.ensures.items so_far.clients in
     let low : length c.pop-2.new.self.items < length w.calls = omega (arith, one.1, so_far.left, so_far.started) in
     is_new d w (length c.pop-2.new.self.items) c.in-Some-pop.own one.0 so_far.desk low
 
@@ -70,10 +70,10 @@ loop-2-preserved g c =
 pub returns : goal.returns
 returns g c =
     let d = c.captures.desk.now in let w = c.captures.workload.now in let started = c.loop.invariant in let so_far = c.loop-2.invariant in
-    let one = one_fewer (begun d.id) c.pop-2.new.self.items c.loop.clients.items c.in-Some-pop.own c.in-Some-pop.ensures.items started.clients in
+    let one = one_fewer d.id c.pop-2.new.self.items c.loop.clients.items c.in-Some-pop.own c.in-Some-pop.ensures.items started.clients in
     let end = c.clients-end.ensures.clients in let end_2 = c.clients-end-2.ensures.clients in
     let last = c.loop-test.false in let last_2 = c.loop-2-test.false in let clients = started.desk.clients in
-    let first : c.in-Some-pop.own.knows.number ≡ 0 = ap (λ (k : Known). k.knows.number) one.0 ∙ omega (arith, one.1, started.left, end, last) in
+    let first : c.in-Some-pop.own.knows.number ≡ 0 = one.0.number ∙ omega (arith, one.1, started.left, end, last) in
     let all : c.loop-2.counter ≡ d.clients = omega (arith, so_far.left, last_2, end_2, clients) in
     let met = so_far.met w started.desk (λ k e low. let p = started.promised k e low in (p.1, p.2 ∙ sym end_2)) in (
       record {

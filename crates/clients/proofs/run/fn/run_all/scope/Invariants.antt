@@ -1,14 +1,13 @@
 use Rattle.std.proofs.Common.{◌≡◌, ℕ, ◌+◌, ◌<◌, ◌≤◌, length, get_or, vec_capacity}
-use Rattle.publication.specs.Handles.{AllBegun}
 use Rattle.workload.specs.Workloads.{Work}
-use Rattle.clients.specs.Made.{HasMetBelow, IsDeskFor, Keeps}
+use Rattle.clients.specs.Made.{AreNew, HasMetBelow, IsDeskFor, Keeps}
 use Rattle.clients.proofs.run.fn.run_all.scope.Given as goal
 
 -- The workers are started from the last client on: the one at place k is of the client that has k others after it.
 abbrev pub invariant-loop : goal.invariant-loop
 invariant-loop g l = record {
   desk : IsDeskFor l.desk l.workload;
-  clients : AllBegun l.desk.id l.clients.items;
+  clients : AreNew l.desk.id l.clients.items;
   left : length l.clients.items + l.counter ≡ length l.workload.calls + 1;
   started : length l.workers.items + 1 ≡ l.counter;
   room : length l.workload.calls ≤ vec_capacity l.workers;

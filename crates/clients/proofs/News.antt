@@ -1,0 +1,52 @@
+-- Clients that have made no call.
+use Rattle.std.proofs.Common.{◌≡◌, ◌⊎◌, inl, inr, ℕ, zero, suc, ◌+◌, ◌<◌, List, [], ◌∷◌, ◌++◌, length, length-append, refl, sym, ap, ◌∙◌, subst, ⊎_elim, arith}
+use mathlib.Core.Option.{some, some-injective, some-ne-none}
+use lib.ListN.{get_elem?}
+use Rattle.combiner.specs.Passes.{KeepsCalls}
+use Rattle.publication.specs.Handles.{AllBegun, DeskId, Known, begun}
+use Rattle.clients.specs.Made.{AreNew, HasMadeNone}
+
+at_longer : {A : Type 0} (l m : List A) (i : ℕ) (a : A) → get_elem? l i ≡ some a → get_elem? (l ++ m) i ≡ some a
+at_longer [] m i a e = absurd (some-ne-none a (sym e))
+at_longer (x ∷ xs) m zero a e = e
+at_longer (x ∷ xs) m (suc i) a e = at_longer xs m i a e
+
+at_last : {A : Type 0} (l : List A) (a : A) → get_elem? (l ++ a ∷ []) (length l) ≡ some a
+at_last [] a = refl
+at_last (x ∷ xs) a = at_last xs a
+
+at_end : {A : Type 0} (l : List A) (a b : A) (j : ℕ) → get_elem? (l ++ a ∷ []) j ≡ some b → (get_elem? l j ≡ some b) ⊎ ((j ≡ length l) × (a ≡ b))
+at_end [] a b zero e = inr (refl, some-injective a b e)
+at_end [] a b (suc j) e = absurd (some-ne-none b (sym e))
+at_end (x ∷ xs) a b zero e = inl e
+at_end (x ∷ xs) a b (suc j) e = ⊎_elim (λ t. inl t) (λ (t : (j ≡ length xs) × (a ≡ b)). inr (ap suc t.0, t.1)) (at_end xs a b j e)
+
+inside : {A : Type 0} (l : List A) (i : ℕ) (a : A) → get_elem? l i ≡ some a → i < length l
+inside [] i a e = absurd (some-ne-none a (sym e))
+inside (x ∷ xs) zero a e = omega arith
+inside (x ∷ xs) (suc i) a e = let low = inside xs i a e in omega arith
+
+-- the clients that a desk was made with
+pub all_new : (d : DeskId) (cs : List Known) → AllBegun d cs → AreNew d cs
+all_new d cs begins c k at =
+    let is : k ≡ begun d c = some-injective k (begun d c) (sym at ∙ begins c (inside cs c k at)) in
+    record { desk = ap (λ z. z.desk) is; number = ap (λ z. z.knows.number) is; idle = ap (λ z. z.knows.own) is; none = ap (λ z. z.knows.done) is }
+
+-- a client that has made no call, and has made none since
+pub still_none : (d : DeskId) (c : ℕ) (k u : Known) → HasMadeNone d c k → u.desk ≡ k.desk → KeepsCalls k.knows u.knows → HasMadeNone d c u
+still_none d c k u n desk kept = record { desk = desk ∙ n.desk; number = kept.number ∙ n.number; idle = kept.own ∙ n.idle; none = kept.done ∙ n.none }
+
+-- the last of them, and the others
+pub one_fewer : (d : DeskId) (l m : List Known) (a : Known) → m ≡ l ++ a ∷ [] → AreNew d m → HasMadeNone d (length l) a × (length l + 1 ≡ length m) × AreNew d l
+one_fewer d l m a e all = (
+  all (length l) a (ap (λ z. get_elem? z (length l)) e ∙ at_last l a),
+  sym (ap length e ∙ length-append l (a ∷ [])),
+  λ c k at. all c k (ap (λ z. get_elem? z c) e ∙ at_longer l (a ∷ []) c k at),
+)
+
+-- and one more
+pub one_more : (d : DeskId) (l m : List Known) (a : Known) → m ≡ l ++ a ∷ [] → AreNew d l → HasMadeNone d (length l) a → AreNew d m
+one_more d l m a e before last c k at = ⊎_elim
+    (λ (t : get_elem? l c ≡ some k). before c k t)
+    (λ (t : (c ≡ length l) × (a ≡ k)). subst (λ (z : ℕ × Known). HasMadeNone d z.0 z.1) (λ i. (sym t.0 i, t.1 i)) last)
+    (at_end l a k c (sym (ap (λ z. get_elem? z c) e) ∙ at))
