@@ -1,5 +1,5 @@
 //! The desk in a few lines: two clients of one queue. The first makes its call step by step, the
-//! second by `call`, which does the same.
+//! second by `call`.
 #![tactic(auto)]
 
 ghost use Rattle.std.specs.Prelude.{◌≡◌, ◌<◌, length, IfOk};
@@ -58,7 +58,7 @@ fn main(rt: HostRuntime) -> std::io::Result<()> {
     }
     let mut zero = combine_until_served(&rt, &desk, zero)?;
     println!(rt; "{:?}", desk.poll(&mut zero))?;
-    // `call` does all of that.
+    // `call` makes a whole call.
     let (mut one, dequeued) = call(&rt, &desk, one, 0, AnyOp::Dequeue);
     println!(rt; "{dequeued:?}")?;
     // Client 0 retires, client 1 hears of it and closes the desk. The record has all that happened.
