@@ -34,8 +34,7 @@ pub enum Candidate {
     Order(Vec<i64>),
     /// The method found no order.
     NotFound,
-    /// The method found no order of the calls on this key of a map, and one of those on each lesser
-    /// key.
+    /// The method found no order of the calls on this key of a map, and one for each lesser key.
     OpenKey(i64),
     /// A value is taken from a queue, stack or heap when it can't be in: no method finds an order.
     Overdrawn,

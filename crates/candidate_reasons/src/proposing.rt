@@ -429,7 +429,7 @@ fn propose_by_more(
 
 /// A small reason why no order of the object's operations is valid, if a pattern leads to one, or if
 /// there are few operations. The open key of a map is one for whose operations no order was found,
-/// while those of each lesser key have one: it is looked at first, and the greater ones only where
+/// while one was found for each lesser key: it is looked at first, and the greater ones only where
 /// it has no reason that is small enough. No contract says that a reason is true: `reason_finder`
 /// checks it. The search for an order of one part tries at most `limit` operations.
 ///

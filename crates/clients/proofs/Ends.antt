@@ -19,10 +19,10 @@ use Rattle.desk_invariant.specs.Views.{journal, end_notice, own_request, seen_of
 use Rattle.publication.specs.Handles.{DeskId, DeskSeen, Known}
 use Rattle.recorder.specs.Records.{Recorded, journal_at, log_at}
 use Rattle.workload.specs.Workloads.{Work, Call, IsCall, calls_at}
-use Rattle.clients.specs.Made.{MadeOrStopped, MayWork, Worked, HasWorked, IsNew, IsDeskFor, IsDone, ClosedBy, HasMet, HasMadeNone, HasRun, HaveTold, Ran}
+use Rattle.clients.specs.Made.{MadeOrStopped, MayWork, Worked, HasWorked, IsNew, IsDeskFor, IsDone, ClosedBy, HasMet, HasMadeNoCall, HasRun, HaveTold, Ran}
 
 -- a client that has made no call
-pub is_new : (d : DeskSeen) (w : Work) (n : ℕ) (k : Known) → HasMadeNone d.id n k → IsDeskFor d w → n < length w.calls → IsNew d w k
+pub is_new : (d : DeskSeen) (w : Work) (n : ℕ) (k : Known) → HasMadeNoCall d.id n k → IsDeskFor d w → n < length w.calls → IsNew d w k
 is_new d w n k none desk low = record {
   desk = desk;
   low = subst (λ z. z < length w.calls) (sym none.number) low;

@@ -4,7 +4,7 @@ use mathlib.Core.Option.{some, some-injective, some-ne-none}
 use lib.ListN.{get_elem?}
 use Rattle.combiner.specs.Passes.{KeepsCalls}
 use Rattle.publication.specs.Handles.{AllBegun, DeskId, Known, begun}
-use Rattle.clients.specs.Made.{AreNew, HasMadeNone}
+use Rattle.clients.specs.Made.{AreNew, HasMadeNoCall}
 
 at_longer : {A : Type 0} (l m : List A) (i : ℕ) (a : A) → get_elem? l i ≡ some a → get_elem? (l ++ m) i ≡ some a
 at_longer [] m i a e = absurd (some-ne-none a (sym e))
@@ -33,11 +33,11 @@ all_new d cs begins c k at =
     record { desk = ap (λ z. z.desk) is; number = ap (λ z. z.knows.number) is; idle = ap (λ z. z.knows.own) is; none = ap (λ z. z.knows.done) is }
 
 -- a client that has made no call, and has made none since
-pub still_none : (d : DeskId) (c : ℕ) (k u : Known) → HasMadeNone d c k → u.desk ≡ k.desk → KeepsCalls k.knows u.knows → HasMadeNone d c u
+pub still_none : (d : DeskId) (c : ℕ) (k u : Known) → HasMadeNoCall d c k → u.desk ≡ k.desk → KeepsCalls k.knows u.knows → HasMadeNoCall d c u
 still_none d c k u n desk kept = record { desk = desk ∙ n.desk; number = kept.number ∙ n.number; idle = kept.own ∙ n.idle; none = kept.done ∙ n.none }
 
 -- the last of them, and the others
-pub one_fewer : (d : DeskId) (l m : List Known) (a : Known) → m ≡ l ++ a ∷ [] → AreNew d m → HasMadeNone d (length l) a × (length l + 1 ≡ length m) × AreNew d l
+pub one_fewer : (d : DeskId) (l m : List Known) (a : Known) → m ≡ l ++ a ∷ [] → AreNew d m → HasMadeNoCall d (length l) a × (length l + 1 ≡ length m) × AreNew d l
 one_fewer d l m a e all = (
   all (length l) a (ap (λ z. get_elem? z (length l)) e ∙ at_last l a),
   sym (ap length e ∙ length-append l (a ∷ [])),
@@ -45,8 +45,8 @@ one_fewer d l m a e all = (
 )
 
 -- and one more
-pub one_more : (d : DeskId) (l m : List Known) (a : Known) → m ≡ l ++ a ∷ [] → AreNew d l → HasMadeNone d (length l) a → AreNew d m
+pub one_more : (d : DeskId) (l m : List Known) (a : Known) → m ≡ l ++ a ∷ [] → AreNew d l → HasMadeNoCall d (length l) a → AreNew d m
 one_more d l m a e before last c k at = ⊎_elim
     (λ (t : get_elem? l c ≡ some k). before c k t)
-    (λ (t : (c ≡ length l) × (a ≡ k)). subst (λ (z : ℕ × Known). HasMadeNone d z.0 z.1) (λ i. (sym t.0 i, t.1 i)) last)
+    (λ (t : (c ≡ length l) × (a ≡ k)). subst (λ (z : ℕ × Known). HasMadeNoCall d z.0 z.1) (λ i. (sym t.0 i, t.1 i)) last)
     (at_end l a k c (sym (ap (λ z. get_elem? z c) e) ∙ at))

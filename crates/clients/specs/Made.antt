@@ -68,7 +68,7 @@ pub record IsDeskFor (d : DeskSeen) (w : Work) : Type 0 where
   pub few_calls : d.id.quota < 1 + max_calls
 
 -- the client c of this desk, which has made no call
-pub record HasMadeNone (d : DeskId) (c : ℕ) (k : Known) : Type 0 where
+pub record HasMadeNoCall (d : DeskId) (c : ℕ) (k : Known) : Type 0 where
   pub desk : k.desk ≡ d
   pub number : k.knows.number ≡ c
   pub idle : k.knows.own ≡ own.Idle
@@ -76,13 +76,13 @@ pub record HasMadeNone (d : DeskId) (c : ℕ) (k : Known) : Type 0 where
 
 -- each of these is the client of this desk with the number of its place, and has made no call
 abbrev pub AreNew : DeskId → List Known → Type 0
-AreNew d cs = (c : ℕ) (k : Known) → get_elem? cs c ≡ some k → HasMadeNone d c k
+AreNew d cs = (c : ℕ) (k : Known) → get_elem? cs c ≡ some k → HasMadeNoCall d c k
 
 -- a client of the desk of this workload that has made no call
 pub record IsNew (d : DeskSeen) (w : Work) (k : Known) : Type 0 where
   pub desk : IsDeskFor d w
   pub low : k.knows.number < length w.calls
-  pub none : HasMadeNone d.id k.knows.number k
+  pub none : HasMadeNoCall d.id k.knows.number k
 
 -- the client c has made its calls, in order, or stopped at one, which is outstanding
 pub record HasWorked (d : DeskSeen) (w : Work) (c : ℕ) (k : Known) : Type 0 where

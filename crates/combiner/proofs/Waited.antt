@@ -15,7 +15,7 @@ use Rattle.publication.specs.Handles.{DeskSeen, Known, Holding}
 use Rattle.publication.specs.Calls.{Posted, Performed, HasPosted, Finished, Polled, NotPolled, NotGot, CanDo, kind_in, MayPost, PostRefused}
 use Rattle.combiner.specs.declared.waiting.CallFault.{CallFault}
 use Rattle.combiner.specs.declared.waiting.CallFault.TheVariants as fault
-use Rattle.combiner.specs.Passes.{KeepsCalls, Goes, IsSameBut, HasPassed, IsReadyFor, HasCallOn}
+use Rattle.combiner.specs.Passes.{KeepsCalls, Goes, IsSameBut, HasTriedRows, IsReadyFor, HasCallOn}
 use Rattle.combiner.specs.Waits.{Called, Returns, IsLogged, IsOutstanding, Faulted}
 use Rattle.combiner.proofs.Served.{seen_on, keeps_on, keeps_same, keeps_held, keeps_unpolled, keeps_learnt, goes_on, goes_same, not_goes}
 
@@ -142,13 +142,13 @@ returned_at_once v x a p q r w opened kinds goes made is seen =
     }
 
 -- the client after its row had no request, and the pass was put back
-pub keeps_after : (c : Known) (x n : ℕ) (q r : Holding) (w : DeskView) → HasPassed c x q → NotGot q n r → r.desk ≡ q.desk
+pub keeps_after : (c : Known) (x n : ℕ) (q r : Holding) (w : DeskView) → HasTriedRows c x q → NotGot q n r → r.desk ≡ q.desk
     → r.state ≡ record q.state { room = r.state.room } → w ≡ after_release r.object r.log r.knows → KeepsCalls c.knows w
 keeps_after c x n q r w p missed same state is = let goes = not_goes q r n same (ap (λ z. z.places) state) missed in
     keeps_learnt c.knows x p.won r w p.knows p.object p.begins (goes_on p.won q r p.goes goes) is
 
 -- the same pass with other ages and another list
-pub passed_same : (c : Known) (x : ℕ) (q r : Holding) → HasPassed c x q → IsSameBut q r → HasPassed c x r
+pub passed_same : (c : Known) (x : ℕ) (q r : Holding) → HasTriedRows c x q → IsSameBut q r → HasTriedRows c x r
 passed_same c x q r p s = let g = goes_same q r s in record {
   won = p.won;
   object = p.object;

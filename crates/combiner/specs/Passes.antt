@@ -53,8 +53,8 @@ pub record Goes (p q : Holding) : Type 0 where
   pub calls : KeepsCalls p.knows q.knows
   pub ready : p.knows.ready ≡ true → q.knows.ready ≡ true
 
--- the client won the object x, and then rows were tried: q is its pass after that
-pub record HasPassed (c : Known) (x : ℕ) (q : Holding) : Type 0 where
+-- the client won the object x and tried its rows: q is its pass after that
+pub record HasTriedRows (c : Known) (x : ℕ) (q : Holding) : Type 0 where
   pub won : Holding
   pub object : won.object ≡ x
   pub knows : won.knows ≡ after_win x won.log c.knows
@@ -63,9 +63,9 @@ pub record HasPassed (c : Known) (x : ℕ) (q : Holding) : Type 0 where
   pub goes : Goes won q
   pub desk : q.desk ≡ c.desk
 
--- and then the object can do the operation
+-- the client won the object and tried its rows, and the object can do the operation
 pub record IsReadyFor (c : Known) (x : ℕ) (op : AnyOp) (q : Holding) : Type 0 where
-  pub passed : HasPassed c x q
+  pub passed : HasTriedRows c x q
   pub of_kind : kind_of op ≡ kind_in q
   pub can : CanDo (kind_in q) q.log op
 

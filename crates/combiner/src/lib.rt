@@ -1,7 +1,7 @@
 //! Combining: one pass over the rows of a desk, and calls that wait for their answers.
 //!
-//! Whoever wins an object serves the requests of all rows for it. Hendler, Incze, Shavit, Tzafrir,
-//! "Flat Combining and the Synchronization-Parallelism Tradeoff", SPAA 2010.
+//! The client that wins an object serves the requests for it in the listed rows. Hendler, Incze,
+//! Shavit, Tzafrir, "Flat Combining and the Synchronization-Parallelism Tradeoff", SPAA 2010.
 #![tactic(auto)]
 
 mod passes;

@@ -24,9 +24,9 @@ pub enum CallFault {
 }
 
 /// Makes a call: posts it, enlists the row, and tries to win the object. A client that wins it
-/// serves the other rows, and then takes its own request back out of its row and serves it.
-/// Otherwise the client polls, enlists the row and combines, with a yield between tries, until the
-/// call is answered.
+/// serves the other listed rows, and then takes its own request back out of its row and serves it.
+/// Otherwise it yields, and then polls, enlists the row and combines, with a yield between tries,
+/// until the call is answered.
 pub fn call<S: SeqObject, R: Wait>(
     rt: &R,
     desk: &Desk<S>,
@@ -51,6 +51,7 @@ pub fn call<S: SeqObject, R: Wait>(
         Ok(answer) => (client, Ok(answer)),
         Err(Unmade::NoMemory) => (client, Err(CallFault::NoMemory)),
         Err(Unmade::NotNow) => {
+            Backoff::new().snooze();
             let (client, answered) = wait_for(rt, desk, client, object);
             match answered {
                 Ok(answer) => (client, Ok(answer)),

@@ -23,7 +23,8 @@ pub enum FindOutcome {
 #[derive(Drop)]
 pub struct QuickOutcome {
     pub outcome: FindOutcome,
-    /// The first key of a map for whose calls no order was found. No clause says that they have none.
+    /// The first key of a map for whose calls no order was found. No clause says which key it is, or
+    /// that its calls have no order.
     pub open_key: Option<i64>,
 }
 
@@ -62,7 +63,7 @@ fn find_by(
 
 /// Looks for a certificate of an object by the quick methods that are made for its kind: for a queue,
 /// stack or heap also with another choice of what each removal takes. Where these find no order of a
-/// map they tell the key at which they stopped.
+/// map they may tell the key at which they stopped.
 pub fn find_by_kind(alloc: Global, history: &ObjectHistory) -> Result<QuickOutcome, AllocError>
     ensures valid { IfOk result (λ f. IfOrder f.outcome
         (IsFor history.now.object history.now.kind (calls_of history.now.ops))) }

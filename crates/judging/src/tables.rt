@@ -80,7 +80,7 @@ fn certificates_and_counts(
 }
 
 /// The certificates and the counts, and the objects of the table: one worker reads the certificates
-/// and counts while the others gather the objects. A lone worker does so one after another.
+/// and counts while the others gather the objects. A lone worker does both, one after the other.
 fn read_and_gather<R: Threads + Sync>(
     rt: &R,
     alloc: Global,

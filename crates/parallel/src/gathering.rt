@@ -93,7 +93,7 @@ pub(crate) fn split_by_workers<R: Threads + Sync>(
 /// As `events::split`, from the table of a history, by this many workers: the history of each object
 /// that some invocation names, a failed one too, in rising object number. Worker `w` gathers the
 /// objects whose numbers leave the remainder `w` by the number of workers, and looks once at each
-/// row of the table.
+/// row of the table. An error: memory was refused.
 pub fn split_table_by_workers<R: Threads + Sync>(
     rt: &R,
     alloc: Global,

@@ -94,8 +94,8 @@ fn confirm(
 }
 
 /// Looks for a small reason why no order of the object's operations is valid, by patterns. The open
-/// key of a map, where it is given, is one for whose operations no order was found, while those of
-/// each lesser key have one: it is looked at first. The search for an order of one part tries at
+/// key of a map, where it is given, is one for whose operations no order was found, while one was
+/// found for each lesser key: it is looked at first. The search for an order of one part tries at
 /// most `limit` operations. `None`: there may be a valid order, or none.
 ///
 /// An error: the allocator refused memory.
