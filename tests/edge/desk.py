@@ -1,10 +1,12 @@
 """Refuses each allocation of the example of the desk in turn: a pass that gets no memory for its log serves nothing, releases
-the object, and the next pass serves. A call that the object refuses for lack of memory is answered so."""
+the object, and the next pass serves. A call that the object refuses for lack of memory is answered so. And refuses each allocation of two
+tests of the combiner: a call whose own pass gets no memory is outstanding."""
 import os
 
 from .running import ROOT, at_once, in_room
 
 DESK = f"{ROOT}/crates/desk_example/out/desk_example"
+TESTS = f"{ROOT}/crates/combiner_tests/out/combiner_tests_tests"
 
 ENQUEUED = b"LogEntry { client: 0, ticket: 0, op: Enqueue(7), reply: Value(Some(7)) }"
 DEQUEUED = b"LogEntry { client: 1, ticket: 2, op: Dequeue, reply: Value(Some(7)) }"
@@ -41,4 +43,27 @@ def refused_reserve(program, report):
     return f"{count} allocations refused"
 
 
-PARTS = (refused_reserve,)
+# The tests of `call` and of `call_at_once`, and the line that each prints when the room of its log is refused. Then it waits for the answer.
+OUTSTANDING = ("a_call_whose_pass_gets_no_memory_is_outstanding", "a_call_that_was_not_made_at_once_is_outstanding")
+LINE = b"the call is outstanding\n"
+
+
+def outstanding_calls(program, report):
+    """Each allocation of these tests is refused in a run of its own."""
+    if not os.path.exists(TESTS):
+        report.holds("desk: the tests of the combiner are built", False, f"{TESTS} is missing: rt test in crates/combiner_tests builds it")
+        return None
+    tests, tried = in_room(TESTS, program.room, "combiner_tests", None), 0
+    for name in OUTSTANDING:
+        word = f"outstanding::{name}"
+        whole, count, _ = tests.counts(word)
+        report.holds(f"desk: {name}: with ample memory", whole.status == 0 and LINE not in whole.out, whole)
+        runs = at_once(lambda at: tests.run(word, faults={"REFUSE_AT": at}), range(1, count + 1))
+        shown = [it for it in runs if LINE in it.out]
+        report.holds(f"desk: {name}: some run shows it", shown != [])
+        report.holds(f"desk: {name}: and the call is answered then", all(it.status == 0 for it in shown), shown)
+        tried += count
+    return f"{tried} allocations refused"
+
+
+PARTS = (refused_reserve, outstanding_calls)
