@@ -1,25 +1,12 @@
 -- Clients that have made no call.
-use Rattle.std.proofs.Common.{◌≡◌, ◌⊎◌, inl, inr, ℕ, zero, suc, ◌+◌, ◌<◌, List, [], ◌∷◌, ◌++◌, length, length-append, refl, sym, ap, ◌∙◌, subst, ⊎_elim, arith}
+use Rattle.std.proofs.Common.{◌≡◌, ℕ, zero, suc, ◌+◌, ◌<◌, List, [], ◌∷◌, ◌++◌, length, length-append, refl, sym, ap, ◌∙◌, subst, ⊎_elim, arith}
 use mathlib.Core.Option.{some, some-injective, some-ne-none}
 use lib.ListN.{get_elem?}
+use Rattle.atomic_table.proofs.Lists.{at_longer, at_last}
+use Rattle.publication_list.proofs.RosterMaking.{at_end}
 use Rattle.combiner.specs.Passes.{KeepsCalls}
 use Rattle.publication.specs.Handles.{AllBegun, DeskId, Known, begun}
 use Rattle.clients.specs.Made.{AreNew, HasMadeNoCall}
-
-at_longer : {A : Type 0} (l m : List A) (i : ℕ) (a : A) → get_elem? l i ≡ some a → get_elem? (l ++ m) i ≡ some a
-at_longer [] m i a e = absurd (some-ne-none a (sym e))
-at_longer (x ∷ xs) m zero a e = e
-at_longer (x ∷ xs) m (suc i) a e = at_longer xs m i a e
-
-at_last : {A : Type 0} (l : List A) (a : A) → get_elem? (l ++ a ∷ []) (length l) ≡ some a
-at_last [] a = refl
-at_last (x ∷ xs) a = at_last xs a
-
-at_end : {A : Type 0} (l : List A) (a b : A) (j : ℕ) → get_elem? (l ++ a ∷ []) j ≡ some b → (get_elem? l j ≡ some b) ⊎ ((j ≡ length l) × (a ≡ b))
-at_end [] a b zero e = inr (refl, some-injective a b e)
-at_end [] a b (suc j) e = absurd (some-ne-none b (sym e))
-at_end (x ∷ xs) a b zero e = inl e
-at_end (x ∷ xs) a b (suc j) e = ⊎_elim (λ t. inl t) (λ (t : (j ≡ length xs) × (a ≡ b)). inr (ap suc t.0, t.1)) (at_end xs a b j e)
 
 inside : {A : Type 0} (l : List A) (i : ℕ) (a : A) → get_elem? l i ≡ some a → i < length l
 inside [] i a e = absurd (some-ne-none a (sym e))
@@ -39,7 +26,7 @@ still_none d c k u n desk kept = record { desk = desk ∙ n.desk; number = kept.
 -- the last of them, and the others
 pub one_fewer : (d : DeskId) (l m : List Known) (a : Known) → m ≡ l ++ a ∷ [] → AreNew d m → HasMadeNoCall d (length l) a × (length l + 1 ≡ length m) × AreNew d l
 one_fewer d l m a e all = (
-  all (length l) a (ap (λ z. get_elem? z (length l)) e ∙ at_last l a),
+  all (length l) a (ap (λ z. get_elem? z (length l)) e ∙ at_last l a (length l) refl),
   sym (ap length e ∙ length-append l (a ∷ [])),
   λ c k at. all c k (ap (λ z. get_elem? z c) e ∙ at_longer l (a ∷ []) c k at),
 )
