@@ -6,4 +6,4 @@ mod sink;
 mod source;
 
 pub use sink::{Device, Failed, Out, Sink};
-pub use source::{In, Placed, Source, Supply};
+pub use source::{In, Source, Supply};

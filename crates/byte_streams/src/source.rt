@@ -1,9 +1,9 @@
 //! Where text comes from.
 ghost use Rattle.std.specs.Prelude.{◌≡◌, ◌≤◌, ℕ, List, Bool, true, false, length, take, ⊤, Option};
 ghost use Rattle.std.specs.Prelude.{Result, IfOk, OnOk, OnErr};
-ghost use Rattle.std.specs.Io.KnownBytes.{Consumes, IsAtEnd, Keeps};
+ghost use Rattle.std.specs.Io.KnownBytes.{Keeps};
 ghost use Rattle.std.specs.declared.io.ErrorKind.{ErrorKind};
-ghost use Rattle.byte_streams.specs.Given.{AreAll, GivesAt, GivesBytes};
+ghost use Rattle.byte_streams.specs.Given.{GivesBytes};
 
 use crate::sink::Failed;
 use std::io::{ErrorKind, Read};
@@ -32,26 +32,6 @@ pub trait Source {
 
     fn has_failed(&self) -> bool
         ensures { result ≡ broken self.now };
-}
-
-/// A source that can also be read at places, which leaves it as it is. A place is the number of bytes
-/// before it, of those that the source has left.
-pub trait Placed: Source {
-    /// How many bytes it seems to have left. Only how work is shared depends on it.
-    fn seeming_length(&self) -> Option<usize>;
-
-    /// Puts bytes from this place on at the beginning of the buffer, and says how many they are.
-    /// None for a buffer that is not empty is the end.
-    fn get_at(&self, place: usize, buf: &mut [u8]) -> Result<usize, Failed>
-        ensures within { IfOk result (λ n. n ≤ length buf.new) }
-        ensures gives { IfOk result (GivesAt (Self.remaining self.now) place buf.new) };
-
-    /// Passes over all that is left.
-    fn pass_all(&mut self)
-        ensures passed { (bytes : List ℕ) → AreAll (Self.remaining self.old) bytes
-            → Consumes (Self.remaining self.old) (Self.remaining self.new) bytes }
-        ensures ended { IsAtEnd (Self.remaining self.new) }
-        ensures same { Self.broken self.new ≡ Self.broken self.old };
 }
 
 /// What gives bytes: each call gives some, or none, or fails. Each reader is one.

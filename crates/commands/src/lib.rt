@@ -10,11 +10,9 @@ mod statuses;
 pub use command_line::{DrawOptions, Line, LineFault, RunOptions, line};
 pub use drawing_commands::{report_checked_drawing, report_drawing};
 pub use history_commands::{report_find, report_judgement, report_search};
-pub use outputs::{
-    FAILED, MALFORMED, NO, NO_MEMORY, YES, check_places, check_sources, report_check,
-};
+pub use outputs::{FAILED, MALFORMED, NO, NO_MEMORY, YES, check_sources, report_check};
 pub use program::perform;
 pub use running::report_run;
 pub use simulating::report_simulation;
-pub use sources::{In, NamedFile, OpenedFile, ReadFault, Text, read_text};
+pub use sources::{In, NamedFile, ReadFault, Text, read_text};
 pub use statuses::{USAGE, status_of_fault};

@@ -2,7 +2,7 @@
 //! `edn_writer` have in public, so that a caller names one crate.
 #![tactic(auto)]
 
-pub use byte_streams::{Device, Failed, In, Out, Placed, Sink, Source, Supply};
+pub use byte_streams::{Device, Failed, In, Out, Sink, Source, Supply};
 pub use edn_reader::{
     EdnFault, Elements, FaultKind, Form, MAX_LENGTH, Name, Piece, after, after_line_feed,
     ends_word, fits, integer_at, joined_spell, lines_spell, natural_at, one_reading, read_forms,

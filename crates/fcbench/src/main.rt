@@ -2,11 +2,11 @@
 #![tactic(auto)]
 
 use commands::{
-    FAILED, In, Line, LineFault, NO_MEMORY, NamedFile, OpenedFile, ReadFault, Text, USAGE, YES,
-    check_places, check_sources, line, perform, read_text, status_of_fault,
+    FAILED, In, Line, LineFault, NO_MEMORY, NamedFile, ReadFault, Text, USAGE, YES, check_sources,
+    line, perform, read_text, status_of_fault,
 };
 use edn::Out;
-use std::fs::{self, File, OpenFile};
+use std::fs::File;
 use std::io;
 use std::io::IsTerminal;
 use std::process::ExitCode;
@@ -52,36 +52,8 @@ fn do_line<R: Host>(rt: &R, line: &Line, first: &[u8], second: &[u8]) -> u8 {
     perform(rt, rt.alloc(), line, first, second, &mut output)
 }
 
-/// Judges the files of a check, where the history's file is open: workers may read it.
-fn run_check_on<R: Host>(
-    rt: &R,
-    file: File,
-    history: &str,
-    certs: &str,
-    workers: u32,
-) -> io::Result<u8> {
-    let mut first = OpenedFile::new(file);
-    let mut second = In::new(NamedFile::new(rt, certs));
-    let mut output = Out::new(io::writer(rt));
-    match check_places(
-        rt,
-        rt.alloc(),
-        &mut first,
-        &mut second,
-        workers,
-        &mut output,
-    ) {
-        Ok(status) => Ok(status),
-        Err(Text::History) => report_unreadable(rt, history, first.lacks_memory()),
-        Err(Text::Certificates) => report_unreadable(rt, certs, second.lacks_memory()),
-    }
-}
-
 /// Judges the files of a check.
 fn run_check<R: Host>(rt: &R, history: &str, certs: &str, workers: u32) -> io::Result<u8> {
-    if let Ok(file) = fs::open(rt, history) {
-        return run_check_on(rt, file, history, certs, workers);
-    }
     let mut first = In::new(NamedFile::new(rt, history));
     let mut second = In::new(NamedFile::new(rt, certs));
     let mut output = Out::new(io::writer(rt));

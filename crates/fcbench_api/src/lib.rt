@@ -2,8 +2,7 @@
 //! types in their signatures.
 //!
 //! `judge` takes the two texts as bytes and gives a verdict; `check_over` takes them from sources,
-//! and writes the verdict's lines to a sink; `check_placed` reads a long history by several workers,
-//! from a source that can be read at places. `search` looks for an order of one object's
+//! and writes the verdict's lines to a sink. `search` looks for an order of one object's
 //! operations, and `search_all` of all objects of a history, which `read_history_text` reads and
 //! `split` takes apart. `decide_all` also answers for long histories: an order, or a reason why
 //! there is none. `write_certificates` writes what was found as a text for `judge`.
@@ -15,9 +14,7 @@
 pub use certificate::{CertFault, CertFaultKind, Certificate, write_certificates};
 pub use checker::{OrderFault, Refusal};
 pub use deciding::{Decision, decide_all};
-pub use edn::{
-    Device, EdnFault, Failed, FaultKind, In, Out, Placed, Sink, Source, Supply, WriteFault,
-};
+pub use edn::{Device, EdnFault, Failed, FaultKind, In, Out, Sink, Source, Supply, WriteFault};
 pub use events::{Action, End, Event, History, Invocation, ObjectHistory, split};
 pub use history::{HistoryFault, HistoryFaultKind, TextFault, read_history_text};
 pub use judging::judge;
@@ -31,4 +28,4 @@ pub use refutation::{Doubt, Evidence, Reason, Refutation, refute_all};
 pub use report::{Fault, KindCount, Summary, Verdict};
 pub use search::{Search, SearchOutcome, search, search_all};
 pub use seq_objects::{AnyOp, AnyReply, Kind};
-pub use sources::{Bytes, NamedFile, OpenedFile, Text, ToolFault, check_over, check_placed};
+pub use sources::{Bytes, NamedFile, Text, ToolFault, check_over};

@@ -160,11 +160,11 @@ pub fn judge<R: Threads + Sync>(
     ensures judges { Judges history.now certificates.now result }
     ensures accepts { AreValidTexts history.now certificates.now → IsYesUnlessMemory result }
 {
+    if let Some(table) = table_in(rt, alloc, history, workers.clamp(1, 16) as usize) {
+        return judge_table(rt, alloc, &table, certificates, workers);
+    }
     if workers < 2 {
         return judge_alone(alloc, history, certificates);
-    }
-    if let Some(table) = table_in(rt, alloc, history, workers.min(16) as usize) {
-        return judge_table(rt, alloc, &table, certificates, workers);
     }
     match texts_in(rt, alloc, history, certificates) {
         Ok((client_events, orders)) => verdict_on(rt, alloc, &client_events, &orders, workers),

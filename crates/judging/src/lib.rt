@@ -11,6 +11,5 @@ pub use decision::{
     verdict_on_failure, verdict_on_valid,
 };
 pub use laws::{one_history, one_list_of_orders, valid_certificates_suffice};
-pub use tables::judge_table;
 pub use texts::{TextFailure, history_in, texts_alone};
 pub use verdicts::{Fault, KindCount, Summary, Verdict};

@@ -30,8 +30,8 @@ use verdicts::{Summary, Verdict, table_summary, verdict_on_counts};
 /// A text that is shorter is not read in pieces.
 const LEAST_LENGTH: usize = 1_000_000;
 
-/// The table of the history that the text denotes, read by this many workers. None says nothing of
-/// the text: it is short or too long, its maps are not in lines of their own, one of them has a
+/// The table of the history that the text denotes, read by this many workers; one starts no thread.
+/// None says nothing of the text: it is short or too long, its maps are not in lines of their own, one of them has a
 /// fault, or memory was refused.
 pub(crate) fn table_in<R: Threads + Sync>(
     rt: &R,
@@ -146,7 +146,7 @@ fn check_gathered<R: Threads + Sync>(
 /// Judges a history by its table and by a text of certificates: the verdict is one that `judge` may
 /// give on any text of which this is the table. The work is shared by `workers` threads, at most 16.
 /// With 0 or 1 it starts no thread.
-pub fn judge_table<R: Threads + Sync>(
+pub(crate) fn judge_table<R: Threads + Sync>(
     rt: &R,
     alloc: Global,
     table: &Table,

@@ -11,8 +11,8 @@ ghost use Rattle.outputs.specs.Statuses.{yes_status};
 
 use crate::output::send_out_of_memory;
 use crate::statuses::{FAILED, status_of};
-use edn::{Failed, Placed, Sink, Source};
-use sources::{Bytes, Text, ToolFault, check_over, check_placed, judge_and_write};
+use edn::{Failed, Sink, Source};
+use sources::{Bytes, Text, ToolFault, check_over, judge_and_write};
 use std::alloc::Global;
 use std::thread::Threads;
 
@@ -135,48 +135,6 @@ pub fn check_sources<R: Threads + Sync, H: Source, C: Source, S: Sink>(
     ensures nothing_written { IfErr result (λ _. sink.new ≡ sink.old) }
 {
     check_both(rt, alloc, history, certificates, None, workers, sink)
-}
-
-/// Does what `check_sources` does, where the history's source can be read at places: each worker
-/// reads a range of a long history.
-pub fn check_places<R: Threads + Sync, H: Placed + Sync, C: Source, S: Sink>(
-    rt: &R,
-    alloc: Global,
-    history: &mut H,
-    certificates: &mut C,
-    workers: u32,
-    sink: &mut S,
-) -> Result<u8, Text>
-    requires history { H.broken history.old ≡ false }
-    requires certificates { C.broken certificates.old ≡ false }
-    requires sink { S.broken sink.old ≡ false }
-    // Where the status is that of a yes, the history that was read is linearizable.
-    ensures linearizable { IfOk result (λ status. status ≡ yes_status →
-        IsLinearizableRead (H.remaining history.old) (H.remaining history.new)) }
-    // The lines of a verdict that holds of the bytes that were read are written, and the status is
-    // its own; or one line says that memory was refused.
-    ensures leaves { IfOk result (λ status. Leaves
-        (IsCheckOfRead (H.remaining history.old) (H.remaining history.new)
-        (C.remaining certificates.old) (C.remaining certificates.new) IsOutOfMemory)
-        (S.sent sink.old) status (S.sent sink.new) (S.broken sink.new)) }
-    // The first text that could not be read is named, and nothing is written.
-    ensures unread_history { IfErr result (λ text. text ≡ unread.History →
-        (H.broken history.new ≡ true) × (certificates.new ≡ certificates.old)) }
-    ensures unread_certificates { IfErr result (λ text. text ≡ unread.Certificates →
-        (H.broken history.new ≡ false) × (C.broken certificates.new ≡ true)) }
-    // It is named only where its source refused a call.
-    ensures history_refused { IfErr result (λ text. text ≡ unread.History →
-        WasRefused H.remaining H.refuses history.old history.new) }
-    ensures certificates_refused { IfErr result (λ text. text ≡ unread.Certificates →
-        WasRefused C.remaining C.refuses certificates.old certificates.new) }
-    ensures nothing_written { IfErr result (λ _. sink.new ≡ sink.old) }
-{
-    match check_placed(rt, alloc, history, certificates, workers, sink) {
-        Ok(verdict) => Ok(status_of(&verdict)),
-        Err(ToolFault::Read(text)) => Err(text),
-        Err(ToolFault::Write) => Ok(FAILED),
-        Err(ToolFault::NoMemory) => Ok(send_out_of_memory(sink)),
-    }
 }
 
 /// Judges two texts in memory, as `check_sources` does on them as sources, writes the verdict, and

@@ -6,6 +6,6 @@ mod checking;
 mod output;
 mod statuses;
 
-pub use checking::{check_places, check_sources, report_check};
+pub use checking::{check_sources, report_check};
 pub use output::{Output, put_out, send, send_both, send_out_of_memory, send_verdict};
 pub use statuses::{FAILED, MALFORMED, NO, NO_MEMORY, YES, status_of};

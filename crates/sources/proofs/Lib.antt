@@ -1,4 +1,2 @@
 pub mod Consuming
 pub mod InMemory
-pub mod Places
-pub mod RangesJoined

@@ -1,7 +1,6 @@
 pub mod Texts
 pub mod Reads
 pub mod Checks
-pub mod Ranges
 pub use Rattle.byte_streams.specs.Given
 pub use Rattle.byte_streams.specs.Ins
 pub use Rattle.judging.specs.Verdicts

@@ -3,7 +3,7 @@
 ghost use Rattle.std.specs.Prelude.{◌≡◌, Some, false};
 ghost use Rattle.sources.specs.Texts.{rest_of};
 
-use edn::{Failed, Placed, Source};
+use edn::{Failed, Source};
 
 /// A text in memory. It never fails.
 #[derive(Drop)]
@@ -39,23 +39,5 @@ impl<'a> Source for Bytes<'a> {
 
     fn has_failed(&self) -> bool {
         false
-    }
-}
-
-impl<'a> Placed for Bytes<'a> {
-    fn seeming_length(&self) -> Option<usize> {
-        Some(self.rest.len())
-    }
-
-    fn get_at(&self, place: usize, buf: &mut [u8]) -> Result<usize, Failed> {
-        let (_, there) = self.rest.split_at(place.min(self.rest.len()));
-        let given = buf.len().min(there.len());
-        let (piece, _) = there.split_at(given);
-        buf[..given].copy_from_slice(piece);
-        Ok(given)
-    }
-
-    fn pass_all(&mut self) {
-        self.rest = b"";
     }
 }

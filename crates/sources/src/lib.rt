@@ -4,13 +4,10 @@
 mod bytes;
 mod check;
 mod file;
-mod placed;
-mod ranges;
 mod reading;
 
 pub use bytes::Bytes;
 pub use check::{Text, ToolFault, check_over, judge_and_write};
-pub use edn::{In, Placed, Source};
-pub use file::{NamedFile, OpenedFile};
-pub use placed::check_placed;
+pub use edn::{In, Source};
+pub use file::NamedFile;
 pub use reading::{READ_LIMIT, ReadFault, read_text};
