@@ -1,7 +1,7 @@
 /* Preloaded before a program, makes calls of the system fail. The environment says which:
 
    REFUSE_AT=N       the Nth allocation is refused, counted from 1
-   FAIL_READ_AT=N    the Nth read fails
+   FAIL_READ_AT=N    the Nth read fails, also one at a place of the file
    READ_AT_MOST=N    a read takes at most N bytes
    WRITE_AT_MOST=N   a write takes at most N bytes
    WRITE_IN_ALL=N    standard output takes N bytes in all, and then each write fails
@@ -84,13 +84,21 @@ int posix_memalign(void **p, size_t align, size_t n) {
 
 static size_t at_most(size_t n, long limit) { return limit > 0 && n > (size_t)limit ? (size_t)limit : n; }
 
-ssize_t read(int fd, void *to, size_t n) {
-    if (atomic_fetch_add(&reads, 1) + 1 == fail_read_at) {
-        errno = EIO;
-        return -1;
-    }
-    return syscall(SYS_read, fd, to, at_most(n, read_at_most));
+static int fails_to_read(void) {
+    if (atomic_fetch_add(&reads, 1) + 1 != fail_read_at) return 0;
+    errno = EIO;
+    return 1;
 }
+
+ssize_t read(int fd, void *to, size_t n) {
+    return fails_to_read() ? -1 : syscall(SYS_read, fd, to, at_most(n, read_at_most));
+}
+
+ssize_t pread(int fd, void *to, size_t n, off_t place) {
+    return fails_to_read() ? -1 : syscall(SYS_pread64, fd, to, at_most(n, read_at_most), place);
+}
+
+ssize_t pread64(int fd, void *to, size_t n, off_t place) { return pread(fd, to, n, place); }
 
 ssize_t write(int fd, const void *from, size_t n) {
     n = at_most(n, write_at_most);

@@ -103,6 +103,24 @@ def failing_reads(program, report):
             report.answers(f"{' '.join(words)}, a read fails in the middle of {name}", ran, "", 4, message)
 
 
+def failing_reads_of_long_texts(program, report):
+    """Where any one read of a long history fails, it is named, with one worker and with several: no read is tried again."""
+    maps = "".join(f"{{:process 0, :type :{it}, :f :write, :value {n}}}\n" for n in range(12_000) for it in ("invoke", "ok"))
+    program.write(HISTORY, maps)
+    program.write(CERTIFICATES, rows.order(*range(0, 24_000, 2)))
+    report.holds("a long history", len(maps) >= 1_000_000, len(maps))
+    for workers in ("1", "4"):
+        words = "check", HISTORY, CERTIFICATES, "--workers", workers
+        ran, _, reads = program.counts(*words)
+        report.answers(f"check, {workers} workers, a long history", ran, rows.yes(12_000, 1, "register: 1 objects, 12000 operations"), 0)
+        report.holds(f"check, {workers} workers: a long history comes in pieces", reads > 10, reads)
+        for at in range(1, reads + 1):
+            ran = program.run(*words, faults={"FAIL_READ_AT": at})
+            named = [f"fcbench: cannot read {name}\n".encode() for name in (HISTORY, CERTIFICATES)]
+            is_well = ran.status == 4 and ran.out == b"" and ran.err in named
+            report.holds(f"check, {workers} workers, read {at} of a long history fails", is_well, ran)
+
+
 def in_pieces(program, report):
     """Texts that come in pieces, with pauses, and an empty pipe."""
     for words, files, out, status in good_runs():
@@ -164,4 +182,4 @@ def same_file_twice(program, report):
     report.answers("check: one file twice", ran, rows.yes(0, 0), 0)
 
 
-PARTS = (unreadable, failing_reads, in_pieces, too_long, longest, same_file_twice)
+PARTS = (unreadable, failing_reads, failing_reads_of_long_texts, in_pieces, too_long, longest, same_file_twice)
