@@ -10,7 +10,7 @@ use certificate::Certificate;
 use checker::{Refusal, check_object};
 use claims::Claim;
 use events::ObjectHistory;
-use refutation::{Doubt, Evidence, Reason, Refutation, refute, steps_of};
+use refutation::{Doubt, Reason, Refutation, refute};
 use std::alloc::{AllocError, Global};
 
 /// What is decided by an order.
@@ -41,7 +41,7 @@ fn decide_by_doubt(reason: &Reason, limit: u64, doubt: Doubt) -> Decision {
             object: reason.object,
             order,
         }),
-        Doubt::OutOfSteps => Decision::OutOfSteps(steps_of(reason.evidence, limit)),
+        Doubt::OutOfSteps => Decision::OutOfSteps(reason.evidence.steps(limit)),
         Doubt::NoMemory => Decision::NoMemory,
         Doubt::Possible(_) | Doubt::NotOverdrawn => Decision::Open,
     }
