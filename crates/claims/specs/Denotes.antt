@@ -23,7 +23,7 @@ seen (claim.Reason r note) = reason (reasons.seen r) (option_map (λ v. v.items)
 
 abbrev pub object_of : Claim → ℕ
 object_of (claim.Order c) = c.object
-object_of (claim.Reason r note) = r.object
+object_of (claim.Reason r _) = r.object
 
 -- ---- forms
 

@@ -7,10 +7,10 @@ ghost use Rattle.edn_reader.specs.Spells.{Spells};
 ghost use Rattle.claims.specs.Denotes.{Denotes};
 ghost use Rattle.claims.specs.Texts.{IsTextFault};
 
+use crate::claim::Claim;
 use crate::fault::ClaimTextFault;
 use crate::reader::read_claims;
 use edn::read_forms;
-use crate::claim::Claim;
 use std::alloc::Global;
 
 /// The claims that the text denotes, each element being one, or what is wrong. What is wrong with

@@ -120,7 +120,7 @@ no_memory_not_failed : no_memory_status ≢ failed_status
 no_memory_not_failed e = absurd cc
 
 pub text_not_failed : (h e : List ℕ) (limit status : ℕ) (text : List ℕ) → IsOpenText h e limit status text → status ≢ failed_status
-text_not_failed h e limit status text (short, es, denotes, inl open) = never_failed open.2.answers open.2.status_is
+text_not_failed h e limit status text (short, es, denotes, inl undecided) = never_failed undecided.2.answers undecided.2.status_is
 text_not_failed h e limit status text (short, es, denotes, inr fault) = λ f. no_memory_not_failed (sym fault.3.0 ∙ f)
 
 -- ---- what the status shows
@@ -149,11 +149,11 @@ no_memory_not_no : no_memory_status ≢ no_status
 no_memory_not_no e = absurd cc
 
 pub is_verification : (h e : List ℕ) (limit status : ℕ) (out : List ℕ) → IsVerificationOutput h e limit status out → IsVerification h e limit status out
-is_verification h e limit status out (inl (short, es, denotes, inl open)) = record {
-  output = inl (short, es, denotes, inl open);
-  linearizable = λ is. absurd (status_not_yes open.2.answers open.2.some_open (sym open.2.status_is ∙ is));
-  refuted = λ is. record { client_events = es; history_text = denotes; not_linearizable = open.2.refuted is };
-  explained = λ is. (es, denotes, open.2.explained is);
+is_verification h e limit status out (inl (short, es, denotes, inl undecided)) = record {
+  output = inl (short, es, denotes, inl undecided);
+  linearizable = λ is. absurd (status_not_yes undecided.2.answers undecided.2.some_open (sym undecided.2.status_is ∙ is));
+  refuted = λ is. record { client_events = es; history_text = denotes; not_linearizable = undecided.2.refuted is };
+  explained = λ is. (es, denotes, undecided.2.explained is);
 }
 is_verification h e limit status out (inl (short, es, denotes, inr fault)) = record {
   output = inl (short, es, denotes, inr fault);

@@ -260,7 +260,7 @@ fn judge_decisions(
 ) -> Result<Output, Verdict>
     requires valid { All (λ a. IsSome (certificate_in a.1)) answers.items
         → AreValid history.now (certificates_in answers.items) }
-    ensures open { (claims : List Claim) (limit : ℕ) →
+    ensures undecided { (claims : List Claim) (limit : ℕ) →
         AreDecisionsOn history.now claims limit answers.items →
         IfOk result (λ s. AreOpen history.now claims limit s.status s.text.items) }
     ensures verdict { (claims : List Claim) (limit : ℕ) →
@@ -284,7 +284,7 @@ fn verify_claims(
     claims: Vec<Claim>,
     steps: u32,
 ) -> Result<Output, Verdict>
-    ensures open { IfOk result (λ s.
+    ensures undecided { IfOk result (λ s.
         AreOpen history.now claims.items steps s.status s.text.items) }
     ensures verdict { IfErr result (IsVerdictBy history.now claims.items steps) }
 {
@@ -301,7 +301,7 @@ fn verify_by_text(
     evidence: &[u8],
     steps: u32,
 ) -> Result<Output, Verdict>
-    ensures open { IfOk result (λ s. ((claims : List Claim) × DenotesClaims evidence.now claims
+    ensures undecided { IfOk result (λ s. ((claims : List Claim) × DenotesClaims evidence.now claims
         × AreOpen history.now claims steps s.status s.text.items)
         ⊎ IsEvidenceFault evidence.now s.status s.text.items) }
     ensures verdict { IfErr result (λ v. (v ≡ Verdict.NoMemory)
@@ -321,7 +321,7 @@ fn verify_text(
     evidence: &[u8],
     steps: u32,
 ) -> Result<Output, Verdict>
-    ensures open { IfOk result (λ s.
+    ensures undecided { IfOk result (λ s.
         IsOpenText history.now evidence.now steps s.status s.text.items) }
     ensures verdict { IfErr result (IsVerdictText history.now evidence.now steps) }
 {

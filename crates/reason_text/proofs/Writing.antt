@@ -1,7 +1,7 @@
 -- The lines that are written for reasons spell forms that denote them.
 use Rattle.std.proofs.Common.{◌≡◌, ℕ, ◌≤◌, Bool, true, false, suc, List, [], ◌∷◌, ◌++◌, map}
 use Rattle.std.proofs.Common.{Option, Some, None, lit<, refl, ap, sym, ◌∙◌, subst, append_assoc}
-use Rattle.std.proofs.Common.{arith}
+use Rattle.std.proofs.Common.{arith, get_or}
 use Rattle.std.specs.Prelude.{ℤ, pos, codes, decimal, if◌then◌else◌, option_map, option_and_then}
 use Rattle.std.specs.Fmt.{signed_decimal}
 use Rattle.std.specs.List.{AllByRecursion}
@@ -199,14 +199,19 @@ counted_is_text (counted.NoEntry k) n = closed (codes ":key " ++ signed_decimal 
 counted_is_text counted.Held n = closed (codes ":held true") (decimal n)
 counted_is_text counted.Free n = closed (codes ":free true") (decimal n)
 
+-- the last number of a map, and its closing bracket
+ended : (d : List ℕ) → d ++ codes "}" ≡ ((d ++ []) ++ codes "}") ++ []
+ended d =
+    ap (λ t. t ++ codes "}") (sym (append-nil d)) ∙ sym (append-nil ((d ++ []) ++ codes "}"))
+
 search_is_text : (first : TryFirst) (steps : Option ℕ)
     → search_text first steps ≡ entries_text false (search_entries first steps)
 search_is_text LeastNumber None = refl
 search_is_text LeastReturn None = refl
 search_is_text LeastNumber (Some n) =
-    closed (codes ", :search {:first :number") (decimal n)
+    ap (λ t. codes ", :search {:first :number, :steps " ++ t) (ended (decimal n))
 search_is_text LeastReturn (Some n) =
-    closed (codes ", :search {:first :return") (decimal n)
+    ap (λ t. codes ", :search {:first :return, :steps " ++ t) (ended (decimal n))
 
 evidence_is_text : (e : Evidence) → evidence_text e ≡ entries_text false (evidence_entries e)
 evidence_is_text (Search trial) = search_is_text trial.first trial.steps
@@ -328,21 +333,27 @@ lacks_evidence : (k : List ℕ) (e : Evidence) → (k ≡ codes "count" → ⊥)
 lacks_evidence k (Search trial) count search = lacks_search k trial.first trial.steps search
 lacks_evidence k (Counting c) count search = (count, tt)
 
+first_is_not_steps : codes "first" ≡ codes "steps" → ⊥
+first_is_not_steps h = let first : 102 ≡ 115 = ap (λ k. get_or k 0 0) h in absurd (omega (arith, first))
+
 search_fits : (first : TryFirst) (steps : Option ℕ) → EntriesFit 15 (search_entries first steps)
 search_fits LeastNumber None = tt
 search_fits LeastReturn None = (tt, (lit< tt, (tt, tt, tt)), tt)
-search_fits LeastNumber (Some n) = (tt, (lit< tt, ((λ h. cc, tt), tt, (tt, tt, tt))), tt)
-search_fits LeastReturn (Some n) = (tt, (lit< tt, ((λ h. cc, tt), tt, (tt, tt, tt))), tt)
+search_fits LeastNumber (Some n) = (tt, (lit< tt, ((first_is_not_steps, tt), tt, (tt, tt, tt))), tt)
+search_fits LeastReturn (Some n) = (tt, (lit< tt, ((first_is_not_steps, tt), tt, (tt, tt, tt))), tt)
 
 evidence_fits : (e : Evidence) → EntriesFit 15 (evidence_entries e)
 evidence_fits (Search trial) = search_fits trial.first trial.steps
 evidence_fits (Counting c) = (tt, (lit< tt, counted_fits c.counted c.from), tt)
 
+object_is_not_search : codes "object" ≡ codes "search" → ⊥
+object_is_not_search h = let first : 111 ≡ 115 = ap (λ k. get_or k 0 0) h in absurd (omega (arith, first))
+
 datum_fits : (r : Reason) → Fits max_open (datum_of r)
 datum_fits r = (
   lit< tt,
   (
-    (λ h. cc, lacks_evidence (codes "object") r.evidence (λ h. cc) (λ h. cc)),
+    (λ h. cc, lacks_evidence (codes "object") r.evidence (λ h. cc) object_is_not_search),
     tt,
     (
       lacks_evidence (codes "cuts") r.evidence (λ h. cc) (λ h. cc),

@@ -1,5 +1,5 @@
 -- The decisions on all objects of a history.
-use Rattle.std.proofs.Common.{◌≡◌, ℕ, List, Option, true, Any, subst}
+use Rattle.std.proofs.Common.{◌≡◌, ℕ, List, true, Any, subst}
 use Rattle.std.proofs.lemmas.Option.{same_Some}
 use Rattle.model.specs.Linearizable.{IsLinearizable}
 use Rattle.model.specs.declared.Kind.{Kind}
@@ -12,7 +12,6 @@ use Rattle.checker.proofs.Collected.{Certifies, AreOnAll}
 use Rattle.order_search.specs.Outcomes.{IsNoneValid}
 use Rattle.search.specs.Answers.{IsFor}
 use Rattle.claims.specs.declared.claim.Claim.{Claim}
-use Rattle.verifying.specs.declared.decision.Refuted.{Refuted}
 use Rattle.verifying.specs.declared.decision.Decision.{Decision}
 use Rattle.verifying.specs.declared.decision.Decision.TheVariants.{Order, Impossible, OutOfSteps}
 use Rattle.verifying.specs.declared.decision.Decision.TheVariants.{NoMemory, Open}

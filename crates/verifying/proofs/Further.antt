@@ -1,5 +1,5 @@
 -- What one more claim makes of the decision on an object.
-use Rattle.std.proofs.Common.{◌≡◌, ◌≢◌, ◌∙◌, ◌⊎◌, ◌<◌, ℕ, true, false, List, [], ◌∷◌, ◌++◌, length, Any, All, Contains, refl, ap, sym, arith}
+use Rattle.std.proofs.Common.{◌≡◌, ◌≢◌, ◌∙◌, ◌⊎◌, ℕ, true, false, List, [], ◌∷◌, ◌++◌, Any, Contains, refl, ap, sym, subst, arith}
 use Rattle.std.proofs.lemmas.List.Elements.{All-push, Contains-append_left, Contains-append_right}
 use Rattle.model.specs.declared.Kind.{Kind}
 use Rattle.model.specs.Orders.{Call}
@@ -50,20 +50,20 @@ module _ (cs : List Claim) (e : Claim) (limit x : ℕ) (kind : Kind) (calls : Li
   -- what was decided stays where one more claim on the object does not contradict it
   keeps : (d : Decision) → (is_shown d ≡ false → object_of e ≡ x → IsRefused kind calls e ⊎ Searches e) → (d ≡ Open → object_of e ≡ x → IsRefused kind calls e)
       → IsDecision cs limit x kind calls d → IsDecision (cs ++ e ∷ []) limit x kind calls d
-  keeps d unshown open h = record {
+  keeps d unshown refused h = record {
     order = if_order d _ _ (λ c p. (p.0, any_more _ cs e p.1)) h.order;
     impossible = if_impossible d _ _ (λ r p. (p.0, Contains-append_left cs (e ∷ []) (claim.Reason r.reason r.note) p.1)) h.impossible;
     out_of_steps = if_out_of_steps d _ _ (λ n p. any_more _ cs e p) h.out_of_steps;
-    memory = h.memory;
-    unshown = λ no. All-push (λ e. object_of e ≡ x → IsRefused kind calls e ⊎ Searches e) cs e (h.unshown no) (unshown no);
-    open = λ is. All-push (λ e. object_of e ≡ x → IsRefused kind calls e) cs e (h.open is) (open is);
+    memory = λ is. any_more _ cs e (h.memory is);
+    unshown = λ none. All-push (λ e. object_of e ≡ x → IsRefused kind calls e ⊎ Searches e) cs e (h.unshown none) (unshown none);
+    refused = λ is. All-push (λ e. object_of e ≡ x → IsRefused kind calls e) cs e (h.refused is) (refused is);
   }
 
   pub shown_stays : (d : Decision) → is_shown d ≡ true → IsDecision cs limit x kind calls d → IsDecision (cs ++ e ∷ []) limit x kind calls d
-  shown_stays d shown h = keeps d (λ no own. absurd (cc (sym shown ∙ no))) (λ is own. absurd (cc (sym shown ∙ ap is_shown is))) h
+  shown_stays d shown h = keeps d (λ none own. absurd (cc (sym shown ∙ none))) (λ is own. absurd (cc (sym shown ∙ ap is_shown is))) h
 
   pub other_stays : (d : Decision) → object_of e ≢ x → IsDecision cs limit x kind calls d → IsDecision (cs ++ e ∷ []) limit x kind calls d
-  other_stays d other h = keeps d (λ no own. absurd (other own)) (λ is own. absurd (other own)) h
+  other_stays d other h = keeps d (λ none own. absurd (other own)) (λ is own. absurd (other own)) h
 
   pub open_stays : (d next : Decision) → is_open next ≡ true → IsAnswer x kind calls limit e next
       → IsDecision cs limit x kind calls d → IsDecision (cs ++ e ∷ []) limit x kind calls d
@@ -71,19 +71,19 @@ module _ (cs : List Claim) (e : Claim) (limit x : ℕ) (kind : Kind) (calls : Li
   open_stays d (Impossible r) is a h = absurd (cc is)
   open_stays d (OutOfSteps n) is a h = absurd (cc is)
   open_stays d NoMemory is a h = absurd (cc is)
-  open_stays d Open is a h = keeps d (λ no own. a.unshown refl) (λ same own. a.open refl) h
+  open_stays d Open is a h = keeps d (λ none own. a.unshown refl) (λ same own. a.refused refl) h
 
   -- where nothing was shown, and the claim is not refused, its answer is the decision
   pub next_decides : (d next : Decision) → is_shown d ≡ false → is_open next ≡ false → object_of e ≡ x → IsAnswer x kind calls limit e next
       → IsDecision cs limit x kind calls d → IsDecision (cs ++ e ∷ []) limit x kind calls next
-  next_decides d next no is own a h = record {
+  next_decides d next none is own a h = record {
     order = if_order next _ _ (λ c p. (p.0, any_last _ cs e (own, p.1))) a.order;
     impossible = if_impossible next _ _ (λ r p. (p.0, subst_claim r p.1)) a.impossible;
     out_of_steps = if_out_of_steps next _ _ (λ n p. any_last _ cs e (own, p)) a.out_of_steps;
-    memory = a.memory;
-    unshown = λ not. All-push (λ e. object_of e ≡ x → IsRefused kind calls e ⊎ Searches e) cs e (h.unshown no) (λ o. a.unshown not);
-    open = λ same. absurd (cc (sym is ∙ ap is_open same));
+    memory = λ same. any_last _ cs e (own, a.memory same);
+    unshown = λ not. All-push (λ e. object_of e ≡ x → IsRefused kind calls e ⊎ Searches e) cs e (h.unshown none) (λ o. a.unshown not);
+    refused = λ same. absurd (cc (sym is ∙ ap is_open same));
   }
     where
       subst_claim : (r : Refuted) → e ≡ claim.Reason r.reason r.note → Contains (cs ++ e ∷ []) (claim.Reason r.reason r.note)
-      subst_claim r same = let c = last cs e in (c.0, c.1, rw same c.2)
+      subst_claim r same = subst (λ (k : Claim). Contains (cs ++ e ∷ []) k) same (last cs e)

@@ -7,7 +7,7 @@ use Rattle.model.specs.Linearizable.{IsLinearizable}
 use Rattle.model.specs.Orders.{Call, IsValidOrder, calls_on, events}
 use Rattle.events.specs.declared.event.Event.{Event}
 use Rattle.events.specs.Events.{IsNamed, kind_at, denoted}
-use Rattle.events.specs.Operations.{ObjectCalls, calls_of}
+use Rattle.events.specs.Operations.{ObjectCalls}
 use Rattle.certificate.specs.declared.Certificate.{Certificate}
 use Rattle.certificate.specs.Denotes.{AreDistinct}
 use Rattle.checker.specs.Refusals.{AreValid}
@@ -93,7 +93,7 @@ is_shown Open = false
 -- the claim asks for the search of the whole object
 abbrev pub AsksForSearch : Claim → Type 0
 AsksForSearch (claim.Order c) = ⊥
-AsksForSearch (claim.Reason r note) = (r.cuts.items ≡ []) × IsSearch r.evidence
+AsksForSearch (claim.Reason r _) = (r.cuts.items ≡ []) × IsSearch r.evidence
 
 -- the order is claimed, or a search of the whole object is asked for
 abbrev pub Orders : Certificate → Claim → Type 0
@@ -102,12 +102,12 @@ Orders c e = (e ≡ claim.Order c) ⊎ AsksForSearch e
 -- a search of at most this many steps is asked for, of a part or of the whole
 abbrev pub SearchesIn : ℕ → ℕ → Claim → Type 0
 SearchesIn limit n (claim.Order c) = ⊥
-SearchesIn limit n (claim.Reason r note) = IsSearch r.evidence × (n ≡ steps_of r.evidence limit)
+SearchesIn limit n (claim.Reason r _) = IsSearch r.evidence × (n ≡ steps_of r.evidence limit)
 
 -- the claim asks for a search, of a part or of the whole
 abbrev pub Searches : Claim → Type 0
 Searches (claim.Order c) = ⊥
-Searches (claim.Reason r note) = IsSearch r.evidence
+Searches (claim.Reason r _) = IsSearch r.evidence
 
 -- The cuts of the reason name no part, or its evidence does not hold of the part: the part has a
 -- valid order, or its count is not exceeded.
@@ -121,7 +121,7 @@ IsRefusedReason kind calls r =
 -- the claim is not true of an object of this kind and these calls
 abbrev pub IsRefused : Kind → List Call → Claim → Type 0
 IsRefused kind calls (claim.Order c) = IsValidOrder kind calls c.order.items → ⊥
-IsRefused kind calls (claim.Reason r note) = IsRefusedReason kind calls r
+IsRefused kind calls (claim.Reason r _) = IsRefusedReason kind calls r
 
 -- What shows that no order of the calls of an object is valid: the reason names a part, and its
 -- evidence holds of the part, which has no valid order.
@@ -141,9 +141,9 @@ pub record IsAnswer (x : ℕ) (kind : Kind) (calls : List Call) (limit : ℕ) (e
   pub impossible : IfImpossible d (λ f.
       IsRefutation x kind calls f × (e ≡ claim.Reason f.reason f.note))
   pub out_of_steps : IfOutOfSteps d (λ n. SearchesIn limit n e)
-  pub memory : d ≡ NoMemory → Any (λ call. IsSome call.returned) calls
+  pub memory : d ≡ NoMemory → Searches e
   pub unshown : is_shown d ≡ false → IsRefused kind calls e ⊎ Searches e
-  pub open : d ≡ Open → IsRefused kind calls e
+  pub refused : d ≡ Open → IsRefused kind calls e
 
 -- What is decided of an object, with its kind and calls, by claims, where a search for which none of
 -- them names a number of steps takes at most `limit`.
@@ -158,13 +158,13 @@ pub record IsDecision (claims : List Claim) (limit x : ℕ) (kind : Kind) (calls
   -- a search had all the steps that it may take
   pub out_of_steps : IfOutOfSteps d (λ n.
       Any (λ e. (object_of e ≡ x) × SearchesIn limit n e) claims)
-  -- NoMemory is answered only where some operation returned
-  pub memory : d ≡ NoMemory → Any (λ call. IsSome call.returned) calls
+  -- a search was refused memory, for which a claim on the object asks
+  pub memory : d ≡ NoMemory → Any (λ e. (object_of e ≡ x) × Searches e) claims
   -- where nothing is shown each claim on the object is not true, or asks for a search
   pub unshown : is_shown d ≡ false
       → All (λ e. object_of e ≡ x → IsRefused kind calls e ⊎ Searches e) claims
   -- it is open only where no claim on the object is true
-  pub open : d ≡ Open → All (λ e. object_of e ≡ x → IsRefused kind calls e) claims
+  pub refused : d ≡ Open → All (λ e. object_of e ≡ x → IsRefused kind calls e) claims
 
 -- a decision on the object with this number, in the history that the events denote
 abbrev pub IsDecisionOn : List Event → List Claim → ℕ → ℕ → Decision → Type 0

@@ -1,8 +1,7 @@
 -- How the decisions on all objects are made, claim by claim. No public clause speaks of it.
-use Rattle.std.specs.Prelude.{◌≡◌, ◌≢◌, ◌<◌, ℕ, List, [], ◌∷◌, ◌++◌, length, map, get_or, All}
+use Rattle.std.specs.Prelude.{◌≡◌, ◌<◌, ℕ, List, [], ◌∷◌, ◌++◌, length, map, get_or, All}
 use Rattle.events.specs.Operations.{ObjectCalls, calls_of}
 use Rattle.claims.specs.declared.claim.Claim.{Claim}
-use Rattle.claims.specs.Denotes.{object_of}
 use Rattle.verifying.specs.declared.decision.Decision.{Decision}
 use Rattle.verifying.specs.declared.decision.Decision.TheVariants.{Open}
 use Rattle.verifying.specs.Decisions.{IsDecision}
@@ -18,7 +17,7 @@ NumbersAre objects answers = map (λ a. a.0) answers ≡ map (λ o. o.object) ob
 -- each object is open
 pub record AreAllOpen (objects : List ObjectCalls) (answers : List (ℕ × Decision)) : Type 0 where
   pub numbers : NumbersAre objects answers
-  pub open : All (λ a. a.1 ≡ Open) answers
+  pub undecided : All (λ a. a.1 ≡ Open) answers
 
 -- the decision on an object at a place, by these claims
 abbrev pub IsDecidedAt : List Claim → ℕ → ObjectCalls → Decision → Type 0

@@ -1,9 +1,14 @@
 //! The decision on one object by one claim.
 
-ghost use Rattle.std.specs.Prelude.{◌≡◌, IfOk};
-ghost use Rattle.events.specs.Operations.{calls_of};
+ghost use Rattle.std.specs.Prelude.{◌≡◌, ℕ, List, Option, IfOk};
+ghost use Rattle.std.specs.Global.{Vec};
+ghost use Rattle.model.specs.declared.Kind.{Kind};
+ghost use Rattle.model.specs.Orders.{Call};
+ghost use Rattle.events.specs.Operations.{ObjectCalls, calls_of};
+ghost use Rattle.refutation.specs.Refutations.{IsDoubt, IsNamedPart};
 ghost use Rattle.verifying.specs.Decisions.{IsAnswer};
 ghost use Rattle.claims.specs.declared.claim.Claim.TheVariants as claim;
+ghost use Rattle.claims.specs.Denotes.{object_of};
 
 use crate::decision::{Decision, Refuted};
 use certificate::Certificate;
@@ -35,7 +40,12 @@ fn decide_by_order(
 
 /// What is decided where the reason does not show that no order is valid. The search of the whole
 /// object, of which nothing was cut off, may have found an order.
-fn decide_by_doubt(reason: &Reason, limit: u64, doubt: Doubt) -> Decision {
+fn decide_by_doubt(reason: &Reason, limit: u64, doubt: Doubt) -> Decision
+    ensures { (kind : Kind) (calls : List Call) (note : Option (Vec ℕ)) (part : ObjectCalls)
+        → IsNamedPart reason.now.cuts.items reason.now.object kind calls part
+        → IsDoubt reason.now.evidence part doubt
+        → IsAnswer reason.now.object kind calls limit (claim.Reason reason.now note) result }
+{
     match doubt {
         Doubt::Possible(order) if reason.cuts.is_empty() => Decision::Order(Certificate {
             object: reason.object,
@@ -43,7 +53,8 @@ fn decide_by_doubt(reason: &Reason, limit: u64, doubt: Doubt) -> Decision {
         }),
         Doubt::OutOfSteps => Decision::OutOfSteps(reason.evidence.steps(limit)),
         Doubt::NoMemory => Decision::NoMemory,
-        Doubt::Possible(_) | Doubt::NotOverdrawn => Decision::Open,
+        Doubt::Possible(_) => Decision::Open,
+        Doubt::NotOverdrawn => Decision::Open,
     }
 }
 

@@ -1,4 +1,3 @@
-use Rattle.std.proofs.Common.{◌≡◌}
 use Rattle.edn_reader.specs.View.{views}
 use Rattle.claims.proofs.Reading.{first_fault, not_denoted, sound_before, one_more_read}
 use Rattle.claims.proofs.reader.read_claims.Goals as goal

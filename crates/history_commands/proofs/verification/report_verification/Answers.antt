@@ -7,7 +7,7 @@ use Rattle.history_commands.proofs.verification.report_verification.Goals as goa
 
 pub put_out-requires-clause-other : goal.put_out-requires-clause-other
 put_out-requires-clause-other g c =
-    IfOk-weaker c.verify_text.result _ _ (λ o. text_not_failed c.args.history.now c.args.evidence.now c.args.steps o.status o.text.items) c.verify_text.ensures.open
+    IfOk-weaker c.verify_text.result _ _ (λ o. text_not_failed c.args.history.now c.args.evidence.now c.args.steps o.status o.text.items) c.verify_text.ensures.undecided
 
 pub returns : goal.returns
 returns g c =
@@ -16,5 +16,5 @@ returns g c =
     let made = c.verify_text.ensures in
     record {
       leaves = leaves_as c.put_out.ensures.leaves (λ own out is.
-          is_verification h e c.args.steps own out (made_output (IsOpenText h e c.args.steps) (IsVerdictText h e c.args.steps) c.verify_text.result made.open made.verdict own out is));
+          is_verification h e c.args.steps own out (made_output (IsOpenText h e c.args.steps) (IsVerdictText h e c.args.steps) c.verify_text.result made.undecided made.verdict own out is));
     }
