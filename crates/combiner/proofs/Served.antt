@@ -1,5 +1,5 @@
 -- What the try of a row does to a pass, and what a whole pass does.
-use Rattle.std.proofs.Common.{◌≡◌, ◌≢◌, ℕ, ◌<◌, ◌≤◌, Bool, true, false, ◌||◌, ◌&&◌, List, [], ◌++◌, length, get_or, set, eq-eqb, refl, sym, ap, ◌∙◌, subst, inl, inr, ⊎_elim}
+use Rattle.std.proofs.Common.{◌≡◌, ◌≢◌, ℕ, ◌+◌, ◌<◌, ◌≤◌, Bool, true, false, ◌||◌, ◌&&◌, List, [], ◌++◌, length, get_or, set, eq-eqb, refl, sym, ap, ◌∙◌, subst, inl, inr, ⊎_elim}
 use mathlib.Core.Logic.{dite}
 use native.Mathlib.Decide.{ℕ_discrete}
 use Rattle.std.proofs.Math.Bool.{or-true}
@@ -86,11 +86,11 @@ same_tried p q t s k = subst (λ z. IsTried z t) (sym s.2) (also t k)
     also tried.Answered k = k
     also tried.PutBack k = k
 
-pub not_goes : (p q : Holding) (row : ℕ) → q.desk ≡ p.desk → q.state.places ≡ p.state.places → NotGot p row q → Goes p q
+pub not_goes : (p q : Holding) (row : ℕ) → q.desk ≡ p.desk → q.state ≡ p.state → NotGot p row q → Goes p q
 not_goes p q row d s n = let k = n.knows in record {
   desk = d;
   object = n.object;
-  places = s;
+  places = ap (λ z. z.places) s;
   log = subst (λ l. StartsWith l p.log) (sym n.log) (starts_same p.log);
   seen = ap (λ z. z.seen) k;
   calls = keeps_same p.knows q.knows _ k (keeps_held p.knows);
