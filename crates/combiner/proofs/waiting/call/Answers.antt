@@ -1,6 +1,5 @@
-use Rattle.std.proofs.Common.{IfOk, IfErr, subst}
+use Rattle.std.proofs.Common.{IfOk, subst}
 use Rattle.desk_model.specs.Images.{answer_in}
-use Rattle.combiner.specs.Passes.{KeepsCalls}
 use Rattle.combiner.specs.Waits.{Returns}
 use Rattle.combiner.proofs.Waited.{called}
 use Rattle.combiner.proofs.waiting.call.Goals as goal
