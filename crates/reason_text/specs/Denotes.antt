@@ -13,7 +13,6 @@ use Rattle.projection.specs.declared.keeping.Values.TheVariants.{All, Only}
 use Rattle.projection.specs.declared.cutting.Cut.{Cut}
 use Rattle.projection.specs.declared.cutting.Cut.TheVariants.{From, Until, Without, Keep, Cell}
 use Rattle.projection.specs.declared.cutting.Cut.TheVariants.{Entry}
-use Rattle.projection.specs.declared.counting.Count.{Count}
 use Rattle.projection.specs.declared.counting.Counted.{Counted}
 use Rattle.projection.specs.declared.counting.Counted.TheVariants as counted
 use Rattle.refutation.specs.declared.reason.Evidence.{Evidence}
