@@ -458,18 +458,7 @@ fn arrows_in(memory: &Memory, operations: &[Operation]) -> Vec<(Operation, Opera
     arrows
 }
 
-/// Those of the operations that did not fail.
-fn live_of(memory: &Memory, part: &[Invocation]) -> Vec<Invocation> {
-    let mut live = Vec::new(memory.alloc);
-    for invocation in part {
-        if invocation.end != End::Failed {
-            memory.note(live.push(*invocation));
-        }
-    }
-    live
-}
-
-/// A part of an object's history of which no order is valid.
+/// A part of an object's history of which no order is valid. It has no operations that failed.
 #[derive(Clone, Copy)]
 pub struct Part<'a> {
     pub part: &'a ObjectHistory,
@@ -492,8 +481,7 @@ pub fn draw_impossible(
 {
     let memory = Memory::new(alloc);
     let operations = all_operations(&memory, subject);
-    let live = live_of(&memory, part.part.ops());
-    let ops: &[Invocation] = &live;
+    let ops = part.part.ops();
     let named = operations_named(&memory, &operations, ops, part.from);
     let tried = try_orders(&memory, &operations, part.part.kind(), ops, part.other);
     let shape = Shape {

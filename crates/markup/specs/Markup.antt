@@ -1,6 +1,6 @@
--- The words of the page's markup. There are no others: none of these tags alone runs a script or
--- loads anything, and a link leads to a place of the page. This is no grammar: `IsMade` lets marks
--- follow each other in any order, so no clause says that a text is between tags or in a value.
+-- The words of the page's markup: tags, names of attributes, and pieces of style. This is no
+-- grammar: `IsMade` lets marks and text follow each other in any order, so no clause says that a
+-- text is between tags or in a value, or that it is not the rest of a tag's name.
 use Rattle.std.specs.Prelude.{ℕ, List, codes}
 use Rattle.markup.specs.declared.style.TheConstants.{SHEET}
 use Rattle.markup.specs.declared.words.Tag.{Tag}

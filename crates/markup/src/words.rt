@@ -1,6 +1,6 @@
-//! The words of the page's markup. There are no others: none of these tags alone runs a script or
-//! loads anything. They can be written in any order: that a text is between tags or in a value is
-//! only tested.
+//! The words of the page's markup: tags, names of attributes, and pieces of style. They can be
+//! written in any order, with text anywhere: that a text is between tags or in a value is only
+//! tested.
 
 ghost use Rattle.std.specs.Prelude.{◌≡◌};
 ghost use Rattle.markup.specs.Markup as spec;

@@ -1,5 +1,5 @@
 -- The operations before a moment.
-use Rattle.std.proofs.Common.{◌≡◌, ℕ, nat_lt, Bool, true, false, cond, List, Option, Some, None, refl, sym, ◌∙◌, subst}
+use Rattle.std.proofs.Common.{◌≡◌, ◌≢◌, ℕ, nat_lt, Bool, true, false, cond, List, Option, Some, None, refl, sym, ◌∙◌, subst}
 use Rattle.std.specs.List.{filter_map}
 use Rattle.std.proofs.lemmas.Option.{same_Some}
 use Rattle.model.specs.declared.AnyReply.{AnyReply}
@@ -10,12 +10,12 @@ use Rattle.events.specs.declared.operations.Invocation.{Invocation}
 use Rattle.events.specs.Operations.{call_with, call_of, calls_of, ObjectCalls, IsObjectHistory}
 use Rattle.projection.specs.Parts.{call_before, calls_before}
 use Rattle.projection.specs.Cuts.{IsPart}
-use Rattle.projection.specs.Pieces.{end_before, piece_before}
-use Rattle.projection.proofs.Pieces.{bind, filter_map-filter, IsPiece, pieces_history, pieces_calls, calls_end}
+use Rattle.projection.specs.Pieces.{has_failed, end_before, piece_before}
+use Rattle.projection.proofs.Pieces.{bind, filter_map-filter, IsPiece, pieces_history, pieces_calls, pieces_lives, calls_end}
 use Rattle.projection.proofs.Prefixes.{prefix_valid}
 
 piece_is : (until : ℕ) (o p : Invocation) → piece_before until o ≡ Some p → IsPiece o p
-piece_is until o p e = go (nat_lt o.number until) e
+piece_is until o p e = lives (has_failed o.«end») e
   where
     was : (end : End) (at : ℕ) (reply : AnyReply) → end_before until end ≡ Returned at reply → (own : AnyReply) × (end ≡ Returned at own)
     was (Returned when r) at reply e = back (nat_lt when until) e
@@ -29,6 +29,31 @@ piece_is until o p e = go (nat_lt o.number until) e
     go : (b : Bool) → cond b (Some (record { number = o.number; op = o.op; «end» = end_before until o.«end» })) None ≡ Some p → IsPiece o p
     go true e = let q = same_Some _ p e in subst (IsPiece o) q (record { number = refl; kind = refl; returned = was o.«end» })
     go false e = absurd (cc e)
+
+    lives : (b : Bool) → cond b None (cond (nat_lt o.number until) (Some (record { number = o.number; op = o.op; «end» = end_before until o.«end» })) None) ≡ Some p → IsPiece o p
+    lives true e = absurd (cc e)
+    lives false e = go (nat_lt o.number until) e
+
+piece_lives : (until : ℕ) (o p : Invocation) → piece_before until o ≡ Some p → p.«end» ≢ Failed
+piece_lives until o p e = lives (has_failed o.«end») refl e
+  where
+    was : (end : End) → has_failed end ≡ false → end_before until end ≢ Failed
+    was (Returned when r) q f = back (nat_lt when until) f
+      where
+        back : (b : Bool) → cond b (Returned when r) Pending ≡ Failed → ⊥
+        back true f = absurd (cc f)
+        back false f = absurd (cc f)
+    was Pending q f = absurd (cc f)
+    was Failed q f = absurd (cc q)
+
+    go : (b : Bool) → has_failed o.«end» ≡ false → cond b (Some (record { number = o.number; op = o.op; «end» = end_before until o.«end» })) None ≡ Some p → p.«end» ≢ Failed
+    go true q e = subst (λ (z : Invocation). z.«end» ≢ Failed) (same_Some _ p e) (was o.«end» q)
+    go false q e = absurd (cc e)
+
+    lives : (b : Bool) → has_failed o.«end» ≡ b
+        → cond b None (cond (nat_lt o.number until) (Some (record { number = o.number; op = o.op; «end» = end_before until o.«end» })) None) ≡ Some p → p.«end» ≢ Failed
+    lives true q e = absurd (cc e)
+    lives false q e = go (nat_lt o.number until) q e
 
 abbrev call_then : ℕ → Call → Option Call
 call_then until c = cond (nat_lt c.number until) (Some (call_before until c)) None
@@ -47,14 +72,10 @@ piece_call until o = go o.«end»
     pending true = refl
     pending false = refl
 
-    failed : (b : Bool) → bind (cond b (Some (record { number = o.number; op = o.op; «end» = Failed })) None) call_of ≡ None
-    failed true = refl
-    failed false = refl
-
     go : (e : End) → bind (piece_before until (record { number = o.number; op = o.op; «end» = e })) call_of ≡ bind (call_with o.number o.op e) (call_then until)
     go (Returned at r) = returned at r (nat_lt o.number until) (nat_lt at until)
     go Pending = pending (nat_lt o.number until)
-    go Failed = failed (nat_lt o.number until)
+    go Failed = refl
 
 pub before_history : (until : ℕ) (h : ObjectCalls) → IsObjectHistory h → IsObjectHistory (record { object = h.object; kind = h.kind; ops = filter_map (piece_before until) h.ops })
 before_history until h is = pieces_history h.object h.kind h.ops (piece_before until) (λ o p i e. piece_is until o p e) is
@@ -65,6 +86,7 @@ before_calls until ops = pieces_calls (piece_before until) (call_then until) ops
 pub before_shows : (until : ℕ) (h : ObjectCalls) → IsObjectHistory h → IsPart h (record { object = h.object; kind = h.kind; ops = filter_map (piece_before until) h.ops })
 before_shows until h is = record {
   object = refl;
+  none_failed = pieces_lives (piece_before until) h.ops (piece_lives until);
   shows = λ none order v.
       let r = prefix_valid h.kind (calls_of h.ops) until order (calls_end h.object h.kind h.ops is) v in
       none r.0 (subst (λ (cs : List Call). IsValidOrder h.kind cs r.0) (sym (before_calls until h.ops)) r.1);

@@ -1,5 +1,5 @@
 -- The operations without what was done early with a value that is absent.
-use Rattle.std.proofs.Common.{◌≡◌, ℕ, ℤ, ◌≤◌, nat_le, nat_lt, Bool, true, false, not, ◌&&◌, ◌||◌, cond, List, Option, Some, None, count_by, filter, refl, ap, sym, ◌∙◌, subst, arith}
+use Rattle.std.proofs.Common.{◌≡◌, ℕ, ℤ, ◌≤◌, nat_le, nat_lt, Bool, true, false, not, ◌&&◌, ◌||◌, cond, List, Some, None, count_by, filter, refl, ap, sym, ◌∙◌, subst, arith}
 use Rattle.std.proofs.lemmas.Option.{same_Some}
 use Rattle.std.proofs.lemmas.Bool.Decides.{nat_tests}
 use Rattle.std.specs.Ordering.{int_eq}
@@ -10,15 +10,12 @@ use Rattle.events.specs.declared.operations.Invocation.{Invocation}
 use Rattle.events.specs.Operations.{call_with, call_of, calls_of, ObjectCalls, IsObjectHistory}
 use Rattle.projection.specs.Absent.{is_put_before, is_taken_before, IsAbsent, calls_without}
 use Rattle.projection.specs.Cuts.{IsPart}
-use Rattle.projection.specs.Parts.{puts_in, is_taking, takes_out}
-use Rattle.projection.specs.Pieces.{is_put_before_end, is_taken_before_end, is_early}
+use Rattle.projection.specs.Parts.{puts_in, is_taking}
+use Rattle.projection.specs.Pieces.{has_failed, is_put_before_end, is_taken_before_end, is_early, is_late}
 use Rattle.projection.proofs.Absences.{without_valid}
 use Rattle.projection.proofs.Bounds.{passes, count_calls}
-use Rattle.projection.proofs.Kept.{own, as_filter}
+use Rattle.projection.proofs.Kept.{own, as_filter, filter_lives}
 use Rattle.projection.proofs.Pieces.{bind, IsPiece, pieces_history, pieces_calls, rising_calls}
-
-abbrev late : ℤ → ℕ → Invocation → Bool
-late v before o = not (is_early v before o)
 
 abbrev late_call : ℤ → ℕ → Call → Bool
 late_call v before e = not (is_put_before v before e || is_taken_before v before e)
@@ -28,38 +25,34 @@ pending_took : (t : Bool) → ((t && false) && false) ≡ false
 pending_took true = refl
 pending_took false = refl
 
-piece_is : (v : ℤ) (before : ℕ) (o p : Invocation) → own (late v before) o ≡ Some p → IsPiece o p
-piece_is v before o p e = go (late v before o) e
+piece_is : (v : ℤ) (before : ℕ) (o p : Invocation) → own (is_late v before) o ≡ Some p → IsPiece o p
+piece_is v before o p e = go (is_late v before o) e
   where
     go : (b : Bool) → cond b (Some o) None ≡ Some p → IsPiece o p
     go true e = subst (IsPiece o) (same_Some o p e) (record { number = refl; kind = refl; returned = λ at reply e. (reply, e) })
     go false e = absurd (cc e)
 
-piece_call : (v : ℤ) (before : ℕ) (o : Invocation) → bind (own (late v before) o) call_of ≡ bind (call_of o) (own (late_call v before))
-piece_call v before o = piece (late v before o) ∙ sym (part o.«end»)
+piece_call : (v : ℤ) (before : ℕ) (o : Invocation) → bind (own (is_late v before) o) call_of ≡ bind (call_of o) (own (late_call v before))
+piece_call v before o = piece (is_late v before o) ∙ sym (part o.«end»)
   where
     piece : (b : Bool) → bind (cond b (Some o) None) call_of ≡ cond b (call_of o) None
     piece true = refl
     piece false = refl
 
-    nothing : (b : Bool) → ◌≡◌ {A = Option Call} None (cond b None None)
-    nothing true = refl
-    nothing false = refl
-
     part : (e : End) → bind (call_with o.number o.op e) (own (late_call v before))
-        ≡ cond (not (is_put_before_end v before o.number o.op e || is_taken_before_end v before o.op e)) (call_with o.number o.op e) None
+        ≡ cond (not (has_failed e) && not (is_put_before_end v before o.number o.op e || is_taken_before_end v before o.op e)) (call_with o.number o.op e) None
     part (Returned at r) = refl
     part Pending = ap (λ (b : Bool). cond (not ((puts_in (int_eq v) o.op && nat_lt o.number before) || b)) (call_with o.number o.op Pending) None) (pending_took (is_taking o.op))
-    part Failed = nothing (not (is_put_before_end v before o.number o.op Failed || is_taken_before_end v before o.op Failed))
+    part Failed = refl
 
 pub late_history : (v : ℤ) (before : ℕ) (h : ObjectCalls) → IsObjectHistory h
-    → IsObjectHistory (record { object = h.object; kind = h.kind; ops = filter (λ o. not (is_early v before o)) h.ops })
+    → IsObjectHistory (record { object = h.object; kind = h.kind; ops = filter (is_late v before) h.ops })
 late_history v before h is = subst (λ (ops : List Invocation). IsObjectHistory (record { object = h.object; kind = h.kind; ops = ops }))
-    (as_filter (late v before) h.ops) (pieces_history h.object h.kind h.ops (own (late v before)) (λ o p i e. piece_is v before o p e) is)
+    (as_filter (is_late v before) h.ops) (pieces_history h.object h.kind h.ops (own (is_late v before)) (λ o p i e. piece_is v before o p e) is)
 
-pub late_calls_of : (v : ℤ) (before : ℕ) (ops : List Invocation) → calls_of (filter (λ o. not (is_early v before o)) ops) ≡ calls_without v before (calls_of ops)
-late_calls_of v before ops = ap calls_of (sym (as_filter (late v before) ops))
-    ∙ pieces_calls (own (late v before)) (own (late_call v before)) ops (piece_call v before) ∙ as_filter (late_call v before) (calls_of ops)
+pub late_calls_of : (v : ℤ) (before : ℕ) (ops : List Invocation) → calls_of (filter (is_late v before) ops) ≡ calls_without v before (calls_of ops)
+late_calls_of v before ops = ap calls_of (sym (as_filter (is_late v before) ops))
+    ∙ pieces_calls (own (is_late v before)) (own (late_call v before)) ops (piece_call v before) ∙ as_filter (late_call v before) (calls_of ops)
 
 -- ---- how many
 
@@ -94,9 +87,10 @@ absent_to v before ops put taken e f h = less _ _ _ _ (e ∙ put_counts v before
     less a b p q e f le = grind (arith, nat_tests)
 
 pub late_shows : (v : ℤ) (before : ℕ) (h : ObjectCalls) → IsObjectHistory h → IsAbsent v before (calls_of h.ops)
-    → IsPart h (record { object = h.object; kind = h.kind; ops = filter (λ o. not (is_early v before o)) h.ops })
+    → IsPart h (record { object = h.object; kind = h.kind; ops = filter (is_late v before) h.ops })
 late_shows v before h is absent = record {
   object = refl;
+  none_failed = filter_lives (λ o. not (is_early v before o)) h.ops;
   shows = λ none order valid.
       let r = without_valid h.kind (calls_of h.ops) v before order (rising_calls h.ops is.rising) absent valid in
       none r.0 (subst (λ (cs : List Call). IsValidOrder h.kind cs r.0) (sym (late_calls_of v before h.ops)) r.1);

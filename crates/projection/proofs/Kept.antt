@@ -1,5 +1,5 @@
 -- The operations that are kept.
-use Rattle.std.proofs.Common.{◌≡◌, inl, inr, zero, suc, ℕ, ℤ, ◌<◌, ◌≤◌, ◌+◌, ◌-◌, ◌==◌, nat_lt, Bool, true, false, ◌&&◌, ◌||◌, cond, List, [], ◌∷◌}
+use Rattle.std.proofs.Common.{◌≡◌, ◌≢◌, not, inl, inr, zero, suc, ℕ, ℤ, ◌<◌, ◌≤◌, ◌+◌, ◌-◌, ◌==◌, nat_lt, Bool, true, false, ◌&&◌, ◌||◌, cond, List, [], ◌∷◌}
 use Rattle.std.proofs.Common.{Option, Some, None, AllPairs, count_by, filter, length, get_or, drop, refl, ap, sym, ◌∙◌, subst, arith}
 use Rattle.std.specs.List.{filter_map, cons_option, list_all}
 use Rattle.std.proofs.lemmas.Option.{same_Some}
@@ -16,12 +16,12 @@ use Rattle.events.specs.Operations.{call_with, call_of, calls_of, return_of, Obj
 use Rattle.projection.specs.Parts.{fits, reply_of, puts_in, is_taking, takes_out, is_pending_taking, put_count, taken_count, pending_before, kept_calls, IsClosed}
 use Rattle.projection.specs.declared.keeping.Values.{Values}
 use Rattle.projection.specs.declared.keeping.Values.TheVariants as values
-use Rattle.projection.specs.Cuts.{keeps_all, keeps_value, IsPart}
-use Rattle.projection.specs.Pieces.{fits_end, is_put, is_taken, is_open_taking, keeps_first}
+use Rattle.projection.specs.Cuts.{keeps_all, keeps_value, IsPart, NoneFailed}
+use Rattle.projection.specs.Pieces.{has_failed, fits_end, is_kept_call, is_put, is_taken, is_open_taking, keeps_first}
 use Rattle.projection.proofs.Conserved.{one, tally, count_tally}
 use Rattle.projection.proofs.Closed.{projection_valid}
 use Rattle.projection.proofs.Sequences.{in_filter_map_from}
-use Rattle.projection.proofs.Pieces.{bind, filter_map-filter, map-same, IsPiece, pieces_history, pieces_calls, rising_calls, all_calls}
+use Rattle.projection.proofs.Pieces.{bind, filter_map-filter, map-same, IsPiece, pieces_history, pieces_calls, pieces_lives, did_not_fail, rising_calls, all_calls}
 
 abbrev pub own : {X : Type 0} → (X → Bool) → X → Option X
 own p x = cond (p x) (Some x) None
@@ -29,36 +29,48 @@ own p x = cond (p x) (Some x) None
 pub as_filter : {X : Type 0} (p : X → Bool) (xs : List X) → filter_map (own p) xs ≡ filter p xs
 as_filter p xs = filter_map-filter p (λ x. x) xs ∙ map-same (filter p xs)
 
-piece_is : (kept : ℕ → Bool) (o p : Invocation) → own (λ z. kept z.number) o ≡ Some p → IsPiece o p
-piece_is kept o p e = go (kept o.number) e
+piece_is : (kept : ℕ → Bool) (o p : Invocation) → own (is_kept_call kept) o ≡ Some p → IsPiece o p
+piece_is kept o p e = go (is_kept_call kept o) e
   where
     go : (b : Bool) → cond b (Some o) None ≡ Some p → IsPiece o p
     go true e = subst (IsPiece o) (same_Some o p e) (record { number = refl; kind = refl; returned = λ at reply e. (reply, e) })
     go false e = absurd (cc e)
 
-piece_call : (kept : ℕ → Bool) (o : Invocation) → bind (own (λ z. kept z.number) o) call_of ≡ bind (call_of o) (own (λ z. kept z.number))
-piece_call kept o = piece (kept o.number) ∙ sym (part o.«end»)
+-- an operation that is kept only where it did not fail
+pub own_lives : (p : Invocation → Bool) (o q : Invocation) → own (λ z. not (has_failed z.«end») && p z) o ≡ Some q → q.«end» ≢ Failed
+own_lives p o q e = go (has_failed o.«end») refl e
+  where
+    kept : (b : Bool) → has_failed o.«end» ≡ false → cond b (Some o) None ≡ Some q → q.«end» ≢ Failed
+    kept true h e = subst (λ (z : Invocation). z.«end» ≢ Failed) (same_Some o q e) (did_not_fail o.«end» h)
+    kept false h e = absurd (cc e)
+
+    go : (b : Bool) → has_failed o.«end» ≡ b → cond (not b && p o) (Some o) None ≡ Some q → q.«end» ≢ Failed
+    go true h e = absurd (cc e)
+    go false h e = kept (p o) h e
+
+pub filter_lives : (p : Invocation → Bool) (ops : List Invocation) → NoneFailed (filter (λ z. not (has_failed z.«end») && p z) ops)
+filter_lives p ops = subst NoneFailed (as_filter (λ z. not (has_failed z.«end») && p z) ops)
+    (pieces_lives (own (λ z. not (has_failed z.«end») && p z)) ops (own_lives p))
+
+piece_call : (kept : ℕ → Bool) (o : Invocation) → bind (own (is_kept_call kept) o) call_of ≡ bind (call_of o) (own (λ z. kept z.number))
+piece_call kept o = piece (is_kept_call kept o) ∙ sym (part o.«end»)
   where
     piece : (b : Bool) → bind (cond b (Some o) None) call_of ≡ cond b (call_of o) None
     piece true = refl
     piece false = refl
 
-    nothing : (b : Bool) → ◌≡◌ {A = Option Call} None (cond b None None)
-    nothing true = refl
-    nothing false = refl
-
-    part : (e : End) → bind (call_with o.number o.op e) (own (λ z. kept z.number)) ≡ cond (kept o.number) (call_with o.number o.op e) None
+    part : (e : End) → bind (call_with o.number o.op e) (own (λ z. kept z.number)) ≡ cond (not (has_failed e) && kept o.number) (call_with o.number o.op e) None
     part (Returned at r) = refl
     part Pending = refl
-    part Failed = nothing (kept o.number)
+    part Failed = refl
 
-pub kept_history : (kept : ℕ → Bool) (h : ObjectCalls) → IsObjectHistory h → IsObjectHistory (record { object = h.object; kind = h.kind; ops = filter (λ o. kept o.number) h.ops })
+pub kept_history : (kept : ℕ → Bool) (h : ObjectCalls) → IsObjectHistory h → IsObjectHistory (record { object = h.object; kind = h.kind; ops = filter (is_kept_call kept) h.ops })
 kept_history kept h is = subst (λ (ops : List Invocation). IsObjectHistory (record { object = h.object; kind = h.kind; ops = ops }))
-    (as_filter (λ o. kept o.number) h.ops) (pieces_history h.object h.kind h.ops (own (λ z. kept z.number)) (λ o p i e. piece_is kept o p e) is)
+    (as_filter (is_kept_call kept) h.ops) (pieces_history h.object h.kind h.ops (own (is_kept_call kept)) (λ o p i e. piece_is kept o p e) is)
 
-pub kept_calls_of : (kept : ℕ → Bool) (ops : List Invocation) → calls_of (filter (λ o. kept o.number) ops) ≡ kept_calls kept (calls_of ops)
-kept_calls_of kept ops = ap calls_of (sym (as_filter (λ o. kept o.number) ops))
-    ∙ pieces_calls (own (λ z. kept z.number)) (own (λ z. kept z.number)) ops (piece_call kept) ∙ as_filter (λ e. kept e.number) (calls_of ops)
+pub kept_calls_of : (kept : ℕ → Bool) (ops : List Invocation) → calls_of (filter (is_kept_call kept) ops) ≡ kept_calls kept (calls_of ops)
+kept_calls_of kept ops = ap calls_of (sym (as_filter (is_kept_call kept) ops))
+    ∙ pieces_calls (own (is_kept_call kept)) (own (λ z. kept z.number)) ops (piece_call kept) ∙ as_filter (λ e. kept e.number) (calls_of ops)
 
 -- ---- how many
 
@@ -330,9 +342,10 @@ closed_first vs kept ops rising h = kept_first kept _ ops (pairs_from_all (λ a 
         sums _ _ _ _ _ _ (put_counts (keeps_value vs) ops) (taken_counts (keeps_value vs) ops) (pending_counts o.number ops) (l (ap (λ z. z && true) t) n)
 
 pub kept_shows : (vs : Values) (kept : ℕ → Bool) (h : ObjectCalls) → IsObjectHistory h
-    → IsClosed (keeps_all vs) (keeps_value vs) kept (calls_of h.ops) → IsPart h (record { object = h.object; kind = h.kind; ops = filter (λ o. kept o.number) h.ops })
+    → IsClosed (keeps_all vs) (keeps_value vs) kept (calls_of h.ops) → IsPart h (record { object = h.object; kind = h.kind; ops = filter (is_kept_call kept) h.ops })
 kept_shows vs kept h is closed = record {
   object = refl;
+  none_failed = filter_lives (λ o. kept o.number) h.ops;
   shows = λ none order v.
       let of_kind = all_calls (λ number op returned. kind_of op ≡ h.kind) h.ops (λ o i c e. all_at (λ o. kind_of o.op ≡ h.kind) h.ops is.of_kind o i) in
       let r = projection_valid h.kind (calls_of h.ops) (keeps_all vs) (keeps_value vs) kept order of_kind (rising_calls h.ops is.rising) closed v in

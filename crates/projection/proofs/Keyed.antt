@@ -19,8 +19,8 @@ use Rattle.projection.specs.Cuts.{IsPart}
 use Rattle.projection.specs.Pieces.{entry_piece}
 use Rattle.projection.specs.Cells.{write_of, swap_done}
 use Rattle.projection.specs.Entries.{put_done, get_done, del_done, entry_done, entry_open, entry_call, entry_calls}
-use Rattle.projection.proofs.Pieces.{pieces_into, pieces_calls}
-use Rattle.projection.proofs.Recasts.{DoneOf, OpenOf, Steps, recast_maps, recast_piece, recast_call}
+use Rattle.projection.proofs.Pieces.{pieces_into, pieces_calls, pieces_lives}
+use Rattle.projection.proofs.Recasts.{DoneOf, OpenOf, Steps, recast_maps, recast_piece, recast_call, recast_lives}
 use Rattle.projection.proofs.Mapped.{mapped_valid}
 use Rattle.projection.proofs.Shadows.{swap_like}
 
@@ -248,6 +248,7 @@ pub entry_shows : (key : ℤ) (keeps : ℤ → Bool) (other : ℤ) (kept : ℕ �
     → IsPart h (record { object = h.object; kind = kind.Register; ops = filter_map (entry_piece key keeps other kept) h.ops })
 entry_shows key keeps other kept h = record {
   object = refl;
+  none_failed = pieces_lives (entry_piece key keeps other kept) h.ops (λ o p e. recast_lives (entry_done key keeps other) (entry_open key keeps) (kept o.number) o p e);
   shows = λ none order v.
       let r = entry_valid h.kind (calls_of h.ops) key keeps other kept order v in
       none r.0 (subst (λ (cs : List Call). IsValidOrder kind.Register cs r.0) (sym (entry_calls_of key keeps other kept h.ops)) r.1);

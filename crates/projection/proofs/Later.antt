@@ -1,5 +1,5 @@
 -- The operations of a suffix.
-use Rattle.std.proofs.Common.{◌≡◌, inl, inr, ℕ, ℤ, ◌<◌, ◌==◌, nat_lt, Bool, true, false, cond, List, Option, Some, None, IfSome, All, Contains, refl, ap, sym, ◌∙◌, subst}
+use Rattle.std.proofs.Common.{◌≡◌, ◌≢◌, inl, inr, ℕ, ℤ, ◌<◌, ◌==◌, nat_lt, Bool, true, false, cond, List, Option, Some, None, IfSome, All, Contains, refl, ap, sym, ◌∙◌, subst}
 use Rattle.std.specs.Prelude.{option_map}
 use Rattle.std.specs.Option.{option_map_or}
 use Rattle.std.specs.List.{filter_map}
@@ -22,7 +22,7 @@ use Rattle.projection.specs.Pieces.{has_failed, IsOnKey, is_over, returned_piece
 use Rattle.projection.proofs.Sequences.{one_number, in_filter_map, in_filter_map_from}
 use Rattle.projection.proofs.Overlaps.{before_facts}
 use Rattle.projection.proofs.Suffixes.{start_valid}
-use Rattle.projection.proofs.Pieces.{bind, IsPiece, pieces_history, pieces_calls, all_calls, call_cases}
+use Rattle.projection.proofs.Pieces.{bind, IsPiece, pieces_history, pieces_calls, pieces_lives, did_not_fail, all_calls, call_cases}
 
 -- ---- pieces
 
@@ -173,6 +173,40 @@ piece_is h from at first said is s o p i e = failed (has_failed o.«end») e
     failed true e = absurd (cc e)
     failed false e = own_or (o.number == from) refl e
 
+piece_lives : (from at : ℕ) (first : Option (AnyOp × AnyReply)) (o p : Invocation) → piece_from from at first o ≡ Some p → p.«end» ≢ Failed
+piece_lives from at first o p e = failed (has_failed o.«end») refl e
+  where
+    begins : (f : Option (AnyOp × AnyReply)) → option_map (returned_piece from at) f ≡ Some p → p.«end» ≢ Failed
+    begins None e = absurd (cc e)
+    begins (Some x) e = subst (λ (z : Invocation). z.«end» ≢ Failed) (same_Some (returned_piece from at x) p e) (λ f. absurd (cc f))
+
+    with_value : (number t : ℕ) (op : AnyOp) (v : Option ℤ) → (option_map_or (write_piece number t) v (pending_piece number op)).«end» ≢ Failed
+    with_value number t op None f = absurd (cc f)
+    with_value number t op (Some v) f = absurd (cc f)
+
+    overlaps : (h : End) → (overlapping_piece first o.number o.op h).«end» ≢ Failed
+    overlaps (Returned t r) f = with_value o.number t o.op (written_before first o.op r) f
+    overlaps Pending f = absurd (cc f)
+    overlaps Failed f = absurd (cc f)
+
+    later : (b : Bool) → has_failed o.«end» ≡ false → (cond b o (overlapping_piece first o.number o.op o.«end»)).«end» ≢ Failed
+    later true q = did_not_fail o.«end» q
+    later false q = overlaps o.«end»
+
+    over : (b : Bool) → has_failed o.«end» ≡ false → cond b None (Some (piece_later first at o)) ≡ Some p → p.«end» ≢ Failed
+    over true q e = absurd (cc e)
+    over false q e = subst (λ (z : Invocation). z.«end» ≢ Failed) (same_Some (piece_later first at o) p e) (later (nat_lt at o.number) q)
+
+    own_or : (b : Bool) → has_failed o.«end» ≡ false
+        → cond b (option_map (returned_piece from at) first) (cond (is_over from o.«end») None (Some (piece_later first at o))) ≡ Some p → p.«end» ≢ Failed
+    own_or true q e = begins first e
+    own_or false q e = over (is_over from o.«end») q e
+
+    failed : (b : Bool) → has_failed o.«end» ≡ b
+        → cond b None (cond (o.number == from) (option_map (returned_piece from at) first) (cond (is_over from o.«end») None (Some (piece_later first at o)))) ≡ Some p → p.«end» ≢ Failed
+    failed true q e = absurd (cc e)
+    failed false q e = own_or (o.number == from) q e
+
 -- ---- calls
 
 -- the call of an operation that did not fail
@@ -243,6 +277,7 @@ pub from_shows : (h : ObjectCalls) (from at : ℕ) (first : Option (AnyOp × Any
     → IsPart h (record { object = h.object; kind = h.kind; ops = filter_map (piece_from from at first) h.ops })
 from_shows h from at first is s = record {
   object = refl;
+  none_failed = pieces_lives (piece_from from at first) h.ops (piece_lives from at first);
   shows = λ none order v.
       let kinds = all_calls (λ number op returned. kind_of op ≡ h.kind) h.ops (λ z i c q. all_at (λ o. kind_of o.op ≡ h.kind) h.ops is.of_kind z i) in
       let found = start_valid h.kind (calls_of h.ops) from at first order kinds s v in

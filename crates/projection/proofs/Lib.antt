@@ -21,3 +21,4 @@ pub mod Shadows
 pub mod Keyed
 pub mod Absences
 pub mod Early
+pub mod Alone

@@ -1,5 +1,5 @@
 -- What is made of an object's operations one by one is an object's history, and its calls are made of the calls one by one.
-use Rattle.std.proofs.Common.{◌≡◌, ℕ, ◌<◌, Bool, true, false, cond, List, [], ◌∷◌, Option, Some, None, map, filter, All, AllPairs, refl, ap, sym, ◌∙◌, subst, arith}
+use Rattle.std.proofs.Common.{◌≡◌, ◌≢◌, ℕ, ◌<◌, Bool, true, false, cond, List, [], ◌∷◌, Option, Some, None, map, filter, All, AllPairs, refl, ap, sym, ◌∙◌, subst, arith}
 use Rattle.std.specs.List.{filter_map, cons_option}
 use Rattle.std.proofs.lemmas.Option.{same_Some}
 use Rattle.model.specs.declared.Kind.{Kind}
@@ -12,7 +12,8 @@ use Rattle.events.specs.declared.operations.End.{End}
 use Rattle.events.specs.declared.operations.End.TheVariants.{Returned, Pending, Failed}
 use Rattle.events.specs.declared.operations.Invocation.{Invocation}
 use Rattle.events.specs.Operations.{call_with, call_of, calls_of, return_of, EndsAfter, ObjectCalls, IsObjectHistory}
-use Rattle.projection.specs.Cuts.{IsPart}
+use Rattle.projection.specs.Cuts.{IsPart, NoneFailed}
+use Rattle.projection.specs.Pieces.{has_failed}
 use Rattle.projection.proofs.Sequences.{in_filter_map, pairs_filter_map}
 
 -- ---- lists
@@ -141,7 +142,15 @@ same_history e f g = λ i. record { object = e i; kind = f i; ops = g i }
 
 -- a part of a part is a part
 pub part_of_part : (a b c : ObjectCalls) → IsPart a b → IsPart b c → IsPart a c
-part_of_part a b c h k = record { object = k.object ∙ h.object; shows = λ none. h.shows (k.shows none) }
+part_of_part a b c h k = record { object = k.object ∙ h.object; none_failed = k.none_failed; shows = λ none. h.shows (k.shows none) }
 
-pub own_part : (a : ObjectCalls) → IsPart a a
-own_part a = record { object = refl; shows = λ none. none }
+-- ---- failed operations
+
+pub pieces_lives : (piece : Invocation → Option Invocation) (ops : List Invocation)
+    → ((o p : Invocation) → piece o ≡ Some p → p.«end» ≢ Failed) → NoneFailed (filter_map piece ops)
+pieces_lives piece ops f = all_from_in (λ o. o.«end» ≢ Failed) (filter_map piece ops) (λ p i. let o = in_filter_map piece p ops i in f o.0 p o.2)
+
+pub did_not_fail : (e : End) → has_failed e ≡ false → e ≢ Failed
+did_not_fail (Returned at r) q f = absurd (cc f)
+did_not_fail Pending q f = absurd (cc f)
+did_not_fail Failed q f = absurd (cc q)

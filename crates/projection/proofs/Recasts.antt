@@ -1,5 +1,5 @@
 -- Calls that become calls of other operations, with the same numbers, have a valid order where they had one, if each step has its step.
-use Rattle.std.proofs.Common.{◌≡◌, ◌⊎◌, inl, inr, ℕ, Bool, Option, Some, None, IfSome, refl, ap, sym, ◌∙◌, subst}
+use Rattle.std.proofs.Common.{◌≡◌, ◌≢◌, ◌⊎◌, inl, inr, ℕ, Bool, Option, Some, None, IfSome, refl, ap, sym, ◌∙◌, subst}
 use Rattle.std.specs.Prelude.{option_map}
 use Rattle.std.proofs.lemmas.Option.{same_Some}
 use Rattle.model.specs.declared.Kind.{Kind}
@@ -112,6 +112,22 @@ recast_piece done pending into is kept o p e = go o.«end» refl e
     go (Returned at r) q e = finished at r q (done kept o.op r) (is.returned kept o.op r) e
     go Pending q e = unfinished (pending o.op) (is.unfinished o.op) e
     go Failed q e = absurd (cc e)
+
+pub recast_lives : (done : Done) (pending : Open) (kept : Bool) (o p : Invocation) → recast_end (done kept) pending o.number o.op o.«end» ≡ Some p → p.«end» ≢ Failed
+recast_lives done pending kept o p e = go o.«end» e
+  where
+    finished : (at : ℕ) (f : Option (AnyOp × AnyReply)) → option_map (returned_piece o.number at) f ≡ Some p → p.«end» ≢ Failed
+    finished at None e = absurd (cc e)
+    finished at (Some f) e = subst (λ (z : Invocation). z.«end» ≢ Failed) (same_Some (returned_piece o.number at f) p e) (λ q. absurd (cc q))
+
+    unfinished : (f : Option AnyOp) → option_map (pending_piece o.number) f ≡ Some p → p.«end» ≢ Failed
+    unfinished None e = absurd (cc e)
+    unfinished (Some op) e = subst (λ (z : Invocation). z.«end» ≢ Failed) (same_Some (pending_piece o.number op) p e) (λ q. absurd (cc q))
+
+    go : (h : End) → recast_end (done kept) pending o.number o.op h ≡ Some p → p.«end» ≢ Failed
+    go (Returned at r) e = finished at (done kept o.op r) e
+    go Pending e = unfinished (pending o.op) e
+    go Failed e = absurd (cc e)
 
 pub recast_call : (done : Done) (pending : Open) (kept : ℕ → Bool) (o : Invocation)
     → bind (recast_end (done (kept o.number)) pending o.number o.op o.«end») call_of ≡ bind (call_of o) (λ e. recast (done (kept e.number)) pending e.number e.op e.returned)

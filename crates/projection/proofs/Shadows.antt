@@ -15,9 +15,9 @@ use Rattle.events.specs.Operations.{calls_of, ObjectCalls, IsObjectHistory}
 use Rattle.projection.specs.Cuts.{IsPart}
 use Rattle.projection.specs.Pieces.{cell_piece}
 use Rattle.projection.specs.Cells.{write_of, swap_done, cell_done, cell_open, cell_call, cell_calls}
-use Rattle.projection.proofs.Pieces.{IsPieceOf, pieces_into, pieces_calls}
+use Rattle.projection.proofs.Pieces.{IsPieceOf, pieces_into, pieces_calls, pieces_lives}
 use Rattle.projection.proofs.Contents.{IsCellShadow, same_expected}
-use Rattle.projection.proofs.Recasts.{DoneOf, OpenOf, Steps, recast_maps, recast_piece, recast_call}
+use Rattle.projection.proofs.Recasts.{DoneOf, OpenOf, Steps, recast_maps, recast_piece, recast_call, recast_lives}
 use Rattle.projection.proofs.Mapped.{mapped_valid}
 
 unlike : false ≡ true → ⊥
@@ -192,6 +192,7 @@ cell_calls_of keeps other kept ops = pieces_calls (cell_piece keeps other kept) 
 pub cell_shows : (keeps : ℤ → Bool) (other : ℤ) (kept : ℕ → Bool) (h : ObjectCalls) → IsPart h (record { object = h.object; kind = h.kind; ops = filter_map (cell_piece keeps other kept) h.ops })
 cell_shows keeps other kept h = record {
   object = refl;
+  none_failed = pieces_lives (cell_piece keeps other kept) h.ops (λ o p e. recast_lives (cell_done keeps other) (cell_open keeps) (kept o.number) o p e);
   shows = λ none order v.
       let r = cell_valid h.kind (calls_of h.ops) keeps other kept order v in
       none r.0 (subst (λ (cs : List Call). IsValidOrder h.kind cs r.0) (sym (cell_calls_of keeps other kept h.ops)) r.1);

@@ -1,5 +1,5 @@
 -- Cuts: what names a part of an object's history, and what the part shows of the whole.
-use Rattle.std.specs.Prelude.{◌≡◌, ℕ, ℤ, Bool, true, false, List, [], ◌∷◌, Option}
+use Rattle.std.specs.Prelude.{◌≡◌, ◌≢◌, ℕ, ℤ, Bool, true, false, List, [], ◌∷◌, All, Option}
 use Rattle.std.specs.Ordering.{nat_cmp, int_cmp}
 use Rattle.std.specs.BTreeSet.{BTreeSet, contains}
 use Rattle.model.specs.declared.Kind.{Kind}
@@ -7,6 +7,8 @@ use Rattle.model.specs.declared.Kind.TheVariants.{Register}
 use Rattle.model.specs.declared.AnyOp.{AnyOp}
 use Rattle.model.specs.declared.AnyReply.{AnyReply}
 use Rattle.model.specs.Orders.{Call}
+use Rattle.events.specs.declared.operations.End.TheVariants.{Failed}
+use Rattle.events.specs.declared.operations.Invocation.{Invocation}
 use Rattle.events.specs.Operations.{ObjectCalls, calls_of}
 use Rattle.order_search.specs.Outcomes.{IsNoneValid}
 use Rattle.projection.specs.Absent.{IsRest}
@@ -14,25 +16,30 @@ use Rattle.projection.specs.Cells.{cell_calls}
 use Rattle.projection.specs.Entries.{entry_calls}
 use Rattle.projection.specs.Parts.{IsClosed, kept_calls, calls_before, IsStart, calls_from}
 use Rattle.projection.specs.declared.keeping.Values.{Values}
-use Rattle.projection.specs.declared.keeping.Values.TheVariants.{All, Only}
+use Rattle.projection.specs.declared.keeping.Values.TheVariants as which
 use Rattle.projection.specs.declared.cutting.Cut.{Cut}
 use Rattle.projection.specs.declared.cutting.Cut.TheVariants.{From, Until, Without, Keep}
 use Rattle.projection.specs.declared.cutting.Cut.TheVariants.{Cell, Entry}
 
--- A part is of the same object, maybe as an object of another kind. If no order of its calls is
--- valid for its kind, then none of the whole's is for the whole's.
+-- none of these operations failed
+abbrev pub NoneFailed : List Invocation → Type 0
+NoneFailed ops = All (λ o. o.«end» ≢ Failed) ops
+
+-- A part is of the same object, maybe as an object of another kind, and has no failed operations.
+-- If no order of its calls is valid for its kind, then none of the whole's is for the whole's.
 pub record IsPart (whole part : ObjectCalls) : Type 0 where
   pub object : part.object ≡ whole.object
+  pub none_failed : NoneFailed part.ops
   pub shows : IsNoneValid part.kind (calls_of part.ops)
       → IsNoneValid whole.kind (calls_of whole.ops)
 
 abbrev pub keeps_all : Values → Bool
-keeps_all All = true
-keeps_all (Only values) = false
+keeps_all which.All = true
+keeps_all (which.Only values) = false
 
 abbrev pub keeps_value : Values → ℤ → Bool
-keeps_value All v = true
-keeps_value (Only values) v = contains int_cmp values v
+keeps_value which.All v = true
+keeps_value (which.Only values) v = contains int_cmp values v
 
 abbrev pub keeps_number : BTreeSet ℕ → ℕ → Bool
 keeps_number numbers n = contains nat_cmp numbers n

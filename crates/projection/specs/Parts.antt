@@ -207,9 +207,9 @@ write_call number at v = record {
 abbrev pub pending_call : ℕ → AnyOp → Call
 pending_call number op = record { number = number; op = op; returned = None }
 
--- A call that overlaps the first one can have taken effect before it. A write or a swap becomes a
--- write, which may also take effect before the first one. Any other call becomes pending, so that
--- it may be left out.
+-- A call that overlaps the first one can have taken effect before it. If the first one left a
+-- value, a write becomes a write, and so does a swap that was not refused: it may also take effect
+-- before the first one. Any other call becomes pending, so that it may be left out.
 abbrev pub overlapping : Option (AnyOp × AnyReply) → ℕ → AnyOp → Option Return → Call
 overlapping first number op None = pending_call number op
 overlapping first number op (Some r) =

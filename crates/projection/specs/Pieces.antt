@@ -35,6 +35,10 @@ is_open_taking op (Returned at reply) = false
 is_open_taking op Pending = is_taking op
 is_open_taking op Failed = false
 
+-- the operation did not fail, and its number is kept
+abbrev pub is_kept_call : (ℕ → Bool) → Invocation → Bool
+is_kept_call kept o = not (has_failed o.«end») && kept o.number
+
 -- whether the first pending takings, this many, are kept
 abbrev pub keeps_first : (ℕ → Bool) → ℕ → List Invocation → Bool
 keeps_first kept most [] = true
@@ -64,9 +68,10 @@ end_before until Failed = Failed
 
 abbrev pub piece_before : ℕ → Invocation → Option Invocation
 piece_before until o =
-    if nat_lt o.number until
+    if has_failed o.«end» then None
+    else (if nat_lt o.number until
     then Some (record { number = o.number; op = o.op; «end» = end_before until o.«end» })
-    else None
+    else None)
 
 -- ---- a value that is absent
 
@@ -88,6 +93,10 @@ abbrev pub is_early : ℤ → ℕ → Invocation → Bool
 is_early v before o =
     is_put_before_end v before o.number o.op o.«end» || is_taken_before_end v before o.op o.«end»
 
+-- the operation did not fail, and is not one of these
+abbrev pub is_late : ℤ → ℕ → Invocation → Bool
+is_late v before o = not (has_failed o.«end») && not (is_early v before o)
+
 -- ---- a suffix
 
 -- the operation failed, or it is on this key (`None`: it has no key)
@@ -107,7 +116,8 @@ write_piece number at v =
 abbrev pub pending_piece : ℕ → AnyOp → Invocation
 pending_piece number op = record { number = number; op = op; «end» = Pending }
 
--- an operation that overlaps the first one: a write or a swap is a write, and another is pending
+-- an operation that overlaps the first one: if that left a value, a write or a swap that was not
+-- refused is a write, and any other is pending
 abbrev pub overlapping_piece : Option (AnyOp × AnyReply) → ℕ → AnyOp → End → Invocation
 overlapping_piece first number op (Returned at reply) =
     option_map_or (write_piece number at) (written_before first op reply) (pending_piece number op)

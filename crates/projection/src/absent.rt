@@ -5,7 +5,7 @@ ghost use Rattle.std.specs.Prelude.{◌≡◌, true, IfOk, IfSome, None, count_b
 ghost use Rattle.events.specs.Operations.{calls_of};
 ghost use Rattle.projection.specs.Absent.{IsAbsent, IsRest};
 ghost use Rattle.projection.specs.Cuts.{IsPart};
-ghost use Rattle.projection.specs.Pieces.{is_early, is_put_before_end, is_taken_before_end};
+ghost use Rattle.projection.specs.Pieces.{is_late, is_put_before_end, is_taken_before_end};
 
 use events::{End, Invocation, ObjectHistory};
 use seq_objects::{AnyOp, AnyReply};
@@ -74,19 +74,21 @@ fn is_absent(value: i64, before: u32, operations: &[Invocation]) -> bool
     put_count(value, before, operations) <= taken_count(value, before, operations)
 }
 
-/// The operations without those puts and those removals.
+/// The operations that did not fail, without those puts and those removals.
 fn pieces(
     alloc: Global,
     value: i64,
     before: u32,
     operations: &[Invocation],
 ) -> Result<Vec<Invocation>, AllocError>
-    ensures { IfOk result (λ v. v.items
-        ≡ filter (λ o. not (is_early value before o)) operations.now) }
+    ensures { IfOk result (λ v. v.items ≡ filter (is_late value before) operations.now) }
 {
     operations
         .iter()
-        .filter(|o| !(puts_before(value, before, o) || takes_before(value, before, o)))
+        .filter(|o| {
+            o.end != End::Failed
+                && !(puts_before(value, before, o) || takes_before(value, before, o))
+        })
         .copied()
         .collect(alloc)
 }

@@ -1,9 +1,10 @@
 //! Cuts: a part of an object's history, by one cut after another.
 
-ghost use Rattle.std.specs.Prelude.{◌≡◌, List, None, IfOk, IfSome};
+ghost use Rattle.std.specs.Prelude.{◌≡◌, List, None, IfOk, IfSome, filter, not};
 ghost use Rattle.model.specs.Orders.{Call};
 ghost use Rattle.events.specs.Operations.{calls_of};
 ghost use Rattle.projection.specs.Cuts.{IsPart, Names, NamesPart, kind_cut, part_kind};
+ghost use Rattle.projection.specs.Pieces.{has_failed};
 
 use crate::absent::without;
 use crate::cells::cell;
@@ -11,7 +12,7 @@ use crate::entries::entry;
 use crate::keeping::{Values, keep};
 use crate::prefix::until;
 use crate::suffix::from;
-use events::{Invocation, ObjectHistory};
+use events::{End, Invocation, ObjectHistory};
 use std::alloc::{AllocError, Global};
 use std::collections::BTreeSet;
 
@@ -52,11 +53,24 @@ pub enum Cut {
     },
 }
 
-/// The same history once more.
-fn copy_of(alloc: Global, history: &ObjectHistory) -> Result<ObjectHistory, AllocError>
-    ensures { IfOk result (λ h. h ≡ history.now) }
+/// The operations that did not fail.
+fn calls_among(alloc: Global, operations: &[Invocation]) -> Result<Vec<Invocation>, AllocError>
+    ensures { IfOk result (λ v. v.items ≡ filter (λ o. not (has_failed o.«end»)) operations.now) }
 {
-    let ops: Vec<Invocation> = history.ops().iter().copied().collect(alloc)?;
+    operations
+        .iter()
+        .filter(|o| o.end != End::Failed)
+        .copied()
+        .collect(alloc)
+}
+
+/// The part of all operations that did not fail.
+fn calls_alone(alloc: Global, history: &ObjectHistory) -> Result<ObjectHistory, AllocError>
+    ensures part { IfOk result (λ p. IsPart history.now p) }
+    ensures kind { IfOk result (λ p. p.kind ≡ history.now.kind) }
+    ensures calls { IfOk result (λ p. calls_of p.ops ≡ calls_of history.now.ops) }
+{
+    let ops = calls_among(alloc, history.ops())?;
     Ok(ObjectHistory::new(history.object(), history.kind(), ops))
 }
 
@@ -98,7 +112,8 @@ fn cut_by(
 }
 
 /// The part that the cuts name, one after another: each cuts the part that those before it named.
-/// `None`: one of them names no closed part. With no cuts the part is the whole.
+/// `None`: one of them names no closed part. With no cuts the part is the whole, without the
+/// operations that failed: no part has one of these.
 ///
 /// An error: the allocator refused memory.
 pub fn part_by(
@@ -106,7 +121,7 @@ pub fn part_by(
     history: &ObjectHistory,
     cuts: &[Cut],
 ) -> Result<Option<ObjectHistory>, AllocError>
-    // Where no order of the part is valid, none of the whole is.
+    // Where no order of the part is valid, none of the whole is. None of its operations failed.
     ensures part { IfOk result (λ o. IfSome o (λ p. IsPart history.now p)) }
     ensures kind { IfOk result (λ o. IfSome o (λ p.
         p.kind ≡ part_kind cuts.now history.now.kind)) }
@@ -117,7 +132,7 @@ pub fn part_by(
     ensures refused { IfOk result (λ o. o ≡ None → (part : List Call)
         → NamesPart cuts.now (calls_of history.now.ops) part → ⊥) }
 {
-    let mut part = copy_of(alloc, history)?;
+    let mut part = calls_alone(alloc, history)?;
     for cut in cuts {
         match cut_by(alloc, &part, cut)? {
             Some(next) => part = next,

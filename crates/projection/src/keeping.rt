@@ -6,7 +6,7 @@ ghost use Rattle.std.specs.List.{list_all};
 ghost use Rattle.events.specs.Operations.{calls_of};
 ghost use Rattle.projection.specs.Parts.{fits, fits_taking, kept_calls};
 ghost use Rattle.projection.specs.Cuts.{keeps_all, keeps_value, keeps_number, IsClosedPart, IsPart};
-ghost use Rattle.projection.specs.Pieces.{fits_end, is_put, is_taken, is_open_taking};
+ghost use Rattle.projection.specs.Pieces.{fits_end, is_put, is_taken, is_open_taking, is_kept_call};
 ghost use Rattle.projection.specs.Pieces.{keeps_first};
 
 use events::{End, Invocation, ObjectHistory};
@@ -182,23 +182,24 @@ fn is_closed(values: &Values, numbers: &BTreeSet<u32>, operations: &[Invocation]
     has_first(numbers, left_over(values, operations), operations)
 }
 
-/// The operations with these numbers.
+/// The operations with these numbers that did not fail.
 fn pieces(
     alloc: Global,
     numbers: &BTreeSet<u32>,
     operations: &[Invocation],
 ) -> Result<Vec<Invocation>, AllocError>
     ensures { IfOk result (λ v. v.items
-        ≡ filter (λ o. keeps_number numbers.now o.number) operations.now) }
+        ≡ filter (is_kept_call (keeps_number numbers.now)) operations.now) }
 {
     operations
         .iter()
-        .filter(|o| numbers.contains(&o.number))
+        .filter(|o| o.end != End::Failed && numbers.contains(&o.number))
         .copied()
         .collect(alloc)
 }
 
-/// The part of the operations with these numbers, which keeps these values, or at a map these keys.
+/// The part of the operations with these numbers that did not fail, which keeps these values, or at
+/// a map these keys.
 /// Of the pending takings it has at least the first ones: as many as kept values were put in, and
 /// not taken out by calls that returned. `None`: the part is not closed, so a whole with a valid
 /// order can have a part that has none.

@@ -20,10 +20,13 @@ fn end_then(end: End, until: u32) -> End
     }
 }
 
-/// The operation as it was before this number, if it was invoked before.
+/// The operation as it was before this number, if it did not fail and was invoked before.
 fn piece(operation: &Invocation, until: u32) -> Option<Invocation>
     ensures { result ≡ piece_before until operation.now }
 {
+    if operation.end == End::Failed {
+        return None;
+    }
     if operation.number < until {
         return Some(Invocation {
             number: operation.number,
@@ -48,8 +51,8 @@ fn pieces(
         .collect(alloc)
 }
 
-/// The part of the operations that were invoked before this number. One that returned at it or
-/// later is pending.
+/// The part of the operations that were invoked before this number, and did not fail. One that
+/// returned at it or later is pending.
 ///
 /// An error: the allocator refused memory.
 pub fn until(

@@ -102,8 +102,8 @@ fn written_before(first: Option<First>, op: AnyOp, reply: AnyReply) -> Option<i6
     }
 }
 
-/// An operation that overlaps the first one: a write or a swap becomes a write, and any other is
-/// pending.
+/// An operation that overlaps the first one. If the first one left a value, a write becomes a
+/// write, and so does a swap that was not refused. Any other is pending.
 fn overlapping(first: Option<First>, operation: &Invocation) -> Invocation
     ensures { result ≡ overlapping_piece first operation.now.number operation.now.op
         operation.now.«end» }
@@ -243,8 +243,8 @@ fn start_at(operations: &[Invocation], number: u32) -> Option<Start>
 
 /// The part that begins with the call of this number. The call returned, its reply tells what it
 /// left, and at a map each call is on its key; `None`: it is not so. A call that returned before it
-/// is left out. Of those that overlap it a write or a swap becomes a write, and any other is
-/// pending.
+/// is left out. Of those that overlap it, if it left a value, a write becomes a write, and so does
+/// a swap that was not refused. Any other is pending; if it left nothing, all of them are.
 ///
 /// An error: the allocator refused memory.
 pub fn from(

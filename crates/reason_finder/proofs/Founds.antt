@@ -1,15 +1,15 @@
 -- What is found for the objects of a history.
-use Rattle.std.proofs.Common.{◌≡◌, ℕ, List, Option, Some, None, IfSome, IsSome, All, Any, subst}
+use Rattle.std.proofs.Common.{ℕ, List, Option, Some, None, IfSome, IsSome, Any}
 use Rattle.model.specs.Linearizable.{IsLinearizable}
 use Rattle.model.specs.declared.Kind.{Kind}
-use Rattle.model.specs.Orders.{Numbered, Call, IsHistory, IsValidOrder, events, calls_on}
-use Rattle.model.proofs.Lists.{In, in_from_contains, all_at}
+use Rattle.model.specs.Orders.{Numbered, Call, IsHistory, events, calls_on}
+use Rattle.model.proofs.Lists.{in_from_contains, all_at}
 use Rattle.locality.specs.Locality.{HasValidOrder}
 use Rattle.events.specs.declared.event.Event.{Event}
 use Rattle.events.specs.Events.{kind_at, denoted}
 use Rattle.checker.proofs.Collected.{AreOnAll}
 use Rattle.reason_finder.specs.declared.finding.FoundReason.{FoundReason}
-use Rattle.reason_finder.specs.Reasons.{IsReasonFor, IsReasonOn}
+use Rattle.reason_finder.specs.Reasons.{IsReasonFor}
 
 -- where a reason was found, it is one of the object
 abbrev pub IsReasonIn : ℕ → Kind → List Call → Option FoundReason → Type 0

@@ -4,19 +4,11 @@ use Rattle.model.specs.declared.Kind.{Kind}
 use Rattle.model.specs.Orders.{Call, calls_on}
 use Rattle.events.specs.declared.event.Event.{Event}
 use Rattle.events.specs.Events.{kind_at, denoted}
-use Rattle.events.specs.Operations.{ObjectCalls, calls_of}
+use Rattle.events.specs.Operations.{calls_of}
 use Rattle.order_search.specs.Outcomes.{IsNoneValid}
-use Rattle.projection.specs.Cuts.{NamesPart, part_kind}
-use Rattle.projection.specs.Counts.{IsOverdrawn}
-use Rattle.refutation.specs.declared.reason.Evidence.{Evidence}
-use Rattle.refutation.specs.declared.reason.Evidence.TheVariants.{Search, Counting}
+use Rattle.projection.specs.Cuts.{NamesPart, NoneFailed, part_kind}
+use Rattle.refutation.specs.Refutations.{HasNoValidOrder, IsShownBy}
 use Rattle.reason_finder.specs.declared.finding.FoundReason.{FoundReason}
-
--- What the evidence shows of a part: a search, that no order of it is valid; a count, that a
--- content was taken away more often than it can have been there.
-abbrev pub IsShownBy : Evidence → ObjectCalls → Type 0
-IsShownBy Search part = IsNoneValid part.kind (calls_of part.ops)
-IsShownBy (Counting count) part = IsOverdrawn part.kind count (calls_of part.ops)
 
 -- What was found is a reason for the object with this number, kind and calls.
 pub record IsReasonFor (number : ℕ) (kind : Kind) (calls : List Call) (f : FoundReason)
@@ -25,13 +17,15 @@ pub record IsReasonFor (number : ℕ) (kind : Kind) (calls : List Call) (f : Fou
   pub impossible : IsNoneValid kind calls
   -- the reason names the object
   pub named : f.reason.object ≡ number
-  -- The part is of the same object, of the kind that the cuts make of its own, and its calls are
-  -- those that they name. Failed operations are no calls: which of them are in the part is free.
+  -- The part is of the same object, of the kind that the cuts make of its own, and its operations
+  -- are the calls that they name: none of them failed.
   pub object : f.part.object ≡ number
   pub kind_of_part : f.part.kind ≡ part_kind f.reason.cuts.items kind
   pub part : NamesPart f.reason.cuts.items calls (calls_of f.part.ops)
-  -- the evidence shows that the part has no valid order
+  pub none_failed : NoneFailed f.part.ops
+  -- the evidence shows that the part has no valid order, and it has none
   pub shown : IsShownBy f.reason.evidence f.part
+  pub no_order : HasNoValidOrder f.part
 
 -- where a reason was found for the object with this number, it is one, in the history that the
 -- events denote

@@ -4,7 +4,8 @@ ghost use Rattle.std.specs.Prelude.{◌≡◌, true, IfOk, IfSome, Some};
 ghost use Rattle.events.specs.Operations.{calls_of};
 ghost use Rattle.order_search.specs.Outcomes.{IsNoneValid};
 ghost use Rattle.projection.specs.Cuts.{IsPart, NamesPart, part_kind};
-ghost use Rattle.reason_finder.specs.Reasons.{IsReasonFor, IsShownBy};
+ghost use Rattle.refutation.specs.Refutations.{HasNoValidOrder, IsShownBy};
+ghost use Rattle.reason_finder.specs.Reasons.{IsReasonFor};
 
 use candidate_reasons::{Proposal, propose, propose_by_pairs};
 use events::{End, Invocation, ObjectHistory};
@@ -32,7 +33,7 @@ pub struct FoundReason {
 /// search.
 fn is_shown(alloc: Global, evidence: Evidence, part: &ObjectHistory, limit: u64) -> bool
     ensures shown { result ≡ true → IsShownBy evidence part.now }
-    ensures impossible { result ≡ true → IsNoneValid part.now.kind (calls_of part.now.ops) }
+    ensures no_order { result ≡ true → HasNoValidOrder part.now }
 {
     match evidence {
         Evidence::Search => {
@@ -56,6 +57,7 @@ fn checked_part(
     ensures named { IfOk result (λ o. IfSome o (λ p.
         NamesPart reason.now.cuts.items (calls_of history.now.ops) (calls_of p.ops))) }
     ensures shown { IfOk result (λ o. IfSome o (IsShownBy reason.now.evidence)) }
+    ensures no_order { IfOk result (λ o. IfSome o HasNoValidOrder) }
     ensures impossible { IfOk result (λ o. IfSome o (λ p.
         IsNoneValid history.now.kind (calls_of history.now.ops))) }
 {

@@ -453,7 +453,7 @@ keep_read d (n ∷ ns) = refl
 
 cell_read : (d : Datum) (other : ℤ) (ns : List ℕ)
     → spec.cut_of (entry (codes "cell") d (other_entries other ns))
-    ≡ spec.cell_with (values_in (Some d)) None (Some other) (numbers_at ns)
+    ≡ spec.cell_with (values_in (Some d)) (Some None) (Some other) (numbers_at ns)
 unfolding numbers_at
 cell_read d other [] = refl
 cell_read d other (n ∷ ns) = refl
@@ -461,7 +461,7 @@ cell_read d other (n ∷ ns) = refl
 entry_read : (d : Datum) (key other : ℤ) (ns : List ℕ)
     → spec.cut_of (entry (codes "cell") d (entry (codes "key") (atom (integer key)) (other_entries
     other ns)))
-    ≡ spec.cell_with (values_in (Some d)) (Some key) (Some other) (numbers_at ns)
+    ≡ spec.cell_with (values_in (Some d)) (Some (Some key)) (Some other) (numbers_at ns)
 unfolding numbers_at
 entry_read d key other [] = refl
 entry_read d key other (n ∷ ns) = refl
@@ -476,12 +476,14 @@ cut_read (Keep vs ns) t =
     ∙ ap (spec.keep_with (Some (seen_values vs))) (numbers_at_read ns.keys t.1))
 cut_read (Cell vs other ns) t =
     cell_read (values_datum vs) other ns.keys
-    ∙ (ap (λ v. spec.cell_with v None (Some other) (numbers_at ns.keys)) (values_read vs t.0)
-    ∙ ap (spec.cell_with (Some (seen_values vs)) None (Some other)) (numbers_at_read ns.keys t.2))
+    ∙ (ap (λ v. spec.cell_with v (Some None) (Some other) (numbers_at ns.keys)) (values_read vs t.0)
+    ∙ ap (spec.cell_with (Some (seen_values vs)) (Some None) (Some other))
+    (numbers_at_read ns.keys t.2))
 cut_read (Entry key vs other ns) t =
     entry_read (values_datum vs) key other ns.keys
-    ∙ (ap (λ v. spec.cell_with v (Some key) (Some other) (numbers_at ns.keys)) (values_read vs t.0)
-    ∙ ap (spec.cell_with (Some (seen_values vs)) (Some key) (Some other))
+    ∙ (ap (λ v. spec.cell_with v (Some (Some key)) (Some other) (numbers_at ns.keys))
+    (values_read vs t.0)
+    ∙ ap (spec.cell_with (Some (seen_values vs)) (Some (Some key)) (Some other))
     (numbers_at_read ns.keys t.3))
 
 cuts_read : (before : List CutSeen) (cs : List Cut) → AllByRecursion IsTypedCut cs

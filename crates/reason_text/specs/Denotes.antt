@@ -13,7 +13,6 @@ use Rattle.projection.specs.declared.keeping.Values.TheVariants.{All, Only}
 use Rattle.projection.specs.declared.cutting.Cut.{Cut}
 use Rattle.projection.specs.declared.cutting.Cut.TheVariants.{From, Until, Without, Keep, Cell}
 use Rattle.projection.specs.declared.cutting.Cut.TheVariants.{Entry}
-use Rattle.projection.specs.declared.counting.Count.{Count}
 use Rattle.projection.specs.declared.counting.Counted.{Counted}
 use Rattle.projection.specs.declared.counting.Counted.TheVariants as counted
 use Rattle.refutation.specs.declared.reason.Evidence.{Evidence}
@@ -93,12 +92,18 @@ numbers_in None = Some []
 numbers_in (Some (vector ds)) = numbers_with [] ds
 numbers_in (Some other) = None
 
+-- an integer, or none where the value is absent; another value is neither
+abbrev pub integer_or_absent : Option Datum → Option (Option ℤ)
+integer_or_absent None = Some None
+integer_or_absent (Some d) = option_map (λ z. Some z) (integer_in d)
+
 -- ---- cuts
 
 -- a register's cell, or that of a key of a map
-abbrev pub cell_with : Option KeptValues → Option ℤ → Option ℤ → Option (List ℕ) → Option CutSeen
-cell_with (Some vs) None (Some w) (Some ns) = Some (cell vs w ns)
-cell_with (Some vs) (Some k) (Some w) (Some ns) = Some (entry_cell k vs w ns)
+abbrev pub cell_with : Option KeptValues → Option (Option ℤ) → Option ℤ → Option (List ℕ)
+    → Option CutSeen
+cell_with (Some vs) (Some None) (Some w) (Some ns) = Some (cell vs w ns)
+cell_with (Some vs) (Some (Some k)) (Some w) (Some ns) = Some (entry_cell k vs w ns)
 cell_with vs k w ns = None
 
 abbrev pub without_with : Option ℤ → Option ℕ → Option CutSeen
@@ -117,6 +122,9 @@ or_else (Some d) here there = here
 abbrev pub int_at : List ℕ → Entries → Option ℤ
 int_at key es = option_and_then integer_in (value_at key es)
 
+abbrev pub optional_int_at : List ℕ → Entries → Option (Option ℤ)
+optional_int_at key es = integer_or_absent (value_at key es)
+
 abbrev pub without_of : Entries → Option CutSeen
 without_of es =
     without_with (int_at (codes "without") es) (number_in (value_at (codes "before") es))
@@ -128,7 +136,7 @@ keep_of es =
 
 abbrev pub cell_of : Entries → Option CutSeen
 cell_of es =
-    cell_with (values_in (value_at (codes "cell") es)) (int_at (codes "key") es)
+    cell_with (values_in (value_at (codes "cell") es)) (optional_int_at (codes "key") es)
     (int_at (codes "other") es) (numbers_in (value_at (codes "numbers") es))
 
 -- The cut that a map names by the first of the keys :until, :from, :without, :keep and :cell that
@@ -161,13 +169,13 @@ cuts_in (Some other) = None
 
 -- What is counted: a value, alone or under a key; no value under a key; a mutex that is held, or
 -- free.
-abbrev pub counted_with : Option ℤ → Option ℤ → Bool → Bool → Option Counted
-counted_with None (Some v) held free = Some (counted.Value v)
-counted_with (Some k) (Some v) held free = Some (counted.Entry k v)
-counted_with (Some k) None held free = Some (counted.NoEntry k)
-counted_with None None true free = Some counted.Held
-counted_with None None false true = Some counted.Free
-counted_with None None false false = None
+abbrev pub counted_with : Option (Option ℤ) → Option (Option ℤ) → Bool → Bool → Option Counted
+counted_with (Some None) (Some (Some v)) held free = Some (counted.Value v)
+counted_with (Some (Some k)) (Some (Some v)) held free = Some (counted.Entry k v)
+counted_with (Some (Some k)) (Some None) held free = Some (counted.NoEntry k)
+counted_with (Some None) (Some None) true free = Some counted.Held
+counted_with (Some None) (Some None) false true = Some counted.Free
+counted_with k v held free = None
 
 -- from this number on; an absent one is 0
 abbrev pub start_in : Option Datum → Option ℕ
@@ -180,7 +188,7 @@ count_with c n = None
 
 abbrev pub counted_of : Entries → Option Counted
 counted_of es =
-    counted_with (int_at (codes "key") es) (int_at (codes "value") es)
+    counted_with (optional_int_at (codes "key") es) (optional_int_at (codes "value") es)
     (is_some (value_at (codes "held") es)) (is_some (value_at (codes "free") es))
 
 abbrev pub evidence_of : Entries → Option Evidence

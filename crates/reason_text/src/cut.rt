@@ -12,12 +12,22 @@ use projection::Cut;
 use std::alloc::{AllocError, Global};
 
 /// The integer under a key.
-pub(crate) fn int_at(entries: &[(Name, Form)], key: &[u8]) -> Option<i64>
+fn int_at(entries: &[(Name, Form)], key: &[u8]) -> Option<i64>
     ensures { result ≡ spec.int_at key.now (entries_of (pair_views entries.now)) }
 {
     match value_at(entries, key) {
         Some(form) => edn_fields::integer(form),
         None => None,
+    }
+}
+
+/// The integer under a key, or none where the map has no such key. `None`: the value is no integer.
+pub(crate) fn optional_int_at(entries: &[(Name, Form)], key: &[u8]) -> Option<Option<i64>>
+    ensures { result ≡ spec.optional_int_at key.now (entries_of (pair_views entries.now)) }
+{
+    match value_at(entries, key) {
+        None => Some(None),
+        Some(form) => edn_fields::integer(form).map(Some),
     }
 }
 
@@ -59,7 +69,10 @@ fn cell_in(alloc: Global, entries: &[(Name, Form)]) -> Result<Option<Cut>, Alloc
     let Some(numbers) = numbers(alloc, value_at(entries, b"numbers"))? else {
         return Ok(None);
     };
-    match int_at(entries, b"key") {
+    let Some(key) = optional_int_at(entries, b"key") else {
+        return Ok(None);
+    };
+    match key {
         Some(key) => Ok(Some(Cut::Entry {
             key,
             values,

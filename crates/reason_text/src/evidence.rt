@@ -5,7 +5,7 @@ ghost use Rattle.edn_reader.specs.Datum.{entries_of};
 ghost use Rattle.edn_reader.specs.View.{view, pair_views};
 ghost use Rattle.reason_text.specs.Denotes as spec;
 
-use crate::cut::int_at;
+use crate::cut::optional_int_at;
 use crate::sets::number;
 use edn::{Form, Name};
 use edn_fields::value_at;
@@ -16,7 +16,9 @@ use refutation::Evidence;
 fn counted(entries: &[(Name, Form)]) -> Option<Counted>
     ensures { result ≡ spec.counted_of (entries_of (pair_views entries.now)) }
 {
-    match (int_at(entries, b"key"), int_at(entries, b"value")) {
+    let key = optional_int_at(entries, b"key")?;
+    let value = optional_int_at(entries, b"value")?;
+    match (key, value) {
         (None, Some(value)) => Some(Counted::Value(value)),
         (Some(key), Some(value)) => Some(Counted::Entry { key, value }),
         (Some(key), None) => Some(Counted::NoEntry(key)),

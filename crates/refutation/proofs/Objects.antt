@@ -17,7 +17,7 @@ use Rattle.projection.specs.Cuts.{NamesPart}
 use Rattle.refutation.specs.declared.reason.Reason.{Reason}
 use Rattle.refutation.specs.declared.refuting.Refutation.{Refutation}
 use Rattle.refutation.specs.declared.refuting.Refutation.TheVariants.{Impossible, NotShown, NoPart, OtherObject}
-use Rattle.refutation.specs.Refutations.{is_impossible, IfPart, IfImpossible, IfNotShown, IsDoubt, IsNamedPart, HasNoValidOrder, IsAnswerOn, IsAnswer}
+use Rattle.refutation.specs.Refutations.{is_impossible, IfPart, IfImpossible, IfNotShown, IsDoubt, IsNamedPart, HasNoValidOrder, IsShownBy, IsAnswerOn, IsAnswer}
 
 pub none_among : (es : List Event) (objects : List ObjectCalls) → All (λ o. o.kind ≡ kind_at es o.object) objects → All (λ o. calls_of o.ops ≡ calls_on o.object (denoted es)) objects
     → ((kinds : ℕ → Kind) (h : List Numbered) → IsHistory h → IsLinearizable kinds (events h) → (x : ℕ) → HasValidOrder kinds h x)
@@ -59,7 +59,7 @@ refutes Not answers all some = all some.1 (in_from_contains answers some.1 (some
 pub answered : (objects : List ObjectCalls) (i : ℕ) (o : ObjectCalls) (reason : Reason) (answer : Result Refutation AllocError) → i < length objects
     → o ≡ get_or objects i o → o.object ≡ reason.object → IfOk answer (λ r. is_impossible r ≡ true → IsNoneValid o.kind (calls_of o.ops))
     → IfOk answer (λ r. IfPart r (IsNamedPart reason.cuts.items o.object o.kind (calls_of o.ops)))
-    → IfOk answer (λ r. IfImpossible r HasNoValidOrder) → IfOk answer (λ r. IfNotShown r (IsDoubt reason.evidence))
+    → IfOk answer (λ r. IfImpossible r (λ part. IsShownBy reason.evidence part × HasNoValidOrder part)) → IfOk answer (λ r. IfNotShown r (IsDoubt reason.evidence))
     → IfOk answer (λ r. r ≡ NoPart → (part : List Call) → NamesPart reason.cuts.items (calls_of o.ops) part → ⊥)
     → IfOk answer (λ r. r ≢ OtherObject → (p : ObjectCalls) × Contains objects p × (p.object ≡ reason.object) × IsAnswerOn p.kind (calls_of p.ops) reason r)
 answered objects i o reason (Ok r) lt is e none part shown doubt refused = λ own. (

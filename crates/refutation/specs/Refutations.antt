@@ -8,7 +8,7 @@ use Rattle.events.specs.Operations.{ObjectCalls, calls_of}
 use Rattle.order_search.specs.Outcomes.{IsNoneValid}
 use Rattle.projection.specs.declared.cutting.Cut.{Cut}
 use Rattle.projection.specs.Counts.{IsOverdrawn}
-use Rattle.projection.specs.Cuts.{NamesPart, part_kind}
+use Rattle.projection.specs.Cuts.{NamesPart, NoneFailed, part_kind}
 use Rattle.refutation.specs.declared.reason.Evidence.{Evidence}
 use Rattle.refutation.specs.declared.reason.Evidence.TheVariants.{Search, Counting}
 use Rattle.refutation.specs.declared.reason.Reason.{Reason}
@@ -69,13 +69,20 @@ IsDoubt evidence part NoMemory =
 abbrev pub HasNoValidOrder : ObjectCalls → Type 0
 HasNoValidOrder part = IsNoneValid part.kind (calls_of part.ops)
 
--- A part with the calls that the cuts name of the calls of an object, x, of this kind. Failed
--- operations are no calls: which of them are in the part is free.
+-- What the evidence shows of a part: a search, that no order of it is valid; a count, that a
+-- content was taken away more often than it can have been there.
+abbrev pub IsShownBy : Evidence → ObjectCalls → Type 0
+IsShownBy Search part = HasNoValidOrder part
+IsShownBy (Counting count) part = IsOverdrawn part.kind count (calls_of part.ops)
+
+-- A part with the calls that the cuts name of the calls of an object, x, of this kind, and with no
+-- other operations: none of its operations failed.
 pub record IsNamedPart (cuts : List Cut) (x : ℕ) (whole : Kind) (calls : List Call)
     (part : ObjectCalls) : Type 0 where
   pub object : part.object ≡ x
   pub kind : part.kind ≡ part_kind cuts whole
   pub named : NamesPart cuts calls (calls_of part.ops)
+  pub none_failed : NoneFailed part.ops
 
 -- the answer to a reason on the operations of an object that has the reason's number
 pub record IsAnswerOn (kind : Kind) (calls : List Call) (reason : Reason)
@@ -84,8 +91,10 @@ pub record IsAnswerOn (kind : Kind) (calls : List Call) (reason : Reason)
   pub impossible : is_impossible answer ≡ true → IsNoneValid kind calls
   -- what is handed out is a part with the calls that the reason names
   pub part : IfPart answer (IsNamedPart reason.cuts.items reason.object kind calls)
-  -- it is impossible only where no order of that part is valid
-  pub shown : IfImpossible answer HasNoValidOrder
+  -- it is impossible only where the reason's evidence shows it of that part, and no order of the
+  -- part is valid
+  pub shown : IfImpossible answer (λ part.
+      IsShownBy reason.evidence part × HasNoValidOrder part)
   pub not_shown : IfNotShown answer (IsDoubt reason.evidence)
   pub no_part : answer ≡ refutation.NoPart → (part : List Call)
       → NamesPart reason.cuts.items calls part → ⊥

@@ -6,7 +6,7 @@ ghost use Rattle.events.specs.Operations.{calls_of};
 ghost use Rattle.order_search.specs.Outcomes.{IsNoneValid};
 ghost use Rattle.projection.specs.Cuts.{NamesPart};
 ghost use Rattle.refutation.specs.Refutations.{is_impossible, IfImpossible, IfNotShown};
-ghost use Rattle.refutation.specs.Refutations.{IfPart, IsDoubt, IsNamedPart, HasNoValidOrder};
+ghost use Rattle.refutation.specs.Refutations.{IfPart, IsDoubt, IsNamedPart, HasNoValidOrder, IsShownBy};
 
 use crate::reason::{Evidence, Reason};
 use events::ObjectHistory;
@@ -54,8 +54,9 @@ fn doubt_of_search(alloc: Global, part: &ObjectHistory, limit: u64) -> Option<Do
     }
 }
 
-/// What the count answers of a part; `None`: no order of it is valid.
+/// What the count answers of a part; `None`: it is exceeded, so that no order of the part is valid.
 fn doubt_of_count(part: &ObjectHistory, count: Count) -> Option<Doubt>
+    ensures exceeded { result ≡ None → IsShownBy (Evidence.Counting count) part.now }
     ensures shown { result ≡ None → IsNoneValid part.now.kind (calls_of part.now.ops) }
     ensures doubt { IfSome result (IsDoubt (Evidence.Counting count) part.now) }
 {
@@ -65,8 +66,9 @@ fn doubt_of_count(part: &ObjectHistory, count: Count) -> Option<Doubt>
     Some(Doubt::NotOverdrawn)
 }
 
-/// What the evidence answers of a part; `None`: no order of it is valid.
+/// What the evidence answers of a part; `None`: it shows that no order of the part is valid.
 fn doubt_of(alloc: Global, part: &ObjectHistory, evidence: Evidence, limit: u64) -> Option<Doubt>
+    ensures evidence { result ≡ None → IsShownBy evidence part.now }
     ensures shown { result ≡ None → IsNoneValid part.now.kind (calls_of part.now.ops) }
     ensures doubt { IfSome result (IsDoubt evidence part.now) }
 {
@@ -92,8 +94,10 @@ pub fn refute(
     // What is handed out is the part that the reason names.
     ensures part { IfOk result (λ r. IfPart r (IsNamedPart reason.now.cuts.items
         history.now.object history.now.kind (calls_of history.now.ops))) }
-    // Impossible is answered only where no order of that part is valid.
-    ensures shown { IfOk result (λ r. IfImpossible r HasNoValidOrder) }
+    // Impossible is answered only where the evidence shows it of that part: a count is exceeded. No
+    // order of the part is valid.
+    ensures shown { IfOk result (λ r. IfImpossible r (λ part.
+        IsShownBy reason.now.evidence part × HasNoValidOrder part)) }
     ensures not_shown { IfOk result (λ r. IfNotShown r (IsDoubt reason.now.evidence)) }
     ensures no_part { IfOk result (λ r. r ≡ Refutation.NoPart → (part : List Call)
         → NamesPart reason.now.cuts.items (calls_of history.now.ops) part → ⊥) }

@@ -1,6 +1,6 @@
 -- Points of an order over the bars of the operations.
 use Rattle.std.specs.Prelude.{◌≡◌, ◌==◌, ◌&&◌, ◌||◌, Bool, true, false, nat_lt, nat_le, List, []}
-use Rattle.std.specs.Prelude.{◌∷◌}
+use Rattle.std.specs.Prelude.{◌∷◌, if◌then◌else◌}
 use Rattle.timeline.specs.declared.figure.Bar.{Bar}
 use Rattle.timeline.specs.declared.points.Point.{Point}
 
@@ -28,10 +28,19 @@ abbrev pub is_on_some : Point → List Bar → Bool
 is_on_some p [] = false
 is_on_some p (bar ∷ bars) = is_on p bar || is_on_some p bars
 
--- each, except one that is refused, is within some bar of its operation
+abbrev pub is_none : List Point → Bool
+is_none [] = true
+is_none (p ∷ ps) = false
+
+-- A point is within some bar of its operation, or it is refused and none comes after it.
+abbrev pub is_placed : List Bar → Point → List Point → Bool
+is_placed bars p later = if p.is_refused then is_none later else is_on_some p bars
+
+-- Each is within some bar of its operation, except the last one if it is refused. No other is
+-- refused.
 abbrev pub are_on_bars : List Bar → List Point → Bool
 are_on_bars bars [] = true
-are_on_bars bars (p ∷ ps) = (p.is_refused || is_on_some p bars) && are_on_bars bars ps
+are_on_bars bars (p ∷ ps) = is_placed bars p ps && are_on_bars bars ps
 
 -- ranks rise from left to right, and each point is on its bar
 abbrev pub are_sound : List Bar → List Point → Bool

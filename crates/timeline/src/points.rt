@@ -1,6 +1,6 @@
 //! Points: the entries of an order in a figure.
 
-ghost use Rattle.std.specs.Prelude.{◌≡◌, ◌||◌};
+ghost use Rattle.std.specs.Prelude.{◌≡◌, []};
 ghost use Rattle.timeline.specs.Points as spec;
 ghost use Rattle.timeline.specs.Points.{AreSound};
 
@@ -71,10 +71,14 @@ fn is_on_some(point: &Point, bars: &[Bar]) -> bool
     false
 }
 
-fn is_placed(bars: &[Bar], point: &Point) -> bool
-    ensures { result ≡ (point.now.is_refused || spec.is_on_some point.now bars.now) }
+/// Whether the point, which these come after, is on its bar, or is refused and the last one.
+fn is_placed(bars: &[Bar], point: &Point, later: &[Point]) -> bool
+    ensures { result ≡ spec.is_placed bars.now point.now later.now }
 {
-    point.is_refused || is_on_some(point, bars)
+    if point.is_refused {
+        return matches!(later, []);
+    }
+    is_on_some(point, bars)
 }
 
 fn are_on_bars(bars: &[Bar], points: &[Point]) -> bool
@@ -82,7 +86,7 @@ fn are_on_bars(bars: &[Bar], points: &[Point]) -> bool
 {
     let mut rest = points;
     'points: while let [point, later @ ..] = rest {
-        if !is_placed(bars, point) {
+        if !is_placed(bars, point, later) {
             return false;
         }
         rest = later;
@@ -98,11 +102,13 @@ fn are_sound(bars: &[Bar], points: &[Point]) -> bool
 
 /// The points, where they are sound over these bars; else none.
 pub fn sound_points(alloc: Global, bars: &[Bar], points: Vec<Point>) -> Vec<Point>
-    // Their ranks rise from left to right, and each, except one that is refused, is within the bar
-    // of its operation.
+    // Their ranks rise from left to right, and each is within the bar of its operation, except the
+    // last one if it is refused. No other is refused.
     ensures sound { AreSound bars.now result.items }
     // None is dropped from points that are so.
     ensures kept { AreSound bars.now points.items → result ≡ points }
+    // Points that are not so are all dropped.
+    ensures none { (AreSound bars.now points.items → ⊥) → result.items ≡ [] }
 {
     if are_sound(bars, &points) {
         return points;

@@ -21,12 +21,15 @@ returns-in-Some c =
     let none = c.deref.ensures.value ∙ c.new.ensures.items in
     let same_kind : part.kind ≡ whole.kind = subst (λ (cuts : List Cut). part.kind ≡ part_kind cuts whole.kind) none kind in
     let same_calls : calls_of part.ops ≡ calls = subst (λ (cuts : List Cut). NamesPart cuts calls (calls_of part.ops)) none named in
+    let no_order : IsNoneValid part.kind (calls_of part.ops) =
+    subst (λ (k : Kind). IsNoneValid k (calls_of part.ops)) (sym same_kind) (subst (λ (cs : List Call). IsNoneValid whole.kind cs) (sym same_calls) c.requires) in
     record {
       impossible = c.requires;
       named = c.object.ensures;
       object = own.object;
       kind_of_part = subst (λ (cuts : List Cut). part.kind ≡ part_kind cuts whole.kind) c.deref.ensures.value kind;
       part = subst (λ (cuts : List Cut). NamesPart cuts calls (calls_of part.ops)) c.deref.ensures.value named;
-      shown =
-          subst (λ (k : Kind). IsNoneValid k (calls_of part.ops)) (sym same_kind) (subst (λ (cs : List Call). IsNoneValid whole.kind cs) (sym same_calls) c.requires);
+      none_failed = own.none_failed;
+      shown = no_order;
+      no_order = no_order;
     }

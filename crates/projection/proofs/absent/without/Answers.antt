@@ -1,10 +1,10 @@
-use Rattle.std.proofs.Common.{ℤ, List, not, filter, ap, sym, ◌∙◌, subst, w64}
+use Rattle.std.proofs.Common.{ℤ, List, filter, ap, sym, ◌∙◌, subst, w64}
 use Rattle.std.proofs.lemmas.Int.{to_z-of_z}
 use Rattle.events.specs.declared.operations.Invocation.{Invocation}
 use Rattle.events.specs.Operations.{ObjectCalls, IsObjectHistory, calls_of}
 use Rattle.projection.specs.Absent.{IsAbsent}
 use Rattle.projection.specs.Cuts.{IsPart}
-use Rattle.projection.specs.Pieces.{is_early}
+use Rattle.projection.specs.Pieces.{is_late}
 use Rattle.projection.proofs.Pieces.{same_history}
 use Rattle.projection.proofs.Early.{late_history, late_calls_of, late_shows}
 use Rattle.projection.proofs.absent.without.Goals as goal
@@ -12,16 +12,16 @@ use Rattle.projection.proofs.absent.without.Goals as goal
 pub new-requires : goal.new-requires
 new-requires c =
     let h = c.args.history.now in
-    let own = ap (λ (z : ℤ). filter (λ o. not (is_early z c.args.before o)) c.ops-operations.result.now) (to_z-of_z w64 c.args.value c.ranges.value) in
-    let late = ap (filter (λ o. not (is_early c.args.value c.args.before o))) c.ops-operations.ensures.ops in
+    let own = ap (λ (z : ℤ). filter (is_late z c.args.before) c.ops-operations.result.now) (to_z-of_z w64 c.args.value c.ranges.value) in
+    let late = ap (filter (is_late c.args.value c.args.before)) c.ops-operations.ensures.ops in
     subst IsObjectHistory (sym (same_history c.object.ensures c.kind.ensures (c.in_ok-ops.ensures ∙ own ∙ late))) (late_history c.args.value c.args.before h c.ops-operations.ensures.kept)
 
 pub returns-clause-part : goal.returns-clause-part
 returns-clause-part c =
     let h = c.args.history.now in
     let same = to_z-of_z w64 c.args.value c.ranges.value in
-    let own = ap (λ (z : ℤ). filter (λ o. not (is_early z c.args.before o)) c.ops-operations.result.now) same in
-    let late = ap (filter (λ o. not (is_early c.args.value c.args.before o))) c.ops-operations.ensures.ops in
+    let own = ap (λ (z : ℤ). filter (is_late z c.args.before) c.ops-operations.result.now) same in
+    let late = ap (filter (is_late c.args.value c.args.before)) c.ops-operations.ensures.ops in
     let here = subst (λ (z : ℤ). IsAbsent z c.args.before (calls_of c.ops-operations.result.now)) same (c.is_absent.ensures.yes c.if-not-is_absent.false) in
     let absent = subst (λ (os : List Invocation). IsAbsent c.args.value c.args.before (calls_of os)) c.ops-operations.ensures.ops here in
     subst (IsPart h) (sym (c.new.ensures ∙ same_history c.object.ensures c.kind.ensures (c.in_ok-ops.ensures ∙ own ∙ late)))
@@ -31,8 +31,8 @@ pub returns-clause-calls : goal.returns-clause-calls
 returns-clause-calls c =
     let h = c.args.history.now in
     let same = to_z-of_z w64 c.args.value c.ranges.value in
-    let own = ap (λ (z : ℤ). filter (λ o. not (is_early z c.args.before o)) c.ops-operations.result.now) same in
-    let late = ap (filter (λ o. not (is_early c.args.value c.args.before o))) c.ops-operations.ensures.ops in
+    let own = ap (λ (z : ℤ). filter (is_late z c.args.before) c.ops-operations.result.now) same in
+    let late = ap (filter (is_late c.args.value c.args.before)) c.ops-operations.ensures.ops in
     let here = subst (λ (z : ℤ). IsAbsent z c.args.before (calls_of c.ops-operations.result.now)) same (c.is_absent.ensures.yes c.if-not-is_absent.false) in (
       subst (λ (os : List Invocation). IsAbsent c.args.value c.args.before (calls_of os)) c.ops-operations.ensures.ops here,
       ap (λ (z : ObjectCalls). calls_of z.ops) c.new.ensures ∙ ap calls_of (c.in_ok-ops.ensures ∙ own ∙ late) ∙ late_calls_of c.args.value c.args.before h.ops,

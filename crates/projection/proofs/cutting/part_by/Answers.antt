@@ -3,7 +3,7 @@ use Rattle.model.specs.Orders.{Call}
 use Rattle.events.specs.Operations.{ObjectCalls, calls_of}
 use Rattle.projection.specs.declared.cutting.Cut.{Cut}
 use Rattle.projection.specs.Cuts.{IsPart, Names, kind_cut, part_kind}
-use Rattle.projection.proofs.Pieces.{own_part, part_of_part}
+use Rattle.projection.proofs.Pieces.{part_of_part}
 use Rattle.projection.proofs.Naming.{IsCutSoFar, not_cut, cut_further, kind_further}
 use Rattle.projection.proofs.cutting.part_by.Goals as goal
 
@@ -11,9 +11,9 @@ pub loop-cut-init : goal.loop-cut-init
 loop-cut-init c =
     let h = c.args.history.now in
     record {
-      part = subst (IsPart h) (sym c.in_ok-part.ensures) (own_part h);
-      kind = ap (λ (z : ObjectCalls). part_kind c.args.cuts.now z.kind) (sym c.in_ok-part.ensures);
-      names = subst (λ (z : ObjectCalls). IsCutSoFar c.args.cuts.now 0 (calls_of h.ops) (calls_of z.ops)) (sym c.in_ok-part.ensures) (not_cut c.args.cuts.now (calls_of h.ops));
+      part = c.in_ok-part.ensures.part;
+      kind = ap (part_kind c.args.cuts.now) (sym c.in_ok-part.ensures.kind);
+      names = subst (IsCutSoFar c.args.cuts.now 0 (calls_of h.ops)) (sym c.in_ok-part.ensures.calls) (not_cut c.args.cuts.now (calls_of h.ops));
     }
 
 pub loop-cut-preserved : goal.loop-cut-preserved

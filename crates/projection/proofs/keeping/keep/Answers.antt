@@ -2,6 +2,7 @@ use Rattle.std.proofs.Common.{◌<◌, List, AllPairs, ap, sym, ◌∙◌, subst
 use Rattle.events.specs.declared.operations.Invocation.{Invocation}
 use Rattle.events.specs.Operations.{ObjectCalls, IsObjectHistory, calls_of}
 use Rattle.projection.specs.Cuts.{keeps_number, IsClosedPart, IsPart}
+use Rattle.projection.specs.Pieces.{is_kept_call}
 use Rattle.projection.proofs.Pieces.{same_history}
 use Rattle.projection.proofs.Kept.{kept_history, kept_calls_of, kept_shows}
 use Rattle.projection.proofs.keeping.keep.Goals as goal
@@ -12,7 +13,7 @@ is_closed-requires c = subst (λ (os : List Invocation). AllPairs (λ a b. a.num
 pub new-requires : goal.new-requires
 new-requires c =
     let h = c.args.history.now in
-    subst IsObjectHistory (sym (same_history c.object.ensures c.kind.ensures (c.in_ok-ops.ensures ∙ ap (filter (λ o. keeps_number c.args.numbers.now o.number)) c.ops-operations.ensures.ops)))
+    subst IsObjectHistory (sym (same_history c.object.ensures c.kind.ensures (c.in_ok-ops.ensures ∙ ap (filter (is_kept_call (keeps_number c.args.numbers.now))) c.ops-operations.ensures.ops)))
     (kept_history (keeps_number c.args.numbers.now) h c.ops-operations.ensures.kept)
 
 pub returns-clause-part : goal.returns-clause-part
@@ -20,7 +21,7 @@ returns-clause-part c =
     let h = c.args.history.now in
     let kept = keeps_number c.args.numbers.now in
     let closed = subst (λ (os : List Invocation). IsClosedPart c.args.values.now c.args.numbers.now (calls_of os)) c.ops-operations.ensures.ops (c.is_closed.ensures.yes c.if-not-is_closed.false) in
-    subst (IsPart h) (sym (c.new.ensures ∙ same_history c.object.ensures c.kind.ensures (c.in_ok-ops.ensures ∙ ap (filter (λ o. kept o.number)) c.ops-operations.ensures.ops)))
+    subst (IsPart h) (sym (c.new.ensures ∙ same_history c.object.ensures c.kind.ensures (c.in_ok-ops.ensures ∙ ap (filter (is_kept_call kept)) c.ops-operations.ensures.ops)))
     (kept_shows c.args.values.now kept h c.ops-operations.ensures.kept closed)
 
 pub returns-clause-closed : goal.returns-clause-closed
@@ -31,7 +32,7 @@ pub returns-clause-calls : goal.returns-clause-calls
 returns-clause-calls c =
     let h = c.args.history.now in
     ap (λ (z : ObjectCalls). calls_of z.ops) c.new.ensures
-    ∙ ap calls_of (c.in_ok-ops.ensures ∙ ap (filter (λ o. keeps_number c.args.numbers.now o.number)) c.ops-operations.ensures.ops) ∙ kept_calls_of (keeps_number c.args.numbers.now) h.ops
+    ∙ ap calls_of (c.in_ok-ops.ensures ∙ ap (filter (is_kept_call (keeps_number c.args.numbers.now))) c.ops-operations.ensures.ops) ∙ kept_calls_of (keeps_number c.args.numbers.now) h.ops
 
 pub returns-then-not-is_closed-clause-refused : goal.returns-then-not-is_closed-clause-refused
 returns-then-not-is_closed-clause-refused c e part =

@@ -1,4 +1,3 @@
-use Rattle.std.proofs.Common.{◌≡◌}
 use Rattle.edn_reader.specs.View.{views}
 use Rattle.reason_text.proofs.Reading.{first_fault, not_denoted, sound_before, one_more_read}
 use Rattle.reason_text.proofs.reader.read_reasons.Goals as goal

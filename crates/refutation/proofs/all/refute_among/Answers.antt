@@ -1,4 +1,4 @@
-use Rattle.std.proofs.Common.{◌≢◌, ℕ, ◌<◌, get_or, refl, ap, sym, ◌∙◌, below_more, arith}
+use Rattle.std.proofs.Common.{◌≢◌, get_or, refl, ap, sym, ◌∙◌, below_more, arith}
 use Rattle.std.proofs.lemmas.List.{get_or_default}
 use Rattle.events.specs.Operations.{ObjectCalls}
 use Rattle.refutation.proofs.Objects.{answered, own_number}
