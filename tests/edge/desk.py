@@ -1,6 +1,7 @@
-"""Refuses each allocation of the example of the desk in turn: a pass that gets no memory for its log serves nothing, releases
-the object, and the next pass serves. A call that the object refuses for lack of memory is answered so. And refuses each allocation of two
-tests of the combiner: a call whose own pass gets no memory is outstanding."""
+"""Refuses each allocation of the example of the desk in turn: a pass that gets no memory for its log serves nothing,
+releases the object, and the next pass serves. A call that the object refuses for lack of memory is answered so. And
+refuses each allocation of three tests of the combiner: a pass that gets no memory serves nothing, and a call whose own
+pass gets none is outstanding."""
 import os
 
 from .running import ROOT, at_once, in_room
@@ -43,27 +44,30 @@ def refused_reserve(program, report):
     return f"{count} allocations refused"
 
 
-# The tests of `call` and of `call_at_once`, and the line that each prints when the room of its log is refused. Then it waits for the answer.
-OUTSTANDING = ("a_call_whose_pass_gets_no_memory_is_outstanding", "a_call_that_was_not_made_at_once_is_outstanding")
-LINE = b"the call is outstanding\n"
+# The tests of a pass, of `call` and of `call_at_once`, and the line that each prints when the room of its log is
+# refused. Then the next pass answers, and the test passes.
+REFUSED_PASSES = {
+    "refused::a_pass_whose_log_cannot_grow_serves_nothing": b"the first pass served nothing\n",
+    "outstanding::a_call_whose_pass_gets_no_memory_is_outstanding": b"the call is outstanding\n",
+    "outstanding::a_call_that_was_not_made_at_once_is_outstanding": b"the call is outstanding\n",
+}
 
 
-def outstanding_calls(program, report):
+def refused_passes(program, report):
     """Each allocation of these tests is refused in a run of its own."""
     if not os.path.exists(TESTS):
         report.holds("desk: the tests of the combiner are built", False, f"{TESTS} is missing: rt test in crates/combiner_tests builds it")
         return None
     tests, tried = in_room(TESTS, program.room, "combiner_tests", None), 0
-    for name in OUTSTANDING:
-        word = f"outstanding::{name}"
-        whole, count, _ = tests.counts(word)
-        report.holds(f"desk: {name}: with ample memory", whole.status == 0 and LINE not in whole.out, whole)
-        runs = at_once(lambda at: tests.run(word, faults={"REFUSE_AT": at}), range(1, count + 1))
-        shown = [it for it in runs if LINE in it.out]
+    for name, line in REFUSED_PASSES.items():
+        whole, count, _ = tests.counts(name)
+        report.holds(f"desk: {name}: with ample memory", whole.status == 0 and line not in whole.out, whole)
+        runs = at_once(lambda at: tests.run(name, faults={"REFUSE_AT": at}), range(1, count + 1))
+        shown = [it for it in runs if line in it.out]
         report.holds(f"desk: {name}: some run shows it", shown != [])
-        report.holds(f"desk: {name}: and the call is answered then", all(it.status == 0 for it in shown), shown)
+        report.holds(f"desk: {name}: and the next pass answers", all(it.status == 0 for it in shown), shown)
         tried += count
     return f"{tried} allocations refused"
 
 
-PARTS = (refused_reserve, outstanding_calls)
+PARTS = (refused_reserve, refused_passes)

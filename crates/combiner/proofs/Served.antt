@@ -86,11 +86,11 @@ same_tried p q t s k = subst (λ z. IsTried z t) (sym s.2) (also t k)
     also tried.Answered k = k
     also tried.PutBack k = k
 
-pub not_goes : (p q : Holding) (row : ℕ) → q.desk ≡ p.desk → q.state.places ≡ p.state.places → NotGot p row q → Goes p q
+pub not_goes : (p q : Holding) (row : ℕ) → q.desk ≡ p.desk → q.state ≡ p.state → NotGot p row q → Goes p q
 not_goes p q row d s n = let k = n.knows in record {
   desk = d;
   object = n.object;
-  places = s;
+  places = ap (λ z. z.places) s;
   log = subst (λ l. StartsWith l p.log) (sym n.log) (starts_same p.log);
   seen = ap (λ z. z.seen) k;
   calls = keeps_same p.knows q.knows _ k (keeps_held p.knows);

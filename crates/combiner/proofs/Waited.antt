@@ -8,16 +8,16 @@ use Rattle.desk_model.proofs.Entries.{starts_longer, starts_same}
 use Rattle.desk_model.specs.declared.JournalEvent.TheVariants.{Invoked, Returned}
 use Rattle.desk_invariant.specs.declared.board.DeskView.{DeskView}
 use Rattle.desk_invariant.specs.declared.board.Own.TheVariants as own
-use Rattle.desk_invariant.specs.Views.{journal, own_request, seen_of, is_waiting, with_own, after_withdraw, after_perform, after_win, after_release}
+use Rattle.desk_invariant.specs.Views.{journal, own_request, seen_of, is_waiting, with_own, after_perform, after_win, after_release}
 use Rattle.publication.specs.declared.desk.Post.{Post}
 use Rattle.publication.specs.declared.desk.Post.TheVariants as post
 use Rattle.publication.specs.Handles.{DeskSeen, Known, Holding}
-use Rattle.publication.specs.Calls.{Posted, Performed, HasPosted, Finished, Polled, NotPolled, NotGot, CanDo, kind_in, MayPost, PostRefused}
+use Rattle.publication.specs.Calls.{Posted, Performed, Polled, NotPolled, MayPost, PostRefused}
 use Rattle.combiner.specs.declared.waiting.CallFault.{CallFault}
 use Rattle.combiner.specs.declared.waiting.CallFault.TheVariants as fault
-use Rattle.combiner.specs.Passes.{KeepsCalls, Goes, IsSameBut, HasTriedRows, IsReadyFor, HasCallOn}
+use Rattle.combiner.specs.Passes.{KeepsCalls, Goes}
 use Rattle.combiner.specs.Waits.{Called, Returns, IsLogged, IsOutstanding, Faulted}
-use Rattle.combiner.proofs.Served.{seen_on, keeps_on, keeps_same, keeps_held, keeps_unpolled, keeps_learnt, goes_on, goes_same, not_goes}
+use Rattle.combiner.proofs.Served.{seen_on, keeps_on, keeps_same, keeps_held, keeps_unpolled}
 
 pub returned : (v u w : DeskView) (a : AnyAnswer) → KeepsCalls v u → Polled u a w → Returns v a w
 returned v u w a k p =
@@ -110,64 +110,6 @@ called_at_once v x op a p q r w opened on begins kinds goes made is seen =
         later = subst (All (λ (e : AnyEntry). e.ticket < made.returned)) (sym seen') made.later;
       };
     }
-
--- The client ended its posted call itself: p is the pass that was opened, q the one before the end of the call, r the one after
--- it, and w the client after it was put back.
-pub returned_at_once : (v : DeskView) (x : ℕ) (a : AnyAnswer) (p q r : Holding) (w : DeskView) → p.knows ≡ after_win x p.log v
-    → p.knows.kinds ≡ p.desk.kinds → Goes p q → Finished q a r → w ≡ after_release r.object r.log r.knows → seen_of w r.object ≡ r.log → Returns v a w
-returned_at_once v x a p q r w opened kinds goes made is seen =
-    let k : KeepsCalls v q.knows = keeps_on v p.knows q.knows (keeps_same v p.knows _ opened (keeps_held v)) goes.calls in
-    let on : made.request.object ≡ r.object = made.on ∙ sym made.object in let seen' : seen_of w made.request.object ≡ r.log = ap (seen_of w) on ∙ seen in
-    let knows : w ≡ after_release r.object r.log (after_perform made.request a r.log made.returned (after_withdraw made.request q.knows)) = is ∙ ap (after_release r.object r.log) made.knows in record {
-      ticket = made.returned;
-      number = ap (λ z. z.number) knows ∙ k.number;
-      kinds = ap (λ z. z.kinds) knows ∙ k.kinds;
-      idle = ap (λ z. z.own) knows;
-      calls = ap (λ z. length z.done) knows ∙ (length-append q.knows.done _ ∙ ap (λ z. length z + 1) k.done);
-      journal = ap journal is ∙ (made.journal ∙ λ i. journal_of (k.done i) (own_request (k.own i)) ++ Returned made.returned a ∷ []);
-      request = made.request;
-      waited = sym k.own ∙ made.waited;
-      seen = λ y. starts_longer (seen_of w y) (seen_of r.knows y) (seen_of v y)
-          (subst (λ z. StartsWith (seen_of z y) (seen_of r.knows y)) (sym is)
-          (seen_on r.knows.seen r.object r.log (subst (λ z. StartsWith r.log (seen_of r.knows z)) (sym made.object) (subst (StartsWith r.log) (sym made.seen) (starts_same r.log))) y))
-          (starts_longer (seen_of r.knows y) (seen_of q.knows y) (seen_of v y)
-          (subst (λ z. StartsWith (seen_of z y) (seen_of q.knows y)) (sym made.knows)
-          (seen_on q.knows.seen made.request.object r.log (subst (λ z. StartsWith r.log (seen_of q.knows z)) (sym made.on) made.begins) y)) (k.seen y));
-      logged = record {
-        legal = subst (IsLegal (kind_at v.kinds made.request.object)) (sym seen')
-            (subst (λ (z : List Kind × ℕ). IsLegal (kind_at z.0 z.1) r.log) (λ i. ((ap (λ z. z.kinds) goes.desk ∙ (sym kinds ∙ ap (λ z. z.kinds) opened)) i, sym made.on i)) made.legal);
-        counted = ap (entries_of v.number) seen' ∙ (ap (λ z. entries_of z r.log) (sym k.number) ∙ (made.counted ∙ λ i. served (sym made.on i) (k.number i) (k.done i) ++ logged (k.number i) made.request a));
-        later = subst (All (λ (e : AnyEntry). e.ticket < made.returned)) (sym seen') made.later;
-      };
-    }
-
--- the client after its row had no request, and the pass was put back
-pub keeps_after : (c : Known) (x n : ℕ) (q r : Holding) (w : DeskView) → HasTriedRows c x q → NotGot q n r → r.desk ≡ q.desk
-    → r.state ≡ record q.state { room = r.state.room } → w ≡ after_release r.object r.log r.knows → KeepsCalls c.knows w
-keeps_after c x n q r w p missed same state is = let goes = not_goes q r n same (ap (λ z. z.places) state) missed in
-    keeps_learnt c.knows x p.won r w p.knows p.object p.begins (goes_on p.won q r p.goes goes) is
-
--- the same pass with other ages and another list
-pub passed_same : (c : Known) (x : ℕ) (q r : Holding) → HasTriedRows c x q → IsSameBut q r → HasTriedRows c x r
-passed_same c x q r p s = let g = goes_same q r s in record {
-  won = p.won;
-  object = p.object;
-  knows = p.knows;
-  kinds = p.kinds;
-  begins = p.begins;
-  goes = goes_on p.won q r p.goes g;
-  desk = g.desk ∙ p.desk;
-}
-
--- what the pass has posted, it can do
-pub has_posted : (c : Known) (x : ℕ) (op : AnyOp) (q r : Holding) → IsReadyFor c x op q → IsSameBut q r → HasCallOn x op c.knows → HasPosted r
-has_posted c x op q r k s h = let p = k.passed in
-    let own : q.knows.own ≡ own.Waiting h.0 = p.goes.calls.own ∙ (ap (λ z. z.own) p.knows ∙ h.1) in
-    subst HasPosted (sym s.2) (h.0, own, h.2 ∙ sym (p.goes.object ∙ p.object), subst (CanDo (kind_in q) q.log) (sym h.3) k.can)
-
--- the call that was posted is the one of this operation
-pub posted_on : (v u w : DeskView) (x : ℕ) (op : AnyOp) → Posted v x op u → w ≡ u → HasCallOn x op w
-posted_on v u w x op p is = (record { object = x; ticket = p.ticket; op = op }, ap (λ z. z.own) (is ∙ p.knows), refl, refl)
 
 -- the client saw more before the call
 pub called_before : (v u w : DeskView) (object : ℕ) (op : AnyOp) (a : AnyAnswer) → KeepsCalls v u → Called u object op a w → Called v object op a w

@@ -1,14 +1,12 @@
 -- What a pass over the rows does.
 use Rattle.std.specs.Prelude.{◌≡◌, ◌⊎◌, ℕ, true, List, ⊤}
-use Rattle.model.specs.declared.AnyOp.{AnyOp}
-use Rattle.model.specs.Objects.{kind_of}
 use Rattle.desk_model.specs.World.{AnyEntry, AnyRequest, kind_at, StartsWith}
 use Rattle.desk_invariant.specs.declared.board.Own.TheVariants as own
 use Rattle.desk_invariant.specs.declared.board.DeskView.{DeskView}
 use Rattle.desk_invariant.specs.Views.{seen_of, after_win, after_release}
 use Rattle.publication_list.specs.Calls.{WalkerSeen}
-use Rattle.publication.specs.Handles.{Known, Holding}
-use Rattle.publication.specs.Calls.{CanDo, kind_in}
+use Rattle.publication.specs.Handles.{Holding}
+use Rattle.publication.specs.Calls.{CanDo}
 use Rattle.combiner.specs.declared.passes.Combined.{Combined}
 use Rattle.combiner.specs.declared.passes.Combined.TheVariants as combined
 use Rattle.combiner.specs.declared.passes.Tried.{Tried}
@@ -52,27 +50,6 @@ pub record Goes (p q : Holding) : Type 0 where
   pub seen : q.knows.seen ≡ p.knows.seen
   pub calls : KeepsCalls p.knows q.knows
   pub ready : p.knows.ready ≡ true → q.knows.ready ≡ true
-
--- the client won the object x and tried its rows: q is its pass after that
-pub record HasTriedRows (c : Known) (x : ℕ) (q : Holding) : Type 0 where
-  pub won : Holding
-  pub object : won.object ≡ x
-  pub knows : won.knows ≡ after_win x won.log c.knows
-  pub kinds : won.knows.kinds ≡ won.desk.kinds
-  pub begins : StartsWith won.log (seen_of c.knows x)
-  pub goes : Goes won q
-  pub desk : q.desk ≡ c.desk
-
--- the client won the object and tried its rows, and the object can do the operation
-pub record IsReadyFor (c : Known) (x : ℕ) (op : AnyOp) (q : Holding) : Type 0 where
-  pub passed : HasTriedRows c x q
-  pub of_kind : kind_of op ≡ kind_in q
-  pub can : CanDo (kind_in q) q.log op
-
--- a call of this operation on the object x is outstanding
-abbrev pub HasCallOn : ℕ → AnyOp → DeskView → Type 0
-HasCallOn x op v =
-    (q : AnyRequest) × (v.own ≡ own.Waiting q) × (q.object ≡ x) × (q.op ≡ op)
 
 -- The own row was tried: its request for the object, if there is one, is known to be answered, or
 -- it was put back, since the object cannot do it now.

@@ -1,15 +1,14 @@
 //! One pass over the rows.
 
-ghost use Rattle.std.specs.Prelude.{◌≡◌, ◌<◌, ◌≤◌, length, IfSome, IfNone, IfOk, IfErr, ◌+◌};
+ghost use Rattle.std.specs.Prelude.{◌≡◌, ◌<◌, ◌≤◌, length, IfSome, IfNone, ◌+◌};
 ghost use Rattle.model.specs.Objects.{kind_of};
 ghost use Rattle.desk_model.specs.World.{kind_at};
 ghost use Rattle.desk_model.specs.Images.{answer_in};
 ghost use Rattle.desk_invariant.specs.Views.{after_miss};
 ghost use Rattle.publication.specs.Calls.{MayPost};
-ghost use Rattle.combiner.specs.Waits.{Called, Returns};
+ghost use Rattle.combiner.specs.Waits.{Called};
 ghost use Rattle.combiner.specs.Passes.{Goes, KeepsCalls, IsTried, IsSettled, IsSettledNow};
 ghost use Rattle.combiner.specs.Passes.{IsSameBut, HasLearnt, IfServed, IfBusy, IfNoMemory};
-ghost use Rattle.combiner.specs.Passes.{IsReadyFor, HasCallOn};
 ghost use Rattle.desk_model.specs.Limits.{max_clients};
 
 use publication::{Answer, Client, Desk, Pass, Picked, Win};
@@ -34,15 +33,6 @@ enum Tried {
     Answered,
     /// The object cannot do the operation now.
     PutBack,
-}
-
-/// Why a client did not make its own call in a pass.
-#[derive(Clone, Copy)]
-pub(crate) enum Unmade {
-    /// The object was held, or cannot do the operation now; or the call was answered before.
-    NotNow,
-    /// Memory for the log was refused.
-    NoMemory,
 }
 
 /// A pass whose number is a multiple of this cleans up.
@@ -106,78 +96,23 @@ pub(crate) fn try_at_once<S: SeqObject>(
         (λ a. Called client.knows object (S.op_in op) (answer_in S.reply_in a) result.0.knows) }
     ensures not { IfNone result.1 (KeepsCalls client.knows result.0.knows) }
 {
-    let mut held = match win_for(desk, client, object, &op) {
-        Ok(held) => held,
-        Err((client, _)) => return (client, None),
-    };
-    let answer = held.perform(desk, op);
-    (held.release(desk), Some(answer))
-}
-
-/// The same for a call that the client has posted: it takes its request back out of its own row,
-/// and serves it last. Err: the call is outstanding.
-pub(crate) fn try_posted<S: SeqObject>(
-    desk: &Desk<S>,
-    client: Client<S>,
-    object: u32,
-    op: S::Op,
-) -> (Client<S>, Result<Answer<S::Reply>, Unmade>)
-    requires desk { client.desk ≡ desk.now.id }
-    requires posted { HasCallOn object (S.op_in op) client.knows }
-    requires there { (object < length desk.now.id.kinds)
-        × (kind_of (S.op_in op) ≡ kind_at desk.now.id.kinds object) }
-    ensures desk { result.0.desk ≡ client.desk }
-    ensures over { IfOk result.1
-        (λ a. Returns client.knows (answer_in S.reply_in a) result.0.knows) }
-    ensures not { IfErr result.1 (λ _. KeepsCalls client.knows result.0.knows) }
-{
-    let mut held = match win_for(desk, client, object, &op) {
-        Ok(held) => held,
-        Err((client, unmade)) => return (client, Err(unmade)),
-    };
-    let own = held.number();
-    held.set_age(own);
-    let answer = held.perform_posted(desk);
-    let client = held.release(desk);
-    match answer {
-        Some(answer) => (client, Ok(answer)),
-        None => (client, Err(Unmade::NotNow)),
-    }
-}
-
-// Tries to win the object for a call of the client's own. If it is won, and the log has room for a
-// call of each client, serves each row of the publication list but the own one. Then the object can
-// do the operation, or the client holds nothing.
-#[inline(always)]
-fn win_for<S: SeqObject>(
-    desk: &Desk<S>,
-    client: Client<S>,
-    object: u32,
-    op: &S::Op,
-) -> Result<Pass<S>, (Client<S>, Unmade)>
-    requires desk { client.desk ≡ desk.now.id }
-    requires there { (object < length desk.now.id.kinds)
-        × (kind_of (S.op_in op.now) ≡ kind_at desk.now.id.kinds object) }
-    ensures ok { IfOk result (IsReadyFor client object (S.op_in op.now)) }
-    ensures err { IfErr result
-        (λ e. (e.0.desk ≡ client.desk) × KeepsCalls client.knows e.0.knows) }
-{
     let mut held = match desk.win(client, object) {
-        Win::Held(client) => return Err((client, Unmade::NotNow)),
+        Win::Held(client) => return (client, None),
         Win::Won(held) => held,
     };
     let pass = held.count_pass();
     if held.reserve(desk.clients() as usize).is_err() {
-        return Err((held.release(desk), Unmade::NoMemory));
+        return (held.release(desk), None);
     }
     let own = held.number();
     walk(&mut held);
     let (mut held, _) = serve_others(desk, held, own);
     clean(&mut held, pass);
-    if !held.possible(op) {
-        return Err((held.release(desk), Unmade::NotNow));
+    if !held.possible(&op) {
+        return (held.release(desk), None);
     }
-    Ok(held)
+    let answer = held.perform(desk, op);
+    (held.release(desk), Some(answer))
 }
 
 // Serves the own row, the others, and the own one again if its request was put back. Answers how

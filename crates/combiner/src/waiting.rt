@@ -6,7 +6,7 @@ ghost use Rattle.desk_model.specs.Images.{answer_in};
 ghost use Rattle.combiner.specs.Passes.{KeepsCalls};
 ghost use Rattle.combiner.specs.Waits.{Called, Returns, Faulted};
 
-use crate::passes::{Combined, Unmade, combine, try_at_once, try_posted};
+use crate::passes::{Combined, combine, try_at_once};
 use crossbeam_utils::Backoff;
 use publication::{Answer, Client, Desk, Post};
 use seq_objects::SeqObject;
@@ -23,10 +23,8 @@ pub enum CallFault {
     NoMemory,
 }
 
-/// Makes a call: posts it, enlists the row, and tries to win the object. A client that wins it
-/// serves the other listed rows, and then takes its own request back out of its row and serves it.
-/// Otherwise it yields, and then polls, enlists the row and combines, with a yield between tries,
-/// until the call is answered.
+/// Makes a call: posts it, and then polls, enlists the row and combines, with a yield between
+/// tries, until it is answered.
 pub fn call<S: SeqObject, R: Wait>(
     rt: &R,
     desk: &Desk<S>,
@@ -36,7 +34,7 @@ pub fn call<S: SeqObject, R: Wait>(
 ) -> (Client<S>, Result<Answer<S::Reply>, CallFault>)
     requires { client.desk ≡ desk.now.id }
     ensures desk { result.0.desk ≡ client.desk }
-    // The call is over, and this is its answer.
+    // The call is over, and what `poll` answered is its answer.
     ensures answered { IfOk result.1
         (λ a. Called client.knows object (S.op_in op) (answer_in S.reply_in a) result.0.knows) }
     ensures fault { IfErr result.1 (λ e. Faulted desk.now client object (S.op_in op) e result.0) }
@@ -45,19 +43,10 @@ pub fn call<S: SeqObject, R: Wait>(
     if let Err(fault) = desk.post(&mut client, object, op) {
         return (client, Err(CallFault::Post(fault)));
     }
-    desk.enlist(&mut client, object);
-    let (client, answer) = try_posted(desk, client, object, op);
-    match answer {
+    let (client, answered) = wait_for(rt, desk, client, object);
+    match answered {
         Ok(answer) => (client, Ok(answer)),
-        Err(Unmade::NoMemory) => (client, Err(CallFault::NoMemory)),
-        Err(Unmade::NotNow) => {
-            Backoff::new().snooze();
-            let (client, answered) = wait_for(rt, desk, client, object);
-            match answered {
-                Ok(answer) => (client, Ok(answer)),
-                Err(_) => (client, Err(CallFault::NoMemory)),
-            }
-        }
+        Err(_) => (client, Err(CallFault::NoMemory)),
     }
 }
 

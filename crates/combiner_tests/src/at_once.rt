@@ -21,12 +21,12 @@ yes: 3 operations, 1 objects
 mutex: 1 objects, 3 operations
 ";
 
-// Client 1 posts its call after client 0, wins the object, and serves its own request last.
-const OWN_LAST: &str = "{:process 0, :type :invoke, :f :enqueue, :value 1, :object 0}
+// Client 0 waits with an enqueue in its row, and client 1 calls: its own row comes first.
+const OWN_FIRST: &str = "{:process 0, :type :invoke, :f :enqueue, :value 1, :object 0}
 {:process 1, :type :invoke, :f :enqueue, :value 2, :object 0}
 {:process 1, :type :ok, :f :enqueue, :value 2, :object 0}
 {:process 0, :type :ok, :f :enqueue, :value 1, :object 0}
-{:object 0, :order [0 1]}
+{:object 0, :order [1 0]}
 yes: 2 operations, 1 objects
 queue: 1 objects, 2 operations
 ";
@@ -86,7 +86,7 @@ pub(crate) const PLAYS: [Play; 4] = [
         end: Some((0, SERVED_FIRST)),
     },
     Play {
-        name: "listed rows are served before a posted call",
+        name: "the own row of a call is served before the listed rows",
         setup: Setup {
             kinds: (Kind::Queue, None),
             left: None,
@@ -100,6 +100,6 @@ pub(crate) const PLAYS: [Play; 4] = [
             (0, Polls(Value(1))),
             (1, Retires),
         ],
-        end: Some((0, OWN_LAST)),
+        end: Some((0, OWN_FIRST)),
     },
 ];

@@ -1,6 +1,6 @@
 //! Passes and calls on one object: which rows are served, in which order, and what is answered.
 
-ghost use Rattle.std.specs.Prelude.{◌≡◌};
+ghost use Rattle.std.specs.Prelude.{◌≡◌, ◌<◌, length};
 
 use crate::bench::{Bench, Setup};
 use crate::refusing::Refusing;
@@ -8,13 +8,13 @@ use crate::steps::Got::{Nil, Nothing, Value};
 use crate::steps::Step::{
     Combines, Enlists, HoldsAgainst, IsRefused, Polls, Posts, Retires, Serves,
 };
-use crate::steps::{Got, Play};
-use combiner::call;
-use publication::{Client, Desk, Enlist, Post};
+use crate::steps::{Got, Play, serve_row};
+use combiner::{Combined, call, combine};
+use publication::{Client, Desk, Enlist, Pass, Post, Win};
 use seq_objects::{AnyOp, Kind};
 use std::sync::Wait;
 use std::test::Fail;
-use std::thread::{Threads, join};
+use std::thread::{Threads, join, yield_now};
 
 const SECOND_FIRST: &str = "{:process 0, :type :invoke, :f :enqueue, :value 1, :object 0}
 {:process 1, :type :invoke, :f :enqueue, :value 2, :object 0}
@@ -87,6 +87,112 @@ fn two_threads_are_answered(rt: HostRuntime) -> Result<(), Fail> {
         let crossed = zero == (Value(1), Value(2)) && one == (Value(2), Value(1));
         assert!(rt; own || crossed);
     }
+    Ok(())
+}
+
+// Tries row 0 until it has answered a request there.
+fn serve_when_posted<R: Wait>(rt: &R, desk: &Desk<Refusing>, pass: Pass<Refusing>) -> Pass<Refusing>
+    requires { pass.desk ≡ desk.now.id }
+    ensures { result.desk ≡ pass.desk }
+{
+    let mut pass = pass;
+    for _ in rt.forever() {
+        let (after, served) = serve_row(desk, pass, 0);
+        pass = after;
+        if served {
+            return pass;
+        }
+        yield_now();
+    }
+    unreachable!()
+}
+
+// Wins object 0, and holds it until it has answered two requests in row 0.
+fn serve_two_calls<R: Wait>(rt: &R, desk: &Desk<Refusing>, client: Client<Refusing>)
+    requires client { client.desk ≡ desk.now.id }
+    requires object { 0 < length desk.now.id.kinds }
+{
+    let mut client = client;
+    for _ in rt.forever() {
+        match desk.win(client, 0) {
+            Win::Held(after) => client = after,
+            Win::Won(pass) => {
+                let pass = serve_when_posted(rt, desk, pass);
+                serve_when_posted(rt, desk, pass).release(desk);
+                return;
+            }
+        }
+        yield_now();
+    }
+}
+
+// Combines until object 0 is held by another client.
+fn wait_until_held<R: Wait>(
+    rt: &R,
+    desk: &Desk<Refusing>,
+    client: Client<Refusing>,
+) -> Client<Refusing>
+    requires client { client.desk ≡ desk.now.id }
+    requires object { 0 < length desk.now.id.kinds }
+    ensures { result.desk ≡ client.desk }
+{
+    let mut client = client;
+    for _ in rt.forever() {
+        let (after, combined) = combine(desk, client, 0);
+        client = after;
+        if combined == Combined::Busy {
+            return client;
+        }
+        yield_now();
+    }
+    unreachable!()
+}
+
+// What a call comes to that is made while object 0 is held. Once it is over, another one is posted.
+fn call_and_post<R: Wait>(rt: &R, desk: &Desk<Refusing>, client: Client<Refusing>, op: AnyOp) -> Got
+    requires client { client.desk ≡ desk.now.id }
+    requires object { 0 < length desk.now.id.kinds }
+{
+    let client = wait_until_held(rt, desk, client);
+    let (mut client, called) = call(rt, desk, client, 0, op);
+    let _ = desk.post(&mut client, 0, op);
+    Got::of(called.ok())
+}
+
+impl Bench {
+    // What a call of client 0 comes to, while client 1 holds the object until that call is over.
+    fn call_on_held<R: Threads + Wait + Sync>(&mut self, rt: &R, op: AnyOp) -> Result<Got, Fail> {
+        let (Some(zero), Some(one)) = (self.take(0), self.take(1)) else {
+            return Err(Fail::new("a client is not there"));
+        };
+        let desk = &self.desk;
+        if desk.objects() == 0 {
+            return Err(Fail::new("there is no object"));
+        }
+        let (got, ()) = join(
+            rt,
+            || call_and_post(rt, desk, zero, op),
+            || serve_two_calls(rt, desk, one),
+        );
+        Ok(got)
+    }
+}
+
+// Client 1 holds the object until client 0 has posted its second call. So the first one is over
+// before: its answer came by a poll, and not by a pass of its own.
+#[test]
+fn a_call_polls(rt: HostRuntime) -> Result<(), Fail> {
+    let mut bench = Bench::new(
+        rt.alloc(),
+        &Setup {
+            kinds: (Kind::Queue, None),
+            left: None,
+            clients: 2,
+            quota: 2,
+        },
+    )?;
+    let got = bench.call_on_held(&rt, AnyOp::Enqueue(3))?;
+    assert!(rt; got == Value(3));
     Ok(())
 }
 

@@ -86,8 +86,12 @@ pub(crate) enum Step {
 /// The number of a client, and a step of it.
 pub(crate) type Turn = (u64, Step);
 
-// Answers the row's request, if there is one.
-fn serve_row(desk: &Desk<Refusing>, pass: Pass<Refusing>, row: u32) -> (Pass<Refusing>, bool)
+/// Answers the row's request, if there is one.
+pub(crate) fn serve_row(
+    desk: &Desk<Refusing>,
+    pass: Pass<Refusing>,
+    row: u32,
+) -> (Pass<Refusing>, bool)
     requires desk { pass.desk ≡ desk.now.id }
     ensures { result.0.desk ≡ pass.desk }
 {

@@ -40,7 +40,7 @@ use Rattle.desk_invariant.proofs.Seats.{Later, row_leaves, alike, kept_after, lo
 use Rattle.desk_invariant.proofs.Ties.{tied_row}
 use Rattle.desk_invariant.proofs.Locks.{held_log, held_object}
 
-pub is_posted : (t : Stage) (x : ℕ) → x < 16 → row_word t ≡ 1 + x → (q : AnyRequest) × (t ≡ posted q) × (q.object ≡ x)
+is_posted : (t : Stage) (x : ℕ) → x < 16 → row_word t ≡ 1 + x → (q : AnyRequest) × (t ≡ posted q) × (q.object ≡ x)
 is_posted absent x small e = absurd (omega arith)
 is_posted idle x small e = absurd (omega arith)
 is_posted (drawn q) x small e = absurd (omega arith)
@@ -58,7 +58,7 @@ waits_request q t e = ⊎_elim (λ (a : t ≡ posted q). ap request_of a)
     (λ (b : (t ≡ picked q) ⊎ ((a : AnyAnswer) × (t ≡ answered q a))). ⊎_elim (λ (c : t ≡ picked q). ap request_of c) (λ (c : (a : AnyAnswer) × (t ≡ answered q a)). ap request_of c.1) b) e
 
 -- the own call that is posted is the one that waits
-pub own_posted : (p q : AnyRequest) (o : Own) (t : Stage) → OwnOk o t → o ≡ own.Waiting p → t ≡ posted q → q ≡ p
+own_posted : (p q : AnyRequest) (o : Own) (t : Stage) → OwnOk o t → o ≡ own.Waiting p → t ≡ posted q → q ≡ p
 own_posted p q o t ok mine at = let e : Some q ≡ Some p = sym (ap request_of at) ∙ waits_request p t (subst (λ z. OwnOk z t) mine ok) in cc
 
 -- what no waiting call's stage is
@@ -103,7 +103,7 @@ later_row w x r c d q t h logs from to never grow keep apart unposted holds othe
 }
 
 -- the request that was put back is in its row, and its object is held
-abbrev pub InRow : (ℕ → Stage) → (ℕ → Option ℕ) → ℕ → PutBack → Type 0
+abbrev InRow : (ℕ → Stage) → (ℕ → Option ℕ) → ℕ → PutBack → Type 0
 InRow stage holder c b = (stage b.row ≡ posted b.request) × (holder b.request.object ≡ Some c)
 
 -- a row that was not posted is none of these
@@ -111,7 +111,7 @@ rows_stay : (w : World) (c r : ℕ) (t : Stage) (bs : List PutBack) → ((p : An
 rows_stay w c r t bs never h i d l = let b = h i d l in let p = get_or bs i d in (changed_else w.stage r t p.row (λ same. never p.request (ap w.stage (sym same) ∙ b.0)) ∙ b.0, b.1)
 
 -- the rows other than r
-pub other_rows : (w : World) (c r : ℕ) (t : Stage) (bs : List PutBack) → All (InRow w.stage w.holder c) bs → All (InRow (changed w.stage r t) w.holder c) (filter (λ b. not (eqb b.row r)) bs)
+other_rows : (w : World) (c r : ℕ) (t : Stage) (bs : List PutBack) → All (InRow w.stage w.holder c) bs → All (InRow (changed w.stage r t) w.holder c) (filter (λ b. not (eqb b.row r)) bs)
 other_rows w c r t [] h = All-nil (InRow (changed w.stage r t) w.holder c)
 other_rows w c r t (b ∷ bs) h =
     let rest = other_rows w c r t bs (All-tail (InRow w.stage w.holder c) b bs h) in let first = All-head (InRow w.stage w.holder c) b bs h in
@@ -154,7 +154,7 @@ noted kinds quota c x w (own.Waiting q) k free miss e ok = let at : q.object ≡
     (λ (d : (a : AnyAnswer) × (w.stage c ≡ answered q a)). (q, d.0, d.1)) b) ok
 noted kinds quota c x w (own.Taken q a) k free miss e ok = absurd (cc)
 
-pub noting_ok : (kinds : List Kind) (quota c x r : ℕ) (w : World) (v : DeskView) (l : List AnyEntry) → v.held ≡ held.Pass x l → Sound kinds quota w
+noting_ok : (kinds : List Kind) (quota c x r : ℕ) (w : World) (v : DeskView) (l : List AnyEntry) → v.held ≡ held.Pass x l → Sound kinds quota w
     → row_word (w.stage r) ≢ 1 + x → SeatOk kinds w c v → SeatOk kinds w c (after_row_miss (row_place r) x v)
 noting_ok kinds quota c x r w v l pass k miss ok =
     let free = (subst (HeldOk (length kinds) w c) pass ok.held).2 in let own_row : Bool = eqb (row_place r) (row_place v.number) in let number = ok.number in
@@ -176,7 +176,7 @@ module _ {S O R : Type 0} (content : S → Content) (op_in : O → AnyOp) (reply
   held_request d o = d
 
   -- what a miss at the row r tells
-  pub row_missed : (c x x' r r' : ℕ) (w : World) (m : Me (Slot S O R) DeskView) (l l' : List AnyEntry) → m.0.held ≡ held.Pass x l
+  row_missed : (c x x' r r' : ℕ) (w : World) (m : Me (Slot S O R) DeskView) (l l' : List AnyEntry) → m.0.held ≡ held.Pass x l
       → m.0.held ≡ held.Pass x' l' → r ≡ r' → row_word (w.stage r) ≢ 1 + x → SeatOk kinds w c m.0
       → (◌≡◌ {A = Me (Slot S O R) DeskView} (after_row_miss (row_place r) x m.0, m.1) (after_row_miss (row_place r) x' m.0, m.1)) × All (λ b. b.row ≢ r') m.0.back
   row_missed c x x' r r' w m l l' pass pass' er miss ok = let h = subst (HeldOk (length kinds) w c) pass ok.held in (

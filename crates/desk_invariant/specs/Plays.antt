@@ -19,8 +19,7 @@ use Rattle.desk_model.specs.World.{served, IsLegal, StartsWith}
 use Rattle.desk_model.specs.Images.{request_in, answer_in}
 use Rattle.desk_invariant.specs.Views.{row_place, end_place, seen_of, received_of, after_miss}
 use Rattle.desk_invariant.specs.Views.{after_row_miss, after_win, after_pick, after_put_back}
-use Rattle.desk_invariant.specs.Views.{after_withdraw, after_answer, IsAccount, after_release}
-use Rattle.desk_invariant.specs.Views.{with_own, after_take}
+use Rattle.desk_invariant.specs.Views.{after_answer, IsAccount, after_release, with_own, after_take}
 use Rattle.desk_invariant.specs.Views.{after_return, after_perform, after_meet, after_end}
 use Rattle.desk_invariant.specs.Views.{after_end_seen, after_end_unset}
 use Rattle.desk_invariant.specs.Rule.{Fits}
@@ -99,23 +98,6 @@ module _ {S O R : Type 0} (content : S → Content) (op_in : O → AnyOp) (reply
         ×
         (found ≢ 1 + x → (after ≡ (after_row_miss step.word x (known before), taken_slots before))
         × All (λ b. b.row ≢ r) (known before).back)
-
-    -- The own request, for the object in hand, came back out of the own row. Or it was not there,
-    -- a miss, and none was put back there
-    abbrev pub withdraws : Step (Slot S O R) → Hands → ℕ → Hands → Type 0
-    withdraws step before found after =
-        (l : List AnyEntry) (q : AnyRequest) → (known before).held ≡ held.Pass q.object l
-        → (known before).own ≡ own.Waiting q → step.word ≡ row_place (known before).number →
-        (found ≡ 1 + q.object
-        → (p : Request O) × (request_in op_in p ≡ q)
-        × (after ≡ (
-          after_withdraw q (known before),
-          (call_slot (known before).number, slot.Request p) ∷ taken_slots before,
-        )))
-        ×
-        (found ≢ 1 + q.object
-        → (after ≡ (after_row_miss step.word q.object (known before), taken_slots before))
-        × All (λ b. b.row ≢ (known before).number) (known before).back)
 
     -- the answer in hand went into the row, and the log has grown by what it says
     abbrev pub answers : Step (Slot S O R) → Hands → ℕ → Hands → Type 0

@@ -168,11 +168,6 @@ abbrev pub after_put_back : ℕ → List AnyEntry → ℕ → AnyRequest → Des
 after_put_back x l r q v =
     record v { held = held.Pass x l; back = v.back ++ record { row = r; request = q } ∷ [] }
 
--- the own request q, which was posted, is out of the own row again
-abbrev pub after_withdraw : AnyRequest → DeskView → DeskView
-after_withdraw q v =
-    record v { own = own.Drawn q; back = filter (λ b. not (b.row == v.number)) v.back }
-
 -- the row r is answered, and the object x has this log
 abbrev pub after_answer : ℕ → ℕ → List AnyEntry → DeskView → DeskView
 after_answer r x l v = record v { held = held.Pass x l; ready = v.ready || (r == v.number) }

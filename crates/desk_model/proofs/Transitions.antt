@@ -2,8 +2,8 @@
 use Rattle.std.proofs.Common.{◌≡◌, ℕ, ◌<◌, List, Some, None, refl, sym, ap, subst, ◌∙◌}
 use Rattle.model.specs.declared.Kind.{Kind}
 use Rattle.model.specs.Objects.{empty}
-use Rattle.desk_model.specs.World.{AnyRequest, drawn, posted, picked, taken, World, kind_at, served_now, request_of}
-use Rattle.desk_model.specs.Transitions.{Step, draw_call, draw_return, post, win, pick, answer, put_back, withdraw, take, release, end, Takes, Transition}
+use Rattle.desk_model.specs.World.{AnyRequest, posted, picked, taken, World, kind_at, served_now, request_of}
+use Rattle.desk_model.specs.Transitions.{Step, draw_call, draw_return, post, win, pick, answer, put_back, take, release, end, Takes, Transition}
 use Rattle.desk_model.specs.Sound.{Sound}
 use Rattle.desk_model.proofs.Entries.{replays_more}
 use Rattle.desk_model.proofs.Effects.{sound_held, sound_ended, sound_staged, sound_called, sound_returned, sound_picked, sound_put_back, sound_served}
@@ -33,9 +33,6 @@ module _ (kinds : List Kind) (quota : ℕ) where
       let h = t.in_hand in
       subst S (sym t.after)
       (sound_put_back kinds quota w t.object t.row c t.request h.2 (on_object w t.object t.row t.request h.1 h.2 k) h.0 h.1 k)
-  takes_sound withdraw w w' c low t k =
-      subst S (sym t.after) (sound_staged kinds quota w c (drawn t.request) (λ r e. let g = sym t.was ∙ e in absurd (cc)) (λ r e. absurd (cc))
-      (ap request_of (sym t.was)) (λ e. absurd (cc)) (λ y. ap (served_now y c) (sym t.was)) k)
   takes_sound take w w' c low t k =
       subst S (sym t.after) (sound_staged kinds quota w c (taken t.request t.given) (λ r e. let g = sym t.was ∙ e in absurd (cc)) (λ r e. absurd (cc))
       (ap request_of (sym t.was)) (λ e. absurd (cc)) (λ y. ap (served_now y c) (sym t.was)) k)

@@ -1,6 +1,5 @@
 -- The transitions of the world: one step of one client, where it is possible, and what it changes.
--- Hendler, Incze, Shavit, Tzafrir, SPAA 2010, section 2, step by step; put back and withdraw are
--- this project's.
+-- Hendler, Incze, Shavit, Tzafrir, SPAA 2010, section 2, step by step; put back is this project's.
 use Rattle.std.specs.Prelude.{◌≡◌, ◌≢◌, ℕ, ◌+◌, ◌<◌, ◌==◌, true, false, List, [], ◌∷◌, ◌++◌, length}
 use Rattle.std.specs.Prelude.{Option, Some, None, IsSome, if◌then◌else◌}
 use Rattle.model.specs.declared.Kind.{Kind}
@@ -49,7 +48,6 @@ pub data Step : Type 0 where
   pick : ℕ → Step
   answer : Step
   put_back : Step
-  withdraw : Step
   take : Step
   release : Step
   end : Step
@@ -135,16 +133,6 @@ module _ (kinds : List Kind) (quota : ℕ) where
     pub impossible : next content request.op ≡ None
     pub after : w' ≡ handed w object None row (posted request)
 
-  -- A holder with a free hand takes its own request for its object back out of its row, and has it
-  -- as before it was posted: it can serve it without the row. Only the holder of an object picks up
-  -- requests for it, so no other client had this one.
-  pub record Withdraws (w : World) (c : ℕ) (w' : World) : Type 0 where
-    pub request : AnyRequest
-    pub held : w.holder request.object ≡ Some c
-    pub free : w.hand request.object ≡ None
-    pub was : w.stage c ≡ posted request
-    pub after : w' ≡ staged w c (drawn request)
-
   -- the client takes the answer out of its row
   pub record TakesAnswer (w : World) (c : ℕ) (w' : World) : Type 0 where
     pub request : AnyRequest
@@ -174,7 +162,6 @@ module _ (kinds : List Kind) (quota : ℕ) where
   Takes (pick r) = Picks r
   Takes answer = Answers
   Takes put_back = PutsBack
-  Takes withdraw = Withdraws
   Takes take = TakesAnswer
   Takes release = Releases
   Takes end = Ends

@@ -1,6 +1,6 @@
 -- Where a value surely is not in an object before some number, an order is valid without what was done with it before.
 use Rattle.std.proofs.Common.{◌≡◌, ◌≢◌, ◌⊎◌, inl, inr, ℕ, ℤ, pos, ◌<◌, ◌≤◌, ◌+◌, nat_lt, Bool, true, false, not, ◌&&◌, ◌||◌, cond, List, [], ◌∷◌, ◌++◌}
-use Rattle.std.proofs.Common.{Option, Some, None, All, AllPairs, Contains, IfSome, IsSome, length, map, filter, count_by, refl, ap, sym, ◌∙◌, subst, arith}
+use Rattle.std.proofs.Common.{Option, Some, None, AllPairs, Contains, IfSome, IsSome, length, map, filter, refl, ap, sym, ◌∙◌, subst, arith}
 use Rattle.std.proofs.lemmas.Bool.Decides.{nat_tests}
 use Rattle.std.specs.Ordering.{int_cmp, int_eq}
 use Rattle.std.specs.FinMap as table_of
@@ -14,7 +14,7 @@ use Rattle.model.specs.Objects.{Content, queue, stack, heap, register, table, mu
 use Rattle.model.specs.Orders.{Call, Return, ReturnsBefore, RepliesAlong, IsValidOrder}
 use Rattle.model.proofs.Lists.{In, Pairs, in_filter, in_filter_passes, in_filter_from, filter_all, pairs_filter, in_from_contains, contains_from_in, all_from_in, all_at}
 use Rattle.model.proofs.Lists.{all_from_pairs, pairs_from_all, pairs_map, pairs_from_map, pairs_weaker}
-use Rattle.projection.specs.Parts.{reply_of, puts_in, is_taking, takes_out, ended_before}
+use Rattle.projection.specs.Parts.{reply_of, puts_in, takes_out, ended_before}
 use Rattle.projection.specs.Absent.{is_put_before, is_taken_before, IsAbsent, calls_without}
 use Rattle.projection.proofs.Conserved.{one, tally, count_tally, kept_size, size_empty, size_cons, turn, Turn, count_among}
 use Rattle.projection.proofs.Contents.{IsRising, filter_in, filter_out, behind_in, behind_out, with_value_in, with_value_out, rising_with_value}

@@ -1,5 +1,5 @@
 -- The operations without what was done early with a value that is absent.
-use Rattle.std.proofs.Common.{◌≡◌, ℕ, ℤ, ◌≤◌, nat_le, nat_lt, Bool, true, false, not, ◌&&◌, ◌||◌, cond, List, Option, Some, None, count_by, filter, refl, ap, sym, ◌∙◌, subst, arith}
+use Rattle.std.proofs.Common.{◌≡◌, ℕ, ℤ, ◌≤◌, nat_le, nat_lt, Bool, true, false, not, ◌&&◌, ◌||◌, cond, List, Some, None, count_by, filter, refl, ap, sym, ◌∙◌, subst, arith}
 use Rattle.std.proofs.lemmas.Option.{same_Some}
 use Rattle.std.proofs.lemmas.Bool.Decides.{nat_tests}
 use Rattle.std.specs.Ordering.{int_eq}
@@ -10,7 +10,7 @@ use Rattle.events.specs.declared.operations.Invocation.{Invocation}
 use Rattle.events.specs.Operations.{call_with, call_of, calls_of, ObjectCalls, IsObjectHistory}
 use Rattle.projection.specs.Absent.{is_put_before, is_taken_before, IsAbsent, calls_without}
 use Rattle.projection.specs.Cuts.{IsPart}
-use Rattle.projection.specs.Parts.{puts_in, is_taking, takes_out}
+use Rattle.projection.specs.Parts.{puts_in, is_taking}
 use Rattle.projection.specs.Pieces.{has_failed, is_put_before_end, is_taken_before_end, is_early, is_late}
 use Rattle.projection.proofs.Absences.{without_valid}
 use Rattle.projection.proofs.Bounds.{passes, count_calls}

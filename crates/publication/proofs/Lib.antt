@@ -3,7 +3,6 @@ pub mod Holds
 pub mod Said
 pub mod Turns
 pub mod Performing
-pub mod Finishing
 pub mod Encounters
 pub mod Growing
 pub mod NewClients

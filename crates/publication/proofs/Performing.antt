@@ -56,7 +56,7 @@ module _ {S O R : Type 0} (content : S → Content) (op_in : O → AnyOp) (reply
   M = Me (Slot S O R) DeskView
 
   -- what a step of the clock tells does not hang on these
-  abbrev pub any_step : Step (Slot S O R)
+  abbrev any_step : Step (Slot S O R)
   any_step = step 0 0 0 0 none
 
   -- the slots of the client, after that of its own row

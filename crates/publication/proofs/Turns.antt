@@ -71,7 +71,7 @@ module _ {O R : Type 0} (op_in : O → AnyOp) (reply_in : R → AnyReply) where
       let calls' : calls_made v.done (own_request v.own) ≡ calls_made v.done None = ap (λ o. calls_made v.done (own_request o)) is in omega arith
 
   -- a journal after one event more
-  pub journal_grows : (j j' : Journal O R) (e : JournalEvent O R) (l : List AnyEvent) → map (event_in op_in reply_in) j.events.items ≡ l
+  journal_grows : (j j' : Journal O R) (e : JournalEvent O R) (l : List AnyEvent) → map (event_in op_in reply_in) j.events.items ≡ l
       → j'.events.items ≡ j.events.items ++ e ∷ [] → map (event_in op_in reply_in) j'.events.items ≡ l ++ event_in op_in reply_in e ∷ []
   journal_grows j j' e l is more = ap (map (event_in op_in reply_in)) more ∙ (map-append (event_in op_in reply_in) j.events.items (e ∷ []) ∙ ap (λ z. z ++ event_in op_in reply_in e ∷ []) is)
 

@@ -13,7 +13,6 @@ use Rattle.desk_invariant.specs.declared.board.DeskView.{DeskView}
 use Rattle.desk_invariant.specs.Views.{row_place, seen_of, own_request, journal, is_waiting}
 use Rattle.desk_invariant.specs.Views.{after_miss, after_row_miss, after_win, after_pick}
 use Rattle.desk_invariant.specs.Views.{after_put_back, after_answer, with_own, after_take}
-use Rattle.desk_invariant.specs.Views.{after_withdraw}
 use Rattle.desk_invariant.specs.Views.{after_return, after_perform, after_meet, after_end_unset}
 use Rattle.desk_invariant.specs.Views.{IsAccount}
 use Rattle.desk_model.specs.Images.{entry_in, event_in}
@@ -152,35 +151,6 @@ pub record Performed (p : Holding) (op : AnyOp) (a : AnyAnswer) (r : Holding) : 
   pub later : All (λ e. e.ticket < returned) r.log
   pub journal : journal r.knows
       ≡ journal p.knows ++ Invoked request.ticket p.object op ∷ Returned returned a ∷ []
-
--- a call of the client on the object that it holds is outstanding, and the object can do it after
--- the log
-abbrev pub HasPosted : Holding → Type 0
-HasPosted p =
-    (q : AnyRequest) × (p.knows.own ≡ own.Waiting q) × (q.object ≡ p.object)
-    × CanDo (kind_in p) p.log q.op
-
--- The outstanding call of the client, on the object that it holds, is over, with this answer: its
--- request came back out of its row, and its return is the last event of the journal. The log has
--- one entry more, with the client, the ticket and the operation of the request and the reply, or
--- none where memory was refused. It is legal, was seen, begins with all that was seen before, and
--- holds of the client's own calls those before and this one; the ticket of the return is greater
--- than each in it.
-pub record Finished (p : Holding) (a : AnyAnswer) (r : Holding) : Type 0 where
-  pub request : AnyRequest
-  pub returned : ℕ
-  pub waited : p.knows.own ≡ own.Waiting request
-  pub on : request.object ≡ p.object
-  pub object : r.object ≡ p.object
-  pub log : r.log ≡ p.log ++ logged p.knows.number request a
-  pub knows : r.knows ≡ after_perform request a r.log returned (after_withdraw request p.knows)
-  pub seen : seen_of r.knows p.object ≡ r.log
-  pub legal : IsLegal (kind_in p) r.log
-  pub begins : StartsWith r.log (seen_of p.knows p.object)
-  pub counted : entries_of p.knows.number r.log
-      ≡ served p.object p.knows.number p.knows.done ++ logged p.knows.number request a
-  pub later : All (λ e. e.ticket < returned) r.log
-  pub journal : journal r.knows ≡ journal p.knows ++ Returned returned a ∷ []
 
 -- the request in hand is back in its row, and nothing else changed
 pub record IsPutBack (h : Handling) (p : Holding) : Type 0 where

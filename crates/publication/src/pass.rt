@@ -1,22 +1,20 @@
 //! Serving the rows of an object that is held.
 
 ghost use Rattle.std.specs.Prelude.{◌≡◌, ◌+◌, ◌-◌, ◌^◌, ◌<◌, ◌++◌, ◌↔◌, length, min, map, vec_len};
-ghost use Rattle.std.specs.Prelude.{vec_capacity, IsTrue, IsSome, IfSome, IfNone};
+ghost use Rattle.std.specs.Prelude.{vec_capacity, IsTrue, IsSome};
 ghost use Rattle.desk_model.specs.Limits.{max_clients};
 ghost use Rattle.model.specs.Objects.{kind_of, kind_with, next};
 ghost use Rattle.desk_model.specs.World.{logged, Serves};
 ghost use Rattle.desk_model.specs.Images.{request_in, answer_in, entry_in};
 ghost use Rattle.desk_invariant.specs.Views.{after_release, seen_of};
-ghost use Rattle.desk_invariant.specs.declared.board.Slot.TheVariants as slots;
-ghost use Rattle.desk_model.specs.declared.Request.{Request};
 ghost use Rattle.publication.specs.Calls.{Got, NotGot, HasCallLeft, CanDo, kind_held, kind_in};
 ghost use Rattle.publication.specs.Calls.{Performed, Answered, IsPutBack, desk_after_pick};
-ghost use Rattle.publication.specs.Calls.{state_after_pick, IfGot, IfNot, HasPosted, Finished};
+ghost use Rattle.publication.specs.Calls.{state_after_pick, IfGot, IfNot};
 
 use crate::client::{Client, Hand, Pass};
 use crate::desk::{ANSWERED, CLOCK, Desk, PICKED, POSTED, Picked, ROWS};
 use crate::looking::look_and_exchange;
-use crate::plays::{Answers, Draws, LooksAtRow, Performs, Picks, PutsBack, Releases, Withdraws};
+use crate::plays::{Answers, Draws, LooksAtRow, Performs, Picks, PutsBack, Releases};
 use desk_invariant::{BoxedCore, Core, Slot};
 use desk_model::Request;
 use recorder::Answer;
@@ -138,45 +136,6 @@ impl<S: SeqObject> Pass<S> {
         seat.turn();
         self.member.note_call(asked, returned, answer);
         answer
-    }
-
-    /// Ends the call of the client's own that it has posted for the object that it holds: takes the
-    /// request back out of its row, does the operation, logs it, and draws the ticket of the
-    /// return. Where memory is refused the answer is Refused, and nothing is done or logged. None:
-    /// the row had no request, so the call is answered, and the next poll is Some.
-    pub fn perform_posted(&mut self, desk: &Desk<S>) -> Option<Answer<S::Reply>>
-        requires desk { self.old.desk ≡ desk.now.id }
-        requires posted { HasPosted self.old }
-        ensures desk { self.new.desk ≡ self.old.desk }
-        ensures state { self.new.state ≡ record self.old.state { room = self.new.state.room } }
-        // An entry takes room for one, where there was room.
-        ensures room { 0 < self.old.state.room →
-            self.new.state.room + length self.new.log ≡ self.old.state.room + length self.old.log }
-        ensures finished { IfSome result (λ a.
-            Finished self.old (answer_in S.reply_in a) self.new) }
-        ensures missed { IfNone result (NotGot self.old self.old.knows.number self.new) }
-    {
-        let number = self.number;
-        let slot = ROWS + number as usize;
-        let posted = POSTED + self.object as u64;
-        let shared = &desk.table.shared;
-        let seat = &mut self.seat;
-        // The slot of its own row comes in front of that of its journal.
-        seat.turn();
-        let found = look_and_exchange::<_, _, _, _, LooksAtRow, Withdraws>(
-            shared, seat, slot, posted, 0,
-        );
-        if found != posted {
-            seat.turn();
-            return None;
-        }
-        let answer = serve_in_place(&mut self.core, number, seat.slot_mut(shared, slot));
-        let returned = shared.fetch_add::<Performs>(seat, CLOCK, 1);
-        let _ = shared.exchange(seat, slot, Slot::Nothing);
-        seat.turn();
-        seat.turn();
-        self.member.note_returned(returned, answer);
-        Some(answer)
     }
 
     /// Puts the object back, so that another may win it. The client has seen the log as it then
@@ -322,34 +281,4 @@ fn serve<S: SeqObject>(
 {
     let Core { object, log, .. } = &mut *core.inside;
     recorder::serve(object, log, row, request)
-}
-
-// Does the operation of the request in the slot, logs it, and writes the answer into the slot.
-#[inline(always)]
-fn serve_in_place<S: SeqObject>(
-    core: &mut BoxedCore<S, S::Op, S::Reply>,
-    row: u32,
-    place: &mut Slot<S, S::Op, S::Reply>,
-) -> Answer<S::Reply>
-    requires { (q : Request S.Op) × (place.old ≡ slots.Request q)
-        × IsSome (next (S.content core.old.object) (S.op_in q.op)) }
-    ensures place { place.new ≡ slots.Answer result }
-    ensures log { (q : Request S.Op) → place.old ≡ slots.Request q →
-        map (entry_in S.op_in S.reply_in) core.new.log.items
-        ≡ map (entry_in S.op_in S.reply_in) core.old.log.items
-        ++ logged row (request_in S.op_in q) (answer_in S.reply_in result) }
-    ensures state { (core.new.passes ≡ core.old.passes) × (core.new.list ≡ core.old.list)
-        × (core.new.ages ≡ core.old.ages) }
-    ensures room { vec_len core.old.log < vec_capacity core.old.log →
-        vec_capacity core.new.log ≡ vec_capacity core.old.log }
-    ensures content { (q : Request S.Op) → place.old ≡ slots.Request q →
-        Serves (S.content core.old.object) (S.op_in q.op)
-        (answer_in S.reply_in result) (S.content core.new.object) }
-{
-    let answer = match place {
-        Slot::Request(request) => serve(core, row, request),
-        _ => unreachable!(),
-    };
-    *place = Slot::Answer(answer);
-    answer
 }

@@ -60,14 +60,6 @@ impl<S: SeqObject> Play<Slot<S, S::Op, S::Reply>, DeskView> for PutsBack {
     ghost then = { puts_back S.content S.op_in S.reply_in };
 }
 
-pub(crate) struct Withdraws;
-
-impl<S: SeqObject> Play<Slot<S, S::Op, S::Reply>, DeskView> for Withdraws {
-    ghost use Rattle.desk_invariant.specs.Plays.{withdraws};
-
-    ghost then = { withdraws S.content S.op_in S.reply_in };
-}
-
 pub(crate) struct Draws;
 
 impl<S: SeqObject> Play<Slot<S, S::Op, S::Reply>, DeskView> for Draws {

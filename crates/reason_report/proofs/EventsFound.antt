@@ -1,5 +1,5 @@
 -- Finding the event with a number among events whose numbers rise.
-use Rattle.std.proofs.Common.{◌≡◌, ◌≢◌, ℕ, ◌<◌, ◌≤◌, ◌⊎◌, inl, inr, Bool, true, false, List, [], ◌∷◌, length, Option, Some, None, AllPairs, get_or, refl, ap, sym, ◌∙◌, cond, zero, suc, subst, arith}
+use Rattle.std.proofs.Common.{◌≡◌, ℕ, ◌<◌, ◌≤◌, ◌⊎◌, inl, inr, Bool, true, false, List, [], ◌∷◌, length, Some, None, AllPairs, get_or, refl, ap, sym, ◌∙◌, cond, zero, suc, subst, arith}
 use Rattle.std.specs.Prelude.{find, nat_eq}
 use Rattle.std.specs.List.Sorted.{IsNonDecreasingBy, IsPartitionPoint}
 use Rattle.std.specs.Ordering.{nat_cmp, ordering_index, MatchOrdering}

@@ -7,7 +7,7 @@ pub answer-pass-requires-clause-possible : goal.answer-pass-requires-clause-poss
 answer-pass-requires-clause-possible g c = λ κs bounds. c.possible.ensures.0 c.if-possible.true
 
 pub returns-in-Not-clause-goes : goal.returns-in-Not-clause-goes
-returns-in-Not-clause-goes g c = not_goes c.args.pass c.in-Not.pass c.args.row c.in-Not.ensures.desk (ap (λ z. z.places) c.in-Not.ensures.state) c.in-Not.ensures.missed
+returns-in-Not-clause-goes g c = not_goes c.args.pass c.in-Not.pass c.args.row c.in-Not.ensures.desk c.in-Not.ensures.state c.in-Not.ensures.missed
 
 pub returns-in-Not-clause-own : goal.returns-in-Not-clause-own
 returns-in-Not-clause-own g c = not_tried c.args.pass c.in-Not.pass c.args.row c.in-Not.ensures.missed
