@@ -1,0 +1,115 @@
+//! Cells: a register of which some values are kept, and all others are one other value.
+
+use crate::history::{End, Invocation, ObjectHistory};
+use crate::model::{AnyOp, AnyReply};
+use crate::projection::keeping::Values;
+use std::collections::BTreeSet;
+
+/// A write, with its reply.
+pub(super) fn write_of(value: i64) -> (AnyOp, AnyReply) {
+    (AnyOp::Write(value), AnyReply::Value(Some(value)))
+}
+
+/// What a swap becomes, where these are kept: its new value, its expected value, and the operation.
+pub(super) fn swap_done(
+    keeps: (bool, bool, bool),
+    other: i64,
+    expected: i64,
+    new: i64,
+    reply: AnyReply,
+) -> Option<(AnyOp, AnyReply)> {
+    match keeps {
+        (true, true, _) => Some((AnyOp::Cas(expected, new), reply)),
+        (true, false, _) => Some(write_of(new)),
+        (false, true, true) => {
+            Some((AnyOp::Cas(expected, other), AnyReply::Swapped(expected, other)))
+        }
+        (false, false, true) => Some(write_of(other)),
+        (false, _, false) => None,
+    }
+}
+
+/// What an operation with this reply becomes, which the part may choose; `None`: it is left out.
+fn returned_op(
+    values: &Values,
+    other: i64,
+    kept: bool,
+    op: AnyOp,
+    reply: AnyReply,
+) -> Option<(AnyOp, AnyReply)> {
+    match op {
+        AnyOp::Write(value) if values.has(value) => Some((op, reply)),
+        AnyOp::Write(_) if kept => Some(write_of(other)),
+        AnyOp::Read if kept => match reply {
+            AnyReply::Value(None) => Some((op, reply)),
+            AnyReply::Value(Some(value)) if values.has(value) => Some((op, reply)),
+            AnyReply::Value(Some(_)) => Some(write_of(other)),
+            _ => None,
+        },
+        AnyOp::Cas(expected, new) => match reply {
+            AnyReply::Swapped(..) => {
+                let keeps = (values.has(new), values.has(expected), kept);
+                swap_done(keeps, other, expected, new, reply)
+            }
+            _ => None,
+        },
+        _ => None,
+    }
+}
+
+/// What a pending operation becomes; `None`: it is left out.
+fn pending_op(values: &Values, op: AnyOp) -> Option<AnyOp> {
+    match op {
+        AnyOp::Write(value) if values.has(value) => Some(op),
+        AnyOp::Cas(expected, new) if values.has(new) => {
+            if values.has(expected) {
+                Some(op)
+            } else {
+                Some(AnyOp::Write(new))
+            }
+        }
+        _ => None,
+    }
+}
+
+/// What an operation becomes; `None`: it is left out.
+fn piece(values: &Values, other: i64, kept: bool, operation: &Invocation) -> Option<Invocation> {
+    let number = operation.number;
+    match operation.end {
+        End::Returned { at, reply } => {
+            let (op, reply) = returned_op(values, other, kept, operation.op, reply)?;
+            Some(Invocation { number, op, end: End::Returned { at, reply } })
+        }
+        End::Pending => {
+            let op = pending_op(values, operation.op)?;
+            Some(Invocation { number, op, end: End::Pending })
+        }
+        End::Failed => None,
+    }
+}
+
+/// The operations of the cell.
+fn pieces(
+    operations: &[Invocation],
+    values: &Values,
+    other: i64,
+    numbers: &BTreeSet<u32>,
+) -> Vec<Invocation> {
+    operations.iter().filter_map(|o| piece(values, other, numbers.contains(&o.number), o)).collect()
+}
+
+/// The part of a register's operations that can leave one of these values, and of the others those
+/// with these numbers, which leave the other value in place of theirs. A read of a value that is
+/// not kept becomes a write of the other value, and so does a swap from such a value become a
+/// write. Of another kind of object nothing stays.
+///
+/// An error: the allocator refused memory.
+pub fn cell(
+    history: &ObjectHistory,
+    values: &Values,
+    other: i64,
+    numbers: &BTreeSet<u32>,
+) -> ObjectHistory {
+    let ops = pieces(history.ops(), values, other, numbers);
+    ObjectHistory::new(history.object(), history.kind(), ops)
+}
