@@ -1,98 +1,127 @@
-//! What is found, as text: orders and reasons.
+//! What is found of an object, and its text.
 
-use crate::projection::{Count, Counted, Cut, Values};
-use crate::refutation::{Evidence, Reason};
+use crate::cuts::{Count, Counted, Cut, Values};
+use crate::reasons::{FoundReason, Search, Shown};
+use crate::search::First;
 use std::collections::BTreeSet;
-use std::fmt::{Display, Write};
+use std::fmt::{self, Display, Formatter};
+
+/// What is found of an object.
+#[derive(Clone, Debug)]
+pub enum Evidence {
+    /// A valid order: the numbers of the invocations.
+    Order(Vec<u32>),
+    /// No order is valid, for this reason.
+    Reason(FoundReason),
+    /// A search of all operations is to decide.
+    Search(Search),
+    /// Nothing: the search for evidence failed.
+    Open,
+}
+
+/// An object, and what is found of it. Its text is the line of evidence that the proved program reads,
+/// after a comment with a sentence where it is a reason; that of an open object is a comment.
+#[derive(Clone, Debug)]
+pub struct Decision {
+    pub object: u32,
+    pub evidence: Evidence,
+}
 
 /// The elements with a space between them.
-fn put_all<T: Display>(text: &mut String, elements: impl IntoIterator<Item = T>) {
-    for (k, element) in elements.into_iter().enumerate() {
-        let space = if k == 0 { "" } else { " " };
-        let _ = write!(text, "{space}{element}");
+struct Spaced<I>(I);
+
+impl<I: Clone + IntoIterator<Item: Display>> Display for Spaced<I> {
+    fn fmt(&self, f: &mut Formatter<'_>) -> fmt::Result {
+        for (place, element) in self.0.clone().into_iter().enumerate() {
+            let space = if place == 0 { "" } else { " " };
+            write!(f, "{space}{element}")?;
+        }
+        Ok(())
     }
 }
 
-/// The line of an order.
-pub fn put_order(text: &mut String, object: u32, order: &[i64]) {
-    let _ = write!(text, "{{:object {object}, :order [");
-    put_all(text, order);
-    text.push_str("]}\n");
+/// The numbers of operations, where there are some.
+struct Numbers<'a>(&'a BTreeSet<u32>);
+
+impl Display for Numbers<'_> {
+    fn fmt(&self, f: &mut Formatter<'_>) -> fmt::Result {
+        if self.0.is_empty() { Ok(()) } else { write!(f, ", :numbers [{}]", Spaced(self.0)) }
+    }
 }
 
-fn put_values(text: &mut String, values: &Values) {
-    match values {
-        Values::All => text.push_str(":all"),
-        Values::Only(values) => {
-            text.push('[');
-            put_all(text, values);
-            text.push(']');
+impl Display for Values {
+    fn fmt(&self, f: &mut Formatter<'_>) -> fmt::Result {
+        match self {
+            Values::All => f.write_str(":all"),
+            Values::Only(values) => write!(f, "[{}]", Spaced(values)),
         }
     }
 }
 
-fn put_numbers(text: &mut String, numbers: &BTreeSet<u32>) {
-    if !numbers.is_empty() {
-        text.push_str(", :numbers [");
-        put_all(text, numbers);
-        text.push(']');
+impl Display for Cut {
+    fn fmt(&self, f: &mut Formatter<'_>) -> fmt::Result {
+        match self {
+            Cut::From(number) => write!(f, "{{:from {number}}}"),
+            Cut::Until(number) => write!(f, "{{:until {number}}}"),
+            Cut::Without { value, before } => write!(f, "{{:without {value}, :before {before}}}"),
+            Cut::Keep { values, numbers } => write!(f, "{{:keep {values}{}}}", Numbers(numbers)),
+            Cut::Cell { key, values, other, numbers } => {
+                write!(f, "{{:cell {values}")?;
+                if let Some(key) = key {
+                    write!(f, ", :key {key}")?;
+                }
+                write!(f, ", :other {other}{}}}", Numbers(numbers))
+            }
+        }
     }
 }
 
-fn put_cut(text: &mut String, cut: &Cut) {
-    let _ = match cut {
-        Cut::From(number) => write!(text, "{{:from {number}"),
-        Cut::Until(number) => write!(text, "{{:until {number}"),
-        Cut::Without { value, before } => write!(text, "{{:without {value}, :before {before}"),
-        Cut::Keep { values, numbers } => {
-            text.push_str("{:keep ");
-            put_values(text, values);
-            put_numbers(text, numbers);
-            Ok(())
+impl Display for Count {
+    fn fmt(&self, f: &mut Formatter<'_>) -> fmt::Result {
+        match self.counted {
+            Counted::Value(value) => write!(f, "{{:value {value}")?,
+            Counted::Entry { key, value } => write!(f, "{{:key {key}, :value {value}")?,
+            Counted::NoEntry(key) => write!(f, "{{:key {key}")?,
+            Counted::Held => f.write_str("{:held true")?,
+            Counted::Free => f.write_str("{:free true")?,
         }
-        Cut::Cell { values, other, numbers } => {
-            text.push_str("{:cell ");
-            put_values(text, values);
-            let _ = write!(text, ", :other {other}");
-            put_numbers(text, numbers);
-            Ok(())
-        }
-        Cut::Entry { key, values, other, numbers } => {
-            text.push_str("{:cell ");
-            put_values(text, values);
-            let _ = write!(text, ", :key {key}, :other {other}");
-            put_numbers(text, numbers);
-            Ok(())
-        }
-    };
-    text.push('}');
+        write!(f, ", :from {}}}", self.from)
+    }
 }
 
-fn put_count(text: &mut String, count: Count) {
-    let from = count.from;
-    let _ = match count.counted {
-        Counted::Value(value) => write!(text, ", :count {{:value {value}, :from {from}}}"),
-        Counted::Entry { key, value } => {
-            write!(text, ", :count {{:key {key}, :value {value}, :from {from}}}")
-        }
-        Counted::NoEntry(key) => write!(text, ", :count {{:key {key}, :from {from}}}"),
-        Counted::Held => write!(text, ", :count {{:held true, :from {from}}}"),
-        Counted::Free => write!(text, ", :count {{:free true, :from {from}}}"),
-    };
+impl Display for Search {
+    fn fmt(&self, f: &mut Formatter<'_>) -> fmt::Result {
+        let first = match self.first {
+            First::Number => "number",
+            First::Return => "return",
+        };
+        write!(f, "{{:first :{first}, :steps {}}}", self.steps)
+    }
 }
 
-/// The line of a reason.
-pub fn put_reason(text: &mut String, reason: &Reason) {
-    let _ = write!(text, "{{:object {}, :cuts [", reason.object);
-    for (k, cut) in reason.cuts.iter().enumerate() {
-        if k > 0 {
-            text.push(' ');
+impl Display for FoundReason {
+    /// What follows the object in its line.
+    fn fmt(&self, f: &mut Formatter<'_>) -> fmt::Result {
+        write!(f, ":cuts [{}]", Spaced(&self.cuts))?;
+        match self.shown {
+            Shown::ByCount(count) => write!(f, ", :count {count}"),
+            Shown::BySearch(search) => write!(f, ", :search {search}"),
         }
-        put_cut(text, cut);
     }
-    text.push(']');
-    if let Evidence::Counting(count) = reason.evidence {
-        put_count(text, count);
+}
+
+impl Display for Decision {
+    fn fmt(&self, f: &mut Formatter<'_>) -> fmt::Result {
+        let object = self.object;
+        match &self.evidence {
+            Evidence::Order(order) => {
+                write!(f, "{{:object {object}, :order [{}]}}", Spaced(order))
+            }
+            Evidence::Reason(reason) => {
+                write!(f, "; {}\n{{:object {object}, {reason}}}", reason.sentence)
+            }
+            Evidence::Search(search) => write!(f, "{{:object {object}, :search {search}}}"),
+            Evidence::Open => write!(f, "; object {object}: open"),
+        }
     }
-    text.push_str("}\n");
 }

@@ -4,11 +4,8 @@
 //! that returns, and takes one that runs when it returns itself. So the value surely is in the
 //! object in few gaps.
 
-use crate::residences::gaps::Gaps;
-use crate::residences::removals::Removals;
-use crate::residences::residence::{Residence, pair_by_begins};
-use crate::residences::touches::Touch;
-use crate::timed_calls::PENDING;
+use super::{Gaps, Removals, Residence, Touch, pair_by_begins};
+use crate::timeline::PENDING;
 use std::collections::BTreeSet;
 
 /// How many of the last pairs are looked at for one that is given up.
@@ -38,76 +35,73 @@ fn events_of(
     let mut events = Vec::new();
     for (place, touch) in touches.iter().enumerate() {
         let (begin, end) = (touch.call.begin, touch.call.end);
-        let returned = end != PENDING;
+        let begins = if touch.takes { Event::TakeBegins } else { Event::PutBegins };
+        events.push((gaps.first_free(begin), begins, place));
+        if touch.call.is_pending() {
+            continue;
+        }
         if touch.takes {
-            events.push((gaps.first_free(begin), Event::TakeBegins, place));
-        } else {
-            events.push((gaps.first_free(begin), Event::PutBegins, place));
-        }
-        if returned && touch.takes {
             events.push((gaps.first_free(end), Event::TakeReturns, place));
-        } else if returned {
-            let last = end.saturating_sub(1);
-            events.push((gaps.first_free(last), Event::PutReturns, place));
-            if let Some(due) = removals.due(end) {
-                events.push((gaps.first_free(due), Event::MustBeGone, place));
-            }
+            continue;
+        }
+        events.push((gaps.first_free(end.saturating_sub(1)), Event::PutReturns, place));
+        if let Some(due) = removals.due(end) {
+            events.push((gaps.first_free(due), Event::MustBeGone, place));
         }
     }
-    for (_, gap) in demands {
-        events.push((*gap, Event::MustAllBeGone, 0));
-    }
+    events.extend(demands.iter().map(|(_, gap)| (*gap, Event::MustAllBeGone, 0)));
     events.sort_unstable();
     events
 }
+
+/// The return and the place of a call.
+type Key = (u32, usize);
 
 /// The calls that have no partner, by their returns, and the pairs.
 struct Matching {
     touches: Vec<Touch>,
     last_in: bool,
     /// Puts that run.
-    running: BTreeSet<(u32, usize)>,
+    running: BTreeSet<Key>,
     /// Puts that have returned.
-    open: BTreeSet<(u32, usize)>,
+    open: BTreeSet<Key>,
     /// Removals that run.
-    waiting: BTreeSet<(u32, usize)>,
+    waiting: BTreeSet<Key>,
     /// A put and a removal.
     pairs: Vec<(usize, usize)>,
 }
 
 impl Matching {
     fn end_of(&self, place: usize) -> u32 {
-        self.touches.get(place).map_or(PENDING, |touch| touch.call.end)
+        self.touches[place].call.end
     }
 
     fn begin_of(&self, place: usize) -> u32 {
-        self.touches.get(place).map_or(0, |touch| touch.call.begin)
+        self.touches[place].call.begin
     }
 
-    fn put_returns(&mut self, put: (u32, usize)) {
+    fn put_returns(&mut self, put: Key) {
         if !self.running.remove(&put) {
             return;
         }
-        match self.waiting.pop_first() {
-            Some((_, take)) => self.pairs.push((put.1, take)),
-            None => {
-                self.open.insert(put);
-            }
+        if let Some((_, take)) = self.waiting.pop_first() {
+            self.pairs.push((put.1, take));
+        } else {
+            self.open.insert(put);
         }
     }
 
-    fn take_begins(&mut self, take: (u32, usize)) {
+    fn take_begins(&mut self, take: Key) {
         let put = if self.last_in { self.open.pop_last() } else { self.open.pop_first() };
-        match put {
-            Some((_, put)) => self.pairs.push((put, take.1)),
-            None => {
-                self.waiting.insert(take);
-            }
+        if let Some((_, put)) = put {
+            self.pairs.push((put, take.1));
+        } else {
+            self.waiting.insert(take);
         }
     }
 
     /// False where no put is left that the removal can have.
-    fn take_returns(&mut self, take: (u32, usize)) -> bool {
+    fn take_returns(&mut self, take: Key) -> bool {
         if !self.waiting.remove(&take) {
             return true;
         }
@@ -119,33 +113,21 @@ impl Matching {
     }
 
     /// Of the last pairs whose removal returns after this moment the place of that whose put returns
-    /// last.
+    /// last; of several such the last.
     fn later_pair(&self, end: u32) -> Option<usize> {
-        let mut latest = None;
-        for k in (0..self.pairs.len()).rev().take(MOST_PAIRS) {
-            let (put, take) = self.pairs.get(k).copied()?;
-            let returned = self.end_of(put);
-            if self.end_of(take) > end && latest.is_none_or(|(other, _)| returned > other) {
-                latest = Some((returned, k));
-            }
-        }
-        latest.map(|(_, k)| k)
+        let last = (0..self.pairs.len()).rev().take(MOST_PAIRS);
+        let later = last.filter(|k| self.end_of(self.pairs[*k].1) > end);
+        later.max_by_key(|k| (self.end_of(self.pairs[*k].0), *k))
     }
 
     /// Gives the removal the put of one that returns later, which waits again. False where there is
     /// none.
-    fn take_over(&mut self, take: (u32, usize)) -> bool {
+    fn take_over(&mut self, take: Key) -> bool {
         let Some(k) = self.later_pair(take.0) else {
             return false;
         };
-        let Some((put, other)) = self.pairs.get(k).copied() else {
-            return false;
-        };
-        if let Some(pair) = self.pairs.get_mut(k) {
-            *pair = (put, take.1);
-        }
-        let end = self.end_of(other);
-        self.waiting.insert((end, other));
+        let other = std::mem::replace(&mut self.pairs[k].1, take.1);
+        self.waiting.insert((self.end_of(other), other));
         self.arrange(k);
         true
     }
@@ -153,79 +135,53 @@ impl Matching {
     /// Pairs the puts and removals of the pairs from this place on in another way, if that can be:
     /// the first put to return with the first removal to begin.
     fn arrange(&mut self, from: usize) {
-        let mut puts = Vec::new();
-        let mut takes = Vec::new();
-        for k in from..self.pairs.len() {
-            let Some((put, take)) = self.pairs.get(k).copied() else {
-                break;
-            };
-            puts.push((self.end_of(put), put));
-            takes.push((self.begin_of(take), take));
-        }
-        puts.sort_unstable();
-        takes.sort_unstable();
-        if self.can_pair(&puts, &takes) {
+        let (mut puts, mut takes): (Vec<usize>, Vec<usize>) =
+            self.pairs[from..].iter().copied().unzip();
+        puts.sort_unstable_by_key(|put| (self.end_of(*put), *put));
+        takes.sort_unstable_by_key(|take| (self.begin_of(*take), *take));
+        let mut pairs = puts.iter().zip(&takes);
+        if pairs.all(|(put, take)| self.begin_of(*put) < self.end_of(*take)) {
             self.pairs.truncate(from);
-            for ((_, put), (_, take)) in puts.iter().zip(takes.iter()) {
-                self.pairs.push((*put, *take));
-            }
-        }
-    }
-
-    /// Whether each of these puts begins before its removal returns.
-    fn can_pair(&self, puts: &[(u32, usize)], takes: &[(u32, usize)]) -> bool {
-        for ((_, put), (_, take)) in puts.iter().zip(takes.iter()) {
-            if self.begin_of(*put) >= self.end_of(*take) {
-                return false;
-            }
-        }
-        true
-    }
-
-    /// Gives a pending removal to the value if it still is in and must be gone.
-    fn give(&mut self, put: (u32, usize), removals: &mut Removals) {
-        match removals.due(put.0) {
-            Some(due) if self.open.contains(&put) => self.give_before(put, due, removals),
-            _ => {}
+            self.pairs.extend(puts.into_iter().zip(takes));
         }
     }
 
     /// Gives pending removals that begin by this gap to all values that are in.
     fn give_all(&mut self, gap: u32, removals: &mut Removals) {
-        for _ in 0..self.open.len() {
-            let Some(put) = self.open.first().copied() else {
-                break;
-            };
-            self.give_before(put, gap.saturating_add(1), removals);
-            if self.open.contains(&put) {
-                break;
+        while let Some(put) = self.open.first().copied() {
+            if !self.give_before(put, gap + 1, removals) {
+                return;
             }
         }
     }
 
-    /// Gives a pending removal that begins before this moment to a value that is in.
-    fn give_before(&mut self, put: (u32, usize), due: u32, removals: &mut Removals) {
-        let Some(touch) = self.touches.get(put.1).copied() else {
-            return;
-        };
+    /// Gives a pending removal that begins before this moment to a value that is in. False where there
+    /// is none.
+    fn give_before(&mut self, put: Key, due: u32, removals: &mut Removals) -> bool {
         let Some(call) = removals.take(due) else {
-            return;
+            return false;
         };
         self.open.remove(&put);
         self.pairs.push((put.1, self.touches.len()));
-        self.touches.push(Touch { value: touch.value, takes: true, call });
+        self.touches.push(Touch { takes: true, call, ..self.touches[put.1] });
+        true
     }
 
     /// False where the removal has no put.
     fn happen(
         &mut self,
-
         (gap, event, place): (u32, Event, usize),
         removals: &mut Removals,
     ) -> bool {
         let call = (self.end_of(place), place);
         match event {
-            Event::MustBeGone => self.give(call, removals),
+            Event::MustBeGone => {
+                if let Some(due) = removals.due(call.0)
+                    && self.open.contains(&call)
+                {
+                    self.give_before(call, due, removals);
+                }
+            }
             Event::MustAllBeGone => self.give_all(gap, removals),
             Event::TakeReturns => return self.take_returns(call),
             Event::PutBegins => {
@@ -239,10 +195,7 @@ impl Matching {
 
     /// Pairs the removals that wait at the end: they are pending. False where one is not.
     fn end(&mut self) -> bool {
-        for _ in 0..self.waiting.len() {
-            let Some((end, take)) = self.waiting.pop_first() else {
-                break;
-            };
+        while let Some((end, take)) = self.waiting.pop_first() {
             if end != PENDING {
                 return false;
             }
@@ -255,34 +208,31 @@ impl Matching {
 
     /// The values of the pairs, and those that are not taken.
     fn residences(&self) -> Vec<Residence> {
-        let mut residences = Vec::new();
-        for (put, take) in &self.pairs {
-            if let (Some(put), Some(take)) = (self.touches.get(*put), self.touches.get(*take)) {
-                residences.push(Residence {
-                    value: put.value,
-                    put: put.call,
-                    take: Some(take.call),
-                });
-            }
-        }
-        for (_, put) in &self.open {
-            if let Some(put) = self.touches.get(*put) {
-                residences.push(Residence { value: put.value, put: put.call, take: None });
-            }
-        }
-        residences
+        let residence = |put: usize, take: Option<usize>| Residence {
+            value: self.touches[put].value,
+            put: self.touches[put].call,
+            take: take.map(|take| self.touches[take].call),
+        };
+        let taken = self.pairs.iter().map(|(put, take)| residence(*put, Some(*take)));
+        taken.chain(self.open.iter().map(|(_, put)| residence(*put, None))).collect()
     }
 }
 
-/// The residences of one value, whose puts come first. Pending removals are given to it where it
-/// must be gone. None where a removal has no put.
-fn match_touches(
+/// The residences of one value, whose puts come first, in gaps that can be used: a removal takes the
+/// last value that is in, or the first. Pending removals are given to the value where it must be gone.
+/// `None`: a removal has no put.
+pub fn residences_of(
     touches: &[Touch],
     gaps: &mut Gaps,
     removals: &mut Removals,
     demands: &[(i64, u32)],
     last_in: bool,
 ) -> Option<Vec<Residence>> {
+    match touches {
+        [_] if removals.is_empty() => return pair_by_begins(touches),
+        [_, second] if second.takes => return pair_by_begins(touches),
+        _ => {}
+    }
     let events = events_of(touches, gaps, removals, demands);
     let mut matching = Matching {
         touches: touches.to_vec(),
@@ -292,37 +242,6 @@ fn match_touches(
         waiting: BTreeSet::new(),
         pairs: Vec::new(),
     };
-    for event in &events {
-        if !matching.happen(*event, removals) {
-            return None;
-        }
-    }
-    if !matching.end() {
-        return None;
-    }
-    Some(matching.residences())
-}
-
-/// Whether the value is put once and taken once, or is not taken where no removal is pending.
-fn is_plain(touches: &[Touch], removals: &Removals) -> bool {
-    let takes = touches.get(1).is_some_and(|touch| touch.takes);
-    touches.len() == 1 && removals.is_empty() || touches.len() == 2 && takes
-}
-
-/// The residences of one value, whose puts come first, in gaps that can be used: a removal takes the
-/// last value that is in, or the first. None where a removal has no put.
-///
-/// An error: the allocator refused memory.
-pub fn residences_of(
-    touches: &[Touch],
-    gaps: &mut Gaps,
-    removals: &mut Removals,
-    demands: &[(i64, u32)],
-    last_in: bool,
-) -> Option<Vec<Residence>> {
-    if is_plain(touches, removals) {
-        pair_by_begins(touches)
-    } else {
-        match_touches(touches, gaps, removals, demands, last_in)
-    }
+    let all = events.into_iter().all(|event| matching.happen(event, removals)) && matching.end();
+    all.then(|| matching.residences())
 }

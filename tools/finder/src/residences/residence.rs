@@ -1,18 +1,18 @@
 //! How long each value is in a queue, stack or heap. Where a value comes more than once, its puts
 //! and removals are paired, and each pair counts as a value of its own.
 
-use crate::residences::touches::Touch;
-use crate::timed_calls::{CallSpan, PENDING};
+use super::Touch;
+use crate::timeline::Span;
 
 /// The moment that a value is taken which nobody takes: after that of a call that is pending.
-pub const NEVER: u32 = 0xffff_ffff;
+pub const NEVER: u32 = u32::MAX;
 
 /// A value, the call that puts it in, and the one that takes it.
-#[derive(Clone, Copy)]
+#[derive(Clone, Copy, Debug)]
 pub struct Residence {
     pub value: i64,
-    pub put: CallSpan,
-    pub take: Option<CallSpan>,
+    pub put: Span,
+    pub take: Option<Span>,
 }
 
 impl Residence {
@@ -38,67 +38,37 @@ impl Residence {
     }
 }
 
-/// Values that are paired with their puts and removals, in rising value.
-struct Pairs {
-    residences: Vec<Residence>,
-    /// The first residence of the last value that has no removal.
-    open: usize,
-}
-
-impl Pairs {
-    /// Adds a put, or a removal to the first put of its value that has none. False where there is
-    /// none.
-    fn add(&mut self, touch: &Touch) -> bool {
-        let value = touch.value;
-        if touch.takes {
-            match self.residences.get_mut(self.open) {
-                Some(residence) if residence.value == value => residence.take = Some(touch.call),
-                _ => return false,
-            }
-            self.open = self.open.saturating_add(1);
-            return true;
-        }
-        if self.residences.last().is_none_or(|residence| residence.value != value) {
-            self.open = self.residences.len();
-        }
-        self.residences.push(Residence { value, put: touch.call, take: None });
-        true
-    }
-}
-
 /// The values, in rising order: of each value the puts and the removals are paired in the order of
-/// these moments. None where a value is taken more often than it is put in.
-pub(super) fn pair<F: Fn(&Touch) -> u32>(touches: &[Touch], moment: F) -> Option<Vec<Residence>> {
-    let mut keys = Vec::new();
-    for (place, touch) in touches.iter().enumerate() {
-        keys.push((touch.value, touch.takes, moment(touch), place));
-    }
-    keys.sort_unstable();
-    let mut pairs = Pairs { residences: Vec::new(), open: 0 };
-    for (_, _, _, place) in &keys {
-        if let Some(touch) = touches.get(*place)
-            && !pairs.add(touch)
-        {
-            return None;
+/// these moments. `None`: a value is taken more often than it is put in.
+fn pair(touches: &[Touch], moment: impl Fn(&Touch) -> u32) -> Option<Vec<Residence>> {
+    let mut sorted: Vec<&Touch> = touches.iter().collect();
+    sorted.sort_by_key(|touch| (touch.value, touch.takes, moment(touch)));
+    let mut residences: Vec<Residence> = Vec::new();
+    let mut open = 0; // the first residence of the last value that has no removal
+    for &&Touch { value, takes, call } in &sorted {
+        if takes {
+            let residence = residences.get_mut(open).filter(|r| r.value == value)?;
+            residence.take = Some(call);
+            open += 1;
+        } else {
+            if residences.last().is_none_or(|last| last.value != value) {
+                open = residences.len();
+            }
+            residences.push(Residence { value, put: call, take: None });
         }
     }
-    let mut residences = pairs.residences;
     // what is not known to be put in and is not taken is left out
-    residences.retain(|residence| residence.put.end != PENDING || residence.take.is_some());
+    residences.retain(|residence| !residence.put.is_pending() || residence.take.is_some());
     Some(residences)
 }
 
-/// The same, each put with the removal that begins next.
-///
-/// An error: the allocator refused memory.
+/// The values with their puts and removals, each put with the removal that begins next.
 pub fn pair_by_begins(touches: &[Touch]) -> Option<Vec<Residence>> {
     pair(touches, |touch| touch.call.begin)
 }
 
 /// The same, each put that returns with the removal that begins: so each value is surely in the
 /// object only while more of its puts have returned than removals have begun.
-///
-/// An error: the allocator refused memory.
 pub fn pair_by_counts(touches: &[Touch]) -> Option<Vec<Residence>> {
     pair(touches, |touch| if touch.takes { touch.call.begin } else { touch.call.end })
 }

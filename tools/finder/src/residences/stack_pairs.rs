@@ -4,10 +4,10 @@
 //! top, or else one whose push runs. A value can be on top where each that surely is above it can be
 //! popped by a pop that runs, and these then are.
 
-use crate::residences::residence::{NEVER, Residence};
-use crate::residences::sure::Sure;
-use crate::residences::touches::{Touch, Touches};
-use crate::timed_calls::{CallSpan, PENDING};
+use crate::residences::Sure;
+use crate::residences::{NEVER, Residence};
+use crate::residences::{Touch, Touches};
+use crate::timeline::{PENDING, Span};
 use std::collections::BTreeSet;
 
 /// How many pushes of a value are looked at for one that can be on top.
@@ -47,8 +47,8 @@ enum Event {
 /// in which the fewest values surely are in the stack.
 fn events_of(
     touches: &[Touch],
-    empties: &[CallSpan],
-    unknown: &[CallSpan],
+    empties: &[Span],
+    unknown: &[Span],
     end: u32,
 ) -> Vec<(u32, bool, Event)> {
     let mut events = Vec::new();
@@ -82,7 +82,7 @@ struct Contents {
     /// A push and a pop.
     pairs: Vec<(usize, usize)>,
     /// Pops that are pending, in the order of their begins, and how many of them are used.
-    unknown: Vec<CallSpan>,
+    unknown: Vec<Span>,
     used: usize,
     /// How many of them have begun.
     begun: usize,
@@ -106,7 +106,7 @@ fn take_out(numbers: &mut Vec<usize>, number: usize) {
 
 impl Contents {
     /// None of the calls, which are sorted by their values, has begun.
-    fn new(touches: &[Touch], unknown: Vec<CallSpan>) -> Contents {
+    fn new(touches: &[Touch], unknown: Vec<Span>) -> Contents {
         let mut contents = Contents {
             unknown,
             used: 0,
@@ -378,7 +378,7 @@ impl Contents {
     }
 
     /// The pop at this place; those that are pending come last.
-    fn call_of(&self, touches: &[Touch], take: usize) -> Option<CallSpan> {
+    fn call_of(&self, touches: &[Touch], take: usize) -> Option<Span> {
         match touches.get(take) {
             Some(touch) => Some(touch.call),
             None => self.unknown.get(take.saturating_sub(touches.len())).copied(),
@@ -408,8 +408,6 @@ impl Contents {
 
 /// The values of a stack with their pushes and pops, which come sorted by their values, and how many
 /// of the pending pops they have, the first ones. None where a pop has no push.
-///
-/// An error: the allocator refused memory.
 pub fn pair_on_top(touches: &Touches, end: u32) -> Option<(Vec<Residence>, usize)> {
     let known = touches.known.as_slice();
     let events = events_of(known, &touches.empties, &touches.unknown, end);

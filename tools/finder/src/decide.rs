@@ -1,0 +1,113 @@
+//! The decision on each object.
+
+use crate::evidence::{Decision, Evidence};
+use crate::history::{History, ObjectHistory};
+use crate::orders::{Quick, open_keys, order_by_contents, quick_order};
+use crate::reasons::{FoundReason, Search, find_by_pairs, find_by_patterns, find_on};
+use crate::search::{First, Outcome, search};
+use std::panic::{AssertUnwindSafe, catch_unwind};
+use std::sync::atomic::{AtomicUsize, Ordering};
+use std::sync::{Mutex, PoisonError};
+use std::thread;
+
+/// How objects are decided.
+#[derive(Clone, Copy, Debug)]
+pub struct Options {
+    /// The most steps of a search of all operations that is handed over. `None`: 1,000,000, or 100 for
+    /// each operation that did not fail if that is more.
+    pub steps: Option<u64>,
+    /// How many threads decide objects side by side.
+    pub workers: usize,
+}
+
+impl Default for Options {
+    fn default() -> Options {
+        Options { steps: None, workers: 1 }
+    }
+}
+
+/// How many operations the search for an order of one part of a reason may try.
+const STEPS_OF_A_PART: u64 = 10_000;
+
+/// How many steps the last search has of an object of few operations, where no number is given.
+const DEFAULT_STEPS: u64 = 1_000_000;
+
+/// How many steps it has for each operation of many.
+const STEPS_OF_A_CALL: u64 = 100;
+
+/// Among how many operations at most the last search tries first that of the least number. Where there
+/// are more it goes by their returns, since it then looks at those alone that can come next.
+const MOST_BY_NUMBER: usize = 4096;
+
+/// The first search of all operations, which is short.
+fn first_search(history: &ObjectHistory) -> Search {
+    Search { first: First::Return, steps: 20_000 + 20 * history.ops.len() as u64 }
+}
+
+/// The last search of all operations. It is handed over.
+fn last_search(history: &ObjectHistory, steps: Option<u64>) -> Search {
+    let calls = history.call_count();
+    let first = if calls > MOST_BY_NUMBER { First::Return } else { First::Number };
+    let default = DEFAULT_STEPS.max(STEPS_OF_A_CALL * calls as u64);
+    Search { first, steps: steps.unwrap_or(default) }
+}
+
+/// Looks for an order of an object, or for a reason why it has none: first by the quick methods
+/// that are made for its kind, then for a reason by patterns, of a map first at the key where these
+/// methods stopped, for an order by a search of all that a queue or stack may contain, for a reason
+/// in two values, and at a map by a search of each key that is open. Where these decide nothing
+/// there is a first search of 20,000 steps and 20 more for each operation, which tries first what
+/// returns first. What decides nothing is handed over to the last search.
+fn decide_object(history: &ObjectHistory, steps: Option<u64>) -> Evidence {
+    let open_key = match quick_order(history) {
+        Quick::Order(order) => return Evidence::Order(order),
+        Quick::Open { key } => key,
+    };
+    if let Some(reason) = find_by_patterns(history, open_key, STEPS_OF_A_PART) {
+        return Evidence::Reason(reason);
+    }
+    if let Some(order) = order_by_contents(history) {
+        return Evidence::Order(order);
+    }
+    let first = first_search(history);
+    let reason = find_by_pairs(history, STEPS_OF_A_PART).or_else(|| {
+        open_keys(history).into_iter().find_map(|key| find_on(history, key, first.steps))
+    });
+    if let Some(reason) = reason {
+        return Evidence::Reason(reason);
+    }
+    match search(history, first.first, first.steps) {
+        Outcome::Order(order) => Evidence::Order(order),
+        Outcome::Impossible => Evidence::Reason(FoundReason::of_all(history, first)),
+        Outcome::OutOfSteps => Evidence::Search(last_search(history, steps)),
+    }
+}
+
+/// A fault in the search for evidence leaves the object open, and the others decided.
+fn decide_or_leave(history: &ObjectHistory, steps: Option<u64>) -> Decision {
+    let evidence = catch_unwind(AssertUnwindSafe(|| decide_object(history, steps)));
+    Decision { object: history.object, evidence: evidence.unwrap_or(Evidence::Open) }
+}
+
+/// Looks for evidence for each object of a history, in rising object number. The answers are the same
+/// for any number of workers.
+pub fn decide(history: &History, options: &Options) -> Vec<Decision> {
+    let objects = &history.objects;
+    let next = AtomicUsize::new(0);
+    let decisions = Mutex::new(Vec::with_capacity(objects.len()));
+    let work = || {
+        while let Some(object) = objects.get(next.fetch_add(1, Ordering::Relaxed)) {
+            let decision = decide_or_leave(object, options.steps);
+            decisions.lock().unwrap_or_else(PoisonError::into_inner).push(decision);
+        }
+    };
+    thread::scope(|scope| {
+        for _ in 1..options.workers.min(objects.len()) {
+            scope.spawn(work);
+        }
+        work();
+    });
+    let mut decisions = decisions.into_inner().unwrap_or_else(PoisonError::into_inner);
+    decisions.sort_unstable_by_key(|decision| decision.object);
+    decisions
+}

@@ -1,0 +1,62 @@
+//! States of a search from which there is no way on, told by a fingerprint each. One may be
+//! forgotten, and two may have the same fingerprint: then an order may be missed, and no wrong one
+//! is found.
+
+use crate::accesses::{Access, Need};
+
+/// The most states that are remembered.
+const MOST_STATES: usize = 2_000_000;
+
+/// A number in which each bit depends on each bit of this one (the finalizer of SplitMix64).
+pub fn mixed(number: u64) -> u64 {
+    let once = (number ^ (number >> 30)).wrapping_mul(0xbf58_476d_1ce4_e5b9);
+    let twice = (once ^ (once >> 27)).wrapping_mul(0x94d0_49bb_1331_11eb);
+    twice ^ (twice >> 31)
+}
+
+/// The fingerprint of a call; calls that do the same until the same moment have the same one.
+pub fn fingerprint_of(access: &Access) -> u64 {
+    let (need, content) = match access.need {
+        Need::Any => (1, 0),
+        Need::Is(content) => (2, content),
+        Need::IsNot(content) => (3, content),
+    };
+    let sets = match access.sets {
+        Some(content) => content.saturating_add(1),
+        None => 0,
+    };
+    let mut fingerprint: u64 = need;
+    for part in [content as u64, sets as u64, access.call.end as u64] {
+        fingerprint = mixed(fingerprint.wrapping_add(part));
+    }
+    fingerprint
+}
+
+/// Fingerprints, each at the slot that it names.
+pub struct DeadEnds {
+    slots: Vec<u64>,
+}
+
+impl DeadEnds {
+    /// Room for some states for each of these calls.
+    pub fn new(calls: usize) -> DeadEnds {
+        let count = calls.saturating_mul(16).saturating_add(64);
+        let slots = vec![0; count.min(MOST_STATES)];
+        DeadEnds { slots }
+    }
+
+    fn slot(&self, fingerprint: u64) -> usize {
+        (fingerprint % (self.slots.len() as u64).max(1)) as usize
+    }
+
+    pub fn contains(&self, fingerprint: u64) -> bool {
+        self.slots.get(self.slot(fingerprint)) == Some(&fingerprint)
+    }
+
+    pub fn add(&mut self, fingerprint: u64) {
+        let place = self.slot(fingerprint);
+        if let Some(slot) = self.slots.get_mut(place) {
+            *slot = fingerprint;
+        }
+    }
+}

@@ -1,0 +1,118 @@
+//! The contents of a stack, as a graph.
+
+/// The content without any value.
+pub const EMPTY: u32 = 0;
+
+/// How many contents are found again at most.
+const MOST_SLOTS: usize = 1 << 18;
+
+/// A number of 32 bits. There are never more.
+pub fn small(number: usize) -> u32 {
+    u32::try_from(number).unwrap_or(u32::MAX)
+}
+
+/// A content that may be below a value, and how many more pending calls were used for it than for
+/// the first one.
+#[derive(Clone, Copy, PartialEq, Eq)]
+pub struct Below {
+    pub content: u32,
+    pub cost: u32,
+    /// Of these the pops. It may be less than none: the numbers wrap.
+    pub pops: u32,
+}
+
+/// A value that is on top of one of some contents.
+#[derive(Clone, Copy)]
+struct Content {
+    value: i64,
+    first: usize,
+    count: usize,
+}
+
+/// Contents by their numbers, from 1 on.
+pub struct Contents {
+    contents: Vec<Content>,
+    belows: Vec<Below>,
+    /// Numbers of contents, each at the slot that its hash names: the last one that named it.
+    slots: Vec<u32>,
+}
+
+/// A number in which each bit depends on each bit of this one (the finalizer of SplitMix64).
+fn mixed(number: u64) -> u64 {
+    let once = (number ^ (number >> 30)).wrapping_mul(0xbf58_476d_1ce4_e5b9);
+    let twice = (once ^ (once >> 27)).wrapping_mul(0x94d0_49bb_1331_11eb);
+    twice ^ (twice >> 31)
+}
+
+fn hash_of(value: i64, belows: &[Below]) -> u64 {
+    let mut hash = mixed(u64::from_ne_bytes(value.to_ne_bytes()));
+    for below in belows {
+        let number = u64::from(below.content) | (u64::from(below.cost) << 32);
+        hash = mixed(hash.wrapping_add(number));
+    }
+    hash
+}
+
+impl Contents {
+    /// The empty content alone, of a stack on which there are this many calls.
+    pub fn new(calls: usize) -> Contents {
+        let slots = calls.saturating_mul(16).min(MOST_SLOTS);
+        Contents { contents: Vec::new(), belows: Vec::new(), slots: vec![EMPTY; slots] }
+    }
+
+    /// How much is kept.
+    pub fn len(&self) -> usize {
+        self.contents.len().saturating_add(self.belows.len())
+    }
+
+    fn get(&self, number: u32) -> Option<&Content> {
+        self.contents.get((number as usize).checked_sub(1)?)
+    }
+
+    /// The value on top.
+    pub fn value(&self, number: u32) -> Option<i64> {
+        Some(self.get(number)?.value)
+    }
+
+    /// How many contents may be below the value on top.
+    pub fn count(&self, number: u32) -> usize {
+        self.get(number).map_or(0, |content| content.count)
+    }
+
+    /// One of the contents that may be below the value on top.
+    pub fn below(&self, number: u32, k: usize) -> Option<Below> {
+        let first = self.get(number)?.first;
+        self.belows.get(first.saturating_add(k)).copied()
+    }
+
+    /// Whether this is the content.
+    fn is(&self, number: u32, value: i64, belows: &[Below]) -> bool {
+        if self.value(number) != Some(value) || self.count(number) != belows.len() {
+            return false;
+        }
+        for (k, below) in belows.iter().enumerate() {
+            if self.below(number, k) != Some(*below) {
+                return false;
+            }
+        }
+        true
+    }
+
+    /// The number of a content, which may be a new one.
+    pub fn number(&mut self, value: i64, belows: &[Below]) -> u32 {
+        let slots = (self.slots.len() as u64).max(1);
+        let slot = (hash_of(value, belows) % slots) as usize;
+        let known = self.slots.get(slot).copied().unwrap_or(EMPTY);
+        if self.is(known, value, belows) {
+            return known;
+        }
+        let first = self.belows.len();
+        self.belows.extend_from_slice(belows);
+        self.contents.push(Content { value, first, count: belows.len() });
+        let number = small(self.contents.len());
+        if let Some(known) = self.slots.get_mut(slot) {
+            *known = number;
+        }
+        number
+    }
+}

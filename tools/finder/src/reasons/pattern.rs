@@ -1,0 +1,191 @@
+//! Patterns: what is wrong in a history, and the sentence that says it.
+
+use crate::cuts::Counted;
+use crate::model::Kind;
+use std::fmt::{self, Display, Formatter};
+
+/// A fact about an object's whole history that no valid order allows. At a map the values are those
+/// under one key. A number is that of an operation's invocation.
+#[derive(Clone, Copy, Debug, PartialEq, Eq)]
+pub enum Pattern {
+    /// The value is taken, or seen, and no operation puts it in, or sets it.
+    NeverSet(i64),
+    /// The value is taken, or seen, by an operation that returns before any is invoked that puts it
+    /// in, or sets it.
+    TooEarly(i64),
+    /// The value is put in once, and taken twice.
+    TakenTwice(i64),
+    /// When `taken` operations that take the value have returned, fewer are invoked that put it in,
+    /// or set it.
+    TakenTooOften { value: i64, taken: usize, set: usize },
+    /// The operation finds nothing, and at each moment of it some value surely is in the object.
+    SurelyNotEmpty { number: u32 },
+    /// The value is extracted from a heap while a smaller one surely is in it.
+    UnderSmaller { taken: i64, smaller: i64 },
+    /// The value is extracted from a heap while at each moment some smaller one surely is in it.
+    UnderSmallerOnes(i64),
+    /// The first value is put in before the second one. A queue gives the second before the first,
+    /// a stack the first before the second, which was pushed on it.
+    WrongOrder { first: i64, second: i64 },
+    /// The first value is put in before the second one. A queue gives the second, and the first is
+    /// not taken by any call that is invoked by then.
+    LeftBehind { first: i64, second: i64 },
+    /// The second value is put on the first one in a stack, which gives the first, and the second
+    /// is not taken by any call that is invoked by then.
+    LeftAbove { first: i64, second: i64 },
+    /// The value, or nothing, is seen after another content was seen, and all that set it were over
+    /// before.
+    Stale(Option<i64>),
+    /// Each of two values, which are set once, is seen before the other one is.
+    EachBeforeTheOther(i64, i64),
+    /// A swap is refused while the value that it expects surely is there.
+    RefusedUnderItsValue { value: i64, number: u32 },
+    /// A content is taken away in a time more often than it can have been there.
+    CountExceeded(Counted),
+    /// No pattern: a part was found that has no valid order.
+    General,
+}
+
+impl Kind {
+    /// What is done to a value that an operation puts in, or sets.
+    fn put(self) -> &'static str {
+        match self {
+            Kind::Queue => "enqueued",
+            Kind::Stack => "pushed",
+            Kind::Heap => "inserted",
+            Kind::Register => "written",
+            Kind::Map => "put",
+            Kind::Mutex => "acquired",
+        }
+    }
+
+    /// What is done to one that an operation gives, or shows.
+    fn seen(self) -> &'static str {
+        match self {
+            Kind::Queue => "dequeued",
+            Kind::Stack => "popped",
+            Kind::Heap => "extracted",
+            Kind::Register => "read",
+            Kind::Map => "seen",
+            Kind::Mutex => "released",
+        }
+    }
+
+    /// What is done to one that is not there any more after the operation.
+    fn taken(self) -> &'static str {
+        match self {
+            Kind::Register | Kind::Map => "taken away",
+            _ => self.seen(),
+        }
+    }
+
+    fn word(self) -> &'static str {
+        match self {
+            Kind::Queue => "queue",
+            Kind::Stack => "stack",
+            Kind::Heap => "heap",
+            Kind::Register => "register",
+            Kind::Map => "map",
+            Kind::Mutex => "mutex",
+        }
+    }
+}
+
+/// How often: `once`, or `2 times`.
+struct Times(usize);
+
+impl Display for Times {
+    fn fmt(&self, f: &mut Formatter<'_>) -> fmt::Result {
+        match self.0 {
+            1 => f.write_str("once"),
+            times => write!(f, "{times} times"),
+        }
+    }
+}
+
+/// What a pattern says of an object of this kind; at a map, of this key.
+#[derive(Clone, Copy, Debug, PartialEq, Eq)]
+pub struct Sentence {
+    pub kind: Kind,
+    pub key: Option<i64>,
+    pub pattern: Pattern,
+}
+
+impl Display for Sentence {
+    fn fmt(&self, f: &mut Formatter<'_>) -> fmt::Result {
+        if let Some(key) = self.key {
+            write!(f, "key {key}: ")?;
+        }
+        let kind = self.kind;
+        let (put, seen, taken, word) = (kind.put(), kind.seen(), kind.taken(), kind.word());
+        match self.pattern {
+            Pattern::NeverSet(value) => write!(f, "value {value} was {seen} and never {put}"),
+            Pattern::TooEarly(value) => write!(f, "value {value} was {seen} before it was {put}"),
+            Pattern::TakenTwice(value) => {
+                write!(f, "value {value} was {put} once and {taken} twice")
+            }
+            Pattern::TakenTooOften { value, taken: times, set } => {
+                let (times, set) = (Times(times), Times(set));
+                write!(f, "value {value} was {taken} {times} and by then {put} {set}")
+            }
+            Pattern::SurelyNotEmpty { number } => {
+                write!(f, "the {word} was surely not empty when map {number} found nothing")
+            }
+            Pattern::UnderSmaller { taken, smaller } => write!(
+                f,
+                "value {taken} was {seen} while the smaller value {smaller} was surely in the {word}"
+            ),
+            Pattern::UnderSmallerOnes(taken) => write!(
+                f,
+                "value {taken} was {seen} while some smaller value was surely in the {word}"
+            ),
+            Pattern::WrongOrder { first, second } if kind == Kind::Stack => {
+                write!(f, "value {first} was popped before value {second}, which was pushed on it")
+            }
+            Pattern::WrongOrder { first, second } => {
+                write!(f, "value {first} was {put} before value {second} and {seen} after it")
+            }
+            Pattern::LeftBehind { first: still, second: given } => write!(
+                f,
+                "value {given} was {seen} while value {still}, which was {put} before it, was still \
+                 in the {word}"
+            ),
+            Pattern::LeftAbove { first: given, second: still } => write!(
+                f,
+                "value {given} was {seen} while value {still}, which was {put} on it, was still in \
+                 the {word}"
+            ),
+            Pattern::Stale(Some(value)) => {
+                write!(f, "value {value} was {seen} after another content had replaced it")
+            }
+            Pattern::Stale(None) => {
+                write!(f, "nil was {seen} after another content had replaced it")
+            }
+            Pattern::EachBeforeTheOther(one, other) => write!(
+                f,
+                "each of the values {one} and {other} was {seen} before the other, and each was \
+                 {put} once"
+            ),
+            Pattern::RefusedUnderItsValue { value, number } => write!(
+                f,
+                "value {value} was surely there when the swap of map {number}, which expects it, \
+                 was refused"
+            ),
+            Pattern::CountExceeded(counted) => f.write_str(&exceeded(counted, taken)),
+            Pattern::General => f.write_str("these operations have no valid order"),
+        }
+    }
+}
+
+fn exceeded(counted: Counted, taken: &str) -> String {
+    match counted {
+        Counted::Value(value) | Counted::Entry { value, .. } => {
+            format!("value {value} was {taken} more often than it can have been there")
+        }
+        Counted::NoEntry(_) => {
+            "it was found without a value more often than it can have been without one".into()
+        }
+        Counted::Held => "the lock was released more often than it can have been held".into(),
+        Counted::Free => "the lock was acquired more often than it can have been free".into(),
+    }
+}
