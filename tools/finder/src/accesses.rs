@@ -66,7 +66,7 @@ pub struct Cell {
     pub key: Option<i64>,
     pub accesses: Vec<Access>,
     /// The value of each content.
-    pub contents: Vec<Option<i64>>,
+    contents: Vec<Option<i64>>,
     numbers: HashMap<i64, usize>,
 }
 

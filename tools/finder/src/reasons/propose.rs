@@ -1,7 +1,7 @@
 //! The search for reasons: the patterns, the smallest first, and each made smaller.
 
-use super::cells::{add_cells, add_mutex, add_rare_cells};
-use super::containers::add_containers;
+use super::cells::{cell_patterns, mutex_patterns, rare_cell_patterns};
+use super::containers::container_patterns;
 use super::shrink::{Judge, tells};
 use super::value_pairs::value_pairs_of;
 use super::wholes::wholes_of;
@@ -67,24 +67,21 @@ struct Proposer<'a> {
 impl Proposer<'_> {
     /// The candidates by patterns, the lightest first.
     fn patterns(&self, timeline: &Timeline) -> Vec<Candidate> {
-        let mut candidates = Vec::new();
-        match self.history.kind {
-            kind @ (Kind::Queue | Kind::Stack | Kind::Heap) => {
-                add_containers(kind, timeline, &mut candidates);
-            }
-            Kind::Register | Kind::Map => add_cells(timeline, &mut candidates),
-            Kind::Mutex => add_mutex(timeline, &mut candidates),
-        }
+        let mut candidates = match self.history.kind {
+            kind @ (Kind::Queue | Kind::Stack | Kind::Heap) => container_patterns(kind, timeline),
+            Kind::Register | Kind::Map => cell_patterns(timeline),
+            Kind::Mutex => mutex_patterns(timeline),
+        };
         candidates.sort_by_key(|candidate| candidate.weight);
         candidates
     }
 
     /// The candidates by patterns that take longer to be found, the lightest first.
     fn rare_patterns(&self, timeline: &Timeline) -> Vec<Candidate> {
-        let mut candidates = Vec::new();
-        if matches!(self.history.kind, Kind::Register | Kind::Map) {
-            add_rare_cells(timeline, &mut candidates);
-        }
+        let mut candidates = match self.history.kind {
+            Kind::Register | Kind::Map => rare_cell_patterns(timeline),
+            _ => Vec::new(),
+        };
         candidates.sort_by_key(|candidate| candidate.weight);
         candidates
     }

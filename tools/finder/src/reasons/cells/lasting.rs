@@ -1,7 +1,7 @@
 //! Values that are seen though another one is there from before all calls that can have set them.
 
-use crate::reasons::cells::cells::{MOST, Scene, cell_plan, of_cell};
-use crate::reasons::cells::deadlines::needed;
+use super::MOST;
+use super::scene::{Scene, needed};
 use crate::reasons::{Candidate, Pattern};
 use crate::timeline::Call;
 
@@ -16,86 +16,64 @@ struct Lasting {
 
 /// The values that last until calls begin that need them, by the moments from which they do.
 fn lasting_of(scene: &Scene) -> Vec<Lasting> {
-    let mut all = Vec::new();
-    for access in &scene.cell.accesses {
-        let Some(content) = needed(access) else {
-            continue;
-        };
-        let call = access.call;
-        if let Some(last) = scene.setters.last_before(content, call.end)
-            && last.over < call.begin
-        {
-            all.push(Lasting { content, from: last.over, call });
-        }
-    }
-    all.sort_unstable_by_key(|lasting| lasting.from);
-    all
+    let lasting = scene.cell.accesses.iter().filter_map(|access| {
+        let (content, call) = (needed(access)?, access.call);
+        let last = scene.setters.last_before(content, call.end)?;
+        (last.over < call.begin).then_some(Lasting { content, from: last.over, call })
+    });
+    let mut lasting: Vec<Lasting> = lasting.collect();
+    lasting.sort_by_key(|lasting| lasting.from);
+    lasting
 }
 
 /// The one that lasts longest, and the one of those with another value.
-#[derive(Clone, Copy)]
+#[derive(Default)]
 struct Longest {
     first: Option<Lasting>,
     second: Option<Lasting>,
 }
 
-fn is_longer(lasting: Lasting, than: Option<Lasting>) -> bool {
-    than.is_none_or(|than| lasting.call.begin > than.call.begin)
-}
-
 impl Longest {
     fn note(&mut self, lasting: Lasting) {
+        let is_longer =
+            |than: Option<Lasting>| than.is_none_or(|than| lasting.call.begin > than.call.begin);
         let is_same = self.first.is_some_and(|first| first.content == lasting.content);
-        if is_longer(lasting, self.first) {
+        if is_longer(self.first) {
             if !is_same {
                 self.second = self.first;
             }
             self.first = Some(lasting);
-        } else if !is_same && is_longer(lasting, self.second) {
+        } else if !is_same && is_longer(self.second) {
             self.second = Some(lasting);
         }
     }
 
     /// One that is of another value, and lasts until after this one begins to last.
-    fn crossing(&self, lasting: Lasting) -> Option<Lasting> {
-        let other = match self.first {
-            Some(first) if first.content != lasting.content => first,
-            _ => self.second?,
-        };
-        if other.call.begin > lasting.from { Some(other) } else { None }
+    fn crossing(&self, lasting: &Lasting) -> Option<Lasting> {
+        let other = self.first.filter(|first| first.content != lasting.content).or(self.second);
+        other.filter(|other| other.call.begin > lasting.from)
     }
 }
 
 /// The candidate of two values of which both last at one moment.
-fn candidate_of(scene: &Scene, one: Lasting, other: Lasting) -> Candidate {
-    let mut calls = Vec::new();
-    calls.push(one.call);
-    calls.push(other.call);
+fn candidate_of(scene: &Scene, one: &Lasting, other: &Lasting) -> Candidate {
+    let mut calls = vec![one.call, other.call];
     let begin = one.call.begin.min(other.call.begin);
-    let sight = scene.sights.last_before(begin);
-    let first = sight.and_then(|sight| scene.call_at(sight.place));
-    if let Some(first) = first {
-        calls.push(first);
-    }
-    let contents = [one.content, other.content];
-    let mut plan = cell_plan(scene.cell, &contents, &calls);
+    let first = scene.sights.last_before(begin).map(|sight| scene.call(sight.place));
+    calls.extend(first);
+    let mut plan = scene.plan(&[one.content, other.content], &calls);
     plan.from = first.map(|first| first.number);
     plan.until = Some(one.call.until().max(other.call.until()));
-    of_cell(scene.cell, Pattern::General, plan, 6)
+    scene.candidate(Pattern::General, plan, 6)
 }
 
 /// The values of which two last at one moment.
-pub fn add_lasting(scene: &Scene, candidates: &mut Vec<Candidate>) {
-    let mut longest = Longest { first: None, second: None };
-    let mut found: usize = 0;
-    for lasting in &lasting_of(scene) {
-        if let Some(other) = longest.crossing(*lasting) {
-            candidates.push(candidate_of(scene, *lasting, other));
-            found = found.saturating_add(1);
-        }
-        if found >= MOST {
-            break;
-        }
-        longest.note(*lasting);
-    }
+pub fn lasting(scene: &Scene) -> Vec<Candidate> {
+    let mut longest = Longest::default();
+    let found = lasting_of(scene).into_iter().filter_map(|lasting| {
+        let other = longest.crossing(&lasting);
+        longest.note(lasting);
+        Some(candidate_of(scene, &lasting, &other?))
+    });
+    found.take(MOST).collect()
 }

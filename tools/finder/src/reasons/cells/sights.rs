@@ -1,6 +1,7 @@
 //! What calls of a cell set and show, by time.
 
 use crate::accesses::Cell;
+use crate::timeline::Call;
 
 /// The most calls that set a content of which it is looked how many touch a time.
 const MOST_COUNTED: usize = 64;
@@ -22,72 +23,60 @@ pub struct Setters {
 
 impl Setters {
     pub fn of(cell: &Cell) -> Setters {
-        let mut setters = Vec::new();
-        for access in &cell.accesses {
-            if let Some(content) = access.sets {
-                setters.push(Setter {
-                    content,
-                    begin: access.call.begin,
-                    end: access.call.end,
-                    over: access.call.end,
-                });
-            }
-        }
+        let setters = cell.accesses.iter().filter_map(|access| {
+            let Call { begin, end, .. } = access.call;
+            Some(Setter { content: access.sets?, begin, end, over: end })
+        });
+        let mut setters: Vec<Setter> = setters.collect();
         setters.sort_unstable_by_key(|setter| (setter.content, setter.begin));
-        let mut last: Option<Setter> = None;
-        for setter in setters.iter_mut() {
-            if let Some(before) = last
-                && before.content == setter.content
-            {
-                setter.over = setter.over.max(before.over);
+        for same in setters.chunk_by_mut(|one, other| one.content == other.content) {
+            let mut over = 0;
+            for setter in same {
+                over = over.max(setter.over);
+                setter.over = over;
             }
-            last = Some(*setter);
         }
         Setters { setters }
     }
 
+    /// How many set a lesser content, or this one and begin before this moment.
+    fn before(&self, content: usize, moment: u32) -> usize {
+        self.setters.partition_point(|setter| (setter.content, setter.begin) < (content, moment))
+    }
+
     /// The last one that sets this content and begins before this moment.
     pub fn last_before(&self, content: usize, moment: u32) -> Option<Setter> {
-        let next = self
-            .setters
-            .partition_point(|setter| (setter.content, setter.begin) < (content, moment));
-        let last = self.setters.get(next.checked_sub(1)?)?;
-        if last.content == content { Some(*last) } else { None }
+        let last = self.setters[..self.before(content, moment)].last();
+        last.copied().filter(|last| last.content == content)
     }
 
     /// The one that sets this content when `before` of them have begun before it.
     pub fn nth(&self, content: usize, before: usize) -> Option<Setter> {
-        let first = self.setters.partition_point(|setter| setter.content < content);
-        let setter = self.setters.get(first.checked_add(before)?)?;
-        if setter.content == content { Some(*setter) } else { None }
+        let setter = self.setters.get(self.before(content, 0) + before);
+        setter.copied().filter(|setter| setter.content == content)
     }
 
     /// How many set this content, begin before `to`, and are not over by `from`; more than `most`
     /// where they are more, or are not counted to the end.
     pub fn touching(&self, content: usize, from: u32, to: u32, most: usize) -> usize {
-        let next =
-            self.setters.partition_point(|setter| (setter.content, setter.begin) < (content, to));
-        let mut many: usize = 0;
-        for back in 1..=MOST_COUNTED {
-            let last = next.checked_sub(back);
-            let Some(setter) = last.and_then(|place| self.setters.get(place)) else {
-                return many;
+        let mut many = 0;
+        let mut setters = self.setters[..self.before(content, to)].iter().rev();
+        for _ in 0..MOST_COUNTED {
+            let setter = match setters.next() {
+                Some(setter) if setter.content == content && setter.over > from => setter,
+                _ => return many,
             };
-            if setter.content != content || setter.over <= from || many > most {
+            if many > most {
                 return many;
             }
-            if setter.end > from {
-                many = many.saturating_add(1);
-            }
+            many += usize::from(setter.end > from);
         }
-        most.saturating_add(1)
+        most + 1
     }
 
     /// How many set this content.
     pub fn count(&self, content: usize) -> usize {
-        let first = self.setters.partition_point(|setter| setter.content < content);
-        let next = self.setters.partition_point(|setter| setter.content <= content);
-        next.saturating_sub(first)
+        self.before(content + 1, 0) - self.before(content, 0)
     }
 }
 
@@ -99,62 +88,55 @@ pub struct Sight {
     pub place: usize,
 }
 
-/// Of the calls that return by a moment the one that begins last, and the one that begins last of
-/// those that show another content.
-#[derive(Clone, Copy)]
+/// Of some calls the one that begins last, and the one that begins last of those that show another
+/// content.
+#[derive(Clone, Copy, Default)]
 struct Latest {
-    end: u32,
     first: Option<Sight>,
     second: Option<Sight>,
 }
 
-fn is_later(sight: Sight, than: Option<Sight>) -> bool {
-    than.is_none_or(|than| sight.begin > than.begin)
-}
-
 impl Latest {
     fn note(&mut self, sight: Sight) {
+        let is_later = |than: Option<Sight>| than.is_none_or(|than| sight.begin > than.begin);
         let is_same = self.first.is_some_and(|first| first.content == sight.content);
-        if is_later(sight, self.first) {
+        if is_later(self.first) {
             if !is_same {
                 self.second = self.first;
             }
             self.first = Some(sight);
-        } else if !is_same && is_later(sight, self.second) {
+        } else if !is_same && is_later(self.second) {
             self.second = Some(sight);
         }
     }
 }
 
-/// The calls that show what the cell contains, by their ends.
+/// The calls that show what the cell contains, by their ends: for each end the latest of those that
+/// return by then.
 pub struct Sights {
-    latest: Vec<Latest>,
+    latest: Vec<(u32, Latest)>,
 }
 
 impl Sights {
     pub fn of(cell: &Cell) -> Sights {
-        let mut ended = Vec::new();
-        for (place, access) in cell.accesses.iter().enumerate() {
-            if let (Some(content), false) = (access.shows(), access.call.is_pending()) {
-                let begin = access.call.begin;
-                let sight = Sight { begin, content, place };
-                ended.push((access.call.end, sight));
-            }
-        }
-        ended.sort_unstable_by_key(|(end, _)| *end);
-        let mut latest = Vec::new();
-        let mut now = Latest { end: 0, first: None, second: None };
-        for (end, sight) in &ended {
-            now.end = *end;
-            now.note(*sight);
-            latest.push(now);
-        }
-        Sights { latest }
+        let returned = cell.accesses.iter().enumerate().filter(|(_, a)| !a.call.is_pending());
+        let sights = returned.filter_map(|(place, access)| {
+            let sight = Sight { begin: access.call.begin, content: access.shows()?, place };
+            Some((access.call.end, sight))
+        });
+        let mut sights: Vec<(u32, Sight)> = sights.collect();
+        sights.sort_unstable_by_key(|(end, _)| *end);
+        let mut now = Latest::default();
+        let latest = sights.into_iter().map(|(end, sight)| {
+            now.note(sight);
+            (end, now)
+        });
+        Sights { latest: latest.collect() }
     }
 
     fn before(&self, moment: u32) -> Option<Latest> {
-        let next = self.latest.partition_point(|latest| latest.end < moment);
-        self.latest.get(next.checked_sub(1)?).copied()
+        let next = self.latest.partition_point(|(end, _)| *end < moment);
+        self.latest[..next].last().map(|(_, latest)| *latest)
     }
 
     /// Of the calls that return before this moment the one that begins last.
@@ -165,10 +147,7 @@ impl Sights {
     /// Of the calls that return before this moment and show another content than this the one that
     /// begins last.
     pub fn last_other(&self, content: usize, moment: u32) -> Option<Sight> {
-        let latest = self.before(moment)?;
-        match latest.first {
-            Some(first) if first.content != content => Some(first),
-            _ => latest.second,
-        }
+        let Latest { first, second } = self.before(moment)?;
+        first.filter(|first| first.content != content).or(second)
     }
 }

@@ -1,35 +1,30 @@
 //! Contents of a cell that are taken away more often than they are set.
 
-use crate::accesses::{Access, Cell, NOTHING, Need};
+use super::scene::Scene;
+use super::windows::{shortest_window, starts_in, takers_in};
+use super::{MOST, MOST_NAMED};
+use crate::accesses::{Access, NOTHING, Need};
 use crate::cuts::{Count, Counted};
 use crate::model::Op;
-use crate::reasons::cells::cells::{MOST, MOST_NAMED, Scene, cell_plan, of_cell};
-use crate::reasons::cells::windows::{CountStart, shortest_window, starts_in, takers_in};
 use crate::reasons::{Candidate, Pattern};
 use crate::timeline::Call;
 
-/// What of a cell is counted; nothing for a register that contains nothing, which no call counts.
-fn count_of(cell: &Cell, content: usize) -> Option<Counted> {
-    let value = cell.contents.get(content).copied()?;
-    match (cell.key, value) {
-        (None, Some(value)) => Some(Counted::Value(value)),
-        (None, None) => None,
+/// What of a cell is counted. `None`: a register that contains nothing, which no call counts.
+fn counted(scene: &Scene, content: usize) -> Option<Counted> {
+    match (scene.cell.key, scene.value(content)) {
+        (None, value) => value.map(Counted::Value),
         (Some(key), Some(value)) => Some(Counted::Entry { key, value }),
         (Some(key), None) => Some(Counted::NoEntry(key)),
     }
 }
 
-/// What is counted in the part of a cell's plan, where an entry of a map is a register.
-fn in_part(counted: Counted) -> Counted {
-    match counted {
+/// The count, from this number on, in the part of a cell's plan, where a key of a map is a register.
+fn count_in_part(counted: Counted, from: u32) -> Count {
+    let counted = match counted {
         Counted::Entry { value, .. } => Counted::Value(value),
         _ => counted,
-    }
-}
-
-/// The count, from this number on, in the part of a cell's plan.
-fn count_from(counted: Counted, from: u32) -> Option<Count> {
-    Some(Count { counted: in_part(counted), from })
+    };
+    Count { counted, from }
 }
 
 /// The content that a call takes away, by its reply.
@@ -40,162 +35,102 @@ fn taken_by(access: &Access) -> Option<usize> {
     }
 }
 
-/// The calls that take a content away, or set one, side by side by contents.
-fn by_content<F: Fn(&Access) -> Option<usize>>(cell: &Cell, content_of: F) -> Vec<(usize, Call)> {
-    let mut calls = Vec::new();
-    for access in &cell.accesses {
+/// For each content the calls that take it away, or set it, by their ends.
+fn by_content(scene: &Scene, content_of: impl Fn(&Access) -> Option<usize>) -> Vec<Vec<Call>> {
+    let mut calls = vec![Vec::new(); scene.cell.content_count()];
+    for access in &scene.cell.accesses {
         if let Some(content) = content_of(access) {
-            calls.push((content, access.call));
+            calls[content].push(access.call);
         }
     }
-    calls.sort_unstable_by_key(|(content, call)| (*content, call.end));
+    calls.iter_mut().for_each(|calls| calls.sort_by_key(|call: &Call| call.end));
     calls
 }
 
-/// The calls of one content.
-fn calls_on(calls: &[(usize, Call)], content: usize) -> Vec<Call> {
-    let from = calls.partition_point(|(other, _)| *other < content);
-    let mut own = Vec::new();
-    for place in from..calls.len() {
-        match calls.get(place) {
-            Some((other, call)) if *other == content => own.push(*call),
-            _ => break,
-        }
-    }
-    own
-}
-
-/// How many of the takers, which come by their ends, have returned when fewer setters have begun;
-/// nothing where there is no such moment.
+/// How many of the takers, which come by their ends, have returned when fewer setters have begun.
+/// `None`: there is no such moment.
 fn excess(scene: &Scene, content: usize, takers: &[Call]) -> Option<usize> {
-    let at_first: usize = if content == NOTHING { 1 } else { 0 };
-    for (before, taker) in takers.iter().enumerate() {
-        let Some(needed) = before.checked_sub(at_first) else {
-            continue;
-        };
-        let setter = scene.setters.nth(content, needed);
-        if setter.is_none_or(|setter| setter.begin > taker.end) {
-            return Some(before.saturating_add(1));
-        }
-    }
-    None
+    let at_first = usize::from(content == NOTHING);
+    let mut takers = (1..).zip(takers).skip(at_first);
+    let (many, _) = takers.find(|(many, taker)| {
+        let setter = scene.setters.nth(content, many - 1 - at_first);
+        setter.is_none_or(|setter| setter.begin > taker.end)
+    })?;
+    Some(many)
 }
 
 /// Whether a put or a swap replaced this content by the same.
-fn is_set_again(cell: &Cell, content: usize) -> bool {
-    for access in &cell.accesses {
-        let sets_again = matches!(access.call.op, Op::Put(_, _) | Op::Cas(_, _));
-        if let (Need::Is(held), None) = (access.need, access.sets)
-            && held == content
-            && sets_again
-        {
-            return true;
-        }
-    }
-    false
+fn is_set_again(scene: &Scene, content: usize) -> bool {
+    scene.cell.accesses.iter().any(|access| {
+        access.need == Need::Is(content)
+            && access.sets.is_none()
+            && matches!(access.call.op, Op::Put(..) | Op::Cas(..))
+    })
 }
 
 /// What these calls, one more than have set the content, are said to do.
 fn excess_pattern(scene: &Scene, content: usize, taken: usize, counted: Counted) -> Pattern {
-    let set = taken.saturating_sub(1);
     match scene.value(content) {
-        Some(_) if is_set_again(scene.cell, content) => Pattern::CountExceeded(counted),
+        Some(_) if is_set_again(scene, content) => Pattern::CountExceeded(counted),
         Some(value) if taken == 2 && scene.setters.count(content) == 1 => {
             Pattern::TakenTwice(value)
         }
-        Some(value) => Pattern::TakenTooOften { value, taken, set },
+        Some(value) => Pattern::TakenTooOften { value, taken, set: taken - 1 },
         None => Pattern::CountExceeded(counted),
     }
 }
 
-/// The candidate of a content that these calls take away, one more than have set it.
-fn excess_candidate(scene: &Scene, content: usize, takers: &[Call], counted: Counted) -> Candidate {
-    let mut plan = cell_plan(scene.cell, &[content], takers);
-    plan.until = takers.last().map(|taker| taker.until());
-    plan.count = count_from(counted, 0);
-    let taken = takers.len();
-    let pattern = excess_pattern(scene, content, taken, counted);
-    of_cell(scene.cell, pattern, plan, taken.saturating_mul(2))
-}
-
 /// The contents that are taken away more often, from the beginning on, than they are set.
-pub fn add_excesses(scene: &Scene, candidates: &mut Vec<Candidate>) {
-    let takers = by_content(scene.cell, taken_by);
-    let mut found: usize = 0;
-    for content in 0..scene.cell.content_count() {
-        let Some(counted) = count_of(scene.cell, content) else {
-            continue;
-        };
-        let own = calls_on(&takers, content);
-        let Some(many) = excess(scene, content, &own) else {
-            continue;
-        };
-        if many > MOST_NAMED || many == 1 && content != NOTHING {
-            continue;
+pub fn excesses(scene: &Scene) -> Vec<Candidate> {
+    let takers = by_content(scene, taken_by);
+    let found = takers.iter().enumerate().filter_map(|(content, takers)| {
+        let counted = counted(scene, content)?;
+        let taken = excess(scene, content, takers)?;
+        if taken > MOST_NAMED || taken == 1 && content != NOTHING {
+            return None;
         }
-        let first = own.get(..many).unwrap_or(&own);
-        candidates.push(excess_candidate(scene, content, first, counted));
-        found = found.saturating_add(1);
-        if found >= MOST {
-            break;
-        }
-    }
-}
-
-/// The candidate of a content that these calls take away in a window more often than it can have
-/// been there.
-fn window_candidate(
-    scene: &Scene,
-    content: usize,
-    inside: &[Call],
-    counted: Counted,
-    start: CountStart,
-) -> Candidate {
-    let mut plan = cell_plan(scene.cell, &[content], inside);
-    plan.until = inside.last().map(|taker| taker.until());
-    plan.from = start.part;
-    plan.count = count_from(counted, start.count);
-    let weight = inside.len().saturating_mul(2);
-    let pattern = Pattern::CountExceeded(counted);
-    of_cell(scene.cell, pattern, plan, weight)
+        let takers = &takers[..taken];
+        let mut plan = scene.plan(&[content], takers);
+        plan.until = takers.last().map(Call::until);
+        plan.count = Some(count_in_part(counted, 0));
+        let pattern = excess_pattern(scene, content, taken, counted);
+        Some(scene.candidate(pattern, plan, 2 * taken))
+    });
+    found.take(MOST).collect()
 }
 
 /// The candidates of a content that is taken away in a window more often than it can have been
-/// there. Whether there are some.
-fn add_window(
+/// there.
+fn window(
     scene: &Scene,
     content: usize,
     takers: &[Call],
     setters: &[Call],
-    candidates: &mut Vec<Candidate>,
-) -> bool {
-    let Some(counted) = count_of(scene.cell, content) else {
-        return false;
-    };
-    let Some(window) = shortest_window(takers, setters, content == NOTHING) else {
-        return false;
-    };
+) -> Option<Vec<Candidate>> {
+    let counted = counted(scene, content)?;
+    let window = shortest_window(takers, setters, content == NOTHING)?;
     let inside = takers_in(takers, window);
-    for start in &starts_in(&inside, window) {
-        candidates.push(window_candidate(scene, content, &inside, counted, *start));
-    }
-    true
+    let candidates = starts_in(&inside, window).into_iter().map(|start| {
+        let mut plan = scene.plan(&[content], &inside);
+        plan.until = inside.last().map(Call::until);
+        plan.from = start.part;
+        plan.count = Some(count_in_part(counted, start.count));
+        scene.candidate(Pattern::CountExceeded(counted), plan, 2 * inside.len())
+    });
+    Some(candidates.collect())
 }
 
 /// The contents that are set more than once and in a window taken away more often than they can
 /// have been there.
-pub fn add_windows(scene: &Scene, candidates: &mut Vec<Candidate>) {
-    let takers = by_content(scene.cell, taken_by);
-    let setters = by_content(scene.cell, |access| access.sets);
-    let mut found: usize = 0;
-    for content in 0..scene.cell.content_count() {
-        let own = calls_on(&takers, content);
-        let set = calls_on(&setters, content);
-        if own.len() >= 2 && add_window(scene, content, &own, &set, candidates) {
-            found = found.saturating_add(1);
-        }
-        if found >= MOST {
-            break;
-        }
-    }
+pub fn windows(scene: &Scene) -> Vec<Candidate> {
+    let takers = by_content(scene, taken_by);
+    let setters = by_content(scene, |access| access.sets);
+    let found =
+        takers.iter().zip(&setters).enumerate().filter_map(|(content, (takers, setters))| {
+            if takers.len() < 2 {
+                return None;
+            }
+            window(scene, content, takers, setters)
+        });
+    found.take(MOST).flatten().collect()
 }

@@ -1,14 +1,16 @@
 //! Two values of a cell that are set once each, and each of which surely is there before the other
-//! one is.
+//! one is: the zones of Gibbons and Korach, "Testing Shared Memories", SIAM Journal on Computing 26,
+//! 1997.
 
-use crate::accesses::{Access, Cell, NOTHING, Need};
-use crate::reasons::cells::cells::{MOST, Scene, cell_plan, of_cell};
+use super::MOST;
+use super::scene::Scene;
+use crate::accesses::{Access, NOTHING, Need};
 use crate::reasons::{Candidate, Pattern};
 use crate::timeline::Call;
 
 /// Of the calls that need a content or set it the one that ends first, and the one that begins
 /// last, with their places.
-#[derive(Clone, Copy)]
+#[derive(Clone, Copy, Default)]
 struct Zone {
     first: Option<(u32, usize)>,
     last: Option<(u32, usize)>,
@@ -26,22 +28,17 @@ impl Zone {
     }
 }
 
-fn note(zones: &mut [Zone], content: usize, access: &Access, place: usize) {
-    if let Some(zone) = zones.get_mut(content) {
-        zone.note(access, place);
-    }
-}
-
 /// The zone of each content.
-fn zones_of(cell: &Cell) -> Vec<Zone> {
-    let none = Zone { first: None, last: None };
-    let mut zones = vec![none; cell.content_count()];
-    for (place, access) in cell.accesses.iter().enumerate() {
-        if let (Need::Is(content), false) = (access.need, access.call.is_pending()) {
-            note(&mut zones, content, access, place);
+fn zones_of(scene: &Scene) -> Vec<Zone> {
+    let mut zones = vec![Zone::default(); scene.cell.content_count()];
+    for (place, access) in scene.cell.accesses.iter().enumerate() {
+        if let Need::Is(content) = access.need
+            && !access.call.is_pending()
+        {
+            zones[content].note(access, place);
         }
         if let Some(content) = access.sets {
-            note(&mut zones, content, access, place);
+            zones[content].note(access, place);
         }
     }
     zones
@@ -56,127 +53,76 @@ struct Stay {
     content: usize,
 }
 
-/// A content that is there at two moments; at a content that is set more than once nothing is
+/// The contents that are there at two moments. At a content that is set more than once nothing is
 /// known.
-fn stay_of(scene: &Scene, zones: &[Zone], content: usize) -> Option<Stay> {
-    let zone = zones.get(content)?;
-    if content == NOTHING || scene.setters.count(content) != 1 {
-        return None;
-    }
-    let (from, _) = zone.first?;
-    let (to, _) = zone.last?;
-    Some(Stay { from, to, content })
-}
-
-/// The stays of the contents.
 fn stays_of(scene: &Scene, zones: &[Zone]) -> Vec<Stay> {
-    let mut stays = Vec::new();
-    for content in 0..zones.len() {
-        if let Some(stay) = stay_of(scene, zones, content) {
-            stays.push(stay);
-        }
-    }
-    stays
+    let once = zones
+        .iter()
+        .enumerate()
+        .filter(|(content, _)| *content != NOTHING && scene.setters.count(*content) == 1);
+    let stays = once.filter_map(|(content, zone)| {
+        Some(Stay { from: zone.first?.0, to: zone.last?.0, content })
+    });
+    stays.collect()
 }
 
-/// Of the stays that begin by a moment the two that last longest.
-#[derive(Clone, Copy)]
+/// The two of some stays that last longest.
+#[derive(Clone, Copy, Default)]
 struct Longest {
-    from: u32,
     first: Option<Stay>,
     second: Option<Stay>,
 }
 
-fn is_longer(stay: Stay, than: Option<Stay>) -> bool {
-    than.is_none_or(|than| stay.to > than.to)
-}
-
-/// The long stays, of which the end comes after the beginning, in rising order.
-fn all_longest(stays: &[Stay]) -> Vec<Longest> {
+/// For each long stay, of which the end comes after the beginning, in rising order, when it begins, and
+/// the two longest of those that begin by then.
+fn all_longest(stays: &[Stay]) -> Vec<(u32, Longest)> {
     let mut long: Vec<Stay> = stays.iter().filter(|stay| stay.from < stay.to).copied().collect();
-    long.sort_unstable_by_key(|stay| stay.from);
-    let mut longest = Vec::new();
-    let mut now = Longest { from: 0, first: None, second: None };
-    for stay in &long {
-        now.from = stay.from;
-        if is_longer(*stay, now.first) {
-            now.second = now.first;
-            now.first = Some(*stay);
-        } else if is_longer(*stay, now.second) {
-            now.second = Some(*stay);
+    long.sort_by_key(|stay| stay.from);
+    let mut now = Longest::default();
+    let longest = long.into_iter().map(|stay| {
+        let is_longer = |than: Option<Stay>| than.is_none_or(|than| stay.to > than.to);
+        if is_longer(now.first) {
+            now = Longest { first: Some(stay), second: now.first };
+        } else if is_longer(now.second) {
+            now.second = Some(stay);
         }
-        longest.push(now);
-    }
-    longest
+        (stay.from, now)
+    });
+    longest.collect()
 }
 
 /// A stay that begins before this one ends, and ends after it begins.
-fn crossing(longest: &[Longest], stay: &Stay) -> Option<Stay> {
-    let next = longest.partition_point(|longest| longest.from < stay.to);
-    let last = longest.get(next.checked_sub(1)?)?;
-    let other = match last.first {
-        Some(first) if first.content != stay.content => first,
-        _ => last.second?,
-    };
-    if other.to > stay.from { Some(other) } else { None }
+fn crossing(longest: &[(u32, Longest)], stay: &Stay) -> Option<Stay> {
+    let next = longest.partition_point(|(from, _)| *from < stay.to);
+    let (_, Longest { first, second }) = longest[..next].last().copied()?;
+    let other = first.filter(|first| first.content != stay.content).or(second)?;
+    (other.to > stay.from).then_some(other)
 }
 
-/// The calls that show the stays of two contents.
-fn calls_of(scene: &Scene, zones: &[Zone], contents: [usize; 2]) -> Vec<Call> {
-    let mut calls = Vec::new();
-    for content in contents {
-        let Some(zone) = zones.get(content) else {
-            continue;
-        };
-        for ended in [zone.first, zone.last] {
-            if let Some(call) = ended.and_then(|ended| scene.call_at(ended.1)) {
-                calls.push(call);
-            }
-        }
-    }
-    calls
-}
-
-/// The number of the history by which all these calls have returned, or begun.
-fn until_of(calls: &[Call]) -> u32 {
-    let mut until = 0;
-    for call in calls {
-        let last = if call.is_pending() { call.number.saturating_add(1) } else { call.until() };
-        until = last.max(until);
-    }
-    until
+/// The number of the history by which a call has returned, or begun.
+fn until_of(call: &Call) -> u32 {
+    if call.is_pending() { call.number + 1 } else { call.until() }
 }
 
 /// The candidate of two contents that are each before the other.
-fn candidate_of_crossing(scene: &Scene, zones: &[Zone], contents: [usize; 2]) -> Option<Candidate> {
-    let [first, second] = contents;
-    let (Some(one), Some(other)) = (scene.value(first), scene.value(second)) else {
-        return None;
-    };
-    let calls = calls_of(scene, zones, contents);
-    let mut plan = cell_plan(scene.cell, &contents, &calls);
-    plan.until = Some(until_of(&calls));
-    let pattern = Pattern::EachBeforeTheOther(one, other);
-    Some(of_cell(scene.cell, pattern, plan, 6))
+fn candidate_of(scene: &Scene, zones: &[Zone], contents: [usize; 2]) -> Option<Candidate> {
+    let [one, other] = contents.map(|content| scene.value(content));
+    let pattern = Pattern::EachBeforeTheOther(one?, other?);
+    let ends = contents.into_iter().flat_map(|content| [zones[content].first, zones[content].last]);
+    let calls: Vec<Call> = ends.flatten().map(|(_, place)| scene.call(place)).collect();
+    let mut plan = scene.plan(&contents, &calls);
+    plan.until = calls.iter().map(until_of).max();
+    Some(scene.candidate(pattern, plan, 6))
 }
 
 /// The values of which each surely is there before another one is, and after it.
-pub fn add_zones(scene: &Scene, candidates: &mut Vec<Candidate>) {
-    let zones = zones_of(scene.cell);
+pub fn crossing_zones(scene: &Scene) -> Vec<Candidate> {
+    let zones = zones_of(scene);
     let stays = stays_of(scene, &zones);
     let longest = all_longest(&stays);
-    let mut found: usize = 0;
-    for stay in &stays {
-        let Some(other) = crossing(&longest, stay) else {
-            continue;
-        };
-        if let Some(candidate) = candidate_of_crossing(scene, &zones, [other.content, stay.content])
-        {
-            candidates.push(candidate);
-            found = found.saturating_add(1);
-        }
-        if found >= MOST {
-            break;
-        }
-    }
+    let found = stays.iter().filter_map(|stay| {
+        let other = crossing(&longest, stay)?;
+        candidate_of(scene, &zones, [other.content, stay.content])
+    });
+    found.take(MOST).collect()
 }

@@ -1,6 +1,6 @@
 //! Chains: the plans that keep the values of some runs.
 
-use crate::reasons::containers::runs::{Run, Runs};
+use super::runs::{Run, Runs};
 use crate::reasons::{Element, Plan};
 use crate::timeline::Call;
 
@@ -10,20 +10,13 @@ const FEW_CALLS: usize = 8;
 /// The number before which what was done with the value of a run is left out; none where the run is
 /// its first, or the value has few calls.
 fn since_of(runs: &Runs, run: &Run) -> Option<u32> {
-    if runs.calls_of(run.value) <= FEW_CALLS {
-        return None;
-    }
-    run.since
+    run.since.filter(|_| runs.calls_of(run.value) > FEW_CALLS)
 }
 
 /// The values of runs, in rising order, each once, and since when.
 fn kept_of(runs: &Runs, chain: &[usize]) -> Vec<(i64, Option<u32>)> {
-    let mut kept = Vec::new();
-    for place in chain {
-        if let Some(run) = runs.runs.get(*place) {
-            kept.push((run.value, since_of(runs, run)));
-        }
-    }
+    let chain = chain.iter().map(|place| &runs.runs[*place]);
+    let mut kept: Vec<_> = chain.map(|run| (run.value, since_of(runs, run))).collect();
     kept.sort_unstable();
     kept.dedup_by_key(|(value, _)| *value);
     kept
@@ -31,24 +24,16 @@ fn kept_of(runs: &Runs, chain: &[usize]) -> Vec<(i64, Option<u32>)> {
 
 /// The values of runs, in rising order.
 pub fn values_of(runs: &Runs, chain: &[usize]) -> Vec<i64> {
-    let kept = kept_of(runs, chain);
-    kept.iter().map(|(value, _)| *value).collect()
+    kept_of(runs, chain).into_iter().map(|(value, _)| value).collect()
 }
 
 /// The plan that keeps the values of these runs and these optional operations, until a number. What
 /// was done with a value before the first of its runs is left out.
 pub fn plan_of_runs(runs: &Runs, chain: &[usize], optional: &[Call], until: u32) -> Plan {
-    let mut elements = Vec::new();
-    for (value, since) in &kept_of(runs, chain) {
-        elements.push(match since {
-            None => Element::Value(*value),
-            Some(since) => Element::Since(*value, *since),
-        });
-    }
-    for call in optional {
-        elements.push(Element::Operation(call.number));
-    }
-    let mut plan = Plan::of(elements);
-    plan.until = Some(until);
-    plan
+    let values = kept_of(runs, chain).into_iter().map(|(value, since)| match since {
+        None => Element::Value(value),
+        Some(since) => Element::Since(value, since),
+    });
+    let optional = optional.iter().map(|call| Element::Operation(call.number));
+    Plan { until: Some(until), ..Plan::of(values.chain(optional).collect()) }
 }

@@ -1,7 +1,7 @@
 //! Two values of a queue or stack in the wrong order, each put in once.
 
-use crate::reasons::containers::chains::plan_of_runs;
-use crate::reasons::containers::runs::Runs;
+use super::chains::plan_of_runs;
+use super::runs::Runs;
 use crate::reasons::{Candidate, Pattern};
 use crate::timeline::PENDING;
 use crate::trees::{Mark, Marks};
@@ -10,7 +10,6 @@ use crate::trees::{Mark, Marks};
 const MOST: usize = 8;
 
 /// A value that is put in once, and taken at most once.
-#[derive(Clone, Copy)]
 struct Pair {
     /// The place of its run.
     place: usize,
@@ -27,156 +26,95 @@ struct Pair {
 
 /// The values that are put in once, and taken at most once.
 fn pairs_of(runs: &Runs) -> Vec<Pair> {
-    let first_pending = runs.first_pending();
-    let mut pairs = Vec::new();
-    for (place, run) in runs.runs.iter().enumerate() {
-        let ([put], removals) = (runs.puts(run), runs.removals(run)) else {
-            continue;
+    let pairs = runs.runs.iter().enumerate().filter_map(|(place, run)| {
+        let ([put], [] | [_]) = (runs.puts(run), runs.removals(run)) else {
+            return None;
         };
-        if removals.len() > 1 {
-            continue;
-        }
-        let removal = removals.first();
-        pairs.push(Pair {
+        let removal = runs.removals(run).first();
+        Some(Pair {
             place,
             value: run.value,
             put_begin: put.begin,
             put_end: put.end,
-            leaves: removal.map_or(first_pending, |removal| removal.begin),
+            leaves: removal.map_or(runs.first_pending(), |removal| removal.begin),
             gone: removal.map_or(PENDING, |removal| removal.end),
             until: removal.map_or(PENDING, |removal| removal.until()),
-        });
-    }
-    pairs
+        })
+    });
+    pairs.collect()
 }
 
 /// The times of the pairs that have one, each with the place of the pair, in rising order.
-fn by_time<F: Fn(&Pair) -> Option<u32>>(pairs: &[Pair], time: F) -> Vec<(u32, usize)> {
-    let mut places = Vec::new();
-    for (place, pair) in pairs.iter().enumerate() {
-        if let Some(at) = time(pair) {
-            places.push((at, place));
-        }
-    }
-    places.sort_unstable();
-    places
+fn by_time(pairs: &[Pair], time: impl Fn(&Pair) -> Option<u32>) -> Vec<(u32, usize)> {
+    let times = pairs.iter().map(time).enumerate();
+    let mut times: Vec<_> = times.filter_map(|(place, at)| Some((at?, place))).collect();
+    times.sort_unstable();
+    times
 }
 
-fn return_of(at: u32) -> Option<u32> {
-    if at == PENDING { None } else { Some(at) }
+fn if_returned(at: u32) -> Option<u32> {
+    (at != PENDING).then_some(at)
 }
 
-/// The candidate of two values, of which the second is taken too early in a queue.
-fn queue_candidate(runs: &Runs, first: &Pair, second: &Pair) -> Candidate {
-    let places = [first.place, second.place];
-    let plan = plan_of_runs(runs, &places, &[], second.until);
-    let (first_value, second_value) = (first.value, second.value);
-    let pattern = if first.gone == PENDING {
-        Pattern::LeftBehind { first: first_value, second: second_value }
-    } else {
-        Pattern::WrongOrder { first: first_value, second: second_value }
+/// The candidate of two values, of which the second is taken too early from a queue.
+fn queue_candidate(runs: &Runs, one: &Pair, other: &Pair) -> Candidate {
+    let plan = plan_of_runs(runs, &[one.place, other.place], &[], other.until);
+    let (first, second) = (one.value, other.value);
+    let pattern = match if_returned(one.gone) {
+        None => Pattern::LeftBehind { first, second },
+        Some(_) => Pattern::WrongOrder { first, second },
     };
     Candidate::without_key(pattern, plan, 4)
 }
 
 /// The candidate of two values, of which the first is taken too early from a stack.
-fn stack_candidate(runs: &Runs, first: &Pair, second: &Pair) -> Candidate {
-    let places = [first.place, second.place];
-    let plan = plan_of_runs(runs, &places, &[], first.until);
-    let (first_value, second_value) = (first.value, second.value);
-    let pattern = if second.gone == PENDING {
-        Pattern::LeftAbove { first: first_value, second: second_value }
-    } else {
-        Pattern::WrongOrder { first: first_value, second: second_value }
+fn stack_candidate(runs: &Runs, one: &Pair, other: &Pair) -> Candidate {
+    let plan = plan_of_runs(runs, &[one.place, other.place], &[], one.until);
+    let (first, second) = (one.value, other.value);
+    let pattern = match if_returned(other.gone) {
+        None => Pattern::LeftAbove { first, second },
+        Some(_) => Pattern::WrongOrder { first, second },
     };
     Candidate::without_key(pattern, plan, 4)
 }
 
-/// Raises the mark to the one among these pairs that leaves last, of those whose put has returned
-/// by this moment.
-fn raise(pairs: &[Pair], ended: &[(u32, usize)], next: &mut usize, by: u32, latest: &mut Mark) {
-    for k in *next..ended.len() {
-        let Some((end, place)) = ended.get(k).copied() else {
-            break;
-        };
-        if end > by {
-            break;
-        }
-        let at = pairs.get(place).map_or(0, |pair| pair.leaves);
-        *latest = latest.greater(Mark { at, place });
-        *next = k.saturating_add(1);
-    }
-}
-
-/// Two values of a queue, of which the second is put in after the first and taken before it.
-pub fn add_queue_pairs(runs: &Runs, candidates: &mut Vec<Candidate>) {
+/// Two values of a queue, of which the second is put in after the first and taken before it: of those
+/// whose put has returned when the second is put in, the first is the one that leaves last.
+pub fn queue_pairs(runs: &Runs) -> Vec<Candidate> {
     let pairs = pairs_of(runs);
-    let ended = by_time(&pairs, |pair| return_of(pair.put_end));
-    let mut next = 0;
+    let mut ended = by_time(&pairs, |pair| if_returned(pair.put_end)).into_iter().peekable();
     let mut latest = Mark::NONE;
-    let mut found: usize = 0;
-    for (begin, place) in &by_time(&pairs, |pair| Some(pair.put_begin)) {
-        let Some(second) = pairs.get(*place) else {
-            continue;
-        };
-        raise(&pairs, &ended, &mut next, *begin, &mut latest);
-        let Some(first) = pairs.get(latest.place) else {
-            continue;
-        };
-        if second.gone > latest.at || first.value == second.value {
-            continue;
+    let begun = by_time(&pairs, |pair| Some(pair.put_begin)).into_iter();
+    let found = begun.filter_map(|(begin, place)| {
+        while let Some((_, place)) = ended.next_if(|(end, _)| *end <= begin) {
+            latest = latest.greater(Mark { at: pairs[place].leaves, place });
         }
-        candidates.push(queue_candidate(runs, first, second));
-        found = found.saturating_add(1);
-        if found >= MOST {
-            break;
-        }
-    }
-}
-
-/// Adds to the tree, by the begins of their puts, the values whose put has returned by this moment.
-fn lay(pairs: &[Pair], ended: &[(u32, usize)], next: &mut usize, by: u32, laid: &mut Marks) {
-    for k in *next..ended.len() {
-        let Some((end, place)) = ended.get(k).copied() else {
-            break;
-        };
-        if end > by {
-            break;
-        }
-        if let Some(pair) = pairs.get(place) {
-            let at = pair.leaves;
-            laid.raise(pair.put_begin as usize, Mark { at, place });
-        }
-        *next = k.saturating_add(1);
-    }
+        let (first, second) = (&pairs[latest.place], &pairs[place]);
+        (second.gone <= latest.at && first.value != second.value)
+            .then(|| queue_candidate(runs, first, second))
+    });
+    found.take(MOST).collect()
 }
 
 /// Two values of a stack, of which the second is put on the first, and the first is taken before
-/// the second.
-pub fn add_stack_pairs(runs: &Runs, candidates: &mut Vec<Candidate>) {
+/// the second: of those whose put has returned when the first leaves, the second is the one that
+/// leaves last.
+pub fn stack_pairs(runs: &Runs) -> Vec<Candidate> {
     let pairs = pairs_of(runs);
-    let ended = by_time(&pairs, |pair| return_of(pair.put_end));
-    let leaving = by_time(&pairs, |pair| return_of(pair.gone).map(|_| pair.leaves));
     let end = runs.end as usize;
-    let mut laid = Marks::new(end);
-    let mut next = 0;
-    let mut found: usize = 0;
-    for (leaves, place) in &leaving {
-        let Some(first) = pairs.get(*place) else {
-            continue;
-        };
-        lay(&pairs, &ended, &mut next, *leaves, &mut laid);
-        let latest = laid.greatest(first.put_end as usize, end);
-        let Some(second) = pairs.get(latest.place) else {
-            continue;
-        };
-        if latest.at < first.gone || first.value == second.value {
-            continue;
+    let mut ended = by_time(&pairs, |pair| if_returned(pair.put_end)).into_iter().peekable();
+    let mut pushed = Marks::new(end); // by the begins of their puts
+    let leaving = by_time(&pairs, |pair| if_returned(pair.gone).map(|_| pair.leaves)).into_iter();
+    let found = leaving.filter_map(|(leaves, place)| {
+        while let Some((_, place)) = ended.next_if(|(end, _)| *end <= leaves) {
+            let pair = &pairs[place];
+            pushed.raise(pair.put_begin as usize, Mark { at: pair.leaves, place });
         }
-        candidates.push(stack_candidate(runs, first, second));
-        found = found.saturating_add(1);
-        if found >= MOST {
-            break;
-        }
-    }
+        let first = &pairs[place];
+        let latest = pushed.greatest(first.put_end as usize, end);
+        let second = &pairs[latest.place];
+        (latest.at >= first.gone && first.value != second.value)
+            .then(|| stack_candidate(runs, first, second))
+    });
+    found.take(MOST).collect()
 }
