@@ -1,36 +1,34 @@
 //! How far two lists of values are apart.
 
-use std::collections::BTreeMap;
-
-/// Adds to the number of times that a value is more often in one list than in another: how much
-/// farther apart they then are.
-fn shift(counts: &mut BTreeMap<i64, i64>, value: i64, change: i64) -> i64 {
-    let before = counts.get(&value).copied().unwrap_or(0);
-    let after = before.saturating_add(change);
-    counts.insert(value, after);
-    size_of(after).saturating_sub(size_of(before))
-}
-
-fn size_of(number: i64) -> i64 {
-    number.max(number.saturating_neg())
-}
+use std::collections::HashMap;
 
 /// How far two lists of values are apart: the sum, over all lengths of their beginnings, of the
 /// values that are in one of these and not in the other.
-pub fn distance(puts: &[i64], takes: &[i64]) -> i64 {
-    let mut counts = BTreeMap::new();
-    let mut apart: i64 = 0;
-    let mut sum: i64 = 0;
-    for (put, take) in puts.iter().zip(takes.iter()) {
-        apart = apart.saturating_add(shift(&mut counts, *put, 1));
-        apart = apart.saturating_add(shift(&mut counts, *take, -1));
-        sum = sum.saturating_add(apart);
+pub fn distance(puts: &[usize], takes: &[usize]) -> i64 {
+    let mut counts: HashMap<usize, i64> = HashMap::new();
+    let mut shift = |value: usize, change: i64| {
+        let count = counts.entry(value).or_insert(0);
+        let before = count.abs();
+        *count += change;
+        count.abs() - before
+    };
+    let mut apart = 0;
+    let mut sum = 0;
+    for (put, take) in puts.iter().zip(takes) {
+        apart += shift(*put, 1) + shift(*take, -1);
+        sum += apart;
     }
     sum
 }
 
-/// The list without its first value.
-pub fn later(values: &[i64]) -> &[i64] {
-    let (_, later) = values.split_at(values.len().min(1));
-    later
+#[cfg(test)]
+mod tests {
+    use super::distance;
+
+    #[test]
+    fn counts_what_is_in_one_beginning_alone() {
+        assert_eq!(distance(&[1, 2, 3], &[1, 2, 3]), 0);
+        assert_eq!(distance(&[1, 2], &[2, 1]), 2);
+        assert_eq!(distance(&[1, 2, 3], &[3, 1, 2]), 4);
+    }
 }

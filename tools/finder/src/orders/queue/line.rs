@@ -2,63 +2,46 @@
 
 use crate::timeline::Span;
 
-/// What comes first in one gap between two cuts.
+/// What comes first in one gap between two calls that find nothing.
 #[derive(Clone, Copy, PartialEq, Eq, PartialOrd, Ord)]
 enum Rank {
-    Puts,
-    Takes,
+    Put,
+    Take,
     FindsNone,
 }
 
-#[derive(Clone, Copy)]
-struct Step {
-    /// The number of cuts before it.
-    phase: usize,
-    gap: u32,
-    rank: Rank,
-    turn: usize,
-    number: u32,
-}
-
 /// The calls that are lined up, each in the first gap that those before it leave.
+#[derive(Default)]
 pub struct Line {
-    steps: Vec<Step>,
+    /// The number of calls that find nothing before each call, its gap and rank, and its number.
+    steps: Vec<(usize, u32, Rank, u32)>,
     phase: usize,
-    /// The gap of the last cut, and 0 where there is none.
+    /// The gap of the last call that finds nothing, and 0 where there is none.
     from: u32,
     put_at: u32,
     take_at: u32,
 }
 
 impl Line {
-    /// No call is lined up.
-    pub fn new() -> Line {
-        Line { steps: Vec::new(), phase: 0, from: 0, put_at: 0, take_at: 0 }
-    }
-
-    fn add(&mut self, gap: u32, rank: Rank, number: u32) {
-        self.steps.push(Step { phase: self.phase, gap, rank, turn: self.steps.len(), number });
-    }
-
     pub fn put(&mut self, call: &Span) {
         self.put_at = call.begin.max(self.from).max(self.put_at);
-        self.add(self.put_at, Rank::Puts, call.number)
+        self.steps.push((self.phase, self.put_at, Rank::Put, call.number));
     }
 
     pub fn take(&mut self, call: &Span) {
         self.take_at = call.begin.max(self.put_at).max(self.take_at);
-        self.add(self.take_at, Rank::Takes, call.number)
+        self.steps.push((self.phase, self.take_at, Rank::Take, call.number));
     }
 
-    pub fn cut(&mut self, gap: u32, number: u32) {
-        self.add(gap, Rank::FindsNone, number);
+    pub fn find_none(&mut self, gap: u32, number: u32) {
+        self.steps.push((self.phase, gap, Rank::FindsNone, number));
         self.from = gap;
-        self.phase = self.phase.saturating_add(1);
+        self.phase += 1;
     }
 
     /// The numbers of the calls in their order.
     pub fn order(mut self) -> Vec<u32> {
-        self.steps.sort_unstable_by_key(|step| (step.phase, step.gap, step.rank, step.turn));
-        self.steps.iter().map(|step| step.number).collect()
+        self.steps.sort_by_key(|(phase, gap, rank, _)| (*phase, *gap, *rank));
+        self.steps.into_iter().map(|(_, _, _, number)| number).collect()
     }
 }
