@@ -1,8 +1,8 @@
 //! What may be placed next where a call returns that has no place yet: the likely steps first.
 
+use super::demands::Demands;
+use super::waiting::{Role, Waiting};
 use crate::accesses::{Access, Need};
-use crate::orders::cells::demands::Demands;
-use crate::orders::cells::waiting::{Role, Waiting};
 use crate::timeline::PENDING;
 
 /// The most contents set one out of the other of which it is asked how long they stay.
@@ -25,10 +25,10 @@ pub struct Position<'a> {
     pub now: u32,
 }
 
-impl<'a> Position<'a> {
+impl Position<'_> {
     /// The content that a call asks for and that is not there.
     fn goal_of(&self, place: usize) -> Option<usize> {
-        match self.accesses.get(place)?.need {
+        match self.accesses[place].need {
             Need::Is(goal) if goal != self.content => Some(goal),
             _ => None,
         }
@@ -41,10 +41,7 @@ impl<'a> Position<'a> {
 
     /// Whether a call asks that a content is not there.
     fn refuses(&self, place: usize) -> bool {
-        match self.accesses.get(place) {
-            Some(access) => matches!(access.need, Need::IsNot(_)),
-            None => false,
-        }
+        matches!(self.accesses[place].need, Need::IsNot(_))
     }
 
     /// How long a content is asked for that a call sets now, and those that are then set out of it,
@@ -60,18 +57,14 @@ impl<'a> Position<'a> {
             }
             let hold = self.demands.hold(content, begin);
             until = until.max(hold.until);
-            let taker = match self.waiting.first(Role::Takes, content) {
-                Some((end, taker)) if end < hold.next => Some(taker),
-                _ => hold.taker,
-            };
-            let Some(place) = taker else {
+            let waiting = self.waiting.first(Role::Takes, content);
+            let waiting = waiting.filter(|(end, _)| *end < hold.next).map(|(_, taker)| taker);
+            let Some(taker) = waiting.or(hold.taker) else {
                 break;
             };
-            let Some(access) = self.accesses.get(place) else {
-                break;
-            };
+            let access = &self.accesses[taker];
             begin = begin.max(access.call.begin);
-            setter = place;
+            setter = taker;
             content = access.sets.unwrap_or(content);
         }
         until
@@ -79,28 +72,22 @@ impl<'a> Position<'a> {
 
     /// Of the calls that can be placed now and set the content, the first to return.
     fn setter_now(&self, content: usize) -> Option<usize> {
-        let taker = self.waiting.setter(content, Some(self.content));
-        let overwriter = self.waiting.setter(content, None);
-        match (taker, overwriter) {
-            (Some(taker), Some(overwriter)) => Some(taker.min(overwriter).1),
-            (Some((_, place)), None) => Some(place),
-            (None, Some((_, place))) => Some(place),
-            (None, None) => None,
-        }
+        let sources = [Some(self.content), None];
+        let setters = sources.into_iter().filter_map(|source| self.waiting.setter(content, source));
+        setters.min().map(|(_, place)| place)
     }
 
     /// The first step of a shortest way to a content. The list takes in the contents out of which
     /// calls lead there: all of them where there is no way.
     pub fn step_to(&self, goal: usize, contents: &mut Vec<usize>) -> Option<usize> {
         contents.push(goal);
-        for k in 0..self.accesses.len() {
-            let Some(content) = contents.get(k).copied() else {
-                break;
-            };
+        let mut next = 0;
+        while let Some(content) = contents.get(next).copied() {
             if let Some(place) = self.setter_now(content) {
                 return Some(place);
             }
             self.waiting.add_sources(content, contents);
+            next += 1;
         }
         None
     }
@@ -115,9 +102,7 @@ impl<'a> Position<'a> {
 
     /// Whether a call can't have its place while the content is there, and stays.
     fn is_against(&self, place: usize, content: usize) -> bool {
-        let Some(access) = self.accesses.get(place) else {
-            return false;
-        };
+        let access = &self.accesses[place];
         match (access.need, access.sets) {
             (Need::Is(other), _) => other != content,
             (Need::Any, Some(target)) => target != content,
@@ -129,79 +114,56 @@ impl<'a> Position<'a> {
     /// while the content is asked for, and is against it.
     fn step_before(&self, place: usize, content: usize) -> Option<usize> {
         let until = self.until(place, content);
-        for (end, other) in self.waiting.by_end.iter().take(MOST_SEEN) {
-            if *end >= until {
-                break;
-            }
-            if *other == place || !self.is_against(*other, content) {
-                continue;
-            }
-            match self.step_for(*other) {
-                Some(step) if step != place => return Some(step),
-                _ => (),
-            }
-        }
-        None
+        let soon = self.waiting.by_end.iter().take(MOST_SEEN).take_while(|(end, _)| *end < until);
+        let against = soon.filter(|(_, other)| *other != place && self.is_against(*other, content));
+        let mut steps = against.filter_map(|(_, other)| self.step_for(*other));
+        steps.find(|step| *step != place)
     }
 
     /// Adds a step, except where one is there that does the same.
     fn add_new(&self, steps: &mut Vec<usize>, place: usize) {
-        let Some(access) = self.accesses.get(place) else {
-            return;
-        };
-        for step in steps.iter() {
-            if let Some(other) = self.accesses.get(*step)
-                && other.need == access.need
-                && other.sets == access.sets
-            {
-                return;
-            }
+        let done = |place: usize| (self.accesses[place].need, self.accesses[place].sets);
+        if steps.iter().all(|step| done(*step) != done(place)) {
+            steps.push(place);
         }
-        steps.push(place);
     }
 
     /// Adds a step. Before one that overwrites comes what takes away the content that is there, and
     /// what can't come soon after.
     fn add_step(&self, steps: &mut Vec<usize>, place: usize) {
-        let Some(access) = self.accesses.get(place) else {
-            return;
-        };
+        let access = &self.accesses[place];
         if let (Need::Any, Some(content)) = (access.need, access.sets) {
-            match self.waiting.first(Role::Takes, self.content) {
-                Some((end, taker)) if end != PENDING => self.add_new(steps, taker),
-                _ => (),
+            if let Some((end, taker)) = self.waiting.first(Role::Takes, self.content)
+                && end != PENDING
+            {
+                self.add_new(steps, taker);
             }
             if let Some(other) = self.step_before(place, content) {
                 self.add_new(steps, other);
             }
         }
-        self.add_new(steps, place)
+        self.add_new(steps, place);
     }
 
     /// Whether the call sets another content than is there, and is not kept for later. One that need
     /// not take effect is kept where what it sets is asked for later, and no other call sets that.
     fn is_spare(&self, place: usize) -> bool {
-        let Some(access) = self.accesses.get(place) else {
-            return false;
-        };
-        match access.sets {
-            Some(target) if target != self.content => {
-                !access.call.is_pending() || self.until(place, target) == self.now
-            }
-            _ => false,
-        }
+        let access = &self.accesses[place];
+        access.sets.is_some_and(|target| {
+            target != self.content
+                && (!access.call.is_pending() || self.until(place, target) == self.now)
+        })
     }
 
     /// Adds some calls with this role: such as can be spared, or any.
     fn add_some(&self, steps: &mut Vec<usize>, role: Role, content: usize, spare: bool) {
-        let enough = steps.len().saturating_add(MOST_WAYS_OUT);
-        let calls = self.waiting.by_role.range((role, content, 0, 0)..);
-        for (found, with, _, place) in calls.take(MOST_SEEN) {
-            if *found != role || *with != content || steps.len() >= enough {
-                break;
+        let enough = steps.len() + MOST_WAYS_OUT;
+        for (_, place) in self.waiting.all(role, content).take(MOST_SEEN) {
+            if steps.len() >= enough {
+                return;
             }
-            if !spare || self.is_spare(*place) {
-                self.add_new(steps, *place);
+            if !spare || self.is_spare(place) {
+                self.add_new(steps, place);
             }
         }
     }
@@ -225,26 +187,18 @@ impl<'a> Position<'a> {
         steps
     }
 
-    /// Adds what can be placed now and sets a content.
-    fn add_setters(&self, steps: &mut Vec<usize>, content: usize) {
-        for source in [Some(self.content), None] {
-            if let Some((_, setter)) = self.waiting.setter(content, source) {
-                self.add_new(steps, setter);
-            }
-        }
-    }
-
     /// Adds the steps that can be of use: calls that have to return, and what lets such a call find
     /// what it asks for. One that need not take effect does only where that is seen.
     fn add_others(&self, steps: &mut Vec<usize>) {
-        for (end, place) in self.waiting.by_end.iter() {
-            if *end == PENDING {
-                break;
-            }
+        for (_, place) in self.waiting.by_end.iter().take_while(|(end, _)| *end != PENDING) {
             if self.refuses(*place) {
                 self.add_ways_out(steps);
             } else if let Some(goal) = self.goal_of(*place) {
-                self.add_setters(steps, goal);
+                for source in [Some(self.content), None] {
+                    if let Some((_, setter)) = self.waiting.setter(goal, source) {
+                        self.add_new(steps, setter);
+                    }
+                }
             } else {
                 self.add_new(steps, *place);
             }
@@ -255,8 +209,8 @@ impl<'a> Position<'a> {
     /// enough the others. There are none where no way leads to what the call asks for.
     pub fn steps_after(&self, tried: usize) -> Vec<usize> {
         let mut steps = self.likely_steps();
-        let blocked = steps.is_empty() && self.goal().is_some();
-        if steps.len() <= tried && !blocked {
+        let is_blocked = steps.is_empty() && self.goal().is_some();
+        if steps.len() <= tried && !is_blocked {
             self.add_others(&mut steps);
         }
         steps

@@ -21,15 +21,9 @@ pub fn fingerprint_of(access: &Access) -> u64 {
         Need::Is(content) => (2, content),
         Need::IsNot(content) => (3, content),
     };
-    let sets = match access.sets {
-        Some(content) => content.saturating_add(1),
-        None => 0,
-    };
-    let mut fingerprint: u64 = need;
-    for part in [content as u64, sets as u64, access.call.end as u64] {
-        fingerprint = mixed(fingerprint.wrapping_add(part));
-    }
-    fingerprint
+    let sets = access.sets.map_or(0, |content| content + 1);
+    let parts = [content as u64, sets as u64, u64::from(access.call.end)];
+    parts.into_iter().fold(need, |fingerprint: u64, part| mixed(fingerprint.wrapping_add(part)))
 }
 
 /// Fingerprints, each at the slot that it names.
@@ -40,23 +34,19 @@ pub struct DeadEnds {
 impl DeadEnds {
     /// Room for some states for each of these calls.
     pub fn new(calls: usize) -> DeadEnds {
-        let count = calls.saturating_mul(16).saturating_add(64);
-        let slots = vec![0; count.min(MOST_STATES)];
-        DeadEnds { slots }
+        DeadEnds { slots: vec![0; (16 * calls + 64).min(MOST_STATES)] }
     }
 
     fn slot(&self, fingerprint: u64) -> usize {
-        (fingerprint % (self.slots.len() as u64).max(1)) as usize
+        (fingerprint % self.slots.len() as u64) as usize
     }
 
     pub fn contains(&self, fingerprint: u64) -> bool {
-        self.slots.get(self.slot(fingerprint)) == Some(&fingerprint)
+        self.slots[self.slot(fingerprint)] == fingerprint
     }
 
     pub fn add(&mut self, fingerprint: u64) {
-        let place = self.slot(fingerprint);
-        if let Some(slot) = self.slots.get_mut(place) {
-            *slot = fingerprint;
-        }
+        let slot = self.slot(fingerprint);
+        self.slots[slot] = fingerprint;
     }
 }

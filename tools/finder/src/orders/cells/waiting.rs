@@ -1,7 +1,6 @@
 //! The calls of a cell that have begun and have no place in the order yet.
 
 use crate::accesses::{Access, Need};
-use crate::timeline::PENDING;
 use std::collections::BTreeSet;
 
 /// The most contents that a list of sources has.
@@ -20,7 +19,7 @@ pub enum Role {
     Refuses,
 }
 
-/// What the call does, and with which content. The content is no matter where it overwrites.
+/// What the call does, and with which content. The content does not matter where it overwrites.
 fn role_of(access: &Access) -> (Role, usize) {
     match (access.need, access.sets) {
         (Need::Any, _) => (Role::Overwrites, 0),
@@ -39,11 +38,12 @@ fn source_of(access: &Access) -> Option<usize> {
 }
 
 /// Calls by their places.
+#[derive(Default)]
 pub struct Waiting {
     /// All: their end, their place.
     pub by_end: BTreeSet<(u32, usize)>,
     /// All: what they do, with which content, their end, their place.
-    pub by_role: BTreeSet<(Role, usize, u32, usize)>,
+    by_role: BTreeSet<(Role, usize, u32, usize)>,
     /// Those that set a content: that, the one that they take away, their end, their place.
     by_target: BTreeSet<(usize, Option<usize>, u32, usize)>,
     /// Those that set a content and return: that, their place.
@@ -51,15 +51,6 @@ pub struct Waiting {
 }
 
 impl Waiting {
-    pub fn new() -> Waiting {
-        Waiting {
-            by_end: BTreeSet::new(),
-            by_role: BTreeSet::new(),
-            by_target: BTreeSet::new(),
-            returning: BTreeSet::new(),
-        }
-    }
-
     pub fn add(&mut self, place: usize, access: &Access) {
         let end = access.call.end;
         let (role, content) = role_of(access);
@@ -67,7 +58,7 @@ impl Waiting {
         self.by_role.insert((role, content, end, place));
         if let Some(target) = access.sets {
             self.by_target.insert((target, source_of(access), end, place));
-            if end != PENDING {
+            if !access.call.is_pending() {
                 self.returning.insert((target, place));
             }
         }
@@ -85,49 +76,45 @@ impl Waiting {
         self.by_end.remove(&(end, place))
     }
 
+    /// The calls that do this with the content, in the order of their returns: their ends and places.
+    pub fn all(&self, role: Role, content: usize) -> impl Iterator<Item = (u32, usize)> {
+        let from = self.by_role.range((role, content, 0, 0)..);
+        let own = from.take_while(move |call| (call.0, call.1) == (role, content));
+        own.map(|(_, _, end, place)| (*end, *place))
+    }
+
     /// Of the calls that do this with the content the first to return: its end and its place.
     pub fn first(&self, role: Role, content: usize) -> Option<(u32, usize)> {
-        let from = (role, content, 0, 0);
-        let (found, with, end, place) = *self.by_role.range(from..).next()?;
-        if found == role && with == content { Some((end, place)) } else { None }
+        self.all(role, content).next()
     }
 
     /// Of the calls that take the source away, or overwrite, and set the target, the first to
     /// return: its end and its place.
     pub fn setter(&self, target: usize, source: Option<usize>) -> Option<(u32, usize)> {
-        let from = (target, source, 0, 0);
-        let (sets, takes, end, place) = *self.by_target.range(from..).next()?;
-        if sets == target && takes == source { Some((end, place)) } else { None }
+        let first = self.by_target.range((target, source, 0, 0)..).next();
+        let (sets, takes, end, place) = *first?;
+        ((sets, takes) == (target, source)).then_some((end, place))
     }
 
     /// Whether another call than this one sets the content and returns. Those that are pending are
     /// kept for where nothing else helps.
     pub fn has_other_setter(&self, target: usize, place: usize) -> bool {
-        for (sets, other) in self.returning.range((target, 0)..) {
-            if *sets != target {
-                return false;
-            }
-            if *other != place {
-                return true;
-            }
-        }
-        false
+        let mut setters = self.returning.range((target, 0)..=(target, usize::MAX));
+        setters.any(|(_, other)| *other != place)
     }
 
     /// Adds the contents that are not in the list and that a call takes away to set this one.
     pub fn add_sources(&self, target: usize, contents: &mut Vec<usize>) {
         let mut from = 0;
-        for _ in 0..self.by_target.len() {
+        while contents.len() < MOST_CONTENTS {
             match self.by_target.range((target, Some(from), 0, 0)..).next() {
-                Some((sets, Some(source), _, _))
-                    if *sets == target && contents.len() < MOST_CONTENTS =>
-                {
-                    from = source.saturating_add(1);
+                Some((sets, Some(source), _, _)) if *sets == target => {
+                    from = source + 1;
                     if !contents.contains(source) {
                         contents.push(*source);
                     }
                 }
-                _ => break,
+                _ => return,
             }
         }
     }
