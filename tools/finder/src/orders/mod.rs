@@ -8,6 +8,7 @@
 
 mod cells;
 mod heap;
+mod line;
 mod mutex;
 mod queue;
 mod queue_search;

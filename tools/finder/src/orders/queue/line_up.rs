@@ -2,9 +2,9 @@
 
 use super::distance::distance;
 use super::empties::{Empties, Empty};
-use super::line::Line;
 use super::room::Room;
 use super::sides::{Call, Side};
+use crate::orders::line::Line;
 use crate::residences::{NEVER, Touches};
 use crate::timeline::Span;
 
@@ -258,7 +258,7 @@ impl LineUp {
         for turn in &self.turns {
             match turn.step {
                 Move::Postpones(..) => {}
-                Move::FindsNone(empty) => line.find_none(empty.gap, empty.number),
+                Move::FindsNone(empty) => line.find_none_in(empty.gap, empty.number),
                 Move::Stays(put) => line.put(&self.puts.calls[put].span),
                 Move::Value(Pair { put, take }, _) => {
                     line.put(&self.puts.calls[put].span);

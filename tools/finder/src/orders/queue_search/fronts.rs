@@ -1,12 +1,13 @@
 //! The calls of one side that are left and can be next soon.
 
-use crate::orders::queue_search::calls::Known;
+use super::calls::Known;
 
 /// After every call.
-pub const NEVER: u32 = u32::MAX;
+const NEVER: u32 = u32::MAX;
 
 /// The calls of one side that are left: all that begin before one of them returns, and those from
 /// `next` on.
+#[derive(Clone)]
 pub struct Front {
     /// In the order of their returns.
     pub left: Vec<Known>,
@@ -21,10 +22,6 @@ impl Front {
         front
     }
 
-    pub fn copy(&self) -> Front {
-        Front { left: self.left.to_vec(), next: self.next }
-    }
-
     /// When the first of the calls that are left returns.
     pub fn bound(&self) -> u32 {
         self.left.first().map_or(NEVER, |call| call.end)
@@ -32,36 +29,24 @@ impl Front {
 
     /// Moves the calls here that begin before one of those here returns.
     fn admit(&mut self, side: &[Known]) {
-        for k in self.next..side.len() {
-            let Some(call) = side.get(k).copied() else {
-                break;
-            };
-            if call.begin >= self.bound() {
-                break;
-            }
+        while let Some(call) = side.get(self.next).filter(|call| call.begin < self.bound()) {
             let at = self.left.partition_point(|other| other.end < call.end);
-            self.left.insert(at.min(self.left.len()), call);
-            self.next = k.saturating_add(1);
+            self.left.insert(at, *call);
+            self.next += 1;
         }
     }
 
     /// Takes out a call that is here.
     pub fn remove(&mut self, side: &[Known], call: u32) {
-        for k in 0..self.left.len() {
-            if self.left.get(k).map(|other| other.call) == Some(call) {
-                self.left.remove(k);
-                break;
-            }
+        if let Some(at) = self.left.iter().position(|other| other.call == call) {
+            self.left.remove(at);
         }
-        self.admit(side)
+        self.admit(side);
     }
 
     /// When the first of the calls that are left begins.
     pub fn first_begin(&self, side: &[Known]) -> u32 {
-        let mut first = side.get(self.next).map_or(NEVER, |call| call.begin);
-        for call in &self.left {
-            first = first.min(call.begin);
-        }
-        first
+        let later = side.get(self.next);
+        self.left.iter().chain(later).map(|call| call.begin).min().unwrap_or(NEVER)
     }
 }

@@ -1,20 +1,20 @@
 //! The states of a search.
 
-use crate::orders::queue_search::calls::{Calls, Known};
-use crate::orders::queue_search::fronts::Front;
-use crate::orders::queue_search::records::BEGIN;
+use super::calls::{Calls, Known};
+use super::fronts::Front;
+use super::records::BEGIN;
 
 /// What is known of the calls that are placed.
-#[derive(Clone, Copy)]
+#[derive(Clone, Copy, Default)]
 pub struct Placed {
     /// The last begin of one.
     pub latest: u32,
     /// How many pending calls are used.
     pub cost: u32,
     /// The sum of their returns.
-    pub ends: u64,
+    ends: u64,
     /// The sum of a number for each. The same calls have the same one.
-    pub hash: u64,
+    hash: u64,
 }
 
 /// A number in which each bit depends on each bit of this one (SplitMix64).
@@ -31,18 +31,19 @@ impl Placed {
         Placed {
             latest: self.latest.max(call.begin),
             cost: self.cost,
-            ends: self.ends.saturating_add(u64::from(call.end)),
+            ends: self.ends + u64::from(call.end),
             hash: self.hash.wrapping_add(mix(u64::from(call.call))),
         }
     }
 
     /// The same, and a pending call.
     pub fn with_pending(&self, call: &Known) -> Placed {
-        Placed { latest: self.latest.max(call.begin), cost: self.cost.saturating_add(1), ..*self }
+        Placed { latest: self.latest.max(call.begin), cost: self.cost + 1, ..*self }
     }
 }
 
 /// What may have happened until now.
+#[derive(Clone)]
 pub struct State {
     pub puts: Front,
     pub takes: Front,
@@ -63,22 +64,10 @@ impl State {
             puts: Front::new(&calls.puts),
             takes: Front::new(&calls.takes),
             empties: Front::new(&calls.empties),
-            placed: Placed { latest: 0, cost: 0, ends: 0, hash: 0 },
+            placed: Placed::default(),
             lost: 0,
             step: BEGIN,
             spare: BEGIN,
-        }
-    }
-
-    pub fn copy(&self) -> State {
-        State {
-            puts: self.puts.copy(),
-            takes: self.takes.copy(),
-            empties: self.empties.copy(),
-            placed: self.placed,
-            lost: self.lost,
-            step: self.step,
-            spare: self.spare,
         }
     }
 
@@ -96,15 +85,6 @@ impl State {
     pub fn is_done(&self) -> bool {
         self.takes.left.is_empty() && self.empties.left.is_empty()
     }
-}
-
-/// Copies of these states.
-pub fn copies(states: &[State]) -> Vec<State> {
-    let mut copies = Vec::new();
-    for state in states {
-        copies.push(state.copy());
-    }
-    copies
 }
 
 /// What can be next in a state.
@@ -135,11 +115,8 @@ pub struct Draft {
 pub fn narrow(drafts: &mut Vec<Draft>, least: u32, slack: u32, most: usize) {
     drafts.sort_unstable_by_key(|it| (it.placed.hash, it.placed.cost, it.placed.latest));
     drafts.dedup_by_key(|it| it.placed.hash);
-    let mut least = least;
-    for draft in drafts.iter() {
-        least = least.min(draft.placed.cost);
-    }
-    let limit = least.saturating_add(slack);
+    let fewest = drafts.iter().map(|draft| draft.placed.cost).min().unwrap_or(least);
+    let limit = fewest.min(least).saturating_add(slack);
     drafts.retain(|it| it.placed.cost <= limit);
     if drafts.len() > most {
         drafts.sort_unstable_by_key(|it| (it.placed.cost, it.placed.ends));

@@ -1,19 +1,16 @@
 //! The steps from the states of one layer to those of the next.
 
-use crate::orders::queue_search::calls::{Calls, Known};
-use crate::orders::queue_search::records::{Records, Step};
-use crate::orders::queue_search::states::{Choice, Draft, State, narrow};
+use super::calls::{Calls, Known};
+use super::records::{Records, Step};
+use super::states::{Choice, Draft, State, narrow};
 use crate::timeline::Call;
 
 /// The removal of a value that can be next, in the state that was looked at in this turn.
-#[derive(Clone, Copy)]
+#[derive(Clone, Copy, Default)]
 struct Ready {
     turn: u64,
     take: Known,
 }
-
-/// Before the first turn.
-const UNREADY: Ready = Ready { turn: 0, take: Known { call: 0, begin: 0, end: 0, value: 0 } };
 
 /// What a search knows.
 pub struct Search {
@@ -26,33 +23,26 @@ pub struct Search {
     pub left: u64,
 }
 
-/// What is next in a state.
-#[derive(Clone, Copy)]
-enum Next {
-    /// This one, for whatever comes later it is no worse than any other.
-    Surely(Choice),
-    /// It has to be chosen.
-    Open,
-}
-
 impl Search {
     /// A search among these calls that may take `left` steps.
     pub fn new(calls: &[Call], left: u64) -> Search {
         let calls = Calls::new(calls);
-        Search { ready: vec![UNREADY; calls.values], calls, records: Records::new(), turn: 0, left }
+        let ready = vec![Ready::default(); calls.values.len()];
+        Search { calls, records: Records::new(), ready, turn: 0, left }
     }
 
     /// The call that finds nothing and returns first, if it can be next.
-    fn empty(&self, state: &State) -> Option<Known> {
-        let call = state.empties.left.first().copied()?;
-        if call.begin.max(state.placed.latest) < state.put_limit() { Some(call) } else { None }
+    fn empty(&self, state: &State) -> Option<Choice> {
+        let call = *state.empties.left.first()?;
+        let can_be_next = call.begin.max(state.placed.latest) < state.put_limit();
+        can_be_next.then_some(Choice::Empty(call))
     }
 
     /// The put and the removal that return first, if they have one value and no call that finds
     /// nothing could be before them.
-    fn first_pair(&self, state: &State) -> Option<(Known, Known)> {
-        let put = state.puts.left.first().copied()?;
-        let take = state.takes.left.first().copied()?;
+    fn first_pair(&self, state: &State) -> Option<Choice> {
+        let put = *state.puts.left.first()?;
+        let take = *state.takes.left.first()?;
         if put.value != take.value
             || put.begin >= state.put_limit()
             || take.begin >= state.take_limit()
@@ -60,45 +50,32 @@ impl Search {
             return None;
         }
         let latest = put.begin.max(take.begin);
-        let safe = state.placed.latest;
-        if latest <= safe || latest <= state.empties.first_begin(&self.calls.empties) {
-            Some((put, take))
-        } else {
-            None
-        }
+        let is_safe = latest <= state.placed.latest
+            || latest <= state.empties.first_begin(&self.calls.empties);
+        is_safe.then_some(Choice::Pair(put, take))
     }
 
-    fn next(&self, state: &State) -> Next {
-        if let Some(call) = self.empty(state) {
-            return Next::Surely(Choice::Empty(call));
-        }
-        match self.first_pair(state) {
-            Some((put, take)) => Next::Surely(Choice::Pair(put, take)),
-            None => Next::Open,
-        }
+    /// What is next in a state, and is no worse than anything else, whatever comes later. `None`: it has
+    /// to be chosen.
+    fn sure_choice(&self, state: &State) -> Option<Choice> {
+        self.empty(state).or_else(|| self.first_pair(state))
     }
 
     /// Notes for each value the first removal to return of those that begin before this moment.
     fn note_takes(&mut self, state: &State, limit: u32) {
-        self.turn = self.turn.wrapping_add(1);
-        let turn = self.turn;
-        for take in &state.takes.left {
-            if take.begin >= limit {
-                continue;
-            }
-            if let Some(ready) = self.ready.get_mut(take.value as usize)
-                && ready.turn != turn
-            {
-                *ready = Ready { turn, take: *take };
+        self.turn += 1;
+        for take in state.takes.left.iter().filter(|take| take.begin < limit) {
+            let ready = &mut self.ready[take.value as usize];
+            if ready.turn != self.turn {
+                *ready = Ready { turn: self.turn, take: *take };
             }
         }
     }
 
     /// The removal of a value that was noted, when it is asked for the first time.
     fn take_noted(&mut self, value: u32) -> Option<Known> {
-        let turn = self.turn;
-        let ready = self.ready.get_mut(value as usize)?;
-        if ready.turn != turn {
+        let ready = &mut self.ready[value as usize];
+        if ready.turn != self.turn {
             return None;
         }
         ready.turn = 0;
@@ -125,10 +102,7 @@ impl Search {
         drafts: &mut Vec<Draft>,
     ) {
         self.note_takes(state, limits.1);
-        for put in &state.puts.left {
-            if put.begin >= limits.0 {
-                continue;
-            }
+        for put in state.puts.left.iter().filter(|put| put.begin < limits.0) {
             if let Some(take) = self.take_noted(put.value) {
                 drafts.push(self.draft(state, from, Choice::Pair(*put, take)));
             }
@@ -139,7 +113,7 @@ impl Search {
     /// nothing is left, also those that leave it as much room as there is.
     fn add_pairs(&mut self, state: &State, from: usize, drafts: &mut Vec<Draft>) {
         self.left = self.left.saturating_sub(1);
-        if let Next::Surely(choice) = self.next(state) {
+        if let Some(choice) = self.sure_choice(state) {
             if let Choice::Pair(..) = choice {
                 drafts.push(self.draft(state, from, choice));
             }
@@ -148,7 +122,7 @@ impl Search {
         let (puts, takes) = (state.put_limit(), state.take_limit());
         self.add_pairs_before(state, from, (puts, takes), drafts);
         if let Some(call) = state.empties.left.first() {
-            let latest = state.placed.latest.max(call.begin).saturating_add(1);
+            let latest = state.placed.latest.max(call.begin) + 1;
             let limits = (puts.min(latest), takes.min(latest));
             self.add_pairs_before(state, from, limits, drafts);
         }
@@ -156,48 +130,38 @@ impl Search {
 
     /// The put that returns first and a pending removal, if they can be next.
     fn lost(&self, state: &State) -> Option<Choice> {
-        let put = state.puts.left.first().copied()?;
-        let by = self.calls.unknown.get(state.lost).copied()?;
-        if put.begin < state.put_limit() && by.begin < state.take_limit() {
-            Some(Choice::Lost(put, by))
-        } else {
-            None
-        }
+        let put = *state.puts.left.first()?;
+        let by = *self.calls.unknown.get(state.lost)?;
+        let can_be_next = put.begin < state.put_limit() && by.begin < state.take_limit();
+        can_be_next.then_some(Choice::Lost(put, by))
     }
 
     /// The removal that returns first and a pending put, if they can be next.
     fn spare(&self, state: &State) -> Option<Choice> {
-        let take = state.takes.left.first().copied()?;
+        let take = *state.takes.left.first()?;
         self.calls.spare(take.value, 0)?;
         let used = self.records.used(state.spare, take.value);
         let by = self.calls.spare(take.value, used)?;
-        if take.begin < state.take_limit() && by.begin < state.put_limit() {
-            Some(Choice::Spare(take, by))
-        } else {
-            None
-        }
+        let can_be_next = take.begin < state.take_limit() && by.begin < state.put_limit();
+        can_be_next.then_some(Choice::Spare(take, by))
     }
 
     /// Adds what one call leads to, in the next layer.
     fn add_singles(&mut self, state: &State, from: usize, drafts: &mut Vec<Draft>) {
-        if let Next::Surely(choice) = self.next(state) {
+        if let Some(choice) = self.sure_choice(state) {
             if let Choice::Empty(_) = choice {
                 drafts.push(self.draft(state, from, choice));
             }
             return;
         }
-        if let Some(choice) = self.lost(state) {
-            drafts.push(self.draft(state, from, choice));
-        }
-        if let Some(choice) = self.spare(state) {
+        for choice in [self.lost(state), self.spare(state)].into_iter().flatten() {
             drafts.push(self.draft(state, from, choice));
         }
     }
 
     /// The state that a draft leads to.
     fn follow(&mut self, state: &State, draft: &Draft) -> State {
-        let mut after = state.copy();
-        after.placed = draft.placed;
+        let mut after = State { placed: draft.placed, ..state.clone() };
         let step = match draft.choice {
             Choice::Pair(put, take) => {
                 after.puts.remove(&self.calls.puts, put.call);
@@ -206,19 +170,14 @@ impl Search {
             }
             Choice::Lost(put, by) => {
                 after.puts.remove(&self.calls.puts, put.call);
-                after.lost = after.lost.saturating_add(1);
+                after.lost += 1;
                 Step::Pair { put: put.call, take: by.call }
             }
             Choice::Spare(take, by) => {
                 after.takes.remove(&self.calls.takes, take.call);
-                let used = self.records.used(state.spare, take.value);
-                Step::Spare {
-                    put: by.call,
-                    take: take.call,
-                    value: take.value,
-                    used: used.saturating_add(1),
-                    last: state.spare,
-                }
+                let used = self.records.used(state.spare, take.value) + 1;
+                let (put, value, last) = (by.call, take.value, state.spare);
+                Step::Spare { put, take: take.call, value, used, last }
             }
             Choice::Empty(call) => {
                 after.empties.remove(&self.calls.empties, call.call);
@@ -232,8 +191,15 @@ impl Search {
         after
     }
 
-    /// What the states of two layers lead to.
-    fn drafts(&mut self, older: &[State], newer: &[State]) -> Vec<Draft> {
+    /// The layer after these two: at most `width` states, which used at most `slack` more pending
+    /// calls than another.
+    pub fn layer(
+        &mut self,
+        older: &[State],
+        newer: &[State],
+        slack: u32,
+        width: usize,
+    ) -> Vec<State> {
         let mut drafts = Vec::new();
         for (from, state) in older.iter().enumerate() {
             self.add_pairs(state, from, &mut drafts);
@@ -241,40 +207,12 @@ impl Search {
         for (from, state) in newer.iter().enumerate() {
             self.add_singles(state, from, &mut drafts);
         }
-        drafts
+        let least = newer.iter().map(|state| state.placed.cost).min().unwrap_or(u32::MAX);
+        narrow(&mut drafts, least, slack, width);
+        let after = drafts.iter().map(|draft| match draft.choice {
+            Choice::Pair(..) => self.follow(&older[draft.from], draft),
+            _ => self.follow(&newer[draft.from], draft),
+        });
+        after.collect()
     }
-
-    /// The layer after these two: at most `width` states, which used at most `slack` more pending
-    /// calls than another.
-    pub fn layer(
-        &mut self,
-
-        older: &[State],
-        newer: &[State],
-        slack: u32,
-        width: usize,
-    ) -> Vec<State> {
-        let mut drafts = self.drafts(older, newer);
-        narrow(&mut drafts, least_cost(newer), slack, width);
-        let mut layer = Vec::new();
-        for draft in &drafts {
-            let before = match draft.choice {
-                Choice::Pair(..) => older,
-                _ => newer,
-            };
-            if let Some(state) = before.get(draft.from) {
-                layer.push(self.follow(state, draft));
-            }
-        }
-        layer
-    }
-}
-
-/// The fewest pending calls that one of these states used.
-fn least_cost(states: &[State]) -> u32 {
-    let mut least = u32::MAX;
-    for state in states {
-        least = least.min(state.placed.cost);
-    }
-    least
 }

@@ -1,4 +1,4 @@
-//! The calls that are lined up, and their order.
+//! The calls of a queue that are lined up, and their order.
 
 use crate::timeline::Span;
 
@@ -33,7 +33,14 @@ impl Line {
         self.steps.push((self.phase, self.take_at, Rank::Take, call.number));
     }
 
-    pub fn find_none(&mut self, gap: u32, number: u32) {
+    /// A call finds nothing, in the first gap that those before it leave.
+    pub fn find_none(&mut self, call: &Span) {
+        let gap = call.begin.max(self.put_at).max(self.take_at).max(self.from);
+        self.find_none_in(gap, call.number);
+    }
+
+    /// A call finds nothing in this gap.
+    pub fn find_none_in(&mut self, gap: u32, number: u32) {
         self.steps.push((self.phase, gap, Rank::FindsNone, number));
         self.from = gap;
         self.phase += 1;
