@@ -2,6 +2,7 @@
 
 use crate::model::{Op, Reply};
 use crate::timeline::Call;
+use std::collections::BTreeSet;
 
 /// What a call does.
 #[derive(Clone, Copy, PartialEq, Eq)]
@@ -16,67 +17,65 @@ pub enum Role {
 pub fn role_of(call: &Call) -> Role {
     match (call.op, call.reply) {
         (Op::Push(value), _) => Role::Pushes(value),
-        (Op::Pop, Some(Reply::Value(Some(value)))) => Role::Pops(value),
-        (Op::Pop, Some(_)) => Role::FindsNone,
-        _ => Role::Unknown,
+        (_, Some(Reply::Value(Some(value)))) => Role::Pops(value),
+        (_, Some(_)) => Role::FindsNone,
+        (_, None) => Role::Unknown,
     }
+}
+
+/// Whether a value is pushed twice, or a pop is pending: whether it can be chosen which pop takes
+/// which value.
+pub fn may_choose(calls: &[Call]) -> bool {
+    let mut values = BTreeSet::new();
+    calls.iter().any(|call| match role_of(call) {
+        Role::Pushes(value) => !values.insert(value),
+        Role::Unknown => true,
+        Role::Pops(_) | Role::FindsNone => false,
+    })
 }
 
 /// A call that runs and will return.
 #[derive(Clone, Copy)]
 pub struct RunningCall {
     /// Its place among the calls.
-    pub call: usize,
-    pub end: u32,
+    pub call: u32,
+    end: u32,
     pub role: Role,
     /// A bit that no other call has that runs.
     pub bit: u64,
 }
 
 /// The calls that run and will return.
+#[derive(Default)]
 pub struct Running {
     /// In the order of their returns.
     pub calls: Vec<RunningCall>,
     taken: u64,
 }
 
-fn bit_of(number: u32) -> u64 {
-    if number < 64 { 1 << number } else { 0 }
-}
-
 impl Running {
-    pub fn new() -> Running {
-        Running { calls: Vec::new(), taken: 0 }
-    }
-
     /// Notes that a call begins. False where too many run.
-    pub fn begin(&mut self, call: usize, end: u32, role: Role) -> bool {
-        let bit = bit_of((!self.taken).trailing_zeros());
-        if bit == 0 {
+    pub fn begin(&mut self, call: u32, end: u32, role: Role) -> bool {
+        let Some(bit) = 1_u64.checked_shl(self.taken.trailing_ones()) else {
             return false;
-        }
+        };
         self.taken |= bit;
         let at = self.calls.partition_point(|other| other.end < end);
-        let running = RunningCall { call, end, role, bit };
-        self.calls.insert(at.min(self.calls.len()), running);
+        self.calls.insert(at, RunningCall { call, end, role, bit });
         true
     }
 
     /// Takes out the call that returns first.
     pub fn end_first(&mut self) {
-        if let Some(first) = self.calls.first().copied() {
+        if !self.calls.is_empty() {
+            let first = self.calls.remove(0);
             self.taken &= !first.bit;
-            self.calls.remove(0);
         }
     }
 
     /// Of the calls that are not placed and do this, the first to return.
     pub fn first(&self, placed: u64, role: Role) -> Option<RunningCall> {
-        for running in &self.calls {
-            if placed & running.bit == 0 && running.role == role {
-                return Some(*running);
-            }
-        }
-        None
+        let mut open = self.calls.iter().filter(|running| placed & running.bit == 0);
+        open.find(|running| running.role == role).copied()
     }
 }

@@ -6,11 +6,6 @@ pub const EMPTY: u32 = 0;
 /// How many contents are found again at most.
 const MOST_SLOTS: usize = 1 << 18;
 
-/// A number of 32 bits. There are never more.
-pub fn small(number: usize) -> u32 {
-    u32::try_from(number).unwrap_or(u32::MAX)
-}
-
 /// A content that may be below a value, and how many more pending calls were used for it than for
 /// the first one.
 #[derive(Clone, Copy, PartialEq, Eq)]
@@ -22,7 +17,6 @@ pub struct Below {
 }
 
 /// A value that is on top of one of some contents.
-#[derive(Clone, Copy)]
 struct Content {
     value: i64,
     first: usize,
@@ -45,24 +39,22 @@ fn mixed(number: u64) -> u64 {
 }
 
 fn hash_of(value: i64, belows: &[Below]) -> u64 {
-    let mut hash = mixed(u64::from_ne_bytes(value.to_ne_bytes()));
-    for below in belows {
+    belows.iter().fold(mixed(value.cast_unsigned()), |hash, below| {
         let number = u64::from(below.content) | (u64::from(below.cost) << 32);
-        hash = mixed(hash.wrapping_add(number));
-    }
-    hash
+        mixed(hash.wrapping_add(number))
+    })
 }
 
 impl Contents {
-    /// The empty content alone, of a stack on which there are this many calls.
+    /// The empty content alone, of a stack on which there are this many calls, at least one.
     pub fn new(calls: usize) -> Contents {
-        let slots = calls.saturating_mul(16).min(MOST_SLOTS);
+        let slots = (16 * calls).clamp(1, MOST_SLOTS);
         Contents { contents: Vec::new(), belows: Vec::new(), slots: vec![EMPTY; slots] }
     }
 
     /// How much is kept.
     pub fn len(&self) -> usize {
-        self.contents.len().saturating_add(self.belows.len())
+        self.contents.len() + self.belows.len()
     }
 
     fn get(&self, number: u32) -> Option<&Content> {
@@ -74,45 +66,25 @@ impl Contents {
         Some(self.get(number)?.value)
     }
 
-    /// How many contents may be below the value on top.
-    pub fn count(&self, number: u32) -> usize {
-        self.get(number).map_or(0, |content| content.count)
-    }
-
-    /// One of the contents that may be below the value on top.
-    pub fn below(&self, number: u32, k: usize) -> Option<Below> {
-        let first = self.get(number)?.first;
-        self.belows.get(first.saturating_add(k)).copied()
-    }
-
-    /// Whether this is the content.
-    fn is(&self, number: u32, value: i64, belows: &[Below]) -> bool {
-        if self.value(number) != Some(value) || self.count(number) != belows.len() {
-            return false;
+    /// The contents that may be below the value on top.
+    pub fn belows(&self, number: u32) -> &[Below] {
+        match self.get(number) {
+            Some(content) => &self.belows[content.first..content.first + content.count],
+            None => &[],
         }
-        for (k, below) in belows.iter().enumerate() {
-            if self.below(number, k) != Some(*below) {
-                return false;
-            }
-        }
-        true
     }
 
     /// The number of a content, which may be a new one.
     pub fn number(&mut self, value: i64, belows: &[Below]) -> u32 {
-        let slots = (self.slots.len() as u64).max(1);
-        let slot = (hash_of(value, belows) % slots) as usize;
-        let known = self.slots.get(slot).copied().unwrap_or(EMPTY);
-        if self.is(known, value, belows) {
+        let slot = (hash_of(value, belows) % self.slots.len() as u64) as usize;
+        let known = self.slots[slot];
+        if self.value(known) == Some(value) && self.belows(known) == belows {
             return known;
         }
         let first = self.belows.len();
         self.belows.extend_from_slice(belows);
         self.contents.push(Content { value, first, count: belows.len() });
-        let number = small(self.contents.len());
-        if let Some(known) = self.slots.get_mut(slot) {
-            *known = number;
-        }
-        number
+        self.slots[slot] = self.contents.len() as u32;
+        self.slots[slot]
     }
 }

@@ -1,7 +1,5 @@
 //! The steps that led to each state, from which an order is read.
 
-use crate::orders::stack_search::contents::small;
-
 /// A step from one state to the next. States are told by the steps that led to them, calls by their
 /// places.
 #[derive(Clone, Copy)]
@@ -59,60 +57,45 @@ pub struct Records {
 
 impl Records {
     pub fn new() -> Records {
-        Records { steps: vec![Step::Begin; 1], origins: Vec::new() }
+        Records { steps: vec![Step::Begin], origins: Vec::new() }
     }
 
     /// How much is kept.
     pub fn len(&self) -> usize {
-        self.steps.len().saturating_add(self.origins.len())
+        self.steps.len() + self.origins.len()
     }
 
     /// Adds a step.
     pub fn add(&mut self, step: Step) -> u32 {
-        let number = small(self.steps.len());
         self.steps.push(step);
-        number
+        self.steps.len() as u32 - 1
     }
 
-    /// Adds a push that comes from one of these. The first one is taken where it is no matter.
+    /// Adds a push that comes from one of these. The first one is taken where it does not matter.
     pub fn add_push(&mut self, origins: &[Origin]) -> u32 {
-        let first = small(self.origins.len());
-        let count = small(origins.len());
+        let first = self.origins.len() as u32;
         self.origins.extend_from_slice(origins);
-        self.add(Step::Push { first, count })
+        self.add(Step::Push { first, count: origins.len() as u32 })
     }
 
     /// The origin of a push with this content, if it matters.
     fn origin(&self, first: u32, count: u32, wanted: Option<u32>) -> Option<Origin> {
-        let first = first as usize;
-        let Some(content) = wanted else {
-            return self.origins.get(first).copied();
-        };
-        for k in first..first.saturating_add(count as usize) {
-            let origin = self.origins.get(k).copied()?;
-            if origin.content == content {
-                return Some(origin);
-            }
-        }
-        None
+        let origins = &self.origins[first as usize..][..count as usize];
+        let is_wanted = |origin: &&Origin| wanted.is_none_or(|content| content == origin.content);
+        origins.iter().find(is_wanted).copied()
     }
 
-    /// The order that a step ends, the last call first. None where the steps do not fit.
+    /// The order that a step ends, the last call first. `None`: the steps do not fit.
     pub fn trace(&self, last: u32) -> Option<Vec<Placed>> {
         let mut placed = Vec::new();
         // the contents that must be below the values that were popped
         let mut wanted = Vec::new();
         let mut at = last;
-        for _ in 0..self.steps.len() {
-            let Some(step) = self.steps.get(at as usize) else {
-                return None;
-            };
-            let (one, before) = match *step {
+        loop {
+            let (one, before) = match self.steps[at as usize] {
                 Step::Begin => return Some(placed),
                 Step::Push { first, count } => {
-                    let Some(origin) = self.origin(first, count, wanted.pop()) else {
-                        return None;
-                    };
+                    let origin = self.origin(first, count, wanted.pop())?;
                     (Placed::Call(origin.call), origin.step)
                 }
                 Step::Pop { before, call, left } => {
@@ -129,6 +112,5 @@ impl Records {
             placed.push(one);
             at = before;
         }
-        None
     }
 }

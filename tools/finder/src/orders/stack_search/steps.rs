@@ -1,10 +1,10 @@
 //! The steps from states in which a call returns that has no place yet.
 
-use crate::orders::stack_search::calls::{Role, Running, RunningCall};
-use crate::orders::stack_search::contents::{Below, Contents, EMPTY, small};
-use crate::orders::stack_search::pending::Pending;
-use crate::orders::stack_search::records::{Origin, Records, Step};
-use crate::orders::stack_search::states::{Draft, State, merge, narrow, settle};
+use super::calls::{Role, Running, RunningCall};
+use super::contents::{Below, Contents, EMPTY};
+use super::pending::Pending;
+use super::records::{Origin, Records, Step};
+use super::states::{Draft, State, merge, narrow, settle};
 
 /// How many values are popped at most before a call.
 const MOST_POPS: usize = 100;
@@ -20,7 +20,7 @@ const MOST_DRAFTS: usize = 200_000;
 struct Push {
     placed: u64,
     value: i64,
-    call: usize,
+    call: u32,
     before: State,
 }
 
@@ -28,6 +28,10 @@ impl Push {
     /// Pushes that lead to one state have the same.
     fn key(&self) -> (u64, i64, u32) {
         (self.placed, self.value, self.before.uses)
+    }
+
+    fn origin(&self) -> Origin {
+        Origin { content: self.before.content, step: self.before.step, call: self.call }
     }
 }
 
@@ -45,66 +49,51 @@ impl Search {
     /// A search among this many calls that may take `left` steps.
     pub fn new(calls: usize, left: u64) -> Search {
         Search {
-            running: Running::new(),
-            pending: Pending::new(),
+            running: Running::default(),
+            pending: Pending::default(),
             contents: Contents::new(calls),
             records: Records::new(),
             left,
         }
     }
 
-    /// The state after this value is popped, and another content is left.
-    fn popped(&mut self, state: &State, below: Below) -> State {
-        self.left = self.left.saturating_sub(1);
-        State {
+    /// The states after the value on top is popped, each with the content that is left.
+    fn popped(&mut self, state: &State) -> impl Iterator<Item = State> {
+        let belows = self.contents.belows(state.content);
+        self.left = self.left.saturating_sub(belows.len() as u64);
+        belows.iter().map(|below| State {
             content: below.content,
             pops: state.pops.wrapping_add(below.pops),
-            cost: state.cost.saturating_add(below.cost),
+            cost: state.cost + below.cost,
             ..*state
-        }
+        })
     }
 
     /// A call that runs pops the value on top.
     fn pop(&mut self, state: &State, by: &RunningCall, drafts: &mut Vec<Draft>) {
-        for k in 0..self.contents.count(state.content) {
-            let Some(below) = self.contents.below(state.content, k) else {
-                break;
-            };
-            let mut after = self.popped(state, below);
-            after.placed |= by.bit;
-            let step = Step::Pop { before: state.step, call: small(by.call), left: below.content };
-            drafts.push(Draft { state: after, step });
-        }
+        drafts.extend(self.popped(state).map(|after| Draft {
+            step: Step::Pop { before: state.step, call: by.call, left: after.content },
+            state: State { placed: after.placed | by.bit, ..after },
+        }));
     }
 
     /// A pending call pops the value on top, if one is left that has begun.
     fn pop_pending(&mut self, state: &State, drafts: &mut Vec<Draft>) {
-        for k in 0..self.contents.count(state.content) {
-            let Some(below) = self.contents.below(state.content, k) else {
-                break;
-            };
-            let mut after = self.popped(state, below);
-            after.pops = after.pops.wrapping_add(1);
-            after.cost = after.cost.saturating_add(1);
-            if after.pops as usize > self.pending.pops.len() {
-                continue;
-            }
-            let step = Step::PendingPop { before: state.step, left: below.content };
-            drafts.push(Draft { state: after, step });
-        }
+        let begun = self.pending.pops.len();
+        let popped = self.popped(state).map(|after| Draft {
+            step: Step::PendingPop { before: state.step, left: after.content },
+            state: State { pops: after.pops.wrapping_add(1), cost: after.cost + 1, ..after },
+        });
+        drafts.extend(popped.filter(|draft| draft.state.pops as usize <= begun));
     }
 
     /// Places the calls that run and find nothing, where there is nothing.
     fn with_empties(&mut self, mut state: State) -> State {
-        if state.content != EMPTY {
-            return state;
-        }
-        for _ in 0..self.running.calls.len() {
-            let Some(by) = self.running.first(state.placed, Role::FindsNone) else {
-                break;
-            };
+        while state.content == EMPTY
+            && let Some(by) = self.running.first(state.placed, Role::FindsNone)
+        {
             state.placed |= by.bit;
-            state.step = self.records.add(Step::Still { before: state.step, call: small(by.call) });
+            state.step = self.records.add(Step::Still { before: state.step, call: by.call });
         }
         state
     }
@@ -119,10 +108,9 @@ impl Search {
             return;
         }
         if let Some(by) = self.running.first(state.placed, Role::Pops(value)) {
-            return self.pop(state, &by, drafts);
-        }
-        if state.cost < most && !self.pending.pops.is_empty() {
-            self.pop_pending(state, drafts)
+            self.pop(state, &by, drafts);
+        } else if state.cost < most && !self.pending.pops.is_empty() {
+            self.pop_pending(state, drafts);
         }
     }
 
@@ -135,14 +123,13 @@ impl Search {
                 break;
             }
             let mut drafts = Vec::new();
-            for state in &front {
-                let state = self.with_empties(*state);
+            for state in std::mem::take(&mut front) {
+                let state = self.with_empties(state);
                 reached.push(state);
                 if drafts.len() < MOST_DRAFTS {
                     self.add_pops(&state, wanted, most, &mut drafts);
                 }
             }
-            front = Vec::new();
             settle(&mut self.records, drafts, &mut front);
             narrow(&mut front, u32::MAX, MOST_OPEN);
         }
@@ -160,26 +147,20 @@ impl Search {
         most: u32,
         drafts: &mut Vec<Draft>,
     ) {
-        let mut after = *state;
-        after.placed |= by.bit;
-        let call = small(by.call);
+        let before = state.step;
+        let after = State { placed: state.placed | by.bit, ..*state };
         if let Some(push) = self.running.first(state.placed, Role::Pushes(value)) {
-            let before =
-                self.records.add(Step::Still { before: state.step, call: small(push.call) });
-            let mut both = after;
-            both.placed |= push.bit;
-            let step = Step::Still { before, call };
-            drafts.push(Draft { state: both, step });
+            let before = self.records.add(Step::Still { before, call: push.call });
+            let state = State { placed: after.placed | push.bit, ..after };
+            drafts.push(Draft { state, step: Step::Still { before, call: by.call } });
         }
         if state.cost >= most {
             return;
         }
         if let Some(uses) = self.pending.with_push(state.uses, value) {
-            let before = self.records.add(Step::PendingPush { before: state.step, uses });
-            after.uses = uses;
-            after.cost = after.cost.saturating_add(1);
-            let step = Step::Still { before, call };
-            drafts.push(Draft { state: after, step });
+            let before = self.records.add(Step::PendingPush { before, uses });
+            let state = State { uses, cost: after.cost + 1, ..after };
+            drafts.push(Draft { state, step: Step::Still { before, call: by.call } });
         }
     }
 
@@ -189,8 +170,7 @@ impl Search {
         for state in open {
             self.pop_at_once(state, value, by, most, &mut drafts);
         }
-        let reached = self.popped_from(open, Some(value), most);
-        for state in &reached {
+        for state in &self.popped_from(open, Some(value), most) {
             if self.contents.value(state.content) == Some(value) && drafts.len() < MOST_DRAFTS {
                 self.pop(state, by, &mut drafts);
             }
@@ -198,42 +178,34 @@ impl Search {
         drafts
     }
 
-    /// Adds the pushes that run and can be placed now: of each value the one that returns first.
-    fn add_pushes(&self, state: &State, pushes: &mut Vec<Push>) {
-        for running in &self.running.calls {
+    /// The pushes that run and can be placed now: of each value the one that returns first.
+    fn pushes<'a>(&'a self, state: &'a State) -> impl Iterator<Item = Push> {
+        self.running.calls.iter().filter_map(|running| {
             let Role::Pushes(value) = running.role else {
-                continue;
+                return None;
             };
-            let first = self.running.first(state.placed, running.role);
-            if first.map(|it| it.call) == Some(running.call) {
-                pushes.push(Push {
-                    placed: state.placed | running.bit,
-                    value,
-                    call: running.call,
-                    before: *state,
-                });
-            }
-        }
+            let first = self.running.first(state.placed, running.role)?;
+            let placed = state.placed | running.bit;
+            let push = Push { placed, value, call: running.call, before: *state };
+            (first.call == running.call).then_some(push)
+        })
     }
 
-    /// The state that these pushes lead to, which come in rising order of the contents before them.
+    /// The state that these pushes lead to, which come in rising order of the contents before them. One
+    /// of them has the fewest pending calls before it.
     fn pushed(&mut self, pushes: &[Push], least: &Push) -> State {
-        let mut origins = vec![origin_of(least); 1];
+        self.left = self.left.saturating_sub(pushes.len() as u64);
+        let mut origins = vec![least.origin()];
         let mut belows = Vec::new();
-        let mut last = None;
-        for push in pushes {
-            self.left = self.left.saturating_sub(1);
-            if last == Some(push.before.content) {
-                continue;
-            }
-            last = Some(push.before.content);
+        for same in pushes.chunk_by(|one, other| one.before.content == other.before.content) {
+            let before = same[0].before;
             belows.push(Below {
-                content: push.before.content,
-                cost: push.before.cost.saturating_sub(least.before.cost),
-                pops: push.before.pops.wrapping_sub(least.before.pops),
+                content: before.content,
+                cost: before.cost - least.before.cost,
+                pops: before.pops.wrapping_sub(least.before.pops),
             });
-            if push.before.content != least.before.content {
-                origins.push(origin_of(push));
+            if before.content != least.before.content {
+                origins.push(same[0].origin());
             }
         }
         State {
@@ -248,29 +220,22 @@ impl Search {
     /// placed.
     fn add_pushed(
         &mut self,
-
         mut pushes: Vec<Push>,
         bit: u64,
         open: &mut Vec<State>,
         done: &mut Vec<State>,
     ) {
         pushes.sort_unstable_by_key(|it| (it.key(), it.before.content, it.before.cost));
-        let mut rest = pushes.as_slice();
-        for _ in 0..pushes.len() {
-            let Some(first) = rest.first() else {
-                break;
+        for own in pushes.chunk_by(|one, other| one.key() == other.key()) {
+            let Some(least) = own.iter().min_by_key(|push| push.before.cost) else {
+                continue;
             };
-            let key = first.key();
-            let here = rest.partition_point(|it| it.key() <= key);
-            let (own, others) = rest.split_at(here.min(rest.len()));
-            let least = cheapest(own, first);
-            let state = self.pushed(own, &least);
+            let state = self.pushed(own, least);
             if state.placed & bit == 0 {
                 open.push(state);
             } else {
                 done.push(state);
             }
-            rest = others;
         }
     }
 
@@ -279,16 +244,10 @@ impl Search {
         let mut open = self.popped_from(open, None, 0);
         for _ in 0..=self.running.calls.len() {
             narrow(&mut open, u32::MAX, MOST_OPEN);
-            let count = fewest_placed(&open);
-            let mut pushes = Vec::new();
-            let mut later = Vec::new();
-            for state in &open {
-                if state.placed.count_ones() > count {
-                    later.push(*state);
-                } else {
-                    self.add_pushes(state, &mut pushes);
-                }
-            }
+            let fewest = open.iter().map(|state| state.placed.count_ones()).min();
+            let (next, mut later): (Vec<State>, Vec<State>) =
+                open.iter().partition(|state| Some(state.placed.count_ones()) == fewest);
+            let pushes = next.iter().flat_map(|state| self.pushes(state)).collect();
             self.add_pushed(pushes, by.bit, &mut later, done);
             open = later;
         }
@@ -302,37 +261,11 @@ impl Search {
                 let drafts = self.place_pop(open, by, value, most);
                 settle(&mut self.records, drafts, done);
             }
-            _ => {
-                for state in &self.popped_from(open, None, most) {
-                    if state.placed & by.bit != 0 {
-                        done.push(*state);
-                    }
-                }
+            Role::FindsNone | Role::Unknown => {
+                let reached = self.popped_from(open, None, most);
+                done.extend(reached.into_iter().filter(|state| state.placed & by.bit != 0));
             }
         }
         merge(done);
     }
-}
-
-fn origin_of(push: &Push) -> Origin {
-    Origin { content: push.before.content, step: push.before.step, call: small(push.call) }
-}
-
-/// Of these pushes one with the fewest pending calls before it.
-fn cheapest(pushes: &[Push], first: &Push) -> Push {
-    let mut least = *first;
-    for push in pushes {
-        if push.before.cost < least.before.cost {
-            least = *push;
-        }
-    }
-    least
-}
-
-fn fewest_placed(states: &[State]) -> u32 {
-    let mut fewest = u32::MAX;
-    for state in states {
-        fewest = fewest.min(state.placed.count_ones());
-    }
-    fewest
 }
