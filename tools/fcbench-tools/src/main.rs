@@ -1,7 +1,7 @@
 //! Commands around the proved program `fcbench`.
 //!
-//! `fcbench-tools find HISTORY` writes evidence for a history: for each object an order of its operations,
-//! a reason why there is none, or the search that is to decide.
+//! `fcbench-tools find HISTORY` writes evidence for a history: for each object an order of its
+//! operations, a reason why there is none, or the search that is to decide.
 
 use finder::{Evidence, Options, decide, read_history};
 use std::io::{BufWriter, Write};

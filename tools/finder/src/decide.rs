@@ -13,8 +13,8 @@ use std::thread;
 /// How objects are decided.
 #[derive(Clone, Copy, Debug)]
 pub struct Options {
-    /// The most steps of a search of all operations that is handed over. `None`: 1,000,000, or 100 for
-    /// each operation that did not fail if that is more.
+    /// The most steps of a search of all operations that is handed over. `None`: 1,000,000, or 100
+    /// for each operation that did not fail if that is more.
     pub steps: Option<u64>,
     /// How many threads decide objects side by side.
     pub workers: usize,
@@ -35,8 +35,8 @@ const DEFAULT_STEPS: u64 = 1_000_000;
 /// How many steps it has for each operation of many.
 const STEPS_OF_A_CALL: u64 = 100;
 
-/// Among how many operations at most the last search tries first that of the least number. Where there
-/// are more it goes by their returns, since it then looks at those alone that can come next.
+/// Among how many operations at most the last search tries first that of the least number. Where
+/// there are more it goes by their returns, since it then looks at those alone that can come next.
 const MOST_BY_NUMBER: usize = 4096;
 
 /// The first search of all operations, which is short.
@@ -89,8 +89,8 @@ fn decide_or_leave(history: &ObjectHistory, steps: Option<u64>) -> Decision {
     Decision { object: history.object, evidence: evidence.unwrap_or(Evidence::Open) }
 }
 
-/// Looks for evidence for each object of a history, in rising object number. The answers are the same
-/// for any number of workers.
+/// Looks for evidence for each object of a history, in rising object number. The answers are the
+/// same for any number of workers.
 pub fn decide(history: &History, options: &Options) -> Vec<Decision> {
     let objects = &history.objects;
     let next = AtomicUsize::new(0);

@@ -19,8 +19,9 @@ pub enum Evidence {
     Open,
 }
 
-/// An object, and what is found of it. Its text is the line of evidence that the proved program reads,
-/// after a comment with a sentence where it is a reason; that of an open object is a comment.
+/// An object, and what is found of it. Its text is the line of evidence that the proved program
+/// reads, after a comment with a sentence where it is a reason; that of an open object is a
+/// comment.
 #[derive(Clone, Debug)]
 pub struct Decision {
     pub object: u32,

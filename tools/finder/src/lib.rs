@@ -1,5 +1,5 @@
-//! Finds evidence for histories of concurrent objects: for each object an order of its operations, a
-//! reason why there is none, or the search that is to decide. Nothing here is trusted: the proved
+//! Finds evidence for histories of concurrent objects: for each object an order of its operations,
+//! a reason why there is none, or the search that is to decide. Nothing here is trusted: the proved
 //! program `fcbench` checks what is found.
 //!
 //! ```

@@ -1,6 +1,6 @@
 //! One pass from the bytes of a history to the operations of its objects. It is lenient on the EDN:
-//! it looks at no character past ASCII, and not for repeated keys. Which fault a text has is for the
-//! proved program to say.
+//! it looks at no character past ASCII, and not for repeated keys. Which fault a text has is for
+//! the proved program to say.
 
 use crate::history::{End, History, Invocation, ObjectHistory};
 use crate::model::{Kind, Op, Value};
@@ -189,7 +189,8 @@ impl<'a> Fields<'a> {
 
 /// What a process does.
 enum Process<'a> {
-    /// Its operation is outstanding: the object's place, and the operation's among those of the object.
+    /// Its operation is outstanding: the object's place, and the operation's among those of the
+    /// object.
     Calls {
         object: usize,
         place: usize,
@@ -253,8 +254,8 @@ impl<'a> Builder<'a> {
     }
 }
 
-/// Reads a history: the operations of each object that some invocation of a client names. `None`: the
-/// text is no history.
+/// Reads a history: the operations of each object that some invocation of a client names. `None`:
+/// the text is no history.
 pub fn read_history(text: &[u8]) -> Option<History> {
     let mut reader = Reader { rest: text };
     let mut builder = Builder::default();

@@ -111,8 +111,8 @@ fn any_number_of_workers_finds_the_same() {
     }
 }
 
-/// Each beginning of a history, and the history without a piece or with a changed byte, is read without
-/// a fault, and each object is decided.
+/// Each beginning of a history, and the history without a piece or with a changed byte, is read
+/// without a fault, and each object is decided.
 #[test]
 fn damaged_histories_do_no_harm() {
     for name in ["jepsen", "heap", "map", "larger_first", "lost_put", "mutex", "stack"] {

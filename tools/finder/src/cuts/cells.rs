@@ -1,5 +1,5 @@
-//! Cells: a register, or a key of a map, of which some values are kept, and all others are one other
-//! value.
+//! Cells: a register, or a key of a map, of which some values are kept, and all others are one
+//! other value.
 
 use super::Values;
 use crate::history::{End, Invocation, ObjectHistory};
@@ -25,8 +25,8 @@ impl Cell<'_> {
         content.filter(|value| self.values.has(*value))
     }
 
-    /// What replaced one content by another becomes. Where it leaves no kept value the part may choose
-    /// whether it stays.
+    /// What replaced one content by another becomes. Where it leaves no kept value the part may
+    /// choose whether it stays.
     fn replaced(&self, stays: bool, old: Option<i64>, new: Option<i64>) -> Option<(Op, Reply)> {
         match (self.kept(new), self.kept(old)) {
             (Some(new), Some(old)) => Some(swap(old, new)),
@@ -107,10 +107,10 @@ impl Cell<'_> {
     }
 }
 
-/// The part of a register, or of a map on one key, that can leave one of these values, and of the others
-/// the operations with these numbers, which leave the other value in place of theirs. What shows a value
-/// that is not kept, or none under the key, becomes a write of the other value. Of another kind of
-/// object nothing stays.
+/// The part of a register, or of a map on one key, that can leave one of these values, and of the
+/// others the operations with these numbers, which leave the other value in place of theirs. What
+/// shows a value that is not kept, or none under the key, becomes a write of the other value. Of
+/// another kind of object nothing stays.
 pub(super) fn cell(
     history: &ObjectHistory,
     key: Option<i64>,

@@ -64,8 +64,8 @@ impl Counted {
 }
 
 impl Count {
-    /// How often the object can have contained it before the count begins, at most. `None`: it is not
-    /// known.
+    /// How often the object can have contained it before the count begins, at most. `None`: it is
+    /// not known.
     fn most_before(self, history: &ObjectHistory) -> Option<usize> {
         match self.counted {
             _ if self.from > 0 => (!history.kind.is_container()).then_some(1),

@@ -36,9 +36,9 @@ fn fits(values: &Values, kept: bool, op: Op, reply: Option<Reply>) -> bool {
     }
 }
 
-/// The operations with these numbers, which keep these values, or at a map these keys. Of the pending
-/// removals at least the first ones must be kept: as many as kept values are left over. `None`: the
-/// part is not closed, so a whole with a valid order can have a part that has none.
+/// The operations with these numbers, which keep these values, or at a map these keys. Of the
+/// pending removals at least the first ones must be kept: as many as kept values are left over.
+/// `None`: the part is not closed, so a whole with a valid order can have a part that has none.
 pub(super) fn keep(
     history: &ObjectHistory,
     values: &Values,

@@ -1,7 +1,7 @@
-//! Parts of an object's history that have a valid order if the whole has one, so that a small part can
-//! show that no order of the whole is valid. Herlihy and Wing's locality, "Linearizability: A
-//! Correctness Condition for Concurrent Objects", TOPLAS 1990, is the model: what is true of objects in
-//! a history is here made true of values, keys and times in the history of one object.
+//! Parts of an object's history that have a valid order if the whole has one, so that a small part
+//! can show that no order of the whole is valid. Herlihy and Wing's locality, "Linearizability: A
+//! Correctness Condition for Concurrent Objects", TOPLAS 1990, is the model: what is true of
+//! objects in a history is here made true of values, keys and times in the history of one object.
 
 mod cells;
 mod counts;
@@ -28,8 +28,8 @@ impl Values {
         }
     }
 
-    /// How many of these values can be left in a queue, stack or heap for pending removals: as many as
-    /// are put in, and not taken out by calls that returned.
+    /// How many of these values can be left in a queue, stack or heap for pending removals: as many
+    /// as are put in, and not taken out by calls that returned.
     pub fn left_over(&self, ops: &[Invocation]) -> usize {
         let has = |value: Option<i64>| value.is_some_and(|value| self.has(value));
         let put = ops.iter().filter(|o| has(o.puts())).count();
@@ -50,14 +50,15 @@ pub enum Cut {
     Without { value: i64, before: u32 },
     /// The operations with these numbers, which keep these values, or at a map these keys.
     Keep { values: Values, numbers: BTreeSet<u32> },
-    /// Of a register, or of a key of a map as a register: the operations that can leave one of these
-    /// values, and of the others those with these numbers, with one other value in place of all others,
-    /// and of no value under the key.
+    /// Of a register, or of a key of a map as a register: the operations that can leave one of
+    /// these values, and of the others those with these numbers, with one other value in place of
+    /// all others, and of no value under the key.
     Cell { key: Option<i64>, values: Values, other: i64, numbers: BTreeSet<u32> },
 }
 
 impl Cut {
-    /// The part that the cut leaves. `None`: it names no part that has a valid order if the whole has.
+    /// The part that the cut leaves. `None`: it names no part that has a valid order if the whole
+    /// has.
     fn part_of(&self, history: &ObjectHistory) -> Option<ObjectHistory> {
         match self {
             Cut::From(number) => suffix::from(history, *number),
@@ -80,7 +81,8 @@ pub fn part_by(history: &ObjectHistory, cuts: &[Cut]) -> Option<ObjectHistory> {
     rest.iter().try_fold(first.part_of(history)?, |part, cut| cut.part_of(&part))
 }
 
-/// The operations that were invoked before this number. One that returned at it or later is pending.
+/// The operations that were invoked before this number. One that returned at it or later is
+/// pending.
 fn until(history: &ObjectHistory, until: u32) -> ObjectHistory {
     let before = history.ops.iter().filter(|o| o.number < until);
     let pending = |o: &Invocation| match o.returned() {
@@ -90,9 +92,9 @@ fn until(history: &ObjectHistory, until: u32) -> ObjectHistory {
     history.with(before.map(pending).collect())
 }
 
-/// The part without the puts of a value that were invoked before this number, and without its removals
-/// that had returned by then. `None`: there are fewer of these than of those, so that the value may
-/// have been in.
+/// The part without the puts of a value that were invoked before this number, and without its
+/// removals that had returned by then. `None`: there are fewer of these than of those, so that the
+/// value may have been in.
 fn without(history: &ObjectHistory, value: i64, before: u32) -> Option<ObjectHistory> {
     let puts = |o: &&Invocation| o.puts() == Some(value) && o.number < before;
     let takes =

@@ -42,9 +42,9 @@ fn overlapping(first: Option<First>, operation: &Invocation) -> Invocation {
     }
 }
 
-/// The part that begins with the call of this number. What returned before it is left out. `None`: the
-/// call has not returned, its reply does not tell what it left, or some call of the map is on another
-/// key.
+/// The part that begins with the call of this number. What returned before it is left out. `None`:
+/// the call has not returned, its reply does not tell what it left, or some call of the map is on
+/// another key.
 pub(super) fn from(history: &ObjectHistory, number: u32) -> Option<ObjectHistory> {
     let ops = &history.ops;
     let call = ops.iter().find(|o| o.number == number)?;

@@ -31,8 +31,8 @@ use stack_search::searched_stack_order;
 /// What the quick methods find.
 pub enum Quick {
     Order(Vec<u32>),
-    /// No order. Of a map it may be told at which key they stopped: they found orders for the calls on
-    /// each lesser key.
+    /// No order. Of a map it may be told at which key they stopped: they found orders for the calls
+    /// on each lesser key.
     Open {
         key: Option<i64>,
     },

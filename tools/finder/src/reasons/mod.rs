@@ -1,7 +1,7 @@
 //! Reasons why no order of an object's operations is valid: small parts of its history that have no
 //! valid order. They are looked for by patterns, facts about the whole history that no valid order
-//! allows, as a value that is taken twice and put in once, and made smaller step by step. The patterns
-//! do not find each reason. What is handed out was checked.
+//! allows, as a value that is taken twice and put in once, and made smaller step by step. The
+//! patterns do not find each reason. What is handed out was checked.
 
 mod cells;
 mod containers;
@@ -33,9 +33,10 @@ fn confirm(history: &ObjectHistory, proposal: Proposal, steps: u64) -> Option<Fo
     Some(FoundReason { cuts: reason.cuts, shown, sentence })
 }
 
-/// A small reason why no order of the object's operations is valid, by patterns. The open key of a map,
-/// where it is given, is one for whose operations no order was found, while one was found for each lesser
-/// key: it is looked at first. The search for an order of one part takes at most this many steps.
+/// A small reason why no order of the object's operations is valid, by patterns. The open key of a
+/// map, where it is given, is one for whose operations no order was found, while one was found for
+/// each lesser key: it is looked at first. The search for an order of one part takes at most this
+/// many steps.
 pub fn find_by_patterns(
     history: &ObjectHistory,
     open_key: Option<i64>,
@@ -51,8 +52,8 @@ pub fn find_by_pairs(history: &ObjectHistory, steps: u64) -> Option<FoundReason>
     confirm(history, proposal, steps)
 }
 
-/// The reason that the operations on one key of a map have no valid order, if a search of at most this
-/// many steps shows it.
+/// The reason that the operations on one key of a map have no valid order, if a search of at most
+/// this many steps shows it.
 pub fn find_on(history: &ObjectHistory, key: i64, steps: u64) -> Option<FoundReason> {
     let on_key = history.ops.iter().filter(|o| !o.has_failed() && o.op.key() == Some(key));
     let cut = Cut::Keep {

@@ -116,76 +116,82 @@ impl Display for Sentence {
         if let Some(key) = self.key {
             write!(f, "key {key}: ")?;
         }
-        let kind = self.kind;
-        let (put, seen, taken, word) = (kind.put(), kind.seen(), kind.taken(), kind.word());
+        let (kind, word) = (self.kind, self.kind.word());
         match self.pattern {
-            Pattern::NeverSet(value) => write!(f, "value {value} was {seen} and never {put}"),
-            Pattern::TooEarly(value) => write!(f, "value {value} was {seen} before it was {put}"),
-            Pattern::TakenTwice(value) => {
-                write!(f, "value {value} was {put} once and {taken} twice")
-            }
-            Pattern::TakenTooOften { value, taken: times, set } => {
-                let (times, set) = (Times(times), Times(set));
-                write!(f, "value {value} was {taken} {times} and by then {put} {set}")
-            }
             Pattern::SurelyNotEmpty { number } => {
                 write!(f, "the {word} was surely not empty when map {number} found nothing")
             }
-            Pattern::UnderSmaller { taken, smaller } => write!(
-                f,
-                "value {taken} was {seen} while the smaller value {smaller} was surely in the {word}"
-            ),
-            Pattern::UnderSmallerOnes(taken) => write!(
-                f,
-                "value {taken} was {seen} while some smaller value was surely in the {word}"
-            ),
-            Pattern::WrongOrder { first, second } if kind == Kind::Stack => {
-                write!(f, "value {first} was popped before value {second}, which was pushed on it")
-            }
-            Pattern::WrongOrder { first, second } => {
-                write!(f, "value {first} was {put} before value {second} and {seen} after it")
-            }
-            Pattern::LeftBehind { first: still, second: given } => write!(
-                f,
-                "value {given} was {seen} while value {still}, which was {put} before it, was still \
-                 in the {word}"
-            ),
-            Pattern::LeftAbove { first: given, second: still } => write!(
-                f,
-                "value {given} was {seen} while value {still}, which was {put} on it, was still in \
-                 the {word}"
-            ),
-            Pattern::Stale(Some(value)) => {
-                write!(f, "value {value} was {seen} after another content had replaced it")
-            }
-            Pattern::Stale(None) => {
-                write!(f, "nil was {seen} after another content had replaced it")
-            }
             Pattern::EachBeforeTheOther(one, other) => write!(
                 f,
-                "each of the values {one} and {other} was {seen} before the other, and each was \
-                 {put} once"
+                "each of the values {one} and {other} was {} before the other, and each was {} once",
+                kind.seen(),
+                kind.put()
             ),
-            Pattern::RefusedUnderItsValue { value, number } => write!(
-                f,
-                "value {value} was surely there when the swap of map {number}, which expects it, \
-                 was refused"
+            Pattern::Stale(None) => {
+                write!(f, "nil was {} after another content had replaced it", kind.seen())
+            }
+            Pattern::CountExceeded(Counted::NoEntry(_)) => f.write_str(
+                "it was found without a value more often than it can have been without one",
             ),
-            Pattern::CountExceeded(counted) => f.write_str(&exceeded(counted, taken)),
+            Pattern::CountExceeded(Counted::Held) => {
+                f.write_str("the lock was released more often than it can have been held")
+            }
+            Pattern::CountExceeded(Counted::Free) => {
+                f.write_str("the lock was acquired more often than it can have been free")
+            }
             Pattern::General => f.write_str("these operations have no valid order"),
+            pattern => match pattern.value(kind) {
+                Some((value, fate)) => write!(f, "value {value} was {fate}"),
+                None => Ok(()),
+            },
         }
     }
 }
 
-fn exceeded(counted: Counted, taken: &str) -> String {
-    match counted {
-        Counted::Value(value) | Counted::Entry { value, .. } => {
-            format!("value {value} was {taken} more often than it can have been there")
-        }
-        Counted::NoEntry(_) => {
-            "it was found without a value more often than it can have been without one".into()
-        }
-        Counted::Held => "the lock was released more often than it can have been held".into(),
-        Counted::Free => "the lock was acquired more often than it can have been free".into(),
+impl Pattern {
+    /// The value that the pattern is about, and what it says of it.
+    fn value(self, kind: Kind) -> Option<(i64, String)> {
+        let (put, seen, taken, word) = (kind.put(), kind.seen(), kind.taken(), kind.word());
+        Some(match self {
+            Pattern::NeverSet(value) => (value, format!("{seen} and never {put}")),
+            Pattern::TooEarly(value) => (value, format!("{seen} before it was {put}")),
+            Pattern::TakenTwice(value) => (value, format!("{put} once and {taken} twice")),
+            Pattern::TakenTooOften { value, taken: times, set } => {
+                let (times, set) = (Times(times), Times(set));
+                (value, format!("{taken} {times} and by then {put} {set}"))
+            }
+            Pattern::UnderSmaller { taken: value, smaller } => {
+                let under = format!("the smaller value {smaller} was surely in the {word}");
+                (value, format!("{seen} while {under}"))
+            }
+            Pattern::UnderSmallerOnes(value) => {
+                (value, format!("{seen} while some smaller value was surely in the {word}"))
+            }
+            Pattern::WrongOrder { first, second } if kind == Kind::Stack => {
+                (first, format!("popped before value {second}, which was pushed on it"))
+            }
+            Pattern::WrongOrder { first, second } => {
+                (first, format!("{put} before value {second} and {seen} after it"))
+            }
+            Pattern::LeftBehind { first: other, second: value } => {
+                let other = format!("value {other}, which was {put} before it");
+                (value, format!("{seen} while {other}, was still in the {word}"))
+            }
+            Pattern::LeftAbove { first: value, second: other } => {
+                let other = format!("value {other}, which was {put} on it");
+                (value, format!("{seen} while {other}, was still in the {word}"))
+            }
+            Pattern::Stale(value) => {
+                (value?, format!("{seen} after another content had replaced it"))
+            }
+            Pattern::RefusedUnderItsValue { value, number } => {
+                let swap = format!("the swap of map {number}, which expects it");
+                (value, format!("surely there when {swap}, was refused"))
+            }
+            Pattern::CountExceeded(Counted::Value(value) | Counted::Entry { value, .. }) => {
+                (value, format!("{taken} more often than it can have been there"))
+            }
+            _ => return None,
+        })
     }
 }

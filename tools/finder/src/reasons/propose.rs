@@ -95,8 +95,8 @@ impl Proposer<'_> {
         starts.map(|o| Element::Operation(o.number)).take(MOST_STARTS)
     }
 
-    /// The cuts of the part in which a plan is made smaller. Where that of a queue, stack or heap is
-    /// not small the calls stay at which it may begin.
+    /// The cuts of the part in which a plan is made smaller. Where that of a queue, stack or heap
+    /// is not small the calls stay at which it may begin.
     fn base_cuts(&self, candidate: &Candidate) -> Vec<Cut> {
         let plan = &candidate.plan;
         let mut cuts = Vec::new();
@@ -131,8 +131,8 @@ impl Proposer<'_> {
         reason.shown(self.history, search).is_some().then_some(reason)
     }
 
-    /// The reason of a plan that holds in a part which begins at a call: by the plan's cuts alone where
-    /// they serve for the whole, and else by those after the part's.
+    /// The reason of a plan that holds in a part which begins at a call: by the plan's cuts alone
+    /// where they serve for the whole, and else by those after the part's.
     fn reason_of(&self, base: Base, mut plan: Plan) -> Option<Reason> {
         let Base { part, mut cuts, from } = base;
         let own = plan.from;
@@ -181,16 +181,16 @@ impl Proposer<'_> {
         }
     }
 
-    /// The smallest reason to which the patterns of a map's keys from one to another lead, if they lead
-    /// to one.
+    /// The smallest reason to which the patterns of a map's keys from one to another lead, if they
+    /// lead to one.
     fn best_on(&self, first: i64, last: i64) -> Option<Confirmed> {
         let is_on = |key: i64| first <= key && key <= last;
         let ops = self.history.ops.iter().filter(|o| o.op.key().is_some_and(is_on));
         self.best_of(self.patterns(&Timeline::of(ops)))
     }
 
-    /// A reason to which the patterns of a map's keys from this one on lead. The others are looked at
-    /// only where this one has no reason that is small enough.
+    /// A reason to which the patterns of a map's keys from this one on lead. The others are looked
+    /// at only where this one has no reason that is small enough.
     fn propose_from(&self, key: i64) -> Option<Proposal> {
         let own = self.best_on(key, key);
         if own.as_ref().is_some_and(|own| own.size <= FEW) {
@@ -217,11 +217,11 @@ impl Proposer<'_> {
     }
 }
 
-/// A small reason why no order of the object's operations is valid, if a pattern leads to one, or if
-/// there are few operations. The open key of a map is one for whose operations no order was found,
-/// while one was found for each lesser key: it is looked at first, and the greater ones only where
-/// it has no reason that is small enough. The search for an order of one part takes at most this many
-/// steps.
+/// A small reason why no order of the object's operations is valid, if a pattern leads to one, or
+/// if there are few operations. The open key of a map is one for whose operations no order was
+/// found, while one was found for each lesser key: it is looked at first, and the greater ones only
+/// where it has no reason that is small enough. The search for an order of one part takes at most
+/// this many steps.
 pub fn propose(history: &ObjectHistory, open_key: Option<i64>, steps: u64) -> Option<Proposal> {
     Proposer { history, steps }.propose(open_key)
 }

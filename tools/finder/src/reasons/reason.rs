@@ -20,8 +20,8 @@ pub struct Reason {
 }
 
 impl Reason {
-    /// The part that the reason names, if it is shown to have no valid order, where the part is searched
-    /// so.
+    /// The part that the reason names, if it is shown to have no valid order, where the part is
+    /// searched so.
     pub fn shown(&self, history: &ObjectHistory, search: Search) -> Option<ObjectHistory> {
         let part = part_by(history, &self.cuts)?;
         let shown = match self.count {

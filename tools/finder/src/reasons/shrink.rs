@@ -1,5 +1,5 @@
-//! Plans made smaller, each step confirmed by the check of reasons: by halves, as delta debugging does
-//! (Zeller and Hildebrandt, IEEE Transactions on Software Engineering 28, 2002).
+//! Plans made smaller, each step confirmed by the check of reasons: by halves, as delta debugging
+//! does (Zeller and Hildebrandt, IEEE Transactions on Software Engineering 28, 2002).
 
 use super::{Element, Plan, Search};
 use crate::history::ObjectHistory;

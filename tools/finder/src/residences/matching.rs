@@ -112,8 +112,8 @@ impl Matching {
         true
     }
 
-    /// Of the last pairs whose removal returns after this moment the place of that whose put returns
-    /// last; of several such the last.
+    /// Of the last pairs whose removal returns after this moment the place of that whose put
+    /// returns last; of several such the last.
     fn later_pair(&self, end: u32) -> Option<usize> {
         let last = (0..self.pairs.len()).rev().take(MOST_PAIRS);
         let later = last.filter(|k| self.end_of(self.pairs[*k].1) > end);
@@ -155,8 +155,8 @@ impl Matching {
         }
     }
 
-    /// Gives a pending removal that begins before this moment to a value that is in. False where there
-    /// is none.
+    /// Gives a pending removal that begins before this moment to a value that is in. False where
+    /// there is none.
     fn give_before(&mut self, put: Key, due: u32, removals: &mut Removals) -> bool {
         let Some(call) = removals.take(due) else {
             return false;
@@ -218,9 +218,9 @@ impl Matching {
     }
 }
 
-/// The residences of one value, whose puts come first, in gaps that can be used: a removal takes the
-/// last value that is in, or the first. Pending removals are given to the value where it must be gone.
-/// `None`: a removal has no put.
+/// The residences of one value, whose puts come first, in gaps that can be used: a removal takes
+/// the last value that is in, or the first. Pending removals are given to the value where it must
+/// be gone. `None`: a removal has no put.
 pub fn residences_of(
     touches: &[Touch],
     gaps: &mut Gaps,

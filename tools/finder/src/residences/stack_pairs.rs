@@ -1,8 +1,8 @@
 //! The pushes and pops of a stack, paired as they come.
 //!
 //! A pop takes its value when it returns: of those whose push has returned the last that can be on
-//! top, or else one whose push runs. A value can be on top where each that surely is above it can be
-//! popped by a pop that runs, and these then are.
+//! top, or else one whose push runs. A value can be on top where each that surely is above it can
+//! be popped by a pop that runs, and these then are.
 
 use super::{NEVER, Residence, Sure, Touch, Touches};
 use crate::timeline::Span;
@@ -258,8 +258,8 @@ impl<'a> Contents<'a> {
         true
     }
 
-    /// The values of the pairs, and those that are not popped. The pops that are pending come in the
-    /// order of their begins.
+    /// The values of the pairs, and those that are not popped. The pops that are pending come in
+    /// the order of their begins.
     fn residences(&self, unknown: &[Span]) -> Vec<Residence> {
         let residence = |put: usize, take: Option<Span>| Residence {
             value: self.touches[put].value,
@@ -275,8 +275,8 @@ impl<'a> Contents<'a> {
     }
 }
 
-/// The values of a stack with their pushes and pops, which come sorted by their values, and how many
-/// of the pending pops they have, the first ones. `None`: a pop has no push.
+/// The values of a stack with their pushes and pops, which come sorted by their values, and how
+/// many of the pending pops they have, the first ones. `None`: a pop has no push.
 pub fn pair_on_top(touches: &Touches, end: u32) -> Option<(Vec<Residence>, usize)> {
     let mut contents = Contents::new(&touches.known);
     let all = events_of(touches, end).into_iter().all(|event| contents.happen(event));

@@ -16,8 +16,8 @@ pub(super) struct Digest {
 
 const STEP: u64 = 0x9e37_79b9_7f4a_7c15;
 
-/// The finalizer of SplitMix64: Steele, Lea, Flood, "Fast Splittable Pseudorandom Number Generators",
-/// OOPSLA 2014.
+/// The finalizer of SplitMix64: Steele, Lea, Flood, "Fast Splittable Pseudorandom Number
+/// Generators", OOPSLA 2014.
 fn mixed(a: u64, b: u64) -> u64 {
     let x = a.wrapping_add(b.wrapping_mul(STEP)).wrapping_add(STEP);
     let x = (x ^ (x >> 30)).wrapping_mul(0xbf58_476d_1ce4_e5b9);

@@ -3,8 +3,8 @@
 //! of operations done and content from which no order goes on are remembered, after Lowe, "Testing
 //! for Linearizability", Concurrency and Computation: Practice and Experience 29, 2017.
 //!
-//! The proved program has the same search. Orders of trial, steps, and what is remembered are the same,
-//! so that what is found here in some steps is found there in as many.
+//! The proved program has the same search. Orders of trial, steps, and what is remembered are the
+//! same, so that what is found here in some steps is found there in as many.
 
 mod dead;
 mod digest;
@@ -34,8 +34,8 @@ pub enum Outcome {
     OutOfSteps,
 }
 
-/// Searches for a valid order of the operations, depth first, in at most this many steps. A step is one
-/// operation tried.
+/// Searches for a valid order of the operations, depth first, in at most this many steps. A step is
+/// one operation tried.
 pub fn search(history: &ObjectHistory, first: First, steps: u64) -> Outcome {
     if history.ops.iter().all(|o| o.returned().is_none()) {
         return Outcome::Order(Vec::new());

@@ -1,8 +1,8 @@
 //! The operations that are not yet in the order, as a linked list.
 
 /// The places of the operations that are not yet in the order, rising. Slot 0 is before all places,
-/// and slot `k + 1` after place `k`. A place that was taken out keeps what it knows of its neighbours,
-/// so that it can be put back: Knuth, "Dancing Links", 2000.
+/// and slot `k + 1` after place `k`. A place that was taken out keeps what it knows of its
+/// neighbours, so that it can be put back: Knuth, "Dancing Links", 2000.
 pub(super) struct Undone {
     /// For each slot the first place after it that is in the list; the end is after the last one.
     next: Vec<usize>,

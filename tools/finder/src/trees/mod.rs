@@ -1,6 +1,6 @@
-//! Trees over lists: the least number of a range, the first place of a range that is not covered, the
-//! greatest of the marks of a range, and the last of the counts that is large enough. Each change and
-//! each question takes some log n steps.
+//! Trees over lists: the least number of a range, the first place of a range that is not covered,
+//! the greatest of the marks of a range, and the last of the counts that is large enough. Each
+//! change and each question takes some log n steps.
 
 mod counts;
 mod least;

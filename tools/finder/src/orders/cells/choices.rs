@@ -145,8 +145,9 @@ impl Position<'_> {
         self.add_new(steps, place);
     }
 
-    /// Whether the call sets another content than is there, and is not kept for later. One that need
-    /// not take effect is kept where what it sets is asked for later, and no other call sets that.
+    /// Whether the call sets another content than is there, and is not kept for later. One that
+    /// need not take effect is kept where what it sets is asked for later, and no other call sets
+    /// that.
     fn is_spare(&self, place: usize) -> bool {
         let access = &self.accesses[place];
         access.sets.is_some_and(|target| {

@@ -63,8 +63,8 @@ impl Demands {
         Demands { contents }
     }
 
-    /// What asks for the content, if it is set now, and returns before a call begins that can set it
-    /// anew.
+    /// What asks for the content, if it is set now, and returns before a call begins that can set
+    /// it anew.
     pub fn hold(&self, content: usize, now: u32) -> Hold {
         let mut hold = Hold { until: now, taker: None, next: u32::MAX };
         let Some(Content { demands, sources }) = self.contents.get(content) else {

@@ -76,7 +76,8 @@ impl Waiting {
         self.by_end.remove(&(end, place))
     }
 
-    /// The calls that do this with the content, in the order of their returns: their ends and places.
+    /// The calls that do this with the content, in the order of their returns: their ends and
+    /// places.
     pub fn all(&self, role: Role, content: usize) -> impl Iterator<Item = (u32, usize)> {
         let from = self.by_role.range((role, content, 0, 0)..);
         let own = from.take_while(move |call| (call.0, call.1) == (role, content));

@@ -119,7 +119,8 @@ impl Placing {
         }
     }
 
-    /// Places the calls that find nothing in the heap, unless one has no gap that is free of values.
+    /// Places the calls that find nothing in the heap, unless one has no gap that is free of
+    /// values.
     fn place_empties(&mut self, empties: &[Span]) {
         for call in empties {
             let gap = self.gaps.first_free(call.begin);

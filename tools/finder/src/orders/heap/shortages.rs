@@ -1,6 +1,6 @@
 //! What is to be done where an extract of a heap, or a call that finds nothing, has no gap: lesser
-//! values surely are in the heap in each of its time. One of them, by a pending extract, can be gone
-//! earlier. In which gap that is to be is chosen here, and the values are placed anew.
+//! values surely are in the heap in each of its time. One of them, by a pending extract, can be
+//! gone earlier. In which gap that is to be is chosen here, and the values are placed anew.
 
 use crate::residences::Residence;
 
@@ -103,7 +103,8 @@ impl Demands {
         self.demands.len() > before
     }
 
-    /// Demands what these shortages need. False where they are too many, or nothing new is demanded.
+    /// Demands what these shortages need. False where they are too many, or nothing new is
+    /// demanded.
     pub fn add_all(&mut self, shortages: &[Shortage], covers: &[Cover]) -> bool {
         if shortages.len() > MOST_SHORTAGES {
             return false;

@@ -19,8 +19,8 @@ pub struct Empties {
 }
 
 impl Empties {
-    /// Each call in the first gap in which the fewest values surely are in the queue. `None`: a value is
-    /// taken more often than it is put in, or a call has no gap.
+    /// Each call in the first gap in which the fewest values surely are in the queue. `None`: a
+    /// value is taken more often than it is put in, or a call has no gap.
     pub fn new(touches: &Touches, end: u32) -> Option<Empties> {
         let sure = Sure::new(&touches.known, end)?;
         let empty = |call: &Span| {
@@ -31,7 +31,8 @@ impl Empties {
         Some(Empties { sure, left })
     }
 
-    /// The first call, and the same in a later gap. `None`: there is none, or no gap is left for it.
+    /// The first call, and the same in a later gap. `None`: there is none, or no gap is left for
+    /// it.
     pub fn postponed(&self) -> Option<(Empty, Empty)> {
         let first = *self.left.first()?;
         let gap = self.sure.fewest(first.gap + 1, first.end)?;

@@ -9,8 +9,8 @@ pub enum Step {
         put: u32,
         take: u32,
     },
-    /// A put that is pending and a removal: how many pending puts of the value are used by then, and
-    /// the last step of this kind before it.
+    /// A put that is pending and a removal: how many pending puts of the value are used by then,
+    /// and the last step of this kind before it.
     Spare {
         put: u32,
         take: u32,

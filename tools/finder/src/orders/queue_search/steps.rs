@@ -55,8 +55,8 @@ impl Search {
         is_safe.then_some(Choice::Pair(put, take))
     }
 
-    /// What is next in a state, and is no worse than anything else, whatever comes later. `None`: it has
-    /// to be chosen.
+    /// What is next in a state, and is no worse than anything else, whatever comes later. `None`:
+    /// it has to be chosen.
     fn sure_choice(&self, state: &State) -> Option<Choice> {
         self.empty(state).or_else(|| self.first_pair(state))
     }

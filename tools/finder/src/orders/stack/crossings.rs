@@ -66,8 +66,8 @@ pub struct Change {
 }
 
 impl Change {
-    /// The two values with each other's pops. `None`: both have none, or one would be popped before it
-    /// is pushed.
+    /// The two values with each other's pops. `None`: both have none, or one would be popped before
+    /// it is pushed.
     pub fn changed(self, residences: &[Residence]) -> Option<(Residence, Residence)> {
         let (mut one, mut other) = (residences[self.first], residences[self.second]);
         if one.take.is_none() && other.take.is_none() {
@@ -79,8 +79,8 @@ impl Change {
     }
 }
 
-/// The places of the values that are equal to this one, and whose push begins before it is gone. The
-/// residences are sorted by value and by the begin of the push.
+/// The places of the values that are equal to this one, and whose push begins before it is gone.
+/// The residences are sorted by value and by the begin of the push.
 pub fn partners(residences: &[Residence], own: &Residence) -> std::ops::Range<usize> {
     let (value, end) = (own.value, own.taken_by());
     let from = residences.partition_point(|other| other.value < value);

@@ -3,8 +3,9 @@
 use crate::residences::{Removals, Residence};
 use crate::timeline::Span;
 
-/// By when the values must be gone that nobody is known to take, with their places: a value that was
-/// put before them is taken, or nothing is found, by a call that begins when their put has returned.
+/// By when the values must be gone that nobody is known to take, with their places: a value that
+/// was put before them is taken, or nothing is found, by a call that begins when their put has
+/// returned.
 pub fn dues_of(residences: &[Residence], removals: &mut Removals) -> Vec<(u32, usize)> {
     let mut left = Vec::new();
     let mut taken = Vec::new();

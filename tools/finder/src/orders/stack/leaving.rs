@@ -111,8 +111,8 @@ impl Heights {
     }
 }
 
-/// A turn that is added to others: the place of that before which it comes, and its rank among those
-/// that come there.
+/// A turn that is added to others: the place of that before which it comes, and its rank among
+/// those that come there.
 struct Added {
     place: usize,
     rank: usize,
@@ -148,8 +148,8 @@ fn with_added(turns: &[Turn], mut added: Vec<Added>) -> Vec<Turn> {
     all
 }
 
-/// The turns of a stack's calls, with those of the values that pending pops may take. `None`: there are
-/// too few such pops, which come in the order of their begins.
+/// The turns of a stack's calls, with those of the values that pending pops may take. `None`: there
+/// are too few such pops, which come in the order of their begins.
 fn with_leaving(turns: Vec<Turn>, leaving: &[Residence], pops: &[Span]) -> Option<Vec<Turn>> {
     if leaving.is_empty() {
         return Some(turns);
@@ -178,8 +178,8 @@ struct Placing {
 }
 
 impl Placing {
-    /// Takes out the values that no known pop takes, of those with these numbers. False where there are
-    /// none.
+    /// Takes out the values that no known pop takes, of those with these numbers. False where there
+    /// are none.
     fn let_leave(&mut self, mut numbers: Vec<u32>) -> bool {
         numbers.sort_unstable();
         let leaves = |residence: &Residence| {
@@ -204,8 +204,8 @@ impl Placing {
     }
 }
 
-/// An order of the calls of a stack in which no value is pushed twice that may be valid. The pending
-/// pops come in the order of their begins.
+/// An order of the calls of a stack in which no value is pushed twice that may be valid. The
+/// pending pops come in the order of their begins.
 pub fn order_around_leaving(
     residences: Vec<Residence>,
     empties: &[Span],

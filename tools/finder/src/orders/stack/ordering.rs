@@ -123,8 +123,8 @@ pub struct Ordering {
 }
 
 impl Ordering {
-    /// The values between the calls that find nothing, ordered as far as that can be done. `None`: one
-    /// of these calls has no gap.
+    /// The values between the calls that find nothing, ordered as far as that can be done. `None`:
+    /// one of these calls has no gap.
     pub fn of(long: Vec<Residence>, empties: &[Span], end: u32) -> Option<Ordering> {
         let values = Values::new(long, end);
         let mut ordering =
@@ -146,7 +146,8 @@ impl Ordering {
         self.stuck.iter().map(Vec::len).sum()
     }
 
-    /// Plans the values between the calls that find nothing, and these calls. `None`: one has no gap.
+    /// Plans the values between the calls that find nothing, and these calls. `None`: one has no
+    /// gap.
     fn plan(&mut self, empties: &[Span]) -> Option<()> {
         let gap = |call: &Span| {
             let gap = self.values.cover.first_free(call.begin as usize, call.end as usize)?;

@@ -69,8 +69,8 @@ fn try_change(residences: &[Residence], stuck: &[Residence], change: Change) -> 
 }
 
 /// Tries changes of the pops of values that could not be ordered, and makes the one after which the
-/// fewest can't be ordered, if they are fewer. The residences are sorted by value and by the begin of
-/// the push. Whether one was made.
+/// fewest can't be ordered, if they are fewer. The residences are sorted by value and by the begin
+/// of the push. Whether one was made.
 pub fn try_changes(residences: &mut [Residence], stuck: &[Residence], work: &mut u64) -> bool {
     if stuck.len() > MOST_VALUES {
         return false;

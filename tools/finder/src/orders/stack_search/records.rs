@@ -26,7 +26,8 @@ pub enum Step {
         before: u32,
         uses: u32,
     },
-    /// A call that left the content as it was, or the push or pop of a value that is popped at once.
+    /// A call that left the content as it was, or the push or pop of a value that is popped at
+    /// once.
     Still {
         before: u32,
         call: u32,

@@ -191,8 +191,8 @@ impl Search {
         })
     }
 
-    /// The state that these pushes lead to, which come in rising order of the contents before them. One
-    /// of them has the fewest pending calls before it.
+    /// The state that these pushes lead to, which come in rising order of the contents before them.
+    /// One of them has the fewest pending calls before it.
     fn pushed(&mut self, pushes: &[Push], least: &Push) -> State {
         self.left = self.left.saturating_sub(pushes.len() as u64);
         let mut origins = vec![least.origin()];

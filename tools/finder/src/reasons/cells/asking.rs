@@ -49,8 +49,8 @@ fn stale(scene: &Scene, access: &Access, contents: &[usize], sight: Sight) -> Ca
     scene.candidate(Pattern::Stale(scene.value(contents[0])), plan, 2)
 }
 
-/// The candidates of a call that asks for a content that cannot be there. A key of few calls that was
-/// shown without a value is first kept whole, since its part then begins empty.
+/// The candidates of a call that asks for a content that cannot be there. A key of few calls that
+/// was shown without a value is first kept whole, since its part then begins empty.
 fn candidates_of(scene: &Scene, access: &Access) -> Option<Vec<Candidate>> {
     let Need::Is(content) = access.need else {
         return None;

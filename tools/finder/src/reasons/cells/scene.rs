@@ -34,9 +34,9 @@ impl<'a> Scene<'a> {
         self.cell.accesses[place].call
     }
 
-    /// The plan that keeps these contents of the cell, and these calls. A cell of a map as a register
-    /// does not tell no value from a value that is not kept: where a key is to be without a value it is
-    /// kept whole.
+    /// The plan that keeps these contents of the cell, and these calls. A cell of a map as a
+    /// register does not tell no value from a value that is not kept: where a key is to be without
+    /// a value it is kept whole.
     pub fn plan(&self, contents: &[usize], calls: &[Call]) -> Plan {
         let whole = self.cell.key.filter(|_| contents.contains(&NOTHING));
         let values: Vec<i64> = match whole {

@@ -18,7 +18,8 @@ fn counted(scene: &Scene, content: usize) -> Option<Counted> {
     }
 }
 
-/// The count, from this number on, in the part of a cell's plan, where a key of a map is a register.
+/// The count, from this number on, in the part of a cell's plan, where a key of a map is a
+/// register.
 fn count_in_part(counted: Counted, from: u32) -> Count {
     let counted = match counted {
         Counted::Entry { value, .. } => Counted::Value(value),

@@ -1,6 +1,6 @@
 //! Two values of a cell that are set once each, and each of which surely is there before the other
-//! one is: the zones of Gibbons and Korach, "Testing Shared Memories", SIAM Journal on Computing 26,
-//! 1997.
+//! one is: the zones of Gibbons and Korach, "Testing Shared Memories", SIAM Journal on Computing
+//! 26, 1997.
 
 use super::MOST;
 use super::scene::Scene;
@@ -73,8 +73,8 @@ struct Longest {
     second: Option<Stay>,
 }
 
-/// For each long stay, of which the end comes after the beginning, in rising order, when it begins, and
-/// the two longest of those that begin by then.
+/// For each long stay, of which the end comes after the beginning, in rising order, when it begins,
+/// and the two longest of those that begin by then.
 fn all_longest(stays: &[Stay]) -> Vec<(u32, Longest)> {
     let mut long: Vec<Stay> = stays.iter().filter(|stay| stay.from < stay.to).copied().collect();
     long.sort_by_key(|stay| stay.from);

@@ -38,7 +38,8 @@ fn chain_over(cover: &Marks, own: usize, from: u32, end: u32) -> Option<Vec<usiz
     Some(chain)
 }
 
-/// The extracts under smaller values, by a sweep over the runs in rising value; the fewest calls first.
+/// The extracts under smaller values, by a sweep over the runs in rising value; the fewest calls
+/// first.
 fn find_covered<'a>(runs: &'a Runs, intervals: &[Interval]) -> Vec<Covered<'a>> {
     let mut cover = Marks::new(runs.end as usize);
     let mut intervals = intervals.iter().peekable();

@@ -140,7 +140,8 @@ fn chain_over(reach: &[Mark], call: &Call, links: &mut usize) -> Option<Vec<usiz
     Some(chain)
 }
 
-/// The calls that find nothing while at each moment some value surely is in, the fewest values first.
+/// The calls that find nothing while at each moment some value surely is in, the fewest values
+/// first.
 pub fn empties(runs: &Runs, intervals: &[Interval]) -> Vec<Candidate> {
     if runs.empties.is_empty() {
         return Vec::new();

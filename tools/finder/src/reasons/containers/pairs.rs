@@ -78,8 +78,8 @@ fn stack_candidate(runs: &Runs, one: &Pair, other: &Pair) -> Candidate {
     Candidate::without_key(pattern, plan, 4)
 }
 
-/// Two values of a queue, of which the second is put in after the first and taken before it: of those
-/// whose put has returned when the second is put in, the first is the one that leaves last.
+/// Two values of a queue, of which the second is put in after the first and taken before it: of
+/// those whose put has returned when the second is put in, the first is the one that leaves last.
 pub fn queue_pairs(runs: &Runs) -> Vec<Candidate> {
     let pairs = pairs_of(runs);
     let mut ended = by_time(&pairs, |pair| if_returned(pair.put_end)).into_iter().peekable();
