@@ -3,12 +3,17 @@
 //! gone earlier. In which gap that is to be is chosen here, and the values are placed anew.
 
 use crate::residences::Residence;
+use std::cmp::Reverse;
+use std::ops::Range;
 
 /// The most calls without a gap for which more is demanded.
 const MOST_SHORTAGES: usize = 100;
 
 /// How many gaps of such a call are looked at.
 const MOST_GAPS: u32 = 400;
+
+/// The most demands.
+const MOST_DEMANDS: usize = 1_000_000;
 
 /// What a value costs that must be gone, if a pending extract or none takes it.
 const CHEAP: u64 = 1;
@@ -34,9 +39,9 @@ impl Shortage {
             && self.from < cover.to
     }
 
-    /// Those of the gaps that are looked at.
-    fn gaps(&self) -> impl Iterator<Item = u32> {
-        self.from..self.to.min(self.from.saturating_add(MOST_GAPS))
+    /// Those of the gaps that are looked at, if there are any.
+    fn gaps(&self) -> Range<u32> {
+        self.from..self.to.clamp(self.from, self.from.saturating_add(MOST_GAPS))
     }
 }
 
@@ -74,37 +79,45 @@ impl Demands {
         &self.demands[from..to]
     }
 
-    fn holds(&self, value: i64, gap: u32) -> bool {
-        self.demands.binary_search(&(value, gap)).is_ok()
-    }
-
-    /// What it costs that the values of these covers are gone in this gap.
-    fn cost(&self, gap: u32, covers: &[&Cover]) -> u64 {
-        let costs = covers.iter().filter(|cover| cover.holds(gap)).map(|cover| {
-            let in_vain = if self.holds(cover.value, gap) { IN_VAIN } else { 0 };
-            cover.cost + in_vain
+    /// What it costs, for each of these gaps, that the values of these covers are gone in it.
+    fn costs(&self, gaps: Range<u32>, covers: &[&Cover]) -> Vec<u64> {
+        let place = |gap: u32| (gap.clamp(gaps.start, gaps.end) - gaps.start) as usize;
+        let mut begins = vec![0; gaps.len() + 1];
+        let mut ends = vec![0; gaps.len() + 1];
+        let mut in_vain = vec![0; gaps.len() + 1];
+        for cover in covers {
+            begins[place(cover.from)] += cover.cost;
+            ends[place(cover.to)] += cover.cost;
+            let demanded = self.of(cover.value).iter().map(|(_, gap)| *gap);
+            for gap in demanded.filter(|gap| gaps.contains(gap) && cover.holds(*gap)) {
+                in_vain[place(gap)] += IN_VAIN;
+            }
+        }
+        let mut cost = 0;
+        let costs = (0..gaps.len()).map(|place| {
+            cost = cost + begins[place] - ends[place];
+            cost + in_vain[place]
         });
-        costs.sum()
+        costs.collect()
     }
 
     /// Demands that values be gone in one gap of a shortage. False where that was demanded before.
     fn add(&mut self, shortage: &Shortage, covers: &[&Cover]) -> bool {
         // of the cheapest gaps the last
-        let Some(gap) = shortage.gaps().min_by_key(|gap| (self.cost(*gap, covers), u32::MAX - gap))
-        else {
+        let costs = self.costs(shortage.gaps(), covers);
+        let cheapest = shortage.gaps().zip(costs).min_by_key(|(gap, cost)| (*cost, Reverse(*gap)));
+        let Some((gap, _)) = cheapest else {
             return false;
         };
         let before = self.demands.len();
-        for cover in covers.iter().filter(|cover| cover.holds(gap)) {
-            if let Err(place) = self.demands.binary_search(&(cover.value, gap)) {
-                self.demands.insert(place, (cover.value, gap));
-            }
-        }
+        let covers = covers.iter().filter(|cover| cover.holds(gap));
+        self.demands.extend(covers.map(|cover| (cover.value, gap)));
+        self.demands.sort();
+        self.demands.dedup();
         self.demands.len() > before
     }
 
-    /// Demands what these shortages need. False where they are too many, or nothing new is
-    /// demanded.
+    /// Demands what these shortages need. False where that is too much, or nothing new is demanded.
     pub fn add_all(&mut self, shortages: &[Shortage], covers: &[Cover]) -> bool {
         if shortages.len() > MOST_SHORTAGES {
             return false;
@@ -113,6 +126,9 @@ impl Demands {
         for shortage in shortages {
             let own: Vec<&Cover> = covers.iter().filter(|c| shortage.concerns(c)).collect();
             adds |= self.add(shortage, &own);
+            if self.demands.len() > MOST_DEMANDS {
+                return false;
+            }
         }
         adds
     }
