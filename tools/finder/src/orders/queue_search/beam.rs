@@ -21,6 +21,9 @@ const SAVE: usize = 256;
 /// How many layers are saved at most.
 const MOST_SAVED: usize = 12;
 
+/// How many calls the states of a layer list at most, so that a layer takes some 64 MB.
+const MOST_LISTED: usize = 4_000_000;
+
 /// How many steps may be recorded before those are dropped that led to no state.
 const MOST_DROPPED: usize = 1 << 20;
 
@@ -136,7 +139,9 @@ impl Walk {
     /// One layer further.
     fn advance(&mut self, search: &mut Search) {
         let slack = SLACK + self.trials as u32;
-        let layer = search.layer(&self.beam.older, &self.beam.newer, slack, self.width);
+        let longest = self.beam.states().map(|state| state.listed()).max().unwrap_or(0);
+        let width = self.width.min((MOST_LISTED / longest.max(1)).max(1));
+        let layer = search.layer(&self.beam.older, &self.beam.newer, slack, width);
         self.beam.older = std::mem::replace(&mut self.beam.newer, layer);
         self.beam.layer += 1;
     }

@@ -81,6 +81,11 @@ impl State {
         self.puts.bound().min(self.take_limit())
     }
 
+    /// How many calls it lists.
+    pub fn listed(&self) -> usize {
+        self.puts.left.len() + self.takes.left.len() + self.empties.left.len()
+    }
+
     /// Whether all removals are placed that return.
     pub fn is_done(&self) -> bool {
         self.takes.left.is_empty() && self.empties.left.is_empty()

@@ -5,6 +5,9 @@ use super::records::{Records, Step};
 use super::states::{Choice, Draft, State, narrow};
 use crate::timeline::Call;
 
+/// How many drafts of a layer are made at most, before no more states are looked at.
+const MOST_DRAFTS: usize = 1 << 22;
+
 /// The removal of a value that can be next, in the state that was looked at in this turn.
 #[derive(Clone, Copy, Default)]
 struct Ready {
@@ -202,7 +205,9 @@ impl Search {
     ) -> Vec<State> {
         let mut drafts = Vec::new();
         for (from, state) in older.iter().enumerate() {
-            self.add_pairs(state, from, &mut drafts);
+            if drafts.len() < MOST_DRAFTS {
+                self.add_pairs(state, from, &mut drafts);
+            }
         }
         for (from, state) in newer.iter().enumerate() {
             self.add_singles(state, from, &mut drafts);

@@ -243,6 +243,9 @@ impl Search {
     fn place_push(&mut self, open: &[State], by: &RunningCall, done: &mut Vec<State>) {
         let mut open = self.popped_from(open, None, 0);
         for _ in 0..=self.running.calls.len() {
+            if self.left == 0 {
+                return;
+            }
             narrow(&mut open, u32::MAX, MOST_OPEN);
             let fewest = open.iter().map(|state| state.placed.count_ones()).min();
             let (next, mut later): (Vec<State>, Vec<State>) =
