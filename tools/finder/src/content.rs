@@ -205,3 +205,44 @@ impl Kept {
         }
     }
 }
+
+#[cfg(test)]
+mod tests {
+    use super::*;
+
+    #[test]
+    fn operations_are_undone() {
+        let ops = [
+            (
+                Kind::Queue,
+                vec![Op::Enqueue(1), Op::Enqueue(2), Op::Dequeue, Op::Dequeue, Op::Dequeue],
+            ),
+            (Kind::Stack, vec![Op::Push(1), Op::Push(2), Op::Pop, Op::Pop, Op::Pop]),
+            (Kind::Heap, vec![Op::Insert(2), Op::Insert(1), Op::Insert(2), Op::ExtractMin]),
+            (Kind::Register, vec![Op::Write(1), Op::Cas(1, 2), Op::Cas(1, 3), Op::Read]),
+            (Kind::Map, vec![Op::Put(1, 2), Op::Put(1, 3), Op::Get(1), Op::Del(1), Op::Del(1)]),
+            (Kind::Mutex, vec![Op::Acquire, Op::Release]),
+        ];
+        for (kind, ops) in ops {
+            let mut content = Content::empty(kind);
+            let mut before = Vec::new();
+            for op in ops {
+                let kept = Kept::of(&content);
+                let (_, undo) = content.apply(op).expect("a possible operation");
+                before.push((kept, undo));
+            }
+            for (kept, undo) in before.into_iter().rev() {
+                content.undo(undo);
+                assert!(kept.is(&content), "{kind:?}");
+            }
+            assert!(content == Content::empty(kind), "{kind:?}");
+        }
+    }
+
+    #[test]
+    fn a_held_mutex_cannot_be_acquired() {
+        let mut mutex = Content::Mutex(true);
+        assert!(mutex.apply(Op::Acquire).is_none());
+        assert!(mutex == Content::Mutex(true));
+    }
+}

@@ -1,7 +1,7 @@
 //! The lines of evidence, and what is decided of small histories.
 
-use finder::{Count, Counted, Cut, Decision, Evidence, First, FoundReason, Kind, Options, Pattern};
-use finder::{Search, Sentence, Shown, Values, decide, read_history};
+use finder::{Count, Counted, Cut, Decision, Evidence, FoundReason, Kind, Options, Pattern};
+use finder::{Sentence, Shown, Values, decide, read_history};
 use std::collections::BTreeSet;
 
 /// A history in which process `p` does each call in turn: its function, argument and reply.
@@ -60,9 +60,15 @@ fn a_search_is_in_the_line() {
 
 #[test]
 fn what_is_not_decided_is_handed_over() {
-    let search = Search { first: First::Number, steps: 1_000_000 };
-    let decision = Decision { object: 3, evidence: Evidence::Search(search) };
-    assert_eq!(decision.to_string(), "{:object 3, :search {:first :number, :steps 1000000}}");
+    let text = include_str!("undecided.edn");
+    assert_eq!(lines_of(text), "{:object 0, :search {:first :number, :steps 1000000}}\n");
+    let history = read_history(text.as_bytes()).expect("a history");
+    let decisions = decide(&history, &Options { steps: Some(7), workers: 1 });
+    assert_eq!(decisions[0].to_string(), "{:object 0, :search {:first :number, :steps 7}}");
+}
+
+#[test]
+fn an_open_object_is_a_comment() {
     let decision = Decision { object: 3, evidence: Evidence::Open };
     assert_eq!(decision.to_string(), "; object 3: open");
 }

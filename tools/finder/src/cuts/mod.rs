@@ -106,3 +106,113 @@ fn without(history: &ObjectHistory, value: i64, before: u32) -> Option<ObjectHis
     let rest = ops.iter().filter(|o| !puts(o) && !takes(o));
     Some(history.with(rest.copied().collect()))
 }
+
+#[cfg(test)]
+mod tests {
+    use super::*;
+    use crate::model::Op;
+    use crate::read_history;
+
+    fn history_of(events: &[(u32, &str)]) -> ObjectHistory {
+        let events = events.iter().map(|(process, rest)| format!("{{:process {process} {rest}}}"));
+        let text: String = events.collect();
+        read_history(text.as_bytes()).expect("a history").objects.remove(0)
+    }
+
+    fn numbers_of(part: Option<ObjectHistory>) -> Option<Vec<u32>> {
+        part.map(|part| part.ops.iter().map(|o| o.number).collect())
+    }
+
+    fn keep(values: &[i64], numbers: &[u32]) -> Cut {
+        let values = Values::Only(values.iter().copied().collect());
+        Cut::Keep { values, numbers: numbers.iter().copied().collect() }
+    }
+
+    fn queue() -> ObjectHistory {
+        history_of(&[
+            (0, ":type :invoke :f :enqueue :value 1"),
+            (0, ":type :ok :f :enqueue :value 1"),
+            (1, ":type :invoke :f :enqueue :value 2"),
+            (2, ":type :invoke :f :dequeue"),
+            (3, ":type :invoke :f :dequeue"),
+            (3, ":type :ok :f :dequeue :value 1"),
+        ])
+    }
+
+    #[test]
+    fn a_part_by_values_is_closed() {
+        let queue = queue();
+        assert_eq!(numbers_of(part_by(&queue, &[keep(&[1], &[0, 4])])), Some(vec![0, 4]));
+        assert_eq!(numbers_of(part_by(&queue, &[keep(&[1], &[0])])), None);
+        assert_eq!(numbers_of(part_by(&queue, &[keep(&[1], &[0, 2, 4])])), None);
+        // the pending dequeue may take 2
+        assert_eq!(numbers_of(part_by(&queue, &[keep(&[2], &[2])])), None);
+        assert_eq!(numbers_of(part_by(&queue, &[keep(&[2], &[2, 3])])), Some(vec![2, 3]));
+    }
+
+    #[test]
+    fn a_beginning_leaves_what_returned_later_pending() {
+        let part = part_by(&queue(), &[Cut::Until(5)]).expect("a part");
+        assert_eq!(part.ops.len(), 4);
+        assert!(part.ops[3].is_pending());
+    }
+
+    #[test]
+    fn a_value_is_left_out_only_if_it_surely_was_not_in() {
+        let without = |before| numbers_of(part_by(&queue(), &[Cut::Without { value: 1, before }]));
+        assert_eq!(without(5), None);
+        assert_eq!(without(6), Some(vec![2, 3]));
+    }
+
+    #[test]
+    fn an_end_begins_at_a_call_that_tells_the_content() {
+        let register = history_of(&[
+            (0, ":type :invoke :f :write :value 1"),
+            (1, ":type :invoke :f :cas :value [1 2]"),
+            (0, ":type :ok :f :write :value 1"),
+            (1, ":type :ok :f :cas :value [1 2]"),
+            (0, ":type :invoke :f :cas :value [1 3]"),
+            (0, ":type :ok :f :cas :value false"),
+        ]);
+        let part = part_by(&register, &[Cut::From(0)]).expect("a part");
+        let ops: Vec<Op> = part.ops.iter().map(|o| o.op).collect();
+        assert_eq!(ops, [Op::Write(1), Op::Write(2), Op::Cas(1, 3)]);
+        assert!(part_by(&register, &[Cut::From(4)]).is_none());
+        assert!(part_by(&queue(), &[Cut::From(0)]).is_none());
+    }
+
+    #[test]
+    fn a_cell_has_one_value_for_all_others() {
+        let map = history_of(&[
+            (0, ":type :invoke :f :put :value [5 1]"),
+            (0, ":type :ok :f :put :value nil"),
+            (0, ":type :invoke :f :put :value [5 7]"),
+            (0, ":type :ok :f :put :value 1"),
+            (0, ":type :invoke :f :get :value 6"),
+            (0, ":type :ok :f :get :value nil"),
+        ]);
+        let cell = |numbers: &[u32]| Cut::Cell {
+            key: Some(5),
+            values: Values::Only(BTreeSet::from([1])),
+            other: 0,
+            numbers: numbers.iter().copied().collect(),
+        };
+        let ops = |numbers| {
+            let part = part_by(&map, &[cell(numbers)]).expect("a part");
+            part.ops.iter().map(|o| o.op).collect::<Vec<Op>>()
+        };
+        assert_eq!(ops(&[]), [Op::Write(1)]);
+        assert_eq!(ops(&[2, 4]), [Op::Write(1), Op::Cas(1, 0)]);
+    }
+
+    #[test]
+    fn a_count_is_exceeded_where_more_is_taken_than_set() {
+        let counted = Counted::Value(1);
+        let mut queue = queue();
+        assert!(!is_exceeded(&queue, Count { counted, from: 0 }));
+        queue.ops.remove(0);
+        assert!(is_exceeded(&queue, Count { counted, from: 0 }));
+        // what the queue contained before is not known
+        assert!(!is_exceeded(&queue, Count { counted, from: 1 }));
+    }
+}

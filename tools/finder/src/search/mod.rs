@@ -47,3 +47,58 @@ pub fn search(history: &ObjectHistory, first: First, steps: u64) -> Outcome {
 pub fn is_impossible(history: &ObjectHistory, first: First, steps: u64) -> bool {
     search(history, first, steps) == Outcome::Impossible
 }
+
+#[cfg(test)]
+mod tests {
+    use super::*;
+    use crate::history::{End, Invocation};
+    use crate::model::{Kind, Op, Reply};
+
+    /// An operation that was invoked and returned at these numbers; pending if at none.
+    fn operation(number: u32, op: Op, end: Option<(u32, Option<i64>)>) -> Invocation {
+        let returned = |(at, value)| End::Returned { at, reply: Reply::Value(value) };
+        Invocation { number, op, end: end.map_or(End::Pending, returned) }
+    }
+
+    fn queue(ops: Vec<Invocation>) -> ObjectHistory {
+        ObjectHistory { object: 0, kind: Kind::Queue, ops }
+    }
+
+    #[test]
+    fn finds_an_order_in_either_order_of_trial() {
+        let history = queue(vec![
+            operation(0, Op::Enqueue(1), Some((3, Some(1)))),
+            operation(1, Op::Enqueue(2), Some((2, Some(2)))),
+            operation(4, Op::Dequeue, Some((5, Some(2)))),
+        ]);
+        for first in [First::Number, First::Return] {
+            assert_eq!(search(&history, first, 100), Outcome::Order(vec![1, 0, 4]));
+        }
+    }
+
+    #[test]
+    fn uses_pending_operations() {
+        let history = queue(vec![
+            operation(0, Op::Enqueue(1), None),
+            operation(1, Op::Dequeue, Some((2, Some(1)))),
+        ]);
+        assert_eq!(search(&history, First::Return, 100), Outcome::Order(vec![0, 1]));
+    }
+
+    #[test]
+    fn counts_steps() {
+        let history = queue(vec![
+            operation(0, Op::Enqueue(1), Some((1, Some(1)))),
+            operation(2, Op::Dequeue, Some((3, None))),
+        ]);
+        assert_eq!(search(&history, First::Number, 1), Outcome::OutOfSteps);
+        assert_eq!(search(&history, First::Number, 2), Outcome::Impossible);
+        assert!(is_impossible(&history, First::Return, 2));
+    }
+
+    #[test]
+    fn nothing_that_returned_has_an_empty_order() {
+        let history = queue(vec![operation(0, Op::Dequeue, None)]);
+        assert_eq!(search(&history, First::Number, 0), Outcome::Order(Vec::new()));
+    }
+}
