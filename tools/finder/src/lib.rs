@@ -25,6 +25,7 @@ mod reader;
 mod reasons;
 mod residences;
 mod search;
+mod splitmix;
 mod timeline;
 mod trees;
 
