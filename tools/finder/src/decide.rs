@@ -91,7 +91,7 @@ fn decide_or_leave(history: &ObjectHistory, steps: Option<u64>) -> Decision {
 
 /// Looks for evidence for each object of a history, in rising object number. The answers are the
 /// same for any number of workers.
-pub fn decide(history: &History, options: &Options) -> Vec<Decision> {
+pub fn decide(history: &History, options: Options) -> Vec<Decision> {
     let objects = &history.objects;
     let next = AtomicUsize::new(0);
     let decisions = Mutex::new(Vec::with_capacity(objects.len()));
