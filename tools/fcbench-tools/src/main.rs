@@ -84,7 +84,7 @@ fn find(command: &Find) -> Status {
         return Status::Malformed;
     };
     let options = Options { steps: command.steps, workers: command.workers };
-    let decisions = decide(&history, &options);
+    let decisions = decide(&history, options);
     let mut out = BufWriter::new(std::io::stdout().lock());
     let written = decisions.iter().try_for_each(|decision| writeln!(out, "{decision}"));
     if let Err(error) = written.and_then(|()| out.flush()) {

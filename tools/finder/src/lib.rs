@@ -8,7 +8,7 @@
 //! let text = b"{:process 0, :type :invoke, :f :enqueue, :value 1}
 //!              {:process 0, :type :ok, :f :enqueue, :value 1}";
 //! let history = read_history(text).expect("a history");
-//! let decisions = decide(&history, &Options::default());
+//! let decisions = decide(&history, Options::default());
 //! assert_eq!(decisions[0].to_string(), "{:object 0, :order [0]}");
 //! ```
 
@@ -26,6 +26,7 @@ mod reader;
 mod reasons;
 mod residences;
 mod search;
+mod splitmix;
 mod timeline;
 mod trees;
 

@@ -15,7 +15,7 @@ fn history_of(calls: &[(u32, &str, &str, &str)]) -> String {
 
 fn lines_of(text: &str) -> String {
     let history = read_history(text.as_bytes()).expect("a history");
-    let decisions = decide(&history, &Options::default());
+    let decisions = decide(&history, Options::default());
     decisions.iter().map(|decision| format!("{decision}\n")).collect()
 }
 
@@ -63,7 +63,7 @@ fn what_is_not_decided_is_handed_over() {
     let text = include_str!("undecided.edn");
     assert_eq!(lines_of(text), "{:object 0, :search {:first :number, :steps 1000000}}\n");
     let history = read_history(text.as_bytes()).expect("a history");
-    let decisions = decide(&history, &Options { steps: Some(7), workers: 1 });
+    let decisions = decide(&history, Options { steps: Some(7), workers: 1 });
     assert_eq!(decisions[0].to_string(), "{:object 0, :search {:first :number, :steps 7}}");
 }
 
@@ -122,6 +122,6 @@ fn a_sentence_names_the_key() {
     let decision = Decision { object: 1, evidence: Evidence::Reason(reason) };
     assert_eq!(
         decision.to_string(),
-        format!("; {text}\n{{:object 1, :cuts [], :count {{:value 8, :from 0}}}}")
+        format!("{{:object 1, :cuts [], :count {{:value 8, :from 0}}, :note \"{text}\"}}")
     );
 }

@@ -43,7 +43,7 @@ fn finds_an_order_where_the_certificates_are_one() {
             continue;
         }
         let history = history(&name).expect(&name);
-        for decision in decide(&history, &Options::default()) {
+        for decision in decide(&history, Options::default()) {
             assert!(matches!(decision.evidence, Evidence::Order(_)), "{name}");
         }
     }
@@ -55,7 +55,7 @@ fn finds_an_order_exactly_where_the_judgement_is_yes() {
         let Some(history) = history(&name) else {
             continue;
         };
-        let decisions = decide(&history, &Options::default());
+        let decisions = decide(&history, Options::default());
         let all_have_orders = decisions.iter().all(|d| matches!(d.evidence, Evidence::Order(_)));
         assert_eq!(all_have_orders, text(&name, "judged").starts_with("yes"), "{name}");
     }
@@ -79,7 +79,7 @@ fn finds_the_reason_that_the_judgement_prints() {
             continue;
         };
         let history = history(&name).expect(&name);
-        let decisions = decide(&history, &Options::default());
+        let decisions = decide(&history, Options::default());
         let [decision] = &decisions[..] else {
             panic!("{name}: {} objects", decisions.len());
         };
@@ -91,7 +91,9 @@ fn finds_the_reason_that_the_judgement_prints() {
             },
             evidence => panic!("{name}: {evidence:?}"),
         };
-        assert_eq!(lines, format!("{sentence}\n{reason}"), "{name}");
+        let note = sentence.strip_prefix("; ").expect("a comment");
+        let reason = reason.strip_suffix('}').expect("a map");
+        assert_eq!(lines, format!("{reason}, :note \"{note}\"}}"), "{name}");
         found += 1;
     }
     assert!(found >= 9);
@@ -104,7 +106,7 @@ fn any_number_of_workers_finds_the_same() {
             continue;
         };
         let lines = |workers| {
-            let decisions = decide(&history, &Options { workers, ..Options::default() });
+            let decisions = decide(&history, Options { workers, ..Options::default() });
             decisions.iter().map(|decision| format!("{decision}\n")).collect::<String>()
         };
         assert_eq!(lines(1), lines(4), "{name}");
@@ -125,7 +127,7 @@ fn damaged_histories_do_no_harm() {
                 let Some(history) = read_history(damaged) else {
                     continue;
                 };
-                for decision in decide(&history, &Options::default()) {
+                for decision in decide(&history, Options::default()) {
                     assert!(!matches!(decision.evidence, Evidence::Open), "{name} at {at}");
                 }
             }

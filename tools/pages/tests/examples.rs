@@ -26,7 +26,7 @@ fn judged(name: &str) -> String {
         return malformed_page(&file, text.as_bytes(), fault, &lines);
     }
     let history = read_history(text.as_bytes()).expect("a history");
-    let decisions = decide(&history, &Options::default());
+    let decisions = decide(&history, Options::default());
     let drawn = Drawn {
         history: &history,
         name: &file,

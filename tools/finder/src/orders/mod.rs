@@ -83,7 +83,7 @@ fn order_of_other_pairs(history: &ObjectHistory, timeline: &Timeline) -> Option<
         return None;
     }
     let touches = Touches::of(&timeline.calls);
-    if !touches.repeat() && touches.unknown.is_empty() {
+    if !touches.leave_a_choice() {
         return None;
     }
     let order = match history.kind {
@@ -96,14 +96,19 @@ fn order_of_other_pairs(history: &ObjectHistory, timeline: &Timeline) -> Option<
     order.filter(|order| is_valid(history, order))
 }
 
-/// A valid order of a queue or stack, by a search of all that it may contain.
+/// A valid order of a queue or stack, by a search of all that it may contain, where it can be
+/// chosen which removal takes which value.
 pub fn order_by_contents(history: &ObjectHistory) -> Option<Vec<u32>> {
-    let order = match history.kind {
-        Kind::Queue => searched_queue_order(&Timeline::of(&history.ops)),
-        Kind::Stack => searched_stack_order(&Timeline::of(&history.ops)),
-        _ => None,
+    let search = match history.kind {
+        Kind::Queue => searched_queue_order,
+        Kind::Stack => searched_stack_order,
+        _ => return None,
     };
-    order.filter(|order| is_valid(history, order))
+    let timeline = Timeline::of(&history.ops);
+    if !Touches::of(&timeline.calls).leave_a_choice() {
+        return None;
+    }
+    search(&timeline).filter(|order| is_valid(history, order))
 }
 
 /// The keys of a map for whose calls no order was found, at most 16; none for another object.

@@ -105,19 +105,20 @@ impl Display for Sentence {
         if let Some(key) = self.key {
             write!(f, "key {key}: ")?;
         }
-        let (kind, word) = (self.kind, self.kind.word());
+        let (put, seen, word) = (self.kind.put(), self.kind.seen(), self.kind.word());
+        if let Some((value, fate)) = self.pattern.of_value(self.kind) {
+            return write!(f, "value {value} was {fate}");
+        }
         match self.pattern {
             Pattern::SurelyNotEmpty { number } => {
                 write!(f, "the {word} was surely not empty when map {number} found nothing")
             }
-            Pattern::EachBeforeTheOther(one, other) => write!(
-                f,
-                "each of the values {one} and {other} was {} before the other, and each was {} once",
-                kind.seen(),
-                kind.put()
-            ),
+            Pattern::EachBeforeTheOther(one, other) => {
+                write!(f, "each of the values {one} and {other} was {seen} before the other, ")?;
+                write!(f, "and each was {put} once")
+            }
             Pattern::Stale(None) => {
-                write!(f, "nil was {} after another content had replaced it", kind.seen())
+                write!(f, "nil was {seen} after another content had replaced it")
             }
             Pattern::CountExceeded(Counted::NoEntry(_)) => f.write_str(
                 "it was found without a value more often than it can have been without one",
@@ -128,19 +129,15 @@ impl Display for Sentence {
             Pattern::CountExceeded(Counted::Free) => {
                 f.write_str("the lock was acquired more often than it can have been free")
             }
-            Pattern::General => f.write_str("these operations have no valid order"),
-            pattern => match pattern.value(kind) {
-                Some((value, fate)) => write!(f, "value {value} was {fate}"),
-                None => Ok(()),
-            },
+            _ => f.write_str("these operations have no valid order"),
         }
     }
 }
 
 impl Pattern {
-    /// The value that the pattern is about, and what it says of it.
-    fn value(self, kind: Kind) -> Option<(i64, String)> {
-        let (put, seen, taken, word) = (kind.put(), kind.seen(), kind.taken(), kind.word());
+    /// The value that the pattern is about, and what it says of it; none where it is about no value.
+    fn of_value(self, kind: Kind) -> Option<(i64, String)> {
+        let (put, seen, taken) = (kind.put(), kind.seen(), kind.taken());
         Some(match self {
             Pattern::NeverSet(value) => (value, format!("{seen} and never {put}")),
             Pattern::TooEarly(value) => (value, format!("{seen} before it was {put}")),
@@ -149,9 +146,27 @@ impl Pattern {
                 let (times, set) = (Times(times), Times(set));
                 (value, format!("{taken} {times} and by then {put} {set}"))
             }
+            Pattern::Stale(value) => {
+                (value?, format!("{seen} after another content had replaced it"))
+            }
+            Pattern::RefusedUnderItsValue { value, number } => {
+                let swap = format!("the swap of map {number}, which expects it");
+                (value, format!("surely there when {swap}, was refused"))
+            }
+            Pattern::CountExceeded(Counted::Value(value) | Counted::Entry { value, .. }) => {
+                (value, format!("{taken} more often than it can have been there"))
+            }
+            _ => return self.of_two_values(kind),
+        })
+    }
+
+    /// The same of a value and another one.
+    fn of_two_values(self, kind: Kind) -> Option<(i64, String)> {
+        let (put, seen, word) = (kind.put(), kind.seen(), kind.word());
+        Some(match self {
             Pattern::UnderSmaller { taken: value, smaller } => {
-                let under = format!("the smaller value {smaller} was surely in the {word}");
-                (value, format!("{seen} while {under}"))
+                let smaller = format!("the smaller value {smaller} was surely in the {word}");
+                (value, format!("{seen} while {smaller}"))
             }
             Pattern::UnderSmallerOnes(value) => {
                 (value, format!("{seen} while some smaller value was surely in the {word}"))
@@ -169,16 +184,6 @@ impl Pattern {
             Pattern::LeftAbove { first: value, second: other } => {
                 let other = format!("value {other}, which was {put} on it");
                 (value, format!("{seen} while {other}, was still in the {word}"))
-            }
-            Pattern::Stale(value) => {
-                (value?, format!("{seen} after another content had replaced it"))
-            }
-            Pattern::RefusedUnderItsValue { value, number } => {
-                let swap = format!("the swap of map {number}, which expects it");
-                (value, format!("surely there when {swap}, was refused"))
-            }
-            Pattern::CountExceeded(Counted::Value(value) | Counted::Entry { value, .. }) => {
-                (value, format!("{taken} more often than it can have been there"))
             }
             _ => return None,
         })

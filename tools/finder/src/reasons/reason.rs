@@ -3,7 +3,7 @@
 use super::{Pattern, Sentence};
 use crate::cuts::{Count, Cut, is_exceeded, part_by};
 use crate::history::ObjectHistory;
-use crate::search::{First, is_impossible};
+use crate::search::{First, Outcome, search};
 
 /// An order of trial, and the most steps of a search.
 #[derive(Clone, Copy, Debug, PartialEq, Eq)]
@@ -22,11 +22,11 @@ pub struct Reason {
 impl Reason {
     /// The part that the reason names, if it is shown to have no valid order, where the part is
     /// searched so.
-    pub fn shown(&self, history: &ObjectHistory, search: Search) -> Option<ObjectHistory> {
+    pub fn shown(&self, history: &ObjectHistory, by: Search) -> Option<ObjectHistory> {
         let part = part_by(history, &self.cuts)?;
         let shown = match self.count {
             Some(count) => is_exceeded(&part, count),
-            None => is_impossible(&part, search.first, search.steps),
+            None => search(&part, by.first, by.steps) == Outcome::Impossible,
         };
         shown.then_some(part)
     }

@@ -7,8 +7,8 @@ use crate::trees::{ABSENT, Least};
 /// The removals that are pending, and the calls that need values to be gone: a value must be gone
 /// where its put returns before one of these begins.
 pub struct Removals {
-    /// For each moment at which such a call begins the moment of its return. It is empty where no
-    /// removal is pending.
+    /// For each moment at which such a call begins the moment of its return. None where no removal
+    /// is pending.
     returns: Option<Least>,
     moments: usize,
     /// In the order of their begins; the last first if `last_first`.

@@ -1,6 +1,6 @@
 //! What each call of a queue, stack or heap does with a value.
 
-use crate::model::Reply;
+use crate::model::Role;
 use crate::timeline::{Call, Span};
 
 /// A put or a removal of a value.
@@ -27,15 +27,11 @@ impl Touches {
         let mut touches = Touches::default();
         for call in calls {
             let span = call.span();
-            match (call.op.puts(), call.reply) {
-                (Some(value), _) => {
-                    touches.known.push(Touch { value, takes: false, call: span });
-                }
-                (None, Some(Reply::Value(Some(value)))) => {
-                    touches.known.push(Touch { value, takes: true, call: span });
-                }
-                (None, Some(_)) => touches.empties.push(span),
-                (None, None) => touches.unknown.push(span),
+            match call.op.role(call.reply) {
+                Role::Puts(value) => touches.known.push(Touch { value, takes: false, call: span }),
+                Role::Takes(value) => touches.known.push(Touch { value, takes: true, call: span }),
+                Role::FindsNone => touches.empties.push(span),
+                Role::Unknown => touches.unknown.push(span),
             }
         }
         touches.known.sort_unstable_by_key(|touch| (touch.value, touch.takes, touch.call.begin));
@@ -50,6 +46,12 @@ impl Touches {
     /// Whether a value is put twice.
     pub fn repeat(&self) -> bool {
         self.known.windows(2).any(|pair| pair[0].value == pair[1].value && !pair[1].takes)
+    }
+
+    /// Whether a value is put twice, or a removal is pending: whether it can be chosen which
+    /// removal takes which value.
+    pub fn leave_a_choice(&self) -> bool {
+        self.repeat() || !self.unknown.is_empty()
     }
 
     /// Whether a value is taken when it can't be in: at some moment more of its removals have

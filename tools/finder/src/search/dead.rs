@@ -2,6 +2,7 @@
 //! of memory: the older half of them is forgotten, and what begins with them may then be searched
 //! again.
 
+use super::undone::Undone;
 use crate::content::{Content, Kept};
 use std::collections::HashMap;
 
@@ -22,17 +23,14 @@ pub(super) struct Pair {
 }
 
 impl Pair {
-    pub fn new(high: usize, undone: impl Iterator<Item = usize>, content: &Content) -> Pair {
-        Pair {
-            high,
-            undone: undone.map(|place| place as u32).collect(),
-            content: Kept::of(content),
-        }
+    pub fn new(high: usize, undone: &Undone, content: &Content) -> Pair {
+        let undone = undone.below(high).map(|place| place as u32).collect();
+        Pair { high, undone, content: Kept::of(content) }
     }
 
-    fn is(&self, high: usize, undone: impl Iterator<Item = usize>, content: &Content) -> bool {
+    fn is(&self, high: usize, undone: &Undone, content: &Content) -> bool {
         self.high == high
-            && self.undone.iter().map(|place| *place as usize).eq(undone)
+            && self.undone.iter().map(|place| *place as usize).eq(undone.below(high))
             && self.content.is(content)
     }
 }
@@ -54,14 +52,8 @@ impl Dead {
         Dead { keys, ..Dead::default() }
     }
 
-    pub fn holds<I: Iterator<Item = usize>>(
-        &self,
-        hash: u64,
-        high: usize,
-        undone: impl Fn() -> I,
-        content: &Content,
-    ) -> bool {
-        let is = |pair: &Pair| pair.is(high, undone(), content);
+    pub fn holds(&self, hash: u64, high: usize, undone: &Undone, content: &Content) -> bool {
+        let is = |pair: &Pair| pair.is(high, undone, content);
         self.younger.get(&hash).is_some_and(is) || self.older.get(&hash).is_some_and(is)
     }
 

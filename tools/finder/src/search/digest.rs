@@ -1,6 +1,7 @@
 //! A digest of the operations done and the content.
 
 use crate::model::{Op, Reply};
+use crate::splitmix::{STEP, mixed};
 
 /// Two ways to do the same operations that leave the same content have one digest, so that a pair
 /// is found again by its hash. Whether it is the same pair is always compared.
@@ -14,28 +15,22 @@ pub(super) struct Digest {
     front: u64,
 }
 
-const STEP: u64 = 0x9e37_79b9_7f4a_7c15;
-
-/// The finalizer of SplitMix64: Steele, Lea, Flood, "Fast Splittable Pseudorandom Number
-/// Generators", OOPSLA 2014.
-fn mixed(a: u64, b: u64) -> u64 {
-    let x = a.wrapping_add(b.wrapping_mul(STEP)).wrapping_add(STEP);
-    let x = (x ^ (x >> 30)).wrapping_mul(0xbf58_476d_1ce4_e5b9);
-    let x = (x ^ (x >> 27)).wrapping_mul(0x94d0_49bb_1331_11eb);
-    x ^ (x >> 31)
+/// A hash of two numbers.
+fn pair(a: u64, b: u64) -> u64 {
+    mixed(a.wrapping_add(b.wrapping_mul(STEP)).wrapping_add(STEP))
 }
 
 fn of_value(value: i64, place: u64) -> u64 {
-    mixed(value.cast_unsigned(), place)
+    pair(value.cast_unsigned(), place)
 }
 
 fn of_entry(key: i64, value: i64) -> u64 {
-    mixed(of_value(value, 1), key.cast_unsigned())
+    pair(of_value(value, 1), key.cast_unsigned())
 }
 
 impl Digest {
     pub fn hash(&self) -> u64 {
-        mixed(self.content, self.done)
+        pair(self.content, self.done)
     }
 
     fn add(&mut self, part: u64) {
@@ -48,7 +43,7 @@ impl Digest {
 
     /// After one more operation, at this place of the trials, with its reply.
     pub fn after(mut self, place: usize, op: Op, reply: Reply) -> Digest {
-        self.done = self.done.wrapping_add(mixed(place as u64, 7));
+        self.done = self.done.wrapping_add(pair(place as u64, 7));
         match (op, reply) {
             (Op::Enqueue(v) | Op::Push(v), _) => {
                 self.add(of_value(v, self.back));

@@ -43,11 +43,6 @@ pub fn search(history: &ObjectHistory, first: First, steps: u64) -> Outcome {
     Walk::new(history, first).run(steps)
 }
 
-/// Whether the search shows in this many steps that no order is valid.
-pub fn is_impossible(history: &ObjectHistory, first: First, steps: u64) -> bool {
-    search(history, first, steps) == Outcome::Impossible
-}
-
 #[cfg(test)]
 mod tests {
     use super::*;
@@ -93,7 +88,7 @@ mod tests {
         ]);
         assert_eq!(search(&history, First::Number, 1), Outcome::OutOfSteps);
         assert_eq!(search(&history, First::Number, 2), Outcome::Impossible);
-        assert!(is_impossible(&history, First::Return, 2));
+        assert_eq!(search(&history, First::Return, 2), Outcome::Impossible);
     }
 
     #[test]

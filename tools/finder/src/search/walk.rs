@@ -143,8 +143,7 @@ impl Walk {
             pending => pending,
         };
         self.undone.take_out(place);
-        let undone = || self.undone.below(high);
-        if self.dead.holds(digest.hash(), high, undone, &self.content) {
+        if self.dead.holds(digest.hash(), high, &self.undone, &self.content) {
             self.undone.put_back(place);
             self.content.undo(undo);
             self.pass();
@@ -172,7 +171,7 @@ impl Walk {
             return false;
         };
         if self.high <= self.trials.pending || self.left <= MOST_LISTED {
-            let pair = Pair::new(self.high, self.undone.below(self.high), &self.content);
+            let pair = Pair::new(self.high, &self.undone, &self.content);
             self.dead.remember(self.digest.hash(), pair);
         }
         self.content.undo(level.undo);
@@ -223,13 +222,11 @@ impl Walk {
                 self.content.undo(undo);
                 self.pass();
             } else if self.go_on(reply, undo) {
-                return Outcome::Order(self.order());
+                let places = self.levels.iter().map(|level| level.place);
+                return Outcome::Order(
+                    places.map(|place| self.trials.items[place].number).collect(),
+                );
             }
         }
-    }
-
-    fn order(&self) -> Vec<u32> {
-        let numbers = self.levels.iter().map(|level| self.trials.items[level.place].number);
-        numbers.collect()
     }
 }

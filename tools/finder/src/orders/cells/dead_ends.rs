@@ -3,16 +3,10 @@
 //! is found.
 
 use crate::accesses::{Access, Need};
+use crate::splitmix::mixed;
 
 /// The most states that are remembered.
 const MOST_STATES: usize = 2_000_000;
-
-/// A number in which each bit depends on each bit of this one (the finalizer of SplitMix64).
-pub fn mixed(number: u64) -> u64 {
-    let once = (number ^ (number >> 30)).wrapping_mul(0xbf58_476d_1ce4_e5b9);
-    let twice = (once ^ (once >> 27)).wrapping_mul(0x94d0_49bb_1331_11eb);
-    twice ^ (twice >> 31)
-}
 
 /// The fingerprint of a call; calls that do the same until the same moment have the same one.
 pub fn fingerprint_of(access: &Access) -> u64 {

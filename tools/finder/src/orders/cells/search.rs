@@ -4,10 +4,11 @@
 //! and tries the next one.
 
 use super::choices::Position;
-use super::dead_ends::{DeadEnds, fingerprint_of, mixed};
+use super::dead_ends::{DeadEnds, fingerprint_of};
 use super::demands::Demands;
 use super::waiting::{Role, Waiting};
 use crate::accesses::{Access, NOTHING, Need};
+use crate::splitmix::mixed;
 use crate::timeline::{Moment, moments_of};
 
 /// The most steps in which a search comes no further.

@@ -1,37 +1,7 @@
 //! What the calls of a queue do.
 
-use crate::model::{Op, Reply};
+use crate::model::Role;
 use crate::timeline::Call;
-use std::collections::BTreeSet;
-
-/// What a call does.
-enum Role {
-    Puts(i64),
-    Takes(i64),
-    FindsNone,
-    /// A removal that is pending: what it does is not known.
-    Unknown,
-}
-
-fn role_of(call: &Call) -> Role {
-    match (call.op, call.reply) {
-        (Op::Enqueue(value), _) => Role::Puts(value),
-        (_, Some(Reply::Value(Some(value)))) => Role::Takes(value),
-        (_, Some(_)) => Role::FindsNone,
-        (_, None) => Role::Unknown,
-    }
-}
-
-/// Whether a value is put in twice, or a removal is pending: whether it can be chosen which removal
-/// takes which value.
-pub fn may_choose(calls: &[Call]) -> bool {
-    let mut values = BTreeSet::new();
-    calls.iter().any(|call| match role_of(call) {
-        Role::Puts(value) => !values.insert(value),
-        Role::Unknown => true,
-        Role::Takes(_) | Role::FindsNone => false,
-    })
-}
 
 /// A call, and the number of the value that it puts in or takes.
 #[derive(Clone, Copy, Default)]
@@ -62,7 +32,7 @@ pub struct Calls {
 
 impl Calls {
     pub fn new(calls: &[Call]) -> Calls {
-        let values = calls.iter().filter_map(|call| match role_of(call) {
+        let values = calls.iter().filter_map(|call| match call.op.role(call.reply) {
             Role::Puts(value) | Role::Takes(value) => Some(value),
             _ => None,
         });
@@ -80,7 +50,7 @@ impl Calls {
     fn add(&mut self, place: u32, call: &Call) {
         let number = |value| self.values.partition_point(|it| *it < value) as u32;
         let known = |value| Known { call: place, begin: call.begin, end: call.end, value };
-        match role_of(call) {
+        match call.op.role(call.reply) {
             Role::Puts(value) if call.is_pending() => self.spare.push(known(number(value))),
             Role::Puts(value) => self.puts.push(known(number(value))),
             Role::Takes(value) => self.takes.push(known(number(value))),

@@ -3,6 +3,7 @@
 use super::calls::{Calls, Known};
 use super::fronts::Front;
 use super::records::BEGIN;
+use crate::splitmix::{STEP, mixed};
 
 /// What is known of the calls that are placed.
 #[derive(Clone, Copy, Default)]
@@ -17,14 +18,6 @@ pub struct Placed {
     hash: u64,
 }
 
-/// A number in which each bit depends on each bit of this one (SplitMix64).
-fn mix(number: u64) -> u64 {
-    let next = number.wrapping_add(0x9e37_79b9_7f4a_7c15);
-    let once = (next ^ (next >> 30)).wrapping_mul(0xbf58_476d_1ce4_e5b9);
-    let twice = (once ^ (once >> 27)).wrapping_mul(0x94d0_49bb_1331_11eb);
-    twice ^ (twice >> 31)
-}
-
 impl Placed {
     /// The same, and this call.
     pub fn with(&self, call: &Known) -> Placed {
@@ -32,7 +25,7 @@ impl Placed {
             latest: self.latest.max(call.begin),
             cost: self.cost,
             ends: self.ends + u64::from(call.end),
-            hash: self.hash.wrapping_add(mix(u64::from(call.call))),
+            hash: self.hash.wrapping_add(mixed(STEP.wrapping_add(u64::from(call.call)))),
         }
     }
 

@@ -1,38 +1,6 @@
-//! What the calls of a stack do, and those that run.
+//! The calls of a stack that run.
 
-use crate::model::{Op, Reply};
-use crate::timeline::Call;
-use std::collections::BTreeSet;
-
-/// What a call does.
-#[derive(Clone, Copy, PartialEq, Eq)]
-pub enum Role {
-    Pushes(i64),
-    Pops(i64),
-    FindsNone,
-    /// A pop that is pending: what it does is not known.
-    Unknown,
-}
-
-pub fn role_of(call: &Call) -> Role {
-    match (call.op, call.reply) {
-        (Op::Push(value), _) => Role::Pushes(value),
-        (_, Some(Reply::Value(Some(value)))) => Role::Pops(value),
-        (_, Some(_)) => Role::FindsNone,
-        (_, None) => Role::Unknown,
-    }
-}
-
-/// Whether a value is pushed twice, or a pop is pending: whether it can be chosen which pop takes
-/// which value.
-pub fn may_choose(calls: &[Call]) -> bool {
-    let mut values = BTreeSet::new();
-    calls.iter().any(|call| match role_of(call) {
-        Role::Pushes(value) => !values.insert(value),
-        Role::Unknown => true,
-        Role::Pops(_) | Role::FindsNone => false,
-    })
-}
+use crate::model::Role;
 
 /// A call that runs and will return.
 #[derive(Clone, Copy)]

@@ -1,5 +1,7 @@
 //! The contents of a stack, as a graph.
 
+use crate::splitmix::mixed;
+
 /// The content without any value.
 pub const EMPTY: u32 = 0;
 
@@ -29,13 +31,6 @@ pub struct Contents {
     belows: Vec<Below>,
     /// Numbers of contents, each at the slot that its hash names: the last one that named it.
     slots: Vec<u32>,
-}
-
-/// A number in which each bit depends on each bit of this one (the finalizer of SplitMix64).
-fn mixed(number: u64) -> u64 {
-    let once = (number ^ (number >> 30)).wrapping_mul(0xbf58_476d_1ce4_e5b9);
-    let twice = (once ^ (once >> 27)).wrapping_mul(0x94d0_49bb_1331_11eb);
-    twice ^ (twice >> 31)
 }
 
 fn hash_of(value: i64, belows: &[Below]) -> u64 {

@@ -1,9 +1,9 @@
 //! The search through the history of a stack.
 
-use super::calls::{Role, role_of};
 use super::records::Placed;
 use super::states::{State, narrow};
 use super::steps::Search;
+use crate::model::Role;
 use crate::timeline::{Call, Moment};
 
 /// How many states are kept at most.
@@ -15,9 +15,9 @@ const MOST_KEPT: usize = 16_000_000;
 impl Search {
     /// A call begins. False where too many run.
     fn begin(&mut self, place: u32, call: &Call) -> bool {
-        match role_of(call) {
+        match call.op.role(call.reply) {
             role if !call.is_pending() => return self.running.begin(place, call.end, role),
-            Role::Pushes(value) => self.pending.add_push(value, place),
+            Role::Puts(value) => self.pending.add_push(value, place),
             _ => self.pending.pops.push(place),
         }
         true

@@ -1,10 +1,11 @@
 //! The steps from states in which a call returns that has no place yet.
 
-use super::calls::{Role, Running, RunningCall};
+use super::calls::{Running, RunningCall};
 use super::contents::{Below, Contents, EMPTY};
 use super::pending::Pending;
 use super::records::{Origin, Records, Step};
 use super::states::{Draft, State, merge, narrow, settle};
+use crate::model::Role;
 
 /// How many values are popped at most before a call.
 const MOST_POPS: usize = 100;
@@ -107,7 +108,7 @@ impl Search {
         if wanted == Some(value) {
             return;
         }
-        if let Some(by) = self.running.first(state.placed, Role::Pops(value)) {
+        if let Some(by) = self.running.first(state.placed, Role::Takes(value)) {
             self.pop(state, &by, drafts);
         } else if state.cost < most && !self.pending.pops.is_empty() {
             self.pop_pending(state, drafts);
@@ -149,7 +150,7 @@ impl Search {
     ) {
         let before = state.step;
         let after = State { placed: state.placed | by.bit, ..*state };
-        if let Some(push) = self.running.first(state.placed, Role::Pushes(value)) {
+        if let Some(push) = self.running.first(state.placed, Role::Puts(value)) {
             let before = self.records.add(Step::Still { before, call: push.call });
             let state = State { placed: after.placed | push.bit, ..after };
             drafts.push(Draft { state, step: Step::Still { before, call: by.call } });
@@ -181,7 +182,7 @@ impl Search {
     /// The pushes that run and can be placed now: of each value the one that returns first.
     fn pushes<'a>(&'a self, state: &'a State) -> impl Iterator<Item = Push> {
         self.running.calls.iter().filter_map(|running| {
-            let Role::Pushes(value) = running.role else {
+            let Role::Puts(value) = running.role else {
                 return None;
             };
             let first = self.running.first(state.placed, running.role)?;
@@ -259,8 +260,8 @@ impl Search {
     /// Adds the states in which a call that returns is placed.
     pub fn place(&mut self, open: &[State], by: &RunningCall, most: u32, done: &mut Vec<State>) {
         match by.role {
-            Role::Pushes(_) => self.place_push(open, by, done),
-            Role::Pops(value) => {
+            Role::Puts(_) => self.place_push(open, by, done),
+            Role::Takes(value) => {
                 let drafts = self.place_pop(open, by, value, most);
                 settle(&mut self.records, drafts, done);
             }

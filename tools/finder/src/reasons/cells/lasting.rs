@@ -1,6 +1,7 @@
 //! Values that are seen though another one is there from before all calls that can have set them.
 
 use super::MOST;
+use super::greatest::{Greatest, Item};
 use super::scene::{Scene, needed};
 use crate::reasons::{Candidate, Pattern};
 use crate::timeline::Call;
@@ -26,32 +27,13 @@ fn lasting_of(scene: &Scene) -> Vec<Lasting> {
     lasting
 }
 
-/// The one that lasts longest, and the one of those with another value.
-#[derive(Default)]
-struct Longest {
-    first: Option<Lasting>,
-    second: Option<Lasting>,
-}
-
-impl Longest {
-    fn note(&mut self, lasting: Lasting) {
-        let is_longer =
-            |than: Option<Lasting>| than.is_none_or(|than| lasting.call.begin > than.call.begin);
-        let is_same = self.first.is_some_and(|first| first.content == lasting.content);
-        if is_longer(self.first) {
-            if !is_same {
-                self.second = self.first;
-            }
-            self.first = Some(lasting);
-        } else if !is_same && is_longer(self.second) {
-            self.second = Some(lasting);
-        }
+impl Item for Lasting {
+    fn content(&self) -> usize {
+        self.content
     }
 
-    /// One that is of another value, and lasts until after this one begins to last.
-    fn crossing(&self, lasting: &Lasting) -> Option<Lasting> {
-        let other = self.first.filter(|first| first.content != lasting.content).or(self.second);
-        other.filter(|other| other.call.begin > lasting.from)
+    fn moment(&self) -> u32 {
+        self.call.begin
     }
 }
 
@@ -69,9 +51,11 @@ fn candidate_of(scene: &Scene, one: &Lasting, other: &Lasting) -> Candidate {
 
 /// The values of which two last at one moment.
 pub fn lasting(scene: &Scene) -> Vec<Candidate> {
-    let mut longest = Longest::default();
+    let mut longest = Greatest::new();
     let found = lasting_of(scene).into_iter().filter_map(|lasting| {
-        let other = longest.crossing(&lasting);
+        // another value that lasts until after this one begins to last
+        let other = longest.other(lasting.content);
+        let other = other.filter(|other: &Lasting| other.call.begin > lasting.from);
         longest.note(lasting);
         Some(candidate_of(scene, &lasting, &other?))
     });

@@ -1,5 +1,6 @@
 //! What calls of a cell set and show, by time.
 
+use super::greatest::{Greatest, Item};
 use crate::accesses::Cell;
 use crate::timeline::Call;
 
@@ -88,33 +89,20 @@ pub struct Sight {
     pub place: usize,
 }
 
-/// Of some calls the one that begins last, and the one that begins last of those that show another
-/// content.
-#[derive(Clone, Copy, Default)]
-struct Latest {
-    first: Option<Sight>,
-    second: Option<Sight>,
-}
+impl Item for Sight {
+    fn content(&self) -> usize {
+        self.content
+    }
 
-impl Latest {
-    fn note(&mut self, sight: Sight) {
-        let is_later = |than: Option<Sight>| than.is_none_or(|than| sight.begin > than.begin);
-        let is_same = self.first.is_some_and(|first| first.content == sight.content);
-        if is_later(self.first) {
-            if !is_same {
-                self.second = self.first;
-            }
-            self.first = Some(sight);
-        } else if !is_same && is_later(self.second) {
-            self.second = Some(sight);
-        }
+    fn moment(&self) -> u32 {
+        self.begin
     }
 }
 
-/// The calls that show what the cell contains, by their ends: for each end the latest of those that
-/// return by then.
+/// The calls that show what the cell contains, by their ends: for each end those that begin
+/// last of the ones that return by then.
 pub struct Sights {
-    latest: Vec<(u32, Latest)>,
+    latest: Vec<(u32, Greatest<Sight>)>,
 }
 
 impl Sights {
@@ -126,7 +114,7 @@ impl Sights {
         });
         let mut sights: Vec<(u32, Sight)> = sights.collect();
         sights.sort_unstable_by_key(|(end, _)| *end);
-        let mut now = Latest::default();
+        let mut now = Greatest::new();
         let latest = sights.into_iter().map(|(end, sight)| {
             now.note(sight);
             (end, now)
@@ -134,7 +122,7 @@ impl Sights {
         Sights { latest: latest.collect() }
     }
 
-    fn before(&self, moment: u32) -> Option<Latest> {
+    fn before(&self, moment: u32) -> Option<Greatest<Sight>> {
         let next = self.latest.partition_point(|(end, _)| *end < moment);
         self.latest[..next].last().map(|(_, latest)| *latest)
     }
@@ -147,7 +135,6 @@ impl Sights {
     /// Of the calls that return before this moment and show another content than this the one that
     /// begins last.
     pub fn last_other(&self, content: usize, moment: u32) -> Option<Sight> {
-        let Latest { first, second } = self.before(moment)?;
-        first.filter(|first| first.content != content).or(second)
+        self.before(moment)?.other(content)
     }
 }

@@ -3,6 +3,7 @@
 //! 26, 1997.
 
 use super::MOST;
+use super::greatest::{Greatest, Item};
 use super::scene::Scene;
 use crate::accesses::{Access, NOTHING, Need};
 use crate::reasons::{Candidate, Pattern};
@@ -66,37 +67,34 @@ fn stays_of(scene: &Scene, zones: &[Zone]) -> Vec<Stay> {
     stays.collect()
 }
 
-/// The two of some stays that last longest.
-#[derive(Clone, Copy, Default)]
-struct Longest {
-    first: Option<Stay>,
-    second: Option<Stay>,
+impl Item for Stay {
+    fn content(&self) -> usize {
+        self.content
+    }
+
+    fn moment(&self) -> u32 {
+        self.to
+    }
 }
 
 /// For each long stay, of which the end comes after the beginning, in rising order, when it begins,
-/// and the two longest of those that begin by then.
-fn all_longest(stays: &[Stay]) -> Vec<(u32, Longest)> {
+/// and the longest of those that begin by then.
+fn all_longest(stays: &[Stay]) -> Vec<(u32, Greatest<Stay>)> {
     let mut long: Vec<Stay> = stays.iter().filter(|stay| stay.from < stay.to).copied().collect();
     long.sort_by_key(|stay| stay.from);
-    let mut now = Longest::default();
+    let mut now = Greatest::new();
     let longest = long.into_iter().map(|stay| {
-        let is_longer = |than: Option<Stay>| than.is_none_or(|than| stay.to > than.to);
-        if is_longer(now.first) {
-            now = Longest { first: Some(stay), second: now.first };
-        } else if is_longer(now.second) {
-            now.second = Some(stay);
-        }
+        now.note(stay);
         (stay.from, now)
     });
     longest.collect()
 }
 
 /// A stay that begins before this one ends, and ends after it begins.
-fn crossing(longest: &[(u32, Longest)], stay: &Stay) -> Option<Stay> {
+fn crossing(longest: &[(u32, Greatest<Stay>)], stay: &Stay) -> Option<Stay> {
     let next = longest.partition_point(|(from, _)| *from < stay.to);
-    let (_, Longest { first, second }) = longest[..next].last().copied()?;
-    let other = first.filter(|first| first.content != stay.content).or(second)?;
-    (other.to > stay.from).then_some(other)
+    let (_, longest) = longest[..next].last()?;
+    longest.other(stay.content).filter(|other| other.to > stay.from)
 }
 
 /// The number of the history by which a call has returned, or begun.
