@@ -8,7 +8,6 @@ mod elements;
 mod faults;
 mod figures;
 mod history;
-mod markup;
 mod page;
 mod timeline;
 mod verdict;

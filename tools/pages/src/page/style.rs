@@ -1,57 +1,44 @@
 //! The style of a page: the sheet, and that each point lights its row, and the row its bar.
 
-use crate::page::writer::{Writer, number};
-use crate::drawing::{Figure, ObjectDrawing};
-use crate::markup::{Piece, Style, Tag};
+use super::html::{Html, html};
+use crate::timeline::ObjectDrawing;
 use std::collections::BTreeSet;
 
 /// The most points that light their rows.
 const MOST_LIT: usize = 600;
 
 /// The points of a page: operation, object and rank.
-type Points = BTreeSet<(u32, u32, u32)>;
-
-fn add_figure(lit: &mut Points, object: u32, figure: &Figure) {
-    for line in &figure.lines {
-        for point in &line.points {
-            lit.insert((point.operation.number(), object, point.rank));
-        }
-    }
+fn points_of(drawings: &[ObjectDrawing]) -> BTreeSet<(u32, u32, u32)> {
+    let points = drawings.iter().flat_map(|drawing| {
+        let lines = drawing.figures().flat_map(|figure| &figure.lines);
+        let points = lines.flat_map(|line| &line.points);
+        points.map(|point| (point.operation.number(), drawing.object, point.rank))
+    });
+    points.collect()
 }
 
-fn lit_points(drawings: &[ObjectDrawing]) -> Points {
-    let mut lit = BTreeSet::new();
-    for drawing in drawings {
-        if let Some(zoom) = &drawing.zoom {
-            add_figure(&mut lit, drawing.object, zoom);
-        }
-        add_figure(&mut lit, drawing.object, &drawing.figure);
-    }
-    lit
+/// That the row and the bar of a point light each other.
+fn light((operation, object, rank): &(u32, u32, u32)) -> Html {
+    html![
+        ":where(:root:has(#r",
+        object,
+        "-",
+        rank,
+        ":hover)) [data-op=\"",
+        operation,
+        "\"] .edge,:where(:root:has([data-op=\"",
+        operation,
+        "\"]:hover)) #r",
+        object,
+        "-",
+        rank,
+        "{stroke-width:3;outline:2px solid var(--hot)}\n"
+    ]
 }
 
-impl Writer {
-    /// That the row and the bar of a point light each other.
-    fn light(&mut self, own: u32, object: u32, rank: u32) {
-        let (own, object, rank) = (number(own), number(object), number(rank));
-        self.html.style(Style::RowPointedAt);
-        self.put(&[object, Piece::Text("-"), rank]);
-        self.html.style(Style::ItsBar);
-        self.put(&[own]);
-        self.html.style(Style::BarPointedAt);
-        self.put(&[own]);
-        self.html.style(Style::ItsRow);
-        self.put(&[object, Piece::Text("-"), rank]);
-        self.html.style(Style::AreLit)
-    }
-
-    pub(super) fn style(&mut self, drawings: &[ObjectDrawing]) {
-        self.put(&[Piece::Open(Tag::Style)]);
-        self.html.style(Style::Sheet);
-        let lit = lit_points(&drawings);
-        for (own, object, rank) in lit.iter().take(MOST_LIT) {
-            self.light(*own, *object, *rank);
-        }
-        self.put(&[Piece::Close(Tag::Style)])
-    }
+pub fn style(drawings: &[ObjectDrawing]) -> Html {
+    let mut sheet = Html::default();
+    sheet.add_markup(include_str!("sheet.css"));
+    let lit: Html = points_of(drawings).iter().take(MOST_LIT).map(light).collect();
+    html!["<style>", sheet, lit, "</style>"]
 }

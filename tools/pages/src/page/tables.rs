@@ -1,12 +1,11 @@
 //! Tables: of the objects, of an order, and of the orders of a reason's operations.
 
-use crate::page::pages::{Answer, ObjectRow, Page};
-use crate::page::writer::{Writer, number};
-use crate::drawing::{
-    Attempt, Entry, Failure, ObjectDrawing, Operation, Row, Span, Tried, label, value_text,
-};
-use crate::markup::{Name, Piece, Tag};
-use finder::{Reply, Kind};
+use super::html::{Html, html};
+use super::sentences::{Shown, code};
+use super::{Answer, ObjectRow, Page};
+use crate::figures::{count_text, digits, label};
+use crate::timeline::{Attempt, Entry, Failure, ObjectDrawing, Row, Span, Tried};
+use finder::{Kind, Reply};
 
 /// The characters of the longest row of a table that is beside its figure.
 const BESIDE: usize = 46;
@@ -24,432 +23,243 @@ fn content_title(kind: Kind) -> &'static str {
     }
 }
 
-fn row_class(entry: Entry) -> &'static str {
-    match entry {
-        Entry::Valid => "",
-        Entry::Refused => "bad",
-        Entry::NotLookedAt => "after",
-    }
+/// A table of this class, with its name, its title and the heads of its columns.
+struct Table<'a> {
+    class: &'static str,
+    name: Html,
+    title: Html,
+    heads: &'a [&'static str],
 }
 
-fn digits(n: u64) -> usize {
-    let mut digits: usize = 1;
-    let mut rest = n / 10;
-    for _ in 0..20 {
-        if rest > 0 {
-            digits = digits.saturating_add(1);
-        }
-        rest /= 10;
-    }
-    digits
-}
-
-/// The title of the table of the orders that were tried.
-fn tried_title(tried: &Tried) -> [Piece; 4] {
-    let ways = tried.attempts.len().saturating_add(tried.more) as u64;
-    let other = Piece::Text(if tried.other.is_some() {
-        ". “other” is any value that the reason does not keep"
-    } else {
-        ""
-    });
-    let empty = Piece::Text("");
-    if !tried.is_complete {
-        [Piece::Text("Ways to begin"), empty, empty, other]
-    } else if ways == 1 {
-        let one = "There is one way to begin, up to the operation that does not fit";
-        [
-            Piece::Text("Every order breaks. "),
-            Piece::Text(one),
-            empty,
-            other,
+impl Table<'_> {
+    fn html(&self, rows: Html) -> Html {
+        let head = |head: &&str| html!["<th scope=\"col\">", *head, "</th>"];
+        html![
+            "<div class=\"tbl ",
+            self.class,
+            "\" tabindex=\"0\" role=\"region\" aria-label=\"",
+            self.title,
+            "\"><table id=\"",
+            self.name,
+            "\" class=\"",
+            self.class,
+            "\"><caption>",
+            self.title,
+            "</caption><thead><tr>",
+            self.heads.iter().map(head).collect::<Html>(),
+            "</tr></thead><tbody>",
+            rows,
+            "</tbody></table></div>\n"
         ]
-    } else {
-        let end = Piece::Text(" ways to begin, each up to the operation that does not fit");
-        [
-            Piece::Text("Every order breaks. All "),
-            Piece::Number(ways),
-            end,
-            other,
-        ]
-    }
-}
-
-/// The last row of the table of objects, where it is full: one after the others that is at fault,
-/// or else the next.
-fn last_row(rows: &[ObjectRow]) -> Option<&ObjectRow> {
-    let others = rows.get(MOST_OBJECTS - 1..).unwrap_or(&[]);
-    for row in others {
-        if row.is_faulty {
-            return Some(row);
-        }
-    }
-    others.first()
-}
-
-fn is_drawn(row: &ObjectRow, drawings: &[ObjectDrawing]) -> bool {
-    for drawing in drawings {
-        if drawing.object == row.object {
-            return true;
-        }
-    }
-    false
-}
-
-impl Writer {
-    /// Opens a table: of this class, with this name.
-    fn open_table(&mut self, class: &'static str, name: &[Piece], title: &[Piece]) {
-        self.put(&[
-            Piece::Begin(Tag::Div),
-            Piece::Name(Name::Class),
-            Piece::Text("tbl "),
-            Piece::Text(class),
-            Piece::ValueEnd,
-            Piece::Set(Name::TabIndex, 0),
-            Piece::Name(Name::Role),
-            Piece::Text("region"),
-            Piece::ValueEnd,
-            Piece::Name(Name::AriaLabel),
-        ]);
-        self.put(title);
-        self.put(&[
-            Piece::ValueEnd,
-            Piece::End,
-            Piece::Begin(Tag::Table),
-            Piece::Name(Name::Id),
-        ]);
-        self.put(name);
-        self.put(&[
-            Piece::ValueEnd,
-            Piece::Class(class),
-            Piece::End,
-            Piece::Open(Tag::Caption),
-        ]);
-        self.put(title);
-        self.put(&[Piece::Close(Tag::Caption)])
-    }
-
-    /// The heading of a table, and the beginning of its rows.
-    fn heads(&mut self, heads: &[&'static str]) {
-        self.put(&[Piece::Open(Tag::TableHead), Piece::Open(Tag::TableRow)]);
-        for head in heads {
-            self.put(&[
-                Piece::Begin(Tag::TableHeader),
-                Piece::Name(Name::Scope),
-                Piece::Text("col"),
-                Piece::ValueEnd,
-                Piece::End,
-                Piece::Text(head),
-                Piece::Close(Tag::TableHeader),
-            ]);
-        }
-        self.put(&[
-            Piece::Close(Tag::TableRow),
-            Piece::Close(Tag::TableHead),
-            Piece::Open(Tag::TableBody),
-        ])
-    }
-
-    fn end_table(&mut self) {
-        self.put(&[
-            Piece::Close(Tag::TableBody),
-            Piece::Close(Tag::Table),
-            Piece::Close(Tag::Div),
-            Piece::Text("\n"),
-        ])
-    }
-
-    fn operation_cell(&mut self, operation: &Operation) {
-        self.put(&[Piece::Open(Tag::TableCell)]);
-        self.operation(operation);
-        self.put(&[Piece::Close(Tag::TableCell)])
-    }
-
-    fn code_cell(&mut self, text: &str) {
-        self.put(&[Piece::Open(Tag::TableCell)]);
-        self.code(text);
-        self.put(&[Piece::Close(Tag::TableCell)])
-    }
-
-    fn spans_cell(&mut self, spans: &[Span]) {
-        self.put(&[Piece::Open(Tag::TableCell)]);
-        self.spans(spans);
-        self.put(&[Piece::Close(Tag::TableCell)])
-    }
-
-    fn row_head(&mut self, n: u64) {
-        self.put(&[
-            Piece::Begin(Tag::TableHeader),
-            Piece::Name(Name::Scope),
-            Piece::Text("row"),
-            Piece::ValueEnd,
-            Piece::End,
-            Piece::Number(n),
-            Piece::Close(Tag::TableHeader),
-        ])
     }
 
     /// A row that says how many are not shown.
-    fn rows_skipped(&mut self, columns: u32, count: usize, what: &'static str) {
-        self.open(Tag::TableRow, "skip");
-        self.put(&[
-            Piece::Begin(Tag::TableCell),
-            Piece::Set(Name::ColSpan, columns),
-            Piece::End,
-        ]);
-        self.count(count);
-        self.put(&[
-            Piece::Text(what),
-            Piece::Close(Tag::TableCell),
-            Piece::Close(Tag::TableRow),
-        ])
+    fn skipped(&self, count: usize, what: &'static str) -> Html {
+        let columns = self.heads.len();
+        let count = count_text(count);
+        html!["<tr class=\"skip\"><td colspan=\"", columns, "\">", count, what, "</td></tr>"]
     }
+}
 
-    /// What a row says of the content, or of the fault.
-    fn content_cell(&mut self, drawing: &ObjectDrawing, entry: Entry, content: Option<&String>) {
-        match (entry, content) {
-            (Entry::Valid, Some(content)) => self.code_cell(content),
-            (Entry::Valid, None) => self.spans_cell(&[]),
-            (Entry::NotLookedAt, _) => self.spans_cell(&[Span::Text("not looked at")]),
-            (Entry::Refused, _) => self.spans_cell(&drawing.because),
-        }
-    }
+fn row_head(number: usize) -> Html {
+    html!["<th scope=\"row\">", number, "</th>"]
+}
 
-    /// The beginning of the row of an entry, with its rank.
-    fn open_row(&mut self, object: u32, rank: u64, entry: Entry) {
-        self.put(&[
-            Piece::Begin(Tag::TableRow),
-            Piece::Name(Name::Id),
-            Piece::Text("r"),
-            number(object),
-            Piece::Text("-"),
-            Piece::Number(rank),
-            Piece::ValueEnd,
-        ]);
-        if entry != Entry::Valid {
-            self.put(&[Piece::Class(row_class(entry))]);
-        }
-        self.put(&[Piece::End]);
-        self.row_head(rank)
-    }
+fn cell(content: Html) -> Html {
+    html!["<td>", content, "</td>"]
+}
 
-    fn row(&mut self, drawing: &ObjectDrawing, row: &Row) {
-        match row {
-            Row::Skipped(1) => self.rows_skipped(3, 1, " entry not shown"),
-            Row::Skipped(count) => self.rows_skipped(3, *count, " entries not shown"),
-            Row::Entry {
-                rank,
-                number,
-                operation,
-                content,
-                entry,
-            } => {
-                self.open_row(drawing.object, *rank as u64, *entry);
-                match operation {
-                    Some(operation) => self.operation_cell(operation),
-                    None => self.spans_cell(&[Span::Entry(*number)]),
-                }
-                self.content_cell(drawing, *entry, content.as_ref());
-                self.put(&[Piece::Close(Tag::TableRow), Piece::Text("\n")])
-            }
-        }
-    }
+/// The row of an entry of an order: its place from 1, its operation or its number, and what the
+/// object contains after it.
+fn entry_row(
+    drawing: &ObjectDrawing,
+    rank: usize,
+    operation: Html,
+    content: Option<&String>,
+    entry: Entry,
+    shown: &Shown,
+) -> Html {
+    let (class, content) = match entry {
+        Entry::Valid => (None, content.map(|content| code(content)).unwrap_or_default()),
+        Entry::Refused => (Some("bad"), shown.spans(&drawing.because, "")),
+        Entry::NotLookedAt => (Some("after"), html!["not looked at"]),
+    };
+    let class = class.map(|class| html![" class=\"", class, "\""]);
+    html![
+        "<tr id=\"r",
+        drawing.object,
+        "-",
+        rank,
+        "\"",
+        class,
+        ">",
+        row_head(rank),
+        cell(operation),
+        cell(content),
+        "</tr>\n"
+    ]
+}
 
-    /// The table of the order.
-    pub(super) fn order(&mut self, drawing: &ObjectDrawing) {
-        let object = number(drawing.object);
-        let title = [Piece::Text("The order of object "), object];
-        self.open_table("order", &[Piece::Text("t"), object], &title);
-        self.heads(&["rank", "operation", content_title(drawing.kind)]);
-        for row in &drawing.rows {
-            self.row(drawing, row);
-        }
-        self.end_table()
-    }
-
-    fn row_length(&self, row: &Row) -> usize {
-        let Row::Entry {
-            rank,
-            operation,
-            content,
-            ..
-        } = row
-        else {
-            return 0;
-        };
-        let mut length = digits(*rank as u64);
-        if let Some(operation) = operation {
-            let text = label(&operation);
-            let own = digits(u64::from(operation.number())).saturating_add(1);
-            length = length
-                .saturating_add(text.chars().count())
-                .saturating_add(own);
-        }
-        if let Some(content) = content {
-            length = length.saturating_add(content.chars().count());
-        }
-        length
-    }
-
-    /// The characters of why the entry is refused.
-    fn because_length(&self, drawing: &ObjectDrawing) -> usize {
-        let mut length: usize = 0;
-        for span in &drawing.because {
-            let own = match *span {
-                Span::Text(text) => text.chars().count(),
-                Span::Number(number) => digits(number),
-                Span::Value(value) => { value_text(value).chars().count() }
-                _ => 0,
+/// The table of the order.
+pub fn order_table(drawing: &ObjectDrawing, shown: &Shown) -> Html {
+    let table = Table {
+        class: "order",
+        name: html!["t", drawing.object],
+        title: html!["The order of object ", drawing.object],
+        heads: &["rank", "operation", content_title(drawing.kind)],
+    };
+    let row = |row: &Row| match row {
+        Row::Skipped(1) => table.skipped(1, " entry not shown"),
+        Row::Skipped(count) => table.skipped(*count, " entries not shown"),
+        Row::Entry { rank, number, operation, content, entry } => {
+            let operation = match operation {
+                Some(operation) => shown.operation(operation),
+                None => code(&number.to_string()),
             };
-            length = length.saturating_add(own);
+            entry_row(drawing, *rank, operation, content.as_ref(), *entry, shown)
         }
-        length
-    }
+    };
+    table.html(drawing.rows.iter().map(row).collect())
+}
 
-    /// Whether each row is short enough for the table to be beside its figure.
-    pub(super) fn is_narrow(&self, drawing: &ObjectDrawing) -> bool {
-        let because = self.because_length(drawing);
-        for row in &drawing.rows {
-            let own = match row {
-                Row::Entry { entry, .. } if *entry == Entry::Refused => because,
-                _ => 0,
-            };
-            if self.row_length(row).saturating_add(own) > BESIDE {
-                return false;
-            }
-        }
-        true
-    }
+fn characters(text: &str) -> usize {
+    text.chars().count()
+}
 
+/// The characters of why the entry is refused.
+fn because_length(drawing: &ObjectDrawing) -> usize {
+    let length = |span: &Span| match span {
+        Span::Text(text) => characters(text),
+        Span::Number(number) => digits(*number) as usize,
+        Span::Value(value) => characters(&value.to_string()),
+        _ => 0,
+    };
+    drawing.because.iter().map(length).sum()
+}
+
+/// The characters of a row of an order.
+fn row_length(drawing: &ObjectDrawing, row: &Row) -> usize {
+    let Row::Entry { rank, operation, content, entry, .. } = row else {
+        return 0;
+    };
+    let operation = operation.as_ref().map_or(0, |operation| {
+        characters(&label(operation)) + digits(u64::from(operation.number())) as usize + 1
+    });
+    let content = content.as_ref().map_or(0, |content| characters(content));
+    let because = if *entry == Entry::Refused { because_length(drawing) } else { 0 };
+    digits(*rank as u64) as usize + operation + content + because
+}
+
+/// Whether each row of the order is short enough for the table to be beside its figure.
+pub fn is_narrow(drawing: &ObjectDrawing) -> bool {
+    drawing.rows.iter().all(|row| row_length(drawing, row) <= BESIDE)
+}
+
+/// The title of the table of the orders that were tried.
+fn tried_title(tried: &Tried) -> Html {
+    let ways = tried.attempts.len() + tried.more;
+    let said = if !tried.is_complete {
+        html!["Ways to begin"]
+    } else if ways == 1 {
+        html![
+            "Every order breaks. There is one way to begin, up to the operation that does not fit"
+        ]
+    } else {
+        html![
+            "Every order breaks. All ",
+            ways,
+            " ways to begin, each up to the operation that does not fit"
+        ]
+    };
+    let other = tried.other.map(|_| ". “other” is any value that the reason does not keep");
+    html![said, other]
+}
+
+impl Tried {
     /// What an object gives, or that it is any value that the part does not keep.
-    fn reply(&mut self, reply: Reply, other: Option<i64>) {
+    fn reply(&self, reply: Reply) -> Html {
         match reply {
-            Reply::Value(Some(value)) if Some(value) == other => {
-                self.put(&[Piece::Text("other")])
-            }
-            _ => self.value(reply.value()),
+            Reply::Value(Some(value)) if Some(value) == self.other => html!["other"],
+            _ => html![reply.value().to_string()],
         }
     }
 
-    fn failure(&mut self, failure: Failure, other: Option<i64>) {
-        self.put(&[Piece::Open(Tag::TableCell)]);
+    fn failure(&self, failure: Failure) -> Html {
         match failure {
-            Failure::NotPossible => self.put(&[Piece::Text("is not possible")]),
+            Failure::NotPossible => html!["is not possible"],
             Failure::Gives(gives, returned) => {
-                self.put(&[Piece::Text("gives ")]);
-                self.reply(gives, other);
-                self.put(&[Piece::Text(", returned ")]);
-                self.value(returned.value());
+                html!["gives ", self.reply(gives), ", returned ", returned.value().to_string()]
             }
         }
-        self.put(&[Piece::Close(Tag::TableCell)])
     }
 
-    /// The cell of the operations, one after the other.
-    fn operations_cell(&mut self, operations: &[Operation]) {
-        self.put(&[Piece::Open(Tag::TableCell)]);
-        self.operations(operations);
-        self.put(&[Piece::Close(Tag::TableCell)])
+    fn row(&self, place: usize, attempt: &Attempt, shown: &Shown) -> Html {
+        html![
+            "<tr>",
+            row_head(place),
+            cell(shown.operations(&attempt.before)),
+            cell(code(&attempt.content)),
+            cell(shown.operation(&attempt.next)),
+            cell(self.failure(attempt.failure)),
+            "</tr>\n"
+        ]
     }
+}
 
-    fn attempt(&mut self, place: usize, attempt: &Attempt, other: Option<i64>) {
-        self.put(&[Piece::Open(Tag::TableRow)]);
-        self.row_head(place.saturating_add(1) as u64);
-        self.operations_cell(&attempt.before);
-        self.code_cell(&attempt.content);
-        self.operation_cell(&attempt.next);
-        self.failure(attempt.failure, other);
-        self.put(&[Piece::Close(Tag::TableRow), Piece::Text("\n")])
-    }
+/// The table of the orders that were tried.
+pub fn tried_table(tried: &Tried, shown: &Shown) -> Html {
+    let table = Table {
+        class: "tried",
+        name: html!["tried"],
+        title: tried_title(tried),
+        heads: &["", "order up to there", "content there", "next", "which"],
+    };
+    let attempts = tried.attempts.iter().zip(1..);
+    let rows: Html = attempts.map(|(attempt, place)| tried.row(place, attempt, shown)).collect();
+    let more = (tried.more > 0).then(|| table.skipped(tried.more, " more"));
+    table.html(html![rows, more])
+}
 
-    /// The table of the orders that were tried.
-    pub(super) fn tried(&mut self, tried: &Tried) {
-        self.open_table("tried", &[Piece::Text("tried")], &tried_title(tried));
-        self.heads(&["", "order up to there", "content there", "next", "which"]);
-        for (place, attempt) in tried.attempts.iter().enumerate() {
-            self.attempt(place, attempt, tried.other);
-        }
-        if tried.more > 0 {
-            self.rows_skipped(5, tried.more, " more");
-        }
-        self.end_table()
-    }
+fn object_row(page: &Page, row: &ObjectRow) -> Html {
+    let is_drawn = page.drawings.iter().any(|drawing| drawing.object == row.object);
+    let object = row.object;
+    let name = if is_drawn {
+        html!["<a href=\"#object-", object, "\">object ", object, "</a>"]
+    } else {
+        html!["object ", object]
+    };
+    let is_bad = row.is_faulty && page.answer != Answer::Open;
+    html![
+        "<tr",
+        is_bad.then(|| html![" class=\"bad\""]),
+        ">",
+        cell(name),
+        cell(html![row.kind.word()]),
+        cell(html![count_text(row.operations)]),
+        cell(html![count_text(row.pending)]),
+        cell(html![count_text(row.failed)]),
+        cell(html![row.answer]),
+        "</tr>\n"
+    ]
+}
 
-    fn count_cell(&mut self, count: usize) {
-        self.put(&[Piece::Open(Tag::TableCell)]);
-        self.count(count);
-        self.put(&[Piece::Close(Tag::TableCell)])
-    }
-
-    /// The cell of an object, which is a link where it is drawn.
-    fn object_cell(&mut self, object: u32, is_drawn: bool) {
-        let object = number(object);
-        self.put(&[Piece::Open(Tag::TableCell)]);
-        if is_drawn {
-            self.put(&[
-                Piece::Begin(Tag::A),
-                Piece::Name(Name::Place),
-                Piece::Text("object-"),
-                object,
-                Piece::ValueEnd,
-                Piece::End,
-            ]);
-        }
-        self.put(&[Piece::Text("object "), object]);
-        if is_drawn {
-            self.put(&[Piece::Close(Tag::A)]);
-        }
-        self.put(&[Piece::Close(Tag::TableCell)])
-    }
-
-    fn object_row(&mut self, page: &Page<'_>, row: &ObjectRow) {
-        self.put(&[Piece::Begin(Tag::TableRow)]);
-        if row.is_faulty && page.answer != Answer::Open {
-            self.put(&[Piece::Class("bad")]);
-        }
-        self.put(&[Piece::End]);
-        self.object_cell(row.object, is_drawn(row, page.drawings));
-        self.put(&[
-            Piece::Open(Tag::TableCell),
-            Piece::Text(row.kind.word()),
-            Piece::Close(Tag::TableCell),
-        ]);
-        self.count_cell(row.operations);
-        self.count_cell(row.pending);
-        self.count_cell(row.failed);
-        self.put(&[
-            Piece::Open(Tag::TableCell),
-            Piece::Text(row.answer),
-            Piece::Close(Tag::TableCell),
-            Piece::Close(Tag::TableRow),
-            Piece::Text("\n"),
-        ])
-    }
-
-    /// The table of the objects, of which those that are drawn are links. An object that stays open
-    /// is not at fault.
-    pub(super) fn objects(&mut self, page: &Page<'_>) {
-        let rows = page.objects;
-        let title = [Piece::Text("Objects")];
-        self.open_table("overview", &[Piece::Text("objects")], &title);
-        self.heads(&[
-            "object",
-            "kind",
-            "operations",
-            "pending",
-            "failed",
-            "answer",
-        ]);
-        for row in rows.iter().take(MOST_OBJECTS - 1) {
-            self.object_row(page, row);
-        }
-        if let Some(row) = last_row(rows) {
-            self.object_row(page, row);
-        }
-        match rows.len().saturating_sub(MOST_OBJECTS) {
-            0 => {}
-            1 => self.rows_skipped(6, 1, " more object"),
-            count => self.rows_skipped(6, count, " more objects"),
-        }
-        self.end_table()
-    }
+/// The table of the objects, of which those that are drawn are links. An object that stays open is
+/// not at fault. The last row of a full table is the one at fault of those that are left, or else
+/// the next one.
+pub fn object_table(page: &Page) -> Html {
+    let table = Table {
+        class: "overview",
+        name: html!["objects"],
+        title: html!["Objects"],
+        heads: &["object", "kind", "operations", "pending", "failed", "answer"],
+    };
+    let (first, others) = page.objects.split_at(page.objects.len().min(MOST_OBJECTS - 1));
+    let last = others.iter().find(|row| row.is_faulty).or(others.first());
+    let rows = first.iter().chain(last).map(|row| object_row(page, row));
+    let more = match page.objects.len().saturating_sub(MOST_OBJECTS) {
+        0 => None,
+        1 => Some(table.skipped(1, " more object")),
+        count => Some(table.skipped(count, " more objects")),
+    };
+    table.html(html![rows.collect::<Html>(), more])
 }

@@ -10,7 +10,7 @@ use finder::Kind;
 
 /// What a figure leaves out: operations of processes that have no lane, and those processes; and of
 /// all operations how many it shows.
-#[derive(Clone, Copy)]
+#[derive(Clone, Copy, Default)]
 pub struct Extent {
     pub operations: usize,
     /// Those that did not fail.
@@ -72,5 +72,10 @@ impl ObjectDrawing {
             from: None,
             outside: Vec::new(),
         }
+    }
+
+    /// Its figures.
+    pub fn figures(&self) -> impl Iterator<Item = &Figure> {
+        self.zoom.iter().chain([&self.figure])
     }
 }
