@@ -8,7 +8,7 @@ use crate::elements::{elements_in, value_in};
 use crate::page::{Answer, ObjectRow, Page, html_of};
 use crate::timeline::{Span, Spans, spans};
 use crate::verdict::{self, OrderFault, Refusal};
-use finder::{Cut, Decision, End, Evidence, History, ObjectHistory, part_by};
+use finder::{Cut, Decision, End, Evidence, History, ObjectHistory, Pattern, part_by};
 use std::borrow::Cow;
 
 /// The most operations that a page of several objects draws. With the longest numbers and values one
@@ -239,7 +239,7 @@ impl verdict::Answer {
 }
 
 /// The part of an object's history that a reason names; without one, all of it.
-fn part_of<'a>(object: &'a ObjectHistory, cuts: &[Cut]) -> Part<'a> {
+fn part_of<'a>(object: &'a ObjectHistory, cuts: &[Cut], pattern: Pattern) -> Part<'a> {
     let part = match part_by(object, cuts) {
         Some(part) => Cow::Owned(part),
         None => Cow::Borrowed(object),
@@ -252,7 +252,7 @@ fn part_of<'a>(object: &'a ObjectHistory, cuts: &[Cut]) -> Part<'a> {
         Cut::Cell { other, .. } => Some(*other),
         _ => None,
     });
-    Part { part, from, other }
+    Part { part, from, other, pattern }
 }
 
 impl<'a> Drawn<'a> {
@@ -362,10 +362,10 @@ impl<'a> Drawn<'a> {
         let subject = self.subject(object);
         match (answer, decision.map(|decision| &decision.evidence)) {
             (Some(verdict::Answer::Impossible), Some(Evidence::Reason(reason))) => {
-                draw_impossible(&subject, &part_of(object, &reason.cuts))
+                draw_impossible(&subject, &part_of(object, &reason.cuts, reason.sentence.pattern))
             }
             (Some(verdict::Answer::Impossible), _) => {
-                draw_impossible(&subject, &part_of(object, &[]))
+                draw_impossible(&subject, &part_of(object, &[], Pattern::General))
             }
             (None, _) => {
                 let order = decision.and_then(found_order);

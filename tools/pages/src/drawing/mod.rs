@@ -2,8 +2,8 @@
 
 mod faulty;
 mod objects;
-mod sentences;
-mod shapes;
+mod refusals;
+mod reasons;
 
 pub use faulty::{Faulty, FaultyDrawing, draw_up_to};
 pub use crate::figures::{

@@ -1,12 +1,12 @@
 //! The drawing of an object: sentences, figures, and the table of an order.
 
-use crate::drawing::sentences::{Alone, Explanation, Refused};
-use crate::drawing::shapes::Shape;
+use crate::drawing::refusals::{Alone, Explanation, Refused};
+use crate::drawing::reasons::Reason;
 use crate::verdict::OrderFault;
 use crate::contents::{boxes_of, rows_of, try_orders, walk_along};
 use crate::history::Options;
 use std::borrow::Cow;
-use finder::{End, History, Invocation, ObjectHistory};
+use finder::{End, History, Invocation, ObjectHistory, Pattern};
 use crate::figures::{
     Moment, Placed, Scene, Stretch, WithoutLane, choose, figure_of, narrow,
     near_to, numbers_of,
@@ -446,6 +446,8 @@ pub struct Part<'a> {
     pub from: Option<u32>,
     /// The value that stands for all that it does not keep, if one does.
     pub other: Option<i64>,
+    /// What led to it.
+    pub pattern: Pattern,
 }
 
 /// The drawing of an object of which no order is valid, for no order of this part is: the operations
@@ -460,13 +462,14 @@ pub fn draw_impossible(
     let ops: &[Invocation] = &live;
     let named = operations_named(&operations, ops, part.from);
     let tried = try_orders(&operations, part.part.kind, ops, part.other);
-    let shape = Shape {
+    let reason = Reason {
         kind: subject.object.kind,
         operations: &operations,
         part: &named,
         from: part.from,
+        pattern: part.pattern,
     };
-    let sentence = shape.sentence(&tried);
+    let sentence = reason.sentence(&tried);
     let mut text = Explanation::new(None, Alone::Always);
     for operation in &named {
         text.mark(*operation, Mark::Fault);
