@@ -1,12 +1,11 @@
 //! What an object contains, and which operation put it there.
 
-use crate::figures::{push_count, push_value, put_by};
-use finder::{Op, Reply, Kind};
-use std::collections::{BTreeMap, VecDeque};
-use std::fmt::Write;
+use crate::figures::count_text;
+use finder::{Kind, Op, Reply};
+use std::collections::{BTreeMap, BTreeSet, VecDeque};
 
 /// A value, and the number of the operation that put it there.
-#[derive(Clone, Copy)]
+#[derive(Clone, Copy, PartialEq, Eq, PartialOrd, Ord)]
 pub struct Item {
     pub value: i64,
     pub by: u32,
@@ -17,9 +16,9 @@ pub enum Content {
     /// First to last.
     Queue(VecDeque<Item>),
     /// Bottom to top.
-    Stack(VecDeque<Item>),
+    Stack(Vec<Item>),
     /// By value, and then by the operation.
-    Heap(BTreeMap<(i64, u32), ()>),
+    Heap(BTreeSet<Item>),
     Register(Option<Item>),
     Map(BTreeMap<i64, Item>),
     /// Who holds it, and who released it last.
@@ -31,9 +30,14 @@ pub enum Content {
 
 /// The reply that a value is.
 pub fn value_reply(item: Option<Item>) -> Reply {
-    match item {
-        Some(item) => Reply::Value(Some(item.value)),
-        None => Reply::Value(None),
+    Reply::Value(item.map(|item| item.value))
+}
+
+/// The value that an operation puts in, and returns.
+pub fn put_by(op: Op) -> Option<i64> {
+    match op {
+        Op::Write(value) => Some(value),
+        op => op.puts(),
     }
 }
 
@@ -41,48 +45,36 @@ impl Content {
     pub fn empty(kind: Kind) -> Content {
         match kind {
             Kind::Queue => Content::Queue(VecDeque::new()),
-            Kind::Stack => Content::Stack(VecDeque::new()),
-            Kind::Heap => Content::Heap(BTreeMap::new()),
+            Kind::Stack => Content::Stack(Vec::new()),
+            Kind::Heap => Content::Heap(BTreeSet::new()),
             Kind::Register => Content::Register(None),
             Kind::Map => Content::Map(BTreeMap::new()),
-            Kind::Mutex => Content::Mutex {
-                holder: None,
-                releaser: None,
-            },
+            Kind::Mutex => Content::Mutex { holder: None, releaser: None },
         }
     }
 
     /// The item that the operation finds, where it looks for one and there is one.
-    pub fn find(&self, op: &Op) -> Option<Item> {
-        if put_by(*op).is_some() {
+    pub fn find(&self, op: Op) -> Option<Item> {
+        if put_by(op).is_some() {
             return None;
         }
         match self {
             Content::Queue(items) => items.front().copied(),
-            Content::Stack(items) => items.back().copied(),
-            Content::Heap(items) => {
-                let (value, by) = *items.keys().next()?;
-                Some(Item { value, by })
-            }
+            Content::Stack(items) => items.last().copied(),
+            Content::Heap(items) => items.first().copied(),
             Content::Register(item) => *item,
-            Content::Map(items) => match *op {
-                Op::Put(key, _) => items.get(&key).copied(),
-                Op::Get(key) => items.get(&key).copied(),
-                Op::Del(key) => items.get(&key).copied(),
-                _ => None,
-            },
+            Content::Map(items) => items.get(&op.key()?).copied(),
             Content::Mutex { .. } => None,
         }
     }
 
     /// The reply that the object gives to the operation; none: it is not possible.
-    pub fn gives(&self, op: &Op) -> Option<Reply> {
+    pub fn gives(&self, op: Op) -> Option<Reply> {
+        if let Some(value) = put_by(op) {
+            return Some(Reply::Value(Some(value)));
+        }
         let found = self.find(op);
-        match *op {
-            Op::Enqueue(value) => Some(Reply::Value(Some(value))),
-            Op::Push(value) => Some(Reply::Value(Some(value))),
-            Op::Insert(value) => Some(Reply::Value(Some(value))),
-            Op::Write(value) => Some(Reply::Value(Some(value))),
+        match op {
             Op::Cas(expected, new) => Some(match found {
                 Some(item) if item.value == expected => Reply::Swapped(expected, new),
                 _ => Reply::NotSwapped,
@@ -110,205 +102,112 @@ impl Content {
     }
 
     /// Does the operation that has this number. One that is not of the kind changes nothing.
-    pub fn apply(&mut self, number: u32, op: &Op) {
-        let by = number;
+    pub fn apply(&mut self, by: u32, op: Op) {
+        match (self, op) {
+            (Content::Queue(items), Op::Enqueue(value)) => items.push_back(Item { value, by }),
+            (Content::Queue(items), Op::Dequeue) => {
+                items.pop_front();
+            }
+            (Content::Stack(items), Op::Push(value)) => items.push(Item { value, by }),
+            (Content::Stack(items), Op::Pop) => {
+                items.pop();
+            }
+            (Content::Heap(items), Op::Insert(value)) => {
+                items.insert(Item { value, by });
+            }
+            (Content::Heap(items), Op::ExtractMin) => {
+                items.pop_first();
+            }
+            (Content::Register(item), Op::Write(value)) => *item = Some(Item { value, by }),
+            (Content::Register(item), Op::Cas(expected, value)) => {
+                *item = item.map(|held| {
+                    if held.value == expected { Item { value, by } } else { held }
+                });
+            }
+            (Content::Map(items), Op::Put(key, value)) => {
+                items.insert(key, Item { value, by });
+            }
+            (Content::Map(items), Op::Del(key)) => {
+                items.remove(&key);
+            }
+            (Content::Mutex { holder, .. }, Op::Acquire) => *holder = Some(by),
+            (Content::Mutex { holder, releaser }, Op::Release) => {
+                (*holder, *releaser) = (None, Some(by));
+            }
+            _ => {}
+        }
+    }
+
+    /// The items of a queue, stack or heap in their order.
+    pub fn items(&self) -> Vec<Item> {
         match self {
-            Content::Queue(items) => match *op {
-                Op::Enqueue(value) => items.push_back(Item { value, by }),
-                _ => {
-                    let _ = items.pop_front();
-                }
-            },
-            Content::Stack(items) => match *op {
-                Op::Push(value) => items.push_back(Item { value, by }),
-                _ => {
-                    let _ = items.pop_back();
-                }
-            },
-            Content::Heap(items) => match *op {
-                Op::Insert(value) => {
-                    items.insert((value, by), ());
-                }
-                _ => {
-                    let _ = items.pop_first();
-                }
-            },
-            Content::Register(item) => *item = after_write(*item, by, op),
-            Content::Map(items) => match *op {
-                Op::Put(key, value) => {
-                    items.insert(key, Item { value, by });
-                }
-                Op::Del(key) => {
-                    items.remove(&key);
-                }
-                _ => {}
-            },
-            Content::Mutex { holder, releaser } => match op {
-                Op::Acquire => *holder = Some(by),
-                _ => {
-                    *holder = None;
-                    *releaser = Some(by);
-                }
-            },
+            Content::Queue(items) => items.iter().copied().collect(),
+            Content::Stack(items) => items.clone(),
+            Content::Heap(items) => items.iter().copied().collect(),
+            _ => Vec::new(),
         }
     }
 
     /// The values in it, at a map with their keys; of a mutex whether it is held.
     pub fn values(&self) -> Vec<i64> {
         match self {
-            Content::Queue(items) => values_of(items, 0, items.len()),
-            Content::Stack(items) => values_of(items, 0, items.len()),
-            Content::Heap(items) => keys_of(items, 0, items.len()),
-            Content::Register(item) => {
-                let mut values = Vec::new();
-                if let Some(item) = item {
-                    values.push(item.value);
-                }
-                values
+            Content::Queue(_) | Content::Stack(_) | Content::Heap(_) => {
+                self.items().iter().map(|item| item.value).collect()
             }
+            Content::Register(item) => item.iter().map(|item| item.value).collect(),
             Content::Map(items) => {
-                let mut values = Vec::new();
-                for (key, item) in items.iter() {
-                    values.extend_from_slice(&[*key, item.value]);
-                }
-                values
+                items.iter().flat_map(|(key, item)| [*key, item.value]).collect()
             }
-            Content::Mutex { holder, .. } => {
-                let mut values = Vec::new();
-                if holder.is_some() {
-                    values.push(1);
-                }
-                values
-            }
+            Content::Mutex { holder, .. } => holder.iter().map(|_| 1).collect(),
         }
     }
 
     /// The content as text. Of a long one it tells the beginning and the end.
     pub fn text(&self) -> String {
-        let mut text = String::new();
         match self {
-            Content::Queue(items) => push_list(&mut text, &shown_items(items, 8)),
-            Content::Stack(items) => push_list(&mut text, &shown_items(items, 2)),
-            Content::Heap(items) => push_list(&mut text, &shown_keys(items, 8)),
-            Content::Register(item) => {
-                push_value(&mut text, value_reply(*item).value());
-            }
-            Content::Map(items) => push_map(&mut text, items),
-            Content::Mutex { holder, .. } => {
-                text.push_str(if holder.is_some() { "held" } else { "free" });
-            }
+            Content::Queue(items) => list_text(items.len(), items.iter(), 8),
+            Content::Stack(items) => list_text(items.len(), items.iter(), 2),
+            Content::Heap(items) => list_text(items.len(), items.iter(), 8),
+            Content::Register(item) => value_reply(*item).value().to_string(),
+            Content::Map(items) => map_text(items),
+            Content::Mutex { holder: Some(_), .. } => "held".into(),
+            Content::Mutex { holder: None, .. } => "free".into(),
         }
-        text
     }
 }
 
-/// What a register contains after the operation.
-fn after_write(item: Option<Item>, by: u32, op: &Op) -> Option<Item> {
-    match *op {
-        Op::Write(value) => Some(Item { value, by }),
-        Op::Cas(expected, value) => match item {
-            Some(held) if held.value == expected => Some(Item { value, by }),
-            _ => item,
-        },
-        _ => item,
-    }
+/// A list of no more values has all of them in its text, and a longer one so many.
+const FEW: usize = 11;
+const SHOWN: usize = 10;
+
+/// The values with a space between them.
+fn spaced<'a>(items: impl Iterator<Item = &'a Item>) -> String {
+    items.map(|item| item.value.to_string()).collect::<Vec<_>>().join(" ")
 }
 
-/// The values of a list that are shown: of its beginning and of its end.
-struct Shown {
-    first: Vec<i64>,
-    left_out: usize,
-    last: Vec<i64>,
+/// The list of so many items in brackets. Of a long one so many are shown from its beginning.
+fn list_text<'a>(
+    length: usize,
+    items: impl Iterator<Item = &'a Item> + Clone,
+    first: usize,
+) -> String {
+    if length <= FEW {
+        return format!("[{}]", spaced(items));
+    }
+    let (beginning, end) = (items.clone().take(first), items.skip(length + first - SHOWN));
+    let more = count_text(length - SHOWN);
+    format!("[{} … {more} more … {}]", spaced(beginning), spaced(end))
 }
 
-/// How many values of a list are shown, of its beginning and of its end. Of a list of more than 11
-/// values ten are shown, `first` of them from its beginning.
-fn how_many(length: usize, first: usize) -> (usize, usize) {
-    if length <= 11 {
-        (length, 0)
-    } else {
-        (first, 10usize.saturating_sub(first))
-    }
-}
+/// The most keys that the text of a map has.
+const MOST_KEYS: usize = 6;
 
-/// The values of `count` items, from this place on.
-fn values_of(items: &VecDeque<Item>, from: usize, count: usize) -> Vec<i64> {
-    let mut values = Vec::new();
-    for item in items.iter().skip(from).take(count) {
-        values.push(item.value);
+/// A map in braces, of many keys the first ones.
+fn map_text(items: &BTreeMap<i64, Item>) -> String {
+    let entry = |(key, item): (&i64, &Item)| format!("{key} {}", item.value);
+    let mut entries: Vec<String> = items.iter().take(MOST_KEYS).map(entry).collect();
+    if items.len() > MOST_KEYS {
+        entries.push(format!("… {} more", count_text(items.len() - MOST_KEYS)));
     }
-    values
-}
-
-fn keys_of(
-    items: &BTreeMap<(i64, u32), ()>,
-    from: usize,
-    count: usize,
-) -> Vec<i64> {
-    let mut values = Vec::new();
-    for (value, _) in items.keys().skip(from).take(count) {
-        values.push(*value);
-    }
-    values
-}
-
-fn shown_items(items: &VecDeque<Item>, first: usize) -> Shown {
-    let length = items.len();
-    let (first, last) = how_many(length, first);
-    Shown {
-        first: values_of(items, 0, first),
-        left_out: length.saturating_sub(first).saturating_sub(last),
-        last: values_of(items, length.saturating_sub(last), last),
-    }
-}
-
-fn shown_keys(items: &BTreeMap<(i64, u32), ()>, first: usize) -> Shown {
-    let length = items.len();
-    let (first, last) = how_many(length, first);
-    Shown {
-        first: keys_of(items, 0, first),
-        left_out: length.saturating_sub(first).saturating_sub(last),
-        last: keys_of(items, length.saturating_sub(last), last),
-    }
-}
-
-/// Appends the values with a space between two.
-fn push_values(text: &mut String, values: &[i64]) {
-    for (place, value) in values.iter().enumerate() {
-        if place > 0 {
-            text.push_str(" ");
-        }
-        let _ = write!(text, "{value}");
-    }
-}
-
-/// Appends the list in brackets.
-fn push_list(text: &mut String, shown: &Shown) {
-    text.push_str("[");
-    push_values(text, &shown.first);
-    if shown.left_out > 0 {
-        text.push_str(" … ");
-        push_count(text, shown.left_out);
-        text.push_str(" more … ");
-    }
-    push_values(text, &shown.last);
-    text.push_str("]");
-}
-
-/// Appends a map in braces, of more than six keys the first six.
-fn push_map(text: &mut String, items: &BTreeMap<i64, Item>) {
-    text.push_str("{");
-    for (place, (key, item)) in items.iter().take(6).enumerate() {
-        if place > 0 {
-            text.push_str(", ");
-        }
-        let value = item.value;
-        let _ = write!(text, "{key} {value}");
-    }
-    if items.len() > 6 {
-        text.push_str(", … ");
-        push_count(text, items.len().saturating_sub(6));
-        text.push_str(" more");
-    }
-    text.push_str("}");
+    format!("{{{}}}", entries.join(", "))
 }

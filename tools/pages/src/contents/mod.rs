@@ -8,7 +8,7 @@ mod sources;
 mod tried;
 
 pub use boxes::boxes_of;
-pub use content::{Content, Item};
-pub use orders::{Walk, rows_of, walk_along};
-pub use sources::{key_of, puts, takes, value_put, wanted};
+pub use content::Content;
+pub use orders::{rows_of, walk_along};
+pub use sources::{puts, takes, value_put, wanted};
 pub use tried::try_orders;

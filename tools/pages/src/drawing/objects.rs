@@ -339,8 +339,7 @@ pub fn draw_valid(
 pub fn draw_uncertified(subject: &Subject<'_>) -> ObjectDrawing
 {
     let operations = all_operations(&subject);
-    let mut text = Explanation::new(None, Alone::Never);
-    text.say_uncertified(subject.object.object, operations.len());
+    let text = Explanation::uncertified(subject.object.object, operations.len());
     let drawing = draw(&subject, &operations, None, text);
     drawing
 }
@@ -355,7 +354,6 @@ pub fn draw_refused(
     let operations = all_operations(&subject);
     let refused = Refused {
         history: subject.history,
-        maps: subject.history.maps,
         object: subject.object.object,
         kind: subject.object.kind,
         operations: &operations,

@@ -2,7 +2,7 @@
 //! says which sentence is tried, and it is said only where all it says was checked on all
 //! operations of the object; else the general one is said.
 
-use crate::contents::{key_of, puts, takes, value_put};
+use crate::contents::{puts, takes, value_put};
 use crate::timeline::{Operation, Role, Span, Spans, State, Tried, spans};
 use finder::{Counted, Kind, Op, Pattern, Reply};
 
@@ -138,7 +138,7 @@ fn left_words(operation: &Operation, left: Option<i64>) -> Spans {
         Op::Read | Op::Get(_) => spans![" found ", Reply::Value(left)],
         _ => spans![" set ", Reply::Value(left)],
     };
-    if let Some(key) = key_of(operation.op()) {
+    if let Some(key) = operation.op().key() {
         words.extend(spans![" under key ", key]);
     }
     words
@@ -296,7 +296,7 @@ impl Reason<'_> {
     /// earlier one and the number, set the value anew.
     fn is_set_between(&self, value: Option<i64>, pair: [&Operation; 2], to: u32) -> bool {
         let [earlier, later] = pair;
-        let key = key_of(later.op());
+        let key = later.op().key();
         self.operations.iter().any(|it| {
             it.number() != later.number()
                 && sets_anew(it, key, value)
@@ -311,7 +311,7 @@ impl Reason<'_> {
         };
         let (at, end) = (returned_before(earlier, later)?, later.returned()?);
         let (left, found) = (left_by(earlier)?, found_by(later)?);
-        let is_same = key_of(earlier.op()) == key_of(later.op());
+        let is_same = earlier.op().key() == later.op().key();
         let is_cell = matches!(self.kind, Kind::Register | Kind::Map);
         if !is_cell
             || !is_same
