@@ -1,12 +1,10 @@
 //! The page of a history that was judged, or checked by certificates.
 
-use crate::drawing::{
-    ObjectDrawing, Part, Subject, count_text, draw_impossible, draw_refused, draw_uncertified,
-    draw_valid,
-};
+use crate::drawing::{Part, Subject, draw_impossible, draw_refused, draw_uncertified, draw_valid};
 use crate::elements::{elements_in, value_in};
+use crate::figures::count_text;
 use crate::page::{Answer, ObjectRow, Page, html_of};
-use crate::timeline::{Span, Spans, spans};
+use crate::timeline::{ObjectDrawing, Span, Spans, spans};
 use crate::verdict::{self, OrderFault, Refusal};
 use finder::{Cut, Decision, End, Evidence, History, ObjectHistory, Pattern, part_by};
 use std::borrow::Cow;
@@ -376,9 +374,8 @@ impl<'a> Drawn<'a> {
     }
 
     fn open_page(&self, answers: &[(u32, verdict::Answer)], decisions: &[Decision]) -> String {
-        let is_impossible = |(_, answer): &&(u32, verdict::Answer)| {
-            *answer == verdict::Answer::Impossible
-        };
+        let is_impossible =
+            |(_, answer): &&(u32, verdict::Answer)| *answer == verdict::Answer::Impossible;
         let (faulty, worst) =
             *answers.iter().find(is_impossible).or(answers.first()).expect("some answer");
         let answer_of = |number| {

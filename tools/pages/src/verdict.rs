@@ -104,10 +104,17 @@ pub enum OrderFault {
 #[derive(Clone, Copy, Debug, PartialEq, Eq)]
 pub enum Refusal {
     /// C1
-    NoCertificate { object: u32 },
+    NoCertificate {
+        object: u32,
+    },
     /// C2: the object has a certificate and is not in the history.
-    StrangeObject { object: u32 },
-    BadOrder { object: u32, fault: OrderFault },
+    StrangeObject {
+        object: u32,
+    },
+    BadOrder {
+        object: u32,
+        fault: OrderFault,
+    },
 }
 
 /// What is said of an object that has no order.

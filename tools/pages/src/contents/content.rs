@@ -120,9 +120,8 @@ impl Content {
             }
             (Content::Register(item), Op::Write(value)) => *item = Some(Item { value, by }),
             (Content::Register(item), Op::Cas(expected, value)) => {
-                *item = item.map(|held| {
-                    if held.value == expected { Item { value, by } } else { held }
-                });
+                *item =
+                    item.map(|held| if held.value == expected { Item { value, by } } else { held });
             }
             (Content::Map(items), Op::Put(key, value)) => {
                 items.insert(key, Item { value, by });

@@ -12,7 +12,6 @@ pub fn wanted(reply: Reply) -> Option<i64> {
     }
 }
 
-
 /// The value that an operation that may have happened puts in, or sets.
 pub fn value_put(operation: &Operation) -> Option<i64> {
     if operation.state() == State::Failed {

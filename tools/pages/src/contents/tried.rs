@@ -69,9 +69,7 @@ impl Trying<'_> {
     /// The content as text, or that it is the value that stands for others.
     fn content_text(&self, content: &Content) -> String {
         match content {
-            Content::Register(Some(item)) if Some(item.value) == self.tried.other => {
-                "other".into()
-            }
+            Content::Register(Some(item)) if Some(item.value) == self.tried.other => "other".into(),
             _ => content.text(),
         }
     }

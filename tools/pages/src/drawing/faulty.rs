@@ -2,9 +2,7 @@
 //! and the faulty one as a cross.
 
 use crate::drawing::objects::focus_events;
-use crate::figures::{
-    FaultyMap, Moment, Scene, Stretch, choose, figure_of, moments_of, narrow, numbers_of,
-};
+use crate::figures::{FaultyMap, Moment, Scene, Stretch, choose, figure_of, moments_of, narrow};
 use crate::timeline::{Figure, Mark, Operation, operations_of};
 use finder::History;
 use std::collections::BTreeMap;
@@ -61,7 +59,7 @@ pub fn draw_up_to(faulty: &Faulty) -> FaultyDrawing {
     let focus: BTreeMap<u32, Mark> =
         earlier.iter().map(|operation| (operation.number(), Mark::Named)).collect();
     let mut moments = faulty.moments(&operations, &focus);
-    let without = narrow(&operations, &mut moments, &numbers_of(&focus));
+    let without = narrow(&operations, &mut moments, &focus.keys().copied().collect());
     let figure = figure_of(&Scene {
         operations: &operations,
         moments: &moments,

@@ -1,22 +1,20 @@
 //! The drawing of an object: sentences, figures, and the table of an order.
 
-use crate::drawing::refusals::{Alone, Explanation, Refused};
-use crate::drawing::reasons::Reason;
-use crate::verdict::OrderFault;
+use super::reasons::Reason;
+use super::refusals::{Alone, Explanation, Refused};
 use crate::contents::{boxes_of, rows_of, try_orders, walk_along};
-use crate::history::Options;
-use std::borrow::Cow;
-use finder::{End, History, Invocation, ObjectHistory, Pattern};
 use crate::figures::{
-    Moment, Placed, Scene, Stretch, WithoutLane, choose, figure_of, narrow,
-    near_to, numbers_of,
+    Moment, Placed, Scene, Stretch, WithoutLane, choose, drawn_places, figure_of, narrow, near_to,
 };
-use finder::Kind;
-use std::collections::{BTreeMap, BTreeSet};
+use crate::history::Options;
 use crate::timeline::{
-    ContentBox, Extent, Figure, Mark, ObjectDrawing, Operation, Row, Span, State,
-    operation_at, operations_of,
+    ContentBox, Extent, Figure, Mark, ObjectDrawing, Operation, Row, Spans, State, operation_at,
+    operations_of, spans,
 };
+use crate::verdict::OrderFault;
+use finder::{History, Invocation, Kind, ObjectHistory, Pattern};
+use std::borrow::Cow;
+use std::collections::{BTreeMap, BTreeSet};
 
 /// An object with at most as many events is drawn whole.
 const WHOLE: usize = 160;
@@ -24,7 +22,7 @@ const WHOLE: usize = 160;
 /// The most operations that are drawn alone.
 const MOST_ALONE: usize = 200;
 
-/// An object of a history with this many maps, and the stretch of it that is drawn.
+/// An object of a history, and what of it is drawn.
 #[derive(Clone, Copy)]
 pub struct Subject<'a> {
     pub history: &'a History,
@@ -36,39 +34,22 @@ impl Subject<'_> {
     fn stretch(&self) -> Stretch {
         Stretch { from: self.options.from, to: self.options.to }
     }
+
+    fn operations(&self) -> Vec<Operation> {
+        operations_of(self.history, self.object)
+    }
 }
 
 /// The numbers of the events of these operations.
-pub(super) fn focus_events(
-    operations: &[Operation],
-    focus: &BTreeMap<u32, Mark>,
-) -> Vec<u32> {
-    let mut numbers = Vec::new();
-    for number in focus.keys() {
-        numbers.push(*number);
-        if let Some(operation) = operation_at(operations, i64::from(*number)) {
-            if let Some(ended) = operation.ended {
-                numbers.push(ended);
-            }
-        }
-    }
-    numbers
+pub fn focus_events(operations: &[Operation], focus: &BTreeMap<u32, Mark>) -> Vec<u32> {
+    let ended = |number: u32| operation_at(operations, i64::from(number))?.ended;
+    focus.keys().flat_map(|number| std::iter::once(*number).chain(ended(*number))).collect()
 }
 
 /// The numbers of the operations with drawn events.
-pub(super) fn drawn_numbers(
-    operations: &[Operation],
-    moments: &[Moment],
-) -> BTreeSet<u32> {
-    let mut numbers = BTreeSet::new();
-    for moment in moments {
-        if moment.is_drawn {
-            if let Some(operation) = moment.of(operations) {
-                numbers.insert(operation.number());
-            }
-        }
-    }
-    numbers
+fn drawn_numbers(operations: &[Operation], moments: &[Moment]) -> BTreeSet<u32> {
+    let drawn = drawn_places(moments).filter_map(|place| moments[place].of(operations));
+    drawn.map(|operation| operation.number()).collect()
 }
 
 /// The window of a figure, and the focus alone, which is drawn whatever the window is.
@@ -80,30 +61,15 @@ struct Window {
     extent: Extent,
 }
 
-/// How many operations did not fail.
-fn live_in(operations: &[Operation]) -> usize {
-    let mut live: usize = 0;
-    for operation in operations {
-        if operation.state() != State::Failed {
-            live = live.saturating_add(1);
-        }
-    }
-    live
-}
-
 /// The window of a figure, and the focus alone. Events are listed near to them; of the others they
 /// need only that there are some.
-fn window_of(
-    operations: &[Operation],
-    focus: &BTreeMap<u32, Mark>,
-    subject: &Subject<'_>,
-) -> Window {
+fn window_of(operations: &[Operation], focus: &BTreeMap<u32, Mark>, subject: &Subject) -> Window {
     let nemeses = &subject.history.nemeses;
     let events = focus_events(operations, focus);
     let near = near_to(operations, &events, subject.stretch());
     let mut moments = near.moments(operations, nemeses);
     choose(&mut moments, &events, subject.stretch(), WHOLE);
-    let numbers = numbers_of(focus);
+    let numbers = focus.keys().copied().collect();
     let mut zoomed = Vec::new();
     if !focus.is_empty() {
         zoomed = focus_moments(operations, &moments, focus);
@@ -113,29 +79,14 @@ fn window_of(
     let without = narrow(operations, &mut moments, &numbers);
     near.add_holes(operations, nemeses, &without, &mut moments);
     let drawn = drawn_numbers(operations, &moments);
-    Window {
-        extent: Extent {
-            operations: operations.len(),
-            live: live_in(operations),
-            drawn: drawn.len(),
-            without_lane: without.operations.len(),
-            processes: without.processes,
-        },
-        moments,
-        zoomed,
-        drawn,
-        without,
-    }
-}
-
-/// The least and the greatest number of those of the focus that are drawn alone.
-fn ends_alone(focus: &BTreeMap<u32, Mark>) -> (u32, u32) {
-    let (mut first, mut last) = (u32::MAX, 0);
-    for number in focus.keys().take(MOST_ALONE) {
-        first = first.min(*number);
-        last = last.max(*number);
-    }
-    (first, last)
+    let extent = Extent {
+        operations: operations.len(),
+        live: operations.iter().filter(|it| it.state() != State::Failed).count(),
+        drawn: drawn.len(),
+        without_lane: without.operations.len(),
+        processes: without.processes,
+    };
+    Window { moments, zoomed, drawn, without, extent }
 }
 
 /// The same events, of which those of the focus are drawn, up to the most operations.
@@ -144,62 +95,35 @@ fn focus_moments(
     moments: &[Moment],
     focus: &BTreeMap<u32, Mark>,
 ) -> Vec<Moment> {
-    let (first, last) = ends_alone(focus);
-    let mut zoomed = Vec::new();
-    for moment in moments {
-        let is_drawn = match moment.of(operations) {
-            Some(operation) => {
-                let number = operation.number();
-                first <= number && number <= last && focus.contains_key(&number)
-            }
-            None => false,
-        };
-        zoomed.push(Moment {
-            is_drawn,
-            ..*moment
-        });
-    }
-    zoomed
+    let alone: BTreeSet<u32> = focus.keys().take(MOST_ALONE).copied().collect();
+    let is_alone = |moment: &Moment| {
+        moment.of(operations).is_some_and(|operation| alone.contains(&operation.number()))
+    };
+    moments.iter().map(|moment| Moment { is_drawn: is_alone(moment), ..*moment }).collect()
 }
 
-/// The points of the focus alone.
-fn focus_points(points: &[Placed], focus: &BTreeMap<u32, Mark>) -> Vec<Placed> {
-    let mut kept = Vec::new();
-    for point in points {
-        if focus.contains_key(&point.operation.number()) {
-            kept.push(Placed {
-                rank: point.rank,
-                operation: point.operation,
-                anchor: point.anchor,
-                is_refused: point.is_refused,
-                content: point.content.clone(),
-            });
+impl Explanation {
+    /// Whether the focus has a figure of its own.
+    fn is_alone(&self, window: &Window) -> bool {
+        match self.alone {
+            Alone::Never => false,
+            Alone::Above(few) => window.drawn.len() > few,
+            Alone::Always => true,
         }
     }
-    kept
-}
 
-/// Whether the focus has a figure of its own.
-fn is_alone(explanation: &Explanation, window: &Window) -> bool {
-    match explanation.alone {
-        Alone::Never => false,
-        Alone::Above(few) => window.drawn.len() > few,
-        Alone::Always => true,
+    /// Whether the figure of the window dims what the sentence does not speak of.
+    fn dims_others(&self, window: &Window) -> bool {
+        let is_small = window.drawn.len() <= self.focus.len() + 1;
+        matches!(self.alone, Alone::Always) || !self.focus.is_empty() && !is_small
     }
-}
-
-/// Whether the figure of the window dims what the sentence does not speak of.
-fn dims_others(explanation: &Explanation, window: &Window) -> bool {
-    let few = explanation.focus.len().saturating_add(1);
-    let has_focus = !explanation.focus.is_empty();
-    matches!(explanation.alone, Alone::Always) || has_focus && window.drawn.len() > few
 }
 
 /// The two figures of an object: the operations of the focus alone, where they are shown alone, and
 /// the window.
 fn figures(
     operations: &[Operation],
-    subject: &Subject<'_>,
+    subject: &Subject,
     window: &Window,
     points: &[Placed],
     explanation: &Explanation,
@@ -212,41 +136,21 @@ fn figures(
         focus: &explanation.focus,
         arrows: &explanation.arrows,
         is_zoom: false,
-        dims: dims_others(explanation, window),
+        dims: explanation.dims_others(window),
         maps: subject.history.maps,
         names_objects: false,
         without_lane: &window.without.operations,
         faulty: None,
     };
-    if !is_alone(explanation, window) {
+    if !explanation.is_alone(window) {
         return (None, figure_of(&whole));
     }
-    let zoom_points = focus_points(points, &explanation.focus);
-    let zoom = Scene {
-        moments: &window.zoomed,
-        points: &zoom_points,
-        is_zoom: true,
-        dims: false,
-        ..whole
-    };
-    let surroundings = Scene {
-        arrows: &[],
-        ..whole
-    };
-    (
-        Some(figure_of(&zoom)),
-        figure_of(&surroundings),
-    )
-}
-
-/// The operation of the entry that is refused.
-fn entry_at(
-    operations: &[Operation],
-    order: Option<&[i64]>,
-    refused: Option<usize>,
-) -> Option<Operation> {
-    let number = order?.get(refused?)?;
-    operation_at(operations, *number)
+    let in_focus = |point: &&Placed| whole.is_focus(&point.operation);
+    let points: Vec<Placed> = points.iter().filter(in_focus).cloned().collect();
+    let moments = &window.zoomed;
+    let zoom = Scene { moments, points: &points, is_zoom: true, dims: false, ..whole };
+    let surroundings = Scene { arrows: &[], ..whole };
+    (Some(figure_of(&zoom)), figure_of(&surroundings))
 }
 
 /// The points and the rows of an order, if there is one.
@@ -261,8 +165,7 @@ fn points_and_rows(
         return (Vec::new(), Vec::new());
     };
     let walk = walk_along(operations, kind, order, refused, drawn);
-    let rows = rows_of(operations, order, refused, walk.rows);
-    (walk.points, rows)
+    (walk.points, rows_of(operations, order, refused, walk.rows))
 }
 
 /// The boxes of what the object contains before the entry that is refused, if one is.
@@ -270,88 +173,59 @@ fn boxes_before(
     operations: &[Operation],
     order: Option<&[i64]>,
     explanation: &Explanation,
-) -> Vec<ContentBox> {
-    let operation = entry_at(operations, order, explanation.refused);
-    match (&explanation.content, operation) {
-        (Some(content), Some(operation)) => boxes_of(content, &operation),
-        _ => Vec::new(),
-    }
+) -> Option<Vec<ContentBox>> {
+    let number = order?.get(explanation.refused?)?;
+    let operation = operation_at(operations, *number)?;
+    Some(boxes_of(explanation.content.as_ref()?, &operation))
 }
 
 /// The drawing of an object with this order, if there is one, and with its sentences.
 fn draw(
-    subject: &Subject<'_>,
+    subject: &Subject,
     operations: &[Operation],
     order: Option<&[i64]>,
     explanation: Explanation,
-) -> ObjectDrawing
-{
+) -> ObjectDrawing {
     let kind = subject.object.kind;
     let window = window_of(operations, &explanation.focus, subject);
     let refused = explanation.refused;
     let (points, rows) = points_and_rows(operations, kind, order, refused, &window.drawn);
     let (zoom, figure) = figures(operations, subject, &window, &points, &explanation);
-    let boxes = boxes_before(operations, order, &explanation);
-    let mut drawing = ObjectDrawing::new(subject.object, figure, window.extent);
-    drawing.zoom = zoom;
-    drawing.boxes = boxes;
-    drawing.rows = rows;
-    let Explanation {
-        refused: _,
-        sentence,
+    let boxes = boxes_before(operations, order, &explanation).unwrap_or_default();
+    let Explanation { sentence, because, content, .. } = explanation;
+    ObjectDrawing {
+        object: subject.object.object,
+        kind,
+        sentences: if sentence.is_empty() { Vec::new() } else { vec![sentence] },
         because,
-        focus: _,
-        arrows: _,
-        alone: _,
-        content,
-    } = explanation;
-    if !sentence.is_empty() {
-        drawing.sentences.push(sentence);
+        content: content.map(|content| content.text()),
+        boxes,
+        zoom,
+        figure,
+        extent: window.extent,
+        rows,
+        tried: None,
+        reason: 0,
+        from: None,
+        outside: Vec::new(),
     }
-    drawing.because = because;
-    if let Some(content) = content {
-        drawing.content = Some(content.text());
-    }
-    drawing
-}
-
-/// The operations of the object, in memory that is noted.
-fn all_operations(subject: &Subject<'_>) -> Vec<Operation> {
-    operations_of(
-        subject.history,
-        subject.object,
-    )
 }
 
 /// The drawing of an object with an order that is valid, if one is given.
-pub fn draw_valid(
-    subject: &Subject<'_>,
-    order: Option<&[i64]>,
-) -> ObjectDrawing
-{
-    let operations = all_operations(&subject);
-    let nothing = Explanation::new(None, Alone::Never);
-    let drawing = draw(&subject, &operations, order, nothing);
-    drawing
+pub fn draw_valid(subject: &Subject, order: Option<&[i64]>) -> ObjectDrawing {
+    draw(subject, &subject.operations(), order, Explanation::new(None, Alone::Never))
 }
 
 /// The drawing of an object that has no certificate.
-pub fn draw_uncertified(subject: &Subject<'_>) -> ObjectDrawing
-{
-    let operations = all_operations(&subject);
+pub fn draw_uncertified(subject: &Subject) -> ObjectDrawing {
+    let operations = subject.operations();
     let text = Explanation::uncertified(subject.object.object, operations.len());
-    let drawing = draw(&subject, &operations, None, text);
-    drawing
+    draw(subject, &operations, None, text)
 }
 
 /// The drawing of an object with an order that is refused.
-pub fn draw_refused(
-    subject: &Subject<'_>,
-    order: &[i64],
-    fault: OrderFault,
-) -> ObjectDrawing
-{
-    let operations = all_operations(&subject);
+pub fn draw_refused(subject: &Subject, order: &[i64], fault: OrderFault) -> ObjectDrawing {
+    let operations = subject.operations();
     let refused = Refused {
         history: subject.history,
         object: subject.object.object,
@@ -359,82 +233,7 @@ pub fn draw_refused(
         operations: &operations,
         order,
     };
-    let explanation = refused.explain(fault);
-    let drawing = draw(&subject, &operations, Some(order), explanation);
-    drawing
-}
-
-/// The invocation with this number, of a part in rising number.
-fn invocation_in(part: &[Invocation], number: u32) -> Option<Invocation> {
-    let place = part.partition_point(|invocation| invocation.number < number);
-    let invocation = part.get(place)?;
-    if invocation.number == number {
-        Some(*invocation)
-    } else {
-        None
-    }
-}
-
-/// The operations of a part, as the history has them, and the one from which on it is a part.
-fn operations_named(
-    operations: &[Operation],
-    part: &[Invocation],
-    from: Option<u32>,
-) -> Vec<Operation> {
-    let mut recorded = Vec::new();
-    if let Some(from) = from {
-        let first = operation_at(operations, i64::from(from));
-        if let (Some(first), None) = (first, invocation_in(part, from)) {
-            recorded.push(first);
-        }
-    }
-    for invocation in part {
-        if let Some(operation) = operation_at(operations, i64::from(invocation.number)) {
-            recorded.push(operation);
-        }
-    }
-    recorded
-}
-
-/// Those of the operations that returned and are pending in the part.
-fn outside_of(operations: &[Operation], part: &[Invocation]) -> Vec<Operation> {
-    let mut outside = Vec::new();
-    for operation in operations {
-        let Some(invocation) = invocation_in(part, operation.number()) else {
-            continue;
-        };
-        if invocation.end == End::Pending && operation.state() == State::Done {
-            outside.push(*operation);
-        }
-    }
-    outside
-}
-
-/// From each of these operations that returned to the next one that was invoked later. They are in
-/// rising number.
-fn arrows_in(operations: &[Operation]) -> Vec<(Operation, Operation)> {
-    let mut arrows = Vec::new();
-    for earlier in operations.iter().take(MOST_ALONE) {
-        let Some(at) = earlier.returned() else {
-            continue;
-        };
-        let place = operations.partition_point(|operation| operation.number() <= at);
-        if let Some(later) = operations.get(place) {
-            arrows.push((*earlier, *later));
-        }
-    }
-    arrows
-}
-
-/// Those of the operations that did not fail.
-fn live_of(part: &[Invocation]) -> Vec<Invocation> {
-    let mut live = Vec::new();
-    for invocation in part {
-        if invocation.end != End::Failed {
-            live.push(*invocation);
-        }
-    }
-    live
+    draw(subject, &operations, Some(order), refused.explain(fault))
 }
 
 /// A part of an object's history of which no order is valid.
@@ -448,50 +247,83 @@ pub struct Part<'a> {
     pub pattern: Pattern,
 }
 
+impl Part<'_> {
+    /// Its operations that did not fail.
+    fn live(&self) -> Vec<Invocation> {
+        self.part.ops.iter().filter(|op| !op.has_failed()).copied().collect()
+    }
+
+    /// These operations of the part, as the history has them, and the one from which on it is a
+    /// part.
+    fn recorded(&self, operations: &[Operation], live: &[Invocation]) -> Vec<Operation> {
+        let first = self.from.filter(|from| invocation_in(live, *from).is_none());
+        let numbers = first.into_iter().chain(live.iter().map(|invocation| invocation.number));
+        numbers.filter_map(|number| operation_at(operations, i64::from(number))).collect()
+    }
+}
+
+/// The invocation with this number, of a part in rising number.
+fn invocation_in(part: &[Invocation], number: u32) -> Option<&Invocation> {
+    let place = part.binary_search_by_key(&number, |invocation| invocation.number).ok()?;
+    Some(&part[place])
+}
+
+/// Those of the operations that returned and are pending in the part.
+fn outside_of(operations: &[Operation], part: &[Invocation]) -> Vec<Operation> {
+    let is_outside = |operation: &&Operation| {
+        operation.state() == State::Done
+            && invocation_in(part, operation.number()).is_some_and(Invocation::is_pending)
+    };
+    operations.iter().filter(is_outside).copied().collect()
+}
+
+/// From each of these operations that returned to the next one that was invoked later. They are in
+/// rising number.
+fn arrows_in(operations: &[Operation]) -> Vec<(Operation, Operation)> {
+    let arrow = |earlier: &Operation| {
+        let at = earlier.returned()?;
+        let next = operations.partition_point(|operation| operation.number() <= at);
+        Some((*earlier, *operations.get(next)?))
+    };
+    operations.iter().take(MOST_ALONE).filter_map(arrow).collect()
+}
+
+fn impossible_sentence(object: &ObjectHistory) -> Spans {
+    spans![
+        "No order of the operations of object ",
+        object.object,
+        ", a ",
+        object.kind,
+        ", is valid. So the history is not linearizable."
+    ]
+}
+
 /// The drawing of an object of which no order is valid, for no order of this part is: the operations
 /// of the part alone, the orders of them that were tried, and where they are in the history.
-pub fn draw_impossible(
-    subject: &Subject<'_>,
-    part: &Part<'_>,
-) -> ObjectDrawing
-{
-    let operations = all_operations(&subject);
-    let live = live_of(&part.part.ops);
-    let ops: &[Invocation] = &live;
-    let named = operations_named(&operations, ops, part.from);
-    let tried = try_orders(&operations, part.part.kind, ops, part.other);
+pub fn draw_impossible(subject: &Subject, part: &Part) -> ObjectDrawing {
+    let operations = subject.operations();
+    let live = part.live();
+    let recorded = part.recorded(&operations, &live);
+    let tried = try_orders(&operations, part.part.kind, &live, part.other);
     let reason = Reason {
         kind: subject.object.kind,
         operations: &operations,
-        part: &named,
+        part: &recorded,
         from: part.from,
         pattern: part.pattern,
     };
     let sentence = reason.sentence(&tried);
     let mut text = Explanation::new(None, Alone::Always);
-    for operation in &named {
+    for operation in &recorded {
         text.mark(*operation, Mark::Fault);
     }
-    text.arrows = arrows_in(&named);
-    let mut drawing = draw(&subject, &operations, None, text);
-    let impossible = impossible(&subject.object);
-    drawing.sentences.push(impossible);
-    drawing.sentences.push(sentence);
-    drawing.outside = outside_of(&named, ops);
-    drawing.tried = Some(tried);
-    drawing.reason = named.len();
-    drawing.from = part.from;
-    drawing
-}
-
-fn impossible(object: &ObjectHistory) -> Vec<Span> {
-    let mut sentence = Vec::new();
-    sentence.extend_from_slice(&[
-        Span::Text("No order of the operations of object "),
-        Span::Number(u64::from(object.object)),
-        Span::Text(", a "),
-        Span::Kind(object.kind),
-        Span::Text(", is valid. So the history is not linearizable."),
-    ]);
-    sentence
+    text.arrows = arrows_in(&recorded);
+    ObjectDrawing {
+        sentences: vec![impossible_sentence(subject.object), sentence],
+        outside: outside_of(&recorded, &live),
+        tried: Some(tried),
+        reason: recorded.len(),
+        from: part.from,
+        ..draw(subject, &operations, None, text)
+    }
 }

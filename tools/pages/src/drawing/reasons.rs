@@ -3,7 +3,7 @@
 //! operations of the object; else the general one is said.
 
 use crate::contents::{puts, takes, value_put};
-use crate::timeline::{Operation, Role, Span, Spans, State, Tried, spans};
+use crate::timeline::{Operation, Role, Spans, State, Tried, spans};
 use finder::{Counted, Kind, Op, Pattern, Reply};
 
 /// The operations of an object, and those of a part of which no order is valid. Where the part
@@ -165,9 +165,8 @@ impl Reason<'_> {
 
     /// The operations that took the value out, and returned by this number.
     fn takers(&self, value: i64, until: u32) -> Vec<Operation> {
-        let takes = |it: &&Operation| {
-            takes(it, value) && it.returned().is_some_and(|at| at <= until)
-        };
+        let takes =
+            |it: &&Operation| takes(it, value) && it.returned().is_some_and(|at| at <= until);
         self.operations.iter().filter(takes).copied().collect()
     }
 
@@ -229,10 +228,8 @@ impl Reason<'_> {
         };
         let (value, end) = (value_put(putter)?, taker.returned()?);
         let at = returned_before(putter, taker)?;
-        let found_nothing =
-            taker.role() == Role::Take && taker.reply() == Some(Reply::Value(None));
-        let is_wrong =
-            self.kind.is_container() && found_nothing && !self.may_be_taken(value, end);
+        let found_nothing = taker.role() == Role::Take && taker.reply() == Some(Reply::Value(None));
+        let is_wrong = self.kind.is_container() && found_nothing && !self.may_be_taken(value, end);
         is_wrong.then(|| {
             spans![
                 *taker,

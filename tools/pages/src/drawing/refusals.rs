@@ -96,9 +96,8 @@ fn place_of(order: &[i64], operation: &Operation) -> Option<usize> {
 
 /// The object of which an operation has this number.
 fn object_of(history: &History, number: u32) -> Option<&ObjectHistory> {
-    let has = |object: &&ObjectHistory| {
-        object.ops.binary_search_by_key(&number, |op| op.number).is_ok()
-    };
+    let has =
+        |object: &&ObjectHistory| object.ops.binary_search_by_key(&number, |op| op.number).is_ok();
     history.objects.iter().find(has)
 }
 

@@ -1,9 +1,10 @@
 //! The sentences on a text that can be read and is no history, and the history before its fault.
 
 use super::excerpts::excerpt;
-use crate::elements::{Place, elements_in, value_in};
 use super::{Explained, number_in};
-use crate::drawing::{Faulty, FaultyDrawing, FaultyMap, draw_up_to};
+use crate::drawing::{Faulty, FaultyDrawing, draw_up_to};
+use crate::elements::{Place, elements_in, value_in};
+use crate::figures::FaultyMap;
 use crate::timeline::{Operation, Span, Spans, spans};
 use crate::verdict::MapFaultKind;
 use finder::{History, Kind, read_history};
@@ -146,7 +147,7 @@ impl<'a> Map<'a> {
         let number = self.clashes_with(&history);
         let words = format!("{} {}", self.type_name, self.function);
         let map = FaultyMap {
-            number: u32::try_from(self.number).unwrap_or(u32::MAX),
+            number: self.number.min(u32::MAX as usize - 1) as u32,
             fault: self.kind.number(),
             process: self.process,
             words: words.trim(),

@@ -13,10 +13,10 @@ mod segments;
 mod ticks;
 mod window;
 
-pub use labels::{characters, count_text, label, push_count, push_value, put_by, value_text};
+pub use labels::{characters, count_text, label};
 pub use lines::figure_of;
 pub use moments::{Moment, moments_of};
-pub use near::{Near, near_to};
+pub use near::near_to;
 pub use numbers::{CHARACTER, SMALL, SMALL_CHARACTER, digits, point_room};
-pub use scene::{FaultyMap, Placed, Scene, numbers_of};
-pub use window::{Stretch, WithoutLane, choose, narrow};
+pub use scene::{FaultyMap, Placed, Scene};
+pub use window::{Stretch, WithoutLane, choose, drawn_places, narrow};

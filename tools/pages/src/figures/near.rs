@@ -1,11 +1,12 @@
 //! The events of a large object that a figure may need: those near to what it draws, and of the rest
 //! one in each hole between them.
 
-use crate::figures::moments::{Moment, moments_of};
-use finder::Nemesis;
-use crate::figures::numbers::{FIRST, MOST};
-use crate::figures::window::{MOST_BEFORE, Stretch, WithoutLane};
+use super::moments::{Moment, moments_at, moments_of};
+use super::numbers::{FIRST, MOST};
+use super::window::{MOST_BEFORE, Stretch, WithoutLane};
 use crate::timeline::Operation;
+use finder::Nemesis;
+use std::ops::Range;
 
 /// An object with no more operations has all its events listed.
 const FEW: usize = 2_000;
@@ -17,85 +18,46 @@ const MARGIN: usize = 256;
 /// Where what may be drawn is in more places, all events are listed.
 const MOST_PLACES: usize = 32;
 
-/// Numbers from one up to another.
-#[derive(Clone, Copy)]
-struct Numbers {
-    from: u32,
-    to: u32,
-}
-
-impl Numbers {
-    fn has(&self, number: u32) -> bool {
-        self.from <= number && number < self.to
-    }
-}
-
 /// The numbers around this one that have, besides the margins, `before` events before it and `after`
 /// from it on, if there are so many.
-fn numbers_near(operations: &[Operation], number: u32, before: usize, after: usize) -> Numbers {
+fn numbers_near(operations: &[Operation], number: u32, before: usize, after: usize) -> Range<u32> {
     let place = operations.partition_point(|operation| operation.number() < number);
-    let first = place.saturating_sub(before.saturating_add(MARGIN));
-    let next = place.saturating_add(after).saturating_add(MARGIN);
-    Numbers {
-        from: match operations.get(first) {
-            Some(operation) if first > 0 => operation.number(),
-            _ => 0,
-        },
-        to: match operations.get(next) {
-            Some(operation) => operation.number(),
-            None => u32::MAX,
-        },
-    }
+    let first = place.saturating_sub(before + MARGIN);
+    let from = if first == 0 { 0 } else { operations[first].number() };
+    from..operations.get(place + after + MARGIN).map_or(u32::MAX, Operation::number)
 }
 
 /// The numbers near to the stretch, or to the beginning if there is neither a stretch nor a focus,
 /// and near to each event of the focus; in rising order of their beginnings.
-fn all_near(
-    operations: &[Operation],
-    focus: &[u32],
-    stretch: Stretch,
-) -> Vec<Numbers> {
+fn all_near(operations: &[Operation], focus: &[u32], stretch: Stretch) -> Vec<Range<u32>> {
     let mut near = Vec::new();
-    if stretch.from.is_some() || stretch.to.is_some() {
-        let from = stretch.from.unwrap_or(0);
-        near.push(numbers_near(operations, from, 0, MOST));
+    if stretch.is_given() {
+        near.push(numbers_near(operations, stretch.from.unwrap_or(0), 0, MOST));
     } else if focus.is_empty() {
         near.push(numbers_near(operations, 0, 0, FIRST));
     }
-    for number in focus {
-        let around = numbers_near(operations, *number, MOST_BEFORE, MOST_BEFORE);
-        near.push(around);
-    }
-    near.sort_unstable_by_key(|numbers| numbers.from);
+    let around = |number: &u32| numbers_near(operations, *number, MOST_BEFORE, MOST_BEFORE);
+    near.extend(focus.iter().map(around));
+    near.sort_unstable_by_key(|numbers| numbers.start);
     near
 }
 
 /// The same numbers, where those that overlap are joined.
-fn join(near: &[Numbers]) -> Vec<Numbers> {
-    let mut joined = Vec::new();
-    let mut last: Option<Numbers> = None;
+fn join(near: Vec<Range<u32>>) -> Vec<Range<u32>> {
+    let mut joined: Vec<Range<u32>> = Vec::new();
     for numbers in near {
-        last = match last {
-            Some(before) if numbers.from <= before.to => Some(Numbers {
-                from: before.from,
-                to: before.to.max(numbers.to),
-            }),
-            Some(before) => {
-                joined.push(before);
-                Some(*numbers)
-            }
-            None => Some(*numbers),
-        };
-    }
-    if let Some(last) = last {
-        joined.push(last);
+        match joined.last_mut() {
+            Some(last) if numbers.start <= last.end => last.end = last.end.max(numbers.end),
+            _ => joined.push(numbers),
+        }
     }
     joined
 }
 
-/// Where events are listed: near to these numbers, which are apart and in rising order.
+/// Where events are listed.
 pub struct Near {
-    numbers: Vec<Numbers>,
+    /// Numbers that are apart and in rising order.
+    numbers: Vec<Range<u32>>,
     /// Whether all events are listed.
     has_all: bool,
 }
@@ -105,67 +67,33 @@ pub struct Near {
 pub fn near_to(operations: &[Operation], focus: &[u32], stretch: Stretch) -> Near {
     let mut numbers = Vec::new();
     if operations.len() > FEW {
-        numbers = join(&all_near(operations, focus, stretch));
+        numbers = join(all_near(operations, focus, stretch));
     }
-    Near {
-        has_all: numbers.is_empty() || numbers.len() > MOST_PLACES,
-        numbers,
-    }
+    Near { has_all: numbers.is_empty() || numbers.len() > MOST_PLACES, numbers }
 }
 
 impl Near {
     fn has(&self, number: u32) -> bool {
-        for numbers in &self.numbers {
-            if numbers.has(number) {
-                return true;
-            }
-        }
-        false
+        self.numbers.iter().any(|numbers| numbers.contains(&number))
     }
 
     /// The hole that has the number: how many of the numbers are before it; none where it is near.
     fn hole_of(&self, number: u32) -> Option<usize> {
-        let mut before: usize = 0;
-        for numbers in &self.numbers {
-            if numbers.has(number) {
-                return None;
-            }
-            if numbers.to <= number {
-                before = before.saturating_add(1);
-            }
-        }
-        Some(before)
+        let before = self.numbers.iter().filter(|numbers| numbers.end <= number).count();
+        (!self.has(number)).then_some(before)
     }
 
     /// The events that are listed, in rising number; none is drawn.
-    pub fn moments(
-        &self,
-
-        operations: &[Operation],
-        nemeses: &[Nemesis],
-    ) -> Vec<Moment> {
+    pub fn moments(&self, operations: &[Operation], nemeses: &[Nemesis]) -> Vec<Moment> {
         if self.has_all {
             return moments_of(operations, nemeses);
         }
-        let mut moments = Vec::new();
-        let end = self.numbers.last().map_or(0, |numbers| numbers.to);
-        let begun = operations.partition_point(|operation| operation.number() < end);
-        for (place, operation) in operations.iter().take(begun).enumerate() {
-            if self.has(operation.number()) {
-                moments.push(Moment::new(operation.number(), Some(place), true));
-            }
-            match operation.ended {
-                Some(ended) if self.has(ended) => {
-                    moments.push(Moment::new(ended, Some(place), false));
-                }
-                _ => {}
-            }
-        }
-        for nemesis in nemeses {
-            if self.has(nemesis.number) {
-                moments.push(Moment::new(nemesis.number, None, false));
-            }
-        }
+        let end = self.numbers.last().map_or(0, |numbers| numbers.end);
+        let begun = operations.iter().enumerate().take_while(|(_, it)| it.number() < end);
+        let of_operations = begun.flat_map(|(place, operation)| moments_at(place, operation));
+        let of_nemeses = nemeses.iter().map(|nemesis| Moment::new(nemesis.number, None, false));
+        let all = of_operations.chain(of_nemeses);
+        let mut moments: Vec<Moment> = all.filter(|moment| self.has(moment.number)).collect();
         moments.sort_unstable_by_key(|moment| moment.number);
         moments
     }
@@ -174,7 +102,6 @@ impl Near {
     /// lane. Where each has one, the margins of what may be drawn show that there is a hole.
     pub fn add_holes(
         &self,
-
         operations: &[Operation],
         nemeses: &[Nemesis],
         without: &WithoutLane,
@@ -183,57 +110,17 @@ impl Near {
         if self.has_all || without.processes == 0 {
             return;
         }
-        let mut holes = Holes::new(self);
-        for (place, operation) in operations.iter().enumerate() {
-            if holes.left == 0 {
-                break;
-            }
-            if without.lanes.contains(&operation.process) {
-                holes.note(Moment::new(operation.number(), Some(place), true));
-                if let Some(ended) = operation.ended {
-                    holes.note(Moment::new(ended, Some(place), false));
-                }
+        let mut holes: Vec<Option<Moment>> = vec![None; self.numbers.len() + 1];
+        let with_lane = operations.iter().enumerate();
+        let with_lane = with_lane.filter(|(_, it)| without.lanes.contains(&it.process));
+        let of_operations = with_lane.flat_map(|(place, operation)| moments_at(place, operation));
+        let of_nemeses = nemeses.iter().map(|nemesis| Moment::new(nemesis.number, None, false));
+        for moment in of_operations.chain(of_nemeses) {
+            if let Some(hole) = self.hole_of(moment.number) {
+                holes[hole].get_or_insert(moment);
             }
         }
-        for nemesis in nemeses {
-            holes.note(Moment::new(nemesis.number, None, false));
-        }
-        moments.extend_from_slice(&holes.moments);
+        moments.extend(holes.into_iter().flatten());
         moments.sort_unstable_by_key(|moment| moment.number);
-    }
-}
-
-/// The holes between numbers near to which events are listed, and an event of each that has one.
-struct Holes<'a> {
-    near: &'a Near,
-    are_known: Vec<bool>,
-    /// How many have no event yet.
-    left: usize,
-    moments: Vec<Moment>,
-}
-
-impl Holes<'_> {
-    fn new<'a>(near: &'a Near) -> Holes<'a> {
-        let count = near.numbers.len().saturating_add(1);
-        Holes {
-            near,
-            are_known: vec![false; count],
-            left: count,
-            moments: Vec::new(),
-        }
-    }
-
-    /// Lists the event, if it is in a hole that has none yet.
-    fn note(&mut self, moment: Moment) {
-        let Some(hole) = self.near.hole_of(moment.number) else {
-            return;
-        };
-        if let Some(is_known) = self.are_known.get_mut(hole) {
-            if !*is_known {
-                *is_known = true;
-                self.left = self.left.saturating_sub(1);
-                self.moments.push(moment);
-            }
-        }
     }
 }

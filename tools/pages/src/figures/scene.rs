@@ -1,15 +1,15 @@
 //! What a figure is laid out from.
 
-use crate::figures::labels::{characters, fit, label};
-use crate::figures::moments::Moment;
-use finder::Nemesis;
-use crate::figures::numbers::{LABEL_LENGTH, label_room};
-use std::collections::{BTreeMap, BTreeSet};
-use std::fmt::Write;
+use super::labels::{characters, fit, label};
+use super::moments::Moment;
+use super::numbers::{LABEL_LENGTH, label_room};
 use crate::timeline::{Mark, Operation};
+use finder::Nemesis;
+use std::collections::{BTreeMap, BTreeSet};
 
 /// An entry that is drawn: its place in the order from 1, the greatest invocation among the entries
 /// up to it, and what the object contains after it, or before it where it is refused.
+#[derive(Clone)]
 pub struct Placed {
     pub rank: u32,
     pub operation: Operation,
@@ -21,7 +21,7 @@ pub struct Placed {
 /// The operations of an object, its events with those that are drawn, the points of an order, and
 /// what the sentence speaks of.
 #[derive(Clone, Copy)]
-pub struct Scene<'a, 'b> {
+pub struct Scene<'a> {
     pub operations: &'a [Operation],
     pub moments: &'a [Moment],
     /// The maps of nemeses, in rising number.
@@ -42,7 +42,7 @@ pub struct Scene<'a, 'b> {
     /// Those of the window whose processes have no lane, by their numbers.
     pub without_lane: &'a BTreeSet<u32>,
     /// The map that is faulty, after all that is drawn.
-    pub faulty: Option<FaultyMap<'b>>,
+    pub faulty: Option<FaultyMap<'a>>,
 }
 
 /// A map that makes a text no history: its number, the number of the fault after the letter H, its
@@ -55,40 +55,20 @@ pub struct FaultyMap<'a> {
     pub words: &'a str,
 }
 
-impl Scene<'_, '_> {
+impl Scene<'_> {
     pub fn operation(&self, moment: &Moment) -> Option<Operation> {
         moment.of(self.operations)
     }
 
     /// What the nemesis does at the event with this number.
     pub fn nemesis(&self, number: u32) -> Option<&Nemesis> {
-        let place = self
-            .nemeses
-            .partition_point(|nemesis| nemesis.number < number);
-        let nemesis = self.nemeses.get(place)?;
-        if nemesis.number == number {
-            Some(nemesis)
-        } else {
-            None
-        }
-    }
-
-    /// The number of the event at this place.
-    pub fn number_at(&self, place: usize) -> u32 {
-        match self.moments.get(place) {
-            Some(moment) => moment.number,
-            None => u32::MAX,
-        }
+        let place = self.nemeses.binary_search_by_key(&number, |nemesis| nemesis.number).ok()?;
+        Some(&self.nemeses[place])
     }
 
     /// Whether an arrow begins at the event with this number.
     pub fn has_arrow_from(&self, number: u32) -> bool {
-        for (earlier, _) in self.arrows {
-            if earlier.returned() == Some(number) {
-                return true;
-            }
-        }
-        false
+        self.arrows.iter().any(|(earlier, _)| earlier.returned() == Some(number))
     }
 
     /// The process of the faulty map.
@@ -98,10 +78,7 @@ impl Scene<'_, '_> {
 
     /// Whether the event is the faulty map.
     pub fn is_faulty(&self, moment: &Moment) -> bool {
-        match self.faulty {
-            Some(faulty) => faulty.number == moment.number,
-            None => false,
-        }
+        self.faulty.is_some_and(|faulty| faulty.number == moment.number)
     }
 
     /// Whether the faulty map is of the operation's process.
@@ -115,32 +92,22 @@ impl Scene<'_, '_> {
 
     /// What the operation is to the sentence.
     pub fn mark(&self, operation: &Operation) -> Mark {
-        match self.focus.get(&operation.number()) {
-            Some(mark) => *mark,
-            None if self.dims => Mark::Dim,
-            None => Mark::Plain,
+        let other = if self.dims { Mark::Dim } else { Mark::Plain };
+        self.focus.get(&operation.number()).copied().unwrap_or(other)
+    }
+
+    /// The label of an operation, no longer than the longest. Where operations of several objects
+    /// are drawn, it ends with the object.
+    pub fn label(&self, operation: &Operation) -> String {
+        let mut text = label(operation);
+        if self.names_objects {
+            text += &format!(" @{}", operation.object);
         }
+        fit(&text, LABEL_LENGTH)
     }
-}
 
-/// The label of an operation, no longer than the longest, and the room that it needs. Where
-/// operations of several objects are drawn, the label ends with the object.
-pub fn label_of(scene: &Scene<'_, '_>, operation: &Operation) -> (String, u32) {
-    let mut text = label(operation);
-    if scene.names_objects {
-        let object = operation.object;
-        let _ = write!(text, " @{object}");
+    /// The room that the label needs.
+    pub fn label_room(&self, operation: &Operation) -> u32 {
+        label_room(characters(&self.label(operation)))
     }
-    let text = fit(&text, LABEL_LENGTH);
-    let room = label_room(characters(&text));
-    (text, room)
-}
-
-/// The numbers of operations in a set.
-pub fn numbers_of(focus: &BTreeMap<u32, Mark>) -> BTreeSet<u32> {
-    let mut numbers = BTreeSet::new();
-    for number in focus.keys() {
-        numbers.insert(*number);
-    }
-    numbers
 }

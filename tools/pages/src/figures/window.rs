@@ -1,9 +1,9 @@
 //! The window: which events of an object are drawn.
 
-use crate::figures::moments::{Moment, count_drawn, draw_some};
-use crate::figures::numbers::{FIRST, LANES, MOST};
-use std::collections::{BTreeMap, BTreeSet};
+use super::moments::{Moment, count_drawn, draw_some};
+use super::numbers::{FIRST, LANES, MOST};
 use crate::timeline::Operation;
+use std::collections::{BTreeMap, BTreeSet};
 
 /// The events of a window, by the numbers of their maps: from one on, and below one. Without both
 /// the window is chosen.
@@ -13,12 +13,18 @@ pub struct Stretch {
     pub to: Option<u32>,
 }
 
+impl Stretch {
+    pub fn is_given(&self) -> bool {
+        self.from.is_some() || self.to.is_some()
+    }
+}
+
 /// How many events before and after each focus event are drawn, where the pairs before are too
 /// many.
 const AROUND: [(usize, usize); 6] = [(MOST_BEFORE, 10), (10, 5), (5, 2), (2, 1), (1, 0), (0, 0)];
 
 /// The most events before or after a focus event that are drawn for it.
-pub(super) const MOST_BEFORE: usize = 20;
+pub const MOST_BEFORE: usize = 20;
 
 /// The longest hole that is filled.
 const HOLE: usize = 7;
@@ -37,60 +43,43 @@ fn draw_around(moments: &mut [Moment], focus: &[u32], before: usize, after: usiz
     for number in focus {
         let place = place_of(moments, *number).min(last);
         let from = place.saturating_sub(before);
-        let count = place.saturating_sub(from).saturating_add(after);
-        draw_some(moments, from, count.saturating_add(1));
+        draw_some(moments, from, place - from + after + 1);
     }
+}
+
+/// The places of the drawn events.
+pub fn drawn_places(moments: &[Moment]) -> impl Iterator<Item = usize> + '_ {
+    (0..moments.len()).filter(|place| moments[*place].is_drawn)
 }
 
 /// Draws the events of short holes between drawn ones.
 fn fill_holes(moments: &mut [Moment]) {
-    let mut holes: Vec<(usize, usize)> = Vec::new();
-    let mut last: Option<usize> = None;
-    for (place, moment) in moments.iter().enumerate() {
-        if !moment.is_drawn {
-            continue;
+    let places: Vec<usize> = drawn_places(moments).collect();
+    for pair in places.windows(2) {
+        let between = pair[1] - pair[0] - 1;
+        if between <= HOLE {
+            draw_some(moments, pair[0] + 1, between);
         }
-        if let Some(last) = last {
-            let from = last.saturating_add(1);
-            let count = place.saturating_sub(from);
-            if count > 0 && count <= HOLE {
-                holes.push((from, count));
-            }
-        }
-        last = Some(place);
-    }
-    for (from, count) in &holes {
-        draw_some(moments, *from, *count);
     }
 }
 
 /// Draws no more than the first of the drawn events.
 fn draw_no_more(moments: &mut [Moment]) {
-    let mut drawn: usize = 0;
-    for moment in moments.iter_mut() {
-        if moment.is_drawn {
-            moment.is_drawn = drawn < MOST;
-            drawn = drawn.saturating_add(1);
-        }
+    for moment in moments.iter_mut().filter(|moment| moment.is_drawn).skip(MOST) {
+        moment.is_drawn = false;
     }
 }
 
 /// Draws the events of the window: those of the stretch, if one is given; all, where there are no
 /// more than `whole`; without a focus the first ones; and else what is around the focus, the less of
 /// it the more the focus is.
-pub fn choose(
-    moments: &mut [Moment],
-    focus: &[u32],
-    stretch: Stretch,
-    whole: usize,
-) {
-    let count = moments.len();
-    if stretch.from.is_some() || stretch.to.is_some() {
-        let (from, to) = (stretch.from.unwrap_or(0), stretch.to.unwrap_or(u32::MAX));
-        let (first, next) = (place_of(moments, from), place_of(moments, to));
+pub fn choose(moments: &mut [Moment], focus: &[u32], stretch: Stretch, whole: usize) {
+    if stretch.is_given() {
+        let first = place_of(moments, stretch.from.unwrap_or(0));
+        let next = place_of(moments, stretch.to.unwrap_or(u32::MAX));
         draw_some(moments, first, next.saturating_sub(first).min(MOST));
-    } else if count <= whole {
-        draw_some(moments, 0, count);
+    } else if moments.len() <= whole {
+        draw_some(moments, 0, whole);
     } else if focus.is_empty() {
         draw_some(moments, 0, FIRST);
     } else {
@@ -110,38 +99,20 @@ pub fn choose(
 type Nearness = (bool, usize, usize);
 
 /// The places of the drawn events of the focus; without any that of the first drawn event.
-fn focus_places(
-    operations: &[Operation],
-    moments: &[Moment],
-    focus: &BTreeSet<u32>,
-) -> Vec<usize> {
-    let mut places = Vec::new();
-    let mut first = None;
-    for (place, moment) in moments.iter().enumerate() {
-        if !moment.is_drawn {
-            continue;
-        }
-        first = first.or(Some(place));
-        if let Some(operation) = moment.of(operations) {
-            if focus.contains(&operation.number()) {
-                places.push(place);
-            }
-        }
-    }
+fn focus_places(operations: &[Operation], moments: &[Moment], focus: &BTreeSet<u32>) -> Vec<usize> {
+    let is_focus = |place: &usize| {
+        moments[*place].of(operations).is_some_and(|it| focus.contains(&it.number()))
+    };
+    let places: Vec<usize> = drawn_places(moments).filter(is_focus).collect();
     if places.is_empty() {
-        places.push(first.unwrap_or(0));
+        return vec![drawn_places(moments).next().unwrap_or(0)];
     }
     places
 }
 
 /// How far the place is from the nearest of these.
 fn distance(places: &[usize], place: usize) -> usize {
-    let mut nearest = usize::MAX;
-    for other in places {
-        let after = other.saturating_sub(place);
-        nearest = nearest.min(after.max(place.saturating_sub(*other)));
-    }
-    nearest
+    places.iter().map(|other| other.abs_diff(place)).min().unwrap_or(usize::MAX)
 }
 
 /// The processes of drawn events, each with how near it is.
@@ -152,42 +123,28 @@ fn processes(
 ) -> BTreeMap<u64, Nearness> {
     let places = focus_places(operations, moments, focus);
     let mut nearest: BTreeMap<u64, Nearness> = BTreeMap::new();
-    for (place, moment) in moments.iter().enumerate() {
-        if !moment.is_drawn {
-            continue;
-        }
-        let Some(operation) = moment.of(operations) else {
+    for place in drawn_places(moments) {
+        let Some(operation) = moments[place].of(operations) else {
             continue;
         };
         let is_other = !focus.contains(&operation.number());
         let own = (is_other, distance(&places, place), place);
-        let is_nearer = match nearest.get(&operation.process) {
-            Some(known) => own < *known,
-            None => true,
-        };
-        if is_nearer {
-            nearest.insert(operation.process, own);
-        }
+        let known = nearest.entry(operation.process).or_insert(own);
+        *known = own.min(*known);
     }
     nearest
 }
 
 /// The processes that have a lane: those nearest to the focus.
 fn lanes_of(nearest: &BTreeMap<u64, Nearness>) -> BTreeSet<u64> {
-    let mut sorted: Vec<(Nearness, u64)> = Vec::new();
-    for (process, nearness) in nearest.iter() {
-        sorted.push((*nearness, *process));
-    }
-    sorted.sort_unstable();
-    let mut lanes = BTreeSet::new();
-    for (_, process) in sorted.iter().take(LANES) {
-        lanes.insert(*process);
-    }
-    lanes
+    let by_nearness = nearest.iter().map(|(process, nearness)| (*nearness, *process));
+    let sorted: BTreeSet<(Nearness, u64)> = by_nearness.collect();
+    sorted.into_iter().take(LANES).map(|(_, process)| process).collect()
 }
 
 /// What a window leaves out for lack of lanes: operations with an event in it, by their numbers, and
 /// how many processes these are of.
+#[derive(Default)]
 pub struct WithoutLane {
     pub operations: BTreeSet<u32>,
     pub processes: usize,
@@ -203,26 +160,15 @@ pub fn narrow(
     focus: &BTreeSet<u32>,
 ) -> WithoutLane {
     let nearest = processes(operations, moments, focus);
-    let mut without = WithoutLane {
-        operations: BTreeSet::new(),
-        processes: nearest.len().saturating_sub(LANES),
-        lanes: BTreeSet::new(),
+    let Some(processes) = nearest.len().checked_sub(LANES).filter(|more| *more > 0) else {
+        return WithoutLane::default();
     };
-    if without.processes == 0 {
-        return without;
-    }
-    without.lanes = lanes_of(&nearest);
-    let mut kept = Vec::new();
-    for moment in moments.iter() {
-        match moment.of(operations) {
-            Some(operation) if !without.lanes.contains(&operation.process) => {
-                if moment.is_drawn {
-                    without.operations.insert(operation.number());
-                }
-            }
-            _ => kept.push(*moment),
-        }
-    }
-    *moments = kept;
-    without
+    let lanes = lanes_of(&nearest);
+    let left_out = |moment: &Moment| {
+        moment.of(operations).filter(|operation| !lanes.contains(&operation.process))
+    };
+    let drawn = moments.iter().filter(|moment| moment.is_drawn);
+    let left_out_numbers = drawn.filter_map(left_out).map(|operation| operation.number()).collect();
+    moments.retain(|moment| left_out(moment).is_none());
+    WithoutLane { operations: left_out_numbers, processes, lanes }
 }

@@ -71,12 +71,17 @@ impl Bar {
     /// Its edge, which has no line where it is open.
     fn edge(&self) -> Html {
         let (left, right, top, low) = (self.from, self.to, self.top, self.low());
-        path("edge", match (self.open_left, self.open_right) {
-            (true, true) => html!["M", left, " ", top, "H", right, "M", left, " ", low, "H", right],
-            (true, false) => html!["M", left, " ", top, "H", right, "V", low, "H", left],
-            (false, true) => html!["M", right, " ", top, "H", left, "V", low, "H", right],
-            (false, false) => html!["M", left, " ", top, "H", right, "V", low, "H", left, "Z"],
-        })
+        path(
+            "edge",
+            match (self.open_left, self.open_right) {
+                (true, true) => {
+                    html!["M", left, " ", top, "H", right, "M", left, " ", low, "H", right]
+                }
+                (true, false) => html!["M", left, " ", top, "H", right, "V", low, "H", left],
+                (false, true) => html!["M", right, " ", top, "H", left, "V", low, "H", right],
+                (false, false) => html!["M", left, " ", top, "H", right, "V", low, "H", left, "Z"],
+            },
+        )
     }
 
     /// What shows that it is pending: that it goes on, and its `:info`.

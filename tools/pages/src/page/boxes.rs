@@ -31,7 +31,10 @@ impl ContentBox {
     fn words_under(&self, middle: u32) -> Html {
         let words = self.under.iter().filter(|words| !words.is_empty()).map(|words| html![*words]);
         let words = words.chain(self.by.map(|by| html!["by ", by]));
-        words.zip(0..).map(|(words, line)| text_at("under", middle, line * 12 + 44, words)).collect()
+        words
+            .zip(0..)
+            .map(|(words, line)| text_at("under", middle, line * 12 + 44, words))
+            .collect()
     }
 
     fn html(&self) -> Html {

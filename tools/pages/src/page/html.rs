@@ -37,10 +37,6 @@ impl Html {
         self.0.push_str(markup);
     }
 
-    pub fn is_empty(&self) -> bool {
-        self.0.is_empty()
-    }
-
     pub fn into_text(self) -> String {
         self.0
     }

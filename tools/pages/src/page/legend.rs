@@ -30,7 +30,17 @@ enum Sign {
 fn rectangle(class: &'static str, x: u32, y: u32, width: u32, height: u32) -> Html {
     let class = (!class.is_empty()).then(|| html![" class=\"", class, "\""]);
     html![
-        "<rect", class, " x=\"", x, "\" y=\"", y, "\" width=\"", width, "\" height=\"", height, "\""
+        "<rect",
+        class,
+        " x=\"",
+        x,
+        "\" y=\"",
+        y,
+        "\" width=\"",
+        width,
+        "\" height=\"",
+        height,
+        "\""
     ]
 }
 
@@ -106,10 +116,9 @@ impl Sign {
             Sign::Refused => {
                 html![point(5, 3, 13, 13, 4), path("x", html!["M21 0l7 7m0 -7l-7 7"])]
             }
-            Sign::Arrow => html![
-                path("line", html!["M2 9H26"]),
-                path("head", html!["M33 9l-8 -4v8Z"])
-            ],
+            Sign::Arrow => {
+                html![path("line", html!["M2 9H26"]), path("head", html!["M33 9l-8 -4v8Z"])]
+            }
             Sign::Nemesis => path("dia", html!["M17 4l5 5l-5 5l-5 -5Z"]),
             Sign::Gap => html![rectangle("fill", 2, 0, 30, 18), "/>"],
         }

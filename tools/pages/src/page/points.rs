@@ -34,9 +34,9 @@ impl Point {
     fn html(&self, object: u32, because: &Html) -> Html {
         let (width, x, y) = (point_room(self.rank), self.x, self.y);
         let half = width / 2;
-        let cross = self.is_refused.then(|| {
-            path("x", html!["M", x + half - 1, " ", y - 10, "l7 7m0 -7l-7 7"])
-        });
+        let cross = self
+            .is_refused
+            .then(|| path("x", html!["M", x + half - 1, " ", y - 10, "l7 7m0 -7l-7 7"]));
         html![
             "<a class=\"pt",
             self.is_refused.then_some(" bad"),

@@ -105,8 +105,7 @@ pub fn note(extent: &Extent, figure: &Figure, shown: &Shown) -> Option<Html> {
 fn reason_caption(drawing: &ObjectDrawing, figure: &Figure) -> Spans {
     let (all, shown) = (drawing.reason, Shown::in_figure(figure).count());
     let operations = plural(all, " operation of ", " operations of ");
-    let these =
-        plural(all, ": it has no place in any order", ": these alone have no valid order");
+    let these = plural(all, ": it has no place in any order", ": these alone have no valid order");
     let mut said = spans![all, operations, drawing.extent.live, these];
     if let Some(from) = drawing.from {
         said.extend(spans![", whatever the ", drawing.kind, " contained before map ", from]);
@@ -208,8 +207,7 @@ impl ObjectSection<'_> {
             return figure;
         }
         let class = if is_narrow(self.drawing) { "beside" } else { "under" };
-        let order =
-            (!self.drawing.rows.is_empty()).then(|| order_table(self.drawing, self.shown));
+        let order = (!self.drawing.rows.is_empty()).then(|| order_table(self.drawing, self.shown));
         html!["<div class=\"", class, "\">", figure, order, "</div>"]
     }
 

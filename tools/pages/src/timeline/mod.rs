@@ -12,10 +12,8 @@ mod tables;
 pub use boxes::{BoxKind, ContentBox};
 pub use figure::{Arrow, Bar, Cross, Figure, Gap, Lane, Line, Mark, NemesisMark, Tick};
 pub use objects::{Extent, ObjectDrawing};
-pub use operations::{
-    Operation, Role, State, operation_at, operations_of,
-};
+pub use operations::{Operation, Role, State, operation_at, operations_of};
 pub use points::{Point, sound_points};
-pub use spans::{Span, Spans};
 pub(crate) use spans::spans;
+pub use spans::{Span, Spans};
 pub use tables::{Attempt, Entry, Failure, Row, Tried};

@@ -3,9 +3,8 @@
 use crate::timeline::boxes::ContentBox;
 use crate::timeline::figure::Figure;
 use crate::timeline::operations::Operation;
-use crate::timeline::spans::Span;
+use crate::timeline::spans::Spans;
 use crate::timeline::tables::{Row, Tried};
-use finder::ObjectHistory;
 use finder::Kind;
 
 /// What a figure leaves out: operations of processes that have no lane, and those processes; and of
@@ -24,9 +23,9 @@ pub struct Extent {
 pub struct ObjectDrawing {
     pub object: u32,
     pub kind: Kind,
-    pub sentences: Vec<Vec<Span>>,
+    pub sentences: Vec<Spans>,
     /// Why an entry is refused, in a few words.
-    pub because: Vec<Span>,
+    pub because: Spans,
     /// What the object contains before the entry that is refused.
     pub content: Option<String>,
     /// The same as boxes.
@@ -49,31 +48,6 @@ pub struct ObjectDrawing {
 }
 
 impl ObjectDrawing {
-    /// A drawing of the object that has this figure, and nothing else.
-    pub fn new(
-        object: &ObjectHistory,
-        figure: Figure,
-        extent: Extent,
-    ) -> ObjectDrawing
-    {
-        ObjectDrawing {
-            object: object.object,
-            kind: object.kind,
-            sentences: Vec::new(),
-            because: Vec::new(),
-            content: None,
-            boxes: Vec::new(),
-            zoom: None,
-            figure,
-            extent,
-            rows: Vec::new(),
-            tried: None,
-            reason: 0,
-            from: None,
-            outside: Vec::new(),
-        }
-    }
-
     /// Its figures.
     pub fn figures(&self) -> impl Iterator<Item = &Figure> {
         self.zoom.iter().chain([&self.figure])

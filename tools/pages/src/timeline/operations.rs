@@ -56,18 +56,12 @@ impl Operation {
 
     /// The number of its return; none where it did not return.
     pub fn returned(&self) -> Option<u32> {
-        match self.invocation.end {
-            End::Returned { at, .. } => Some(at),
-            End::Failed | End::Pending => None,
-        }
+        self.invocation.returned()
     }
 
     /// Its reply; none where it did not return.
     pub fn reply(&self) -> Option<Reply> {
-        match self.invocation.end {
-            End::Returned { reply, .. } => Some(reply),
-            End::Failed | End::Pending => None,
-        }
+        self.invocation.reply()
     }
 
     /// The number at which its bar ends; none where the bar stays open.
@@ -81,10 +75,13 @@ impl Operation {
 
     pub fn role(&self) -> Role {
         match self.invocation.op {
-            Op::Enqueue(_) | Op::Push(_) | Op::Insert(_) | Op::Write(_) => Role::Put,
-            Op::Put(..) | Op::Acquire => Role::Put,
-            Op::Dequeue | Op::Pop | Op::ExtractMin => Role::Take,
-            Op::Del(_) | Op::Release => Role::Take,
+            Op::Enqueue(_)
+            | Op::Push(_)
+            | Op::Insert(_)
+            | Op::Write(_)
+            | Op::Put(..)
+            | Op::Acquire => Role::Put,
+            Op::Dequeue | Op::Pop | Op::ExtractMin | Op::Del(_) | Op::Release => Role::Take,
             Op::Read | Op::Get(_) => Role::Read,
             Op::Cas(..) => Role::Swap,
         }
@@ -94,29 +91,21 @@ impl Operation {
 /// The operations of an object of the history, failed ones too, in rising number.
 pub fn operations_of(history: &History, object: &ObjectHistory) -> Vec<Operation> {
     let mut runs = history.runs.iter();
-    let mut operations = Vec::with_capacity(object.ops.len());
-    for invocation in &object.ops {
-        if let Some(run) = runs.find(|run| run.number == invocation.number) {
-            operations.push(Operation {
-                invocation: *invocation,
-                object: object.object,
-                process: run.process,
-                ended: run.completed,
-            });
-        }
-    }
-    operations
+    let operation = |invocation: &Invocation| {
+        let run = runs.find(|run| run.number == invocation.number)?;
+        Some(Operation {
+            invocation: *invocation,
+            object: object.object,
+            process: run.process,
+            ended: run.completed,
+        })
+    };
+    object.ops.iter().filter_map(operation).collect()
 }
 
 /// The operation with this number.
 pub fn operation_at(operations: &[Operation], number: i64) -> Option<Operation> {
     let number = u32::try_from(number).ok()?;
-    let place = operations.partition_point(|operation| operation.invocation.number < number);
-    let operation = operations.get(place)?;
-    if operation.invocation.number == number {
-        Some(*operation)
-    } else {
-        None
-    }
+    let place = operations.binary_search_by_key(&number, Operation::number).ok()?;
+    Some(operations[place])
 }
-

@@ -16,77 +16,17 @@ pub struct Point {
     pub content: String,
 }
 
-fn is_left_of(point: &Point, other: &Point) -> bool
-{
-    point.rank < other.rank && point.x < other.x
+/// Whether the point is within the bar of its operation.
+fn is_on_bar(point: &Point, bars: &[Bar]) -> bool {
+    let number = point.operation.number();
+    bars.iter()
+        .any(|bar| bar.operation.number() == number && bar.from <= point.x && point.x <= bar.to)
 }
 
-fn is_left_of_first(point: &Point, later: &[Point]) -> bool
-{
-    match later {
-        [next, ..] => is_left_of(point, next),
-        [] => true,
-    }
-}
-
-/// Whether the ranks rise from left to right.
-fn are_rising(points: &[Point]) -> bool
-{
-    let mut rest = points;
-    'points: while let [point, later @ ..] = rest {
-        if !is_left_of_first(point, later) {
-            return false;
-        }
-        rest = later;
-    }
-    true
-}
-
-fn is_on(point: &Point, bar: &Bar) -> bool
-{
-    bar.operation.invocation.number == point.operation.invocation.number
-        && (bar.from <= point.x && point.x <= bar.to)
-}
-
-fn is_on_some(point: &Point, bars: &[Bar]) -> bool
-{
-    let mut rest = bars;
-    'bars: while let [bar, later @ ..] = rest {
-        if is_on(point, bar) {
-            return true;
-        }
-        rest = later;
-    }
-    false
-}
-
-fn is_placed(bars: &[Bar], point: &Point) -> bool
-{
-    point.is_refused || is_on_some(point, bars)
-}
-
-fn are_on_bars(bars: &[Bar], points: &[Point]) -> bool
-{
-    let mut rest = points;
-    'points: while let [point, later @ ..] = rest {
-        if !is_placed(bars, point) {
-            return false;
-        }
-        rest = later;
-    }
-    true
-}
-
-fn are_sound(bars: &[Bar], points: &[Point]) -> bool
-{
-    are_rising(points) && are_on_bars(bars, points)
-}
-
-/// The points, where they are sound over these bars; else none.
-pub fn sound_points(bars: &[Bar], points: Vec<Point>) -> Vec<Point>
-{
-    if are_sound(bars, &points) {
-        return points;
-    }
-    Vec::new()
+/// The points, if their ranks rise from left to right, and each that is not refused is within its
+/// bar; else none, so that no figure shows an order that it is not.
+pub fn sound_points(bars: &[Bar], points: Vec<Point>) -> Vec<Point> {
+    let are_rising = points.is_sorted_by(|one, next| one.rank < next.rank && one.x < next.x);
+    let are_on_bars = points.iter().all(|point| point.is_refused || is_on_bar(point, bars));
+    if are_rising && are_on_bars { points } else { Vec::new() }
 }
