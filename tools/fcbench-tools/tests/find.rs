@@ -26,9 +26,9 @@ fn each_object_with_an_order_is_status_0() {
 fn an_object_without_an_order_is_status_3() {
     let output = run(&["find", &example("larger_first")]);
     assert_eq!(output.status.code(), Some(3));
-    let lines = "; value 5 was extracted while the smaller value 3 was surely in the heap\n\
-                 {:object 0, :cuts [{:keep [3 5], :numbers [0 1 4 8]} {:until 7}], \
-                 :search {:first :return, :steps 10000}}\n";
+    let lines = "{:object 0, :cuts [{:keep [3 5], :numbers [0 1 4 8]} {:until 7}], \
+                 :search {:first :return, :steps 10000}, \
+                 :note \"value 5 was extracted while the smaller value 3 was surely in the heap\"}\n";
     assert_eq!(String::from_utf8_lossy(&output.stdout), lines);
 }
 
@@ -48,7 +48,7 @@ fn a_file_that_is_not_there_is_status_4() {
 
 #[test]
 fn a_wrong_command_line_is_status_64() {
-    for words in [&[][..], &["find"], &["judge", "h.edn"], &["find", "h.edn", "--steps"]] {
+    for words in [&[][..], &["find"], &["other", "h.edn"], &["find", "h.edn", "--steps"]] {
         let output = run(words);
         assert_eq!(output.status.code(), Some(64), "{words:?}");
         assert!(output.stderr.starts_with(b"usage: "), "{words:?}");

@@ -20,12 +20,20 @@ pub enum Evidence {
 }
 
 /// An object, and what is found of it. Its text is the line of evidence that the proved program
-/// reads, after a comment with a sentence where it is a reason; that of an open object is a
-/// comment.
+/// reads; that of an open object is a comment.
 #[derive(Clone, Debug)]
 pub struct Decision {
     pub object: u32,
     pub evidence: Evidence,
+}
+
+/// A text as a string of EDN.
+struct Quoted<'a>(&'a str);
+
+impl Display for Quoted<'_> {
+    fn fmt(&self, f: &mut Formatter<'_>) -> fmt::Result {
+        write!(f, "\"{}\"", self.0.replace('\\', "\\\\").replace('"', "\\\""))
+    }
 }
 
 /// The elements with a space between them.
@@ -105,9 +113,10 @@ impl Display for FoundReason {
     fn fmt(&self, f: &mut Formatter<'_>) -> fmt::Result {
         write!(f, ":cuts [{}]", Spaced(&self.cuts))?;
         match self.shown {
-            Shown::ByCount(count) => write!(f, ", :count {count}"),
-            Shown::BySearch(search) => write!(f, ", :search {search}"),
+            Shown::ByCount(count) => write!(f, ", :count {count}")?,
+            Shown::BySearch(search) => write!(f, ", :search {search}")?,
         }
+        write!(f, ", :note {}", Quoted(&self.sentence.to_string()))
     }
 }
 
@@ -119,10 +128,20 @@ impl Display for Decision {
                 write!(f, "{{:object {object}, :order [{}]}}", Spaced(order))
             }
             Evidence::Reason(reason) => {
-                write!(f, "; {}\n{{:object {object}, {reason}}}", reason.sentence)
+                write!(f, "{{:object {object}, {reason}}}")
             }
             Evidence::Search(search) => write!(f, "{{:object {object}, :search {search}}}"),
             Evidence::Open => write!(f, "; object {object}: open"),
         }
+    }
+}
+
+#[cfg(test)]
+mod tests {
+    use super::*;
+
+    #[test]
+    fn quotes_what_a_string_needs() {
+        assert_eq!(Quoted(r#"a "b" \ c"#).to_string(), r#""a \"b\" \\ c""#);
     }
 }

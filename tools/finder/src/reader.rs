@@ -2,7 +2,8 @@
 //! it looks at no character past ASCII, and not for repeated keys. Which fault a text has is for
 //! the proved program to say.
 
-use crate::history::{End, History, Invocation, ObjectHistory};
+use crate::history::{End, History, Invocation, Nemesis, ObjectHistory, Run};
+use crate::lexer::{Lexer, Token, TokenKind};
 use crate::model::{Kind, Op, Value};
 use std::collections::HashMap;
 
@@ -23,102 +24,68 @@ enum Element<'a> {
     Other,
 }
 
-fn is_separator(byte: u8) -> bool {
-    matches!(byte, b' ' | b',' | b'\n' | b'\t' | b'\r')
-}
-
-fn ends_token(byte: u8) -> bool {
-    is_separator(byte) || matches!(byte, b'[' | b']' | b'{' | b'}' | b'(' | b')' | b'"' | b';')
-}
-
 /// What is left of the text.
 struct Reader<'a> {
-    rest: &'a [u8],
+    text: &'a [u8],
+    tokens: Lexer<'a>,
 }
 
 impl<'a> Reader<'a> {
-    /// The next byte after separators and comments, which stays.
-    fn peek(&mut self) -> Option<u8> {
-        while let Some(&byte) = self.rest.first() {
-            if byte == b';' {
-                let end = self.rest.iter().position(|b| *b == b'\n');
-                self.rest = &self.rest[end.unwrap_or(self.rest.len())..];
-            } else if is_separator(byte) {
-                self.rest = &self.rest[1..];
-            } else {
-                return Some(byte);
-            }
-        }
-        None
-    }
-
-    fn token(&mut self) -> &'a [u8] {
-        let end = self.rest.iter().position(|b| ends_token(*b));
-        let (token, rest) = self.rest.split_at(end.unwrap_or(self.rest.len()));
-        self.rest = rest;
-        token
-    }
-
-    /// The next element, where this many more brackets may be open. `None`: there is none.
-    fn element(&mut self, depth: usize) -> Option<Element<'a>> {
-        match self.peek()? {
-            b'"' => self.string(),
-            b'[' => self.vector(depth.checked_sub(1)?),
-            b'{' => {
+    /// The element that begins with this token, where this many more brackets may be open. `None`:
+    /// there is none.
+    fn element(&mut self, token: Token, depth: usize) -> Option<Element<'a>> {
+        match token.kind {
+            TokenKind::Text => Some(Element::Other),
+            TokenKind::OpenVector => self.vector(depth.checked_sub(1)?),
+            TokenKind::OpenMap => {
                 self.map(depth.checked_sub(1)?, |_, _| ())?;
                 Some(Element::Other)
             }
-            _ => match self.token() {
+            TokenKind::Word => match token.of(self.text) {
                 [b':', name @ ..] => Some(Element::Keyword(name)),
                 b"nil" => Some(Element::Plain(Value::Nil)),
                 b"false" => Some(Element::Plain(Value::False)),
                 b"true" => Some(Element::Other),
-                token => Some(Element::Plain(Value::Int(integer(token)?))),
+                word => Some(Element::Plain(Value::Int(integer(word)?))),
             },
+            TokenKind::OpenText | TokenKind::CloseVector | TokenKind::CloseMap => None,
         }
     }
 
-    fn string(&mut self) -> Option<Element<'a>> {
-        self.rest = &self.rest[1..];
-        loop {
-            let end = self.rest.iter().position(|b| matches!(b, b'"' | b'\\'))?;
-            let length = if self.rest[end] == b'"' { 1 } else { 2 };
-            self.rest = self.rest.get(end + length..)?;
-            if length == 1 {
-                return Some(Element::Other);
-            }
-        }
-    }
-
+    /// The rest of a vector.
     fn vector(&mut self, depth: usize) -> Option<Element<'a>> {
-        self.rest = &self.rest[1..];
         let mut first = [None; 2];
         let mut count = 0;
-        while self.peek()? != b']' {
-            let element = self.element(depth)?;
+        loop {
+            let token = self.tokens.next()?;
+            if token.kind == TokenKind::CloseVector {
+                break;
+            }
+            let element = self.element(token, depth)?;
             if let (Some(slot), Element::Plain(Value::Int(v))) = (first.get_mut(count), element) {
                 *slot = Some(v);
             }
             count += 1;
         }
-        self.rest = &self.rest[1..];
         Some(match first {
             [Some(a), Some(b)] if count == 2 => Element::Plain(Value::Pair(a, b)),
             _ => Element::Other,
         })
     }
 
-    /// Reads a map, and hands over its keys and values.
+    /// Reads the rest of a map, and hands over its keys and values.
     fn map(&mut self, depth: usize, mut on: impl FnMut(&'a [u8], Element<'a>)) -> Option<()> {
-        self.rest = &self.rest[1..];
-        while self.peek()? != b'}' {
-            let Element::Keyword(key) = self.element(0)? else {
+        loop {
+            let token = self.tokens.next()?;
+            if token.kind == TokenKind::CloseMap {
+                return Some(());
+            }
+            let Element::Keyword(key) = self.element(token, 0)? else {
                 return None;
             };
-            on(key, self.element(depth)?);
+            let value = self.tokens.next()?;
+            on(key, self.element(value, depth)?);
         }
-        self.rest = &self.rest[1..];
-        Some(())
     }
 }
 
@@ -148,8 +115,9 @@ struct Event<'a> {
 }
 
 impl<'a> Fields<'a> {
-    fn read(reader: &mut Reader<'a>) -> Option<Fields<'a>> {
-        if reader.peek()? != b'{' {
+    /// Those of the map that begins with this token.
+    fn read(reader: &mut Reader<'a>, first: Token) -> Option<Fields<'a>> {
+        if first.kind != TokenKind::OpenMap {
             return None;
         }
         let mut fields = Fields::default();
@@ -165,6 +133,15 @@ impl<'a> Fields<'a> {
             *field = Some(value);
         })?;
         Some(fields)
+    }
+
+    fn nemesis(&self, number: u32, process: &[u8]) -> Nemesis {
+        let function = match self.function {
+            Some(Element::Keyword(name)) => name,
+            _ => b"",
+        };
+        let text = |name| String::from_utf8_lossy(name).into_owned();
+        Nemesis { number, process: text(process), function: text(function) }
     }
 
     fn event(&self, process: i64) -> Option<Event<'a>> {
@@ -190,10 +167,11 @@ impl<'a> Fields<'a> {
 /// What a process does.
 enum Process<'a> {
     /// Its operation is outstanding: the object's place, and the operation's among those of the
-    /// object.
+    /// object and among all.
     Calls {
         object: usize,
         place: usize,
+        run: usize,
         function: &'a [u8],
     },
     Idle,
@@ -206,6 +184,8 @@ enum Process<'a> {
 struct Builder<'a> {
     objects: Vec<ObjectHistory>,
     places: HashMap<u32, usize>,
+    runs: Vec<Run>,
+    nemeses: Vec<Nemesis>,
     processes: HashMap<i64, Process<'a>>,
 }
 
@@ -220,7 +200,9 @@ impl<'a> Builder<'a> {
         }
         let place = history.ops.len();
         history.ops.push(Invocation { number, op, end: End::Pending });
-        *process = Process::Calls { object, place, function: event.function };
+        let run = self.runs.len();
+        self.runs.push(Run { number, process: event.process as u64, completed: None });
+        *process = Process::Calls { object, place, run, function: event.function };
         Some(())
     }
 
@@ -233,7 +215,7 @@ impl<'a> Builder<'a> {
 
     fn complete(&mut self, at: u32, event: &Event<'a>) -> Option<()> {
         let process = self.processes.get_mut(&event.process)?;
-        let Process::Calls { object, place, function } = *process else {
+        let Process::Calls { object, place, run, function } = *process else {
             return None;
         };
         let history = &mut self.objects[object];
@@ -250,6 +232,7 @@ impl<'a> Builder<'a> {
             b"info" => (Process::Closed, End::Pending),
             _ => return None,
         };
+        self.runs[run].completed = Some(at);
         Some(())
     }
 }
@@ -257,29 +240,29 @@ impl<'a> Builder<'a> {
 /// Reads a history: the operations of each object that some invocation of a client names. `None`:
 /// the text is no history.
 pub fn read_history(text: &[u8]) -> Option<History> {
-    let mut reader = Reader { rest: text };
+    let mut reader = Reader { text, tokens: Lexer::new(text) };
     let mut builder = Builder::default();
-    let mut number = 0;
-    while reader.peek().is_some() {
-        let fields = Fields::read(&mut reader)?;
-        if number == MOST_MAPS {
+    let mut maps = 0;
+    while let Some(token) = reader.tokens.next() {
+        let fields = Fields::read(&mut reader, token)?;
+        if maps == MOST_MAPS {
             return None;
         }
         match fields.process? {
-            Element::Keyword(_) => {}
+            Element::Keyword(process) => builder.nemeses.push(fields.nemesis(maps, process)),
             Element::Plain(Value::Int(process)) if process >= 0 => {
                 let event = fields.event(process)?;
                 if event.of_type == b"invoke" {
-                    builder.invoke(number, &event)?;
+                    builder.invoke(maps, &event)?;
                 } else {
-                    builder.complete(number, &event)?;
+                    builder.complete(maps, &event)?;
                 }
             }
             _ => return None,
         }
-        number += 1;
+        maps += 1;
     }
-    let mut objects = builder.objects;
+    let Builder { mut objects, runs, nemeses, .. } = builder;
     objects.sort_unstable_by_key(|history| history.object);
-    Some(History { objects })
+    Some(History { objects, runs, nemeses, maps })
 }

@@ -122,6 +122,6 @@ fn a_sentence_names_the_key() {
     let decision = Decision { object: 1, evidence: Evidence::Reason(reason) };
     assert_eq!(
         decision.to_string(),
-        format!("; {text}\n{{:object 1, :cuts [], :count {{:value 8, :from 0}}}}")
+        format!("{{:object 1, :cuts [], :count {{:value 8, :from 0}}, :note \"{text}\"}}")
     );
 }

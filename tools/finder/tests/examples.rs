@@ -91,7 +91,9 @@ fn finds_the_reason_that_the_judgement_prints() {
             },
             evidence => panic!("{name}: {evidence:?}"),
         };
-        assert_eq!(lines, format!("{sentence}\n{reason}"), "{name}");
+        let note = sentence.strip_prefix("; ").expect("a comment");
+        let reason = reason.strip_suffix('}').expect("a map");
+        assert_eq!(lines, format!("{reason}, :note \"{note}\"}}"), "{name}");
         found += 1;
     }
     assert!(found >= 9);

@@ -78,17 +78,6 @@ impl Kind {
             _ => self.seen(),
         }
     }
-
-    fn word(self) -> &'static str {
-        match self {
-            Kind::Queue => "queue",
-            Kind::Stack => "stack",
-            Kind::Heap => "heap",
-            Kind::Register => "register",
-            Kind::Map => "map",
-            Kind::Mutex => "mutex",
-        }
-    }
 }
 
 /// How often: `once`, or `2 times`.

@@ -1,0 +1,37 @@
+//! The proved program.
+
+use std::env;
+use std::ffi::OsString;
+use std::process::Command;
+
+const NAME: &str = "fcbench";
+
+/// Where the proved program is: what the environment variable FCBENCH says, or else beside this
+/// program, or else on the path.
+fn path() -> OsString {
+    if let Some(path) = env::var_os("FCBENCH") {
+        return path;
+    }
+    let beside = env::current_exe().ok().map(|own| own.with_file_name(NAME));
+    beside.filter(|path| path.is_file()).map_or_else(|| NAME.into(), OsString::from)
+}
+
+/// The proved program with these words, and with a limit of steps where one is given.
+pub fn proved(words: &[&str], steps: Option<u64>) -> Command {
+    let mut command = Command::new(path());
+    command.args(words);
+    if let Some(steps) = steps {
+        command.args(["--steps", &steps.to_string()]);
+    }
+    command
+}
+
+/// `fcbench verify` of a history, which reads evidence from its standard input.
+pub fn verifier(history: &str, steps: Option<u64>) -> Command {
+    proved(&["verify", history, "/dev/stdin"], steps)
+}
+
+/// Says on standard error what went wrong.
+pub fn say(what: std::fmt::Arguments<'_>) {
+    eprintln!("fcbench: {what}");
+}
