@@ -11,7 +11,7 @@ use Rattle.command_line.proofs.Walks.{Anything, Enters, OnlyHelp, Stops, after, 
 use Rattle.command_line.proofs.Walks.{level_parts, names, not_nil, one_found, one_word, plain_word, sought, stopped_walk, top}
 
 -- what is wrong after the words, where this is held
-abbrev rest_fault : Shape → Held → Kinds
+abbrev pub rest_fault : Shape → Held → Kinds
 rest_fault s h = or_else (settle_fault s.rules s.args_override_self h) (or_else (defaults_fault (settled s.rules h).rows s.rules) (check_fault s (finished s.rules h) false))
 
 -- The command has one positional argument, and wants it.
