@@ -19,8 +19,8 @@ fn read(alloc: Global, text: &[u8]) -> Result<Result<Vec<Reason>, ReasonFault>, 
     Ok(read_reasons(alloc, forms.as_slice()))
 }
 
-/// Each kind of cut, of count and of search, with its least and greatest numbers. What a cut or a count means
-/// as it is read is tested on the built program.
+/// Each kind of cut, of count and of search, with its least and greatest numbers. What a cut or a
+/// count means as it is read is tested on the built program.
 const LINES: [&str; 24] = [
     "{:object 0, :cuts [{:from 17}]}\n",
     "{:object 0, :cuts [{:from 0}]}\n",
