@@ -14,8 +14,8 @@ use edn::Out;
 use history_commands::report_verification;
 use std::alloc::Global;
 
-/// Checks evidence, from anybody and whatever it holds: orders, reasons and searches for the objects
-/// of the history. Judges the history by what is shown, and writes the lines of the verification. A
+/// Checks evidence, from anybody and whatever it holds: orders, reasons and searches for the
+/// objects of the history. Judges the history by what is shown, and writes the lines of the verification. A
 /// search for which the evidence names no number of steps takes at most `steps` steps.
 /// 4,294,967,295 stands for the program's own number: 1,000,000.
 ///
@@ -35,7 +35,8 @@ pub extern "C" fn fcbench_verify(
     // Where it answers 1, that history is not linearizable.
     ensures refuted { result ≡ no_status → IsNotLinearizableText history.now }
     // The lines are those of a verification with this status, or memory for them was refused.
-    ensures verified { IsAnswered (IsVerification history.now evidence.now (spec.search_steps steps))
+    ensures verified { IsAnswered
+        (IsVerification history.now evidence.now (spec.search_steps steps))
         result out.old out.new needed.new }
 {
     let mut sink = Out::new(Vec::new(alloc));
