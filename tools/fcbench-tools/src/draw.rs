@@ -1,9 +1,9 @@
 //! The command that draws: the answer of the proved program on a page.
 
 use crate::command_line::Draw;
-use crate::find::{read, write_evidence};
+use crate::find::{read, say_failures, write_evidence};
 use crate::judge::answered;
-use crate::program::{proved, say, verifier};
+use crate::program::{can_be_read_twice, proved, say, verifier};
 use crate::status::Status;
 use finder::{Decision, History, Options, decide, read_history};
 use pages::{Drawn, Fault, Verdict, Which, malformed_page, memory_page, orders_in};
@@ -34,13 +34,16 @@ fn said_by(mut program: Command, give: impl FnOnce(ChildStdin)) -> Result<Said, 
     Ok(Said { status, lines: String::from_utf8_lossy(lines).into_owned() })
 }
 
-/// What is found of a history. Where the finder fails that is nothing.
+/// What is found of a history. Where the finder fails that is nothing, or less.
 fn decisions_on(history: &History, steps: Option<u64>) -> Vec<Decision> {
     let options = Options { steps, ..Options::default() };
-    catch_unwind(AssertUnwindSafe(|| decide(history, options))).unwrap_or_else(|_| {
+    let found = catch_unwind(AssertUnwindSafe(|| decide(history, options)));
+    let decisions = found.unwrap_or_else(|_| {
         say(format_args!("the finder failed, so there is no evidence"));
         Vec::new()
-    })
+    });
+    say_failures(&decisions);
+    decisions
 }
 
 /// The name of a file without its folders.
@@ -118,6 +121,7 @@ pub fn draw(command: &Draw) -> Status {
 }
 
 fn drawn(command: &Draw) -> Result<Status, Status> {
+    can_be_read_twice(&command.history)?;
     let history = read(&command.history)?;
     let certificates = command.certificates.as_deref().map(read).transpose()?;
     let mut texts = Texts {

@@ -1,7 +1,9 @@
 //! The proved program.
 
+use crate::status::Status;
 use std::env;
 use std::ffi::OsString;
+use std::fs;
 use std::process::Command;
 
 const NAME: &str = "fcbench";
@@ -29,6 +31,16 @@ pub fn proved(words: &[&str], steps: Option<u64>) -> Command {
 /// `fcbench verify` of a history, which reads evidence from its standard input.
 pub fn verifier(history: &str, steps: Option<u64>) -> Command {
     proved(&["verify", history, "/dev/stdin"], steps)
+}
+
+/// Refuses a history that is no file, as a pipe, which only one of the two programs could read.
+pub fn can_be_read_twice(history: &str) -> Result<(), Status> {
+    let is_stream = fs::metadata(history).is_ok_and(|it| !it.is_file() && !it.is_dir());
+    if is_stream {
+        say(format_args!("cannot read {history}: it is read twice, so it must be a file"));
+        return Err(Status::UNREADABLE);
+    }
+    Ok(())
 }
 
 /// Says on standard error what went wrong.

@@ -134,3 +134,13 @@ fn draw_of_a_file_that_is_not_there_is_status_4() {
     assert_eq!((status, page.as_str()), (4, ""));
     assert!(errors.starts_with("fcbench: cannot read not_there"), "{errors}");
 }
+
+#[test]
+fn a_history_that_is_no_file_is_status_4() {
+    let program = script("stream", STAND_IN);
+    for word in ["judge", "draw"] {
+        let (status, lines, errors) = said(&run(&program, &[word, "/dev/null"]));
+        assert_eq!((status, lines.as_str()), (4, ""), "{word}");
+        assert!(errors.contains("must be a file"), "{errors}");
+    }
+}
