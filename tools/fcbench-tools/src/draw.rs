@@ -3,7 +3,7 @@
 use crate::command_line::Draw;
 use crate::find::{read, say_failures, write_evidence};
 use crate::judge::answered;
-use crate::program::{can_be_read_twice, proved, say, verifier};
+use crate::program::{path_for_both, proved, say, verifier};
 use crate::status::Status;
 use finder::{Decision, History, Options, decide, read_history};
 use pages::{Drawn, Fault, Verdict, Which, malformed_page, memory_page, orders_in};
@@ -54,6 +54,8 @@ fn file_name(path: &str) -> &str {
 /// The texts of a drawing, the history in one, and what was found of it.
 struct Texts<'a> {
     command: &'a Draw,
+    /// That of the history, for the proved program.
+    path: &'a str,
     history: &'a [u8],
     certificates: Option<&'a [u8]>,
     read: Option<History>,
@@ -63,11 +65,11 @@ struct Texts<'a> {
 impl Texts<'_> {
     /// Judges the history by what the finder finds, or checks it by the certificates.
     fn ask(&mut self) -> Result<Said, Status> {
-        let Draw { history, certificates, steps, .. } = self.command;
+        let Draw { certificates, steps, .. } = self.command;
         if let Some(certificates) = certificates {
-            return said_by(proved(&["check", history, certificates], None), drop);
+            return said_by(proved(&["check", self.path, certificates], None), drop);
         }
-        said_by(verifier(history, *steps), |input| {
+        said_by(verifier(self.path, *steps), |input| {
             if let Some(history) = &self.read {
                 self.decisions = decisions_on(history, *steps);
             }
@@ -121,11 +123,12 @@ pub fn draw(command: &Draw) -> Status {
 }
 
 fn drawn(command: &Draw) -> Result<Status, Status> {
-    can_be_read_twice(&command.history)?;
-    let history = read(&command.history)?;
+    let path = path_for_both(&command.history)?;
+    let history = read(&path)?;
     let certificates = command.certificates.as_deref().map(read).transpose()?;
     let mut texts = Texts {
         command,
+        path: &path,
         history: &history,
         certificates: certificates.as_deref(),
         read: read_history(&history),

@@ -3,7 +3,7 @@
 //! status. Whatever becomes of the finder, no more follows from it than from the evidence that came.
 
 use crate::command_line::Find;
-use crate::program::{can_be_read_twice, say, verifier};
+use crate::program::{path_for_both, say, verifier};
 use crate::status::Status;
 use std::env;
 use std::io;
@@ -80,10 +80,12 @@ fn run(mut verifier: Command, finder: io::Result<Command>) -> Status {
 
 /// Judges a history: looks for evidence, and answers what the proved program makes of it.
 pub fn judge(command: &Find) -> Status {
-    match can_be_read_twice(&command.history) {
-        Ok(()) => run(verifier(&command.history, command.steps), finder(command)),
-        Err(status) => status,
-    }
+    let history = match path_for_both(&command.history) {
+        Ok(history) => history,
+        Err(status) => return status,
+    };
+    let command = Find { history, ..command.clone() };
+    run(verifier(&command.history, command.steps), finder(&command))
 }
 
 #[cfg(test)]
