@@ -1,9 +1,9 @@
 //! The command that draws: the answer of the proved program on a page.
 
 use crate::command_line::Draw;
-use crate::find::{read, write_evidence};
+use crate::find::{read, say_failures, write_evidence};
 use crate::judge::answered;
-use crate::program::{proved, say, verifier};
+use crate::program::{path_for_both, proved, say, verifier};
 use crate::status::Status;
 use finder::{Decision, History, Options, decide, read_history};
 use pages::{Drawn, Fault, Verdict, Which, malformed_page, memory_page, orders_in};
@@ -34,80 +34,96 @@ fn said_by(mut program: Command, give: impl FnOnce(ChildStdin)) -> Result<Said, 
     Ok(Said { status, lines: String::from_utf8_lossy(lines).into_owned() })
 }
 
-/// What is found of a history. Where the finder fails that is nothing.
+/// What is found of a history. Where the finder fails that is nothing, or less.
 fn decisions_on(history: &History, steps: Option<u64>) -> Vec<Decision> {
     let options = Options { steps, ..Options::default() };
-    catch_unwind(AssertUnwindSafe(|| decide(history, options))).unwrap_or_else(|_| {
+    let found = catch_unwind(AssertUnwindSafe(|| decide(history, options)));
+    let decisions = found.unwrap_or_else(|_| {
         say(format_args!("the finder failed, so there is no evidence"));
         Vec::new()
-    })
+    });
+    say_failures(&decisions);
+    decisions
 }
 
-/// The name of a file without its folders.
-fn file_name(path: &str) -> &str {
-    path.rsplit('/').next().unwrap_or(path)
+/// A text that is judged: the name of its file without folders, its path, and its bytes.
+struct Text<'a> {
+    name: &'a str,
+    path: String,
+    bytes: Vec<u8>,
 }
 
-/// The texts of a drawing, the history in one, and what was found of it.
-struct Texts<'a> {
+impl<'a> Text<'a> {
+    fn read(path: &'a str) -> Result<Text<'a>, Status> {
+        let name = path.rsplit('/').next().unwrap_or(path);
+        let path = path_for_both(path)?;
+        let bytes = read(&path)?;
+        Ok(Text { name, path, bytes })
+    }
+}
+
+/// What is drawn: the texts, the history in one, and what was found of it.
+struct Drawing<'a> {
     command: &'a Draw,
-    history: &'a [u8],
-    certificates: Option<&'a [u8]>,
+    history: Text<'a>,
+    certificates: Option<Text<'a>>,
     read: Option<History>,
     decisions: Vec<Decision>,
 }
 
-impl Texts<'_> {
+impl<'a> Drawing<'a> {
+    fn new(command: &'a Draw) -> Result<Drawing<'a>, Status> {
+        let history = Text::read(&command.history)?;
+        let certificates = command.certificates.as_deref().map(Text::read).transpose()?;
+        let read = read_history(&history.bytes);
+        Ok(Drawing { command, history, certificates, read, decisions: Vec::new() })
+    }
+
     /// Judges the history by what the finder finds, or checks it by the certificates.
     fn ask(&mut self) -> Result<Said, Status> {
-        let Draw { history, certificates, steps, .. } = self.command;
-        if let Some(certificates) = certificates {
-            return said_by(proved(&["check", history, certificates], None), drop);
+        let (path, steps) = (&self.history.path, self.command.steps);
+        if let Some(certificates) = &self.certificates {
+            return said_by(proved(&["check", path, &certificates.path], None), drop);
         }
-        said_by(verifier(history, *steps), |input| {
+        said_by(verifier(path, steps), |input| {
             if let Some(history) = &self.read {
-                self.decisions = decisions_on(history, *steps);
+                self.decisions = decisions_on(history, steps);
             }
             // A program that has its answer reads no more.
             let _ = write_evidence(&self.decisions, input);
         })
     }
 
-    fn page_of_fault(&self, fault: Fault, lines: &str) -> String {
-        let (path, text) = match fault.which() {
-            Which::History => (Some(&self.command.history), self.history),
-            Which::Certificates => {
-                (self.command.certificates.as_ref(), self.certificates.unwrap_or_default())
-            }
+    fn page_of_fault(&self, fault: Fault, lines: &str) -> Option<String> {
+        let text = match fault.which() {
+            Which::History => &self.history,
+            Which::Certificates => self.certificates.as_ref()?,
         };
-        malformed_page(path.map_or("", |path| file_name(path)), text, fault, lines)
+        Some(malformed_page(text.name, &text.bytes, fault, lines))
     }
 
     /// The page on what was said. `None`: it does not fit the texts.
     fn page(&self, lines: &str) -> Option<String> {
-        let name = file_name(&self.command.history);
+        let name = self.history.name;
         let verdict = Verdict::read(lines)?;
         match verdict {
-            Verdict::Malformed(fault) => return Some(self.page_of_fault(fault, lines)),
+            Verdict::Malformed(fault) => return self.page_of_fault(fault, lines),
             Verdict::NoMemory => return Some(memory_page(name, lines)),
             _ => {}
         }
-        let drawn = Drawn {
-            history: self.read.as_ref()?,
-            name,
-            certificates: self.command.certificates.as_deref().map(file_name),
-            lines,
-            options: self.command.options,
-        };
-        Some(match (verdict, self.certificates) {
-            (Verdict::Yes, None) => drawn.judged_page(&self.decisions, &[]),
-            (Verdict::Judged(answers), None) => drawn.judged_page(&self.decisions, &answers),
-            (Verdict::Yes, Some(text)) => drawn.checked_page(&orders_in(text), None),
-            (Verdict::No(refusal), Some(text)) => {
-                drawn.checked_page(&orders_in(text), Some(&refusal))
+        let history = self.read.as_ref()?;
+        let certificates = self.certificates.as_ref().map(|text| text.name);
+        let drawn = Drawn { history, name, certificates, lines, options: self.command.options };
+        let orders = self.certificates.as_ref().map(|text| orders_in(&text.bytes));
+        match (verdict, orders) {
+            (Verdict::Yes, None) => Some(drawn.judged_page(&self.decisions, &[])),
+            (Verdict::Judged(answers), None) => Some(drawn.judged_page(&self.decisions, &answers)),
+            (Verdict::Yes, Some(orders)) => Some(drawn.checked_page(&orders, None)),
+            (Verdict::No(refusal), Some(orders)) => {
+                Some(drawn.checked_page(&orders, Some(&refusal)))
             }
-            _ => return None,
-        })
+            _ => None,
+        }
     }
 }
 
@@ -118,20 +134,12 @@ pub fn draw(command: &Draw) -> Status {
 }
 
 fn drawn(command: &Draw) -> Result<Status, Status> {
-    let history = read(&command.history)?;
-    let certificates = command.certificates.as_deref().map(read).transpose()?;
-    let mut texts = Texts {
-        command,
-        history: &history,
-        certificates: certificates.as_deref(),
-        read: read_history(&history),
-        decisions: Vec::new(),
-    };
-    let Said { status, lines } = texts.ask()?;
+    let mut drawing = Drawing::new(command)?;
+    let Said { status, lines } = drawing.ask()?;
     if status.0 > Status::OPEN.0 {
         return Err(status);
     }
-    let Some(page) = texts.page(&lines) else {
+    let Some(page) = drawing.page(&lines) else {
         say(format_args!("there is no page on this answer: {lines}"));
         return Err(Status::FAILED);
     };

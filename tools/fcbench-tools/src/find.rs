@@ -41,13 +41,33 @@ pub fn find(command: &Find) -> Status {
     status_of(&decisions)
 }
 
+/// Says for which objects the search for evidence failed. Whether there are some.
+pub fn say_failures(decisions: &[Decision]) -> bool {
+    let failed = |it: &&Decision| matches!(it.evidence, Evidence::Open);
+    let failures = decisions.iter().filter(failed);
+    failures.map(|it| say(format_args!("the finder failed on object {}", it.object))).count() > 0
+}
+
 fn status_of(decisions: &[Decision]) -> Status {
-    let has = |holds: fn(&Evidence) -> bool| decisions.iter().any(|it| holds(&it.evidence));
-    if has(|evidence| matches!(evidence, Evidence::Open)) {
+    if say_failures(decisions) {
         Status::FAILED
-    } else if has(|evidence| !matches!(evidence, Evidence::Order(_))) {
-        Status::OPEN
-    } else {
+    } else if decisions.iter().all(|it| matches!(it.evidence, Evidence::Order(_))) {
         Status::YES
+    } else {
+        Status::OPEN
+    }
+}
+
+#[cfg(test)]
+mod tests {
+    use super::*;
+
+    #[test]
+    fn a_search_that_failed_is_status_70() {
+        let found = |evidence| Decision { object: 1, evidence };
+        let order = || found(Evidence::Order(Vec::new()));
+        assert_eq!(status_of(&[]), Status::YES);
+        assert_eq!(status_of(&[order()]), Status::YES);
+        assert_eq!(status_of(&[order(), found(Evidence::Open)]), Status::FAILED);
     }
 }

@@ -1,9 +1,9 @@
-//! The command that judges. The finder and the proved program are two processes, joined by a pipe:
-//! the proved program reads the history while the finder works, writes the answer, and gives the
+//! The command that judges. The finder and the proved program are two processes, joined by a pipe.
+//! The proved program reads the history while the finder works, writes the answer, and gives the
 //! status. Whatever becomes of the finder, no more follows from it than from the evidence that came.
 
 use crate::command_line::Find;
-use crate::program::{say, verifier};
+use crate::program::{path_for_both, say, verifier};
 use crate::status::Status;
 use std::env;
 use std::io;
@@ -80,7 +80,12 @@ fn run(mut verifier: Command, finder: io::Result<Command>) -> Status {
 
 /// Judges a history: looks for evidence, and answers what the proved program makes of it.
 pub fn judge(command: &Find) -> Status {
-    run(verifier(&command.history, command.steps), finder(command))
+    let history = match path_for_both(&command.history) {
+        Ok(history) => history,
+        Err(status) => return status,
+    };
+    let command = Find { history, ..command.clone() };
+    run(verifier(&command.history, command.steps), finder(&command))
 }
 
 #[cfg(test)]

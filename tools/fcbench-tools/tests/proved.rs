@@ -3,7 +3,7 @@
 use std::fs;
 use std::os::unix::fs::PermissionsExt;
 use std::path::PathBuf;
-use std::process::{Command, Output};
+use std::process::{Command, Output, Stdio};
 
 /// What the stand-in answers: of each history to one evidence alone. Everything else is open.
 const STAND_IN: &str = r##"#!/bin/sh
@@ -133,4 +133,29 @@ fn draw_of_a_file_that_is_not_there_is_status_4() {
     let (status, page, errors) = said(&run(&program, &["draw", "not_there"]));
     assert_eq!((status, page.as_str()), (4, ""));
     assert!(errors.starts_with("fcbench: cannot read not_there"), "{errors}");
+}
+
+#[test]
+fn a_history_that_is_a_pipe_is_status_4() {
+    let program = script("pipe", STAND_IN);
+    for word in ["judge", "draw"] {
+        let mut tools = Command::new(env!("CARGO_BIN_EXE_fcbench-tools"));
+        let tools = tools.env("FCBENCH", &program).args([word, "/dev/stdin"]);
+        let mut child =
+            tools.stdin(Stdio::piped()).stderr(Stdio::piped()).spawn().expect("a child");
+        drop(child.stdin.take());
+        let (status, _, errors) = said(&child.wait_with_output().expect("an output"));
+        assert_eq!(status, 4, "{word}");
+        assert!(errors.contains("must be a file"), "{errors}");
+    }
+}
+
+#[test]
+fn a_history_can_be_the_standard_input_where_that_is_a_file() {
+    let program = script("input", STAND_IN);
+    let history = fs::File::open(example("overlapping.history.edn")).expect("a file");
+    let mut tools = Command::new(env!("CARGO_BIN_EXE_fcbench-tools"));
+    let tools = tools.env("FCBENCH", &program).args(["judge", "/dev/stdin"]);
+    let (status, lines, _) = said(&tools.stdin(history).output().expect("an output"));
+    assert_eq!(status, 0, "{lines}");
 }

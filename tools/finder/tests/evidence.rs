@@ -43,9 +43,9 @@ fn objects_come_in_rising_number() {
 #[test]
 fn a_count_is_in_the_line() {
     let text = history_of(&[(0, "push", "1", "1"), (0, "pop", "nil", "1"), (0, "pop", "nil", "1")]);
-    let lines = "; value 1 was pushed once and popped twice\n\
-                 {:object 0, :cuts [{:keep [1], :numbers [0 2 4]} {:until 6}], \
-                 :count {:value 1, :from 0}}\n";
+    let lines = "{:object 0, :cuts [{:keep [1], :numbers [0 2 4]} {:until 6}], \
+                 :count {:value 1, :from 0}, \
+                 :note \"value 1 was pushed once and popped twice\"}\n";
     assert_eq!(lines_of(&text), lines);
 }
 
@@ -54,8 +54,9 @@ fn a_search_is_in_the_line() {
     let text =
         history_of(&[(0, "write", "1", "1"), (0, "write", "2", "2"), (0, "read", "nil", "1")]);
     let lines = lines_of(&text);
-    assert!(lines.starts_with("; value 1 was read after another content had replaced it\n"));
-    assert!(lines.ends_with("], :search {:first :return, :steps 10000}}\n"), "{lines}");
+    let end = "], :search {:first :return, :steps 10000}, \
+               :note \"value 1 was read after another content had replaced it\"}\n";
+    assert!(lines.ends_with(end), "{lines}");
 }
 
 #[test]

@@ -1,7 +1,7 @@
 //! The pages of examples/pages are those that the program draws.
 
 use finder::{Options, decide, read_history};
-use pages::{Drawn, Verdict, malformed_page, orders_in};
+use pages::{Answer, Drawn, Verdict, malformed_page, orders_in};
 use std::fs;
 
 const EXAMPLES: &str = concat!(env!("CARGO_MANIFEST_DIR"), "/../../examples");
@@ -69,9 +69,46 @@ fn draws_the_examples() {
         ("postgres_queue", judged("postgres_queue")),
     ] {
         let wanted = read(&format!("pages/{name}.html"));
-        if page != wanted {
-            fs::write(format!("/tmp/{name}.html"), &page).expect("written");
-        }
         assert!(page == wanted, "{name}");
+    }
+}
+
+#[test]
+fn draws_what_is_asked_for() {
+    let history = read_history(read("two_queues.history.edn").as_bytes()).expect("a history");
+    let decisions = decide(&history, Options::default());
+    let page = |options| {
+        let lines = "yes: 4 operations, 2 objects";
+        let (name, certificates) = ("a<b.edn", None);
+        let drawn = Drawn { history: &history, name, certificates, lines, options };
+        drawn.judged_page(&decisions, &[])
+    };
+    let all = page(pages::Options::default());
+    assert!(all.contains("<title>yes: a&lt;b.edn</title>"));
+    assert!(all.contains("id=\"object-0\"") && all.contains("id=\"object-1\""));
+    let one = page(pages::Options { object: Some(1), ..Default::default() });
+    assert!(!one.contains("id=\"object-0\"") && one.contains("id=\"object-1\""));
+    assert!(one.contains("--object "));
+    let none = page(pages::Options { object: Some(9), ..Default::default() });
+    assert!(none.contains("The history has no object 9."));
+}
+
+#[test]
+fn an_object_that_is_not_decided_is_open() {
+    let history = read_history(read("queue.history.edn").as_bytes()).expect("a history");
+    let drawn = Drawn {
+        history: &history,
+        name: "a.edn",
+        certificates: None,
+        lines: "; object 0: out of steps after 1",
+        options: Default::default(),
+    };
+    for (answer, words) in [
+        (Answer::OutOfSteps, ": out of steps. So the history is not decided."),
+        (Answer::Open, ": open. So the history is not decided."),
+        (Answer::OutOfMemory, ": out of memory. So the history is not decided."),
+    ] {
+        let page = drawn.judged_page(&[], &[(0, answer)]);
+        assert!(page.contains("<body class=\"open\">") && page.contains(words), "{answer:?}");
     }
 }

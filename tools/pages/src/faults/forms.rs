@@ -26,7 +26,7 @@ fn first_for(text: &[u8], forms: &[Place], object: &[u8]) -> Option<(usize, Plac
 /// The sentences on a text of which this form is no certificate.
 pub fn explain_form(text: &[u8], kind: FormFaultKind, form: usize) -> Explained {
     let mut explained = Explained::default();
-    let forms: Vec<Place> = elements_in(text, 0).take(form + 1).collect();
+    let forms: Vec<Place> = elements_in(text, 0).take(form.saturating_add(1)).collect();
     let nowhere = Place { from: text.len(), to: text.len() };
     let place = forms.get(form).copied().unwrap_or(nowhere);
     let no_certificates = "The text can be read, but these are no certificates. Form ";

@@ -88,40 +88,7 @@ impl<'a> Map<'a> {
             let completes = " completes an operation of process ";
             return Some(spans![completes, process, ", which has none outstanding."]);
         }
-        let Earlier { number, operation, kind } = *earlier?;
-        Some(match self.kind {
-            MapFaultKind::Busy => spans![
-                " invokes an operation of process ",
-                process,
-                ", and ",
-                operation,
-                " of that process is still outstanding."
-            ],
-            MapFaultKind::Mismatch => spans![
-                " completes an operation of process ",
-                process,
-                ", but with another :f or :object than ",
-                operation,
-                ", which is outstanding."
-            ],
-            MapFaultKind::AfterInfo => spans![
-                " is of process ",
-                process,
-                ", which the :info at map ",
-                number,
-                " closed: ",
-                operation,
-                " may have happened or not, so the process goes on under another number."
-            ],
-            // Of other kinds than these and mixed ones there is no earlier map.
-            _ => spans![
-                " calls a function of another kind on an object that ",
-                operation,
-                " made a ",
-                kind,
-                "."
-            ],
-        })
+        Some(clash_words(self.kind, process, earlier?))
     }
 
     /// The sentence on it.
@@ -158,6 +125,44 @@ impl<'a> Map<'a> {
             number,
             kind: object.map_or(Kind::Queue, |object| object.kind),
         })
+    }
+}
+
+/// What is wrong with a map of this process that clashes with an earlier one.
+fn clash_words(fault: MapFaultKind, process: u64, earlier: &Earlier) -> Spans {
+    let Earlier { number, operation, kind } = *earlier;
+    match fault {
+        MapFaultKind::Busy => spans![
+            " invokes an operation of process ",
+            process,
+            ", and ",
+            operation,
+            " of that process is still outstanding."
+        ],
+        MapFaultKind::Mismatch => spans![
+            " completes an operation of process ",
+            process,
+            ", but with another :f or :object than ",
+            operation,
+            ", which is outstanding."
+        ],
+        MapFaultKind::AfterInfo => spans![
+            " is of process ",
+            process,
+            ", which the :info at map ",
+            number,
+            " closed: ",
+            operation,
+            " may have happened or not, so the process goes on under another number."
+        ],
+        // Of other kinds than these and mixed ones there is no earlier map.
+        _ => spans![
+            " calls a function of another kind on an object that ",
+            operation,
+            " made a ",
+            kind,
+            "."
+        ],
     }
 }
 

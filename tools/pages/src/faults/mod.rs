@@ -30,9 +30,12 @@ fn number_in(value: Option<&[u8]>) -> Option<u64> {
 
 fn explain(text: &[u8], fault: Fault) -> Explained {
     match fault {
-        Fault::Text { which, kind, byte } => {
-            explain_text(&FaultyBytes { word: which.word(), text, kind, byte })
-        }
+        Fault::Text { which, kind, byte } => explain_text(&FaultyBytes {
+            word: which.word(),
+            text,
+            kind,
+            byte: byte.min(text.len()),
+        }),
         Fault::Map { kind, map } => explain_map(text, kind, map),
         Fault::Form { kind, form } => explain_form(text, kind, form),
     }

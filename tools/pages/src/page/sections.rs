@@ -6,6 +6,7 @@ use super::figures::Drawing;
 use super::html::{Html, html};
 use super::sentences::Shown;
 use super::tables::{is_narrow, order_table, tried_table};
+use crate::figures::count_text;
 use crate::timeline::{
     Entry, Extent, Figure, Line, ObjectDrawing, Operation, Row, Span, Spans, Tried, spans,
 };
@@ -124,7 +125,7 @@ fn reason_caption(drawing: &ObjectDrawing, figure: &Figure) -> Spans {
 /// The operations of a reason that are not wholly within it, by their names where they are few.
 fn outside(operations: &[Operation], shown: &Shown) -> Option<Html> {
     let more = operations.len().saturating_sub(MOST_NAMED);
-    let more = (more > 0).then(|| shown.spans(&spans![", and ", more, " more"], ""));
+    let more = (more > 0).then(|| html![", and ", count_text(more), " more"]);
     let named = shown.operations(operations.iter().take(MOST_NAMED));
     (!operations.is_empty()).then(|| {
         html![
