@@ -53,6 +53,11 @@ explains es claims limit (a ∷ rest) each e = go a.1 (each a (inl refl)) e (exp
     go NoMemory h t again = later (decision_lines es a.0 NoMemory) (again t)
     go Open h t again = later (decision_lines es a.0 Open) (again t)
 
+-- what four calls appended to a text, one after the other
+pub joined : (t a b x d t1 t2 t3 t4 : List ℕ) → t1 ≡ t ++ a → t2 ≡ t1 ++ b → t3 ≡ t2 ++ x → t4 ≡ t3 ++ d → t4 ≡ t ++ (a ++ (b ++ (x ++ d)))
+joined t a b x d t1 t2 t3 t4 e f g h =
+    h ∙ ap (λ u. u ++ d) (g ∙ ap (λ u. u ++ x) (f ∙ ap (λ u. u ++ b) e)) ∙ append_assoc ((t ++ a) ++ b) x d ∙ append_assoc (t ++ a) b (x ++ d) ∙ append_assoc t a (b ++ (x ++ d))
+
 -- where some object has no order
 pub are_open : (es : List Event) (claims : List Claim) (limit status : ℕ) (text : List ℕ) (answers : List (ℕ × Decision)) → AreDecisionsOn es claims limit answers
     → list_all (λ a. is_order a.1) answers ≡ false → status ≡ verified_status answers → text ≡ decisions_text es answers → AreOpen es claims limit status text
