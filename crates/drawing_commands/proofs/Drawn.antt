@@ -47,7 +47,7 @@ pub judgement_is_written : (h : List ℕ) (steps : Option ℕ) (status : ℕ) (l
 judgement_is_written h steps status lines j = go j.output
   where
     go : IsJudgeOutput h steps status lines → status ≢ failed_status
-    go (inl m) = never_failed m.3.answers m.3.status_is
+    go (inl m) = never_failed m.3.0 m.3.1.status_is
     go (inr v) = λ e. verdict_is_written v.0 (sym v.2 ∙ e)
 
 no_memory_is_no_yes : no_memory_status ≢ yes_status

@@ -6,6 +6,7 @@ use Rattle.events.specs.declared.event.Event.{Event}
 use Rattle.events.specs.Events.{IsNamed}
 use Rattle.certificate.specs.declared.Certificate.{Certificate}
 use Rattle.certificate.specs.Lines.{lines_of}
+use Rattle.certificate.specs.Denotes.{AreDistinct}
 use Rattle.checker.specs.Refusals.{AreValid}
 use Rattle.finder.specs.declared.finding.FindOutcome.{FindOutcome}
 use Rattle.finder.specs.declared.finding.FindOutcome.TheVariants.{Order, Open}
@@ -32,8 +33,8 @@ never_failed answers is e = not_failed false (list_all (λ (a : ℕ × FindOutco
 
 pub all_found : (es : List Event) (answers : List (ℕ × FindOutcome)) → AllPairs (λ a b. a.0 < b.0) answers
     → ((x : ℕ) → Contains (map (λ a. a.0) answers) x ↔ IsNamed es x) → All (λ a. IsFoundOn es a.0 a.1) answers
-    → (All (λ a. IsFound a.1) answers → AreValid es (certificates_in answers)) → AreFound es (find_status answers) (findings_text answers)
-all_found es answers rising named each valid = record {
+    → (All (λ a. IsFound a.1) answers → AreValid es (certificates_in answers)) → AreDistinct (certificates_in answers) → AreFound es (find_status answers) (findings_text answers)
+all_found es answers rising named each valid distinct = record {
   answers = answers;
   rising = rising;
   named = named;
@@ -44,6 +45,7 @@ all_found es answers rising named each valid = record {
     certificates_in answers,
     valid
         (each_found (λ (a : ℕ × FindOutcome). has_order a.1) certificate_of line_on findings_text has_one refl (λ a rest. refl) answers all_is),
+    distinct,
     found_text (λ (a : ℕ × FindOutcome). has_order a.1) certificate_of line_on findings_text has_one refl (λ a rest. refl) answers all_is,
   );
 }

@@ -15,10 +15,11 @@ use Rattle.deciding.specs.Decisions.{IsDecisionOn, IsFound, is_impossible}
 use Rattle.verdicts.specs.declared.verdict.Verdict.{Verdict}
 use Rattle.verdicts.specs.declared.verdict.Verdict.TheVariants as verdict
 use Rattle.certificate.specs.declared.Certificate.{Certificate}
+use Rattle.certificate.specs.Denotes.{AreDistinct}
 use Rattle.checker.specs.Refusals.{AreValid}
 use Rattle.judging.specs.Verdicts.{IsYesUnlessMemory, JudgesBy, OnYes}
 use Rattle.history_commands.specs.Searches.{IsUnsearched}
-use Rattle.history_commands.specs.Judged.{impossible_lines, is_order, judge_status, note_lines, notes_text, AreOpen, IsExplained, IsVerdictOn, IsVerdictOnText}
+use Rattle.history_commands.specs.Judged.{impossible_lines, is_order, judge_status, note_lines, notes_text, AreOpenBy, IsExplained, IsVerdictOn, IsVerdictOnText}
 use Rattle.outputs.specs.Statuses.{failed_status, no_memory_status, no_status, yes_status}
 use Rattle.history_commands.proofs.AllFound.{no_of, not_failed}
 
@@ -53,9 +54,8 @@ explains es steps (a ∷ rest) each e = go a.1 (each a (inl refl)) e (explains e
 pub are_open : (es : List Event) (steps : Option ℕ) (status : ℕ) (text : List ℕ) (answers : List (ℕ × Decision)) → AllPairs (λ a b. a.0 < b.0) answers
     → ((x : ℕ) → Contains (map (λ a. a.0) answers) x ↔ IsNamed es x) → All (λ a. IsDecisionOn es steps a.0 a.1) answers
     → (Any (λ a. is_impossible a.1 ≡ true) answers → IsLinearizable (kind_at es) (events (denoted es)) → ⊥)
-    → list_all (λ a. is_order a.1) answers ≡ false → status ≡ judge_status answers → text ≡ notes_text es answers → AreOpen es steps status text
+    → list_all (λ a. is_order a.1) answers ≡ false → status ≡ judge_status answers → text ≡ notes_text es answers → AreOpenBy es steps answers status text
 are_open es steps status text answers rising named each impossible some s t = record {
-  answers = answers;
   rising = rising;
   named = named;
   each = each;
@@ -79,9 +79,9 @@ open_no_yes false true e = λ q. absurd cc
 open_no_yes false false e = λ q. absurd cc
 
 -- the verdict on certificates that are valid
-pub on_valid : (es : List Event) (cs : List Certificate) → AreValid es cs → (v : Verdict)
+pub on_valid : (es : List Event) (cs : List Certificate) → AreValid es cs → AreDistinct cs → (v : Verdict)
     → OnYes v (IsLinearizable (kind_at es) (events (denoted es))) → JudgesBy es cs v → IsYesUnlessMemory v → IsVerdictOn es v
-on_valid es cs valid (verdict.Yes s) linearizable judges accepts = record { certificates = cs; valid = valid; linearizable = linearizable; counts = judges.1 }
-on_valid es cs valid (verdict.No r) linearizable judges accepts = accepts
-on_valid es cs valid (verdict.Malformed f) linearizable judges accepts = accepts
-on_valid es cs valid verdict.NoMemory linearizable judges accepts = tt
+on_valid es cs valid distinct (verdict.Yes s) linearizable judges accepts = record { certificates = cs; valid = valid; distinct = distinct; linearizable = linearizable; counts = judges.1 }
+on_valid es cs valid distinct (verdict.No r) linearizable judges accepts = accepts
+on_valid es cs valid distinct (verdict.Malformed f) linearizable judges accepts = accepts
+on_valid es cs valid distinct verdict.NoMemory linearizable judges accepts = tt

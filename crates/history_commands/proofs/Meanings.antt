@@ -27,7 +27,7 @@ unsearched_no_no h NoMemory u e = absurd cc
 pub is_search : (h : List ℕ) (limit status : ℕ) (out : List ℕ) → IsSearchOutput h limit status out → IsSearch h limit status out
 is_search h limit status out (inl m) = record {
   output = inl m;
-  certified = λ e. let k = m.3.certified e in record { client_events = m.1; history_text = m.2; certificates = k.0; valid = k.1; text_is = k.2 };
+  certified = λ e. let k = m.3.certified e in record { client_events = m.1; history_text = m.2; certificates = k.0; valid = k.1; distinct = k.2; text_is = k.3 };
   refuted = λ e. record { client_events = m.1; history_text = m.2; not_linearizable = m.3.refuted e };
 }
 is_search h limit status out (inr v) = record {
@@ -39,7 +39,7 @@ is_search h limit status out (inr v) = record {
 pub is_find : (h : List ℕ) (status : ℕ) (out : List ℕ) → IsFindOutput h status out → IsFind h status out
 is_find h status out (inl m) = record {
   output = inl m;
-  certified = λ e. let k = m.3.certified e in record { client_events = m.1; history_text = m.2; certificates = k.0; valid = k.1; text_is = k.2 };
+  certified = λ e. let k = m.3.certified e in record { client_events = m.1; history_text = m.2; certificates = k.0; valid = k.1; distinct = k.2; text_is = k.3 };
 }
 is_find h status out (inr v) = record { output = inr v; certified = λ e. absurd (unsearched_no_yes h v.0 v.1 (sym v.2 ∙ e)) }
 
@@ -63,9 +63,9 @@ verdict_not_no h NoMemory k e = absurd cc
 pub is_judgement : (h : List ℕ) (steps : Option ℕ) (status : ℕ) (out : List ℕ) → IsJudgeOutput h steps status out → IsJudgement h steps status out
 is_judgement h steps status out (inl m) = record {
   output = inl m;
-  linearizable = λ e. absurd (open_no_yes _ _ m.3.some_open (sym m.3.status_is ∙ e));
-  refuted = λ e. record { client_events = m.1; history_text = m.2; not_linearizable = m.3.refuted e };
-  explained = λ e. (m.1, m.2, m.3.explained e);
+  linearizable = λ e. absurd (open_no_yes _ _ m.3.1.some_open (sym m.3.1.status_is ∙ e));
+  refuted = λ e. record { client_events = m.1; history_text = m.2; not_linearizable = m.3.1.refuted e };
+  explained = λ e. (m.1, m.2, m.3.1.explained e);
 }
 is_judgement h steps status out (inr v) = record {
   output = inr v;

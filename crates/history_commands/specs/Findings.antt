@@ -6,6 +6,7 @@ use Rattle.edn_reader.specs.Sound.{IsShort}
 use Rattle.events.specs.declared.event.Event.{Event}
 use Rattle.events.specs.Events.{IsNamed}
 use Rattle.certificate.specs.declared.Certificate.{Certificate}
+use Rattle.certificate.specs.Denotes.{AreDistinct}
 use Rattle.certificate.specs.Lines.{lines_of}
 use Rattle.checker.specs.Refusals.{AreValid}
 use Rattle.finder.specs.declared.finding.FindOutcome.{FindOutcome}
@@ -41,9 +42,9 @@ pub record AreFound (es : List Event) (status : ℕ) (text : List ℕ) : Type 0 
   pub each : All (λ a. IsFoundOn es a.0 a.1) answers
   pub status_is : status ≡ find_status answers
   pub text_is : text ≡ findings_text answers
-  -- a yes comes with valid certificates
+  -- a yes comes with valid certificates, one for each object
   pub certified : status ≡ yes_status
-      → (cs : List Certificate) × AreValid es cs × (text ≡ lines_of cs)
+      → (cs : List Certificate) × AreValid es cs × AreDistinct cs × (text ≡ lines_of cs)
 
 -- The same of the history that a text denotes, which is not too long to be read.
 abbrev pub AreFoundIn : List ℕ → ℕ → List ℕ → Type 0

@@ -11,6 +11,7 @@ use Rattle.model.specs.Orders.{calls_on, events}
 use Rattle.events.specs.declared.event.Event.{Event}
 use Rattle.events.specs.Events.{IsNamed, kind_at, denoted}
 use Rattle.certificate.specs.declared.Certificate.{Certificate}
+use Rattle.certificate.specs.Denotes.{AreDistinct}
 use Rattle.checker.specs.Refusals.{AreValid}
 use Rattle.reason_text.specs.Lines.{line_of}
 use Rattle.reason_report.specs.Operations.{operations_text}
@@ -78,10 +79,10 @@ pub record IsExplained (es : List Event) (text : List ℕ) : Type 0 where
   pub after : List ℕ
   pub lines : text ≡ before ++ (impossible_lines es object found ++ after)
 
--- Some object of the history has no certificate: the decisions on all objects, in rising number,
--- where this number of steps is given, and what they show.
-pub record AreOpen (es : List Event) (steps : Option ℕ) (status : ℕ) (text : List ℕ) : Type 0 where
-  pub answers : List (ℕ × Decision)
+-- Some object of the history has no certificate: these are the decisions on all objects, in rising
+-- number, where this number of steps is given, and this is what they show.
+pub record AreOpenBy (es : List Event) (steps : Option ℕ) (answers : List (ℕ × Decision))
+    (status : ℕ) (text : List ℕ) : Type 0 where
   pub rising : AllPairs (λ a b. a.0 < b.0) answers
   pub named : (x : ℕ) → Contains (map (λ a. a.0) answers) x ↔ IsNamed es x
   pub each : All (λ a. IsDecisionOn es steps a.0 a.1) answers
@@ -92,10 +93,16 @@ pub record AreOpen (es : List Event) (steps : Option ℕ) (status : ℕ) (text :
   pub refuted : status ≡ no_status → IsLinearizable (kind_at es) (events (denoted es)) → ⊥
   pub explained : status ≡ no_status → IsExplained es text
 
--- Some certificates are valid for the history, which has these counts.
+-- the same, by some decisions
+abbrev pub AreOpen : List Event → Option ℕ → ℕ → List ℕ → Type 0
+AreOpen es steps status text =
+    (answers : List (ℕ × Decision)) × AreOpenBy es steps answers status text
+
+-- Some certificates are valid for the history, one for each object. It has these counts.
 pub record IsCertified (es : List Event) (s : Summary) : Type 0 where
   pub certificates : List Certificate
   pub valid : AreValid es certificates
+  pub distinct : AreDistinct certificates
   pub linearizable : IsLinearizable (kind_at es) (events (denoted es))
   pub counts : AreCountsOf es s
 

@@ -7,7 +7,7 @@ use Rattle.outputs.proofs.Outputs.{made_output}
 use Rattle.history_commands.proofs.judgement.report_judgement.Goals as goal
 
 pub put_out-requires-clause-other : goal.put_out-requires-clause-other
-put_out-requires-clause-other g c = IfOk-weaker c.judge_text.result _ _ (λ o h. never_failed h.3.answers h.3.status_is) c.judge_text.ensures.notes
+put_out-requires-clause-other g c = IfOk-weaker c.judge_text.result _ _ (λ o h. never_failed h.3.0 h.3.1.status_is) c.judge_text.ensures.notes
 
 pub returns : goal.returns
 returns g c =
