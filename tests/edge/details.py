@@ -97,8 +97,7 @@ def reason_of(told, x=None):
         if it:
             f, argument, reply = (it[7], it[8], it[9]) if it[7] else (it[4], it[5], it[6])
             number, at = int(it[1]), int(it[2]) if it[2] else None
-            if it[10] != ", failed":
-                calls[number] = Call(number, it[3], 0, f, value_of(argument), at, "open" if at is None else "ok", value_of(reply))
+            calls[number] = Call(number, it[3], 0, f, value_of(argument), at, "open" if at is None else "ok", value_of(reply))
         elif "{:object" in line:
             starts, others = re.findall(r"\{:from (\d+)\}", line), re.findall(r":other (-?\d+)", line)
             since, other = int(starts[-1]) if starts else None, int(others[-1]) if others else None

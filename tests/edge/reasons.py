@@ -14,7 +14,7 @@ from .texts import lines
 VALUE = r"nil|false|-?\d+|\[-?\d+ -?\d+\]"
 TOLD = re.compile(
     rf"maps? (\d+)(?: and (\d+))?: process (\d+), :([\w-]+) ({VALUE})(?:, :ok ({VALUE}))?"
-    rf"(?:, counted as :([\w-]+) ({VALUE})(?:, :ok ({VALUE}))?)?(, pending|, failed)?"
+    rf"(?:, counted as :([\w-]+) ({VALUE})(?:, :ok ({VALUE}))?)?(, pending)?"
 )
 IMPOSSIBLE = re.compile(r"; object (\d+): impossible")
 OPEN = re.compile(r"; object (\d+): (out of memory|out of steps after \d+)")
@@ -164,14 +164,20 @@ def count_in(reason):
 # ---- what is told
 
 
+def has_failed(maps, number):
+    """Whether the next map of the process that invoked the operation at this map says that it failed."""
+    process = maps[number]["process"]
+    return next((it["type"] == ":fail" for it in maps[number + 1 :] if it["process"] == process), False)
+
+
 def is_of_history(maps, told, on):
-    """Whether the history has such a call: its invocation and its return at these maps, on this object."""
+    """Whether the history has such a call, which did not fail: its invocation and its return at these maps, on this object."""
     number, at, process, f, argument, reply = (told[it] for it in range(1, 7))
     begun = maps[int(number)]
     is_begun = (begun["type"], begun["process"], begun["f"]) == (":invoke", process, f":{f}")
     is_begun &= value_of(begun.get("value")) == value_of(argument) and int(begun.get("object", 0)) == on
     if at is None:
-        return is_begun and reply is None and told[10] is not None
+        return is_begun and reply is None and told[10] is not None and not has_failed(maps, int(number))
     ended = maps[int(at)]
     is_ended = (ended["type"], ended["process"], ended["f"]) == (":ok", process, f":{f}")
     return is_begun and is_ended and value_of(ended.get("value")) == value_of(reply) and told[10] is None
@@ -193,8 +199,7 @@ def why_not_shown(history, on, operations, reason):
             return f"no operation: {line}"
         if not is_of_history(maps, told, on):
             return f"not in the history: {line}"
-        if told[10] != ", failed":
-            calls.append(call_of(told))
+        calls.append(call_of(told))
     if count_in(reason):
         return None if is_overdrawn(count_in(reason), calls) else "the count is not exceeded"
     if not calls or len(calls) <= MOST_ORDERED and has_order(calls):
@@ -229,8 +234,7 @@ def operations_on(history, on):
 
 def refuted(history, on, operations):
     """What refute says of a reason whose part has these operations."""
-    part, whole = sum(not it.endswith(", failed") for it in operations), operations_on(history, on)
-    return lines(f"not linearizable: object {on}: {part} of {whole} operations have no valid order", *operations)
+    return lines(f"not linearizable: object {on}: {len(operations)} of {operations_on(history, on)} operations have no valid order", *operations)
 
 
 def why_not_explained(program, history, ran):

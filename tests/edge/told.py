@@ -1,4 +1,4 @@
-"""The lines of the operations of a part: what each kind of call says, what is pending or failed, and what is counted as another call."""
+"""The lines of the operations of a part: what each kind of call says, what is pending, and what is counted as another call."""
 from .answers import in_files
 from .rows import HISTORY, judge, refute
 from .texts import fail, invoke, lines, ok
@@ -48,7 +48,6 @@ QUEUE_LINES = (
     "maps 0 and 3: process 0, :enqueue 7, :ok 7",
     "map 2: process 1, :enqueue -8, pending",
     "maps 4 and 5: process 12, :dequeue nil, :ok 7",
-    "map 6: process 3, :dequeue nil, failed",
 )
 STACK_LINES = (
     "maps 0 and 1: process 0, :push 40, :ok 40",
@@ -104,7 +103,7 @@ def whole(name, history, those, counts, number, f, of, reply):
 
 
 ROWS = (
-    whole("a queue, with a map that is not a client's", QUEUE, QUEUE_LINES, "4 of 4", 8, "dequeue", None, 99),
+    whole("a queue, with a map that is not a client's and a call that failed", QUEUE, QUEUE_LINES, "4 of 4", 8, "dequeue", None, 99),
     whole("a stack", STACK, STACK_LINES, "4 of 4", 6, "pop", None, 99),
     whole("a heap", HEAP, HEAP_LINES, "3 of 3", 4, "extract-min", None, 99),
     whole("a register", REGISTER, REGISTER_LINES, "6 of 6", 9, "read", None, 99),
@@ -185,10 +184,14 @@ REFUSED = (
     ("{:object 0, :cuts [{:cell [1]}]}", 0),
     ("{:object 0, :cuts [{:cell [1], :key 5}]}", 0),
     ("{:object 0, :cuts [{:cell [1], :other nil}]}", 0),
+    ("{:object 0, :cuts [{:cell [1], :key :a, :other 9}]}", 0),
+    ("{:object 0, :cuts [{:cell [1], :key nil, :other 9}]}", 0),
     ("{:object 0, :count 7}", 0),
     ("{:object 0, :count {}}", 0),
     ("{:object 0, :count {:from 4}}", 0),
     ("{:object 0, :count {:value 7, :from -1}}", 0),
+    ("{:object 0, :count {:value 7, :key :x}}", 0),
+    ('{:object 0, :count {:value "x", :held 1}}', 0),
     ("{:object 0} {:object 1, :cuts [{:until 4} {}]}", 1),
     ("{:object 0} {:object 0} {:object 1, :cuts 4} 5", 2),
 )

@@ -8,6 +8,7 @@ use Rattle.events.specs.declared.event.Event.{Event}
 use Rattle.events.specs.Events.{IsNamed, kind_at, denoted}
 use Rattle.certificate.specs.declared.Certificate.{Certificate}
 use Rattle.certificate.specs.Lines.{lines_of}
+use Rattle.certificate.specs.Denotes.{AreDistinct}
 use Rattle.checker.specs.Refusals.{AreValid}
 use Rattle.search.specs.declared.found.Search.{Search}
 use Rattle.search.specs.declared.found.SearchOutcome.{SearchOutcome}
@@ -60,8 +61,8 @@ never_failed answers is e = not_failed (list_any (λ (a : ℕ × Search). is_imp
 pub searched : (es : List Event) (limit : ℕ) (answers : List (ℕ × Search)) → AllPairs (λ a b. a.0 < b.0) answers
     → ((x : ℕ) → Contains (map (λ a. a.0) answers) x ↔ IsNamed es x) → All (λ a. IsAnswerOn es limit a.0 a.1) answers
     → (Any (λ a. a.1.found ≡ Impossible) answers → IsLinearizable (kind_at es) (events (denoted es)) → ⊥) → (All (λ a. IsFound a.1) answers → AreValid es (certificates_in answers))
-    → AreSearched es limit (search_status answers) (answers_text answers)
-searched es limit answers rising named each impossible valid =
+    → AreDistinct (certificates_in answers) → AreSearched es limit (search_status answers) (answers_text answers)
+searched es limit answers rising named each impossible valid distinct =
     let any = list_any (λ (a : ℕ × Search). is_impossible a.1.found) answers in
     let all = list_all (λ (a : ℕ × Search). is_found a.1.found) answers in
     record {
@@ -75,6 +76,7 @@ searched es limit answers rising named each impossible valid =
         certificates_in answers,
         valid
             (each_found (λ (a : ℕ × Search). is_found a.1.found) certificate_of line_on answers_text has_one refl (λ a rest. refl) answers all_is),
+        distinct,
         found_text (λ (a : ℕ × Search). is_found a.1.found) certificate_of line_on answers_text has_one refl (λ a rest. refl) answers all_is,
       );
       refuted = λ e. impossible (one_impossible answers (no_of any all e));

@@ -8,6 +8,7 @@ use Rattle.model.specs.Orders.{events}
 use Rattle.events.specs.declared.event.Event.{Event}
 use Rattle.events.specs.Events.{IsNamed, kind_at, denoted}
 use Rattle.certificate.specs.declared.Certificate.{Certificate}
+use Rattle.certificate.specs.Denotes.{AreDistinct}
 use Rattle.certificate.specs.Lines.{lines_of}
 use Rattle.checker.specs.Refusals.{AreValid}
 use Rattle.search.specs.declared.found.Search.{Search}
@@ -64,9 +65,10 @@ pub record AreSearched (es : List Event) (limit status : ℕ) (text : List ℕ) 
   pub each : All (λ a. IsAnswerOn es limit a.0 a.1) answers
   pub status_is : status ≡ search_status answers
   pub text_is : text ≡ answers_text answers
-  -- a yes comes with valid certificates, and where it is a no the history is not linearizable
+  -- a yes comes with valid certificates, one for each object, and where it is a no the history is
+  -- not linearizable
   pub certified : status ≡ yes_status
-      → (cs : List Certificate) × AreValid es cs × (text ≡ lines_of cs)
+      → (cs : List Certificate) × AreValid es cs × AreDistinct cs × (text ≡ lines_of cs)
   pub refuted : status ≡ no_status → IsLinearizable (kind_at es) (events (denoted es)) → ⊥
 
 -- The same of the history that a text denotes, which is not too long to be read.
@@ -86,11 +88,13 @@ abbrev pub IsSearchOutput : List ℕ → ℕ → ℕ → List ℕ → Type 0
 IsSearchOutput h limit status text = IsOutput (IsSearched h limit) (IsUnsearched h) status text
 
 -- The text is that of certificates that are valid for the history which the other text denotes.
+-- There is one for each of its objects.
 pub record AreCertificatesFor (h text : List ℕ) : Type 0 where
   pub client_events : List Event
   pub history_text : DenotesHistory h client_events
   pub certificates : List Certificate
   pub valid : AreValid client_events certificates
+  pub distinct : AreDistinct certificates
   pub text_is : text ≡ lines_of certificates
 
 -- the history that the text denotes is not linearizable

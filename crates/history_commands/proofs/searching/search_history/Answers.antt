@@ -7,7 +7,7 @@ pub returns : goal.returns
 returns c =
     let answers = c.in_ok-answers.answers.items in
     let e = c.in_ok-answers.ensures in
-    let found = searched c.args.history.now c.from.result answers e.rising e.named e.answers e.impossible e.valid in
+    let found = searched c.args.history.now c.from.result answers e.rising e.named e.answers e.impossible e.valid e.distinct in
     let all = subst (λ limit. AreSearched c.args.history.now limit (search_status answers) (answers_text answers)) c.from.ensures found in
     let status = c.status_for.ensures ∙ ap search_status c.deref.ensures.value in
     let text = c.in_ok-text_of.ensures ∙ ap answers_text c.deref-2.ensures.value in
