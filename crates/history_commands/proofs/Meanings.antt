@@ -23,7 +23,7 @@ unsearched_no_no h NoMemory u e = absurd cc
 pub is_search : (h : List ℕ) (limit status : ℕ) (out : List ℕ) → IsSearchOutput h limit status out → IsSearch h limit status out
 is_search h limit status out (inl m) = record {
   output = inl m;
-  certified = λ e. let k = m.3.certified e in record { client_events = m.1; history_text = m.2; certificates = k.0; valid = k.1; text_is = k.2 };
+  certified = λ e. let k = m.3.certified e in record { client_events = m.1; history_text = m.2; certificates = k.0; valid = k.1; distinct = k.2; text_is = k.3 };
   refuted = λ e. record { client_events = m.1; history_text = m.2; not_linearizable = m.3.refuted e };
 }
 is_search h limit status out (inr v) = record {
