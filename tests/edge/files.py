@@ -82,6 +82,15 @@ def unreadable(program: Program, report: Report):
         report.answers(f"{' '.join(words)}, without permission", ran, "", 4, f"fcbench: cannot read {secret}\n")
 
 
+def each_read_fails(program, report, words, names, reads):
+    """Lets each of the reads fail in turn: the file is named, and nothing is put out."""
+    named = [f"fcbench: cannot read {name}\n".encode() for name in names]
+    for at in range(1, reads + 1):
+        ran = program.run(*words, faults={"FAIL_READ_AT": at})
+        is_well = ran.status == 4 and ran.out == b"" and ran.err in named
+        report.holds(f"{' '.join(words)}, read {at} of {reads} fails", is_well, ran)
+
+
 def failing_reads(program, report):
     """Where any one read fails, its file is named and nothing is put out."""
     for words, files, out, status in good_runs():
@@ -90,11 +99,7 @@ def failing_reads(program, report):
         ran, _, reads = program.counts(*words)
         report.answers(f"{' '.join(words)}, with its reads counted", ran, out, status)
         report.holds(f"{' '.join(words)} reads each file to its end", reads >= 2 * len(files), reads)
-        for at in range(1, reads + 1):
-            ran = program.run(*words, faults={"FAIL_READ_AT": at})
-            named = [f"fcbench: cannot read {name}\n".encode() for name, _ in files]
-            is_well = ran.status == 4 and ran.out == b"" and ran.err in named
-            report.holds(f"{' '.join(words)}, read {at} fails", is_well, ran)
+        each_read_fails(program, report, words, [name for name, _ in files], reads)
         for name, text in files:
             # The middle of a text that comes byte by byte, so that what was read before is not empty.
             at = len(text) // 2 + sum(len(it) + 1 for other, it in files if other == HISTORY != name)
@@ -114,11 +119,7 @@ def failing_reads_of_long_texts(program, report):
         ran, _, reads = program.counts(*words)
         report.answers(f"check, {workers} workers, a long history", ran, rows.yes(12_000, 1, "register: 1 objects, 12000 operations"), 0)
         report.holds(f"check, {workers} workers: a long history comes in pieces", reads > 10, reads)
-        for at in range(1, reads + 1):
-            ran = program.run(*words, faults={"FAIL_READ_AT": at})
-            named = [f"fcbench: cannot read {name}\n".encode() for name in (HISTORY, CERTIFICATES)]
-            is_well = ran.status == 4 and ran.out == b"" and ran.err in named
-            report.holds(f"check, {workers} workers, read {at} of a long history fails", is_well, ran)
+        each_read_fails(program, report, words, (HISTORY, CERTIFICATES), reads)
 
 
 def in_pieces(program, report):
