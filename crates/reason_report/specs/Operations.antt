@@ -94,11 +94,11 @@ abbrev pub counted_text : Invocation → Invocation → List ℕ
 counted_text told counted =
     if is_same told counted then [] else codes ", counted as " ++ call_text counted
 
--- where it did not return in the part, of whose operations none failed
+-- where it did not return in the part
 abbrev pub open_text : End → List ℕ
 open_text (Returned at reply) = []
 open_text Pending = codes ", pending"
-open_text Failed = codes ", pending"
+open_text Failed = codes ", failed"
 
 -- as maps 4 and 9: process 2,
 abbrev pub heading_text : List Event → Invocation → List ℕ

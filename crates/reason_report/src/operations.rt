@@ -159,7 +159,8 @@ fn push_end(text: &mut Vec<u8>, end: End) -> Result<(), AllocError>
 {
     let said: &[u8] = match end {
         End::Returned { .. } => b"\n",
-        End::Pending | End::Failed => b", pending\n",
+        End::Pending => b", pending\n",
+        End::Failed => b", failed\n",
     };
     text.extend_from_slice(said)
 }
@@ -239,8 +240,7 @@ fn push_lines(
 
 /// Appends a line for each operation of the part, after `; ` where they are comments: its numbers,
 /// and what the history says of it. Where the part counts it as another operation, or with another
-/// reply, that comes after it. One that did not return in the part is pending: the part of a reason
-/// has no operation that failed.
+/// reply, that comes after it.
 pub fn push_operations(
     text: &mut Vec<u8>,
     commented: bool,
