@@ -8,7 +8,7 @@ mod usual;
 mod writer;
 
 pub use fault::{CertFault, CertFaultKind, CertTextFault};
-pub use reader::read_certificates;
+pub use reader::{certificate_in, read_certificates};
 pub use text_reader::read_certificates_text;
 pub use writer::write_certificates;
 

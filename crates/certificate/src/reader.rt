@@ -80,6 +80,19 @@ fn parts_in(form: &Form) -> Option<(u32, &[Form])>
     Some((object, forms))
 }
 
+/// The certificate that a form is, if it is one.
+///
+/// An error: memory was refused for its order.
+pub fn certificate_in(alloc: Global, form: &Form) -> Result<Option<Certificate>, AllocError>
+    ensures { IfOk result (λ o. option_map spec.reading_of o ≡ spec.certificate_of (view form.now)) }
+{
+    let Some((object, entries)) = parts_in(form) else {
+        return Ok(None);
+    };
+    let order = integers_of(alloc, entries)?;
+    Ok(Some(Certificate { object, order }))
+}
+
 /// The certificate that a form is, whose object is then among the objects. What is wrong with it is
 /// found without memory.
 fn next_certificate(

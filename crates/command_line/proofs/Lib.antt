@@ -1,5 +1,5 @@
 pub mod Walks
-pub mod Drawn
 pub mod OneFile
+pub mod TwoFiles
 pub mod Parse
 pub mod Sought

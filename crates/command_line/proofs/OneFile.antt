@@ -6,12 +6,12 @@ use Rattle.clap.specs.Lexer.{long_of}
 use Rattle.clap.specs.Simple.{Shape, built, entered, subcommand_of}
 use Rattle.clap.specs.Walk.{Held, Text, Walk, arg_by_index, settled, finished, first_of, has_long, has_short, nothing_held, rows_after, to_positional, value, walked}
 use Rattle.clap.proofs.OnLiterals.{clap_on_literals}
-use Rattle.command_line.specs.Words.{AskOnFile, IsFileFound, IsPlain, command, find_command, simulate_command}
-use Rattle.command_line.proofs.Walks.{Anything, Enters, OnlyHelp, Stops, after, any_name, at, cut, file_is, held, help, judged, leaf, left}
+use Rattle.command_line.specs.Words.{AskOnFile, IsFileFound, IsPlain, command, simulate_command}
+use Rattle.command_line.proofs.Walks.{Anything, Enters, OnlyHelp, Stops, after, any_name, at, cut, file_is, held, help, leaf, left}
 use Rattle.command_line.proofs.Walks.{level_parts, names, not_nil, one_found, one_word, plain_word, sought, stopped_walk, top}
 
 -- what is wrong after the words, where this is held
-abbrev rest_fault : Shape → Held → Kinds
+abbrev pub rest_fault : Shape → Held → Kinds
 rest_fault s h = or_else (settle_fault s.rules s.args_override_self h) (or_else (defaults_fault (settled s.rules h).rows s.rules) (check_fault s (finished s.rules h) false))
 
 -- The command has one positional argument, and wants it.
@@ -80,21 +80,11 @@ module _ (s : Shape) (id : Text) (takes : TakesFile s id) where
 
 -- ---- the commands on one file
 
-abbrev pub looked : Shape
-looked = leaf find_command
-
 abbrev pub played : Shape
 played = leaf simulate_command
 
-pub looked_help : OnlyHelp looked.rules Anything
-looked_help = record { long = λ name n. one_found (λ a. has_long a name) help; short = λ x. one_found (λ a. has_short a x) help }
-
 pub played_help : OnlyHelp played.rules Anything
 played_help = record { long = λ name n. one_found (λ a. has_long a name) help; short = λ x. one_found (λ a. has_short a x) help }
-
-pub looked_takes : TakesFile looked (codes "HISTORY")
-unfolding clap_on_literals
-looked_takes = record { goes = λ x. refl; goes_marked = λ x. refl; free = refl; full = λ x e. not_nil e; wanted = λ e. not_nil e; enough = λ x. refl; first = λ x. refl }
 
 pub played_takes : TakesFile played (codes "SCHEDULE")
 unfolding clap_on_literals
@@ -104,31 +94,15 @@ pub sought_takes : TakesFile sought (codes "HISTORY")
 unfolding clap_on_literals
 sought_takes = record { goes = λ x. refl; goes_marked = λ x. refl; free = refl; full = λ x e. not_nil e; wanted = λ e. not_nil e; enough = λ x. refl; first = λ x. refl }
 
-pub judged_takes : TakesFile judged (codes "HISTORY")
-unfolding clap_on_literals
-judged_takes = record { goes = λ x. refl; goes_marked = λ x. refl; free = refl; full = λ x e. not_nil e; wanted = λ e. not_nil e; enough = λ x. refl; first = λ x. refl }
-
-pub stops_find : Stops (codes "find")
-unfolding clap_on_literals
-stops_find rest = stopped_walk top.rules names (at [] None 1 false) (codes "find", []) rest
-
 pub stops_simulate : Stops (codes "simulate")
 unfolding clap_on_literals
 stops_simulate rest = stopped_walk top.rules names (at [] None 1 false) (codes "simulate", []) rest
-
-pub enters_find : Enters (codes "find") looked
-unfolding clap_on_literals
-enters_find rest = ap (entered (built command)) (stops_find rest)
 
 pub enters_simulate : Enters (codes "simulate") played
 unfolding clap_on_literals
 enters_simulate rest = ap (entered (built command)) (stops_simulate rest)
 
 -- ---- words that are taken
-
-pub takes_find : (program x : Text) → IsPlain x → fault_of command (program ∷ codes "find" ∷ x ∷ []) ≡ []
-unfolding clap_on_literals
-takes_find program x p = ap (λ below. level_fault top names nothing_held (codes "find" ∷ x ∷ []) true below) (file_passes looked (codes "HISTORY") looked_takes x p)
 
 pub takes_simulate : (program x : Text) → IsPlain x → fault_of command (program ∷ codes "simulate" ∷ x ∷ []) ≡ []
 unfolding clap_on_literals
@@ -137,7 +111,3 @@ takes_simulate program x p = ap (λ below. level_fault top names nothing_held (c
 pub takes_search : (program x : Text) → IsPlain x → fault_of command (program ∷ codes "search" ∷ x ∷ []) ≡ []
 unfolding clap_on_literals
 takes_search program x p = ap (λ below. level_fault top names nothing_held (codes "search" ∷ x ∷ []) true below) (file_passes sought (codes "HISTORY") sought_takes x p)
-
-pub takes_judge : (program x : Text) → IsPlain x → fault_of command (program ∷ codes "judge" ∷ x ∷ []) ≡ []
-unfolding clap_on_literals
-takes_judge program x p = ap (λ below. level_fault top names nothing_held (codes "judge" ∷ x ∷ []) true below) (file_passes judged (codes "HISTORY") judged_takes x p)

@@ -13,7 +13,7 @@ use Rattle.seq_objects.specs.declared.kinds.Kinds.TheVariants.{One}
 use Rattle.model.specs.declared.Kind.TheVariants.{Queue}
 use Rattle.command_line.specs.declared.asking.RunOptions.{RunOptions}
 use Rattle.command_line.specs.declared.asking.Line.{Line}
-use Rattle.command_line.specs.declared.asking.Line.TheVariants.{Check, Search, Find, Judge, Refute, Draw, Run, Simulate}
+use Rattle.command_line.specs.declared.asking.Line.TheVariants.{Check, Search, Refute, Verify, Run, Simulate}
 use Rattle.clap.specs.Kinds.{HasKind, IsAmong, or_else}
 use Rattle.clap.specs.Values.{kind_of}
 use Rattle.clap.specs.declared.error.Error.{Error}
@@ -24,17 +24,14 @@ use Rattle.clap.specs.Simple.{App, HasMatchesOf, subcommand_rows_of, built, ente
 use Rattle.clap.specs.Walk.{Row, Text, Walk, settled, finished, first_of, nothing_held, rows_after, rows_of, walk, walked}
 use Rattle.clap.proofs.OnLiterals.{clap_on_literals}
 use Rattle.order_search.specs.declared.trials.TryFirst.TheVariants.{LeastNumber}
-use Rattle.command_line.specs.Limits.{max_workers, max_steps, default_steps}
-use Rattle.command_line.specs.Words.{AreNoOptions, AreRunOptions, AreSteps, IsChosen, IsFirst, AskFor, AskOnFile, AskToCheck, Finds, HasCheck, HasJudge}
-use Rattle.command_line.specs.Words.{HasNoCheck, HasNoDraw, HasNoJudge, HasNoRefute, HasNoRun, HasNoSearch, HasRefute, HasSearch, HasDraw, IsCheckFound, IsCommand, IsFault, IsFileFound, IsFor}
-use Rattle.command_line.specs.Words.{IsNumber, IsPlain, IsPlainCheck, IsPlainRun, IsPlainSearch, IsPlainSimulate, IsPlainFind, IsPlainJudge, IsPlainRefute, IsPlainDraw, IsPlainCheckedDraw, Lacks}
-use Rattle.command_line.specs.Words.{LacksFor, command, values}
-use Rattle.command_line.proofs.Drawn.{both_values, drawn_values, plain_draw, takes_both, takes_draw}
-use Rattle.command_line.proofs.Walks.{IsName, Stops, after, drawn, ends0, enters, enters_draw, enters_judge, enters_refute, enters_run, enters_search, history_is, judged, level_parts}
-use Rattle.command_line.proofs.Walks.{low, names, not_nil, plain_word, reasoned, reasons_state, running, sought, state0, state2, stops, top, top_words}
-use Rattle.command_line.proofs.OneFile.{enters_find, enters_simulate, file_taken, file_walked, judged_takes, looked, looked_help, looked_takes}
-use Rattle.command_line.proofs.OneFile.{played, played_help, played_takes, sought_takes, stops_find, stops_simulate, takes_find, takes_judge}
-use Rattle.command_line.proofs.OneFile.{takes_search, takes_simulate}
+use Rattle.command_line.specs.Limits.{max_workers, default_steps}
+use Rattle.command_line.specs.Words.{AreNoOptions, AreRunOptions, AreSteps, AskFor, AskOnFile, AskToCheck, Finds, HasCheck, HasNoCheck, HasNoRefute, HasNoRun, HasNoSearch, HasNoVerify}
+use Rattle.command_line.specs.Words.{HasSearch, IsCheckFound, IsCommand, IsFault, IsFileFound, IsFirst, IsFor, IsNumber, IsPlain, IsPlainCheck, IsPlainRefute, IsPlainRun, IsPlainSearch}
+use Rattle.command_line.specs.Words.{IsPlainSimulate, IsPlainVerify, Lacks, LacksFor, command, values}
+use Rattle.command_line.proofs.Walks.{IsName, Stops, after, ends0, enters, enters_refute, enters_run, enters_search, enters_verify, history_is, level_parts, low, names, not_nil, plain_word}
+use Rattle.command_line.proofs.Walks.{reasoned, running, sought, state0, state2, stops, top, top_words, verified}
+use Rattle.command_line.proofs.OneFile.{enters_simulate, file_taken, file_walked, played, played_help, played_takes, sought_takes, stops_simulate, takes_search, takes_simulate}
+use Rattle.command_line.proofs.TwoFiles.{files_values, reasoned_takes, takes_refute, takes_verify, verified_takes}
 
 -- words that are spelled otherwise are not the same
 apart : (v w : Text) → bytes_eq v w ≡ false → v ≡ w → ⊥
@@ -70,7 +67,6 @@ pub record Taken (words : List Text) : Type 0 where
   pub rows : List Row
   pub entered : subcommand_of command words ≡ Some (name, rows)
   pub check : name ≡ codes "check" → TakenCheck words
-  pub find : name ≡ codes "find" → TakenFile (codes "find") (codes "HISTORY") words
   pub simulate : name ≡ codes "simulate" → TakenFile (codes "simulate") (codes "SCHEDULE") words
 
 low_taken : (program : Text) (rest : List Text) → level_fault low [] nothing_held rest false [] ≡ [] → TakenCheck (program ∷ codes "check" ∷ rest)
@@ -110,10 +106,6 @@ check_taken : (program : Text) (rest : List Text) → fault_of command (program 
 unfolding clap_on_literals
 check_taken program rest e = low_taken program rest (behind (codes "check") stops program rest e)
 
-find_taken : (program : Text) (rest : List Text) → fault_of command (program ∷ codes "find" ∷ rest) ≡ [] → TakenFile (codes "find") (codes "HISTORY") (program ∷ codes "find" ∷ rest)
-unfolding clap_on_literals
-find_taken program rest e = file_taken looked (codes "HISTORY") looked_takes looked_help (codes "find") program rest enters_find (behind (codes "find") stops_find program rest e)
-
 simulate_taken : (program : Text) (rest : List Text) → fault_of command (program ∷ codes "simulate" ∷ rest) ≡ [] → TakenFile (codes "simulate") (codes "SCHEDULE") (program ∷ codes "simulate" ∷ rest)
 unfolding clap_on_literals
 simulate_taken program rest e = file_taken played (codes "SCHEDULE") played_takes played_help (codes "simulate") program rest enters_simulate (behind (codes "simulate") stops_simulate program rest e)
@@ -125,10 +117,8 @@ name_entered program w rest known = elim known [
   | inr (inl is) ↦ subst At is (_, enters_search rest)
   | inr (inr (inl is)) ↦ subst At is (_, enters_run rest)
   | inr (inr (inr (inl is))) ↦ subst At is (_, enters_simulate rest)
-  | inr (inr (inr (inr (inl is)))) ↦ subst At is (_, enters_find rest)
-  | inr (inr (inr (inr (inr (inl is))))) ↦ subst At is (_, enters_judge rest)
-  | inr (inr (inr (inr (inr (inr (inl is)))))) ↦ subst At is (_, enters_refute rest)
-  | inr (inr (inr (inr (inr (inr (inr is)))))) ↦ subst At is (_, enters_draw rest)
+  | inr (inr (inr (inr (inl is)))) ↦ subst At is (_, enters_refute rest)
+  | inr (inr (inr (inr (inr is)))) ↦ subst At is (_, enters_verify rest)
 ]
   where
     At : Text → Type 0
@@ -150,7 +140,6 @@ taken (program ∷ w ∷ rest) e =
       rows = inside.0;
       entered = inside.1;
       check = λ is. subst (λ x. TakenCheck (program ∷ x ∷ rest)) (sym is) (check_taken program rest (subst (λ x. fault_of command (program ∷ x ∷ rest) ≡ []) is e));
-      find = λ is. subst (λ x. TakenFile (codes "find") (codes "HISTORY") (program ∷ x ∷ rest)) (sym is) (find_taken program rest (subst (λ x. fault_of command (program ∷ x ∷ rest) ≡ []) is e));
       simulate = λ is. subst (λ x. TakenFile (codes "simulate") (codes "SCHEDULE") (program ∷ x ∷ rest)) (sym is)
           (simulate_taken program rest (subst (λ x. fault_of command (program ∷ x ∷ rest) ≡ []) is e));
     }
@@ -182,34 +171,6 @@ low_values h c ph pc =
           subst (λ o. IsNumber 1 max_workers 1 o 1) (sym (ap (first_of (codes "workers")) last)) refl;
     }
 
--- the same of a refutation
-reasoned_takes : (h r : Text) → IsPlain h → IsPlain r → level_fault reasoned [] nothing_held (h ∷ r ∷ []) false [] ≡ []
-unfolding clap_on_literals
-reasoned_takes h r ph pr =
-    let first = plain_word reasoned [] None 1 h ph in
-    let second = plain_word reasoned [] (history_is h) 2 r pr in
-    let next : walked reasoned.rules [] (walked reasoned.rules [] (state0 false) h) r ≡ reasons_state h r = ap (λ v. walked reasoned.rules [] v r) first.1 ∙ second.1 in
-    let turns : turn_fault reasoned [] (walked reasoned.rules [] (state0 false) h) r ≡ [] = ap (λ v. turn_fault reasoned [] v r) first.1 ∙ second.0 in
-    let walks : walk_fault reasoned [] (state0 false) (h ∷ r ∷ []) ≡ [] = ap₂ (λ a b. or_else a (or_else b [])) first.0 turns in
-    ap₂ (λ f (v : Walk). or_else f (or_else (settle_fault reasoned.rules reasoned.args_override_self v.held) (or_else (defaults_fault (settled reasoned.rules v.held).rows reasoned.rules)
-    (check_fault reasoned (finished reasoned.rules v.held) false)))) walks next
-
-reasoned_values : (h r : Text) → IsPlain h → IsPlain r → HasRefute (rows_after reasoned.rules [] (h ∷ r ∷ [])) h r default_steps
-unfolding clap_on_literals
-reasoned_values h r ph pr =
-    let next : walked reasoned.rules [] (walked reasoned.rules [] (state0 false) h) r ≡ reasons_state h r =
-    ap (λ v. walked reasoned.rules [] v r) (plain_word reasoned [] None 1 h ph).1 ∙ (plain_word reasoned [] (history_is h) 2 r pr).1 in
-    let last : rows_after reasoned.rules [] (h ∷ r ∷ []) ≡ finished reasoned.rules (reasons_state h r).held = ap (λ (v : Walk). finished reasoned.rules v.held) next in
-    record {
-      history_first = ap (first_of (codes "HISTORY")) last;
-      reasons_first = ap (first_of (codes "REASONS")) last;
-      steps_first = subst (λ o. AreSteps o default_steps) (sym (ap (first_of (codes "steps")) last)) refl;
-    }
-
-takes_refute : (program h r : Text) → IsPlain h → IsPlain r → fault_of command (program ∷ codes "refute" ∷ h ∷ r ∷ []) ≡ []
-unfolding clap_on_literals
-takes_refute program h r ph pr = ap (λ below. level_fault top names nothing_held (codes "refute" ∷ h ∷ r ∷ []) true below) (reasoned_takes h r ph pr)
-
 takes : (program h c : Text) → IsPlain h → IsPlain c → fault_of command (program ∷ codes "check" ∷ h ∷ c ∷ []) ≡ []
 unfolding clap_on_literals
 takes program h c ph pc = ap (λ below. level_fault top names nothing_held (codes "check" ∷ h ∷ c ∷ []) true below) (low_takes h c ph pc)
@@ -237,12 +198,6 @@ sought_values h p =
           subst (λ o. AreSteps o default_steps) (sym (ap (first_of (codes "steps")) last)) refl;
       first_first = subst (λ o. IsFirst o LeastNumber) (sym (ap (first_of (codes "first")) last)) refl;
     }
-
-judged_values : (h : Text) → IsPlain h → HasJudge (rows_after judged.rules [] (h ∷ [])) h None
-unfolding clap_on_literals
-judged_values h p =
-    let last = ap (λ (v : Walk). finished judged.rules v.held) (file_walked judged (codes "HISTORY") judged_takes h p) in
-    record { history_first = ap (first_of (codes "HISTORY")) last; steps_first = subst (λ o. IsChosen max_steps o None) (sym (ap (first_of (codes "steps")) last)) refl }
 
 simple : is_simple_and_free command ≡ true
 unfolding clap_on_literals
@@ -291,9 +246,8 @@ pub record HasValues (w : Text) (rows : List Row) : Type 0 where
   pub search : w ≡ codes "search" → HasNoSearch rows → ⊥
   pub run : w ≡ codes "run" → HasNoRun rows → ⊥
   pub check : w ≡ codes "check" → HasNoCheck rows → ⊥
-  pub judge : w ≡ codes "judge" → HasNoJudge rows → ⊥
   pub refute : w ≡ codes "refute" → HasNoRefute rows → ⊥
-  pub draw : w ≡ codes "draw" → HasNoDraw rows → ⊥
+  pub verify : w ≡ codes "verify" → HasNoVerify rows → ⊥
 
 lacks_not : (name : Text) (P : List Row → Type 0) (m : Option (Text × List Row)) (w : Text) (r : List Row) (f : LineFault) → m ≡ Some (w, r) → (w ≡ name → P r → ⊥) → LacksFor name P m f → ⊥
 lacks_not name P m w r f e has l =
@@ -303,9 +257,8 @@ lacks_nothing : (m : Option (Text × List Row)) (w : Text) (r : List Row) (f : L
 lacks_nothing m w r f e has (inl l) = lacks_not (codes "search") HasNoSearch m w r f e has.search l
 lacks_nothing m w r f e has (inr (inl l)) = lacks_not (codes "run") HasNoRun m w r f e has.run l
 lacks_nothing m w r f e has (inr (inr (inl l))) = lacks_not (codes "check") HasNoCheck m w r f e has.check l
-lacks_nothing m w r f e has (inr (inr (inr (inl l)))) = lacks_not (codes "judge") HasNoJudge m w r f e has.judge l
-lacks_nothing m w r f e has (inr (inr (inr (inr (inl l))))) = lacks_not (codes "refute") HasNoRefute m w r f e has.refute l
-lacks_nothing m w r f e has (inr (inr (inr (inr (inr l))))) = lacks_not (codes "draw") HasNoDraw m w r f e has.draw l
+lacks_nothing m w r f e has (inr (inr (inr (inl l)))) = lacks_not (codes "refute") HasNoRefute m w r f e has.refute l
+lacks_nothing m w r f e has (inr (inr (inr (inr l)))) = lacks_not (codes "verify") HasNoVerify m w r f e has.verify l
 
 -- another name than that of a command that can lack its values
 other : (v w : Text) (P : Type 0) → bytes_eq v w ≡ false → v ≡ w → P → ⊥
@@ -331,9 +284,8 @@ only_memory words f p =
       search = other (codes "check") (codes "search") _ refl;
       run = other (codes "check") (codes "run") _ refl;
       check = λ is none. none p.history p.certs 1 (low_values p.history p.certs p.history_plain p.certs_plain);
-      judge = other (codes "check") (codes "judge") _ refl;
       refute = other (codes "check") (codes "refute") _ refl;
-      draw = other (codes "check") (codes "draw") _ refl;
+      verify = other (codes "check") (codes "verify") _ refl;
     } in
     only_memory_at (p.program ∷ codes "check" ∷ rest) words (codes "check") _ f p.said (takes p.program p.history p.certs p.history_plain p.certs_plain) (enters rest) has
 
@@ -344,9 +296,8 @@ only_memory_run words f p =
       search = other (codes "run") (codes "search") _ refl;
       run = λ is none. none plain_run run_values;
       check = other (codes "run") (codes "check") _ refl;
-      judge = other (codes "run") (codes "judge") _ refl;
       refute = other (codes "run") (codes "refute") _ refl;
-      draw = other (codes "run") (codes "draw") _ refl;
+      verify = other (codes "run") (codes "verify") _ refl;
     } in
     only_memory_at (p.program ∷ codes "run" ∷ []) words (codes "run") _ f p.said (takes_run p.program) (enters_run []) has
 
@@ -357,24 +308,10 @@ only_memory_search words f p =
       search = λ is none. none p.history default_steps LeastNumber (sought_values p.history p.history_plain);
       run = other (codes "search") (codes "run") _ refl;
       check = other (codes "search") (codes "check") _ refl;
-      judge = other (codes "search") (codes "judge") _ refl;
       refute = other (codes "search") (codes "refute") _ refl;
-      draw = other (codes "search") (codes "draw") _ refl;
+      verify = other (codes "search") (codes "verify") _ refl;
     } in
     only_memory_at (p.program ∷ codes "search" ∷ p.history ∷ []) words (codes "search") _ f p.said (takes_search p.program p.history p.history_plain) (enters_search (p.history ∷ [])) has
-
-pub only_memory_judge : (words : List Text) (f : LineFault) → IsPlainJudge words → IsFault words f → f ≡ NoMemory
-unfolding clap_on_literals
-only_memory_judge words f p =
-    let has : HasValues (codes "judge") (rows_after judged.rules [] (p.history ∷ [])) = record {
-      search = other (codes "judge") (codes "search") _ refl;
-      run = other (codes "judge") (codes "run") _ refl;
-      check = other (codes "judge") (codes "check") _ refl;
-      judge = λ is none. none p.history None (judged_values p.history p.history_plain);
-      refute = other (codes "judge") (codes "refute") _ refl;
-      draw = other (codes "judge") (codes "draw") _ refl;
-    } in
-    only_memory_at (p.program ∷ codes "judge" ∷ p.history ∷ []) words (codes "judge") _ f p.said (takes_judge p.program p.history p.history_plain) (enters_judge (p.history ∷ [])) has
 
 pub only_memory_refute : (words : List Text) (f : LineFault) → IsPlainRefute words → IsFault words f → f ≡ NoMemory
 unfolding clap_on_literals
@@ -384,60 +321,38 @@ only_memory_refute words f p =
       search = other (codes "refute") (codes "search") _ refl;
       run = other (codes "refute") (codes "run") _ refl;
       check = other (codes "refute") (codes "check") _ refl;
-      judge = other (codes "refute") (codes "judge") _ refl;
-      refute = λ is none. none p.history p.reasons default_steps (reasoned_values p.history p.reasons p.history_plain p.reasons_plain);
-      draw = other (codes "refute") (codes "draw") _ refl;
+      refute = λ is none. none p.history p.reasons default_steps (files_values reasoned (codes "REASONS") reasoned_takes p.history p.reasons p.history_plain p.reasons_plain);
+      verify = other (codes "refute") (codes "verify") _ refl;
     } in
     only_memory_at (p.program ∷ codes "refute" ∷ rest) words (codes "refute") _ f p.said
     (takes_refute p.program p.history p.reasons p.history_plain p.reasons_plain) (enters_refute rest) has
 
--- a drawing of these values has them
-drawn_has : (rows : List Row) (h : Text) (c : Option Text) → HasDraw rows h c plain_draw → HasValues (codes "draw") rows
-drawn_has rows h c found = record {
-  search = other (codes "draw") (codes "search") _ refl;
-  run = other (codes "draw") (codes "run") _ refl;
-  check = other (codes "draw") (codes "check") _ refl;
-  judge = other (codes "draw") (codes "judge") _ refl;
-  refute = other (codes "draw") (codes "refute") _ refl;
-  draw = λ is none. none h c plain_draw found;
-}
-
-pub only_memory_draw : (words : List Text) (f : LineFault) → IsPlainDraw words → IsFault words f → f ≡ NoMemory
+pub only_memory_verify : (words : List Text) (f : LineFault) → IsPlainVerify words → IsFault words f → f ≡ NoMemory
 unfolding clap_on_literals
-only_memory_draw words f p =
-    only_memory_at (p.program ∷ codes "draw" ∷ p.history ∷ []) words (codes "draw") _ f p.said (takes_draw p.program p.history p.history_plain) (enters_draw (p.history ∷ []))
-    (drawn_has (rows_after drawn.rules [] (p.history ∷ [])) p.history None (drawn_values p.history p.history_plain))
-
-pub only_memory_checked_draw : (words : List Text) (f : LineFault) → IsPlainCheckedDraw words → IsFault words f → f ≡ NoMemory
-unfolding clap_on_literals
-only_memory_checked_draw words f p =
-    let rest = p.history ∷ p.certs ∷ [] in
-    only_memory_at (p.program ∷ codes "draw" ∷ rest) words (codes "draw") _ f p.said (takes_both p.program p.history p.certs p.history_plain p.certs_plain) (enters_draw rest)
-    (drawn_has (rows_after drawn.rules [] rest) p.history (Some p.certs) (both_values p.history p.certs p.history_plain p.certs_plain))
-
--- a command on one file alone has its values
-has_file : (name : Text) (rows : List Row) → bytes_eq name (codes "search") ≡ false → bytes_eq name (codes "run") ≡ false
-    → bytes_eq name (codes "check") ≡ false → bytes_eq name (codes "judge") ≡ false → bytes_eq name (codes "refute") ≡ false → bytes_eq name (codes "draw") ≡ false → HasValues name rows
-has_file name rows no_search no_run no_check no_judge no_refute no_draw = record {
-  search = other name (codes "search") _ no_search;
-  run = other name (codes "run") _ no_run;
-  check = other name (codes "check") _ no_check;
-  judge = other name (codes "judge") _ no_judge;
-  refute = other name (codes "refute") _ no_refute;
-  draw = other name (codes "draw") _ no_draw;
-}
+only_memory_verify words f p =
+    let rest = p.history ∷ p.evidence ∷ [] in
+    let has : HasValues (codes "verify") (rows_after verified.rules [] rest) = record {
+      search = other (codes "verify") (codes "search") _ refl;
+      run = other (codes "verify") (codes "run") _ refl;
+      check = other (codes "verify") (codes "check") _ refl;
+      refute = other (codes "verify") (codes "refute") _ refl;
+      verify = λ is none. none p.history p.evidence default_steps (files_values verified (codes "EVIDENCE") verified_takes p.history p.evidence p.history_plain p.evidence_plain);
+    } in
+    only_memory_at (p.program ∷ codes "verify" ∷ rest) words (codes "verify") _ f p.said
+    (takes_verify p.program p.history p.evidence p.history_plain p.evidence_plain) (enters_verify rest) has
 
 pub only_memory_simulate : (words : List Text) (f : LineFault) → IsPlainSimulate words → IsFault words f → f ≡ NoMemory
 unfolding clap_on_literals
 only_memory_simulate words f p =
+    let has : HasValues (codes "simulate") (rows_after played.rules [] (p.schedule ∷ [])) = record {
+      search = other (codes "simulate") (codes "search") _ refl;
+      run = other (codes "simulate") (codes "run") _ refl;
+      check = other (codes "simulate") (codes "check") _ refl;
+      refute = other (codes "simulate") (codes "refute") _ refl;
+      verify = other (codes "simulate") (codes "verify") _ refl;
+    } in
     only_memory_at (p.program ∷ codes "simulate" ∷ p.schedule ∷ []) words (codes "simulate") _ f p.said
-    (takes_simulate p.program p.schedule p.schedule_plain) (enters_simulate (p.schedule ∷ [])) (has_file (codes "simulate") _ refl refl refl refl refl refl)
-
-pub only_memory_find : (words : List Text) (f : LineFault) → IsPlainFind words → IsFault words f → f ≡ NoMemory
-unfolding clap_on_literals
-only_memory_find words f p =
-    only_memory_at (p.program ∷ codes "find" ∷ p.history ∷ []) words (codes "find") _ f p.said (takes_find p.program p.history p.history_plain)
-    (enters_find (p.history ∷ [])) (has_file (codes "find") _ refl refl refl refl refl refl)
+    (takes_simulate p.program p.schedule p.schedule_plain) (enters_simulate (p.schedule ∷ [])) has
 
 -- ---- what is found
 
@@ -473,10 +388,8 @@ asked_file name argument words t x g =
 asked : (words : List Text) → Taken words → (l : Line) → Finds (subcommand_of command words) l → AskFor words l
 asked words t (Check history certs workers) g = asked_check words (t.check (taken_name words t (codes "check") g.rows g.entered)) (string_bytes history) (string_bytes certs) workers g
 asked words t (Search history steps first) g = g
-asked words t (Find history) g = asked_file (codes "find") (codes "HISTORY") words (t.find (taken_name words t (codes "find") g.rows g.entered)) (string_bytes history) g
-asked words t (Judge history steps) g = g
 asked words t (Refute history reasons steps) g = g
-asked words t (Draw history certs options) g = g
+asked words t (Verify history evidence steps) g = g
 asked words t (Run options) g = g
 asked words t (Simulate schedule) g = asked_file (codes "simulate") (codes "SCHEDULE") words (t.simulate (taken_name words t (codes "simulate") g.rows g.entered)) (string_bytes schedule) g
 
@@ -486,10 +399,8 @@ is_command words t = elim t.known [
   | inr (inl is) ↦ inr (inl (t.rows, at_name is))
   | inr (inr (inl is)) ↦ inr (inr (inl (t.rows, at_name is)))
   | inr (inr (inr (inl is))) ↦ let f = t.simulate (sym is) in inr (inr (inr (inl (f.0, f.2))))
-  | inr (inr (inr (inr (inl is)))) ↦ let f = t.find (sym is) in inr (inr (inr (inr (inl (f.0, f.2)))))
-  | inr (inr (inr (inr (inr (inl is))))) ↦ inr (inr (inr (inr (inr (inl (t.rows, at_name is))))))
-  | inr (inr (inr (inr (inr (inr (inl is)))))) ↦ inr (inr (inr (inr (inr (inr (inl (t.rows, at_name is)))))))
-  | inr (inr (inr (inr (inr (inr (inr is)))))) ↦ inr (inr (inr (inr (inr (inr (inr (t.rows, at_name is)))))))
+  | inr (inr (inr (inr (inl is)))) ↦ inr (inr (inr (inr (inl (t.rows, at_name is)))))
+  | inr (inr (inr (inr (inr is)))) ↦ inr (inr (inr (inr (inr (t.rows, at_name is)))))
 ]
   where
     at_name : {name : Text} → name ≡ t.name → subcommand_of command words ≡ Some (name, t.rows)

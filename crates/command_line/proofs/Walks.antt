@@ -18,7 +18,7 @@ use Rattle.clap.specs.Walk.{plain, rows_after, short_or_plain, subcommand_met, t
 use Rattle.clap.proofs.OnLiterals.{clap_on_literals}
 use Rattle.clap.specs.declared.parser.matches.ValueSource.TheVariants.{CommandLine}
 use Rattle.clap.specs.declared.builder.value_parser.Reading.TheVariants.{AsWritten}
-use Rattle.command_line.specs.Words.{AreNoOptions, IsPlain, check, command, draw_command, judge_command, refute_command, run, search_command, values}
+use Rattle.command_line.specs.Words.{AreNoOptions, IsPlain, check, command, refute_command, run, search_command, values, verify_command}
 
 -- ---- the shapes that are built
 
@@ -41,14 +41,11 @@ running = leaf run
 abbrev pub sought : Shape
 sought = leaf search_command
 
-abbrev pub judged : Shape
-judged = leaf judge_command
-
 abbrev pub reasoned : Shape
 reasoned = leaf refute_command
 
-abbrev pub drawn : Shape
-drawn = leaf draw_command
+abbrev pub verified : Shape
+verified = leaf verify_command
 
 abbrev pub help : Rule
 help = with_index 1 (filled help_rule)
@@ -187,34 +184,30 @@ dashed (v ∷ vs) e last = not_nil (both_nil (turn_fault top names (at [] None 1
 
 -- it is the name of a command
 abbrev pub IsName : Text → Type 0
-IsName w = (codes "check" ≡ w) ⊎ (codes "search" ≡ w) ⊎ (codes "run" ≡ w) ⊎ (codes "simulate" ≡ w) ⊎ (codes "find" ≡ w) ⊎ (codes "judge" ≡ w) ⊎ (codes "refute" ≡ w) ⊎ (codes "draw" ≡ w)
+IsName w = (codes "check" ≡ w) ⊎ (codes "search" ≡ w) ⊎ (codes "run" ≡ w) ⊎ (codes "simulate" ≡ w) ⊎ (codes "refute" ≡ w) ⊎ (codes "verify" ≡ w)
 
 pub top_words : (w : Text) (rest : List Text) → walk_fault top names (walk_from nothing_held) (w ∷ rest) ≡ [] → TopCheck w rest ≡ [] → IsName w
 unfolding clap_on_literals
-top_words w rest e last = go (bytes_eq (codes "judge") w) refl (bytes_eq (codes "check") w) refl (bytes_eq (codes "search") w) refl
-    (bytes_eq (codes "find") w) refl (bytes_eq (codes "refute") w) refl (bytes_eq (codes "draw") w) refl (bytes_eq (codes "run") w) refl (bytes_eq (codes "simulate") w) refl
-    (bytes_eq (codes "help") w) refl (bytes_eq w (codes "--")) refl
+top_words w rest e last = go (bytes_eq (codes "check") w) refl (bytes_eq (codes "search") w) refl (bytes_eq (codes "refute") w) refl (bytes_eq (codes "verify") w) refl
+    (bytes_eq (codes "run") w) refl (bytes_eq (codes "simulate") w) refl (bytes_eq (codes "help") w) refl (bytes_eq w (codes "--")) refl
   where
     first : turn_fault top names (at [] None 1 false) w ≡ []
     first = (both_nil (turn_fault top names (at [] None 1 false) w) (walk_fault top names (walked top.rules names (at [] None 1 false) w) rest) e).0
 
-    go : (j : Bool) → bytes_eq (codes "judge") w ≡ j → (a : Bool) → bytes_eq (codes "check") w ≡ a → (f : Bool) → bytes_eq (codes "search") w ≡ f
-        → (g : Bool) → bytes_eq (codes "find") w ≡ g → (v : Bool) → bytes_eq (codes "refute") w ≡ v → (c : Bool) → bytes_eq (codes "draw") w ≡ c
-        → (n : Bool) → bytes_eq (codes "run") w ≡ n → (s : Bool) → bytes_eq (codes "simulate") w ≡ s → (b : Bool) → bytes_eq (codes "help") w ≡ b
-        → (d : Bool) → bytes_eq w (codes "--") ≡ d → IsName w
-    go true u a p f m g l v x c y n o s t b q d r = inr (inr (inr (inr (inr (inl ((bytes_eq-Decides (codes "judge") w).0 u))))))
-    go false u true p f m g l v x c y n o s t b q d r = inl ((bytes_eq-Decides (codes "check") w).0 p)
-    go false u false p true m g l v x c y n o s t b q d r = inr (inl ((bytes_eq-Decides (codes "search") w).0 m))
-    go false u false p false m true l v x c y n o s t b q d r = inr (inr (inr (inr (inl ((bytes_eq-Decides (codes "find") w).0 l)))))
-    go false u false p false m false l true x c y n o s t b q d r = inr (inr (inr (inr (inr (inr (inl ((bytes_eq-Decides (codes "refute") w).0 x)))))))
-    go false u false p false m false l false x true y n o s t b q d r = inr (inr (inr (inr (inr (inr (inr ((bytes_eq-Decides (codes "draw") w).0 y)))))))
-    go false u false p false m false l false x false y true o s t b q d r = inr (inr (inl ((bytes_eq-Decides (codes "run") w).0 o)))
-    go false u false p false m false l false x false y false o true t b q d r = inr (inr (inr (inl ((bytes_eq-Decides (codes "simulate") w).0 t))))
-    go false u false p false m false l false x false y false o false t true q d r = absurd (not_nil (rw (u, p, m, l, x, y, o, t, q) at (turn_parts top names [] None 1 w first).0))
-    go false u false p false m false l false x false y false o false t false q true r = let is = (bytes_eq-Decides w (codes "--")).0 r in
+    go : (a : Bool) → bytes_eq (codes "check") w ≡ a → (f : Bool) → bytes_eq (codes "search") w ≡ f → (g : Bool) → bytes_eq (codes "refute") w ≡ g
+        → (v : Bool) → bytes_eq (codes "verify") w ≡ v → (n : Bool) → bytes_eq (codes "run") w ≡ n → (s : Bool) → bytes_eq (codes "simulate") w ≡ s
+        → (b : Bool) → bytes_eq (codes "help") w ≡ b → (d : Bool) → bytes_eq w (codes "--") ≡ d → IsName w
+    go true p f m g l v x n o s t b q d r = inl ((bytes_eq-Decides (codes "check") w).0 p)
+    go false p true m g l v x n o s t b q d r = inr (inl ((bytes_eq-Decides (codes "search") w).0 m))
+    go false p false m true l v x n o s t b q d r = inr (inr (inr (inr (inl ((bytes_eq-Decides (codes "refute") w).0 l)))))
+    go false p false m false l true x n o s t b q d r = inr (inr (inr (inr (inr ((bytes_eq-Decides (codes "verify") w).0 x)))))
+    go false p false m false l false x true o s t b q d r = inr (inr (inl ((bytes_eq-Decides (codes "run") w).0 o)))
+    go false p false m false l false x false o true t b q d r = inr (inr (inr (inl ((bytes_eq-Decides (codes "simulate") w).0 t))))
+    go false p false m false l false x false o false t true q d r = absurd (not_nil (rw (p, m, l, x, o, t, q) at (turn_parts top names [] None 1 w first).0))
+    go false p false m false l false x false o false t false q true r = let is = (bytes_eq-Decides w (codes "--")).0 r in
         absurd (dashed rest (subst (λ x. walk_fault top names (walk_from nothing_held) (x ∷ rest) ≡ []) is e) (subst (λ x. TopCheck x rest ≡ []) is last))
-    go false u false p false m false l false x false y false o false t false q false r =
-        absurd (not_nil (other_turn top top_help names [] None 1 w (any_name (long_of w)) (rw (u, p, m, l, x, y, o, t, q) refl) r first).1)
+    go false p false m false l false x false o false t false q false r =
+        absurd (not_nil (other_turn top top_help names [] None 1 w (any_name (long_of w)) (rw (p, m, l, x, o, t, q) refl) r first).1)
 
 -- past the subcommand each word is left to it
 pub stopped_walk : (c : List Rule) (ns : Names) (v : Walk) (p : Text × List Text) (rest : List Text) → (fold (walked c ns) (record v { stopped = Some p }) rest).stopped ≡ Some (p.0, p.1 ++ rest)
@@ -244,17 +237,13 @@ pub enters_search : Enters (codes "search") sought
 unfolding clap_on_literals
 enters_search rest = ap (entered (built command)) (stopped_walk top.rules names (at [] None 1 false) (codes "search", []) rest)
 
-pub enters_judge : Enters (codes "judge") judged
-unfolding clap_on_literals
-enters_judge rest = ap (entered (built command)) (stopped_walk top.rules names (at [] None 1 false) (codes "judge", []) rest)
-
 pub enters_refute : Enters (codes "refute") reasoned
 unfolding clap_on_literals
 enters_refute rest = ap (entered (built command)) (stopped_walk top.rules names (at [] None 1 false) (codes "refute", []) rest)
 
-pub enters_draw : Enters (codes "draw") drawn
+pub enters_verify : Enters (codes "verify") verified
 unfolding clap_on_literals
-enters_draw rest = ap (entered (built command)) (stopped_walk top.rules names (at [] None 1 false) (codes "draw", []) rest)
+enters_verify rest = ap (entered (built command)) (stopped_walk top.rules names (at [] None 1 false) (codes "verify", []) rest)
 
 -- ---- the words of the subcommand
 
@@ -314,16 +303,9 @@ state1 x t = at [] (history_is x) 2 t
 abbrev pub state2 : Text → Text → Bool → Walk
 state2 x y t = at (history_row x ∷ []) (file_is (codes "CERTS") y) 3 t
 
--- the same of a refutation
-abbrev pub reasons_state : Text → Text → Walk
-reasons_state x y = at (history_row x ∷ []) (file_is (codes "REASONS") y) 3 false
-
--- and of a drawing
-abbrev pub drawn_state : Text → Walk
-drawn_state x = at [] (history_is x) 2 false
-
-abbrev pub certs_state : Text → Text → Walk
-certs_state x y = at (history_row x ∷ []) (file_is (codes "CERTS") y) 3 false
+-- the same of a command on another file
+abbrev pub files_state : Text → Text → Text → Walk
+files_state id x y = at (history_row x ∷ []) (file_is id y) 3 false
 
 abbrev Last : Held → Type 0
 Last h = check_fault low (finished low.rules h) false ≡ []

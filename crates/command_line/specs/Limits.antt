@@ -9,13 +9,9 @@ max_workers = 16
 abbrev pub max_steps : ℕ
 max_steps = 1000000000
 
--- the steps of a search or a refutation where the words name no number of them
+-- the steps of a search, a refutation or a verification where the words name no number of them
 abbrev pub default_steps : ℕ
 default_steps = 1000000
-
--- the greatest number of an object or a map
-abbrev pub max_number : ℕ
-max_number = 4294967295
 
 -- the objects, clients and calls of each client that a run may be asked to have at most, and its
 -- greatest seed

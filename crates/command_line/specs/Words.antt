@@ -1,6 +1,6 @@
 -- What the words of a command line ask for.
 use Rattle.std.specs.Prelude.{◌≡◌, ◌≢◌, ◌⊎◌, ◌≤◌, ◌∷◌, [], ⊤, ℕ, ℤ, pos, List, true, codes, Option}
-use Rattle.std.specs.Prelude.{Some, None, IfSome, if◌then◌else◌, option_map}
+use Rattle.std.specs.Prelude.{Some, None, IfSome, if◌then◌else◌}
 use Rattle.std.specs.Str.{bytes_eq}
 use Rattle.std.specs.String.{string_bytes}
 use Rattle.clap.specs.Faults.{fault_of}
@@ -21,13 +21,11 @@ use Rattle.seq_objects.specs.declared.kinds.Kinds.TheVariants.{One}
 use Rattle.model.specs.declared.Kind.TheVariants.{Queue}
 use Rattle.seq_objects.specs.Kinds.{kinds_named}
 use Rattle.command_line.specs.Limits.{default_calls, default_clients, default_steps, max_calls}
-use Rattle.command_line.specs.Limits.{max_clients, max_number, max_objects, max_seed, max_steps}
-use Rattle.command_line.specs.Limits.{max_workers}
-use Rattle.command_line.specs.declared.asking.DrawOptions.{DrawOptions}
+use Rattle.command_line.specs.Limits.{max_clients, max_objects, max_seed, max_steps, max_workers}
 use Rattle.command_line.specs.declared.asking.RunOptions.{RunOptions}
 use Rattle.command_line.specs.declared.asking.Line.{Line}
-use Rattle.command_line.specs.declared.asking.Line.TheVariants.{Check, Search, Find, Judge, Run}
-use Rattle.command_line.specs.declared.asking.Line.TheVariants.{Refute, Draw, Simulate}
+use Rattle.command_line.specs.declared.asking.Line.TheVariants.{Check, Search, Refute, Verify}
+use Rattle.command_line.specs.declared.asking.Line.TheVariants.{Run, Simulate}
 use Rattle.command_line.specs.declared.asking.LineFault.{LineFault}
 use Rattle.command_line.specs.declared.asking.LineFault.TheVariants.{Help, Refused, NoMemory}
 
@@ -59,27 +57,15 @@ first_rule = record (new_rule (codes "first")) { long = Some (codes "first") }
 abbrev pub search_command : App
 search_command = with_rule (with_rule (on_history (codes "search")) steps_rule) first_rule
 
-abbrev pub judge_command : App
-judge_command = with_rule (on_history (codes "judge")) steps_rule
+-- a command of this name on the history in a file and on another file, with a number of steps
+abbrev pub on_files : Text → Text → App
+on_files name argument = with_rule (with_rule (on_history name) (required argument)) steps_rule
 
 abbrev pub refute_command : App
-refute_command =
-    with_rule (with_rule (on_history (codes "refute")) (required (codes "REASONS"))) steps_rule
+refute_command = on_files (codes "refute") (codes "REASONS")
 
--- a drawing with its files
-abbrev pub draw_files : App
-draw_files = with_rule (on_history (codes "draw")) (new_rule (codes "CERTS"))
-
-abbrev pub chosen_rule : Text → Rule
-chosen_rule name = number_rule name (pos 0) (pos max_number)
-
--- the same with an object and a number of steps
-abbrev pub draw_object : App
-draw_object = with_rule (with_rule draw_files (chosen_rule (codes "object"))) steps_rule
-
-abbrev pub draw_command : App
-draw_command =
-    with_rule (with_rule draw_object (chosen_rule (codes "from"))) (chosen_rule (codes "to"))
+abbrev pub verify_command : App
+verify_command = on_files (codes "verify") (codes "EVIDENCE")
 
 abbrev pub kind_rule : Rule
 kind_rule = record (new_rule (codes "kind")) { long = Some (codes "kind") }
@@ -102,19 +88,14 @@ run = with_rule (with_rule run_on (number_rule (codes "calls") (pos 0) (pos max_
 abbrev pub simulate_command : App
 simulate_command = with_rule (new_app (codes "simulate")) (required (codes "SCHEDULE"))
 
-abbrev pub find_command : App
-find_command = on_history (codes "find")
-
 abbrev pub judging_commands : App
 judging_commands =
-    with_subcommand (with_subcommand (with_subcommand (with_subcommand (with_subcommand
+    with_subcommand (with_subcommand (with_subcommand (with_subcommand
     (on_top (λ s. record s { subcommand_required = true }) (new_app (codes "fcbench")))
-    judge_command.top) check.top) search_command.top) find_command.top) refute_command.top
+    check.top) search_command.top) refute_command.top) verify_command.top
 
 abbrev pub command : App
-command =
-    with_subcommand (with_subcommand (with_subcommand judging_commands draw_command.top) run.top)
-    simulate_command.top
+command = with_subcommand (with_subcommand judging_commands run.top) simulate_command.top
 
 -- ---- the words of a command
 
@@ -134,9 +115,6 @@ pub record AskOnFile (name : Text) (words : List Text) (file : Text) : Type 0 wh
 abbrev pub AskToSimulate : List Text → Text → Type 0
 AskToSimulate words schedule = AskOnFile (codes "simulate") words schedule
 
-abbrev pub AskToFind : List Text → Text → Type 0
-AskToFind words history = AskOnFile (codes "find") words history
-
 -- This number is named by a decimal number within these bounds, before which a plus may stand;
 -- where none is given, it is another one.
 abbrev pub IsNumber : ℕ → ℕ → ℕ → Option Text → ℕ → Type 0
@@ -147,12 +125,6 @@ IsNumber least most default (Some t) n =
 
 abbrev pub AreSteps : Option Text → ℕ → Type 0
 AreSteps o n = IsNumber 0 max_steps default_steps o n
-
--- a number that is given, at most the greatest; none where none is
-abbrev pub IsChosen : ℕ → Option Text → Option ℕ → Type 0
-IsChosen most None o = o ≡ None
-IsChosen most (Some t) None = ⊥
-IsChosen most (Some t) (Some n) = IsNumber 0 most 0 (Some t) n
 
 -- these are the values of a check
 pub record HasCheck (rows : List Row) (history certs : Text) (workers : ℕ) : Type 0 where
@@ -226,65 +198,47 @@ pub record IsSearchFound (m : Option (Text × List Row)) (history : Text) (steps
   pub entered : m ≡ Some (codes "search", rows)
   pub values : HasSearch rows history steps first
 
--- these are the values of a judgement
-pub record HasJudge (rows : List Row) (history : Text) (steps : Option ℕ) : Type 0 where
-  pub history_first : first_of (codes "HISTORY") rows ≡ Some history
-  pub steps_first : IsChosen max_steps (first_of (codes "steps") rows) steps
-
--- The parse has found `judge`, with these values.
-pub record IsJudgeFound (m : Option (Text × List Row)) (history : Text) (steps : Option ℕ) : Type 0
+-- these are the values of a command on a history and on another file, with a number of steps
+pub record HasFiles (argument : Text) (rows : List Row) (history file : Text) (steps : ℕ) : Type 0
   where
-    pub rows : List Row
-    pub entered : m ≡ Some (codes "judge", rows)
-    pub values : HasJudge rows history steps
+    pub history_first : first_of (codes "HISTORY") rows ≡ Some history
+    pub file_first : first_of argument rows ≡ Some file
+    pub steps_first : AreSteps (first_of (codes "steps") rows) steps
+
+-- The parse has found the command of this name, with these values.
+pub record AreFilesFound (name argument : Text) (m : Option (Text × List Row))
+    (history file : Text) (steps : ℕ) : Type 0 where
+  pub rows : List Row
+  pub entered : m ≡ Some (name, rows)
+  pub values : HasFiles argument rows history file steps
 
 -- these are the values of a refutation
-pub record HasRefute (rows : List Row) (history reasons : Text) (steps : ℕ) : Type 0 where
-  pub history_first : first_of (codes "HISTORY") rows ≡ Some history
-  pub reasons_first : first_of (codes "REASONS") rows ≡ Some reasons
-  pub steps_first : AreSteps (first_of (codes "steps") rows) steps
+abbrev pub HasRefute : List Row → Text → Text → ℕ → Type 0
+HasRefute rows history reasons steps = HasFiles (codes "REASONS") rows history reasons steps
 
 -- The parse has found `refute`, with these values.
-pub record IsRefuteFound (m : Option (Text × List Row)) (history reasons : Text) (steps : ℕ)
-    : Type 0 where
-  pub rows : List Row
-  pub entered : m ≡ Some (codes "refute", rows)
-  pub values : HasRefute rows history reasons steps
+abbrev pub IsRefuteFound : Option (Text × List Row) → Text → Text → ℕ → Type 0
+IsRefuteFound m history reasons steps =
+    AreFilesFound (codes "refute") (codes "REASONS") m history reasons steps
 
--- this is what a drawing is asked to be of, by the options' values
-pub record AreDrawOptions (value : Text → Option Text) (o : DrawOptions) : Type 0 where
-  pub object : IsChosen max_number (value (codes "object")) o.object
-  pub from : IsChosen max_number (value (codes "from")) o.from
-  pub to : IsChosen max_number (value (codes "to")) o.to
-  pub steps : IsChosen max_steps (value (codes "steps")) o.steps
+-- these are the values of a verification
+abbrev pub HasVerify : List Row → Text → Text → ℕ → Type 0
+HasVerify rows history evidence steps = HasFiles (codes "EVIDENCE") rows history evidence steps
 
--- these are the values of a drawing
-pub record HasDraw (rows : List Row) (history : Text) (certs : Option Text) (o : DrawOptions)
-    : Type 0 where
-  pub history_first : first_of (codes "HISTORY") rows ≡ Some history
-  pub certs_first : first_of (codes "CERTS") rows ≡ certs
-  pub options : AreDrawOptions (λ id. first_of id rows) o
-
--- The parse has found `draw`, with these values.
-pub record IsDrawFound (m : Option (Text × List Row)) (history : Text) (certs : Option Text)
-    (o : DrawOptions) : Type 0 where
-  pub rows : List Row
-  pub entered : m ≡ Some (codes "draw", rows)
-  pub values : HasDraw rows history certs o
+-- The parse has found `verify`, with these values.
+abbrev pub IsVerifyFound : Option (Text × List Row) → Text → Text → ℕ → Type 0
+IsVerifyFound m history evidence steps =
+    AreFilesFound (codes "verify") (codes "EVIDENCE") m history evidence steps
 
 abbrev pub AskFor : List Text → Line → Type 0
 AskFor words (Check history certs workers) =
     AskToCheck words (string_bytes history) (string_bytes certs) workers
 AskFor words (Search history steps first) =
     IsSearchFound (subcommand_of command words) (string_bytes history) steps first
-AskFor words (Find history) = AskToFind words (string_bytes history)
-AskFor words (Judge history steps) =
-    IsJudgeFound (subcommand_of command words) (string_bytes history) steps
 AskFor words (Refute history reasons steps) =
     IsRefuteFound (subcommand_of command words) (string_bytes history) (string_bytes reasons) steps
-AskFor words (Draw history certs options) =
-    IsDrawFound (subcommand_of command words) (string_bytes history) (option_map string_bytes certs)
-    options
+AskFor words (Verify history evidence steps) =
+    IsVerifyFound (subcommand_of command words) (string_bytes history) (string_bytes evidence) steps
 AskFor words (Run options) = IsRunFound (subcommand_of command words) options
 AskFor words (Simulate schedule) = AskToSimulate words (string_bytes schedule)
 
@@ -309,20 +263,6 @@ pub record IsPlainSearch (words : List Text) : Type 0 where
   pub said : words ≡ program ∷ codes "search" ∷ history ∷ []
   pub history_plain : IsPlain history
 
--- the program's name, `find` and the name of a file
-pub record IsPlainFind (words : List Text) : Type 0 where
-  pub program : Text
-  pub history : Text
-  pub said : words ≡ program ∷ codes "find" ∷ history ∷ []
-  pub history_plain : IsPlain history
-
--- the program's name, `judge` and the name of a file
-pub record IsPlainJudge (words : List Text) : Type 0 where
-  pub program : Text
-  pub history : Text
-  pub said : words ≡ program ∷ codes "judge" ∷ history ∷ []
-  pub history_plain : IsPlain history
-
 -- the program's name, `refute` and the names of two files
 pub record IsPlainRefute (words : List Text) : Type 0 where
   pub program : Text
@@ -332,21 +272,14 @@ pub record IsPlainRefute (words : List Text) : Type 0 where
   pub history_plain : IsPlain history
   pub reasons_plain : IsPlain reasons
 
--- the program's name, `draw` and the name of a file
-pub record IsPlainDraw (words : List Text) : Type 0 where
+-- the program's name, `verify` and the names of two files
+pub record IsPlainVerify (words : List Text) : Type 0 where
   pub program : Text
   pub history : Text
-  pub said : words ≡ program ∷ codes "draw" ∷ history ∷ []
+  pub evidence : Text
+  pub said : words ≡ program ∷ codes "verify" ∷ history ∷ evidence ∷ []
   pub history_plain : IsPlain history
-
--- the program's name, `draw` and the names of two files
-pub record IsPlainCheckedDraw (words : List Text) : Type 0 where
-  pub program : Text
-  pub history : Text
-  pub certs : Text
-  pub said : words ≡ program ∷ codes "draw" ∷ history ∷ certs ∷ []
-  pub history_plain : IsPlain history
-  pub certs_plain : IsPlain certs
+  pub evidence_plain : IsPlain evidence
 
 -- the program's name and `run`
 pub record IsPlainRun (words : List Text) : Type 0 where
@@ -372,9 +305,6 @@ pub record IsFileFound (name argument : Text) (m : Option (Text × List Row)) (f
 abbrev pub IsScheduleFound : Option (Text × List Row) → Text → Type 0
 IsScheduleFound m schedule = IsFileFound (codes "simulate") (codes "SCHEDULE") m schedule
 
-abbrev pub IsHistoryFound : Option (Text × List Row) → Text → Type 0
-IsHistoryFound m history = IsFileFound (codes "find") (codes "HISTORY") m history
-
 -- the parse has found the command of this name
 abbrev pub IsEntered : Text → Option (Text × List Row) → Type 0
 IsEntered name m = (rows : List Row) × (m ≡ Some (name, rows))
@@ -383,111 +313,72 @@ IsEntered name m = (rows : List Row) × (m ≡ Some (name, rows))
 abbrev pub IsSimulateEntered : Option (Text × List Row) → Type 0
 IsSimulateEntered m = (schedule : Text) × IsScheduleFound m schedule
 
--- the parse has found a history of which certificates are to be found
-abbrev pub IsFindEntered : Option (Text × List Row) → Type 0
-IsFindEntered m = (history : Text) × IsHistoryFound m history
-
 -- the parse has found a command
 abbrev pub IsCommand : Option (Text × List Row) → Type 0
 IsCommand m =
     IsEntered (codes "check") m ⊎ IsEntered (codes "search") m ⊎ IsEntered (codes "run") m
-    ⊎ IsSimulateEntered m ⊎ IsFindEntered m ⊎ IsEntered (codes "judge") m
-    ⊎ IsEntered (codes "refute") m ⊎ IsEntered (codes "draw") m
+    ⊎ IsSimulateEntered m ⊎ IsEntered (codes "refute") m ⊎ IsEntered (codes "verify") m
 
 abbrev pub FindsCheck : List Row → Line → Type 0
 FindsCheck rows (Check history certs workers) =
     HasCheck rows (string_bytes history) (string_bytes certs) workers
 FindsCheck rows (Search history steps first) = ⊥
-FindsCheck rows (Find history) = ⊥
-FindsCheck rows (Judge history steps) = ⊥
 FindsCheck rows (Refute history reasons steps) = ⊥
-FindsCheck rows (Draw history certs options) = ⊥
+FindsCheck rows (Verify history evidence steps) = ⊥
 FindsCheck rows (Run options) = ⊥
 FindsCheck rows (Simulate schedule) = ⊥
 
 abbrev pub FindsSearch : List Row → Line → Type 0
 FindsSearch rows (Check history certs workers) = ⊥
 FindsSearch rows (Search history steps first) = HasSearch rows (string_bytes history) steps first
-FindsSearch rows (Find history) = ⊥
-FindsSearch rows (Judge history steps) = ⊥
 FindsSearch rows (Refute history reasons steps) = ⊥
-FindsSearch rows (Draw history certs options) = ⊥
+FindsSearch rows (Verify history evidence steps) = ⊥
 FindsSearch rows (Run options) = ⊥
 FindsSearch rows (Simulate schedule) = ⊥
-
-abbrev pub FindsJudge : List Row → Line → Type 0
-FindsJudge rows (Check history certs workers) = ⊥
-FindsJudge rows (Search history steps first) = ⊥
-FindsJudge rows (Find history) = ⊥
-FindsJudge rows (Judge history steps) = HasJudge rows (string_bytes history) steps
-FindsJudge rows (Refute history reasons steps) = ⊥
-FindsJudge rows (Draw history certs options) = ⊥
-FindsJudge rows (Run options) = ⊥
-FindsJudge rows (Simulate schedule) = ⊥
 
 abbrev pub FindsRefute : List Row → Line → Type 0
 FindsRefute rows (Check history certs workers) = ⊥
 FindsRefute rows (Search history steps first) = ⊥
-FindsRefute rows (Find history) = ⊥
-FindsRefute rows (Judge history steps) = ⊥
 FindsRefute rows (Refute history reasons steps) =
     HasRefute rows (string_bytes history) (string_bytes reasons) steps
-FindsRefute rows (Draw history certs options) = ⊥
+FindsRefute rows (Verify history evidence steps) = ⊥
 FindsRefute rows (Run options) = ⊥
 FindsRefute rows (Simulate schedule) = ⊥
 
-abbrev pub FindsDraw : List Row → Line → Type 0
-FindsDraw rows (Check history certs workers) = ⊥
-FindsDraw rows (Search history steps first) = ⊥
-FindsDraw rows (Find history) = ⊥
-FindsDraw rows (Judge history steps) = ⊥
-FindsDraw rows (Refute history reasons steps) = ⊥
-FindsDraw rows (Draw history certs options) =
-    HasDraw rows (string_bytes history) (option_map string_bytes certs) options
-FindsDraw rows (Run options) = ⊥
-FindsDraw rows (Simulate schedule) = ⊥
+abbrev pub FindsVerify : List Row → Line → Type 0
+FindsVerify rows (Check history certs workers) = ⊥
+FindsVerify rows (Search history steps first) = ⊥
+FindsVerify rows (Refute history reasons steps) = ⊥
+FindsVerify rows (Verify history evidence steps) =
+    HasVerify rows (string_bytes history) (string_bytes evidence) steps
+FindsVerify rows (Run options) = ⊥
+FindsVerify rows (Simulate schedule) = ⊥
 
 abbrev pub FindsRun : List Row → Line → Type 0
 FindsRun rows (Check history certs workers) = ⊥
 FindsRun rows (Search history steps first) = ⊥
-FindsRun rows (Find history) = ⊥
-FindsRun rows (Judge history steps) = ⊥
 FindsRun rows (Refute history reasons steps) = ⊥
-FindsRun rows (Draw history certs options) = ⊥
+FindsRun rows (Verify history evidence steps) = ⊥
 FindsRun rows (Run options) = AreRunOptions (λ id. first_of id rows) options
 FindsRun rows (Simulate schedule) = ⊥
 
 abbrev pub FindsSchedule : List Row → Line → Type 0
 FindsSchedule rows (Check history certs workers) = ⊥
 FindsSchedule rows (Search history steps first) = ⊥
-FindsSchedule rows (Find history) = ⊥
-FindsSchedule rows (Judge history steps) = ⊥
 FindsSchedule rows (Refute history reasons steps) = ⊥
-FindsSchedule rows (Draw history certs options) = ⊥
+FindsSchedule rows (Verify history evidence steps) = ⊥
 FindsSchedule rows (Run options) = ⊥
 FindsSchedule rows (Simulate schedule) =
     first_of (codes "SCHEDULE") rows ≡ Some (string_bytes schedule)
-
-abbrev pub FindsHistory : List Row → Line → Type 0
-FindsHistory rows (Check history certs workers) = ⊥
-FindsHistory rows (Search history steps first) = ⊥
-FindsHistory rows (Find history) = first_of (codes "HISTORY") rows ≡ Some (string_bytes history)
-FindsHistory rows (Judge history steps) = ⊥
-FindsHistory rows (Refute history reasons steps) = ⊥
-FindsHistory rows (Draw history certs options) = ⊥
-FindsHistory rows (Run options) = ⊥
-FindsHistory rows (Simulate schedule) = ⊥
 
 abbrev pub Finds : Option (Text × List Row) → Line → Type 0
 Finds m (Check history certs workers) =
     IsCheckFound m (string_bytes history) (string_bytes certs) workers
 Finds m (Search history steps first) = IsSearchFound m (string_bytes history) steps first
-Finds m (Find history) = IsHistoryFound m (string_bytes history)
-Finds m (Judge history steps) = IsJudgeFound m (string_bytes history) steps
 Finds m (Refute history reasons steps) =
     IsRefuteFound m (string_bytes history) (string_bytes reasons) steps
-Finds m (Draw history certs options) =
-    IsDrawFound m (string_bytes history) (option_map string_bytes certs) options
+Finds m (Verify history evidence steps) =
+    IsVerifyFound m (string_bytes history) (string_bytes evidence) steps
 Finds m (Run options) = IsRunFound m options
 Finds m (Simulate schedule) = IsScheduleFound m (string_bytes schedule)
 
@@ -516,19 +407,16 @@ HasNoSearch rows =
 abbrev pub HasNoSteps : List Row → Type 0
 HasNoSteps rows = (history : Text) (steps : ℕ) → HasSteps rows history steps → ⊥
 
--- the rows of a judgement name no file, or a number of steps that no search may take
-abbrev pub HasNoJudge : List Row → Type 0
-HasNoJudge rows = (history : Text) (steps : Option ℕ) → HasJudge rows history steps → ⊥
+-- the rows of a command on two files name not both, or no number of steps that a search may take
+abbrev pub HasNoFiles : Text → List Row → Type 0
+HasNoFiles argument rows =
+    (history file : Text) (steps : ℕ) → HasFiles argument rows history file steps → ⊥
 
--- the rows of a refutation name not both files, or no number of steps that a search may take
 abbrev pub HasNoRefute : List Row → Type 0
-HasNoRefute rows =
-    (history reasons : Text) (steps : ℕ) → HasRefute rows history reasons steps → ⊥
+HasNoRefute rows = HasNoFiles (codes "REASONS") rows
 
--- the rows of a drawing name no file, or some number outside its bounds
-abbrev pub HasNoDraw : List Row → Type 0
-HasNoDraw rows =
-    (history : Text) (certs : Option Text) (o : DrawOptions) → HasDraw rows history certs o → ⊥
+abbrev pub HasNoVerify : List Row → Type 0
+HasNoVerify rows = HasNoFiles (codes "EVIDENCE") rows
 
 -- the rows of a run name no kinds, or some number outside its bounds
 abbrev pub HasNoRun : List Row → Type 0
@@ -549,17 +437,15 @@ pub record LacksFor (name : Text) (HasNone : List Row → Type 0) (m : Option (T
   pub none : HasNone rows
   pub refused : IsRefused f
 
--- the parse has found a search, a run, a check, a judgement, a refutation or a drawing without its
--- values
+-- the parse has found a search, a run, a check, a refutation or a verification without its values
 abbrev pub Lacks : Option (Text × List Row) → LineFault → Type 0
 Lacks m f =
     LacksFor (codes "search") HasNoSearch m f ⊎ LacksFor (codes "run") HasNoRun m f
-    ⊎ LacksFor (codes "check") HasNoCheck m f ⊎ LacksFor (codes "judge") HasNoJudge m f
-    ⊎ LacksFor (codes "refute") HasNoRefute m f ⊎ LacksFor (codes "draw") HasNoDraw m f
+    ⊎ LacksFor (codes "check") HasNoCheck m f ⊎ LacksFor (codes "refute") HasNoRefute m f
+    ⊎ LacksFor (codes "verify") HasNoVerify m f
 
 -- The fault is an allocation failure, or clap refuses the words with an error of a kind for which
--- it is, or it finds a search, a run, a check, a judgement, a refutation or a drawing without its
--- values.
+-- it is, or it finds a search, a run, a check, a refutation or a verification without its values.
 abbrev pub IsFault : List Text → LineFault → Type 0
 IsFault words f =
     (f ≡ NoMemory) ⊎ ((k : ErrorKind) × IsAmong k (fault_of command words) × IsFor k f)

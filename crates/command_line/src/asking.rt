@@ -26,19 +26,6 @@ pub struct RunOptions {
     ghost few_calls: { calls ≤ max_calls },
 }
 
-/// What of a history is to be drawn, and how it is judged.
-#[derive(Clone, Copy)]
-pub struct DrawOptions {
-    /// The one object that is to be drawn.
-    pub object: Option<u32>,
-    /// The first map of the stretch that is to be drawn.
-    pub from: Option<u32>,
-    /// The map after that stretch.
-    pub to: Option<u32>,
-    /// The most steps of the last search for each object, where no certificates are given.
-    pub steps: Option<u32>,
-}
-
 /// What the words ask for.
 #[derive(Drop)]
 pub enum Line {
@@ -56,17 +43,6 @@ pub enum Line {
         steps: u32,
         first: TryFirst,
     },
-    /// To find certificates of the history in a file, in the ways of the finder.
-    Find {
-        history: String,
-    },
-    /// To find certificates of the history in a file, with a last search of at most this number of
-    /// steps for each object where that finds none, or of a number by its operations, and to judge
-    /// it by them.
-    Judge {
-        history: String,
-        steps: Option<u32>,
-    },
     /// To check the reasons in another file why the history in a file is not linearizable, each
     /// with a search of at most this number of steps.
     Refute {
@@ -74,12 +50,13 @@ pub enum Line {
         reasons: String,
         steps: u32,
     },
-    /// To draw the history in a file with the certificates in another, by which it is checked, or
-    /// else with what a judgement of it finds.
-    Draw {
+    /// To check the orders and reasons in another file, from anybody, on the history in a file, and
+    /// to judge it by them, with at most this number of steps for a search of which that file names
+    /// no number.
+    Verify {
         history: String,
-        certs: Option<String>,
-        options: DrawOptions,
+        evidence: String,
+        steps: u32,
     },
     /// To run clients, and to judge what they did.
     Run(RunOptions),

@@ -4,5 +4,5 @@
 mod asking;
 mod parsing;
 
-pub use asking::{DrawOptions, Line, LineFault, RunOptions};
+pub use asking::{Line, LineFault, RunOptions};
 pub use parsing::line;

@@ -1,7 +1,7 @@
 //! The command line.
 
 ghost use Rattle.std.specs.Prelude.{◌≡◌, ◌≢◌, ◌≤◌, ℕ, List, [], Some, IsSome, IfOk, IfErr, IfSome};
-ghost use Rattle.std.specs.Prelude.{IfNone, Option, false, map, option_map, codes};
+ghost use Rattle.std.specs.Prelude.{IfNone, false, map, codes};
 ghost use Rattle.clap.specs.Faults.{fault_of};
 ghost use Rattle.clap.specs.Words.{app_of, first_value, found_of, kind_of, rows_of, rule_of};
 ghost use Rattle.clap.specs.Words.{subcommand_rows_of};
@@ -10,12 +10,10 @@ ghost use Rattle.clap.specs.Walk.{first_of};
 ghost use Rattle.std.specs.String.{string_bytes};
 ghost use Rattle.order_search.specs.declared.trials.TryFirst.{TryFirst};
 ghost use Rattle.seq_objects.specs.declared.kinds.Kinds.{Kinds};
-ghost use Rattle.command_line.specs.declared.asking.DrawOptions.{DrawOptions};
 ghost use Rattle.command_line.specs.declared.asking.RunOptions.{RunOptions};
-ghost use Rattle.command_line.specs.Limits.{max_number};
 ghost use Rattle.command_line.specs.Words as spec;
 
-use crate::asking::{DrawOptions, Line, LineFault, RunOptions};
+use crate::asking::{Line, LineFault, RunOptions};
 use clap::builder::ValueParser;
 use clap::error::ErrorKind;
 use clap::{Arg, ArgMatches, Command, Error, value_parser};
@@ -25,14 +23,11 @@ use seq_objects::{Kinds, kinds_named};
 use std::alloc::{AllocError, Global};
 use std::convert::AsStr;
 
-/// The steps of a search or a refutation where the words name no number of them.
+/// The steps of a search, a refutation or a verification where the words name no number of them.
 const DEFAULT_STEPS: u64 = 1_000_000;
 
 /// The most steps of a search.
 const MAX_STEPS: u64 = 1_000_000_000;
-
-/// The greatest number of an object or a map.
-const MAX_NUMBER: u64 = 4_294_967_295;
 
 /// The most workers of a check.
 const MAX_WORKERS: u64 = 16;
@@ -50,10 +45,6 @@ const MAX_CALLS: u64 = 10_000;
 
 const DEFAULT_CALLS: u64 = 100;
 
-/// What `--steps` of a judgement is.
-const STEPS_OF_A_JUDGEMENT: &str =
-    "the most steps for each object that is searched, 0 to 1000000000 (default 1000000, or 100 for each operation if that is more)";
-
 /// Said of a search that lacks a value. Of its file and its steps clap never lets it come to this.
 const NO_SEARCH: &str = "error: a search has no file, or no number of steps\n";
 
@@ -67,20 +58,15 @@ const NO_KIND: &str =
 /// Said of a run that has a number outside its bounds. clap never lets it come to this.
 const NO_RUN: &str = "error: a run has a number outside its bounds\n";
 
-/// Said of a judgement that lacks a value. Of its file and its steps clap never lets it come to
-/// this.
-const NO_JUDGEMENT: &str =
-    "error: a judgement has no file, or a number of steps that is not from 0 to 1000000000\n";
-
 /// Said of a refutation that lacks a value. Of its files and its steps clap never lets it come to
 /// this.
 const NO_REFUTATION: &str =
     "error: a refutation has not two files, or no number of steps from 0 to 1000000000\n";
 
-/// Said of a drawing that lacks a value, or has one outside its bounds. clap never lets it come to
+/// Said of a verification that lacks a value. Of its files and its steps clap never lets it come to
 /// this.
-const NO_DRAWING: &str =
-    "error: a drawing has no file, or a number that is not from 0 to 4294967295\n";
+const NO_VERIFICATION: &str =
+    "error: a verification has not two files, or no number of steps from 0 to 1000000000\n";
 
 /// Said of a check that lacks a value. Of its files clap never lets it come to this.
 const NO_CHECK: &str = "error: a check has not two files, or no number of workers from 1 to 16\n";
@@ -129,19 +115,6 @@ fn history_command<'a>(
     Command::new(alloc, name).about(about).arg(history)
 }
 
-fn judge_command<'a>(alloc: Global) -> Result<Command<'a>, AllocError>
-    ensures shape { IfOk result (λ c. app_of c ≡ spec.judge_command) }
-    ensures globals { IfOk result (λ c. (fields_of c).has_globals ≡ false) }
-{
-    let steps = steps_option(alloc, STEPS_OF_A_JUDGEMENT);
-    history_command(
-        alloc,
-        "judge",
-        "decides whether a history is linearizable: finds and checks an order, or a reason",
-    )?
-    .arg(steps)
-}
-
 fn refute_command<'a>(alloc: Global) -> Result<Command<'a>, AllocError>
     ensures shape { IfOk result (λ c. app_of c ≡ spec.refute_command) }
     ensures globals { IfOk result (λ c. (fields_of c).has_globals ≡ false) }
@@ -164,57 +137,26 @@ fn refute_command<'a>(alloc: Global) -> Result<Command<'a>, AllocError>
     .arg(steps)
 }
 
-/// `draw` with its files.
-fn draw_files<'a>(alloc: Global) -> Result<Command<'a>, AllocError>
-    ensures shape { IfOk result (λ c. app_of c ≡ spec.draw_files) }
+fn verify_command<'a>(alloc: Global) -> Result<Command<'a>, AllocError>
+    ensures shape { IfOk result (λ c. app_of c ≡ spec.verify_command) }
     ensures globals { IfOk result (λ c. (fields_of c).has_globals ≡ false) }
 {
-    let certs = Arg::new(alloc, "CERTS").help(
-        "a file of certificates, by which the history is checked; without it, it is judged",
+    let evidence = file_argument(
+        alloc,
+        "EVIDENCE",
+        "a file of orders, reasons and searches for objects of the history",
+    );
+    let steps = steps_option(
+        alloc,
+        "the most steps of a search where the evidence names none, 0 to 1000000000 (default 1000000)",
     );
     history_command(
         alloc,
-        "draw",
-        "draws a history, its order, and what is wrong, as a page",
+        "verify",
+        "checks orders and reasons from anybody, never trusts them, and judges the history by them",
     )?
-    .arg(certs)
-}
-
-/// The same with the object that is drawn, and the most steps of a search.
-fn draw_object<'a>(alloc: Global) -> Result<Command<'a>, AllocError>
-    ensures shape { IfOk result (λ c. app_of c ≡ spec.draw_object) }
-    ensures globals { IfOk result (λ c. (fields_of c).has_globals ≡ false) }
-{
-    let object = number_option(
-        alloc,
-        "object",
-        "draws this object alone",
-        0,
-        MAX_NUMBER as i64,
-    );
-    let steps = steps_option(alloc, STEPS_OF_A_JUDGEMENT);
-    draw_files(alloc)?.arg(object)?.arg(steps)
-}
-
-fn draw_command<'a>(alloc: Global) -> Result<Command<'a>, AllocError>
-    ensures shape { IfOk result (λ c. app_of c ≡ spec.draw_command) }
-    ensures globals { IfOk result (λ c. (fields_of c).has_globals ≡ false) }
-{
-    let from = number_option(
-        alloc,
-        "from",
-        "draws events from this map on",
-        0,
-        MAX_NUMBER as i64,
-    );
-    let to = number_option(
-        alloc,
-        "to",
-        "draws events before this map",
-        0,
-        MAX_NUMBER as i64,
-    );
-    draw_object(alloc)?.arg(from)?.arg(to)
+    .arg(evidence)?
+    .arg(steps)
 }
 
 fn check_command<'a>(alloc: Global) -> Result<Command<'a>, AllocError>
@@ -319,45 +261,30 @@ fn simulate_command<'a>(alloc: Global) -> Result<Command<'a>, AllocError>
         .arg(schedule)
 }
 
-fn find_command<'a>(alloc: Global) -> Result<Command<'a>, AllocError>
-    ensures shape { IfOk result (λ c. app_of c ≡ spec.find_command) }
-    ensures globals { IfOk result (λ c. (fields_of c).has_globals ≡ false) }
-{
-    history_command(
-        alloc,
-        "find",
-        "finds an order for each object, also of a long history, or leaves it open",
-    )
-}
-
 /// The program, with the commands that judge a history.
 fn judging_commands<'a>(alloc: Global) -> Result<Command<'a>, AllocError>
     ensures shape { IfOk result (λ c. app_of c ≡ spec.judging_commands) }
     ensures globals { IfOk result (λ c. (fields_of c).has_globals ≡ false) }
 {
-    let judge = judge_command(alloc)?;
     let check = check_command(alloc)?;
     let search = search_command(alloc)?;
-    let find = find_command(alloc)?;
     let refute = refute_command(alloc)?;
+    let verify = verify_command(alloc)?;
     Command::new(alloc, "fcbench")
         .about("judges histories of concurrent objects")
         .subcommand_required(true)
-        .subcommand(judge)?
         .subcommand(check)?
         .subcommand(search)?
-        .subcommand(find)?
-        .subcommand(refute)
+        .subcommand(refute)?
+        .subcommand(verify)
 }
 
 fn command<'a>(alloc: Global) -> Result<Command<'a>, AllocError>
     ensures { IfOk result (λ c. app_of c ≡ spec.command) }
 {
-    let draw = draw_command(alloc)?;
     let run = run_command(alloc)?;
     let simulate = simulate_command(alloc)?;
     judging_commands(alloc)?
-        .subcommand(draw)?
         .subcommand(run)?
         .subcommand(simulate)
 }
@@ -392,15 +319,6 @@ fn simulate_found(alloc: Global, matches: &ArgMatches<'_>) -> Result<Line, Alloc
 {
     let schedule = value_of(alloc, matches, "SCHEDULE")?;
     Ok(Line::Simulate { schedule })
-}
-
-/// The finding whose matches these are.
-fn find_found(alloc: Global, matches: &ArgMatches<'_>) -> Result<Line, AllocError>
-    requires { (x : List ℕ) × first_of (codes "HISTORY") (rows_of (found_of matches.now)) ≡ Some x }
-    ensures { IfOk result (spec.FindsHistory (rows_of (found_of matches.now))) }
-{
-    let history = value_of(alloc, matches, "HISTORY")?;
-    Ok(Line::Find { history })
 }
 
 /// The value of an option that is a number within these bounds, or the one that stands for none.
@@ -515,37 +433,25 @@ fn search_found(alloc: Global, matches: &ArgMatches<'_>) -> Result<Line, LineFau
     })
 }
 
-/// The value of an option that is a number up to this one, if it is given.
-fn chosen_in(matches: &ArgMatches<'_>, name: &str, most: u64) -> Option<Option<u32>>
-    requires { most ≤ max_number }
-    ensures some { IfSome result (spec.IsChosen most
-        (first_value (found_of matches.now) name.now)) }
-    ensures none { IfNone result ((n : Option ℕ) →
-        spec.IsChosen most (first_value (found_of matches.now) name.now) n → ⊥) }
-{
-    match matches.get_str(name) {
-        None => Some(None),
-        Some(_) => match number_in(matches, name, 0, most, 0) {
-            Some(number) => Some(Some(number as u32)),
-            None => None,
-        },
-    }
-}
-
-/// The judgement whose matches these are.
-fn judge_found(alloc: Global, matches: &ArgMatches<'_>) -> Result<Line, LineFault>
-    ensures found { IfOk result (spec.FindsJudge (rows_of (found_of matches.now))) }
+/// The history's file, the file of this argument, and the most steps; or the words are refused, for
+/// this reason.
+fn files_and_steps(
+    alloc: Global,
+    matches: &ArgMatches<'_>,
+    argument: &str,
+    reason: &str,
+) -> Result<(String, String, u32), LineFault>
+    ensures found { IfOk result (λ r. spec.HasFiles argument.now (rows_of (found_of matches.now))
+        (string_bytes r.0) (string_bytes r.1) r.2) }
     ensures lacks { IfErr result (λ f. f ≢ LineFault.NoMemory →
-        spec.IsRefused f × spec.HasNoJudge (rows_of (found_of matches.now))) }
+        spec.IsRefused f × spec.HasNoFiles argument.now (rows_of (found_of matches.now))) }
 {
-    let Some(history) = matches.get_str("HISTORY") else {
-        return Err(refusal(alloc, NO_JUDGEMENT));
+    let (history, steps) = history_and_steps(alloc, matches, reason)?;
+    let Some(file) = matches.get_str(argument) else {
+        return Err(refusal(alloc, reason));
     };
-    let Some(steps) = chosen_in(matches, "steps", MAX_STEPS) else {
-        return Err(refusal(alloc, NO_JUDGEMENT));
-    };
-    let history = String::from_str(alloc, history)?;
-    Ok(Line::Judge { history, steps })
+    let file = String::from_str(alloc, file)?;
+    Ok((history, file, steps))
 }
 
 /// The refutation whose matches these are.
@@ -554,11 +460,7 @@ fn refute_found(alloc: Global, matches: &ArgMatches<'_>) -> Result<Line, LineFau
     ensures lacks { IfErr result (λ f. f ≢ LineFault.NoMemory →
         spec.IsRefused f × spec.HasNoRefute (rows_of (found_of matches.now))) }
 {
-    let (history, steps) = history_and_steps(alloc, matches, NO_REFUTATION)?;
-    let Some(reasons) = matches.get_str("REASONS") else {
-        return Err(refusal(alloc, NO_REFUTATION));
-    };
-    let reasons = String::from_str(alloc, reasons)?;
+    let (history, reasons, steps) = files_and_steps(alloc, matches, "REASONS", NO_REFUTATION)?;
     Ok(Line::Refute {
         history,
         reasons,
@@ -566,58 +468,17 @@ fn refute_found(alloc: Global, matches: &ArgMatches<'_>) -> Result<Line, LineFau
     })
 }
 
-/// What of a history is to be drawn.
-fn draw_options_in(matches: &ArgMatches<'_>) -> Option<DrawOptions>
-    ensures some { IfSome result (spec.AreDrawOptions (first_value (found_of matches.now))) }
-    ensures none { IfNone result ((o : DrawOptions) →
-        spec.AreDrawOptions (first_value (found_of matches.now)) o → ⊥) }
-{
-    let object = chosen_in(matches, "object", MAX_NUMBER)?;
-    let from = chosen_in(matches, "from", MAX_NUMBER)?;
-    let to = chosen_in(matches, "to", MAX_NUMBER)?;
-    let steps = chosen_in(matches, "steps", MAX_STEPS)?;
-    Some(DrawOptions {
-        object,
-        from,
-        to,
-        steps,
-    })
-}
-
-/// The value of an argument, if it has one.
-fn given_value(
-    alloc: Global,
-    matches: &ArgMatches<'_>,
-    name: &str,
-) -> Result<Option<String>, AllocError>
-    ensures { IfOk result (λ v. first_value (found_of matches.now) name.now
-        ≡ option_map string_bytes v) }
-{
-    match matches.get_str(name) {
-        None => Ok(None),
-        Some(text) => Ok(Some(String::from_str(alloc, text)?)),
-    }
-}
-
-/// The drawing whose matches these are. Of its numbers clap lets none come here that is outside its
-/// bounds.
-fn draw_found(alloc: Global, matches: &ArgMatches<'_>) -> Result<Line, LineFault>
-    ensures found { IfOk result (spec.FindsDraw (rows_of (found_of matches.now))) }
+/// The verification whose matches these are.
+fn verify_found(alloc: Global, matches: &ArgMatches<'_>) -> Result<Line, LineFault>
+    ensures found { IfOk result (spec.FindsVerify (rows_of (found_of matches.now))) }
     ensures lacks { IfErr result (λ f. f ≢ LineFault.NoMemory →
-        spec.IsRefused f × spec.HasNoDraw (rows_of (found_of matches.now))) }
+        spec.IsRefused f × spec.HasNoVerify (rows_of (found_of matches.now))) }
 {
-    let Some(history) = matches.get_str("HISTORY") else {
-        return Err(refusal(alloc, NO_DRAWING));
-    };
-    let Some(options) = draw_options_in(matches) else {
-        return Err(refusal(alloc, NO_DRAWING));
-    };
-    let history = String::from_str(alloc, history)?;
-    let certs = given_value(alloc, matches, "CERTS")?;
-    Ok(Line::Draw {
+    let (history, evidence, steps) = files_and_steps(alloc, matches, "EVIDENCE", NO_VERIFICATION)?;
+    Ok(Line::Verify {
         history,
-        certs,
-        options,
+        evidence,
+        steps,
     })
 }
 
@@ -691,17 +552,11 @@ fn line_of(alloc: Global, matches: &ArgMatches<'_>) -> Result<Line, LineFault>
     if let Some(search) = matches.subcommand_matches("search") {
         return search_found(alloc, search);
     }
-    if let Some(find) = matches.subcommand_matches("find") {
-        return Ok(find_found(alloc, find)?);
-    }
-    if let Some(judge) = matches.subcommand_matches("judge") {
-        return judge_found(alloc, judge);
-    }
     if let Some(refute) = matches.subcommand_matches("refute") {
         return refute_found(alloc, refute);
     }
-    if let Some(draw) = matches.subcommand_matches("draw") {
-        return draw_found(alloc, draw);
+    if let Some(verify) = matches.subcommand_matches("verify") {
+        return verify_found(alloc, verify);
     }
     match matches.subcommand_matches("run") {
         Some(run) => run_found(alloc, run),
@@ -718,15 +573,9 @@ pub fn line<S: AsStr>(alloc: Global, words: &[S]) -> Result<Line, LineFault>
         IfErr result (λ e. e ≡ LineFault.NoMemory) }
     ensures searches { spec.IsPlainSearch (map S.text words.now) →
         IfErr result (λ e. e ≡ LineFault.NoMemory) }
-    ensures finds { spec.IsPlainFind (map S.text words.now) →
-        IfErr result (λ e. e ≡ LineFault.NoMemory) }
-    ensures judges { spec.IsPlainJudge (map S.text words.now) →
-        IfErr result (λ e. e ≡ LineFault.NoMemory) }
     ensures refutes { spec.IsPlainRefute (map S.text words.now) →
         IfErr result (λ e. e ≡ LineFault.NoMemory) }
-    ensures draws { spec.IsPlainDraw (map S.text words.now) →
-        IfErr result (λ e. e ≡ LineFault.NoMemory) }
-    ensures draws_checked { spec.IsPlainCheckedDraw (map S.text words.now) →
+    ensures verifies { spec.IsPlainVerify (map S.text words.now) →
         IfErr result (λ e. e ≡ LineFault.NoMemory) }
     ensures runs { spec.IsPlainRun (map S.text words.now) →
         IfErr result (λ e. e ≡ LineFault.NoMemory) }

@@ -1,15 +1,13 @@
 //! The program's logic: it does what a command line asks for.
 #![tactic(auto)]
 
-mod pages;
 mod program;
 mod running;
 mod simulating;
 mod statuses;
 
-pub use command_line::{DrawOptions, Line, LineFault, RunOptions, line};
-pub use drawing_commands::{report_checked_drawing, report_drawing};
-pub use history_commands::{report_find, report_judgement, report_search};
+pub use command_line::{Line, LineFault, RunOptions, line};
+pub use history_commands::{report_refutation, report_search, report_verification};
 pub use outputs::{FAILED, MALFORMED, NO, NO_MEMORY, YES, check_sources, report_check};
 pub use program::perform;
 pub use running::report_run;

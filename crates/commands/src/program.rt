@@ -4,12 +4,11 @@ ghost use Rattle.std.specs.Prelude.{◌≡◌, false};
 ghost use Rattle.outputs.specs.Outputs.{Leaves};
 ghost use Rattle.commands.specs.Performed.{IsPerformed};
 
-use crate::pages::draw;
 use crate::running::report_run;
 use crate::simulating::report_simulation;
 use command_line::Line;
 use edn::Sink;
-use history_commands::{report_find, report_judgement, report_refutation, report_search};
+use history_commands::{report_refutation, report_search, report_verification};
 use outputs::report_check;
 use std::alloc::Global;
 use std::sync::Wait;
@@ -17,9 +16,10 @@ use std::thread::Threads;
 
 /// Does the command on the bytes of its first and second file (empty where it has none), writes its
 /// output, and gives the exit status: 0 for yes, or where each object has a certificate; 1 for no,
-/// or where an object is impossible; 2 where a text is malformed or a client of a schedule has not
-/// ended; 3 where memory was refused, a thread could not be started, some object stays open, or no
-/// reason shows that the history is not linearizable; 4 where the output failed.
+/// or where an object is impossible; 2 where a text other than evidence is malformed or a client of
+/// a schedule has not ended; 3 where memory was refused, a thread could not be started, some object
+/// stays open, no reason shows that the history is not linearizable, or evidence is malformed; 4
+/// where the output failed.
 pub fn perform<R: Threads + Wait + Sync, S: Sink>(
     rt: &R,
     alloc: Global,
@@ -43,18 +43,16 @@ pub fn perform<R: Threads + Wait + Sync, S: Sink>(
             steps,
             first: order,
         } => report_search(alloc, first, *steps, *order, sink),
-        Line::Judge { history: _, steps } => report_judgement(alloc, first, *steps, sink),
-        Line::Find { .. } => report_find(alloc, first, sink),
         Line::Refute {
             history: _,
             reasons: _,
             steps,
         } => report_refutation(alloc, first, second, *steps, sink),
-        Line::Draw {
-            history,
-            certs,
-            options,
-        } => draw(alloc, history, certs, *options, first, second, sink),
+        Line::Verify {
+            history: _,
+            evidence: _,
+            steps,
+        } => report_verification(alloc, first, second, *steps, sink),
         Line::Run(options) => report_run(rt, alloc, *options, sink),
         Line::Simulate { .. } => report_simulation(alloc, first, sink),
     }

@@ -7,7 +7,6 @@
 
 mod answer;
 mod check;
-mod find;
-mod judge;
 mod refute;
 mod steps;
+mod verify;

@@ -8,7 +8,7 @@ ghost use Rattle.embedding.specs.Handed.{IsAnswered};
 ghost use Rattle.embedding.specs.Steps as spec;
 
 use crate::answer::answer;
-use crate::steps::refute_steps;
+use crate::steps::search_steps;
 use edn::Out;
 use history_commands::report_refutation;
 use std::alloc::Global;
@@ -31,10 +31,10 @@ pub extern "C" fn fcbench_refute(
     // Where it answers 1, the history that the bytes denote is not linearizable.
     ensures refuted { result ≡ no_status → IsNotLinearizableText history.now }
     // The lines are the answers to the reasons, with their status, or memory for them was refused.
-    ensures answered { IsAnswered (IsRefute history.now reasons.now (spec.refute_steps steps))
+    ensures answered { IsAnswered (IsRefute history.now reasons.now (spec.search_steps steps))
         result out.old out.new needed.new }
 {
     let mut sink = Out::new(Vec::new(alloc));
-    let status = report_refutation(alloc, history, reasons, refute_steps(steps), &mut sink);
+    let status = report_refutation(alloc, history, reasons, search_steps(steps), &mut sink);
     answer(status, &sink.into_inner(), out, needed)
 }

@@ -17,7 +17,7 @@ use std::thread::{Threads, join, sleep};
 use std::time::{Clock, Duration};
 
 /// The version of the program, and the kit that proves it.
-const VERSION: &str = "fcbench 2.1.0, proved by rattle-kit-13f";
+const VERSION: &str = "fcbench 3.0.0, proved by rattle-kit-13f";
 
 /// How often it is looked whether the command is done, and how many milliseconds after each other:
 /// for a second in all.
@@ -109,23 +109,16 @@ fn run_line<R: Host>(rt: &R, line: &Line) -> io::Result<u8> {
             workers,
         } => run_check(rt, history, certs, *workers),
         Line::Search { history, .. } => run_on_file(rt, line, history),
-        Line::Judge { history, .. } => run_on_file(rt, line, history),
-        Line::Find { history } => run_on_file(rt, line, history),
         Line::Refute {
             history,
             reasons,
             ..
         } => run_on_files(rt, line, history, reasons),
-        Line::Draw {
+        Line::Verify {
             history,
-            certs: None,
+            evidence,
             ..
-        } => run_on_file(rt, line, history),
-        Line::Draw {
-            history,
-            certs: Some(certs),
-            ..
-        } => run_on_files(rt, line, history, certs),
+        } => run_on_files(rt, line, history, evidence),
         Line::Run(_) => Ok(do_line(rt, line, b"", b"")),
         Line::Simulate { schedule } => run_on_file(rt, line, schedule),
     }

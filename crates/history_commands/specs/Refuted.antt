@@ -19,7 +19,7 @@ use Rattle.refutation.specs.declared.refuting.Doubt.TheVariants as doubt
 use Rattle.refutation.specs.declared.refuting.Refutation.{Refutation}
 use Rattle.refutation.specs.declared.refuting.Refutation.TheVariants.{Impossible, NotShown, NoPart}
 use Rattle.refutation.specs.declared.refuting.Refutation.TheVariants.{OtherObject}
-use Rattle.refutation.specs.Refutations.{IsAnswer, is_impossible}
+use Rattle.refutation.specs.Refutations.{IsAnswer, is_impossible, steps_of}
 use Rattle.reason_report.specs.Operations.{operations_text}
 use Rattle.reason_text.specs.Denotes.{Denotes}
 use Rattle.reason_text.specs.Faults.{number_of}
@@ -74,7 +74,7 @@ shown_line whole reason part =
 
 -- why it is not shown that no order is valid
 abbrev pub doubt_text : ℕ → Doubt → List ℕ
-doubt_text limit Possible = codes ": not shown: the part has a valid order\n"
+doubt_text limit (Possible order) = codes ": not shown: the part has a valid order\n"
 doubt_text limit NotOverdrawn = codes ": not shown: the count is not exceeded\n"
 doubt_text limit OutOfSteps =
     codes ": not shown: out of steps after " ++ (decimal limit ++ codes "\n")
@@ -86,7 +86,7 @@ abbrev pub refutation_lines : List Event → ℕ → ℕ → Reason → Refutati
 refutation_lines es whole limit reason (Impossible part) =
     shown_line whole reason part ++ operations_text false es part.ops
 refutation_lines es whole limit reason (NotShown part why) =
-    object_text reason ++ doubt_text limit why
+    object_text reason ++ doubt_text (steps_of reason.evidence limit) why
 refutation_lines es whole limit reason NoPart =
     object_text reason ++ codes ": not shown: the cuts name no part\n"
 refutation_lines es whole limit reason OtherObject =

@@ -146,15 +146,15 @@ fn push_shown(
 }
 
 /// Why it is not shown that no order is valid.
-fn push_doubt(text: &mut Vec<u8>, steps: u32, doubt: Doubt) -> Result<(), AllocError>
-    ensures { OnOk result (text.new.items ≡ text.old.items ++ doubt_text steps doubt) }
+fn push_doubt(text: &mut Vec<u8>, steps: u64, doubt: &Doubt) -> Result<(), AllocError>
+    ensures { OnOk result (text.new.items ≡ text.old.items ++ doubt_text steps doubt.now) }
 {
     match doubt {
-        Doubt::Possible => text.extend_from_slice(b": not shown: the part has a valid order\n"),
+        Doubt::Possible(_) => text.extend_from_slice(b": not shown: the part has a valid order\n"),
         Doubt::NotOverdrawn => text.extend_from_slice(b": not shown: the count is not exceeded\n"),
         Doubt::OutOfSteps => {
             text.extend_from_slice(b": not shown: out of steps after ")?;
-            push_decimal(text, u64::from(steps))?;
+            push_decimal(text, steps)?;
             text.extend_from_slice(b"\n")
         }
         Doubt::NoMemory => text.extend_from_slice(b": not shown: out of memory\n"),
@@ -189,7 +189,7 @@ fn push_answer_on(
         }
         Refutation::NotShown { part: _, doubt } => {
             push_object(text, reason)?;
-            push_doubt(text, steps, *doubt)
+            push_doubt(text, reason.evidence.steps(u64::from(steps)), doubt)
         }
         Refutation::NoPart => push_unfit(text, reason, b": not shown: the cuts name no part\n"),
         Refutation::OtherObject => {

@@ -1,7 +1,7 @@
 //! Tests of the public calls of `history`, `certificate`, `checker`, `parallel`, `report`,
-//! `judging`, `sources`, `outputs` and `fault_pages` that no command line reaches: `tests/run` tests
-//! the others on the built program. They are in a crate of their own, so that each of these libraries is proved once,
-//! and not again for its tests.
+//! `judging`, `sources` and `outputs` that no command line reaches: `tests/run` tests the others on
+//! the built program. They are in a crate of their own, so that each of these libraries is proved
+//! once, and not again for its tests.
 #![tactic(auto)]
 
 #[cfg(test)]
@@ -16,8 +16,6 @@ mod judgements;
 mod lines_of_verdicts;
 #[cfg(test)]
 mod orders;
-#[cfg(test)]
-mod pages;
 #[cfg(test)]
 mod reading;
 #[cfg(test)]

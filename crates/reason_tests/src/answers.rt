@@ -1,8 +1,9 @@
 //! What a reason that does not show anything hands out.
 
 use history::read_history_text;
+use order_search::TryFirst;
 use projection::{Count, Counted, Cut};
-use refutation::{Doubt, Evidence, Reason, Refutation, refute_all};
+use refutation::{Doubt, Evidence, Reason, Refutation, Trial, refute_all};
 use std::alloc::{AllocError, Global};
 use std::test::Fail;
 
@@ -31,12 +32,20 @@ fn reason(alloc: Global, from: u32, end: u32, evidence: Evidence) -> Result<Reas
     })
 }
 
-/// Whether this doubt is told of a part of this many operations.
-fn is_doubted(answer: &Refutation, wanted: Doubt, size: usize) -> bool {
+/// The doubt that is told of a part of this many operations.
+fn doubt_of(answer: &Refutation, size: usize) -> Option<&Doubt> {
     match answer {
-        Refutation::NotShown { part, doubt } => *doubt == wanted && part.ops().len() == size,
-        _ => false,
+        Refutation::NotShown { part, doubt } if part.ops().len() == size => Some(doubt),
+        _ => None,
     }
+}
+
+/// The search of a part, with a limit of its own or without one.
+fn search_in(steps: Option<u32>) -> Evidence {
+    Evidence::Search(Trial {
+        first: TryFirst::LeastNumber,
+        steps,
+    })
 }
 
 /// The commands tell the doubt, and not the part.
@@ -50,15 +59,36 @@ fn a_part_is_handed_out_with_a_doubt(rt: HostRuntime) -> Result<(), Fail> {
         return Err(Fail::new("a history is refused"));
     };
     let mut reasons = Vec::new(rt.alloc());
-    reasons.push(reason(rt.alloc(), 4, 7, Evidence::Search)?)?;
+    reasons.push(reason(rt.alloc(), 4, 7, search_in(None))?)?;
     reasons.push(reason(rt.alloc(), 0, 7, free)?)?;
     let answers = refute_all(rt.alloc(), &history, &reasons, 100)?;
     assert!(rt; answers.len() == 2);
-    assert!(rt; is_doubted(&answers[0], Doubt::Possible, 2));
-    assert!(rt; is_doubted(&answers[1], Doubt::NotOverdrawn, 4));
-    reasons.clear();
-    reasons.push(reason(rt.alloc(), 4, 8, Evidence::Search)?)?;
+    let Some(Doubt::Possible(order)) = doubt_of(&answers[0], 2) else {
+        return Err(Fail::new("no order of the part is told"));
+    };
+    assert!(rt; order.as_slice() == [4].as_slice());
+    assert!(rt; matches!(doubt_of(&answers[1], 4), Some(Doubt::NotOverdrawn)));
+    Ok(())
+}
+
+/// A number of steps that the reason gives is the limit, whatever the caller allows.
+#[test]
+fn a_search_takes_as_many_steps_as_its_reason_allows(rt: HostRuntime) -> Result<(), Fail> {
+    let Ok(history) = read_history_text(rt.alloc(), TWO_HOLD) else {
+        return Err(Fail::new("a history is refused"));
+    };
+    let mut reasons = Vec::new(rt.alloc());
+    reasons.push(reason(rt.alloc(), 4, 8, search_in(None))?)?;
+    reasons.push(reason(rt.alloc(), 4, 8, search_in(Some(0)))?)?;
+    reasons.push(reason(rt.alloc(), 4, 8, search_in(Some(100)))?)?;
     let answers = refute_all(rt.alloc(), &history, &reasons, 0)?;
-    assert!(rt; answers.len() == 1 && is_doubted(&answers[0], Doubt::OutOfSteps, 2));
+    assert!(rt; answers.len() == 3);
+    assert!(rt; matches!(doubt_of(&answers[0], 2), Some(Doubt::OutOfSteps)));
+    assert!(rt; matches!(doubt_of(&answers[1], 2), Some(Doubt::OutOfSteps)));
+    assert!(rt; matches!(answers[2], Refutation::Impossible(_)));
+    let answers = refute_all(rt.alloc(), &history, &reasons, 100)?;
+    assert!(rt; answers.len() == 3);
+    assert!(rt; matches!(answers[0], Refutation::Impossible(_)));
+    assert!(rt; matches!(doubt_of(&answers[1], 2), Some(Doubt::OutOfSteps)));
     Ok(())
 }

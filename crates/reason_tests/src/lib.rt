@@ -5,6 +5,4 @@
 #[cfg(test)]
 mod answers;
 #[cfg(test)]
-mod finding;
-#[cfg(test)]
 mod texts;

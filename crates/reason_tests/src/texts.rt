@@ -4,12 +4,10 @@
 use edn::{Out, WriteFault, read_forms};
 use events::split;
 use history::read_history_text;
-use projection::{Counted, Cut, part_by};
-use reason_plans::Pattern;
-use reason_report::{push_operations, push_reason, push_sentence};
+use projection::{Cut, part_by};
+use reason_report::{push_operations, push_reason};
 use reason_text::{ReasonFault, ReasonFaultKind, read_reasons, write_reasons};
 use refutation::Reason;
-use seq_objects::Kind;
 use std::alloc::Global;
 use std::test::Fail;
 
@@ -21,9 +19,9 @@ fn read(alloc: Global, text: &[u8]) -> Result<Result<Vec<Reason>, ReasonFault>, 
     Ok(read_reasons(alloc, forms.as_slice()))
 }
 
-/// Each kind of cut and of count, with its least and greatest numbers. What a cut or a count means
-/// as it is read is tested on the built program.
-const LINES: [&str; 21] = [
+/// Each kind of cut, of count and of search, with its least and greatest numbers. What a cut or a
+/// count means as it is read is tested on the built program.
+const LINES: [&str; 24] = [
     "{:object 0, :cuts [{:from 17}]}\n",
     "{:object 0, :cuts [{:from 0}]}\n",
     "{:object 0, :cuts [{:until 120}]}\n",
@@ -44,6 +42,9 @@ const LINES: [&str; 21] = [
     "{:object 65535, :cuts [], :count {:key 5, :from 3}}\n",
     "{:object 65535, :cuts [], :count {:held true, :from 0}}\n",
     "{:object 65535, :cuts [], :count {:free true, :from 4294967295}}\n",
+    "{:object 4, :cuts [], :search {:first :return}}\n",
+    "{:object 4, :cuts [], :search {:first :return, :steps 4294967295}}\n",
+    "{:object 4, :cuts [{:until 3}], :search {:first :number, :steps 0}}\n",
     "{:object 2, :cuts [{:until 120} {:from 17} {:keep [1 2]}], :count {:value 7, :from 17}}\n",
 ];
 
@@ -98,17 +99,6 @@ fn where_memory_is_refused_reasons_are_read_or_the_fault_says_so(
             assert!(rt; fault.kind.number() == 2);
         }
     }
-    Ok(())
-}
-
-/// A sentence that no small history is known to lead to.
-#[test]
-fn that_an_entry_was_taken_too_often_is_told(rt: HostRuntime) -> Result<(), Fail> {
-    let pattern = Pattern::CountExceeded(Counted::Entry { key: 3, value: 5 });
-    let mut text = Vec::new(rt.alloc());
-    push_sentence(&mut text, Kind::Map, pattern, Some(3))?;
-    let wanted: &[u8] = b"; key 3: value 5 was taken away more often than it can have been there\n";
-    assert!(rt; text.as_slice() == wanted);
     Ok(())
 }
 

@@ -1,7 +1,7 @@
 -- The lines that are written for reasons spell forms that denote them.
 use Rattle.std.proofs.Common.{◌≡◌, ℕ, ◌≤◌, Bool, true, false, suc, List, [], ◌∷◌, ◌++◌, map}
 use Rattle.std.proofs.Common.{Option, Some, None, lit<, refl, ap, sym, ◌∙◌, subst, append_assoc}
-use Rattle.std.proofs.Common.{arith}
+use Rattle.std.proofs.Common.{arith, get_or}
 use Rattle.std.specs.Prelude.{ℤ, pos, codes, decimal, if◌then◌else◌, option_map, option_and_then}
 use Rattle.std.specs.Fmt.{signed_decimal}
 use Rattle.std.specs.List.{AllByRecursion}
@@ -29,6 +29,8 @@ use Rattle.projection.specs.declared.cutting.Cut.TheVariants.{From, Until, Witho
 use Rattle.projection.specs.declared.cutting.Cut.TheVariants.{Entry}
 use Rattle.projection.specs.declared.counting.Counted.{Counted}
 use Rattle.projection.specs.declared.counting.Counted.TheVariants as counted
+use Rattle.order_search.specs.declared.trials.TryFirst.{TryFirst}
+use Rattle.order_search.specs.declared.trials.TryFirst.TheVariants.{LeastNumber, LeastReturn}
 use Rattle.refutation.specs.declared.reason.Evidence.{Evidence}
 use Rattle.refutation.specs.declared.reason.Evidence.TheVariants.{Search, Counting}
 use Rattle.refutation.specs.declared.reason.Reason.{Reason}
@@ -38,10 +40,10 @@ use Rattle.reason_text.specs.Denotes.{numbers_in, cut_in, cuts_with, evidence_in
 use Rattle.reason_text.specs.Denotes.{reason_with, CutSeen, seen_values, seen_cut, seen}
 use Rattle.reason_text.specs.Lines.{integers_text, naturals_text, values_text, numbers_text}
 use Rattle.reason_text.specs.Lines.{cut_text, cuts_text, counted_text}
-use Rattle.reason_text.specs.Lines.{evidence_text, line_of, lines_of, AreInRange}
+use Rattle.reason_text.specs.Lines.{evidence_text, search_text, line_of, lines_of, AreInRange}
 use Rattle.reason_text.specs.Lines.{SpellsReasons}
 use Rattle.reason_text.specs.Written.{AreNumberKeys, AreTypedValues, IsTypedCut}
-use Rattle.reason_text.specs.Written.{IsTypedCounted, IsTypedEvidence, IsTypedReason}
+use Rattle.reason_text.specs.Written.{AreTypedSteps, IsTypedCounted, IsTypedEvidence, IsTypedReason}
 use Rattle.reason_text.proofs.Rising.{put_next}
 
 -- ---- the forms that are written
@@ -91,8 +93,22 @@ counted_entries (counted.NoEntry k) n = entry (codes "key") (atom (integer k)) (
 counted_entries counted.Held n = entry (codes "held") (atom (boolean true)) (from_entries n)
 counted_entries counted.Free n = entry (codes "free") (atom (boolean true)) (from_entries n)
 
+abbrev first_word : TryFirst → List ℕ
+first_word LeastNumber = codes "number"
+first_word LeastReturn = codes "return"
+
+abbrev steps_entries : Option ℕ → Entries
+steps_entries None = no_entries
+steps_entries (Some n) = entry (codes "steps") (atom (integer (pos n))) no_entries
+
+abbrev pub search_entries : TryFirst → Option ℕ → Entries
+search_entries LeastNumber None = no_entries
+search_entries first steps = entry (codes "search")
+    (dictionary (entry (codes "first") (atom (keyword (first_word first))) (steps_entries steps)))
+    no_entries
+
 abbrev pub evidence_entries : Evidence → Entries
-evidence_entries Search = no_entries
+evidence_entries (Search trial) = search_entries trial.first trial.steps
 evidence_entries (Counting c) = entry (codes "count")
     (dictionary (counted_entries c.counted c.from)) no_entries
 
@@ -183,8 +199,22 @@ counted_is_text (counted.NoEntry k) n = closed (codes ":key " ++ signed_decimal 
 counted_is_text counted.Held n = closed (codes ":held true") (decimal n)
 counted_is_text counted.Free n = closed (codes ":free true") (decimal n)
 
+-- the last number of a map, and its closing bracket
+ended : (d : List ℕ) → d ++ codes "}" ≡ ((d ++ []) ++ codes "}") ++ []
+ended d =
+    ap (λ t. t ++ codes "}") (sym (append-nil d)) ∙ sym (append-nil ((d ++ []) ++ codes "}"))
+
+search_is_text : (first : TryFirst) (steps : Option ℕ)
+    → search_text first steps ≡ entries_text false (search_entries first steps)
+search_is_text LeastNumber None = refl
+search_is_text LeastReturn None = refl
+search_is_text LeastNumber (Some n) =
+    ap (λ t. codes ", :search {:first :number, :steps " ++ t) (ended (decimal n))
+search_is_text LeastReturn (Some n) =
+    ap (λ t. codes ", :search {:first :return, :steps " ++ t) (ended (decimal n))
+
 evidence_is_text : (e : Evidence) → evidence_text e ≡ entries_text false (evidence_entries e)
-evidence_is_text Search = refl
+evidence_is_text (Search trial) = search_is_text trial.first trial.steps
 evidence_is_text (Counting c) =
     ap (λ t. codes ", :count {" ++ t) (counted_is_text c.counted c.from)
     ∙ sym (ap (λ t. codes ", :count {" ++ t) (append-nil
@@ -291,22 +321,42 @@ counted_fits counted.Free n = (
   (tt, tt, tt),
 )
 
-lacks_count : (k : List ℕ) (e : Evidence) → (k ≡ codes "count" → ⊥) → Lacks k (evidence_entries e)
-lacks_count k Search other = tt
-lacks_count k (Counting c) other = (other, tt)
+lacks_search : (k : List ℕ) (first : TryFirst) (steps : Option ℕ) → (k ≡ codes "search" → ⊥)
+    → Lacks k (search_entries first steps)
+lacks_search k LeastNumber None other = tt
+lacks_search k LeastReturn None other = (other, tt)
+lacks_search k LeastNumber (Some n) other = (other, tt)
+lacks_search k LeastReturn (Some n) other = (other, tt)
+
+lacks_evidence : (k : List ℕ) (e : Evidence) → (k ≡ codes "count" → ⊥) → (k ≡ codes "search" → ⊥)
+    → Lacks k (evidence_entries e)
+lacks_evidence k (Search trial) count search = lacks_search k trial.first trial.steps search
+lacks_evidence k (Counting c) count search = (count, tt)
+
+first_is_not_steps : codes "first" ≡ codes "steps" → ⊥
+first_is_not_steps h = let first : 102 ≡ 115 = ap (λ k. get_or k 0 0) h in absurd (omega (arith, first))
+
+search_fits : (first : TryFirst) (steps : Option ℕ) → EntriesFit 15 (search_entries first steps)
+search_fits LeastNumber None = tt
+search_fits LeastReturn None = (tt, (lit< tt, (tt, tt, tt)), tt)
+search_fits LeastNumber (Some n) = (tt, (lit< tt, ((first_is_not_steps, tt), tt, (tt, tt, tt))), tt)
+search_fits LeastReturn (Some n) = (tt, (lit< tt, ((first_is_not_steps, tt), tt, (tt, tt, tt))), tt)
 
 evidence_fits : (e : Evidence) → EntriesFit 15 (evidence_entries e)
-evidence_fits Search = tt
+evidence_fits (Search trial) = search_fits trial.first trial.steps
 evidence_fits (Counting c) = (tt, (lit< tt, counted_fits c.counted c.from), tt)
+
+object_is_not_search : codes "object" ≡ codes "search" → ⊥
+object_is_not_search h = let first : 111 ≡ 115 = ap (λ k. get_or k 0 0) h in absurd (omega (arith, first))
 
 datum_fits : (r : Reason) → Fits max_open (datum_of r)
 datum_fits r = (
   lit< tt,
   (
-    (λ h. cc, lacks_count (codes "object") r.evidence (λ h. cc)),
+    (λ h. cc, lacks_evidence (codes "object") r.evidence (λ h. cc) object_is_not_search),
     tt,
     (
-      lacks_count (codes "cuts") r.evidence (λ h. cc),
+      lacks_evidence (codes "cuts") r.evidence (λ h. cc) (λ h. cc),
       (lit< tt, cuts_fit r.cuts.items),
       evidence_fits r.evidence,
     ),
@@ -384,9 +434,19 @@ counted_in_profile (counted.NoEntry k) n t h = (refl, t, from_in_profile n h)
 counted_in_profile counted.Held n t h = (refl, tt, from_in_profile n h)
 counted_in_profile counted.Free n t h = (refl, tt, from_in_profile n h)
 
+search_in_profile : (first : TryFirst) (steps : Option ℕ) → AreTypedSteps steps
+    → EntriesInProfile (search_entries first steps)
+unfolding is_name
+search_in_profile LeastNumber None t = tt
+search_in_profile LeastReturn None t = (refl, (refl, refl, tt), tt)
+search_in_profile LeastNumber (Some n) t =
+    (refl, (refl, refl, (refl, number_in_profile n t, tt)), tt)
+search_in_profile LeastReturn (Some n) t =
+    (refl, (refl, refl, (refl, number_in_profile n t, tt)), tt)
+
 evidence_in_profile : (e : Evidence) → IsTypedEvidence e → EntriesInProfile (evidence_entries e)
 unfolding is_name
-evidence_in_profile Search t = tt
+evidence_in_profile (Search trial) t = search_in_profile trial.first trial.steps t
 evidence_in_profile (Counting c) t = (refl, counted_in_profile c.counted c.from t.0 t.1, tt)
 
 datum_in_profile : (r : Reason) → r.object ≤ 65535 → IsTypedReason r → InProfile (datum_of r)
@@ -505,16 +565,29 @@ counted_read (counted.NoEntry k) n h = ap (spec.count_with (Some (counted.NoEntr
 counted_read counted.Held n h = ap (spec.count_with (Some counted.Held)) (number_read n h)
 counted_read counted.Free n h = ap (spec.count_with (Some counted.Free)) (number_read n h)
 
+search_read : (first : TryFirst) (steps : Option ℕ) → AreTypedSteps steps
+    → evidence_in (value_at (codes "count") (search_entries first steps))
+    (value_at (codes "search") (search_entries first steps))
+    ≡ Some (Search (record { first = first; steps = steps }))
+search_read LeastNumber None t = refl
+search_read LeastReturn None t = refl
+search_read LeastNumber (Some n) t =
+    ap (λ v. spec.search_with (Some LeastNumber) (option_map (λ m. Some m) v)) (number_read n t)
+search_read LeastReturn (Some n) t =
+    ap (λ v. spec.search_with (Some LeastReturn) (option_map (λ m. Some m) v)) (number_read n t)
+
 evidence_read : (e : Evidence) → IsTypedEvidence e
-    → evidence_in (value_at (codes "count") (evidence_entries e)) ≡ Some e
-evidence_read Search t = refl
+    → evidence_in (value_at (codes "count") (evidence_entries e))
+    (value_at (codes "search") (evidence_entries e)) ≡ Some e
+evidence_read (Search trial) t = search_read trial.first trial.steps t
 evidence_read (Counting c) t = counted_read c.counted c.from t.1
 
 datum_denotes : (r : Reason) → r.object ≤ 65535 → IsTypedReason r → reason_in (datum_of r)
     ≡ Some (seen r)
 datum_denotes r small t =
     let cuts = cuts_with [] (items_of (cuts_data r.cuts.items)) in
-    let evidence = evidence_in (value_at (codes "count") (evidence_entries r.evidence)) in
+    let evidence = evidence_in (value_at (codes "count") (evidence_entries r.evidence))
+    (value_at (codes "search") (evidence_entries r.evidence)) in
     ap (λ b. reason_with (if b then Some r.object else None) cuts evidence)
     (le-leb r.object 65535 small)
     ∙ (ap (λ v. reason_with (Some r.object) v evidence) (cuts_read [] r.cuts.items t.0)

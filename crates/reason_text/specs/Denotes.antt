@@ -15,6 +15,8 @@ use Rattle.projection.specs.declared.cutting.Cut.TheVariants.{From, Until, Witho
 use Rattle.projection.specs.declared.cutting.Cut.TheVariants.{Entry}
 use Rattle.projection.specs.declared.counting.Counted.{Counted}
 use Rattle.projection.specs.declared.counting.Counted.TheVariants as counted
+use Rattle.order_search.specs.declared.trials.TryFirst.{TryFirst}
+use Rattle.order_search.specs.declared.trials.TryFirst.TheVariants.{LeastNumber, LeastReturn}
 use Rattle.refutation.specs.declared.reason.Evidence.{Evidence}
 use Rattle.refutation.specs.declared.reason.Evidence.TheVariants.{Search, Counting}
 use Rattle.refutation.specs.declared.reason.Reason.{Reason}
@@ -194,11 +196,35 @@ counted_of es =
 abbrev pub evidence_of : Entries → Option Evidence
 evidence_of es = count_with (counted_of es) (start_in (value_at (codes "from") es))
 
+-- which operation is tried first: :number, the default, or :return
+abbrev pub first_in : Option Datum → Option TryFirst
+first_in None = Some LeastNumber
+first_in (Some (atom (keyword k))) =
+    if same_bytes k (codes "number") then Some LeastNumber
+    else if same_bytes k (codes "return") then Some LeastReturn else None
+first_in (Some other) = None
+
+-- a number of steps, or none where the value is absent; another value is neither
+abbrev pub steps_in : Option Datum → Option (Option ℕ)
+steps_in None = Some None
+steps_in (Some d) = option_map (λ n. Some n) (number_in (Some d))
+
+abbrev pub search_with : Option TryFirst → Option (Option ℕ) → Option Evidence
+search_with (Some first) (Some steps) = Some (Search (record { first = first; steps = steps }))
+search_with first steps = None
+
+-- how a part is searched
+abbrev pub search_in : Option Datum → Option Evidence
+search_in None = search_with (Some LeastNumber) (Some None)
+search_in (Some (dictionary es)) =
+    search_with (first_in (value_at (codes "first") es)) (steps_in (value_at (codes "steps") es))
+search_in (Some other) = None
+
 -- a count, or without one a search
-abbrev pub evidence_in : Option Datum → Option Evidence
-evidence_in None = Some Search
-evidence_in (Some (dictionary es)) = evidence_of es
-evidence_in (Some other) = None
+abbrev pub evidence_in : Option Datum → Option Datum → Option Evidence
+evidence_in None search = search_in search
+evidence_in (Some (dictionary es)) search = evidence_of es
+evidence_in (Some other) search = None
 
 -- ---- reasons
 
@@ -207,11 +233,13 @@ reason_with (Some x) (Some cs) (Some e) = Some (record { object = x; cuts = cs; 
 reason_with x cs e = None
 
 -- The reason that a form is, if it is one: a map whose :object is a number from 0 to 65,535, whose
--- :cuts is a vector of cuts, and whose :count, if it has one, is a count. Other keys are ignored.
+-- :cuts is a vector of cuts, and whose :count, if it has one, is a count. Without a count its
+-- :search may say how the part is searched. Other keys are ignored.
 abbrev pub reason_in : Datum → Option ReasonSeen
 reason_in (dictionary es) =
     reason_with (object_in (natural_in (value_at (codes "object") es)))
-    (cuts_in (value_at (codes "cuts") es)) (evidence_in (value_at (codes "count") es))
+    (cuts_in (value_at (codes "cuts") es))
+    (evidence_in (value_at (codes "count") es) (value_at (codes "search") es))
 reason_in other = None
 
 -- The forms are these reasons, one by one and in order.

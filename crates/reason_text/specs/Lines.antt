@@ -1,6 +1,6 @@
 -- The text that is written for reasons.
 use Rattle.std.specs.Prelude.{ℕ, ◌≤◌, ℤ, Bool, true, false, List, [], ◌∷◌, ◌++◌, codes, decimal}
-use Rattle.std.specs.Prelude.{All}
+use Rattle.std.specs.Prelude.{All, Option, Some, None}
 use Rattle.std.specs.Fmt.{signed_decimal}
 use Rattle.edn_reader.specs.Datum.{Datum}
 use Rattle.edn_reader.specs.Spells.{Spells}
@@ -14,6 +14,8 @@ use Rattle.projection.specs.declared.cutting.Cut.TheVariants.{Entry}
 use Rattle.projection.specs.declared.counting.Count.{Count}
 use Rattle.projection.specs.declared.counting.Counted.{Counted}
 use Rattle.projection.specs.declared.counting.Counted.TheVariants as counted
+use Rattle.order_search.specs.declared.trials.TryFirst.{TryFirst}
+use Rattle.order_search.specs.declared.trials.TryFirst.TheVariants.{LeastNumber, LeastReturn}
 use Rattle.refutation.specs.declared.reason.Evidence.{Evidence}
 use Rattle.refutation.specs.declared.reason.Evidence.TheVariants.{Search, Counting}
 use Rattle.refutation.specs.declared.reason.Reason.{Reason}
@@ -87,9 +89,21 @@ count_text c =
     codes ", :count {"
     ++ (counted_text c.counted ++ ((codes ", :from " ++ decimal c.from) ++ codes "}"))
 
--- a count, or nothing for a search
+-- the pair :search with a number of steps, up to that number
+abbrev pub first_text : TryFirst → List ℕ
+first_text LeastNumber = codes ", :search {:first :number, :steps "
+first_text LeastReturn = codes ", :search {:first :return, :steps "
+
+-- the pair :search, as in `, :search {:first :return, :steps 20000}`; nothing where it says nothing
+-- that would not be so without it
+abbrev pub search_text : TryFirst → Option ℕ → List ℕ
+search_text first (Some n) = (first_text first ++ decimal n) ++ codes "}"
+search_text LeastNumber None = []
+search_text LeastReturn None = codes ", :search {:first :return}"
+
+-- a count, or how the part is searched
 abbrev pub evidence_text : Evidence → List ℕ
-evidence_text Search = []
+evidence_text (Search trial) = search_text trial.first trial.steps
 evidence_text (Counting c) = count_text c
 
 -- ---- reasons

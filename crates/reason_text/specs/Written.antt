@@ -1,6 +1,6 @@
 -- What the parts of a reason in memory are by their types: integers have 64 bits and numbers of
 -- maps 32, and the keys of a set rise. No public clause speaks of it.
-use Rattle.std.specs.Prelude.{ℕ, ◌≤◌, ℤ, List}
+use Rattle.std.specs.Prelude.{ℕ, ◌≤◌, ℤ, List, Option, Some, None}
 use Rattle.std.specs.List.{AllByRecursion}
 use Rattle.std.specs.List.Sorted.{IsStrictlySortedBy}
 use Rattle.std.specs.Ordering.{nat_cmp, int_cmp}
@@ -47,8 +47,12 @@ IsTypedCounted (counted.NoEntry k) = IsInt64 k
 IsTypedCounted counted.Held = Unit {0}
 IsTypedCounted counted.Free = Unit {0}
 
+abbrev pub AreTypedSteps : Option ℕ → Type 0
+AreTypedSteps None = Unit {0}
+AreTypedSteps (Some n) = n ≤ max_number
+
 abbrev pub IsTypedEvidence : Evidence → Type 0
-IsTypedEvidence Search = Unit {0}
+IsTypedEvidence (Search trial) = AreTypedSteps trial.steps
 IsTypedEvidence (Counting c) = IsTypedCounted c.counted × (c.from ≤ max_number)
 
 abbrev pub IsTypedReason : Reason → Type 0

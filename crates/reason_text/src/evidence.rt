@@ -1,6 +1,7 @@
 //! The evidence of a reason, from a form.
 
-ghost use Rattle.std.specs.Prelude.{◌≡◌, Option, option_map};
+ghost use Rattle.std.specs.Prelude.{◌≡◌, Option, option_map, codes};
+ghost use Rattle.edn_fields.specs.Fields.{value_at};
 ghost use Rattle.edn_reader.specs.Datum.{entries_of};
 ghost use Rattle.edn_reader.specs.View.{view, pair_views};
 ghost use Rattle.reason_text.specs.Denotes as spec;
@@ -8,9 +9,10 @@ ghost use Rattle.reason_text.specs.Denotes as spec;
 use crate::cut::optional_int_at;
 use crate::sets::number;
 use edn::{Form, Name};
-use edn_fields::value_at;
+use edn_fields::{is_same, value_at};
+use order_search::TryFirst;
 use projection::{Count, Counted};
-use refutation::Evidence;
+use refutation::{Evidence, Trial};
 
 /// What is counted.
 fn counted(entries: &[(Name, Form)]) -> Option<Counted>
@@ -47,13 +49,67 @@ fn evidence_of(entries: &[(Name, Form)]) -> Option<Evidence>
     Some(Evidence::Counting(Count { counted, from }))
 }
 
-/// The evidence of a reason: a count, or where the map names none a search.
-#[tactic(auto, using(edn_reader::proofs::Pairs::map_view))]
-pub(crate) fn evidence(form: Option<&Form>) -> Option<Evidence>
-    ensures { result ≡ spec.evidence_in (option_map (λ f. view f.now) form.entry) }
+/// Which operation a search tries first.
+fn first(form: Option<&Form>) -> Option<TryFirst>
+    ensures { result ≡ spec.first_in (option_map (λ f. view f.now) form.entry) }
 {
     match form {
-        None => Some(Evidence::Search),
+        None => Some(TryFirst::LeastNumber),
+        Some(Form::Keyword(word)) if is_same(word.as_bytes(), b"number") => {
+            Some(TryFirst::LeastNumber)
+        }
+        Some(Form::Keyword(word)) if is_same(word.as_bytes(), b"return") => {
+            Some(TryFirst::LeastReturn)
+        }
+        Some(_) => None,
+    }
+}
+
+/// How many steps a search may take, or none where the map has no such key. `None`: the value is no
+/// number.
+fn steps(form: Option<&Form>) -> Option<Option<u32>>
+    ensures { result ≡ spec.steps_in (option_map (λ f. view f.now) form.entry) }
+{
+    match form {
+        None => Some(None),
+        Some(_) => number(form).map(Some),
+    }
+}
+
+/// The search that the pairs of a map describe.
+fn search_of(entries: &[(Name, Form)]) -> Option<Evidence>
+    ensures { result ≡ spec.search_with
+        (spec.first_in (value_at (codes "first") (entries_of (pair_views entries.now))))
+        (spec.steps_in (value_at (codes "steps") (entries_of (pair_views entries.now)))) }
+{
+    let first = first(value_at(entries, b"first"))?;
+    let steps = steps(value_at(entries, b"steps"))?;
+    Some(Evidence::Search(Trial { first, steps }))
+}
+
+/// How a part is searched.
+#[tactic(auto, using(edn_reader::proofs::Pairs::map_view))]
+fn search(form: Option<&Form>) -> Option<Evidence>
+    ensures { result ≡ spec.search_in (option_map (λ f. view f.now) form.entry) }
+{
+    match form {
+        None => Some(Evidence::Search(Trial {
+            first: TryFirst::LeastNumber,
+            steps: None,
+        })),
+        Some(Form::Map(entries)) => search_of(entries),
+        Some(_) => None,
+    }
+}
+
+/// The evidence of a reason: a count, or where the map names none a search.
+#[tactic(auto, using(edn_reader::proofs::Pairs::map_view))]
+pub(crate) fn evidence(count: Option<&Form>, searched: Option<&Form>) -> Option<Evidence>
+    ensures { result ≡ spec.evidence_in (option_map (λ f. view f.now) count.entry)
+        (option_map (λ f. view f.now) searched.entry) }
+{
+    match count {
+        None => search(searched),
         Some(Form::Map(entries)) => evidence_of(entries),
         Some(_) => None,
     }

@@ -13,6 +13,6 @@ mod text_reader;
 mod writer;
 
 pub use fault::{ReasonFault, ReasonFaultKind, ReasonTextFault};
-pub use reader::read_reasons;
+pub use reader::{read_reasons, reason_in};
 pub use text_reader::read_reasons_text;
 pub use writer::write_reasons;

@@ -15,9 +15,11 @@ use edn_fields::value_at;
 use refutation::Reason;
 use std::alloc::{AllocError, Global};
 
-/// The reason that a form is.
+/// The reason that a form is, if it is one.
+///
+/// An error: memory was refused.
 #[tactic(auto, using(edn_reader::proofs::Pairs::map_view))]
-fn reason_in(alloc: Global, form: &Form) -> Result<Option<Reason>, AllocError>
+pub fn reason_in(alloc: Global, form: &Form) -> Result<Option<Reason>, AllocError>
     ensures { IfOk result (λ o. option_map spec.seen o ≡ spec.reason_in (view form.now)) }
 {
     let Form::Map(entries) = form else {
@@ -30,7 +32,8 @@ fn reason_in(alloc: Global, form: &Form) -> Result<Option<Reason>, AllocError>
     let Some(cuts) = cuts(alloc, value_at(entries, b"cuts"))? else {
         return Ok(None);
     };
-    match evidence(value_at(entries, b"count")) {
+    let counted = value_at(entries, b"count");
+    match evidence(counted, value_at(entries, b"search")) {
         Some(evidence) => Ok(Some(Reason {
             object,
             cuts,

@@ -7,13 +7,15 @@ ghost use Rattle.edn_reader.specs.Text.{IsInt64};
 ghost use Rattle.reason_text.specs.Denotes.{max_number};
 ghost use Rattle.reason_text.specs.Lines as text;
 ghost use Rattle.reason_text.specs.Lines.{AreInRange, SpellsReasons};
-ghost use Rattle.reason_text.specs.Written.{IsTypedCounted, IsTypedEvidence, IsTypedReason};
+ghost use Rattle.reason_text.specs.Written.{AreTypedSteps, IsTypedCounted, IsTypedEvidence};
+ghost use Rattle.reason_text.specs.Written.{IsTypedReason};
 
 use crate::cut_writer::write_cuts;
 use crate::set_writer::{write_integer_after, write_number_after};
 use edn::{Failed, Sink, WriteFault, write_bytes};
+use order_search::TryFirst;
 use projection::{Count, Counted};
-use refutation::{Evidence, Reason};
+use refutation::{Evidence, Reason, Trial};
 
 /// A value under a key.
 fn write_entry<S: Sink>(key: i64, value: i64, sink: &mut S) -> Result<(), Failed>
@@ -65,7 +67,49 @@ fn write_count<S: Sink>(count: Count, sink: &mut S) -> Result<(), Failed>
     write_start(count.from, sink)
 }
 
-/// A count, or nothing for a search.
+/// The pair `:search` with a number of steps, without its closing bracket.
+fn write_steps<S: Sink>(first: TryFirst, steps: u32, sink: &mut S) -> Result<(), Failed>
+    requires { S.broken sink.old ≡ false }
+    ensures sent { Writes result (S.sent sink.old) (S.sent sink.new) (S.broken sink.new)
+        (text.first_text first ++ decimal steps) }
+    ensures in_range { steps ≤ max_number }
+{
+    match first {
+        TryFirst::LeastNumber => {
+            write_number_after(b", :search {:first :number, :steps ", steps, sink)
+        }
+        TryFirst::LeastReturn => {
+            write_number_after(b", :search {:first :return, :steps ", steps, sink)
+        }
+    }
+}
+
+/// The pair `:search` with a number of steps.
+fn write_search_in<S: Sink>(first: TryFirst, steps: u32, sink: &mut S) -> Result<(), Failed>
+    requires { S.broken sink.old ≡ false }
+    ensures sent { Writes result (S.sent sink.old) (S.sent sink.new) (S.broken sink.new)
+        ((text.first_text first ++ decimal steps) ++ codes "}") }
+    ensures in_range { steps ≤ max_number }
+{
+    write_steps(first, steps, sink)?;
+    write_bytes(b"}", sink)
+}
+
+/// How a part is searched.
+fn write_search<S: Sink>(trial: Trial, sink: &mut S) -> Result<(), Failed>
+    requires { S.broken sink.old ≡ false }
+    ensures sent { Writes result (S.sent sink.old) (S.sent sink.new) (S.broken sink.new)
+        (text.search_text trial.first trial.steps) }
+    ensures typed { OnOk result (AreTypedSteps trial.steps) }
+{
+    match (trial.first, trial.steps) {
+        (first, Some(steps)) => write_search_in(first, steps, sink),
+        (TryFirst::LeastNumber, None) => Ok(()),
+        (TryFirst::LeastReturn, None) => write_bytes(b", :search {:first :return}", sink),
+    }
+}
+
+/// A count, or how the part is searched.
 fn write_evidence<S: Sink>(evidence: Evidence, sink: &mut S) -> Result<(), Failed>
     requires { S.broken sink.old ≡ false }
     ensures sent { Writes result (S.sent sink.old) (S.sent sink.new) (S.broken sink.new)
@@ -73,7 +117,7 @@ fn write_evidence<S: Sink>(evidence: Evidence, sink: &mut S) -> Result<(), Faile
     ensures typed { OnOk result (IsTypedEvidence evidence) }
 {
     match evidence {
-        Evidence::Search => Ok(()),
+        Evidence::Search(trial) => write_search(trial, sink),
         Evidence::Counting(count) => write_count(count, sink),
     }
 }

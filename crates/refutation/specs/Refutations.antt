@@ -1,5 +1,5 @@
 -- What is answered of a reason why no order of an object's operations is valid.
-use Rattle.std.specs.Prelude.{◌≡◌, ◌≢◌, ℕ, ℤ, Bool, true, false, ⊤, List, Any, IsSome}
+use Rattle.std.specs.Prelude.{◌≡◌, ◌≢◌, ℕ, Bool, true, false, ⊤, List, Any, IsSome, Option, Some, None}
 use Rattle.model.specs.declared.Kind.{Kind}
 use Rattle.model.specs.Orders.{Call, IsValidOrder, calls_on}
 use Rattle.events.specs.declared.event.Event.{Event}
@@ -46,20 +46,29 @@ IfNotShown (refutation.NotShown part doubt) P = P part doubt
 IfNotShown refutation.NoPart P = ⊤
 IfNotShown refutation.OtherObject P = ⊤
 
+-- how many steps a search may take: those that the reason gives, or else this limit
+abbrev pub steps_or : Option ℕ → ℕ → ℕ
+steps_or None limit = limit
+steps_or (Some n) limit = n
+
+abbrev pub steps_of : Evidence → ℕ → ℕ
+steps_of (Search trial) limit = steps_or trial.steps limit
+steps_of (Counting count) limit = limit
+
 abbrev pub IsSearch : Evidence → Type 0
-IsSearch Search = ⊤
+IsSearch (Search trial) = ⊤
 IsSearch (Counting count) = ⊥
 
 -- a count does not show that the part has no valid order
 abbrev pub IsNotOverdrawn : Evidence → ObjectCalls → Type 0
-IsNotOverdrawn Search part = ⊥
+IsNotOverdrawn (Search trial) part = ⊥
 IsNotOverdrawn (Counting count) part =
     IsOverdrawn part.kind count (calls_of part.ops) → ⊥
 
 -- Why the evidence does not show that the part has no valid order. A count has one answer alone.
 abbrev pub IsDoubt : Evidence → ObjectCalls → Doubt → Type 0
-IsDoubt evidence part Possible =
-    IsSearch evidence × (order : List ℤ) × IsValidOrder part.kind (calls_of part.ops) order
+IsDoubt evidence part (Possible order) =
+    IsSearch evidence × IsValidOrder part.kind (calls_of part.ops) order.items
 IsDoubt evidence part NotOverdrawn = IsNotOverdrawn evidence part
 IsDoubt evidence part OutOfSteps = IsSearch evidence
 IsDoubt evidence part NoMemory =
@@ -72,7 +81,7 @@ HasNoValidOrder part = IsNoneValid part.kind (calls_of part.ops)
 -- What the evidence shows of a part: a search, that no order of it is valid; a count, that a
 -- content was taken away more often than it can have been there.
 abbrev pub IsShownBy : Evidence → ObjectCalls → Type 0
-IsShownBy Search part = HasNoValidOrder part
+IsShownBy (Search trial) part = HasNoValidOrder part
 IsShownBy (Counting count) part = IsOverdrawn part.kind count (calls_of part.ops)
 
 -- A part with the calls that the cuts name of the calls of an object, x, of this kind, and with no

@@ -7,5 +7,5 @@ mod reason;
 mod refuting;
 
 pub use all::refute_all;
-pub use reason::{Evidence, Reason};
+pub use reason::{Evidence, Reason, Trial};
 pub use refuting::{Doubt, Refutation, refute};

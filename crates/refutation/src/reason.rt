@@ -1,15 +1,45 @@
 //! Reasons why no order of an object's operations is valid. They need not be true:
 //! [`refute`](crate::refute) checks them.
 
+ghost use Rattle.std.specs.Prelude.{◌≡◌};
+
+use order_search::TryFirst;
 use projection::{Count, Cut};
+
+/// How the orders of a part are searched: which operation is tried first, and how many steps the
+/// search may take at most. Without a number the caller of the check says how many.
+#[derive(Clone, Copy, Debug, PartialEq, Eq)]
+pub struct Trial {
+    pub first: TryFirst,
+    pub steps: Option<u32>,
+}
 
 /// What is to show that no order of a part is valid.
 #[derive(Clone, Copy, Debug, PartialEq, Eq)]
 pub enum Evidence {
     /// The search for an order of the part.
-    Search,
+    Search(Trial),
     /// A count over the part.
     Counting(Count),
+}
+
+impl Evidence {
+    ghost use Rattle.refutation.specs.Refutations.{steps_of};
+
+    /// How many steps a search may take, where it may take `limit` if the reason gives no number.
+    pub fn steps(self, limit: u64) -> u64
+        ensures { result ≡ steps_of self limit }
+    {
+        match self {
+            Evidence::Search(
+                Trial {
+                    first: _,
+                    steps: Some(steps),
+                },
+            ) => u64::from(steps),
+            _ => limit,
+        }
+    }
 }
 
 /// The object, the cuts that make the part, one after another, and what is to show that the part

@@ -8,17 +8,17 @@ ghost use Rattle.projection.specs.Cuts.{NamesPart};
 ghost use Rattle.refutation.specs.Refutations.{is_impossible, IfImpossible, IfNotShown};
 ghost use Rattle.refutation.specs.Refutations.{IfPart, IsDoubt, IsNamedPart, HasNoValidOrder, IsShownBy};
 
-use crate::reason::{Evidence, Reason};
+use crate::reason::{Evidence, Reason, Trial};
 use events::ObjectHistory;
-use order_search::{Attempt, Outcome, TryFirst, find_order_of_any_size};
+use order_search::{Attempt, Outcome, find_order_of_any_size};
 use projection::{Count, is_overdrawn, part_by};
 use std::alloc::{AllocError, Global};
 
 /// Why a part does not show that no order of the whole is valid.
-#[derive(Clone, Copy, Debug, PartialEq, Eq)]
+#[derive(Debug, Drop)]
 pub enum Doubt {
-    /// The part has a valid order.
-    Possible,
+    /// The part has this valid order.
+    Possible(Vec<i64>),
     /// In the part the content was not taken away more often than it can have been there.
     NotOverdrawn,
     /// The search reached its limit of steps.
@@ -41,13 +41,14 @@ pub enum Refutation {
 }
 
 /// What the search answers of a part; `None`: no order of it is valid.
-fn doubt_of_search(alloc: Global, part: &ObjectHistory, limit: u64) -> Option<Doubt>
+fn doubt_of_search(alloc: Global, part: &ObjectHistory, trial: Trial, limit: u64) -> Option<Doubt>
     ensures shown { result ≡ None → IsNoneValid part.now.kind (calls_of part.now.ops) }
-    ensures doubt { IfSome result (IsDoubt Evidence.Search part.now) }
+    ensures doubt { IfSome result (IsDoubt (Evidence.Search trial) part.now) }
 {
-    let Attempt { outcome, .. } = find_order_of_any_size(alloc, part, TryFirst::LeastNumber, limit);
+    let limit = Evidence::Search(trial).steps(limit);
+    let Attempt { outcome, .. } = find_order_of_any_size(alloc, part, trial.first, limit);
     match outcome {
-        Outcome::Found(_) => Some(Doubt::Possible),
+        Outcome::Found(order) => Some(Doubt::Possible(order)),
         Outcome::Impossible => None,
         Outcome::OutOfSteps | Outcome::TooLarge => Some(Doubt::OutOfSteps),
         Outcome::NoMemory => Some(Doubt::NoMemory),
@@ -73,13 +74,13 @@ fn doubt_of(alloc: Global, part: &ObjectHistory, evidence: Evidence, limit: u64)
     ensures doubt { IfSome result (IsDoubt evidence part.now) }
 {
     match evidence {
-        Evidence::Search => doubt_of_search(alloc, part, limit),
+        Evidence::Search(trial) => doubt_of_search(alloc, part, trial, limit),
         Evidence::Counting(count) => doubt_of_count(part, count),
     }
 }
 
-/// Whether the reason shows that no order of the object's operations is valid, within this limit of
-/// steps of a search. The part that the reason names is handed out.
+/// Whether the reason shows that no order of the object's operations is valid. A search takes at most
+/// the steps that the reason gives, or else `limit`. The part that the reason names is handed out.
 ///
 /// An error: the allocator refused memory for the part.
 pub fn refute(

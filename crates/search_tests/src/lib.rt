@@ -1,11 +1,11 @@
-//! Tests of the public calls of `search` and `deciding`, and of the library by its one crate. They
-//! are in a crate of their own, so that each of these libraries is proved once, and not again for
-//! its tests. What the commands reach is tested on the built program.
+//! Tests of the public calls of `search`, of the claims on a history, and of the library by its one
+//! crate. They are in a crate of their own, so that each of these libraries is proved once, and not
+//! again for its tests. What the commands reach is tested on the built program.
 #![tactic(auto)]
 
 #[cfg(test)]
 mod api;
 #[cfg(test)]
-mod decisions;
+mod claimed;
 #[cfg(test)]
 mod searching;

@@ -8,7 +8,5 @@ pub returns : goal.returns
 returns c =
     let run_is : app_of c.in_ok-run.run' ≡ spec.run = c.in_ok-run.ensures.shape in
     let simulate_is : app_of c.in_ok-simulate.simulate ≡ spec.simulate_command = c.in_ok-simulate.ensures.shape in
-    let draw_is : app_of c.in_ok-draw.draw ≡ spec.draw_command = c.in_ok-draw.ensures.shape in
-    let first_is = c.in_ok-subcommand.ensures.shape (search rules) ∙ ap₂ with_subcommand c.in_ok-judging_commands.ensures.shape (ap (λ (a : App). a.top) draw_is) in
-    let second_is = c.in_ok-subcommand-2.ensures.shape (search rules) ∙ ap₂ with_subcommand first_is (ap (λ (a : App). a.top) run_is) in
-    IfOk-weaker c.subcommand-3.result _ _ (λ r h. h.shape (search rules) ∙ ap₂ with_subcommand second_is (ap (λ (a : App). a.top) simulate_is)) c.subcommand-3.ensures
+    let first_is = c.in_ok-subcommand.ensures.shape (search rules) ∙ ap₂ with_subcommand c.in_ok-judging_commands.ensures.shape (ap (λ (a : App). a.top) run_is) in
+    IfOk-weaker c.subcommand-2.result _ _ (λ r h. h.shape (search rules) ∙ ap₂ with_subcommand first_is (ap (λ (a : App). a.top) simulate_is)) c.subcommand-2.ensures

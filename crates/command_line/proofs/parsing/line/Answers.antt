@@ -3,7 +3,7 @@ use Rattle.std.proofs.lemmas.Result.{IfOk-weaker, IfErr-weaker}
 use Rattle.clap.specs.Words.{app_of}
 use Rattle.command_line.specs.declared.asking.LineFault.TheVariants.{NoMemory}
 use Rattle.command_line.specs.Words.{Lacks}
-use Rattle.command_line.proofs.Parse.{found, lacking, on_ok, only_memory, only_memory_checked_draw, only_memory_draw, only_memory_find, only_memory_judge, only_memory_refute, only_memory_run, only_memory_search, only_memory_simulate, refused}
+use Rattle.command_line.proofs.Parse.{found, lacking, on_ok, only_memory, only_memory_refute, only_memory_run, only_memory_search, only_memory_simulate, only_memory_verify, refused}
 use Rattle.command_line.proofs.parsing.line.Goals as goal
 
 pub returns-in-Err-clause-refused : goal.returns-in-Err-clause-refused
@@ -15,20 +15,11 @@ returns-in-Err-clause-accepts g c p = only_memory (map g.S.AsStr.text c.args.wor
 pub returns-in-Err-clause-searches : goal.returns-in-Err-clause-searches
 returns-in-Err-clause-searches g c p = only_memory_search (map g.S.AsStr.text c.args.words.now) c.fault_of.result p (returns-in-Err-clause-refused g c)
 
-pub returns-in-Err-clause-finds : goal.returns-in-Err-clause-finds
-returns-in-Err-clause-finds g c p = only_memory_find (map g.S.AsStr.text c.args.words.now) c.fault_of.result p (returns-in-Err-clause-refused g c)
-
-pub returns-in-Err-clause-judges : goal.returns-in-Err-clause-judges
-returns-in-Err-clause-judges g c p = only_memory_judge (map g.S.AsStr.text c.args.words.now) c.fault_of.result p (returns-in-Err-clause-refused g c)
-
 pub returns-in-Err-clause-refutes : goal.returns-in-Err-clause-refutes
 returns-in-Err-clause-refutes g c p = only_memory_refute (map g.S.AsStr.text c.args.words.now) c.fault_of.result p (returns-in-Err-clause-refused g c)
 
-pub returns-in-Err-clause-draws : goal.returns-in-Err-clause-draws
-returns-in-Err-clause-draws g c p = only_memory_draw (map g.S.AsStr.text c.args.words.now) c.fault_of.result p (returns-in-Err-clause-refused g c)
-
-pub returns-in-Err-clause-draws_checked : goal.returns-in-Err-clause-draws_checked
-returns-in-Err-clause-draws_checked g c p = only_memory_checked_draw (map g.S.AsStr.text c.args.words.now) c.fault_of.result p (returns-in-Err-clause-refused g c)
+pub returns-in-Err-clause-verifies : goal.returns-in-Err-clause-verifies
+returns-in-Err-clause-verifies g c p = only_memory_verify (map g.S.AsStr.text c.args.words.now) c.fault_of.result p (returns-in-Err-clause-refused g c)
 
 pub returns-in-Err-clause-runs : goal.returns-in-Err-clause-runs
 returns-in-Err-clause-runs g c p = only_memory_run (map g.S.AsStr.text c.args.words.now) c.fault_of.result p (returns-in-Err-clause-refused g c)
@@ -55,20 +46,11 @@ returns-in-Ok-clause-accepts g c p = IfErr-weaker c.line_of.result _ _ (λ f. on
 pub returns-in-Ok-clause-searches : goal.returns-in-Ok-clause-searches
 returns-in-Ok-clause-searches g c p = IfErr-weaker c.line_of.result _ _ (λ f. only_memory_search (map g.S.AsStr.text c.args.words.now) f p) (returns-in-Ok-clause-refused g c)
 
-pub returns-in-Ok-clause-finds : goal.returns-in-Ok-clause-finds
-returns-in-Ok-clause-finds g c p = IfErr-weaker c.line_of.result _ _ (λ f. only_memory_find (map g.S.AsStr.text c.args.words.now) f p) (returns-in-Ok-clause-refused g c)
-
-pub returns-in-Ok-clause-judges : goal.returns-in-Ok-clause-judges
-returns-in-Ok-clause-judges g c p = IfErr-weaker c.line_of.result _ _ (λ f. only_memory_judge (map g.S.AsStr.text c.args.words.now) f p) (returns-in-Ok-clause-refused g c)
-
 pub returns-in-Ok-clause-refutes : goal.returns-in-Ok-clause-refutes
 returns-in-Ok-clause-refutes g c p = IfErr-weaker c.line_of.result _ _ (λ f. only_memory_refute (map g.S.AsStr.text c.args.words.now) f p) (returns-in-Ok-clause-refused g c)
 
-pub returns-in-Ok-clause-draws : goal.returns-in-Ok-clause-draws
-returns-in-Ok-clause-draws g c p = IfErr-weaker c.line_of.result _ _ (λ f. only_memory_draw (map g.S.AsStr.text c.args.words.now) f p) (returns-in-Ok-clause-refused g c)
-
-pub returns-in-Ok-clause-draws_checked : goal.returns-in-Ok-clause-draws_checked
-returns-in-Ok-clause-draws_checked g c p = IfErr-weaker c.line_of.result _ _ (λ f. only_memory_checked_draw (map g.S.AsStr.text c.args.words.now) f p) (returns-in-Ok-clause-refused g c)
+pub returns-in-Ok-clause-verifies : goal.returns-in-Ok-clause-verifies
+returns-in-Ok-clause-verifies g c p = IfErr-weaker c.line_of.result _ _ (λ f. only_memory_verify (map g.S.AsStr.text c.args.words.now) f p) (returns-in-Ok-clause-refused g c)
 
 pub returns-in-Ok-clause-runs : goal.returns-in-Ok-clause-runs
 returns-in-Ok-clause-runs g c p = IfErr-weaker c.line_of.result _ _ (λ f. only_memory_run (map g.S.AsStr.text c.args.words.now) f p) (returns-in-Ok-clause-refused g c)

@@ -6,12 +6,6 @@ returns-in-Check g c = record { performs = rw c.in-Check.is c.report_check.ensur
 pub returns-in-Search : goal.returns-in-Search
 returns-in-Search g c = record { performs = rw c.in-Search.is c.report_search.ensures.leaves }
 
-pub returns-in-Judge : goal.returns-in-Judge
-returns-in-Judge g c = record { performs = rw c.in-Judge.is c.report_judgement.ensures.leaves }
-
-pub returns-in-Find : goal.returns-in-Find
-returns-in-Find g c = record { performs = rw c.in-Find.is c.report_find.ensures.leaves }
-
 pub returns-in-Run : goal.returns-in-Run
 returns-in-Run g c = record { performs = rw c.in-Run.is c.report_run.ensures.leaves }
 
@@ -21,5 +15,5 @@ returns-in-Simulate g c = record { performs = rw c.in-Simulate.is c.report_simul
 pub returns-in-Refute : goal.returns-in-Refute
 returns-in-Refute g c = record { performs = rw c.in-Refute.is c.report_refutation.ensures.leaves }
 
-pub returns-in-Draw : goal.returns-in-Draw
-returns-in-Draw g c = record { performs = rw c.in-Draw.is c.draw.ensures.leaves }
+pub returns-in-Verify : goal.returns-in-Verify
+returns-in-Verify g c = record { performs = rw c.in-Verify.is c.report_verification.ensures.leaves }

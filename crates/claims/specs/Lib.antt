@@ -1,0 +1,3 @@
+pub mod Denotes
+pub mod Faults
+pub mod Texts

@@ -1,4 +1,0 @@
-pub mod Escaping
-pub mod Markup
-pub mod Marks
-pub mod Pieces

@@ -1,3 +1,0 @@
-pub mod Completed
-pub mod Listed
-pub mod Numbered

@@ -1,0 +1,4 @@
+pub mod Answered
+pub mod Decided
+pub mod Further
+pub mod Taken

@@ -1,0 +1,191 @@
+-- What may be decided of an object of a history by claims.
+use Rattle.std.specs.Prelude.{◌≡◌, ◌<◌, ◌↔◌, ◌⊎◌, ℕ, ⊤, Bool, true, false, List, [], map}
+use Rattle.std.specs.Prelude.{All, AllPairs, Any, Contains, Option, Some, None, IsSome}
+use Rattle.std.specs.List.{filter_map}
+use Rattle.model.specs.declared.Kind.{Kind}
+use Rattle.model.specs.Linearizable.{IsLinearizable}
+use Rattle.model.specs.Orders.{Call, IsValidOrder, calls_on, events}
+use Rattle.events.specs.declared.event.Event.{Event}
+use Rattle.events.specs.Events.{IsNamed, kind_at, denoted}
+use Rattle.events.specs.Operations.{ObjectCalls}
+use Rattle.certificate.specs.declared.Certificate.{Certificate}
+use Rattle.certificate.specs.Denotes.{AreDistinct}
+use Rattle.checker.specs.Refusals.{AreValid}
+use Rattle.order_search.specs.Outcomes.{IsNoneValid}
+use Rattle.projection.specs.Cuts.{NamesPart}
+use Rattle.search.specs.Answers.{IsFor}
+use Rattle.refutation.specs.declared.reason.Reason.{Reason}
+use Rattle.refutation.specs.declared.refuting.Doubt.TheVariants.{Possible, NotOverdrawn}
+use Rattle.refutation.specs.Refutations.{HasNoValidOrder, IsDoubt, IsNamedPart, IsSearch}
+use Rattle.refutation.specs.Refutations.{IsShownBy, steps_of}
+use Rattle.claims.specs.declared.claim.Claim.{Claim}
+use Rattle.claims.specs.declared.claim.Claim.TheVariants as claim
+use Rattle.claims.specs.Denotes.{object_of}
+use Rattle.verifying.specs.declared.decision.Refuted.{Refuted}
+use Rattle.verifying.specs.declared.decision.Decision.{Decision}
+use Rattle.verifying.specs.declared.decision.Decision.TheVariants.{Order, Impossible, OutOfSteps}
+use Rattle.verifying.specs.declared.decision.Decision.TheVariants.{NoMemory, Open}
+
+-- ---- the cases
+
+abbrev pub certificate_in : Decision → Option Certificate
+certificate_in (Order c) = Some c
+certificate_in (Impossible f) = None
+certificate_in (OutOfSteps n) = None
+certificate_in NoMemory = None
+certificate_in Open = None
+
+-- where an order is shown, this holds of the certificate
+abbrev pub IfOrder : Decision → (Certificate → Type 0) → Type 0
+IfOrder (Order c) P = P c
+IfOrder (Impossible f) P = ⊤
+IfOrder (OutOfSteps n) P = ⊤
+IfOrder NoMemory P = ⊤
+IfOrder Open P = ⊤
+
+-- where no order is valid, this holds of what shows it
+abbrev pub IfImpossible : Decision → (Refuted → Type 0) → Type 0
+IfImpossible (Order c) P = ⊤
+IfImpossible (Impossible f) P = P f
+IfImpossible (OutOfSteps n) P = ⊤
+IfImpossible NoMemory P = ⊤
+IfImpossible Open P = ⊤
+
+-- where a search is out of steps, this holds of their number
+abbrev pub IfOutOfSteps : Decision → (ℕ → Type 0) → Type 0
+IfOutOfSteps (Order c) P = ⊤
+IfOutOfSteps (Impossible f) P = ⊤
+IfOutOfSteps (OutOfSteps n) P = P n
+IfOutOfSteps NoMemory P = ⊤
+IfOutOfSteps Open P = ⊤
+
+abbrev pub is_order : Decision → Bool
+is_order (Order c) = true
+is_order (Impossible f) = false
+is_order (OutOfSteps n) = false
+is_order NoMemory = false
+is_order Open = false
+
+abbrev pub is_impossible : Decision → Bool
+is_impossible (Order c) = false
+is_impossible (Impossible f) = true
+is_impossible (OutOfSteps n) = false
+is_impossible NoMemory = false
+is_impossible Open = false
+
+abbrev pub is_open : Decision → Bool
+is_open (Order c) = false
+is_open (Impossible f) = false
+is_open (OutOfSteps n) = false
+is_open NoMemory = false
+is_open Open = true
+
+-- an order or a reason is shown
+abbrev pub is_shown : Decision → Bool
+is_shown (Order c) = true
+is_shown (Impossible f) = true
+is_shown (OutOfSteps n) = false
+is_shown NoMemory = false
+is_shown Open = false
+
+-- ---- what claims have to do with a decision
+
+-- the claim asks for the search of the whole object
+abbrev pub AsksForSearch : Claim → Type 0
+AsksForSearch (claim.Order c) = ⊥
+AsksForSearch (claim.Reason r _) = (r.cuts.items ≡ []) × IsSearch r.evidence
+
+-- the order is claimed, or a search of the whole object is asked for
+abbrev pub Orders : Certificate → Claim → Type 0
+Orders c e = (e ≡ claim.Order c) ⊎ AsksForSearch e
+
+-- a search of at most this many steps is asked for, of a part or of the whole
+abbrev pub SearchesIn : ℕ → ℕ → Claim → Type 0
+SearchesIn limit n (claim.Order c) = ⊥
+SearchesIn limit n (claim.Reason r _) = IsSearch r.evidence × (n ≡ steps_of r.evidence limit)
+
+-- the claim asks for a search, of a part or of the whole
+abbrev pub Searches : Claim → Type 0
+Searches (claim.Order c) = ⊥
+Searches (claim.Reason r _) = IsSearch r.evidence
+
+-- The cuts of the reason name no part, or its evidence does not hold of the part: the part has a
+-- valid order, or its count is not exceeded.
+abbrev pub IsRefusedReason : Kind → List Call → Reason → Type 0
+IsRefusedReason kind calls r =
+    ((part : List Call) → NamesPart r.cuts.items calls part → ⊥)
+    ⊎ ((part : ObjectCalls) × IsNamedPart r.cuts.items r.object kind calls part
+    × (((order : _) × IsDoubt r.evidence part (Possible order))
+    ⊎ IsDoubt r.evidence part NotOverdrawn))
+
+-- the claim is not true of an object of this kind and these calls
+abbrev pub IsRefused : Kind → List Call → Claim → Type 0
+IsRefused kind calls (claim.Order c) = IsValidOrder kind calls c.order.items → ⊥
+IsRefused kind calls (claim.Reason r _) = IsRefusedReason kind calls r
+
+-- What shows that no order of the calls of an object is valid: the reason names a part, and its
+-- evidence holds of the part, which has no valid order.
+pub record IsRefutation (x : ℕ) (kind : Kind) (calls : List Call) (f : Refuted) : Type 0 where
+  pub named : f.reason.object ≡ x
+  pub part : IsNamedPart f.reason.cuts.items x kind calls f.part
+  pub shown : IsShownBy f.reason.evidence f.part
+  pub no_order : HasNoValidOrder f.part
+  pub impossible : IsNoneValid kind calls
+
+-- ---- decisions
+
+-- what is decided of an object by one claim on it
+pub record IsAnswer (x : ℕ) (kind : Kind) (calls : List Call) (limit : ℕ) (e : Claim) (d : Decision)
+    : Type 0 where
+  pub order : IfOrder d (λ c. IsFor x kind calls c × Orders c e)
+  pub impossible : IfImpossible d (λ f.
+      IsRefutation x kind calls f × (e ≡ claim.Reason f.reason f.note))
+  pub out_of_steps : IfOutOfSteps d (λ n. SearchesIn limit n e)
+  pub memory : d ≡ NoMemory → Searches e
+  pub unshown : is_shown d ≡ false → IsRefused kind calls e ⊎ Searches e
+  pub refused : d ≡ Open → IsRefused kind calls e
+
+-- What is decided of an object, with its kind and calls, by claims, where a search for which none of
+-- them names a number of steps takes at most `limit`.
+pub record IsDecision (claims : List Claim) (limit x : ℕ) (kind : Kind) (calls : List Call)
+    (d : Decision) : Type 0 where
+  -- the order is valid, and comes from a claim
+  pub order : IfOrder d (λ c.
+      IsFor x kind calls c × Any (λ e. (object_of e ≡ x) × Orders c e) claims)
+  -- the reason is claimed, and shows that no order is valid
+  pub impossible : IfImpossible d (λ f.
+      IsRefutation x kind calls f × Contains claims (claim.Reason f.reason f.note))
+  -- a search had all the steps that it may take
+  pub out_of_steps : IfOutOfSteps d (λ n.
+      Any (λ e. (object_of e ≡ x) × SearchesIn limit n e) claims)
+  -- a search was refused memory, for which a claim on the object asks
+  pub memory : d ≡ NoMemory → Any (λ e. (object_of e ≡ x) × Searches e) claims
+  -- where nothing is shown each claim on the object is not true, or asks for a search
+  pub unshown : is_shown d ≡ false
+      → All (λ e. object_of e ≡ x → IsRefused kind calls e ⊎ Searches e) claims
+  -- it is open only where no claim on the object is true
+  pub refused : d ≡ Open → All (λ e. object_of e ≡ x → IsRefused kind calls e) claims
+
+-- a decision on the object with this number, in the history that the events denote
+abbrev pub IsDecisionOn : List Event → List Claim → ℕ → ℕ → Decision → Type 0
+IsDecisionOn es claims limit x d =
+    IsDecision claims limit x (kind_at es x) (calls_on x (denoted es)) d
+
+-- the certificates among the decisions
+abbrev pub certificates_in : List (ℕ × Decision) → List Certificate
+certificates_in answers = filter_map (λ a. certificate_in a.1) answers
+
+-- These are decisions on all objects of the history that the events denote, by these claims.
+pub record AreDecisionsOn (es : List Event) (claims : List Claim) (limit : ℕ)
+    (answers : List (ℕ × Decision)) : Type 0 where
+  pub rising : AllPairs (λ a b. a.0 < b.0) answers
+  -- on the objects that some invocation names, and no others
+  pub named : (x : ℕ) → Contains (map (λ a. a.0) answers) x ↔ IsNamed es x
+  pub decisions : All (λ a. IsDecisionOn es claims limit a.0 a.1) answers
+  -- where one is impossible the history is not linearizable
+  pub impossible : Any (λ a. is_impossible a.1 ≡ true) answers
+      → IsLinearizable (kind_at es) (events (denoted es)) → ⊥
+  -- where all have an order `check_all` accepts the certificates
+  pub distinct : AreDistinct (certificates_in answers)
+  pub valid : All (λ a. IsSome (certificate_in a.1)) answers
+      → AreValid es (certificates_in answers)

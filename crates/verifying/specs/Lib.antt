@@ -1,0 +1,9 @@
+pub mod Decisions
+pub mod Taking
+pub use Rattle.model.specs.Linearizable
+pub use Rattle.model.specs.Orders
+pub use Rattle.events.specs.Events
+pub use Rattle.events.specs.Operations
+pub use Rattle.order_search.specs.Outcomes
+pub use Rattle.search.specs.Answers
+pub use Rattle.claims.specs.Denotes

@@ -1,0 +1,122 @@
+//! The decisions on all objects of a history by claims.
+
+ghost use Rattle.std.specs.Prelude.{◌≡◌, ◌<◌, ◌↔◌, ◌++◌, ◌∷◌, [], ℕ, List, length, map, IfOk, OnOk};
+ghost use Rattle.std.specs.Prelude.{All, AllPairs, Any, Contains, IsSome, true};
+ghost use Rattle.model.specs.Linearizable.{IsLinearizable};
+ghost use Rattle.model.specs.Orders.{events};
+ghost use Rattle.events.specs.Events.{IsNamed, kind_at, denoted};
+ghost use Rattle.events.specs.Operations.{calls_of};
+ghost use Rattle.certificate.specs.Denotes.{AreDistinct};
+ghost use Rattle.checker.specs.Refusals.{AreValid};
+ghost use Rattle.claims.specs.declared.claim.Claim.{Claim};
+ghost use Rattle.claims.specs.Denotes.{object_of};
+ghost use Rattle.verifying.specs.Decisions.{IsDecision, IsDecisionOn, certificate_in};
+ghost use Rattle.verifying.specs.Decisions.{certificates_in, is_impossible};
+ghost use Rattle.verifying.specs.Taking.{AreAllOpen, AreDecided, AreTaken};
+
+use crate::decision::Decision;
+use crate::object::decide_by_claim;
+use claims::Claim;
+use events::{History, ObjectHistory, split};
+use locality::linearizable_has_orders;
+use std::alloc::{AllocError, Global};
+use std::mem;
+
+/// The objects, of which nothing is claimed yet.
+fn all_open(alloc: Global, objects: &[ObjectHistory]) -> Result<Vec<(u32, Decision)>, AllocError>
+    ensures { IfOk result (λ v. AreAllOpen objects.now v.items) }
+{
+    let mut answers = Vec::new(alloc);
+    for object in objects {
+        answers.push((object.object(), Decision::Open))?;
+    }
+    Ok(answers)
+}
+
+/// What is decided of an object by one more claim on it, where this was decided by those before.
+/// What was shown stays.
+///
+/// An error: memory was refused.
+fn decide_further(
+    alloc: Global,
+    history: &ObjectHistory,
+    earlier: Decision,
+    claim: Claim,
+    limit: u64,
+) -> Result<Decision, AllocError>
+    requires { object_of claim ≡ history.now.object }
+    ensures { IfOk result (λ d. (claims : List Claim) → IsDecision claims limit
+        history.now.object history.now.kind (calls_of history.now.ops) earlier
+        → IsDecision (claims ++ claim ∷ []) limit
+        history.now.object history.now.kind (calls_of history.now.ops) d) }
+{
+    if earlier.is_shown() {
+        return Ok(earlier);
+    }
+    let next = decide_by_claim(alloc, history, claim, limit)?;
+    if next.is_open() {
+        return Ok(earlier);
+    }
+    Ok(next)
+}
+
+/// Decides further by a claim, where it is on one of these objects, which are in rising number.
+///
+/// An error: memory was refused.
+fn take_claim(
+    alloc: Global,
+    objects: &[ObjectHistory],
+    answers: &mut Vec<(u32, Decision)>,
+    claim: Claim,
+    limit: u64,
+) -> Result<(), AllocError>
+    requires rising { AllPairs (λ a b. a.object < b.object) objects.now }
+    requires each { length answers.old.items ≡ length objects.now }
+    ensures { OnOk result (AreTaken objects.now limit claim answers.old.items answers.new.items) }
+{
+    let number = claim.object();
+    let Ok(at) = objects.binary_search_by_key(&number, |object| object.object()) else {
+        return Ok(());
+    };
+    let earlier = mem::replace(&mut answers[at].1, Decision::Open);
+    answers[at].1 = decide_further(alloc, &objects[at], earlier, claim, limit)?;
+    Ok(())
+}
+
+/// Decides on each object of a history by the claims on it, in their order, and answers in rising
+/// number of the objects. The first claim that is shown decides: an order that is valid, a reason by
+/// which no order is, or the search of the whole object, if a claim asks for it. A search for which
+/// a claim names no number of steps takes at most `limit`.
+///
+/// An error: memory was refused for the split, the list of answers, a part or the check of an order.
+pub fn decide_by_claims(
+    alloc: Global,
+    history: &History,
+    claims: Vec<Claim>,
+    limit: u64,
+) -> Result<Vec<(u32, Decision)>, AllocError>
+    ensures rising { IfOk result (λ v. AllPairs (λ a b. a.0 < b.0) v.items) }
+    // the objects that some invocation names, and no others
+    ensures named { IfOk result (λ v. (x : ℕ)
+        → Contains (map (λ a. a.0) v.items) x ↔ IsNamed history.now x) }
+    ensures decisions { IfOk result (λ v.
+        All (λ a. IsDecisionOn history.now claims.items limit a.0 a.1) v.items) }
+    // Where one is impossible the history is not linearizable.
+    ensures impossible { IfOk result (λ v. Any (λ a. is_impossible a.1 ≡ true) v.items
+        → IsLinearizable (kind_at history.now) (events (denoted history.now)) → ⊥) }
+    // Where each has an order `check_all` accepts the certificates.
+    ensures distinct { IfOk result (λ v. AreDistinct (certificates_in v.items)) }
+    ensures valid { IfOk result (λ v. All (λ a. IsSome (certificate_in a.1)) v.items
+        → AreValid history.now (certificates_in v.items)) }
+{
+    // These two do nothing. The first says that the events denote a well-formed history, the second
+    // that each object of a linearizable one has a valid order.
+    history.events();
+    linearizable_has_orders();
+    let objects = split(alloc, history)?;
+    let mut answers = all_open(alloc, &objects)?;
+    for claim in claims {
+        take_claim(alloc, &objects, &mut answers, claim, limit)?;
+    }
+    Ok(answers)
+}

@@ -1,0 +1,100 @@
+//! The decision on one object by one claim.
+
+ghost use Rattle.std.specs.Prelude.{◌≡◌, ℕ, List, Option, IfOk};
+ghost use Rattle.std.specs.Global.{Vec};
+ghost use Rattle.model.specs.declared.Kind.{Kind};
+ghost use Rattle.model.specs.Orders.{Call};
+ghost use Rattle.events.specs.Operations.{ObjectCalls, calls_of};
+ghost use Rattle.refutation.specs.Refutations.{IsDoubt, IsNamedPart};
+ghost use Rattle.verifying.specs.Decisions.{IsAnswer};
+ghost use Rattle.claims.specs.declared.claim.Claim.TheVariants as claim;
+ghost use Rattle.claims.specs.Denotes.{object_of};
+
+use crate::decision::{Decision, Refuted};
+use certificate::Certificate;
+use checker::{Refusal, check_object};
+use claims::Claim;
+use events::ObjectHistory;
+use refutation::{Doubt, Reason, Refutation, refute};
+use std::alloc::{AllocError, Global};
+
+/// What is decided by an order.
+///
+/// An error: memory was refused.
+fn decide_by_order(
+    alloc: Global,
+    history: &ObjectHistory,
+    certificate: Certificate,
+    limit: u64,
+) -> Result<Decision, AllocError>
+    requires { certificate.object ≡ history.now.object }
+    ensures { IfOk result (IsAnswer history.now.object history.now.kind
+        (calls_of history.now.ops) limit (claim.Order certificate)) }
+{
+    match check_object(alloc, history, &certificate) {
+        Ok(()) => Ok(Decision::Order(certificate)),
+        Err(Refusal::NoMemory) => Err(AllocError),
+        Err(_) => Ok(Decision::Open),
+    }
+}
+
+/// What is decided where the reason does not show that no order is valid. The search of the whole
+/// object, of which nothing was cut off, may have found an order.
+fn decide_by_doubt(reason: &Reason, limit: u64, doubt: Doubt) -> Decision
+    ensures { (kind : Kind) (calls : List Call) (note : Option (Vec ℕ)) (part : ObjectCalls)
+        → IsNamedPart reason.now.cuts.items reason.now.object kind calls part
+        → IsDoubt reason.now.evidence part doubt
+        → IsAnswer reason.now.object kind calls limit (claim.Reason reason.now note) result }
+{
+    match doubt {
+        Doubt::Possible(order) if reason.cuts.is_empty() => Decision::Order(Certificate {
+            object: reason.object,
+            order,
+        }),
+        Doubt::OutOfSteps => Decision::OutOfSteps(reason.evidence.steps(limit)),
+        Doubt::NoMemory => Decision::NoMemory,
+        Doubt::Possible(_) => Decision::Open,
+        Doubt::NotOverdrawn => Decision::Open,
+    }
+}
+
+/// What is decided by a reason. Where it names no number of steps a search takes at most `limit`.
+///
+/// An error: memory was refused.
+fn decide_by_reason(
+    alloc: Global,
+    history: &ObjectHistory,
+    reason: Reason,
+    note: Option<Vec<u8>>,
+    limit: u64,
+) -> Result<Decision, AllocError>
+    requires { reason.object ≡ history.now.object }
+    ensures { IfOk result (IsAnswer history.now.object history.now.kind
+        (calls_of history.now.ops) limit (claim.Reason reason note)) }
+{
+    match refute(alloc, history, &reason, limit)? {
+        Refutation::Impossible(part) => Ok(Decision::Impossible(Refuted { reason, part, note })),
+        Refutation::NotShown { part: _, doubt } => Ok(decide_by_doubt(&reason, limit, doubt)),
+        Refutation::NoPart | Refutation::OtherObject => Ok(Decision::Open),
+    }
+}
+
+/// What is decided of an object by a claim on it. Where a reason names no number of steps a search
+/// takes at most `limit`.
+///
+/// An error: memory was refused.
+pub fn decide_by_claim(
+    alloc: Global,
+    history: &ObjectHistory,
+    claimed: Claim,
+    limit: u64,
+) -> Result<Decision, AllocError>
+    requires { object_of claimed ≡ history.now.object }
+    ensures { IfOk result (IsAnswer history.now.object history.now.kind
+        (calls_of history.now.ops) limit claimed) }
+{
+    match claimed {
+        Claim::Order(certificate) => decide_by_order(alloc, history, certificate, limit),
+        Claim::Reason { reason, note } => decide_by_reason(alloc, history, reason, note, limit),
+    }
+}

@@ -1,0 +1,151 @@
+//! The command that draws: the answer of the proved program on a page.
+
+use crate::command_line::Draw;
+use crate::find::{read, say_failures, write_evidence};
+use crate::judge::answered;
+use crate::program::{path_for_both, proved, say, verifier};
+use crate::status::Status;
+use finder::{Decision, History, Options, decide, read_history};
+use pages::{Drawn, Fault, Verdict, Which, malformed_page, memory_page, orders_in};
+use std::io::{self, Read, Write};
+use std::panic::{AssertUnwindSafe, catch_unwind};
+use std::process::{ChildStdin, Command, Stdio};
+
+/// What the proved program said: its status, and its lines without the end of the last one.
+struct Said {
+    status: Status,
+    lines: String,
+}
+
+/// Runs the proved program, and hands its input to a function meanwhile.
+fn said_by(mut program: Command, give: impl FnOnce(ChildStdin)) -> Result<Said, Status> {
+    let program = program.stdin(Stdio::piped()).stdout(Stdio::piped());
+    let mut child = program.spawn().map_err(|error| {
+        say(format_args!("the proved program cannot be started: {error}"));
+        Status::FAILED
+    })?;
+    if let Some(input) = child.stdin.take() {
+        give(input);
+    }
+    let mut lines = Vec::new();
+    let read = child.stdout.take().map_or(Ok(0), |mut output| output.read_to_end(&mut lines));
+    let status = answered(read.and_then(|_| child.wait()))?;
+    let lines = lines.strip_suffix(b"\n").unwrap_or(&lines);
+    Ok(Said { status, lines: String::from_utf8_lossy(lines).into_owned() })
+}
+
+/// What is found of a history. Where the finder fails that is nothing, or less.
+fn decisions_on(history: &History, steps: Option<u64>) -> Vec<Decision> {
+    let options = Options { steps, ..Options::default() };
+    let found = catch_unwind(AssertUnwindSafe(|| decide(history, options)));
+    let decisions = found.unwrap_or_else(|_| {
+        say(format_args!("the finder failed, so there is no evidence"));
+        Vec::new()
+    });
+    say_failures(&decisions);
+    decisions
+}
+
+/// A text that is judged: the name of its file without folders, its path, and its bytes.
+struct Text<'a> {
+    name: &'a str,
+    path: String,
+    bytes: Vec<u8>,
+}
+
+impl<'a> Text<'a> {
+    fn read(path: &'a str) -> Result<Text<'a>, Status> {
+        let name = path.rsplit('/').next().unwrap_or(path);
+        let path = path_for_both(path)?;
+        let bytes = read(&path)?;
+        Ok(Text { name, path, bytes })
+    }
+}
+
+/// What is drawn: the texts, the history in one, and what was found of it.
+struct Drawing<'a> {
+    command: &'a Draw,
+    history: Text<'a>,
+    certificates: Option<Text<'a>>,
+    read: Option<History>,
+    decisions: Vec<Decision>,
+}
+
+impl<'a> Drawing<'a> {
+    fn new(command: &'a Draw) -> Result<Drawing<'a>, Status> {
+        let history = Text::read(&command.history)?;
+        let certificates = command.certificates.as_deref().map(Text::read).transpose()?;
+        let read = read_history(&history.bytes);
+        Ok(Drawing { command, history, certificates, read, decisions: Vec::new() })
+    }
+
+    /// Judges the history by what the finder finds, or checks it by the certificates.
+    fn ask(&mut self) -> Result<Said, Status> {
+        let (path, steps) = (&self.history.path, self.command.steps);
+        if let Some(certificates) = &self.certificates {
+            return said_by(proved(&["check", path, &certificates.path], None), drop);
+        }
+        said_by(verifier(path, steps), |input| {
+            if let Some(history) = &self.read {
+                self.decisions = decisions_on(history, steps);
+            }
+            // A program that has its answer reads no more.
+            let _ = write_evidence(&self.decisions, input);
+        })
+    }
+
+    fn page_of_fault(&self, fault: Fault, lines: &str) -> Option<String> {
+        let text = match fault.which() {
+            Which::History => &self.history,
+            Which::Certificates => self.certificates.as_ref()?,
+        };
+        Some(malformed_page(text.name, &text.bytes, fault, lines))
+    }
+
+    /// The page on what was said. `None`: it does not fit the texts.
+    fn page(&self, lines: &str) -> Option<String> {
+        let name = self.history.name;
+        let verdict = Verdict::read(lines)?;
+        match verdict {
+            Verdict::Malformed(fault) => return self.page_of_fault(fault, lines),
+            Verdict::NoMemory => return Some(memory_page(name, lines)),
+            _ => {}
+        }
+        let history = self.read.as_ref()?;
+        let certificates = self.certificates.as_ref().map(|text| text.name);
+        let drawn = Drawn { history, name, certificates, lines, options: self.command.options };
+        let orders = self.certificates.as_ref().map(|text| orders_in(&text.bytes));
+        match (verdict, orders) {
+            (Verdict::Yes, None) => Some(drawn.judged_page(&self.decisions, &[])),
+            (Verdict::Judged(answers), None) => Some(drawn.judged_page(&self.decisions, &answers)),
+            (Verdict::Yes, Some(orders)) => Some(drawn.checked_page(&orders, None)),
+            (Verdict::No(refusal), Some(orders)) => {
+                Some(drawn.checked_page(&orders, Some(&refusal)))
+            }
+            _ => None,
+        }
+    }
+}
+
+/// Judges a history, or checks it by certificates, and puts out a page on the answer. The status is
+/// that of the answer.
+pub fn draw(command: &Draw) -> Status {
+    drawn(command).unwrap_or_else(|status| status)
+}
+
+fn drawn(command: &Draw) -> Result<Status, Status> {
+    let mut drawing = Drawing::new(command)?;
+    let Said { status, lines } = drawing.ask()?;
+    if status.0 > Status::OPEN.0 {
+        return Err(status);
+    }
+    let Some(page) = drawing.page(&lines) else {
+        say(format_args!("there is no page on this answer: {lines}"));
+        return Err(Status::FAILED);
+    };
+    io::stdout().lock().write_all(page.as_bytes()).map_err(|error| {
+        say(format_args!("the output failed: {error}"));
+        Status::UNREADABLE
+    })?;
+    Ok(status)
+}

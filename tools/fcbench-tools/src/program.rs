@@ -1,0 +1,53 @@
+//! The proved program.
+
+use crate::status::Status;
+use std::env;
+use std::ffi::OsString;
+use std::fs;
+use std::os::unix::fs::FileTypeExt;
+use std::process::Command;
+
+const NAME: &str = "fcbench";
+
+/// Where the proved program is: what the environment variable FCBENCH says, or else beside this
+/// program, or else on the path.
+fn path() -> OsString {
+    if let Some(path) = env::var_os("FCBENCH") {
+        return path;
+    }
+    let beside = env::current_exe().ok().map(|own| own.with_file_name(NAME));
+    beside.filter(|path| path.is_file()).map_or_else(|| NAME.into(), OsString::from)
+}
+
+/// The proved program with these words, and with a limit of steps where one is given.
+pub fn proved(words: &[&str], steps: Option<u64>) -> Command {
+    let mut command = Command::new(path());
+    command.args(words);
+    if let Some(steps) = steps {
+        command.args(["--steps", &steps.to_string()]);
+    }
+    command
+}
+
+/// `fcbench verify` of a history, which reads evidence from its standard input.
+pub fn verifier(history: &str, steps: Option<u64>) -> Command {
+    proved(&["verify", history, "/dev/stdin"], steps)
+}
+
+/// The path by which both programs can read a history: that of its file, where it is named by a
+/// number of an open file, as /dev/stdin is. A pipe is refused, since only one could read it.
+pub fn path_for_both(history: &str) -> Result<String, Status> {
+    let kind = fs::metadata(history).map(|it| it.file_type());
+    if kind.is_ok_and(|kind| kind.is_fifo() || kind.is_socket()) {
+        say(format_args!("cannot read {history}: it is read twice, so it must be a file"));
+        return Err(Status::UNREADABLE);
+    }
+    let is_open_file = history.starts_with("/dev/") || history.starts_with("/proc/");
+    let path = fs::canonicalize(history).ok().filter(|_| is_open_file);
+    Ok(path.and_then(|path| path.into_os_string().into_string().ok()).unwrap_or(history.into()))
+}
+
+/// Says on standard error what went wrong.
+pub fn say(what: std::fmt::Arguments<'_>) {
+    eprintln!("fcbench: {what}");
+}

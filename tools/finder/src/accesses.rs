@@ -1,0 +1,130 @@
+//! What each call of a register or map asks of one cell, and what it leaves there. A register is
+//! one cell, and a map has one for each key. A cell contains a value or nothing, and is empty at
+//! first.
+
+use crate::model::{Op, Reply};
+use crate::timeline::Call;
+use std::collections::HashMap;
+
+/// The number of the content of an empty cell.
+pub const NOTHING: usize = 0;
+
+/// What a call asks of what the cell contains before it.
+#[derive(Clone, Copy, PartialEq, Eq)]
+pub enum Need<C> {
+    Any,
+    Is(C),
+    IsNot(C),
+}
+
+/// A call on one cell. Contents are told by their numbers in the cell. What sets the content that
+/// it asks for sets nothing.
+#[derive(Clone, Copy)]
+pub struct Access {
+    pub call: Call,
+    pub need: Need<usize>,
+    pub sets: Option<usize>,
+}
+
+impl Access {
+    /// What the cell contains after it, if that is known.
+    pub fn shows(&self) -> Option<usize> {
+        match (self.sets, self.need) {
+            (Some(content), _) | (None, Need::Is(content)) => Some(content),
+            _ => None,
+        }
+    }
+}
+
+/// What a call of a register or map asks and leaves, in values.
+struct Effect {
+    need: Need<Option<i64>>,
+    sets: Option<Option<i64>>,
+}
+
+impl Effect {
+    /// `None`: the call only looks at the cell, and has not returned.
+    fn of(call: &Call) -> Option<Effect> {
+        let (need, sets) = match (call.op, call.reply) {
+            (Op::Write(new), _) => (Need::Any, Some(Some(new))),
+            (Op::Read | Op::Get(_), Some(Reply::Value(held))) => (Need::Is(held), None),
+            (Op::Cas(expected, _), Some(Reply::NotSwapped)) => (Need::IsNot(Some(expected)), None),
+            (Op::Cas(expected, new), _) => (Need::Is(Some(expected)), Some(Some(new))),
+            (Op::Put(_, new), Some(Reply::Value(held))) => (Need::Is(held), Some(Some(new))),
+            (Op::Put(_, new), _) => (Need::Any, Some(Some(new))),
+            (Op::Del(_), Some(Reply::Value(held))) => (Need::Is(held), Some(None)),
+            (Op::Del(_), _) => (Need::Any, Some(None)),
+            _ => return None,
+        };
+        Some(Effect { need, sets })
+    }
+}
+
+/// The calls on one cell in the order of their invocations, and the contents by their numbers.
+pub struct Cell {
+    /// The key of a map; none at a register.
+    pub key: Option<i64>,
+    pub accesses: Vec<Access>,
+    /// The value of each content.
+    contents: Vec<Option<i64>>,
+    numbers: HashMap<i64, usize>,
+}
+
+impl Cell {
+    fn new(key: Option<i64>) -> Cell {
+        Cell { key, accesses: Vec::new(), contents: vec![None], numbers: HashMap::new() }
+    }
+
+    /// How many contents there are.
+    pub fn content_count(&self) -> usize {
+        self.contents.len()
+    }
+
+    /// The value of a content; none for nothing.
+    pub fn value(&self, content: usize) -> Option<i64> {
+        self.contents.get(content).copied().flatten()
+    }
+
+    fn number(&mut self, content: Option<i64>) -> usize {
+        let Some(value) = content else {
+            return NOTHING;
+        };
+        *self.numbers.entry(value).or_insert_with(|| {
+            self.contents.push(content);
+            self.contents.len() - 1
+        })
+    }
+
+    /// Adds a call, unless it has not returned and sets nothing.
+    fn add(&mut self, call: &Call, effect: Effect) {
+        let need = match effect.need {
+            Need::Any => Need::Any,
+            Need::Is(content) => Need::Is(self.number(content)),
+            Need::IsNot(content) => Need::IsNot(self.number(content)),
+        };
+        let sets = effect.sets.map(|content| self.number(content));
+        let sets = sets.filter(|content| need != Need::Is(*content));
+        if sets.is_some() || !call.is_pending() {
+            self.accesses.push(Access { call: *call, need, sets });
+        }
+    }
+}
+
+/// The cells of a register or map with their calls, in rising order of the keys.
+pub fn cells_of(calls: &[Call]) -> Vec<Cell> {
+    let mut cells: Vec<Cell> = Vec::new();
+    let mut places = HashMap::new();
+    for call in calls {
+        let Some(effect) = Effect::of(call) else {
+            continue;
+        };
+        let key = call.op.key();
+        let place = *places.entry(key).or_insert_with(|| {
+            cells.push(Cell::new(key));
+            cells.len() - 1
+        });
+        cells[place].add(call, effect);
+    }
+    cells.sort_unstable_by_key(|cell| cell.key);
+    cells
+}

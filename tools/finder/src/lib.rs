@@ -1,0 +1,41 @@
+//! Finds evidence for histories of concurrent objects: for each object an order of its operations,
+//! a reason why there is none, or the search that is to decide. Nothing here is trusted: the proved
+//! program `fcbench` checks what is found.
+//!
+//! ```
+//! use finder::{Options, decide, read_history};
+//!
+//! let text = b"{:process 0, :type :invoke, :f :enqueue, :value 1}
+//!              {:process 0, :type :ok, :f :enqueue, :value 1}";
+//! let history = read_history(text).expect("a history");
+//! let decisions = decide(&history, Options::default());
+//! assert_eq!(decisions[0].to_string(), "{:object 0, :order [0]}");
+//! ```
+
+mod accesses;
+mod check;
+mod content;
+mod cuts;
+mod decide;
+mod evidence;
+mod history;
+mod lexer;
+mod model;
+mod orders;
+mod reader;
+mod reasons;
+mod residences;
+mod search;
+mod splitmix;
+mod timeline;
+mod trees;
+
+pub use cuts::{Count, Counted, Cut, Values, part_by};
+pub use decide::{Options, decide};
+pub use evidence::{Decision, Evidence};
+pub use history::{End, History, Invocation, Nemesis, ObjectHistory, Run};
+pub use lexer::{Lexer, Token, TokenKind, ends_word};
+pub use model::{Kind, Op, Reply, Value};
+pub use reader::read_history;
+pub use reasons::{FoundReason, Pattern, Search, Sentence, Shown};
+pub use search::First;

@@ -1,0 +1,130 @@
+//! Swaps of a register that are refused while the value that they expect surely is there.
+
+use super::MOST;
+use super::scene::Scene;
+use crate::accesses::{Access, Cell, Need};
+use crate::reasons::{Candidate, Element, Pattern, Plan};
+use crate::timeline::PENDING;
+
+/// A call that shows a content, and the one that begins last among those that show the same and
+/// return no later.
+#[derive(Clone, Copy)]
+struct Shown {
+    content: usize,
+    end: u32,
+    begin: u32,
+    place: usize,
+}
+
+/// The calls that show a content, by it, and then by their ends.
+fn all_shown(cell: &Cell) -> Vec<Shown> {
+    let returned = cell.accesses.iter().enumerate().filter(|(_, a)| !a.call.is_pending());
+    let shown = returned.filter_map(|(place, access)| {
+        let (begin, end) = (access.call.begin, access.call.end);
+        Some(Shown { content: access.shows()?, end, begin, place })
+    });
+    let mut all: Vec<Shown> = shown.collect();
+    all.sort_unstable_by_key(|shown| (shown.content, shown.end));
+    for same in all.chunk_by_mut(|one, other| one.content == other.content) {
+        let mut last = same[0];
+        for shown in same {
+            if last.begin > shown.begin {
+                (shown.begin, shown.place) = (last.begin, last.place);
+            }
+            last = *shown;
+        }
+    }
+    all
+}
+
+/// When the calls are over that set contents and begin by a moment: all, and those that set another
+/// content than the one that is over last.
+#[derive(Clone, Copy, Default)]
+struct Over {
+    begin: u32,
+    content: usize,
+    end: u32,
+    end_of_others: u32,
+}
+
+/// The calls that set contents, by their begins.
+fn all_overs(cell: &Cell) -> Vec<Over> {
+    let mut now = Over::default();
+    let overs = cell.accesses.iter().filter_map(|access| {
+        let (content, end) = (access.sets?, access.call.end);
+        now.begin = access.call.begin;
+        if content == now.content {
+            now.end = now.end.max(end);
+        } else if end > now.end {
+            now = Over { content, end, end_of_others: now.end, ..now };
+        } else {
+            now.end_of_others = now.end_of_others.max(end);
+        }
+        Some(now)
+    });
+    overs.collect()
+}
+
+/// When the calls are over that set another content than this and begin before this moment.
+fn others_over(overs: &[Over], content: usize, moment: u32) -> u32 {
+    match overs[..overs.partition_point(|over| over.begin < moment)].last() {
+        Some(over) if over.content == content => over.end_of_others,
+        Some(over) => over.end,
+        None => 0,
+    }
+}
+
+/// The call that shows this content, returns before this moment, and begins last.
+fn last_shown(shown: &[Shown], content: usize, moment: u32) -> Option<Shown> {
+    let next = shown.partition_point(|shown| (shown.content, shown.end) < (content, moment));
+    shown[..next].last().copied().filter(|last| last.content == content)
+}
+
+/// The call that shows, at or after this one, that the content is there last. Where a content is
+/// set once it stays until then.
+fn last_sight(scene: &Scene, shown: &[Shown], first: Shown) -> Shown {
+    if scene.setters.count(first.content) != 1 {
+        return first;
+    }
+    last_shown(shown, first.content, PENDING).unwrap_or(first)
+}
+
+/// What is wrong with a refused swap, if something is.
+fn candidate_of(
+    scene: &Scene,
+    shown: &[Shown],
+    overs: &[Over],
+    access: &Access,
+) -> Option<Candidate> {
+    let Need::IsNot(content) = access.need else {
+        return None;
+    };
+    let first = last_shown(shown, content, access.call.begin)?;
+    let last = last_sight(scene, shown, first);
+    let end = access.call.end;
+    if last.begin < end && others_over(overs, content, end) >= last.begin {
+        return None;
+    }
+    let (first, last) = (scene.call(first.place), scene.call(last.place));
+    let calls = [first, access.call, last];
+    let plan = Plan {
+        all_values: true,
+        from: Some(first.number),
+        until: Some(access.call.until().max(last.until())),
+        ..Plan::of(calls.iter().map(|call| Element::Operation(call.number)).collect())
+    };
+    let (value, number) = (scene.value(content)?, access.call.number);
+    Some(scene.candidate(Pattern::RefusedUnderItsValue { value, number }, plan, 2))
+}
+
+/// The swaps that are refused while the value that they expect surely is there.
+pub fn refusals(scene: &Scene) -> Vec<Candidate> {
+    let accesses = &scene.cell.accesses;
+    if !accesses.iter().any(|access| matches!(access.need, Need::IsNot(_))) {
+        return Vec::new();
+    }
+    let shown = all_shown(scene.cell);
+    let overs = all_overs(scene.cell);
+    let found = accesses.iter().filter_map(|access| candidate_of(scene, &shown, &overs, access));
+    found.take(MOST).collect()
+}

@@ -1,0 +1,56 @@
+//! A cell with what its calls set and show.
+
+use super::sights::{Setters, Sights};
+use crate::accesses::{Access, Cell, NOTHING, Need};
+use crate::reasons::{Candidate, Element, Pattern, Plan};
+use crate::timeline::Call;
+
+/// The value that a call needs, if it has returned.
+pub fn needed(access: &Access) -> Option<usize> {
+    match access.need {
+        Need::Is(content) if !access.call.is_pending() && content != NOTHING => Some(content),
+        _ => None,
+    }
+}
+
+pub struct Scene<'a> {
+    pub cell: &'a Cell,
+    pub setters: Setters,
+    pub sights: Sights,
+}
+
+impl<'a> Scene<'a> {
+    pub fn of(cell: &'a Cell) -> Scene<'a> {
+        Scene { cell, setters: Setters::of(cell), sights: Sights::of(cell) }
+    }
+
+    /// The value of a content; none for nothing.
+    pub fn value(&self, content: usize) -> Option<i64> {
+        self.cell.value(content)
+    }
+
+    /// The call at this place of the cell.
+    pub fn call(&self, place: usize) -> Call {
+        self.cell.accesses[place].call
+    }
+
+    /// The plan that keeps these contents of the cell, and these calls. A cell of a map as a
+    /// register does not tell no value from a value that is not kept: where a key is to be without
+    /// a value it is kept whole.
+    pub fn plan(&self, contents: &[usize], calls: &[Call]) -> Plan {
+        let whole = self.cell.key.filter(|_| contents.contains(&NOTHING));
+        let values: Vec<i64> = match whole {
+            Some(key) => vec![key],
+            None => contents.iter().filter_map(|content| self.value(*content)).collect(),
+        };
+        let values = values.into_iter().map(Element::Value);
+        let calls = calls.iter().map(|call| Element::Operation(call.number));
+        let key = if whole.is_some() { None } else { self.cell.key };
+        Plan { key, ..Plan::of(values.chain(calls).collect()) }
+    }
+
+    /// The candidate of a pattern.
+    pub fn candidate(&self, pattern: Pattern, plan: Plan, weight: usize) -> Candidate {
+        Candidate { pattern, key: self.cell.key, plan, weight }
+    }
+}

@@ -1,0 +1,137 @@
+//! Contents of a cell that are taken away more often than they are set.
+
+use super::scene::Scene;
+use super::windows::{shortest_window, starts_in, takers_in};
+use super::{MOST, MOST_NAMED};
+use crate::accesses::{Access, NOTHING, Need};
+use crate::cuts::{Count, Counted};
+use crate::model::Op;
+use crate::reasons::{Candidate, Pattern};
+use crate::timeline::Call;
+
+/// What of a cell is counted. `None`: a register that contains nothing, which no call counts.
+fn counted(scene: &Scene, content: usize) -> Option<Counted> {
+    match (scene.cell.key, scene.value(content)) {
+        (None, value) => value.map(Counted::Value),
+        (Some(key), Some(value)) => Some(Counted::Entry { key, value }),
+        (Some(key), None) => Some(Counted::NoEntry(key)),
+    }
+}
+
+/// The count, from this number on, in the part of a cell's plan, where a key of a map is a
+/// register.
+fn count_in_part(counted: Counted, from: u32) -> Count {
+    let counted = match counted {
+        Counted::Entry { value, .. } => Counted::Value(value),
+        _ => counted,
+    };
+    Count { counted, from }
+}
+
+/// The content that a call takes away, by its reply.
+fn taken_by(access: &Access) -> Option<usize> {
+    match (access.need, access.sets) {
+        (Need::Is(content), Some(_)) if !access.call.is_pending() => Some(content),
+        _ => None,
+    }
+}
+
+/// For each content the calls that take it away, or set it, by their ends.
+fn by_content(scene: &Scene, content_of: impl Fn(&Access) -> Option<usize>) -> Vec<Vec<Call>> {
+    let mut calls = vec![Vec::new(); scene.cell.content_count()];
+    for access in &scene.cell.accesses {
+        if let Some(content) = content_of(access) {
+            calls[content].push(access.call);
+        }
+    }
+    calls.iter_mut().for_each(|calls| calls.sort_by_key(|call: &Call| call.end));
+    calls
+}
+
+/// How many of the takers, which come by their ends, have returned when fewer setters have begun.
+/// `None`: there is no such moment.
+fn excess(scene: &Scene, content: usize, takers: &[Call]) -> Option<usize> {
+    let at_first = usize::from(content == NOTHING);
+    let mut takers = (1..).zip(takers).skip(at_first);
+    let (many, _) = takers.find(|(many, taker)| {
+        let setter = scene.setters.nth(content, many - 1 - at_first);
+        setter.is_none_or(|setter| setter.begin > taker.end)
+    })?;
+    Some(many)
+}
+
+/// Whether a put or a swap replaced this content by the same.
+fn is_set_again(scene: &Scene, content: usize) -> bool {
+    scene.cell.accesses.iter().any(|access| {
+        access.need == Need::Is(content)
+            && access.sets.is_none()
+            && matches!(access.call.op, Op::Put(..) | Op::Cas(..))
+    })
+}
+
+/// What these calls, one more than have set the content, are said to do.
+fn excess_pattern(scene: &Scene, content: usize, taken: usize, counted: Counted) -> Pattern {
+    match scene.value(content) {
+        Some(_) if is_set_again(scene, content) => Pattern::CountExceeded(counted),
+        Some(value) if taken == 2 && scene.setters.count(content) == 1 => {
+            Pattern::TakenTwice(value)
+        }
+        Some(value) => Pattern::TakenTooOften { value, taken, set: taken - 1 },
+        None => Pattern::CountExceeded(counted),
+    }
+}
+
+/// The contents that are taken away more often, from the beginning on, than they are set.
+pub fn excesses(scene: &Scene) -> Vec<Candidate> {
+    let takers = by_content(scene, taken_by);
+    let found = takers.iter().enumerate().filter_map(|(content, takers)| {
+        let counted = counted(scene, content)?;
+        let taken = excess(scene, content, takers)?;
+        if taken > MOST_NAMED || taken == 1 && content != NOTHING {
+            return None;
+        }
+        let takers = &takers[..taken];
+        let mut plan = scene.plan(&[content], takers);
+        plan.until = takers.last().map(Call::until);
+        plan.count = Some(count_in_part(counted, 0));
+        let pattern = excess_pattern(scene, content, taken, counted);
+        Some(scene.candidate(pattern, plan, 2 * taken))
+    });
+    found.take(MOST).collect()
+}
+
+/// The candidates of a content that is taken away in a window more often than it can have been
+/// there.
+fn window(
+    scene: &Scene,
+    content: usize,
+    takers: &[Call],
+    setters: &[Call],
+) -> Option<Vec<Candidate>> {
+    let counted = counted(scene, content)?;
+    let window = shortest_window(takers, setters, content == NOTHING)?;
+    let inside = takers_in(takers, window);
+    let candidates = starts_in(&inside, window).into_iter().map(|start| {
+        let mut plan = scene.plan(&[content], &inside);
+        plan.until = inside.last().map(Call::until);
+        plan.from = start.part;
+        plan.count = Some(count_in_part(counted, start.count));
+        scene.candidate(Pattern::CountExceeded(counted), plan, 2 * inside.len())
+    });
+    Some(candidates.collect())
+}
+
+/// The contents that are set more than once and in a window taken away more often than they can
+/// have been there.
+pub fn windows(scene: &Scene) -> Vec<Candidate> {
+    let takers = by_content(scene, taken_by);
+    let setters = by_content(scene, |access| access.sets);
+    let found =
+        takers.iter().zip(&setters).enumerate().filter_map(|(content, (takers, setters))| {
+            if takers.len() < 2 {
+                return None;
+            }
+            window(scene, content, takers, setters)
+        });
+    found.take(MOST).flatten().collect()
+}

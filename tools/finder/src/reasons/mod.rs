@@ -1,0 +1,65 @@
+//! Reasons why no order of an object's operations is valid: small parts of its history that have no
+//! valid order. They are looked for by patterns, facts about the whole history that no valid order
+//! allows, as a value that is taken twice and put in once, and made smaller step by step. The
+//! patterns do not find each reason. What is handed out was checked.
+
+mod cells;
+mod containers;
+mod pattern;
+mod plan;
+mod propose;
+mod reason;
+mod shrink;
+mod value_pairs;
+mod wholes;
+
+pub use pattern::{Pattern, Sentence};
+pub use reason::{FoundReason, Reason, Search, Shown};
+
+use crate::cuts::{Cut, Values};
+use crate::history::ObjectHistory;
+use crate::search::First;
+use plan::{Candidate, Element, Plan};
+use propose::Proposal;
+use std::collections::BTreeSet;
+
+/// The proposal, if it is a reason.
+fn confirm(history: &ObjectHistory, proposal: Proposal, steps: u64) -> Option<FoundReason> {
+    let Proposal { reason, pattern, key } = proposal;
+    let search = Search { first: First::Return, steps };
+    reason.shown(history, search)?;
+    let shown = reason.count.map_or(Shown::BySearch(search), Shown::ByCount);
+    let sentence = Sentence { kind: history.kind, key, pattern };
+    Some(FoundReason { cuts: reason.cuts, shown, sentence })
+}
+
+/// A small reason why no order of the object's operations is valid, by patterns. The open key of a
+/// map, where it is given, is one for whose operations no order was found, while one was found for
+/// each lesser key: it is looked at first. The search for an order of one part takes at most this
+/// many steps.
+pub fn find_by_patterns(
+    history: &ObjectHistory,
+    open_key: Option<i64>,
+    steps: u64,
+) -> Option<FoundReason> {
+    let proposal = propose::propose(history, open_key, steps)?;
+    confirm(history, proposal, steps)
+}
+
+/// The same in what was done with two values of a queue, stack or heap in which values repeat.
+pub fn find_by_pairs(history: &ObjectHistory, steps: u64) -> Option<FoundReason> {
+    let proposal = propose::propose_by_pairs(history, steps)?;
+    confirm(history, proposal, steps)
+}
+
+/// The reason that the operations on one key of a map have no valid order, if a search of at most
+/// this many steps shows it.
+pub fn find_on(history: &ObjectHistory, key: i64, steps: u64) -> Option<FoundReason> {
+    let on_key = history.ops.iter().filter(|o| !o.has_failed() && o.op.key() == Some(key));
+    let cut = Cut::Keep {
+        values: Values::Only(BTreeSet::from([key])),
+        numbers: on_key.map(|o| o.number).collect(),
+    };
+    let reason = Reason { cuts: vec![cut], count: None };
+    confirm(history, Proposal { reason, pattern: Pattern::General, key: Some(key) }, steps)
+}

@@ -1,0 +1,220 @@
+//! Plans of reasons: what of an object's operations a reason is to keep. The cuts follow from the
+//! plan and the operations.
+
+use super::{Pattern, Reason};
+use crate::cuts::{Count, Cut, Values};
+use crate::history::{End, Invocation, ObjectHistory};
+use crate::model::{Kind, Op, Reply};
+use std::collections::BTreeSet;
+
+/// A pattern that was found, at a map with its key, and the plan of a reason. The weight tells
+/// roughly how many operations the plan keeps.
+pub struct Candidate {
+    pub pattern: Pattern,
+    pub key: Option<i64>,
+    pub plan: Plan,
+    pub weight: usize,
+}
+
+impl Candidate {
+    /// The candidate of a pattern that is about no key.
+    pub fn without_key(pattern: Pattern, plan: Plan, weight: usize) -> Candidate {
+        Candidate { pattern, key: None, plan, weight }
+    }
+}
+
+/// What a plan keeps: a value, at a map a key, or an operation that can be kept or left out, by its
+/// number.
+#[derive(Clone, Copy)]
+pub enum Element {
+    Value(i64),
+    /// A value of a queue, stack or heap, without what was done with it before this number, where
+    /// it surely was not in.
+    Since(i64, u32),
+    Operation(u32),
+}
+
+/// What is kept, from a call on, until a number. Where `all_values` is set the elements are
+/// operations alone. Where there is a `key` it is that of a map, of which a cell is kept: the
+/// values are those under the key.
+#[derive(Default)]
+pub struct Plan {
+    pub key: Option<i64>,
+    pub from: Option<u32>,
+    pub until: Option<u32>,
+    pub all_values: bool,
+    pub elements: Vec<Element>,
+    /// The count that shows it; without one a search is to.
+    pub count: Option<Count>,
+}
+
+/// How an operation is to the part of a plan.
+enum Role {
+    Kept,
+    Optional,
+    LeftOut,
+}
+
+impl Role {
+    fn kept_if(kept: bool) -> Role {
+        if kept { Role::Kept } else { Role::LeftOut }
+    }
+}
+
+/// The values of a plan, and whether some are left for pending removals.
+struct Choice {
+    values: Values,
+    left_over: bool,
+}
+
+impl Choice {
+    fn role_of(&self, operation: &Invocation) -> Role {
+        if operation.has_failed() {
+            return Role::LeftOut;
+        }
+        let values = &self.values;
+        let reply = operation.reply();
+        match operation.op {
+            Op::Enqueue(value) | Op::Push(value) | Op::Insert(value) => {
+                Role::kept_if(values.has(value))
+            }
+            Op::Dequeue | Op::Pop | Op::ExtractMin => match reply {
+                Some(Reply::Value(Some(value))) => Role::kept_if(values.has(value)),
+                Some(_) => Role::Optional,
+                None => Role::kept_if(self.left_over),
+            },
+            Op::Put(key, _) | Op::Get(key) | Op::Del(key) if !values.has(key) => Role::LeftOut,
+            Op::Get(_) | Op::Read if reply.is_none() => Role::LeftOut,
+            Op::Write(_) | Op::Read | Op::Cas(..) if *values != Values::All => match reply {
+                Some(_) => Role::Optional,
+                None => Role::LeftOut,
+            },
+            Op::Get(_) | Op::Read => Role::Optional,
+            Op::Del(_) if reply == Some(Reply::Value(None)) => Role::Optional,
+            Op::Cas(..) if reply == Some(Reply::NotSwapped) => Role::Optional,
+            _ => Role::Kept,
+        }
+    }
+}
+
+impl Plan {
+    /// The plan that keeps everything that these elements name, and decides by a search.
+    pub fn of(elements: Vec<Element>) -> Plan {
+        Plan { elements, ..Plan::default() }
+    }
+
+    fn values(&self) -> Values {
+        if self.all_values {
+            return Values::All;
+        }
+        let values = self.elements.iter().filter_map(|element| match element {
+            Element::Value(value) | Element::Since(value, _) => Some(*value),
+            Element::Operation(_) => None,
+        });
+        Values::Only(values.collect())
+    }
+
+    fn optional(&self) -> BTreeSet<u32> {
+        let numbers = self.elements.iter().filter_map(|element| match element {
+            Element::Operation(number) => Some(*number),
+            _ => None,
+        });
+        numbers.collect()
+    }
+
+    /// Whether the operation can be seen between the beginning and the end of the plan.
+    fn touches(&self, operation: &Invocation) -> bool {
+        let is_over = match (self.from, operation.returned()) {
+            (Some(from), Some(at)) => at < from,
+            _ => false,
+        };
+        !is_over && self.until.is_none_or(|until| operation.number < until)
+    }
+
+    /// The number of the return of the call at which the plan begins; 0 where there is none.
+    fn begun(&self, ops: &[Invocation]) -> u32 {
+        let first = self.from.and_then(|from| ops.iter().find(|o| o.number == from));
+        first.and_then(Invocation::returned).unwrap_or(0)
+    }
+
+    /// Whether the operation is a refused swap that overlaps the beginning of a plan of all values,
+    /// which is this number, or its end. It is pending there, so it can set a value, and has to
+    /// stay.
+    fn is_cut_swap(&self, operation: &Invocation, begun: u32) -> bool {
+        let (Op::Cas(..), End::Returned { at, .. }) = (operation.op, operation.end) else {
+            return false;
+        };
+        let is_cut = operation.number < begun || self.until.is_some_and(|until| at >= until);
+        self.all_values && is_cut && self.touches(operation)
+    }
+
+    /// The cut that keeps the plan's values and operations.
+    fn keeping(&self, history: &ObjectHistory) -> Cut {
+        let values = self.values();
+        let choice = Choice { left_over: values.left_over(&history.ops) > 0, values };
+        let optional = self.optional();
+        let is_register = history.kind == Kind::Register;
+        let begun = self.begun(&history.ops);
+        let kept = history.ops.iter().filter(|o| match choice.role_of(o) {
+            Role::Kept => !is_register || self.touches(o),
+            Role::Optional => optional.contains(&o.number) || self.is_cut_swap(o, begun),
+            Role::LeftOut => false,
+        });
+        let numbers = kept.map(|o| o.number).collect();
+        let values = choice.values;
+        if is_register && !self.all_values {
+            return Cut::Cell { key: None, other: other_than(&values), values, numbers };
+        }
+        Cut::Keep { values, numbers }
+    }
+
+    /// The cuts of the window.
+    fn push_window(&self, cuts: &mut Vec<Cut>) {
+        cuts.extend(self.from.map(Cut::From));
+        cuts.extend(self.until.map(Cut::Until));
+    }
+
+    /// Adds the cuts that keep the values and operations of a queue, stack, heap or map.
+    pub fn push_keeping(&self, history: &ObjectHistory, cuts: &mut Vec<Cut>) {
+        cuts.push(self.keeping(history));
+        cuts.extend(self.elements.iter().filter_map(|element| match *element {
+            Element::Since(value, before) => Some(Cut::Without { value, before }),
+            _ => None,
+        }));
+    }
+
+    /// Adds the cuts that make the part, of this history.
+    pub fn push_cuts(&self, history: &ObjectHistory, cuts: &mut Vec<Cut>) {
+        match (history.kind, self.key) {
+            (Kind::Map, Some(_)) => {
+                let (key, values, numbers) = (self.key, self.values(), self.optional());
+                cuts.push(Cut::Cell { key, other: other_than(&values), values, numbers });
+                self.push_window(cuts);
+            }
+            (Kind::Register, _) if self.all_values => {
+                self.push_window(cuts);
+                self.push_keeping(history, cuts);
+            }
+            (Kind::Mutex, _) => self.push_window(cuts),
+            _ => {
+                self.push_keeping(history, cuts);
+                self.push_window(cuts);
+            }
+        }
+    }
+
+    /// The reason that the plan makes of this history.
+    pub fn reason(&self, history: &ObjectHistory) -> Reason {
+        let mut cuts = Vec::new();
+        self.push_cuts(history, &mut cuts);
+        Reason { cuts, count: self.count }
+    }
+}
+
+/// The least number from 0 on that is none of the values.
+fn other_than(values: &Values) -> i64 {
+    match values {
+        Values::All => 0,
+        Values::Only(values) => (0..).find(|other| !values.contains(other)).unwrap_or(0),
+    }
+}

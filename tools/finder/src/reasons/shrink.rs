@@ -1,0 +1,154 @@
+//! Plans made smaller, each step confirmed by the check of reasons: by halves, as delta debugging
+//! does (Zeller and Hildebrandt, IEEE Transactions on Software Engineering 28, 2002).
+
+use super::{Element, Plan, Search};
+use crate::history::ObjectHistory;
+use crate::model::{Op, Reply};
+use crate::search::First;
+
+/// The most steps that are tried of one plan.
+const MOST_STEPS: u32 = 400;
+
+/// The most rounds of steps.
+const MOST_ROUNDS: usize = 4;
+
+/// The most times that elements are left out of a plan, some at a time, in one round.
+const MOST_PASSES: usize = 64;
+
+/// A history in which plans are tried, and how much may still be tried.
+pub struct Judge<'a> {
+    base: &'a ObjectHistory,
+    search: Search,
+    left: u32,
+    /// The number of operations of the last part that was confirmed to have no valid order.
+    pub size: usize,
+}
+
+/// Whether the reply tells what the object contains after the operation.
+pub fn tells(op: Op, reply: Reply) -> bool {
+    match (op, reply) {
+        (Op::Enqueue(_) | Op::Push(_) | Op::Insert(_), _) => false,
+        (Op::Dequeue | Op::Pop | Op::ExtractMin, reply) => reply == Reply::Value(None),
+        (Op::Cas(..), reply) => reply != Reply::NotSwapped,
+        _ => true,
+    }
+}
+
+impl<'a> Judge<'a> {
+    pub fn new(base: &'a ObjectHistory, steps: u64) -> Judge<'a> {
+        Judge { base, search: Search { first: First::Number, steps }, left: MOST_STEPS, size: 0 }
+    }
+
+    /// Whether the plan's part is confirmed to have no valid order.
+    fn holds(&mut self, plan: &Plan) -> bool {
+        if self.left == 0 {
+            return false;
+        }
+        self.left -= 1;
+        let Some(part) = plan.reason(self.base).shown(self.base, self.search) else {
+            return false;
+        };
+        self.size = part.ops.len();
+        true
+    }
+
+    /// Ends the plan as early as it holds.
+    fn end_early(&mut self, plan: &mut Plan) {
+        let most = plan.until.unwrap_or(u32::MAX);
+        let ends = self.base.ops.iter().filter_map(|o| o.returned()).map(|at| at + 1);
+        let mut ends: Vec<u32> = ends.filter(|until| *until < most).collect();
+        ends.sort_unstable();
+        let (mut low, mut high) = (0, ends.len());
+        while low < high {
+            let middle = low + (high - low) / 2;
+            let before = plan.until.replace(ends[middle]);
+            if self.holds(plan) {
+                high = middle;
+            } else {
+                plan.until = before;
+                low = middle + 1;
+            }
+        }
+    }
+
+    /// Begins the plan as late as it holds.
+    fn begin_late(&mut self, plan: &mut Plan) {
+        let least = plan.from.unwrap_or(0);
+        let most = plan.until.unwrap_or(u32::MAX);
+        let beginnings = self.base.ops.iter().filter(|o| {
+            o.number > least
+                && o.returned().is_some_and(|at| at < most)
+                && o.reply().is_some_and(|reply| tells(o.op, reply))
+        });
+        let beginnings: Vec<u32> = beginnings.map(|o| o.number).collect();
+        let (mut low, mut high) = (0, beginnings.len());
+        while low < high {
+            let middle = low + (high - low) / 2;
+            if self.begin_at(plan, beginnings[middle]) {
+                low = middle + 1;
+            } else {
+                high = middle;
+            }
+        }
+    }
+
+    /// Begins the plan with this operation, if it holds.
+    fn begin_at(&mut self, plan: &mut Plan, number: u32) -> bool {
+        let before = plan.from.replace(number);
+        plan.elements.push(Element::Operation(number));
+        let holds = self.holds(plan);
+        if !holds {
+            plan.from = before;
+            plan.elements.pop();
+        }
+        holds
+    }
+
+    /// Leaves out this many elements at a time, wherever the plan holds without them. Whether some
+    /// are left out.
+    fn leave_out(&mut self, plan: &mut Plan, step: usize) -> bool {
+        let before = plan.elements.len();
+        let mut at = 0;
+        while at < plan.elements.len() {
+            let end = (at + step).min(plan.elements.len());
+            let all = plan.elements.clone();
+            plan.elements.drain(at..end);
+            if !self.holds(plan) {
+                plan.elements = all;
+                at = end;
+            }
+        }
+        plan.elements.len() < before
+    }
+
+    /// Leaves out elements by halves, and in the end one by one, until none can go.
+    fn keep_few(&mut self, plan: &mut Plan) {
+        let mut step = plan.elements.len().div_ceil(2).max(1);
+        for _ in 0..MOST_PASSES {
+            let less = self.leave_out(plan, step);
+            if step == 1 && !less {
+                return;
+            }
+            if !less || step > plan.elements.len() {
+                step = (step / 2).max(1);
+            }
+        }
+    }
+
+    /// Makes the plan smaller. False where it does not hold to begin with.
+    pub fn shrink(&mut self, plan: &mut Plan) -> bool {
+        if !self.holds(plan) {
+            return false;
+        }
+        for _ in 0..MOST_ROUNDS {
+            let before = (plan.from, plan.until, plan.elements.len());
+            self.begin_late(plan);
+            self.end_early(plan);
+            self.keep_few(plan);
+            if (plan.from, plan.until, plan.elements.len()) == before {
+                break;
+            }
+        }
+        true
+    }
+}

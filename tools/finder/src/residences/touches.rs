@@ -1,0 +1,67 @@
+//! What each call of a queue, stack or heap does with a value.
+
+use crate::model::Role;
+use crate::timeline::{Call, Span};
+
+/// A put or a removal of a value.
+#[derive(Clone, Copy, Debug)]
+pub struct Touch {
+    pub value: i64,
+    pub takes: bool,
+    pub call: Span,
+}
+
+/// The calls of a queue, stack or heap.
+#[derive(Default)]
+pub struct Touches {
+    /// In rising value; of each value the puts and then the removals, in the order of their begins.
+    pub known: Vec<Touch>,
+    /// The calls that found nothing in the object.
+    pub empties: Vec<Span>,
+    /// Removals that are pending, in the order of their begins.
+    pub unknown: Vec<Span>,
+}
+
+impl Touches {
+    pub fn of(calls: &[Call]) -> Touches {
+        let mut touches = Touches::default();
+        for call in calls {
+            let span = call.span();
+            match call.op.role(call.reply) {
+                Role::Puts(value) => touches.known.push(Touch { value, takes: false, call: span }),
+                Role::Takes(value) => touches.known.push(Touch { value, takes: true, call: span }),
+                Role::FindsNone => touches.empties.push(span),
+                Role::Unknown => touches.unknown.push(span),
+            }
+        }
+        touches.known.sort_unstable_by_key(|touch| (touch.value, touch.takes, touch.call.begin));
+        touches
+    }
+
+    /// Those of each value.
+    pub fn by_value(&self) -> impl Iterator<Item = &[Touch]> {
+        self.known.chunk_by(|one, other| one.value == other.value)
+    }
+
+    /// Whether a value is put twice.
+    pub fn repeat(&self) -> bool {
+        self.known.windows(2).any(|pair| pair[0].value == pair[1].value && !pair[1].takes)
+    }
+
+    /// Whether a value is put twice, or a removal is pending: whether it can be chosen which
+    /// removal takes which value.
+    pub fn leave_a_choice(&self) -> bool {
+        self.repeat() || !self.unknown.is_empty()
+    }
+
+    /// Whether a value is taken when it can't be in: at some moment more of its removals have
+    /// returned than puts of it have begun.
+    pub fn overdraw(&self) -> bool {
+        self.by_value().any(|touches| {
+            let (puts, takes) = touches.split_at(touches.partition_point(|touch| !touch.takes));
+            let mut ends: Vec<u32> = takes.iter().map(|take| take.call.end).collect();
+            ends.sort_unstable();
+            ends.len() > puts.len() || ends.iter().zip(puts).any(|(end, put)| *end < put.call.begin)
+        })
+    }
+}

@@ -1,0 +1,99 @@
+//! The bounded search for an order of the operations of one object, after Wing and Gong, "Testing
+//! and Verifying Concurrent Objects", Journal of Parallel and Distributed Computing 17, 1993. Pairs
+//! of operations done and content from which no order goes on are remembered, after Lowe, "Testing
+//! for Linearizability", Concurrency and Computation: Practice and Experience 29, 2017.
+//!
+//! The proved program has the same search. Orders of trial, steps, and what is remembered are the
+//! same, so that what is found here in some steps is found there in as many.
+
+mod dead;
+mod digest;
+mod undone;
+mod walk;
+
+use crate::history::ObjectHistory;
+use walk::Walk;
+
+/// Which of the operations that can come next in an order is tried first.
+#[derive(Clone, Copy, Debug, PartialEq, Eq)]
+pub enum First {
+    /// That with the least number.
+    Number,
+    /// That with the least return. Operations that are pending come last.
+    Return,
+}
+
+/// How a search ends.
+#[derive(Debug, PartialEq, Eq)]
+pub enum Outcome {
+    /// A valid order: the numbers of the invocations.
+    Order(Vec<u32>),
+    /// No order is valid.
+    Impossible,
+    /// There is no answer within the limit of steps.
+    OutOfSteps,
+}
+
+/// Searches for a valid order of the operations, depth first, in at most this many steps. A step is
+/// one operation tried.
+pub fn search(history: &ObjectHistory, first: First, steps: u64) -> Outcome {
+    if history.ops.iter().all(|o| o.returned().is_none()) {
+        return Outcome::Order(Vec::new());
+    }
+    Walk::new(history, first).run(steps)
+}
+
+#[cfg(test)]
+mod tests {
+    use super::*;
+    use crate::history::{End, Invocation};
+    use crate::model::{Kind, Op, Reply};
+
+    /// An operation that was invoked and returned at these numbers; pending if at none.
+    fn operation(number: u32, op: Op, end: Option<(u32, Option<i64>)>) -> Invocation {
+        let returned = |(at, value)| End::Returned { at, reply: Reply::Value(value) };
+        Invocation { number, op, end: end.map_or(End::Pending, returned) }
+    }
+
+    fn queue(ops: Vec<Invocation>) -> ObjectHistory {
+        ObjectHistory { object: 0, kind: Kind::Queue, ops }
+    }
+
+    #[test]
+    fn finds_an_order_in_either_order_of_trial() {
+        let history = queue(vec![
+            operation(0, Op::Enqueue(1), Some((3, Some(1)))),
+            operation(1, Op::Enqueue(2), Some((2, Some(2)))),
+            operation(4, Op::Dequeue, Some((5, Some(2)))),
+        ]);
+        for first in [First::Number, First::Return] {
+            assert_eq!(search(&history, first, 100), Outcome::Order(vec![1, 0, 4]));
+        }
+    }
+
+    #[test]
+    fn uses_pending_operations() {
+        let history = queue(vec![
+            operation(0, Op::Enqueue(1), None),
+            operation(1, Op::Dequeue, Some((2, Some(1)))),
+        ]);
+        assert_eq!(search(&history, First::Return, 100), Outcome::Order(vec![0, 1]));
+    }
+
+    #[test]
+    fn counts_steps() {
+        let history = queue(vec![
+            operation(0, Op::Enqueue(1), Some((1, Some(1)))),
+            operation(2, Op::Dequeue, Some((3, None))),
+        ]);
+        assert_eq!(search(&history, First::Number, 1), Outcome::OutOfSteps);
+        assert_eq!(search(&history, First::Number, 2), Outcome::Impossible);
+        assert_eq!(search(&history, First::Return, 2), Outcome::Impossible);
+    }
+
+    #[test]
+    fn nothing_that_returned_has_an_empty_order() {
+        let history = queue(vec![operation(0, Op::Dequeue, None)]);
+        assert_eq!(search(&history, First::Number, 0), Outcome::Order(Vec::new()));
+    }
+}

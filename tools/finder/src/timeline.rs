@@ -1,0 +1,106 @@
+//! The calls of an object on a time of their own.
+
+use crate::history::Invocation;
+use crate::model::{Op, Reply};
+
+/// The end of a call that has not returned: it is after every moment of the object's events.
+pub const PENDING: u32 = u32::MAX - 1;
+
+/// When a call takes effect. Moments are places among the object's own invocations and returns. Gap
+/// `g` is the time right after moment `g`: the call takes effect in one of the gaps `begin <= g <
+/// end`.
+#[derive(Clone, Copy, Debug)]
+pub struct Span {
+    /// The number of its invocation in the history.
+    pub number: u32,
+    pub begin: u32,
+    pub end: u32,
+}
+
+impl Span {
+    /// Whether the call has not returned.
+    pub fn is_pending(&self) -> bool {
+        self.end == PENDING
+    }
+}
+
+/// A call: an operation that did not fail.
+#[derive(Clone, Copy, Debug)]
+pub struct Call {
+    /// The number of its invocation in the history.
+    pub number: u32,
+    /// The number of its return in the history, or `PENDING`.
+    pub returned: u32,
+    pub op: Op,
+    pub reply: Option<Reply>,
+    pub begin: u32,
+    pub end: u32,
+}
+
+impl Call {
+    /// When it takes effect.
+    pub fn span(&self) -> Span {
+        Span { number: self.number, begin: self.begin, end: self.end }
+    }
+
+    /// Whether the call has not returned.
+    pub fn is_pending(&self) -> bool {
+        self.end == PENDING
+    }
+
+    /// The first number of the history after its return.
+    pub fn until(&self) -> u32 {
+        self.returned + 1
+    }
+}
+
+/// An invocation or a return.
+#[derive(Clone, Copy, PartialEq, Eq, PartialOrd, Ord)]
+pub struct Moment {
+    /// When it is: its number in the history, or its own place among the moments.
+    at: u32,
+    /// The place of its call.
+    pub call: usize,
+    pub returns: bool,
+}
+
+/// The invocations and returns of these calls, in the order in which they come.
+pub fn moments_of<'a>(calls: impl Iterator<Item = &'a Call>) -> Vec<Moment> {
+    let mut moments = Vec::new();
+    for (place, call) in calls.enumerate() {
+        moments.push(Moment { at: call.begin, call: place, returns: false });
+        if !call.is_pending() {
+            moments.push(Moment { at: call.end, call: place, returns: true });
+        }
+    }
+    moments.sort_unstable();
+    moments
+}
+
+/// The calls of an object.
+pub struct Timeline {
+    /// In the order of their invocations.
+    pub calls: Vec<Call>,
+    /// The number of moments.
+    pub end: u32,
+}
+
+impl Timeline {
+    /// The operations that did not fail, with their moments.
+    pub fn of<'a>(ops: impl IntoIterator<Item = &'a Invocation>) -> Timeline {
+        let ops = ops.into_iter().filter(|o| !o.has_failed());
+        let mut calls: Vec<Call> = ops
+            .map(|o| {
+                let returned = o.returned().unwrap_or(PENDING);
+                let (number, op, reply) = (o.number, o.op, o.reply());
+                Call { number, returned, op, reply, begin: number, end: returned }
+            })
+            .collect();
+        let moments = moments_of(calls.iter());
+        for (at, moment) in (0..).zip(&moments) {
+            let call = &mut calls[moment.call];
+            *(if moment.returns { &mut call.end } else { &mut call.begin }) = at;
+        }
+        Timeline { end: moments.len() as u32, calls }
+    }
+}

@@ -1,0 +1,128 @@
+//! The lines of evidence, and what is decided of small histories.
+
+use finder::{Count, Counted, Cut, Decision, Evidence, FoundReason, Kind, Options, Pattern};
+use finder::{Sentence, Shown, Values, decide, read_history};
+use std::collections::BTreeSet;
+
+/// A history in which process `p` does each call in turn: its function, argument and reply.
+fn history_of(calls: &[(u32, &str, &str, &str)]) -> String {
+    let events = calls.iter().map(|(process, function, argument, reply)| {
+        let head = format!("{{:process {process}, :f :{function}");
+        format!("{head}, :type :invoke, :value {argument}}}\n{head}, :type :ok, :value {reply}}}\n")
+    });
+    events.collect()
+}
+
+fn lines_of(text: &str) -> String {
+    let history = read_history(text.as_bytes()).expect("a history");
+    let decisions = decide(&history, Options::default());
+    decisions.iter().map(|decision| format!("{decision}\n")).collect()
+}
+
+#[test]
+fn an_order_is_a_line() {
+    let text = history_of(&[(0, "enqueue", "1", "1"), (1, "dequeue", "nil", "1")]);
+    assert_eq!(lines_of(&text), "{:object 0, :order [0 2]}\n");
+}
+
+#[test]
+fn a_history_without_operations_has_an_empty_order() {
+    assert_eq!(lines_of(""), "");
+    let text = "{:process 0, :type :invoke, :f :pop} {:process 0, :type :fail, :f :pop}";
+    assert_eq!(lines_of(text), "{:object 0, :order []}\n");
+}
+
+#[test]
+fn objects_come_in_rising_number() {
+    let text = "{:process 0, :type :invoke, :f :push, :value 1, :object 7}
+                {:process 1, :type :invoke, :f :acquire, :object 2}
+                {:process 1, :type :ok, :f :acquire, :object 2}";
+    assert_eq!(lines_of(text), "{:object 2, :order [1]}\n{:object 7, :order []}\n");
+}
+
+#[test]
+fn a_count_is_in_the_line() {
+    let text = history_of(&[(0, "push", "1", "1"), (0, "pop", "nil", "1"), (0, "pop", "nil", "1")]);
+    let lines = "{:object 0, :cuts [{:keep [1], :numbers [0 2 4]} {:until 6}], \
+                 :count {:value 1, :from 0}, \
+                 :note \"value 1 was pushed once and popped twice\"}\n";
+    assert_eq!(lines_of(&text), lines);
+}
+
+#[test]
+fn a_search_is_in_the_line() {
+    let text =
+        history_of(&[(0, "write", "1", "1"), (0, "write", "2", "2"), (0, "read", "nil", "1")]);
+    let lines = lines_of(&text);
+    let end = "], :search {:first :return, :steps 10000}, \
+               :note \"value 1 was read after another content had replaced it\"}\n";
+    assert!(lines.ends_with(end), "{lines}");
+}
+
+#[test]
+fn what_is_not_decided_is_handed_over() {
+    let text = include_str!("undecided.edn");
+    assert_eq!(lines_of(text), "{:object 0, :search {:first :number, :steps 1000000}}\n");
+    let history = read_history(text.as_bytes()).expect("a history");
+    let decisions = decide(&history, Options { steps: Some(7), workers: 1 });
+    assert_eq!(decisions[0].to_string(), "{:object 0, :search {:first :number, :steps 7}}");
+}
+
+#[test]
+fn an_open_object_is_a_comment() {
+    let decision = Decision { object: 3, evidence: Evidence::Open };
+    assert_eq!(decision.to_string(), "; object 3: open");
+}
+
+#[test]
+fn each_cut_has_its_form() {
+    let numbers = |numbers: &[u32]| numbers.iter().copied().collect::<BTreeSet<u32>>();
+    let values = Values::Only(BTreeSet::from([-1, 4]));
+    let cuts = [
+        (Cut::From(17), "{:from 17}"),
+        (Cut::Until(120), "{:until 120}"),
+        (Cut::Without { value: 7, before: 90 }, "{:without 7, :before 90}"),
+        (Cut::Keep { values: Values::All, numbers: numbers(&[3]) }, "{:keep :all, :numbers [3]}"),
+        (Cut::Keep { values: values.clone(), numbers: numbers(&[]) }, "{:keep [-1 4]}"),
+        (
+            Cut::Cell { key: None, values: values.clone(), other: 9, numbers: numbers(&[8, 2]) },
+            "{:cell [-1 4], :other 9, :numbers [2 8]}",
+        ),
+        (
+            Cut::Cell { key: Some(5), values, other: 9, numbers: numbers(&[]) },
+            "{:cell [-1 4], :key 5, :other 9}",
+        ),
+    ];
+    for (cut, text) in cuts {
+        assert_eq!(cut.to_string(), text);
+    }
+}
+
+#[test]
+fn each_count_has_its_form() {
+    let counts = [
+        (Counted::Value(7), "{:value 7, :from 2}"),
+        (Counted::Entry { key: 5, value: 7 }, "{:key 5, :value 7, :from 2}"),
+        (Counted::NoEntry(5), "{:key 5, :from 2}"),
+        (Counted::Held, "{:held true, :from 2}"),
+        (Counted::Free, "{:free true, :from 2}"),
+    ];
+    for (counted, text) in counts {
+        assert_eq!(Count { counted, from: 2 }.to_string(), text);
+    }
+}
+
+#[test]
+fn a_sentence_names_the_key() {
+    let pattern = Pattern::TakenTooOften { value: 8, taken: 3, set: 1 };
+    let sentence = Sentence { kind: Kind::Map, key: Some(2), pattern };
+    let text = "key 2: value 8 was taken away 3 times and by then put once";
+    assert_eq!(sentence.to_string(), text);
+    let shown = Shown::ByCount(Count { counted: Counted::Value(8), from: 0 });
+    let reason = FoundReason { cuts: Vec::new(), shown, sentence };
+    let decision = Decision { object: 1, evidence: Evidence::Reason(reason) };
+    assert_eq!(
+        decision.to_string(),
+        format!("{{:object 1, :cuts [], :count {{:value 8, :from 0}}, :note \"{text}\"}}")
+    );
+}

@@ -1,0 +1,149 @@
+//! What an object contains, as boxes: what it gives, and what was returned.
+
+use super::content::{Content, Item, put_by, value_reply};
+use crate::figures::{CHARACTER, SMALL_CHARACTER, characters, count_text, digits};
+use crate::timeline::{BoxKind, ContentBox, Operation};
+use finder::Reply;
+use std::collections::BTreeMap;
+use std::ops::Range;
+
+/// An object that contains no more has a box for each.
+const FEW: usize = 10;
+/// How many boxes there are at the end where values are taken out.
+const NEAR: usize = 8;
+
+/// Whether a place of a list of this length has a box whatever is there: each where they are few;
+/// else those where values are taken out, and the one at the other end.
+fn is_near(place: usize, length: usize, is_stack: bool) -> bool {
+    let (near, other): (Range<usize>, usize) = if length <= FEW {
+        (0..length, 0)
+    } else if is_stack {
+        (length - NEAR..length, 0)
+    } else {
+        (0..NEAR, length - 1)
+    };
+    near.contains(&place) || place == other
+}
+
+/// Boxes in the making, from left to right.
+struct Boxes {
+    boxes: Vec<ContentBox>,
+    x: u32,
+}
+
+impl Boxes {
+    fn add(&mut self, kind: BoxKind, text: String, under: [&'static str; 2], by: Option<u32>) {
+        let own = characters(&text) * CHARACTER + 16;
+        let by_words = by.map_or(0, |number| digits(u64::from(number)) + 3);
+        let words = under.map(characters).into_iter().fold(by_words, u32::max);
+        let width = own.max(words * SMALL_CHARACTER + 6);
+        let x = self.x + if kind == BoxKind::Absent { 26 } else { 0 };
+        self.boxes.push(ContentBox { kind, text, under, by, x, width });
+        self.x = x + width + 4;
+    }
+
+    /// How many values are left out, if some are.
+    fn gap(&mut self, count: usize) {
+        if count > 0 {
+            self.add(BoxKind::Skip, format!("… {}", count_text(count)), ["", ""], None);
+        }
+    }
+
+    /// The values of a list, of which that at the place `at` is given, if one is looked for. Says
+    /// whether what was returned is among the others.
+    fn list(
+        &mut self,
+        items: &[Item],
+        at: Option<usize>,
+        is_stack: bool,
+        returned: Option<i64>,
+    ) -> bool {
+        let mut is_found = false;
+        let mut skipped = 0;
+        for (place, item) in items.iter().enumerate() {
+            let is_given = at == Some(place);
+            let is_returned = !is_found && !is_given && returned == Some(item.value);
+            if !is_returned && !is_near(place, items.len(), is_stack) {
+                skipped += 1;
+                continue;
+            }
+            self.gap(std::mem::take(&mut skipped));
+            is_found |= is_returned;
+            let (kind, under) = match (is_given, is_returned) {
+                (true, _) => (BoxKind::Gives, "gives"),
+                (false, true) => (BoxKind::Returned, "returned"),
+                (false, false) => (BoxKind::Plain, ""),
+            };
+            self.add(kind, item.value.to_string(), [under, ""], Some(item.by));
+        }
+        self.gap(skipped);
+        is_found
+    }
+
+    /// The values of a queue, a stack or a heap, and what the operation returned.
+    fn values(&mut self, content: &Content, operation: &Operation, reply: Reply) {
+        let items = content.items();
+        let is_stack = matches!(content, Content::Stack(_));
+        let is_removal = put_by(operation.op()).is_none();
+        let at = is_removal.then(|| if is_stack { items.len().saturating_sub(1) } else { 0 });
+        let returned = match reply {
+            Reply::Value(value) => value,
+            _ => None,
+        };
+        let is_found = self.list(&items, at, is_stack, returned);
+        if items.is_empty() {
+            let (kind, under) =
+                if is_removal { (BoxKind::Gives, "gives nil") } else { (BoxKind::Plain, "") };
+            self.add(kind, "empty".into(), [under, ""], None);
+        }
+        if !is_found {
+            let not_in_it = ["returned,", "not in it"];
+            let under = if returned.is_some() { not_in_it } else { ["returned", ""] };
+            self.absent(Reply::Value(returned), under);
+        }
+    }
+
+    fn absent(&mut self, reply: Reply, under: [&'static str; 2]) {
+        self.add(BoxKind::Absent, reply.value().to_string(), under, None);
+    }
+
+    /// The entries of a map; where there are many only the one of the key.
+    fn entries(&mut self, items: &BTreeMap<i64, Item>, key: Option<i64>) {
+        for (own, item) in items {
+            let is_own = key == Some(*own);
+            if is_own || items.len() <= FEW {
+                let (kind, under) =
+                    if is_own { (BoxKind::Gives, "gives") } else { (BoxKind::Plain, "") };
+                self.add(kind, format!("{own} {}", item.value), [under, ""], Some(item.by));
+            }
+        }
+        if let Some(key) = key.filter(|key| !items.contains_key(key)) {
+            self.add(BoxKind::Gives, format!("{key} nothing"), ["gives nil", ""], None);
+        }
+    }
+}
+
+/// The boxes of what the object contains where this operation is refused.
+pub fn boxes_of(content: &Content, operation: &Operation) -> Vec<ContentBox> {
+    let mut boxes = Boxes { boxes: Vec::new(), x: 2 };
+    let reply = operation.reply().unwrap_or(Reply::Value(None));
+    match content {
+        Content::Queue(_) | Content::Heap(_) | Content::Stack(_) => {
+            boxes.values(content, operation, reply);
+        }
+        Content::Register(item) => {
+            let text = value_reply(*item).value().to_string();
+            boxes.add(BoxKind::Gives, text, ["contains", ""], item.map(|item| item.by));
+            boxes.absent(reply, ["returned", ""]);
+        }
+        Content::Map(items) => {
+            boxes.entries(items, operation.op().key());
+            boxes.absent(reply, ["returned", ""]);
+        }
+        Content::Mutex { holder, .. } => {
+            let word = if holder.is_some() { "held" } else { "free" };
+            boxes.add(BoxKind::Gives, word.into(), ["", ""], *holder);
+        }
+    }
+    boxes.boxes
+}

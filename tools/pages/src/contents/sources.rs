@@ -1,0 +1,35 @@
+//! Which operations put a value in, and take it out.
+
+use crate::timeline::{Operation, Role, State};
+use finder::{Op, Reply};
+
+/// The value that a reply tells was there.
+pub fn wanted(reply: Reply) -> Option<i64> {
+    match reply {
+        Reply::Value(value) => value,
+        Reply::Swapped(expected, _) => Some(expected),
+        Reply::NotSwapped => None,
+    }
+}
+
+/// The value that an operation that may have happened puts in, or sets.
+pub fn value_put(operation: &Operation) -> Option<i64> {
+    if operation.state() == State::Failed {
+        return None;
+    }
+    match operation.op() {
+        Op::Write(value) | Op::Put(_, value) => Some(value),
+        Op::Cas(_, value) if operation.reply() != Some(Reply::NotSwapped) => Some(value),
+        op => op.puts(),
+    }
+}
+
+/// Whether the operation puts this value in, under this key of a map.
+pub fn puts(operation: &Operation, key: Option<i64>, value: i64) -> bool {
+    value_put(operation) == Some(value) && operation.op().key() == key
+}
+
+/// Whether the operation returned this value, and took it out.
+pub fn takes(operation: &Operation, value: i64) -> bool {
+    operation.role() == Role::Take && operation.reply() == Some(Reply::Value(Some(value)))
+}

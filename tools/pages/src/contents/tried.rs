@@ -1,0 +1,172 @@
+//! The orders of a part's operations that were tried, each up to the operation that does not fit.
+
+use super::content::{Content, value_reply};
+use crate::timeline::{Attempt, Failure, Operation, Tried, operation_at};
+use finder::{Invocation, Kind, Op, Reply};
+use std::collections::HashSet;
+
+/// A part with more operations is not tried, and no more steps are taken.
+const MOST_OPERATIONS: usize = 64;
+const STEPS: usize = 2_000;
+
+/// The most rows of the table.
+const ROWS: usize = 24;
+
+/// A way to begin: the places of operations of the part in their order, these as a set, and the next
+/// one.
+struct Way {
+    before: Vec<usize>,
+    placed: u64,
+    next: usize,
+}
+
+/// Ways to begin, those that are still to be tried, and what was reached.
+struct Trying<'a> {
+    part: &'a [Invocation],
+    operations: &'a [Operation],
+    kind: Kind,
+    ways: Vec<Way>,
+    /// Which operations were placed, and with which values in the object.
+    reached: HashSet<(u64, Vec<i64>)>,
+    tried: Tried,
+}
+
+/// Why the operation does not fit where the object gives this; nothing where it fits.
+fn failure_of(invocation: &Invocation, gives: Option<Reply>) -> Option<Failure> {
+    match (gives, invocation.reply()) {
+        (None, _) => Some(Failure::NotPossible),
+        (Some(gives), Some(reply)) if reply != gives => Some(Failure::Gives(gives, reply)),
+        _ => None,
+    }
+}
+
+/// The failure as the history has the operation, which a part may count as another one: as a cas
+/// where it found a value and left another.
+fn recorded_failure(failure: Failure, content: &Content, next: &Operation) -> Failure {
+    let Failure::Gives(gives, returned) = failure else {
+        return failure;
+    };
+    let is_cas = matches!(next.op(), Op::Cas(..));
+    let gives = if gives == Reply::NotSwapped && !is_cas {
+        value_reply(content.find(Op::Read))
+    } else {
+        gives
+    };
+    Failure::Gives(gives, next.reply().unwrap_or(returned))
+}
+
+impl Trying<'_> {
+    /// What the object contains after these operations.
+    fn content_after(&self, places: &[usize]) -> Content {
+        let mut content = Content::empty(self.kind);
+        for place in places {
+            let invocation = &self.part[*place];
+            content.apply(invocation.number, invocation.op);
+        }
+        content
+    }
+
+    /// The content as text, or that it is the value that stands for others.
+    fn content_text(&self, content: &Content) -> String {
+        match content {
+            Content::Register(Some(item)) if Some(item.value) == self.tried.other => "other".into(),
+            _ => content.text(),
+        }
+    }
+
+    fn as_recorded(&self, place: usize) -> Operation {
+        let invocation = self.part[place];
+        let unknown = Operation { invocation, object: 0, process: 0, ended: None };
+        operation_at(self.operations, i64::from(invocation.number)).unwrap_or(unknown)
+    }
+
+    /// Whether an operation that is not placed returned before this one began.
+    fn is_preceded(&self, placed: u64, next: &Invocation) -> bool {
+        self.part.iter().enumerate().any(|(place, other)| {
+            placed & 1 << place == 0 && other.returned().is_some_and(|at| at < next.number)
+        })
+    }
+
+    /// Adds the ways that go on after these operations, the first of them last.
+    fn add_ways(&mut self, before: &[usize], placed: u64) {
+        for (next, invocation) in self.part.iter().enumerate().rev() {
+            if placed & 1 << next == 0 && !self.is_preceded(placed, invocation) {
+                self.ways.push(Way { before: before.to_vec(), placed, next });
+            }
+        }
+    }
+
+    /// Notes that the operation does not fit after those of the way.
+    fn fail(&mut self, way: &Way, content: &Content, next: Operation, failure: Failure) {
+        let is_same = match self.tried.last {
+            Some(last) => last.number() == next.number(),
+            None => self.tried.attempts.is_empty(),
+        };
+        self.tried.last = is_same.then_some(next);
+        if self.tried.attempts.len() >= ROWS {
+            self.tried.more += 1;
+            return;
+        }
+        let before = way.before.iter().map(|place| self.as_recorded(*place)).collect();
+        let content = self.content_text(content);
+        self.tried.attempts.push(Attempt { before, content, next, failure });
+    }
+
+    /// Goes on after an operation that fits, where that leads to something new.
+    fn go_on(&mut self, way: &Way, mut content: Content) {
+        let invocation = &self.part[way.next];
+        let before = content.values();
+        content.apply(invocation.number, invocation.op);
+        let after = content.values();
+        let is_needless = invocation.returned().is_none() && before == after;
+        let placed = way.placed | 1 << way.next;
+        if !is_needless && self.reached.insert((placed, after)) {
+            let mut places = way.before.clone();
+            places.push(way.next);
+            self.add_ways(&places, placed);
+        }
+    }
+
+    fn try_way(&mut self, way: &Way) {
+        let invocation = &self.part[way.next];
+        let content = self.content_after(&way.before);
+        match failure_of(invocation, content.gives(invocation.op)) {
+            Some(failure) => {
+                let next = self.as_recorded(way.next);
+                let failure = recorded_failure(failure, &content, &next);
+                self.fail(way, &content, next, failure);
+            }
+            None => self.go_on(way, content),
+        }
+    }
+}
+
+/// Tries the orders of the part's operations: each that no other precedes is tried next, in rising
+/// number. What was reached before, and a pending operation that changes nothing, is not followed.
+pub fn try_orders(
+    operations: &[Operation],
+    kind: Kind,
+    part: &[Invocation],
+    other: Option<i64>,
+) -> Tried {
+    let mut trying = Trying {
+        part,
+        operations,
+        kind,
+        ways: Vec::new(),
+        reached: HashSet::new(),
+        tried: Tried { attempts: Vec::new(), more: 0, is_complete: false, last: None, other },
+    };
+    if part.len() > MOST_OPERATIONS {
+        return trying.tried;
+    }
+    trying.add_ways(&[], 0);
+    for _ in 0..STEPS {
+        let Some(way) = trying.ways.pop() else {
+            break;
+        };
+        trying.try_way(&way);
+    }
+    trying.tried.is_complete = trying.ways.is_empty();
+    trying.tried
+}

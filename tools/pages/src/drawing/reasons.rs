@@ -1,0 +1,429 @@
+//! Why an object has no valid order, in a sentence. The pattern that led the finder to a reason
+//! says which sentence is tried, and it is said only where all it says was checked on all
+//! operations of the object; else the general one is said.
+
+use crate::contents::{puts, takes, value_put};
+use crate::timeline::{Operation, Role, Spans, State, Tried, spans};
+use finder::{Counted, Kind, Op, Pattern, Reply};
+
+/// The operations of an object, and those of a part of which no order is valid. Where the part
+/// begins, if not at the beginning, and the pattern that led to it.
+#[derive(Clone, Copy)]
+pub struct Reason<'a> {
+    pub kind: Kind,
+    pub operations: &'a [Operation],
+    pub part: &'a [Operation],
+    pub from: Option<u32>,
+    pub pattern: Pattern,
+}
+
+/// How many operations are named one by one at most.
+const MOST_NAMED: usize = 12;
+
+/// The name of an operation that puts in.
+fn put_name(kind: Kind) -> &'static str {
+    match kind {
+        Kind::Stack => "push",
+        Kind::Heap => "insert",
+        _ => "enqueue",
+    }
+}
+
+fn put_words(kind: Kind) -> &'static str {
+    match kind {
+        Kind::Stack => " was pushed ",
+        Kind::Heap => " was inserted ",
+        _ => " was enqueued ",
+    }
+}
+
+fn taken_words(kind: Kind) -> &'static str {
+    match kind {
+        Kind::Stack => " and popped ",
+        Kind::Heap => " and extracted ",
+        _ => " and dequeued ",
+    }
+}
+
+/// The operations, with `and` before the last; where there are many, how many there are.
+fn named(operations: &[Operation]) -> Spans {
+    if operations.len() > MOST_NAMED {
+        return spans!["these ", operations.len(), " operations"];
+    }
+    let mut spans = Vec::new();
+    for (place, operation) in operations.iter().enumerate() {
+        if place > 0 {
+            let is_last = place + 1 == operations.len();
+            spans.extend(spans![if is_last { " and " } else { ", " }]);
+        }
+        spans.extend(spans![*operation]);
+    }
+    spans
+}
+
+/// How often, as `twice`, and by which operations where these are few.
+fn times(operations: &[Operation]) -> Spans {
+    let mut spans = match operations.len() {
+        1 => spans!["once"],
+        2 => spans!["twice"],
+        count => spans![count, " times"],
+    };
+    if operations.len() <= MOST_NAMED {
+        spans.extend(spans![", by "]);
+        spans.extend(named(operations));
+    }
+    spans
+}
+
+/// The value that a taking returned.
+fn value_taken(operation: &Operation) -> Option<i64> {
+    match (operation.role(), operation.reply()) {
+        (Role::Take, Some(Reply::Value(value))) => value,
+        _ => None,
+    }
+}
+
+/// Whether the operation was invoked before this number, and took the value out, or may have.
+fn may_take(operation: &Operation, value: i64, before: u32) -> bool {
+    let is_pending = operation.state() == State::Pending;
+    operation.number() < before
+        && operation.role() == Role::Take
+        && (is_pending || takes(operation, value))
+}
+
+/// Whether the operation ran at some moment between the two numbers.
+fn ran_between(operation: &Operation, from: u32, to: u32) -> bool {
+    let closed = operation.closed().unwrap_or(u32::MAX);
+    operation.state() != State::Failed && operation.number() < to && closed > from
+}
+
+/// When the operation returned, where that was before the other one was invoked.
+fn returned_before(operation: &Operation, other: &Operation) -> Option<u32> {
+    operation.returned().filter(|at| *at < other.number())
+}
+
+/// Whether the operation puts this value where another one was, or deletes what was there if there
+/// is no value.
+fn sets_anew(operation: &Operation, key: Option<i64>, value: Option<i64>) -> bool {
+    match (value, key) {
+        (Some(value), _) => puts(operation, key, value) && operation.op() != Op::Cas(value, value),
+        (None, Some(key)) => operation.op() == Op::Del(key),
+        (None, None) => false,
+    }
+}
+
+/// What a register, or a map under the key, contained where the operation took effect, if it says
+/// that.
+fn found_by(operation: &Operation) -> Option<Option<i64>> {
+    match (operation.op(), operation.reply()?) {
+        (Op::Read | Op::Get(_) | Op::Put(..) | Op::Del(_), Reply::Value(value)) => Some(value),
+        (Op::Cas(..), Reply::Swapped(expected, _)) => Some(Some(expected)),
+        _ => None,
+    }
+}
+
+/// What a register, or a map under the key, contained after the operation, which returned.
+fn left_by(operation: &Operation) -> Option<Option<i64>> {
+    match operation.op() {
+        Op::Read | Op::Get(_) => found_by(operation),
+        Op::Del(_) => Some(None),
+        _ => value_put(operation).map(Some),
+    }
+}
+
+/// The words on what an operation left, which is this: of a map also the key.
+fn left_words(operation: &Operation, left: Option<i64>) -> Spans {
+    let mut words = match operation.op() {
+        Op::Del(key) => return spans![" deleted key ", key],
+        Op::Read | Op::Get(_) => spans![" found ", Reply::Value(left)],
+        _ => spans![" set ", Reply::Value(left)],
+    };
+    if let Some(key) = operation.op().key() {
+        words.extend(spans![" under key ", key]);
+    }
+    words
+}
+
+/// The two operations of a part that put something in, with what they put, if there are just two.
+fn two_putters(part: &[Operation]) -> Option<[(Operation, i64); 2]> {
+    let putters = part.iter().filter_map(|it| Some((*it, value_put(it)?)));
+    putters.collect::<Vec<_>>().try_into().ok()
+}
+
+/// The value that the taking took that returned last, and when.
+fn last_taking(operations: &[Operation]) -> Option<(i64, u32)> {
+    let takings = operations.iter().filter_map(|it| Some((value_taken(it)?, it.returned()?)));
+    takings.max_by_key(|(_, at)| *at)
+}
+
+impl Reason<'_> {
+    /// The operations that put the value in, and were invoked before this number.
+    fn putters(&self, value: i64, before: u32) -> Vec<Operation> {
+        let puts = |it: &&Operation| it.number() < before && value_put(it) == Some(value);
+        self.operations.iter().filter(puts).copied().collect()
+    }
+
+    /// The operations that took the value out, and returned by this number.
+    fn takers(&self, value: i64, until: u32) -> Vec<Operation> {
+        let takes =
+            |it: &&Operation| takes(it, value) && it.returned().is_some_and(|at| at <= until);
+        self.operations.iter().filter(takes).copied().collect()
+    }
+
+    /// Whether an operation that was invoked before this number took the value out, or may have.
+    fn may_be_taken(&self, value: i64, before: u32) -> bool {
+        self.operations.iter().any(|it| may_take(it, value, before))
+    }
+
+    /// A value is returned that nothing had put in.
+    fn never_put(&self) -> Option<Spans> {
+        let [taker] = self.part else {
+            return None;
+        };
+        let (value, at) = (value_taken(taker)?, taker.returned()?);
+        let is_never = self.kind.is_container() && self.putters(value, at).is_empty();
+        is_never.then(|| {
+            spans![
+                *taker,
+                " returned ",
+                value,
+                " at map ",
+                at,
+                ", and no ",
+                put_name(self.kind),
+                " of ",
+                value,
+                " was invoked before that."
+            ]
+        })
+    }
+
+    /// A value is taken out more often than it was put in.
+    fn too_often(&self) -> Option<Spans> {
+        let (value, until) = last_taking(self.part)?;
+        let (takers, putters) = (self.takers(value, until), self.putters(value, until));
+        if !self.kind.is_container() || putters.is_empty() || takers.len() <= putters.len() {
+            return None;
+        }
+        let mut sentence = spans![value, put_words(self.kind)];
+        sentence.extend(times(&putters));
+        sentence.extend(spans![",", taken_words(self.kind)]);
+        sentence.extend(times(&takers));
+        sentence.extend(spans![
+            ". No other ",
+            put_name(self.kind),
+            " of ",
+            value,
+            " was invoked before map ",
+            until,
+            "."
+        ]);
+        Some(sentence)
+    }
+
+    /// A taking finds nothing while a value is surely there.
+    fn not_empty(&self) -> Option<Spans> {
+        let [putter, taker] = self.part else {
+            return None;
+        };
+        let (value, end) = (value_put(putter)?, taker.returned()?);
+        let at = returned_before(putter, taker)?;
+        let found_nothing = taker.role() == Role::Take && taker.reply() == Some(Reply::Value(None));
+        let is_wrong = self.kind.is_container() && found_nothing && !self.may_be_taken(value, end);
+        is_wrong.then(|| {
+            spans![
+                *taker,
+                " found the ",
+                self.kind,
+                " empty. But ",
+                *putter,
+                " had returned before (map ",
+                at,
+                "), and nothing that was invoked before map ",
+                end,
+                " took ",
+                value,
+                " out again. So the ",
+                self.kind,
+                " contained ",
+                value,
+                "."
+            ]
+        })
+    }
+
+    /// A queue gives the later of two values first.
+    fn wrong_turn(&self) -> Option<Spans> {
+        let [(first, v), (second, w)] = two_putters(self.part)?;
+        let at = returned_before(&first, &second)?;
+        let taker_of = |value| self.part.iter().find(|it| takes(it, value));
+        let taker = taker_of(w)?;
+        let end = taker.returned()?;
+        let is_alone = self.putters(w, end).len() == 1;
+        if self.kind != Kind::Queue || v == w || !is_alone || self.may_be_taken(v, end) {
+            return None;
+        }
+        let mut sentence = spans![
+            first,
+            " returned (map ",
+            at,
+            ") before ",
+            second,
+            " was invoked, so ",
+            v,
+            " went in before ",
+            w,
+            ". But ",
+            *taker,
+            " took ",
+            w,
+            " out, and nothing invoked before map ",
+            end,
+            " took ",
+            v
+        ];
+        sentence.extend(match taker_of(v) {
+            Some(taker) => spans![" out: only then ", *taker, " began."],
+            None => spans![" out."],
+        });
+        Some(sentence)
+    }
+
+    /// Whether an operation other than the later one, which ran between the invocation of the
+    /// earlier one and the number, set the value anew.
+    fn is_set_between(&self, value: Option<i64>, pair: [&Operation; 2], to: u32) -> bool {
+        let [earlier, later] = pair;
+        let key = later.op().key();
+        self.operations.iter().any(|it| {
+            it.number() != later.number()
+                && sets_anew(it, key, value)
+                && ran_between(it, earlier.number(), to)
+        })
+    }
+
+    /// An operation of a register or a map finds a value that was replaced before it began.
+    fn out_of_date(&self) -> Option<Spans> {
+        let [earlier, later] = self.part else {
+            return None;
+        };
+        let (at, end) = (returned_before(earlier, later)?, later.returned()?);
+        let (left, found) = (left_by(earlier)?, found_by(later)?);
+        let is_same = earlier.op().key() == later.op().key();
+        let is_cell = matches!(self.kind, Kind::Register | Kind::Map);
+        if !is_cell
+            || !is_same
+            || left == found
+            || self.is_set_between(found, [earlier, later], end)
+        {
+            return None;
+        }
+        let is_read = matches!(later.op(), Op::Read | Op::Get(_));
+        let value = Reply::Value(found);
+        let returned = if is_read { " returned " } else { " found " };
+        let mut sentence = spans![*later, returned, value, ". But ", *earlier];
+        sentence.extend(left_words(earlier, left));
+        sentence.extend(spans![
+            " and returned (map ",
+            at,
+            ") before that began, and nothing else that ran in between (maps ",
+            earlier.number(),
+            " to ",
+            end,
+            ") made it ",
+            value,
+            " again. So ",
+            value,
+            " is out of date."
+        ]);
+        Some(sentence)
+    }
+
+    /// A mutex is released twice, and not acquired in between.
+    fn twice_released(&self) -> Option<Spans> {
+        let [first, second] = self.part else {
+            return None;
+        };
+        let (from, to) = (first.number(), first.returned()?.max(second.returned()?));
+        let are_releases = first.op() == Op::Release && second.op() == Op::Release;
+        let is_acquired = |it: &Operation| it.op() == Op::Acquire && ran_between(it, from, to);
+        if !are_releases || self.operations.iter().any(is_acquired) {
+            return None;
+        }
+        Some(spans![
+            "Between map ",
+            from,
+            " and map ",
+            to,
+            " the mutex was released twice, by ",
+            *first,
+            " and ",
+            *second,
+            ", and no acquire ran in between."
+        ])
+    }
+
+    /// The sentence of the pattern, where its facts hold.
+    fn of_pattern(&self) -> Option<Spans> {
+        match self.pattern {
+            Pattern::NeverSet(_) | Pattern::TooEarly(_) => self.never_put(),
+            Pattern::SurelyNotEmpty { .. } => self.not_empty(),
+            Pattern::Stale(_) => self.out_of_date(),
+            Pattern::CountExceeded(Counted::Held) => self.twice_released(),
+            Pattern::WrongOrder { .. } | Pattern::LeftBehind { .. } => self.wrong_turn(),
+            Pattern::TakenTwice(_)
+            | Pattern::TakenTooOften { .. }
+            | Pattern::CountExceeded(Counted::Value(_)) => self.too_often(),
+            _ => None,
+        }
+    }
+
+    /// The words on the order of these operations, which come before the last.
+    fn order(&self, others: &[Operation]) -> Spans {
+        let is_window = self.from.is_some();
+        let (before, after) = match (others.len(), is_window) {
+            (0, true) => ("", ", "),
+            (0, false) => ("Whatever comes before", ", "),
+            (1, true) => (", and wherever ", " comes, "),
+            (1, false) => ("Wherever ", " comes, "),
+            (_, true) => (", and in whatever order ", " come, "),
+            (_, false) => ("In whatever order ", " come, "),
+        };
+        let mut words = spans![before];
+        words.extend(named(others));
+        words.extend(spans![after]);
+        words
+    }
+
+    /// The words on the operation at which each order ends.
+    fn end(&self, last: Option<Operation>, has_table: bool) -> Spans {
+        let Some(last) = last else {
+            let table = ": the table says where each order breaks.";
+            return spans!["one of them does not fit", if has_table { table } else { "." }];
+        };
+        match last.reply() {
+            Some(reply) if self.kind != Kind::Mutex => {
+                spans![last, " could not return ", reply, "."]
+            }
+            _ => spans![last, " is not possible."],
+        }
+    }
+
+    /// The general sentence: no order of these operations fits.
+    fn general(&self, tried: &Tried) -> Spans {
+        let last = tried.last.filter(|_| tried.is_complete);
+        let is_other = |it: &&Operation| last.is_none_or(|last| last.number() != it.number());
+        let others: Vec<Operation> = self.part.iter().filter(is_other).copied().collect();
+        let mut sentence = match self.from {
+            Some(from) => spans!["Whatever the ", self.kind, " contained before map ", from],
+            None => Vec::new(),
+        };
+        sentence.extend(self.order(&others));
+        sentence.extend(self.end(last, !tried.attempts.is_empty()));
+        sentence
+    }
+
+    /// The sentence: that of the pattern, or the general one.
+    pub fn sentence(&self, tried: &Tried) -> Spans {
+        self.of_pattern().unwrap_or_else(|| self.general(tried))
+    }
+}

@@ -1,0 +1,179 @@
+//! The columns in lines: where each event, gap and point is.
+
+use super::columns::{Column, What};
+use super::numbers::{LEFT, WIDEST};
+use super::scene::Scene;
+use crate::timeline::Operation;
+use std::collections::BTreeMap;
+
+/// The middle of a column, from the end of the lanes' names, and its line.
+#[derive(Clone, Copy)]
+pub struct Spot {
+    pub line: usize,
+    pub x: u32,
+}
+
+/// Where the columns are, and how far each line goes.
+pub struct Layout {
+    /// The room that the labels of the operations with drawn events need, by their numbers.
+    pub rooms: BTreeMap<u32, u32>,
+    /// Each column that has a place, in order.
+    pub columns: Vec<(Column, Spot)>,
+    /// The spots of the events, by their numbers.
+    pub events: BTreeMap<u32, Spot>,
+    pub ends: Vec<u32>,
+    /// The room for the names of the lanes.
+    pub left: u32,
+    /// Where the next column begins at the least, and whether its line has none yet.
+    x: u32,
+    line: usize,
+    is_new: bool,
+}
+
+impl Layout {
+    fn new(scene: &Scene) -> Layout {
+        let drawn = scene.moments.iter().filter(|moment| moment.is_drawn);
+        let operations = drawn.filter_map(|moment| scene.operation(moment));
+        Layout {
+            rooms: operations.map(|it| (it.number(), scene.label_room(&it))).collect(),
+            columns: Vec::new(),
+            events: BTreeMap::new(),
+            ends: Vec::new(),
+            left: LEFT,
+            x: 0,
+            line: 0,
+            is_new: true,
+        }
+    }
+
+    fn room(&self, operation: &Operation) -> u32 {
+        self.rooms.get(&operation.number()).copied().unwrap_or(0)
+    }
+
+    pub fn event(&self, number: u32) -> Option<Spot> {
+        self.events.get(&number).copied()
+    }
+
+    pub fn last_line(&self) -> usize {
+        self.ends.len().saturating_sub(1)
+    }
+
+    pub fn end_of(&self, line: usize) -> u32 {
+        self.ends.get(line).copied().unwrap_or(0)
+    }
+
+    /// The columns of a line, with how far from its left end each is.
+    pub fn columns_in(&self, line: usize) -> impl Iterator<Item = (&Column, u32)> {
+        let columns = self.columns.iter().filter(move |(_, spot)| spot.line == line);
+        columns.map(|(column, spot)| (column, spot.x))
+    }
+
+    /// The gap that has this number.
+    pub fn gap(&self, number: u32) -> Option<Spot> {
+        let has = |column: &Column| match &column.what {
+            What::Gap(hole) => hole.contains(&number),
+            _ => false,
+        };
+        self.columns.iter().find(|(column, _)| has(column)).map(|(_, spot)| *spot)
+    }
+
+    /// Where the faulty map begins in this line: after the labels of what is outstanding of its
+    /// process.
+    fn left_of_faulty(&self, scene: &Scene) -> u32 {
+        let invocations = scene.moments.iter().filter(|moment| moment.is_invocation);
+        let operations = invocations.filter_map(|moment| scene.operation(moment));
+        let outstanding = operations.filter(|it| it.ended.is_none() && scene.is_of_faulty(it));
+        outstanding.map(|operation| self.label_end(&operation)).fold(self.x, u32::max)
+    }
+
+    /// The end of the room of the operation's label, if that is in this line, otherwise 0.
+    fn label_end(&self, operation: &Operation) -> u32 {
+        match self.event(operation.number()) {
+            Some(begin) if begin.line == self.line => begin.x + self.room(operation),
+            _ => 0,
+        }
+    }
+
+    /// Where a column begins in this line: a completion where its bar has room for its label.
+    fn left_of(&self, scene: &Scene, column: &Column) -> u32 {
+        let What::Event(moment) = &column.what else {
+            return self.x;
+        };
+        if scene.is_faulty(moment) {
+            return self.left_of_faulty(scene);
+        }
+        match scene.operation(moment) {
+            Some(operation) if !moment.is_invocation => {
+                self.x.max(self.label_end(&operation).saturating_sub(column.width / 2))
+            }
+            _ => self.x,
+        }
+    }
+
+    /// Whether it is the invocation of a focus operation whose label would not fit, in the right
+    /// half of a line.
+    fn is_early(&self, scene: &Scene, column: &Column, left: u32) -> bool {
+        let What::Event(moment) = &column.what else {
+            return false;
+        };
+        scene.operation(moment).is_some_and(|operation| {
+            moment.is_invocation
+                && scene.is_focus(&operation)
+                && left > WIDEST / 2
+                && left + self.room(&operation) > WIDEST
+        })
+    }
+
+    /// Puts the column into this line, or into a new one.
+    fn put(&mut self, scene: &Scene, column: &Column) {
+        let mut left = self.left_of(scene, column);
+        let is_wide = left + column.width > WIDEST;
+        if !self.is_new && (is_wide || self.is_early(scene, column, left)) {
+            self.line += 1;
+            left = 0;
+        }
+        let spot = Spot { line: self.line, x: left + column.middle };
+        if let What::Event(moment) = &column.what {
+            self.events.insert(moment.number, spot);
+        }
+        self.columns.push((column.clone(), spot));
+        self.x = left + column.width;
+        self.is_new = false;
+    }
+
+    /// How far the last line goes: bars that stay open have room for their labels.
+    fn last_end(&self, scene: &Scene) -> u32 {
+        let ends = self.columns_in(self.line).map(|(column, x)| x + column.width - column.middle);
+        let mut end = ends.max().unwrap_or(0) + 4;
+        for (column, x) in self.columns_in(self.line) {
+            let What::Event(moment) = &column.what else {
+                continue;
+            };
+            let Some(operation) = scene.operation(moment) else {
+                continue;
+            };
+            let is_closed = operation.closed().is_some_and(|at| self.events.contains_key(&at));
+            if moment.is_invocation && !is_closed {
+                end = end.max((x + self.room(&operation)).min(WIDEST));
+            }
+        }
+        end
+    }
+}
+
+/// Puts the columns into lines. A last gap that does not fit is dropped.
+pub fn place(scene: &Scene, columns: &[Column]) -> Layout {
+    let mut layout = Layout::new(scene);
+    for (k, column) in columns.iter().enumerate() {
+        let is_last_gap = k + 1 == columns.len() && matches!(column.what, What::Gap(_));
+        let is_wide = layout.x + column.width > WIDEST;
+        if !is_last_gap || !is_wide || layout.is_new {
+            layout.put(scene, column);
+        }
+    }
+    if !layout.is_new {
+        layout.ends = vec![WIDEST; layout.line];
+        layout.ends.push(layout.last_end(scene));
+    }
+    layout
+}

@@ -1,0 +1,151 @@
+//! The bars of a figure, each as its parts in the lines.
+
+use super::columns::What;
+use super::moments::Moment;
+use super::numbers::{LANES, MOST};
+use super::placing::Layout;
+use super::scene::Scene;
+use crate::timeline::{Operation, State, operation_at};
+use std::collections::BTreeSet;
+
+/// The part of a bar in a line.
+#[derive(Clone, Copy)]
+pub struct Segment {
+    pub operation: Operation,
+    pub line: usize,
+    pub from: u32,
+    pub to: u32,
+    pub open_left: bool,
+    pub open_right: bool,
+    pub is_first: bool,
+}
+
+/// Where a bar begins or ends, and whether it is open there.
+#[derive(Clone, Copy)]
+struct BarEnd {
+    line: usize,
+    x: u32,
+    is_open: bool,
+}
+
+/// The end of a bar at the event with this number: at its spot, in the middle of the gap that has
+/// it, or at the beginning or the end of all lines.
+fn end_at(layout: &Layout, number: u32) -> BarEnd {
+    if let Some(spot) = layout.event(number) {
+        return BarEnd { line: spot.line, x: spot.x, is_open: false };
+    }
+    let is_before = layout.events.first_key_value().is_some_and(|(first, _)| number < *first);
+    let (line, x) = match layout.gap(number) {
+        Some(spot) => (spot.line, spot.x),
+        None if is_before => (0, 0),
+        None => (layout.last_line(), layout.end_of(layout.last_line())),
+    };
+    BarEnd { line, x, is_open: true }
+}
+
+/// The last line that has an event or a point of a pending operation, from this line on.
+fn last_line_of(scene: &Scene, layout: &Layout, operation: &Operation, first: usize) -> usize {
+    let is_its_point = |what: &What| match what {
+        What::Point(place) => scene.points[*place].operation.number() == operation.number(),
+        _ => false,
+    };
+    let ended = operation.ended.and_then(|number| layout.event(number));
+    let points = layout.columns.iter().filter(|(column, _)| is_its_point(&column.what));
+    let lines = ended.iter().chain(points.map(|(_, spot)| spot)).map(|spot| spot.line);
+    lines.fold(first, usize::max)
+}
+
+fn right_end(scene: &Scene, layout: &Layout, operation: &Operation, left: BarEnd) -> BarEnd {
+    if let Some(number) = operation.closed() {
+        return end_at(layout, number);
+    }
+    let line = last_line_of(scene, layout, operation, left.line);
+    let x = pending_end(scene, layout, operation, left.line, line);
+    BarEnd { line, x, is_open: true }
+}
+
+/// How far the bar of a pending operation goes that is in lines from one to another: to the faulty
+/// map of its process, or to the end of the last line.
+fn pending_end(
+    scene: &Scene,
+    layout: &Layout,
+    operation: &Operation,
+    first: usize,
+    last: usize,
+) -> u32 {
+    let faulty = scene.faulty.and_then(|faulty| layout.event(faulty.number));
+    match faulty {
+        Some(spot) if scene.is_of_faulty(operation) && first == last && spot.line == last => {
+            spot.x.saturating_sub(9)
+        }
+        _ => layout.end_of(last),
+    }
+}
+
+/// The numbers at which a stretch of drawn events begins.
+fn stretches(moments: &[Moment]) -> Vec<u32> {
+    let begins =
+        |place: &usize| moments[*place].is_drawn && (*place == 0 || !moments[place - 1].is_drawn);
+    (0..moments.len()).filter(begins).map(|place| moments[place].number).collect()
+}
+
+/// Whether the operation is open where some stretch begins.
+fn is_through(operation: &Operation, starts: &[u32]) -> bool {
+    let closed = operation.closed().unwrap_or(u32::MAX);
+    starts.iter().any(|start| operation.number() < *start && *start < closed)
+}
+
+/// The operations that have a bar: those with a drawn event, and those that are open where a stretch
+/// begins, and return, while there are lanes and room. And how many others are open all through.
+pub fn shown_operations(scene: &Scene, layout: &Layout) -> (Vec<Operation>, usize) {
+    let drawn = layout.rooms.keys();
+    let mut shown: Vec<Operation> =
+        drawn.filter_map(|number| operation_at(scene.operations, i64::from(*number))).collect();
+    let mut left_out = 0;
+    if scene.is_zoom {
+        return (shown, left_out);
+    }
+    let starts = stretches(scene.moments);
+    let mut processes: BTreeSet<u64> = shown.iter().map(|operation| operation.process).collect();
+    let is_only_through = |operation: &&Operation| {
+        is_through(operation, &starts)
+            && !layout.rooms.contains_key(&operation.number())
+            && !scene.without_lane.contains(&operation.number())
+    };
+    for operation in scene.operations.iter().filter(is_only_through) {
+        let has_lane = processes.contains(&operation.process) || processes.len() < LANES;
+        if operation.state() != State::Pending && has_lane && shown.len() < MOST {
+            shown.push(*operation);
+            processes.insert(operation.process);
+        } else {
+            left_out += 1;
+        }
+    }
+    (shown, left_out)
+}
+
+/// The parts of the bar of an operation.
+fn segments_at(scene: &Scene, layout: &Layout, operation: Operation) -> Vec<Segment> {
+    let left = end_at(layout, operation.number());
+    let right = right_end(scene, layout, &operation, left);
+    let segment = |line| {
+        let (is_first, is_last) = (line == left.line, line == right.line);
+        let from = if is_first { left.x } else { 0 };
+        let to = if is_last { right.x } else { layout.end_of(line) };
+        Segment {
+            operation,
+            line,
+            from,
+            to: to.max(from + 4),
+            open_left: left.is_open || !is_first,
+            open_right: right.is_open || !is_last,
+            is_first,
+        }
+    };
+    (left.line..=right.line).map(segment).collect()
+}
+
+/// The parts of the bars of these operations, in all lines.
+pub fn segments_of(scene: &Scene, layout: &Layout, operations: &[Operation]) -> Vec<Segment> {
+    operations.iter().flat_map(|operation| segments_at(scene, layout, *operation)).collect()
+}

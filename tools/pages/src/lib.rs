@@ -1,0 +1,19 @@
+//! Draws a history of concurrent objects, and what was found of it, as one page of HTML with SVG,
+//! which has no script and loads nothing. Nothing here is trusted: what a page shows was judged by
+//! the proved program.
+
+mod contents;
+mod drawing;
+mod elements;
+mod faults;
+mod figures;
+mod history;
+mod page;
+mod timeline;
+mod verdict;
+
+pub use faults::{malformed_page, memory_page};
+pub use history::{Drawn, Options, Order, orders_in};
+pub use verdict::{
+    Answer, Fault, FormFaultKind, MapFaultKind, OrderFault, Refusal, TextFaultKind, Verdict, Which,
+};

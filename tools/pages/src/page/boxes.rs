@@ -1,0 +1,83 @@
+//! What an object contains, as boxes.
+
+use super::figures::{scaled, text_at};
+use super::html::{Html, html};
+use crate::figures::SMALL;
+use crate::timeline::{BoxKind, ContentBox, ObjectDrawing};
+use finder::Kind;
+
+fn box_class(kind: BoxKind) -> &'static str {
+    match kind {
+        BoxKind::Plain => "",
+        BoxKind::Gives => "gives",
+        BoxKind::Returned => "returned",
+        BoxKind::Absent => "absent",
+        BoxKind::Skip => "skip",
+    }
+}
+
+/// Which end of the content is at the left.
+fn left_end(kind: Kind) -> &'static str {
+    match kind {
+        Kind::Queue => ", first at the left",
+        Kind::Stack => ", bottom at the left",
+        Kind::Heap => ", least at the left",
+        Kind::Register | Kind::Map | Kind::Mutex => "",
+    }
+}
+
+impl ContentBox {
+    /// What is said under it.
+    fn words_under(&self, middle: u32) -> Html {
+        let words = self.under.iter().filter(|words| !words.is_empty()).map(|words| html![*words]);
+        let words = words.chain(self.by.map(|by| html!["by ", by]));
+        words
+            .zip(0..)
+            .map(|(words, line)| text_at("under", middle, line * 12 + 44, words))
+            .collect()
+    }
+
+    fn html(&self) -> Html {
+        let middle = self.x + self.width / 2;
+        let is_absent = self.kind == BoxKind::Absent;
+        html![
+            is_absent.then(|| text_at("ne", self.x.saturating_sub(17), 20, html!["≠"])),
+            "<g class=\"box ",
+            box_class(self.kind),
+            "\"><rect x=\"",
+            self.x,
+            "\" y=\"2\" width=\"",
+            self.width,
+            "\" height=\"26\"/><text x=\"",
+            middle,
+            "\" y=\"19\">",
+            self.text,
+            "</text>",
+            self.words_under(middle),
+            "</g>"
+        ]
+    }
+}
+
+/// What the object contains before the entry that is refused, which has this rank.
+pub fn content_figure(drawing: &ObjectDrawing, rank: usize) -> Option<Html> {
+    let last = drawing.boxes.last()?;
+    let width = last.x + last.width + 4;
+    let (kind, end) = (drawing.kind.word(), left_end(drawing.kind));
+    let caption = html!["The ", kind, " before entry ", rank, end];
+    Some(html![
+        "<figure id=\"content\"><figcaption>",
+        caption,
+        "</figcaption><div class=\"scroll\"><svg class=\"content\" viewBox=\"0 0 ",
+        width,
+        " 62\" width=\"",
+        scaled(width, width <= SMALL),
+        "\" height=\"",
+        scaled(62, width <= SMALL),
+        "\" role=\"group\" aria-label=\"",
+        caption,
+        "\">",
+        drawing.boxes.iter().map(ContentBox::html).collect::<Html>(),
+        "</svg></div></figure>\n"
+    ])
+}

@@ -1,0 +1,242 @@
+//! The page: HTML with SVG.
+
+mod bars;
+mod boxes;
+mod excerpts;
+mod figures;
+mod html;
+mod legend;
+mod points;
+mod sections;
+mod sentences;
+mod style;
+mod tables;
+
+pub use excerpts::{Excerpt, MarkedLine, Place, TextLine};
+
+use crate::figures::count_text;
+use crate::timeline::{Figure, ObjectDrawing, Spans};
+use finder::Kind;
+use html::{Html, html};
+use legend::legend;
+use sections::{ObjectSection, no_object};
+use sentences::Shown;
+use style::style;
+use tables::object_table;
+
+/// The answer on a history.
+#[derive(Clone, Copy, PartialEq, Eq)]
+pub enum Answer {
+    Yes,
+    No,
+    Impossible,
+    Open,
+    /// A text is malformed.
+    Malformed,
+    /// The judge had not enough memory.
+    NoMemory,
+}
+
+/// A row of the table of objects.
+#[derive(Clone, Copy)]
+pub struct ObjectRow {
+    pub object: u32,
+    pub kind: Kind,
+    /// Those that did not fail, those of them that are pending, and those that failed.
+    pub operations: usize,
+    pub pending: usize,
+    pub failed: usize,
+    pub answer: &'static str,
+    pub is_faulty: bool,
+}
+
+/// What a page shows: the answer on a history, of which texts, in which words and lines; the table
+/// of its objects, if there are several; the drawings; and of a malformed text the place of its
+/// fault, and what it has there.
+pub struct Page<'a> {
+    pub answer: Answer,
+    pub title: &'a str,
+    pub facts: &'a str,
+    pub sentences: &'a [Spans],
+    pub lines: &'a str,
+    pub objects: &'a [ObjectRow],
+    pub drawings: &'a [ObjectDrawing],
+    pub place: Option<&'a Place<'a>>,
+    pub quoted: &'a str,
+}
+
+/// The most lines of the verdict on a page, and the most bytes of one that is not cut.
+const MOST_LINES: usize = 60;
+const LONGEST_LINE: usize = 2_000;
+
+impl Answer {
+    /// The class of the page.
+    fn class(self) -> &'static str {
+        match self {
+            Answer::Yes => "yes",
+            Answer::No => "no",
+            Answer::Impossible => "impossible",
+            Answer::Open => "open",
+            Answer::Malformed => "malformed",
+            Answer::NoMemory => "memory",
+        }
+    }
+
+    fn word(self) -> &'static str {
+        match self {
+            Answer::Yes => "Yes",
+            Answer::No => "No",
+            Answer::Impossible => "Impossible",
+            Answer::Open => "Open",
+            Answer::Malformed => "Malformed",
+            Answer::NoMemory => "Out of memory",
+        }
+    }
+
+    fn sign(self) -> &'static str {
+        match self {
+            Answer::Yes => "✓",
+            Answer::No | Answer::Impossible | Answer::Malformed => "✕",
+            Answer::Open | Answer::NoMemory => "?",
+        }
+    }
+}
+
+fn meta(name: &'static str, content: &'static str) -> Html {
+    html!["<meta name=\"", name, "\" content=\"", content, "\">"]
+}
+
+/// A line of the verdict, or the beginning of a very long one.
+fn verdict_line(line: &str) -> Html {
+    if line.len() <= LONGEST_LINE {
+        return html![line];
+    }
+    let beginning: String = line.chars().take(LONGEST_LINE).collect();
+    html![beginning, "…"]
+}
+
+/// The lines of the verdict, of very many the first ones.
+fn verdict(lines: &str) -> Html {
+    let mut lines = lines.split('\n');
+    let first = lines.next().map(verdict_line);
+    let next = lines.by_ref().take(MOST_LINES - 1);
+    let next: Html = next.map(|line| html!["\n", verdict_line(line)]).collect();
+    let more = match lines.count() {
+        0 => None,
+        1 => Some(html!["\n… 1 more line"]),
+        count => Some(html!["\n… ", count_text(count), " more lines"]),
+    };
+    html!["<pre class=\"verdict\">", first, next, more, "</pre>"]
+}
+
+impl Page<'_> {
+    /// The figures of the page.
+    fn figures(&self) -> impl Iterator<Item = &Figure> {
+        let before = self.place.and_then(|place| place.before);
+        let drawings = self.drawings.iter().flat_map(ObjectDrawing::figures);
+        drawings.chain(before.map(|drawing| &drawing.figure))
+    }
+
+    fn shown(&self) -> Shown {
+        let mut shown = Shown::default();
+        self.figures().for_each(|figure| shown.add(figure));
+        shown
+    }
+
+    fn head(&self) -> Html {
+        html![
+            "<!DOCTYPE html>\n<html lang=\"en\"><head><meta charset=\"utf-8\">",
+            meta("viewport", "width=device-width"),
+            "<meta http-equiv=\"Content-Security-Policy\" ",
+            "content=\"default-src 'none'; style-src 'unsafe-inline'\">",
+            meta("generator", "fcbench draw"),
+            "<title>",
+            self.title,
+            "</title>",
+            style(self.drawings),
+            "</head>\n"
+        ]
+    }
+
+    /// What the page is about, past its head: the fault, the reason or the object. None where that
+    /// is all of the page.
+    fn place_name(&self) -> Option<&'static str> {
+        match (self.answer, self.drawings) {
+            (Answer::Yes | Answer::NoMemory, _) => None,
+            (Answer::Malformed, _) | (Answer::No, []) => Some("fault"),
+            (_, []) => None,
+            (_, [drawing, ..]) if drawing.tried.is_some() => Some("reason"),
+            (Answer::No, [drawing, ..]) if !drawing.sentences.is_empty() => Some("fault"),
+            _ => Some("object"),
+        }
+    }
+
+    /// A link to it, for users of a keyboard.
+    fn skip_link(&self) -> Option<Html> {
+        let name = self.place_name()?;
+        let what = if self.answer == Answer::Malformed { "place" } else { name };
+        Some(html!["<a class=\"skiplink\" href=\"#", name, "\">Go to the ", what, "</a>"])
+    }
+
+    fn sentences(&self, shown: &Shown) -> Html {
+        let of_objects = self.drawings.iter().flat_map(|drawing| {
+            let content = drawing.content.as_deref().unwrap_or("");
+            drawing.sentences.iter().map(move |sentence| shown.sentence(sentence, content))
+        });
+        let others = self.sentences.iter();
+        of_objects.chain(others.map(|sentence| shown.sentence(sentence, self.quoted))).collect()
+    }
+
+    fn header(&self, shown: &Shown) -> Html {
+        html![
+            "<header><h1><span class=\"icon\" aria-hidden=\"true\">",
+            self.answer.sign(),
+            "</span> ",
+            self.answer.word(),
+            "</h1><p class=\"facts\">",
+            self.facts,
+            "</p>",
+            self.sentences(shown),
+            verdict(self.lines),
+            "</header>"
+        ]
+    }
+
+    fn sections(&self, shown: &Shown) -> Html {
+        let is_strange = self.drawings.is_empty() && self.answer == Answer::No;
+        let has_table = self.objects.len() > 1 || is_strange;
+        // The heading of a reason has a name of its own.
+        let name = self.place_name().filter(|name| *name != "reason");
+        let section = |(place, drawing)| {
+            let is_first = place == 0;
+            let name = name.filter(|_| is_first);
+            ObjectSection { answer: self.answer, drawing, shown, is_first, name }.html()
+        };
+        html![
+            has_table.then(|| object_table(self)),
+            self.drawings.iter().enumerate().map(section).collect::<Html>(),
+            is_strange.then(no_object),
+            self.place.map(|place| place.html(shown)),
+            legend(self)
+        ]
+    }
+
+    fn body(&self) -> Html {
+        let shown = &self.shown();
+        html![
+            "<body class=\"",
+            self.answer.class(),
+            "\">",
+            self.skip_link(),
+            self.header(shown),
+            "<main>",
+            self.sections(shown),
+            "</main></body></html>\n"
+        ]
+    }
+}
+
+/// The text of the page.
+pub fn html_of(page: &Page) -> String {
+    html![page.head(), page.body()].into_text()
+}

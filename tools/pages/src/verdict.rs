@@ -1,0 +1,361 @@
+//! What the proved program said of the texts, read from its lines.
+
+use finder::Reply;
+
+/// What is wrong with a text that spells no forms.
+#[derive(Clone, Copy, Debug, PartialEq, Eq)]
+pub enum TextFaultKind {
+    /// E1: it is not UTF-8.
+    BadUtf8,
+    /// E2: it ends too early.
+    Unfinished,
+    /// E3
+    BadToken,
+    /// E4: an integer is out of range.
+    NumberRange,
+    /// E5
+    DuplicateKey,
+    /// E6: a key has no value.
+    OddMap,
+    /// E7: a key is no keyword.
+    KeyKind,
+    /// E8: too many brackets are open.
+    TooDeep,
+    /// E9
+    NotInProfile,
+    /// E10
+    TooLong,
+}
+
+/// What is wrong with a map of a history.
+#[derive(Clone, Copy, Debug, PartialEq, Eq)]
+pub enum MapFaultKind {
+    /// H1: it is no map, or its process, type, function or object is not as it must be.
+    NotAnOperation,
+    /// H2
+    UnknownFunction,
+    /// H3: its value has not the shape of the argument or of the reply.
+    BadValue,
+    /// H4: its function is of another kind than those of the object's earlier maps.
+    MixedKinds,
+    /// H5: an invocation of a process that has an operation outstanding.
+    Busy,
+    /// H6: a completion of a process that has nothing outstanding.
+    Stray,
+    /// H7: a completion with another function or object than the outstanding operation.
+    Mismatch,
+    /// H8: its process had an operation of which nothing is known.
+    AfterInfo,
+    /// H9: too many maps are before it.
+    TooMany,
+}
+
+/// What is wrong with a form of certificates.
+#[derive(Clone, Copy, Debug, PartialEq, Eq)]
+pub enum FormFaultKind {
+    /// K1
+    NoCertificate,
+    /// K2: an earlier one is for the same object.
+    TwoForOneObject,
+}
+
+/// A text of those that are judged.
+#[derive(Clone, Copy, Debug, PartialEq, Eq)]
+pub enum Which {
+    History,
+    Certificates,
+}
+
+impl Which {
+    pub(crate) fn word(self) -> &'static str {
+        match self {
+            Which::History => "history",
+            Which::Certificates => "certificates",
+        }
+    }
+}
+
+/// The fault of a malformed text, and where it is.
+#[derive(Clone, Copy, Debug, PartialEq, Eq)]
+pub enum Fault {
+    Text { which: Which, kind: TextFaultKind, byte: usize },
+    Map { kind: MapFaultKind, map: usize },
+    Form { kind: FormFaultKind, form: usize },
+}
+
+/// What is wrong with an order of an object's operations.
+#[derive(Clone, Copy, Debug, PartialEq, Eq)]
+pub enum OrderFault {
+    /// C3: the entry is the number of no operation of the object, or of one that failed.
+    UnknownOperation { op: i64 },
+    /// C4: the entry is in the order before.
+    Repeated { op: i64 },
+    /// C5: the operation returned before the greatest invocation among the earlier entries.
+    TooLate { op: i64, by: u32 },
+    /// C9: the operation is not possible there.
+    NotPossible { op: i64 },
+    /// C6: the operation returned another reply than this one, which it has there.
+    WrongReply { op: i64, gives: Reply },
+    /// C7: the operation returned and is not in the order.
+    Omitted { op: u32 },
+}
+
+/// Why certificates are refused.
+#[derive(Clone, Copy, Debug, PartialEq, Eq)]
+pub enum Refusal {
+    /// C1
+    NoCertificate {
+        object: u32,
+    },
+    /// C2: the object has a certificate and is not in the history.
+    StrangeObject {
+        object: u32,
+    },
+    BadOrder {
+        object: u32,
+        fault: OrderFault,
+    },
+}
+
+/// What is said of an object that has no order.
+#[derive(Clone, Copy, Debug, PartialEq, Eq)]
+pub enum Answer {
+    Impossible,
+    OutOfSteps,
+    OutOfMemory,
+    /// It was not decided.
+    Open,
+}
+
+/// What the proved program said.
+#[derive(Clone, Debug, PartialEq, Eq)]
+pub enum Verdict {
+    /// Each object has a valid order.
+    Yes,
+    No(Refusal),
+    /// These objects have no order.
+    Judged(Vec<(u32, Answer)>),
+    Malformed(Fault),
+    NoMemory,
+}
+
+impl TextFaultKind {
+    /// The number after the letter E.
+    pub(crate) fn number(self) -> u8 {
+        self as u8 + 1
+    }
+
+    fn numbered(number: u8) -> Option<TextFaultKind> {
+        use TextFaultKind::*;
+        let kinds = [
+            BadUtf8,
+            Unfinished,
+            BadToken,
+            NumberRange,
+            DuplicateKey,
+            OddMap,
+            KeyKind,
+            TooDeep,
+            NotInProfile,
+            TooLong,
+        ];
+        kinds.into_iter().find(|kind| kind.number() == number)
+    }
+}
+
+impl MapFaultKind {
+    /// The number after the letter H.
+    pub(crate) fn number(self) -> u8 {
+        self as u8 + 1
+    }
+
+    fn numbered(number: u8) -> Option<MapFaultKind> {
+        use MapFaultKind::*;
+        let kinds = [
+            NotAnOperation,
+            UnknownFunction,
+            BadValue,
+            MixedKinds,
+            Busy,
+            Stray,
+            Mismatch,
+            AfterInfo,
+            TooMany,
+        ];
+        kinds.into_iter().find(|kind| kind.number() == number)
+    }
+}
+
+impl FormFaultKind {
+    /// The number after the letter K.
+    pub(crate) fn number(self) -> u8 {
+        self as u8 + 1
+    }
+
+    fn numbered(number: u8) -> Option<FormFaultKind> {
+        let kinds = [FormFaultKind::NoCertificate, FormFaultKind::TwoForOneObject];
+        kinds.into_iter().find(|kind| kind.number() == number)
+    }
+}
+
+impl Fault {
+    /// `E4 at byte 19`, `H8 at map 2` or `K1 at form 0`.
+    fn read(which: Which, words: &str) -> Option<Fault> {
+        let (code, place) = words.split_once(" at ")?;
+        let (letter, number) = code.split_at_checked(1)?;
+        let number = number.parse().ok()?;
+        let (unit, place) = place.split_once(' ')?;
+        let place = place.parse().ok()?;
+        Some(match (letter, unit) {
+            ("E", "byte") => {
+                Fault::Text { which, kind: TextFaultKind::numbered(number)?, byte: place }
+            }
+            ("H", "map") => Fault::Map { kind: MapFaultKind::numbered(number)?, map: place },
+            ("K", "form") => Fault::Form { kind: FormFaultKind::numbered(number)?, form: place },
+            _ => return None,
+        })
+    }
+
+    /// As `E4`.
+    pub(crate) fn code(self) -> String {
+        match self {
+            Fault::Text { kind, .. } => format!("E{}", kind.number()),
+            Fault::Map { kind, .. } => format!("H{}", kind.number()),
+            Fault::Form { kind, .. } => format!("K{}", kind.number()),
+        }
+    }
+
+    /// The text that has it.
+    pub fn which(self) -> Which {
+        match self {
+            Fault::Text { which, .. } => which,
+            Fault::Map { .. } => Which::History,
+            Fault::Form { .. } => Which::Certificates,
+        }
+    }
+}
+
+/// A reply as a verdict writes it.
+fn reply(words: &str) -> Option<Reply> {
+    Some(match words {
+        "nil" => Reply::Value(None),
+        "false" => Reply::NotSwapped,
+        pair if pair.starts_with('[') => {
+            let (a, b) = pair.strip_prefix('[')?.strip_suffix(']')?.split_once(' ')?;
+            Reply::Swapped(a.parse().ok()?, b.parse().ok()?)
+        }
+        value => Reply::Value(Some(value.parse().ok()?)),
+    })
+}
+
+impl OrderFault {
+    /// As `C5` and `4 returned before 2 was invoked`.
+    fn read(code: &str, words: &str) -> Option<OrderFault> {
+        let (op, said) = words.split_once(' ')?;
+        let op: i64 = op.parse().ok()?;
+        Some(match code {
+            "C3" => OrderFault::UnknownOperation { op },
+            "C4" => OrderFault::Repeated { op },
+            "C5" => {
+                let by = said.strip_prefix("returned before ")?.strip_suffix(" was invoked")?;
+                OrderFault::TooLate { op, by: by.parse().ok()? }
+            }
+            "C6" => OrderFault::WrongReply { op, gives: reply(said.strip_prefix("gives ")?)? },
+            "C7" => OrderFault::Omitted { op: op.try_into().ok()? },
+            "C9" => OrderFault::NotPossible { op },
+            _ => return None,
+        })
+    }
+}
+
+impl Refusal {
+    /// What follows `no: `.
+    fn read(words: &str) -> Option<Refusal> {
+        let (code, rest) = words.split_once(" object ")?;
+        if let Some((object, said)) = rest.split_once(": ") {
+            let fault = OrderFault::read(code, said)?;
+            return Some(Refusal::BadOrder { object: object.parse().ok()?, fault });
+        }
+        let object = rest.split(' ').next()?.parse().ok()?;
+        match code {
+            "C1" => Some(Refusal::NoCertificate { object }),
+            "C2" => Some(Refusal::StrangeObject { object }),
+            _ => None,
+        }
+    }
+}
+
+/// As `; object 3: out of steps after 10`.
+fn answer_in(line: &str) -> Option<(u32, Answer)> {
+    let (object, said) = line.strip_prefix("; object ")?.split_once(": ")?;
+    let answer = match said.split("; ").next()? {
+        "impossible" => Answer::Impossible,
+        "out of memory" => Answer::OutOfMemory,
+        said if said.starts_with("out of steps") => Answer::OutOfSteps,
+        _ => Answer::Open,
+    };
+    Some((object.parse().ok()?, answer))
+}
+
+impl Verdict {
+    /// Reads the lines of a judgement or a check. `None`: they are none.
+    pub fn read(lines: &str) -> Option<Verdict> {
+        let first = lines.lines().next()?;
+        if first == "out of memory" {
+            return Some(Verdict::NoMemory);
+        }
+        if first.starts_with("yes: ") {
+            return Some(Verdict::Yes);
+        }
+        if let Some(words) = first.strip_prefix("no: ") {
+            return Some(Verdict::No(Refusal::read(words)?));
+        }
+        if let Some(words) = first.strip_prefix("malformed history: ") {
+            return Some(Verdict::Malformed(Fault::read(Which::History, words)?));
+        }
+        if let Some(words) = first.strip_prefix("malformed certificates: ") {
+            return Some(Verdict::Malformed(Fault::read(Which::Certificates, words)?));
+        }
+        let answers: Vec<_> = lines.lines().filter_map(answer_in).collect();
+        (!answers.is_empty()).then_some(Verdict::Judged(answers))
+    }
+}
+
+#[cfg(test)]
+mod tests {
+    use super::*;
+
+    #[test]
+    fn reads_lines() {
+        let read = |lines| Verdict::read(lines).expect(lines);
+        assert_eq!(read("yes: 4 operations, 1 objects\nqueue: 1"), Verdict::Yes);
+        let no = |object, fault| Verdict::No(Refusal::BadOrder { object, fault });
+        assert_eq!(
+            read("no: C5 object 7: 0 returned before 2 was invoked"),
+            no(7, OrderFault::TooLate { op: 0, by: 2 })
+        );
+        let gives = Reply::Swapped(-1, 3);
+        assert_eq!(
+            read("no: C6 object 0: 4 gives [-1 3]"),
+            no(0, OrderFault::WrongReply { op: 4, gives })
+        );
+        assert_eq!(
+            read("no: C1 object 3 has no certificate"),
+            Verdict::No(Refusal::NoCertificate { object: 3 })
+        );
+        assert_eq!(
+            read("malformed certificates: E3 at byte 0"),
+            Verdict::Malformed(Fault::Text {
+                which: Which::Certificates,
+                kind: TextFaultKind::BadToken,
+                byte: 0
+            })
+        );
+        assert_eq!(
+            read("; object 0: out of steps after 10\n; object 2: impossible\n; maps 1 and 2"),
+            Verdict::Judged(vec![(0, Answer::OutOfSteps), (2, Answer::Impossible)])
+        );
+        assert_eq!(Verdict::read("no: C8"), None);
+        assert_eq!(Verdict::read("; maps 1"), None);
+    }
+}
