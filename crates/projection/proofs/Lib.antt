@@ -22,3 +22,5 @@ pub mod Keyed
 pub mod Absences
 pub mod Early
 pub mod Alone
+pub mod Finds
+pub mod Ahead
