@@ -73,7 +73,9 @@ fn what_was_ahead_is_counted_whatever_else_a_count_says(rt: HostRuntime) -> Resu
     };
     let mut sink = Out::new(Vec::new(rt.alloc()));
     write_reasons(reasons.as_slice(), &mut sink)?;
-    assert!(rt; sink.into_inner().as_slice() == b"{:object 0, :cuts [], :count {:ahead 3}}\n".as_slice());
+    assert!(rt;
+        sink.into_inner().as_slice() == b"{:object 0, :cuts [], :count {:ahead 3}}\n".as_slice()
+    );
     Ok(())
 }
 
@@ -91,7 +93,10 @@ fn what_was_ahead_is_counted_at_a_number_from_a_number(rt: HostRuntime) -> Resul
         let Err(fault) = read(rt.alloc(), text.as_bytes())? else {
             return Err(Fail::new("a reason is read"));
         };
-        assert!(rt; fault.kind == ReasonFaultKind::NotAReason && fault.form == 1, "{count}");
+        assert!(rt;
+            fault.kind == ReasonFaultKind::NotAReason && fault.form == 1,
+            "{count}"
+        );
     }
     Ok(())
 }
