@@ -23,4 +23,7 @@ pub mod Absences
 pub mod Early
 pub mod Alone
 pub mod Finds
+pub mod Emptied
+pub mod InFront
 pub mod Ahead
+pub mod Blocked
